@@ -1,0 +1,15 @@
+pub mod Grouping
+pub mod Confluence
+pub mod EveryRun
+pub mod Deeds
+pub mod Independent
+pub mod Turns
+pub mod Stride
+pub mod Bound
+pub mod Footprints
+pub mod Chunks
+pub mod Releases
+pub mod Rounds
+pub mod Rows
+pub mod WorkedKernels
+pub mod Scheduled

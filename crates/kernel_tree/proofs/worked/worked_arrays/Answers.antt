@@ -1,0 +1,11 @@
+use Rattle.kernel_tree.proofs.WorkedKernels.{one_group_races, two_groups_apart, private_apart}
+use Rattle.kernel_tree.proofs.worked.worked_arrays.Goals as goal
+
+pub returns-clause-one_group : goal.returns-clause-one_group
+returns-clause-one_group c = one_group_races
+
+pub returns-clause-two_groups : goal.returns-clause-two_groups
+returns-clause-two_groups c = two_groups_apart
+
+pub returns-clause-private : goal.returns-clause-private
+returns-clause-private c = private_apart

@@ -1,0 +1,14 @@
+use Rattle.kernel_tree.proofs.WorkedKernels.{race, out_of_range, zero_divisor, divergent}
+use Rattle.kernel_tree.proofs.worked.worked_faults.Goals as goal
+
+pub returns-clause-race : goal.returns-clause-race
+returns-clause-race c = race
+
+pub returns-clause-out_of_range : goal.returns-clause-out_of_range
+returns-clause-out_of_range c = out_of_range
+
+pub returns-clause-zero_divisor : goal.returns-clause-zero_divisor
+returns-clause-zero_divisor c = zero_divisor
+
+pub returns-clause-divergent : goal.returns-clause-divergent
+returns-clause-divergent c = divergent

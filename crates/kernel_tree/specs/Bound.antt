@@ -1,0 +1,26 @@
+-- The number of events that a kernel's text allows.
+use Rattle.std.specs.Prelude.{ℕ, ◌+◌, ◌*◌, List, Option, Some, None}
+use Rattle.kernel_tree.specs.Formula.{Formula, bound_value}
+use Rattle.kernel_tree.specs.Code.{Code, End, Assigns, Loads, Stores, Loops, Syncs, Kernel}
+use Rattle.kernel_tree.specs.Launch.{Launch, item_count}
+
+abbrev pub or_zero : Option ℕ → ℕ
+or_zero None = 0
+or_zero (Some b) = b
+
+-- a loop's upper bound, or 0 where its evaluation meets a divisor of 0
+abbrev pub turns_in : List ℕ → Formula → ℕ
+turns_in sizes b = or_zero (bound_value sizes b)
+
+-- the events that statements allow one item
+abbrev pub cost : (sizes : List ℕ) → Code → ℕ
+cost sizes End = 0
+cost sizes (Assigns v e after) = 1 + cost sizes after
+cost sizes (Loads v a i after) = 1 + cost sizes after
+cost sizes (Stores a i e after) = 1 + cost sizes after
+cost sizes (Loops s b c body after) = 1 + turns_in sizes b * (1 + cost sizes body) + cost sizes after
+cost sizes (Syncs on_local on_global after) = 1 + cost sizes after
+
+-- the events that a kernel's text allows in all
+abbrev pub bound : Kernel → Launch → ℕ
+bound k l = item_count l * cost l.sizes k.code

@@ -1,0 +1,183 @@
+-- The device: work-items in groups over shared memory, its events and its runs.
+use Rattle.std.specs.Prelude.{◌≡◌, ℕ, ◌<◌, suc, Bool, false, List, [], ◌∷◌, length, map, replicate, ◌==◌, ◌&&◌, if◌then◌else◌, slice_index, slice_index_or}
+use Rattle.kernel_tree.specs.declared.events.Event.{Event}
+use Rattle.kernel_tree.specs.declared.events.Event.TheVariants.{Step, Release}
+use Rattle.kernel_tree.specs.Code.{Array, Input, Output, Local, Private, Kernel}
+use Rattle.kernel_tree.specs.Launch.{Launch, Cells, item_count, group_count, group_of, first_item, ids_of}
+use Rattle.kernel_tree.specs.Item.{Frame, Item, item, Wants, Ends, Waits, Moves, Reads, Writes, next}
+
+-- what a run takes place on: the launch, and how many cells each array has
+pub record Device : Type 0 where
+  pub launch : Launch
+  pub lengths : Array → ℕ
+
+abbrev pub row : List (List ℕ) → ℕ → List ℕ
+row rows n = slice_index_or rows n []
+
+abbrev pub length_in : Kernel → Cells → Array → ℕ
+length_in k c (Input n) = length (row c.ins n)
+length_in k c (Output n) = length (row c.outs n)
+length_in k c (Local n) = slice_index k.locals n
+length_in k c (Private n) = slice_index k.privates n
+
+abbrev pub device_of : Kernel → Launch → Cells → Device
+device_of k l c = record { launch = l; lengths = length_in k c }
+
+-- Memory
+
+-- whose an array is: all have one input, a group has its local array and an item its private one
+abbrev pub home : (group item : ℕ) → Array → ℕ
+home g k (Input n) = 0
+home g k (Output n) = 0
+home g k (Local n) = g
+home g k (Private n) = k
+
+pub record Cell : Type 0 where
+  pub array : Array
+  pub home : ℕ
+  pub index : ℕ
+
+-- the cell that the k-th item names
+abbrev pub cell_at : Launch → ℕ → Array → ℕ → Cell
+cell_at l k a n = record { array = a; home = home (group_of l k) k a; index = n }
+
+abbrev pub same_array : Array → Array → Bool
+same_array (Input m) (Input n) = m == n
+same_array (Output m) (Output n) = m == n
+same_array (Local m) (Local n) = m == n
+same_array (Private m) (Private n) = m == n
+same_array _ _ = false
+
+abbrev pub same_cell : Cell → Cell → Bool
+same_cell c d = same_array c.array d.array && ((c.home == d.home) && (c.index == d.index))
+
+abbrev pub Memory : Type 0
+Memory = Cell → ℕ
+
+unfoldable pub write : Cell → ℕ → Memory → Memory
+write c v m d = if same_cell d c then v else m d
+
+-- which accesses a barrier's flag orders
+pub data Fence : Type 0 where
+  LocalFence GlobalFence : Fence
+
+abbrev pub fence_of_array : Array → Fence
+fence_of_array (Local n) = LocalFence
+fence_of_array _ = GlobalFence
+
+abbrev pub fence_of : Cell → Fence
+fence_of c = fence_of_array c.array
+
+-- States
+
+pub record State : Type 0 where
+  pub items : ℕ → Item
+  pub memory : Memory
+  pub epochs : (group : ℕ) → Fence → ℕ  -- how many of the group's releases so far had the flag
+
+abbrev pub contents : Cells → Memory
+contents c d = contents_of d.array d.index
+  where
+    contents_of : Array → ℕ → ℕ
+    contents_of (Input n) i = slice_index (row c.ins n) i
+    contents_of (Output n) i = slice_index (row c.outs n) i
+    contents_of _ i = c.rest
+
+-- the state in which a kernel begins, where memory holds the cells alone
+abbrev pub start_state : Kernel → Cells → State
+start_state k c = record { items = λ j. item k.code [] (replicate k.variables c.rest); memory = contents c; epochs = λ g f. 0 }
+
+-- a state in which a kernel may begin: all memory but the inputs holds anything
+pub record IsStart (k : Kernel) (l : Launch) (c : Cells) (s : State) : Type 0 where
+  pub vars : ℕ → List ℕ
+  pub long : (j : ℕ) → j < item_count l → length (vars j) ≡ k.variables
+  pub items : (j : ℕ) → j < item_count l → s.items j ≡ item k.code [] (vars j)
+  pub inputs : (a i : ℕ) → i < length (row c.ins a) → s.memory (record { array = Input a; home = 0; index = i }) ≡ slice_index (row c.ins a) i
+  pub epochs : (g : ℕ) (f : Fence) → s.epochs g f ≡ 0
+
+-- Events
+
+abbrev pub wants : Device → State → ℕ → Wants
+wants d s k = next (ids_of d.launch k) (s.items k)
+
+-- it has neither ended nor stands at a barrier
+abbrev pub CanStep : Wants → Type 0
+CanStep Ends = ⊥
+CanStep (Waits on_local on_global x) = ⊥
+CanStep _ = Unit {0}
+
+-- a loop but for its variable: at the same turn numbers the variables of two items may differ
+abbrev pub still : Frame → Frame
+still f = record { turn = f.turn; variable = 0; bound = f.bound; stride = f.stride; body = f.body; after = f.after }
+
+-- both stand at one barrier with the same turn numbers
+abbrev pub StandTogether : Wants → Wants → Type 0
+StandTogether (Waits a b x) (Waits c d y) = (a ≡ c) × (b ≡ d) × (x.code ≡ y.code) × (map still x.frames ≡ map still y.frames)
+StandTogether _ _ = ⊥
+
+-- all items of the group stand at one barrier with the same turn numbers
+abbrev pub AllTogether : Device → State → ℕ → Type 0
+AllTogether d s g = (j : ℕ) → group_of d.launch j ≡ g → StandTogether (wants d s (first_item d.launch g)) (wants d s j)
+
+abbrev pub Enabled : Device → State → Event → Type 0
+Enabled d s (Step k) = (k < item_count d.launch) × CanStep (wants d s k)
+Enabled d s (Release g) = (g < group_count d.launch) × AllTogether d s g
+
+-- whether an event moves the j-th item
+abbrev pub moves : Launch → Event → ℕ → Bool
+moves l (Step k) j = j == k
+moves l (Release g) j = group_of l j == g
+
+-- an item after its event, where the memory is m
+abbrev pub taken : Launch → ℕ → Wants → Memory → Item → Item
+taken l k (Waits a b x) m y = x
+taken l k (Moves x) m y = x
+taken l k (Reads a n f) m y = f (m (cell_at l k a n))
+taken l k (Writes a n v x) m y = x
+taken l k _ m y = y
+
+abbrev pub stored : Launch → ℕ → Wants → Memory → Memory
+stored l k (Writes a n v x) m = write (cell_at l k a n) v m
+stored l k _ m = m
+
+abbrev pub memory_after : Device → State → Event → Memory
+memory_after d s (Step k) = stored d.launch k (wants d s k) s.memory
+memory_after d s (Release g) = s.memory
+
+-- whether a barrier with these flags has this one
+abbrev pub is_flagged : (on_local on_global : Bool) → Fence → Bool
+is_flagged on_local on_global LocalFence = on_local
+is_flagged on_local on_global GlobalFence = on_global
+
+abbrev pub has_flag : Wants → Fence → Bool
+has_flag (Waits on_local on_global x) f = is_flagged on_local on_global f
+has_flag _ f = false
+
+-- whether an event is a release of the group with the flag
+abbrev pub releases : Device → State → Event → ℕ → Fence → Bool
+releases d s (Step k) h f = false
+releases d s (Release g) h f = (h == g) && has_flag (wants d s (first_item d.launch g)) f
+
+unfoldable pub after : Device → State → Event → State
+after d s e = record {
+  items = λ j. if moves d.launch e j then taken d.launch j (wants d s j) s.memory (s.items j) else s.items j;
+  memory = memory_after d s e;
+  epochs = λ g f. if releases d s e g f then suc (s.epochs g f) else s.epochs g f;
+}
+
+-- Runs
+
+abbrev pub run : Device → State → List Event → State
+run d s [] = s
+run d s (e ∷ es) = run d (after d s e) es
+
+-- each event is enabled in its turn
+abbrev pub IsRun : Device → State → List Event → Type 0
+IsRun d s [] = Unit {0}
+IsRun d s (e ∷ es) = Enabled d s e × IsRun d (after d s e) es
+
+abbrev pub AllEnded : Device → State → Type 0
+AllEnded d s = (k : ℕ) → k < item_count d.launch → wants d s k ≡ Ends
+
+abbrev pub IsStuck : Device → State → Type 0
+IsStuck d s = (e : Event) → Enabled d s e → ⊥

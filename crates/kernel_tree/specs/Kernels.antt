@@ -1,0 +1,7 @@
+-- What a kernel of the program stands for.
+use Rattle.kernel_tree.specs.declared.tree.Kernel as held
+use Rattle.kernel_tree.specs.Code.{Kernel}
+use Rattle.kernel_tree.specs.Tree.{kernel_with}
+
+abbrev pub kernel_of : held.Kernel → Kernel
+kernel_of k = kernel_with k.inputs k.outputs k.sizes k.variables k.body.items

@@ -1,0 +1,56 @@
+// Events, and what is seen of them.
+
+use crate::tree::Array;
+
+/// One step of the device.
+#[derive(Clone, Copy, Debug, PartialEq, Eq)]
+pub enum Event {
+    /// A statement of the work-item with this global id.
+    Step(u32),
+    /// The release of this work-group's barrier.
+    Release(u32),
+}
+
+/// A cell of shared memory: an array and the place in it, in elements.
+#[derive(Clone, Copy, Debug, PartialEq, Eq)]
+pub struct Cell {
+    pub array: Array,
+    pub index: u32,
+}
+
+/// An access of shared memory.
+#[derive(Clone, Copy, Debug, PartialEq, Eq)]
+pub enum Access {
+    Read(Cell),
+    Write(Cell),
+}
+
+/// Why an event is a fault.
+#[derive(Clone, Copy, Debug, PartialEq, Eq)]
+pub enum FaultKind {
+    /// Two work-items access one cell with nothing to order them, and one of them writes.
+    Race,
+    /// An access outside its array.
+    OutOfRange,
+    /// A divisor of 0.
+    ZeroDivisor,
+    /// All work-items of a group have stopped, and they neither all ended nor all stand at one barrier with the same turn numbers.
+    Divergent,
+    /// A loop's variable would reach 2^32.
+    LoopWrap,
+}
+
+/// A fault, with the cell of a race.
+#[derive(Clone, Copy, Debug, PartialEq, Eq)]
+pub struct Fault {
+    pub kind: FaultKind,
+    pub cell: Option<Cell>,
+}
+
+/// What is seen of an event: its access of shared memory and its fault, where it has one.
+#[derive(Clone, Copy, Debug, PartialEq, Eq)]
+pub struct Seen {
+    pub event: Event,
+    pub access: Option<Access>,
+    pub fault: Option<Fault>,
+}

@@ -1,0 +1,75 @@
+// Small kernels whose runs are known. They show what the definitions say.
+
+ghost use Rattle.std.specs.Prelude.{◌≡◌, [], ◌∷◌, Some, None, true, false, replicate};
+ghost use Rattle.kernel_tree.specs.declared.events.Event.TheVariants.{Step, Release};
+ghost use Rattle.kernel_tree.specs.declared.events.Access.TheVariants.{Read, Write};
+ghost use Rattle.kernel_tree.specs.declared.tree.Array.TheVariants as held;
+ghost use Rattle.kernel_tree.specs.declared.events.FaultKind.TheVariants as fault;
+ghost use Rattle.kernel_tree.specs.Formula.{Number, Variable, LoopVariable};
+ghost use Rattle.kernel_tree.specs.Code.{Input, Output, Private, FromZero, ByOne, End, Stores, Loops, Syncs};
+ghost use Rattle.kernel_tree.specs.Grammar.{is_kernel, is_expression};
+ghost use Rattle.kernel_tree.specs.Device.{device_of, start_state, run, IsRun, AllEnded};
+ghost use Rattle.kernel_tree.specs.Item.{item, Reads, Writes};
+ghost use Rattle.kernel_tree.specs.Seen.{access_wanted, fault_of, seen_of};
+ghost use Rattle.kernel_tree.specs.Bound.{bound};
+ghost use Rattle.kernel_tree.specs.Schedule.{Numbers, Seed, number_at, choose_event, place_of};
+ghost use Rattle.kernel_tree.specs.Worked.{Faults, one_output, writes_first, writes_second, writes_local, writes_private, two_items, first_state, of_two_groups, divides_by_zero, some_meet_a_barrier, swaps, to_the_barrier, increments, of_three, three_words, nested, left_at};
+
+/// Two items that write one cell race. A write past the array is out of range. A divisor of 0 is a fault. Where one item of a group ends and the other stands at a barrier, the group diverges.
+pub fn worked_faults()
+    ensures race { Faults writes_first 2 1 (Step 0 ∷ []) (Step 1) (Some fault.Race) }
+    ensures out_of_range { Faults writes_second 1 1 [] (Step 0) (Some fault.OutOfRange) }
+    ensures zero_divisor { Faults divides_by_zero 1 1 [] (Step 0) (Some fault.ZeroDivisor) }
+    ensures divergent { Faults some_meet_a_barrier 2 2 (Step 0 ∷ []) (Step 1) (Some fault.Divergent) }
+{}
+
+/// Two items of one group race in its local array. Each group has its own, and each item its own private arrays.
+pub fn worked_arrays()
+    ensures one_group { Faults writes_local 2 2 (Step 0 ∷ []) (Step 1) (Some fault.Race) }
+    ensures two_groups { Faults writes_local 2 1 (Step 0 ∷ []) (Step 1) None }
+    ensures private { Faults writes_private 2 2 (Step 0 ∷ []) (Step 1) None }
+{}
+
+/// A barrier with the local flag orders accesses of a local array. One with the global flag alone does not.
+pub fn worked_barriers()
+    ensures ordered { Faults (swaps true false) 2 2 to_the_barrier (Step 0) None }
+    ensures unordered { Faults (swaps false true) 2 2 to_the_barrier (Step 0) (Some fault.Race) }
+{}
+
+/// The kernel that adds one to three words ends after as many events as its bound, and leaves their wrapped sums.
+pub fn worked_run()
+    ensures ends { let d = device_of increments of_three three_words in let s = start_state increments three_words in IsRun d s (replicate 10 (Step 0)) × AllEnded d (run d s (replicate 10 (Step 0))) }
+    ensures first { left_at 0 ≡ 2 }
+    ensures second { left_at 1 ≡ 3 }
+    ensures third { left_at 2 ≡ 0 }
+    ensures bounded { bound increments of_three ≡ 10 }
+{}
+
+/// A list's numbers are taken modulo the count of enabled events, and a seed's by the high half of the generator's word.
+pub fn worked_schedules()
+    ensures listed { choose_event (Numbers (3 ∷ 6 ∷ [])) 1 (Step 0 ∷ Step 1 ∷ Step 2 ∷ Step 3 ∷ []) ≡ Some (Step 2) }
+    ensures used_up { choose_event (Numbers (3 ∷ 6 ∷ [])) 2 (Step 0 ∷ Step 1 ∷ Step 2 ∷ Step 3 ∷ []) ≡ Some (Step 0) }
+    ensures release { place_of of_two_groups (Release 1) ≡ 2 }
+    ensures seeded { number_at (Seed 7) 0 ≡ 15648 }
+{}
+
+/// An event's access is seen where it is of shared memory, and a fault has a cell where it is a race.
+pub fn worked_sights()
+    ensures race { seen_of two_items first_state (Step 1) (Some fault.Race) ≡ record { event = Step 1; access = Some (Write (record { array = held.Output 0; index = 0 })); fault = Some (record { kind = fault.Race; cell = Some (record { array = held.Output 0; index = 0 }) }) } }
+    ensures out_of_range { fault_of (Writes (Output 0) 1 1 (item End [] [])) fault.OutOfRange ≡ record { kind = fault.OutOfRange; cell = None } }
+    ensures private { access_wanted (Writes (Private 0) 0 1 (item End [] [])) ≡ None }
+    ensures read { access_wanted (Reads (Input 2) 5 (λ x. item End [] [])) ≡ Some (Read (record { array = held.Input 2; index = 5 })) }
+{}
+
+/// A kernel names only what it declares, a loop's variable only within the loop, writes no input, has a statement in each block and a flag at each barrier, and no bound looks at a variable. Expressions nest 1,024 deep.
+pub fn worked_kernels()
+    ensures increments { is_kernel increments ≡ true }
+    ensures undeclared { is_kernel (one_output (Stores (Output 1) (Number 0) (Number 0) End)) ≡ false }
+    ensures outside { is_kernel (one_output (Stores (Output 0) (LoopVariable 0) (Number 0) End)) ≡ false }
+    ensures constant { is_kernel (one_output (Stores (Input 0) (Number 0) (Number 0) End)) ≡ false }
+    ensures empty { is_kernel (one_output (Loops FromZero (Number 1) ByOne End End)) ≡ false }
+    ensures varying { is_kernel (one_output (Loops FromZero (Variable 0) ByOne (Stores (Output 0) (Number 0) (Number 0) End) End)) ≡ false }
+    ensures unflagged { is_kernel (one_output (Syncs false false End)) ≡ false }
+    ensures deep { is_expression (one_output End) 0 (nested 1023) ≡ true }
+    ensures deeper { is_expression (one_output End) 0 (nested 1024) ≡ false }
+{}

@@ -1,0 +1,29 @@
+-- What sinks took, piece by piece.
+use Rattle.std.proofs.Common.{◌∙◌, ◌+◌, ◌++◌, ℕ, List, sym, ap, subst, take, length, length-append, append_assoc, arith, Result, Ok, Err, OnOk, Option, Some, None}
+use Rattle.std.specs.Io.KnownBytes.{Appends}
+use Rattle.std.proofs.lemmas.List.{take-append-le}
+use Rattle.std.proofs.Math.Seq.{take-append-add}
+use Rattle.lift_io.specs.Causes.{HasCause, Rose}
+use Rattle.lift_tool.specs.Outcome.{TakesPrefix, TakesLine}
+
+pub appends_both : (a b c : Option (List ℕ)) (xs ys : List ℕ) → Appends a b xs → Appends b c ys → Appends a c (xs ++ ys)
+appends_both None b c xs ys p q = tt
+appends_both (Some us) None c xs ys p q = absurd p
+appends_both (Some us) (Some bs) None xs ys p q = absurd q
+appends_both (Some us) (Some bs) (Some cs) xs ys p q = q ∙ ap (λ (w : List ℕ). w ++ ys) p ∙ append_assoc us xs ys
+
+-- a prefix of the first is one of both
+pub prefix_of_first : (a b : Option (List ℕ)) (xs ys : List ℕ) → TakesPrefix a b xs → TakesPrefix a b (xs ++ ys)
+prefix_of_first a b xs ys p =
+    (p.0, omega (arith, p.1, length-append xs ys), subst (λ (w : List ℕ). Appends a b w) (sym (take-append-le p.0 xs ys p.1)) p.2)
+
+-- all of the first and a prefix of the second are one of both
+pub prefix_of_both : (a b c : Option (List ℕ)) (xs ys : List ℕ) → Appends a b xs → TakesPrefix b c ys → TakesPrefix a c (xs ++ ys)
+prefix_of_both a b c xs ys p q =
+    (length xs + q.0, omega (arith, q.1, length-append xs ys), subst (λ (w : List ℕ). Appends a c w) (sym (take-append-add xs ys q.0)) (appends_both a b c xs (take q.0 ys) p q.2))
+
+-- what a write of a whole line leaves
+pub takes_line : {T E : Type 0} (a b : Option (List ℕ)) (f g : ℕ) (xs : List ℕ) (r : Result T E)
+    → OnOk r (Appends a b xs) → TakesPrefix a b xs → HasCause f g r → TakesLine a b (Rose f g) xs
+takes_line a b f g xs (Ok v) all prefix cause = record { prefix = prefix; whole = λ _. all }
+takes_line a b f g xs (Err e) all prefix cause = record { prefix = prefix; whole = λ no. absurd (no cause.failed) }

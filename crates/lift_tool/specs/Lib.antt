@@ -1,0 +1,11 @@
+pub mod Form
+pub mod Launch
+pub mod Outcome
+pub mod Program
+pub mod Refusal
+pub mod Request
+pub mod ResultLine
+pub mod Runs
+pub mod Script
+pub mod Shown
+pub mod Source

@@ -1,0 +1,63 @@
+-- The lines of a kernel's text, and where in them a work-item stands.
+use Rattle.std.specs.Prelude.{◌≡◌, ℕ, ◌+◌, ◌-◌, ◌≤◌, suc, Bool, List, [], ◌∷◌, ◌++◌, Some, drop, slice_get}
+use Rattle.kernel_tree.specs.Formula.{Formula}
+use Rattle.kernel_tree.specs.Code.{Array, Start, Stride, Code, End, Assigns, Loads, Stores, Loops, Syncs}
+use Rattle.kernel_tree.specs.Item.{Frame, Item}
+
+-- a loop's head tells the line after the loop, and the line at the end of its body the head
+pub data Line : Type 0 where
+  Assign : (var : ℕ) → Formula → Line
+  Load : (var : ℕ) → Array → Formula → Line
+  Store : Array → (index value : Formula) → Line
+  Head : Start → (bound : Formula) → Stride → (exit : ℕ) → Line
+  Tail : (head : ℕ) → Line
+  Barrier : (on_local on_global : Bool) → Line
+
+-- how many lines
+abbrev pub size : Code → ℕ
+size End = 0
+size (Assigns v e after) = suc (size after)
+size (Loads v a i after) = suc (size after)
+size (Stores a i e after) = suc (size after)
+size (Loops s b c body after) = suc (size body + suc (size after))
+size (Syncs on_local on_global after) = suc (size after)
+
+-- the line after a loop whose head is at line n
+abbrev pub exit_of : ℕ → Code → ℕ
+exit_of n body = suc (suc (n + size body))
+
+-- the lines of statements that begin at line n
+abbrev pub lines_at : ℕ → Code → List Line
+lines_at n End = []
+lines_at n (Assigns v e after) = Assign v e ∷ lines_at (suc n) after
+lines_at n (Loads v a i after) = Load v a i ∷ lines_at (suc n) after
+lines_at n (Stores a i e after) = Store a i e ∷ lines_at (suc n) after
+lines_at n (Loops s b c body after) = Head s b c (exit_of n body) ∷ (lines_at (suc n) body ++ (Tail n ∷ lines_at (exit_of n body) after))
+lines_at n (Syncs on_local on_global after) = Barrier on_local on_global ∷ lines_at (suc n) after
+
+-- the head of a loop whose body ends at line n
+abbrev pub head_of : ℕ → Frame → ℕ
+head_of n f = n - suc (size f.body)
+
+-- the lines from line n on, where the innermost of these loops has its body's end
+abbrev pub lines_after : ℕ → List Frame → List Line
+lines_after n [] = []
+lines_after n (f ∷ fs) = Tail (head_of n f) ∷ (lines_at (suc n) f.after ++ lines_after (suc n + size f.after) fs)
+
+-- a loop whose body ends at line n, inside the loops fs
+pub record IsLoop (lines : List Line) (n : ℕ) (f : Frame) (fs : List Frame) : Type 0 where
+  pub start : Start
+  pub low : suc (size f.body) ≤ n
+  pub head : slice_get lines (head_of n f) ≡ Some (Head start f.bound f.stride (suc n))
+  pub body : drop (suc (head_of n f)) lines ≡ lines_at (suc (head_of n f)) f.body ++ lines_after n (f ∷ fs)
+
+abbrev pub AreLoops : List Line → ℕ → List Frame → Type 0
+AreLoops lines n [] = Unit {0}
+AreLoops lines n (f ∷ fs) = IsLoop lines n f fs × AreLoops lines (suc n + size f.after) fs
+
+-- from line n on the lines are what an item has left to do
+pub record IsAt (lines : List Line) (n : ℕ) (x : Item) : Type 0 where
+  pub end : ℕ
+  pub counts : end ≡ n + size x.code
+  pub from : drop n lines ≡ lines_at n x.code ++ lines_after end x.frames
+  pub loops : AreLoops lines end x.frames

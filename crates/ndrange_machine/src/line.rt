@@ -1,0 +1,67 @@
+// The kernel's text, line by line.
+
+ghost use Rattle.std.specs.Prelude.{◌≡◌, ◌++◌, map, length, OnOk};
+ghost use Rattle.kernel_tree.specs.Code.{End};
+ghost use Rattle.kernel_tree.specs.Tree.{before, code_then};
+ghost use Rattle.ndrange_machine.specs.Lines.{lines_at};
+ghost use Rattle.ndrange_machine.specs.Wants.{text_of, with_exit};
+
+use kernel_tree::tree::{Array, Expr, Start, Stmt, Stride};
+use std::alloc::{AllocError, Global};
+
+/// A line of the kernel's text. Lines are numbered from 0.
+#[derive(Drop)]
+pub enum Line {
+    /// `vK = E;`
+    Assign(u32, Expr),
+    /// `vK = M[E];`
+    Load(u32, Array, Expr),
+    /// `M[E] = E;`
+    Store(Array, Expr, Expr),
+    /// A loop's head, with the number of the line after the loop.
+    Head(Start, Expr, Stride, usize),
+    /// The end of a loop's body, with the number of the loop's head.
+    Tail(usize),
+}
+
+impl Line {
+    // Tells a loop's head the line after the loop.
+    fn set_exit(&mut self, line: usize)
+        ensures { self.new ≡ with_exit self.old line }
+    {
+        if let Line::Head(_, _, _, exit) = self {
+            *exit = line;
+        }
+    }
+}
+
+/// Puts the lines of a block after those that are there.
+#[cycle(laying)]
+pub fn lay(alloc: Global, lines: &mut Vec<Line>, block: Vec<Stmt>) -> Result<(), AllocError>
+    ensures { OnOk result (map text_of lines.new.items ≡ map text_of lines.old.items ++ lines_at (length lines.old.items) (code_then block.items End)) }
+{
+    for statement in block {
+        lay_one(alloc, lines, statement)?;
+    }
+    Ok(())
+}
+
+#[cycle(laying)]
+fn lay_one(alloc: Global, lines: &mut Vec<Line>, statement: Stmt) -> Result<(), AllocError>
+    ensures { OnOk result (map text_of lines.new.items ≡ map text_of lines.old.items ++ lines_at (length lines.old.items) (before statement End)) }
+{
+    match statement {
+        Stmt::Assign(v, e) => lines.push(Line::Assign(v, e))?,
+        Stmt::Load(v, a, i) => lines.push(Line::Load(v, a, i))?,
+        Stmt::Store(a, i, e) => lines.push(Line::Store(a, i, e))?,
+        Stmt::Loop(start, bound, stride, body) => {
+            let head = lines.len();
+            lines.push(Line::Head(start, bound, stride, 0))?;
+            lay(alloc, lines, body)?;
+            lines.push(Line::Tail(head))?;
+            let exit = lines.len();
+            lines[head].set_exit(exit);
+        }
+    }
+    Ok(())
+}
