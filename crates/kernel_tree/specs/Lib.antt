@@ -18,3 +18,5 @@ pub mod Chunks
 pub mod Releases
 pub mod Rounds
 pub mod Worked
+pub mod Pieces
+pub mod KernelText

@@ -1,3 +1,6 @@
 pub mod Cut
 pub mod Numbers
 pub mod OneCut
+pub mod Named
+pub mod Finished
+pub mod Whole

@@ -1,3 +1,11 @@
 pub mod Words
 pub mod Tokens
 pub mod Shown
+pub mod Meant
+pub mod Grammar
+pub mod Rows
+pub mod Forms
+pub mod Noted
+pub mod Spelled
+pub mod Decided
+pub mod ProgramText

@@ -1,6 +1,6 @@
 // The tokens of a program's text.
 
-ghost use Rattle.std.specs.Prelude.{◌≡◌, ◌≤◌, ◌<◌, ◌&&◌, length, map, IfOk, ℕ, List};
+ghost use Rattle.std.specs.Prelude.{◌≡◌, ◌≤◌, ◌<◌, length, map, IfOk, ℕ, List};
 ghost use Rattle.std.specs.List.{prefix_len};
 ghost use Rattle.std.specs.Char.{is_ascii_digit};
 ghost use Rattle.lift_reader.specs.Tokens.{is_space, is_inner, is_symbol, gap_len, run_len, within, value_after, number_of, lexeme_of, AreTokens, Lexeme};

@@ -1,7 +1,8 @@
+pub mod Belonging
 pub mod Causes
 pub mod Joined
-pub mod Lines
+pub mod Taken
 pub mod MapRun
-pub mod Names
-pub mod Programs
+pub mod OneStep
+pub mod Stages
 pub mod TextLines

@@ -1,6 +1,7 @@
 -- The run of the kernel of a program by one work-item.
-use Rattle.std.proofs.Common.{◌≡◌, ℕ, ◌+◌, ◌*◌, ◌%◌, ◌<◌, ◌≤◌, ◌^◌, List, [], ◌∷◌, ◌++◌, length, replicate, refl, sym, ap, ◌∙◌, subst, arith}
-use Rattle.std.specs.Prelude.{Vec, map, slice_index}
+use Rattle.std.proofs.Common.{true, ◌≡◌, ℕ, zero, suc, Option, Some, None, rules, ◌+◌, ◌*◌, ◌%◌, ◌<◌, ◌≤◌, ◌^◌, List, [], ◌∷◌, ◌++◌, length, replicate, refl, sym, ap, ◌∙◌, subst, arith}
+use Rattle.std.specs.Prelude.{Vec, map, option_and_then, slice_index}
+use Rattle.std.proofs.lemmas.Option.{same_Some, none-some}
 use Rattle.std.specs.Global.{Global}
 use Rattle.std.proofs.lemmas.List.{length-map, length-replicate}
 use Rattle.std.proofs.lemmas.Grind.{same_number_lists}
@@ -13,8 +14,23 @@ use Rattle.kernel_emit.specs.MapKernel.{map_kernel, added, IsTaskLaunch, AreCell
 use Rattle.kernel_emit.proofs.MapRuns.{map_kernel_keeps}
 use Rattle.ndrange_device.specs.InOrder.{EndsInOrder, IsSafe}
 use Rattle.ndrange_machine.specs.Stands.{AreOutputs, state_after}
+use Rattle.scalar_ops.specs.declared.op.Reducer.TheVariants as reducers
+use Rattle.lift_tree.specs.declared.term.Operator.TheVariants as operators
+use Rattle.lift_tree.specs.declared.term.BinaryForm.TheVariants as binaries
+use Rattle.lift_tree.specs.declared.term.MapKind.TheVariants as maps
+use Rattle.lift_tree.specs.Meaning.{World, binary_value, meaning}
+use Rattle.lift_tree.specs.Programs.{PlainProgram}
+use Rattle.lift_tree.specs.Tree.{Tree, Variable, Number, Input, Unary, Binary, Select, Let, Map, Fold}
+use Rattle.lift_tree.specs.Values.{Value, Word, More, array, members}
+use Rattle.kernel_tree.specs.KernelText.{IsKernelText}
+use Rattle.kernel_spelling.specs.Spelling.{HasText, spelled, text_of}
+use Rattle.kernel_spelling.proofs.Stands.{spelled_stands}
+use Rattle.kernel_spelling.proofs.Whole.{spelled_made}
+use Rattle.kernel_tree.specs.Grammar.{is_kernel}
+use Rattle.lift_tool.specs.Form.{Form, IsPrinted}
 use Rattle.lift_tool.specs.Runs.{MeetsSource, task_launch, zeroed}
-use Rattle.lift_tool.specs.Form.{Form}
+use Rattle.lift_tool.specs.Source.{words, world_of, IsSourceValue}
+use Rattle.lift_tool.specs.Steps.{after_step, after_steps}
 
 pub admissible : (addend : ℕ) (xs : List ℕ) → AdmissibleLaunch (map_kernel addend) (task_launch (length xs)) (zeroed xs)
 admissible addend xs = record {
@@ -78,6 +94,56 @@ module _ (addend : ℕ) (xs : List ℕ) (few : length xs ≤ 1048576) where
       (subst (λ x. EndsInOrder (map_kernel addend) x c rows events) q
       (subst (λ x. EndsInOrder x l c rows events) p e))
 
+-- ---- the source's value
+
+-- the addend is added to each number of the list
+sums : (addend : ℕ) (xs : List ℕ) → array (map (λ x. binary_value (binaries.Operator (operators.Regrouping reducers.Add)) x (Word addend)) (members (words xs))) ≡ words (added addend xs)
+sums addend [] = refl
+sums addend (x ∷ xs) = ap (λ v. More (Word ((x + addend) % 2 ^ 32)) v) (sums addend xs)
+
+-- a step keeps the value
+step_keeps : (w : World) (vs : List Value) (t u : Tree) → after_step t ≡ Some u → meaning w vs t ≡ meaning w vs u
+step_keeps w vs (Map maps.Plain xs b) u e = ap (meaning w vs) (same_Some _ _ e)
+step_keeps w vs t u e = search (rules, e)
+
+pub steps_keep : (w : World) (vs : List Value) (n : ℕ) (t u : Tree) → after_steps n t ≡ Some u → meaning w vs t ≡ meaning w vs u
+steps_keep w vs zero t u e = ap (meaning w vs) (same_Some _ _ e)
+steps_keep w vs (suc n) t u e =
+    elim (after_step t) as (λ o. after_step t ≡ o → option_and_then (after_steps n) o ≡ Some u → meaning w vs t ≡ meaning w vs u) [
+      | None ↦ λ is h. absurd (none-some u h)
+      | Some s ↦ λ is h. step_keeps w vs t s is ∙ steps_keep w vs n s u h
+    ] refl e
+
+-- the sums are the value of a program that is printed
+pub source_is : (p : PlainProgram) (n : ℕ) (term : Tree) (form : Form) (xs : List ℕ) → after_steps n p.body ≡ Some term → IsPrinted p term form → IsSourceValue p xs (added form.addend xs)
+source_is p n term form xs applied printed =
+    sym (steps_keep (world_of xs) [] n p.body term applied ∙ ap (meaning (world_of xs) []) printed.becomes ∙ sums form.addend xs)
+
 -- of every run of a program's kernel
-pub meets_source : (form : Form) → form.to ≤ 1048576 → MeetsSource form (map_kernel form.addend)
-meets_source form most input l c a = map_kernel_keeps form.addend l c input a.task a.cells (let m = a.most in omega arith)
+pub meets_source : (p : PlainProgram) (n : ℕ) (term : Tree) (form : Form) → after_steps n p.body ≡ Some term → IsPrinted p term form → MeetsSource p form (map_kernel form.addend)
+meets_source p n term form applied printed input l c a =
+    (added form.addend input, source_is p n term form input applied printed, map_kernel_keeps form.addend l c input a.task a.cells (let m = a.most in let b = printed.most in omega arith))
+
+-- the kernel of a form has a text, where it is in the grammar
+pub has_text_of : (addend : ℕ) → is_kernel (map_kernel addend) ≡ true → HasText (map_kernel addend)
+has_text_of addend in_grammar = record {
+  in_grammar = in_grammar;
+  written = refl;
+  locals = refl;
+  privates = refl;
+  inputs = omega arith;
+  outputs = omega arith;
+  sizes = omega arith;
+  variables = omega arith;
+}
+
+has_text : (addend : ℕ) → is_kernel (map_kernel addend) ≡ true → IsKernelText (text_of (map_kernel addend)) (map_kernel addend)
+has_text addend in_grammar =
+    let t = has_text_of addend in_grammar in
+    (spelled (map_kernel addend), _, spelled_stands (map_kernel addend) t, spelled_made (map_kernel addend) t, (refl, refl, refl))
+
+-- the one text of a form's kernel
+pub text_of_form : (addend : ℕ) (k : Kernel) (text : List ℕ) → is_kernel k ≡ true → k ≡ map_kernel addend → ((bytes : List ℕ) → IsKernelText bytes k → bytes ≡ text) → text ≡ text_of (map_kernel addend)
+text_of_form addend k text in_grammar same only =
+    let mapped : is_kernel (map_kernel addend) ≡ true = ap is_kernel (sym same) ∙ in_grammar in
+    sym (only (text_of (map_kernel addend)) (subst (IsKernelText (text_of (map_kernel addend))) (sym same) (has_text addend mapped)))

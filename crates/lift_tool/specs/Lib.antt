@@ -1,7 +1,10 @@
+pub mod Compiled
+pub mod Failure
 pub mod Form
 pub mod Launch
+pub mod Lines
+pub mod Nest
 pub mod Outcome
-pub mod Program
 pub mod Refusal
 pub mod Request
 pub mod ResultLine
@@ -9,3 +12,5 @@ pub mod Runs
 pub mod Script
 pub mod Shown
 pub mod Source
+pub mod Stages
+pub mod Steps

@@ -1,40 +1,91 @@
--- Why a call ends without a result: its status and its line.
-use Rattle.std.specs.Prelude.{ℕ, List, ◌++◌, codes, decimal}
-
-pub data Refusal : Type 0 where
-  -- the words are no command
-  Words : Refusal
-  -- the file of this name couldn't be read
-  Read : List ℕ → Refusal
-  -- the output couldn't be written
-  Write : Refusal
-  -- the program's text is none
-  Program : Refusal
-  -- the script's text is none
-  Script : Refusal
-  -- so many bytes of a file were counted
-  Limit : ℕ → Refusal
-  -- the launch file is none for this program
-  LaunchFile : Refusal
-  -- memory ran out
-  Memory : Refusal
+-- Why a program and a script have no kernel: the status, and the line.
+use Rattle.std.specs.Prelude.{ℕ, List, [], ◌∷◌, codes, decimal}
+use Rattle.lift_reader.specs.declared.refusal.Quantity.{Quantity}
+use Rattle.lift_reader.specs.declared.refusal.Quantity.TheVariants as counted
+use Rattle.lift_reader.specs.declared.refusal.ReadRefusal.{ReadRefusal}
+use Rattle.lift_reader.specs.declared.refusal.ReadRefusal.TheVariants as readings
+use Rattle.pattern_types.specs.declared.refusal.Rule.{Rule}
+use Rattle.pattern_types.specs.declared.refusal.Rule.TheVariants as rules
+use Rattle.pattern_types.specs.declared.refusal.Spot.{Spot}
+use Rattle.pattern_types.specs.declared.refusal.Spot.TheVariants as spots
+use Rattle.pattern_types.specs.declared.refusal.TypeLimit.{TypeLimit}
+use Rattle.pattern_types.specs.declared.refusal.TypeLimit.TheVariants as limits
+use Rattle.pattern_types.specs.declared.refusal.TypeRefusal.{TypeRefusal}
+use Rattle.pattern_types.specs.declared.refusal.TypeRefusal.TheVariants as typings
+use Rattle.lift_tool.specs.Lines.{line_of_texts, place_text}
+use Rattle.lift_tool.specs.declared.script.ScriptRefusal.{ScriptRefusal}
+use Rattle.lift_tool.specs.declared.script.ScriptRefusal.TheVariants as scripts
+use Rattle.lift_tool.specs.declared.nest.NestRefusal.{NestRefusal}
+use Rattle.lift_tool.specs.declared.nest.NestRefusal.TheVariants as nests
+use Rattle.lift_tool.specs.declared.refusal.Refusal.{Refusal}
+use Rattle.lift_tool.specs.declared.refusal.Refusal.TheVariants.{Program, Typing, Script, Step, Nest, Memory}
 
 abbrev pub status_of : Refusal → ℕ
-status_of Words = 2
-status_of (Read name) = 3
-status_of Write = 4
-status_of Program = 6
-status_of Script = 8
-status_of (Limit count) = 10
-status_of LaunchFile = 12
+status_of (Program (readings.Syntax token offset)) = 6
+status_of (Program (readings.Limit which count)) = 10
+status_of (Program readings.Memory) = 13
+status_of (Typing (typings.IllTyped spot rule)) = 7
+status_of (Typing (typings.Limit which spot count)) = 10
+status_of (Typing typings.Memory) = 13
+status_of (Script (scripts.Syntax line)) = 8
+status_of (Script (scripts.Steps count)) = 10
+status_of (Step step) = 9
+status_of (Nest why) = 11
 status_of Memory = 13
 
+-- ---- names, as they are written
+
+abbrev pub quantity_name : Quantity → List ℕ
+quantity_name counted.Sizes = codes "sizes"
+quantity_name counted.Inputs = codes "inputs"
+quantity_name counted.Nodes = codes "nodes"
+
+abbrev pub type_limit_name : TypeLimit → List ℕ
+type_limit_name limits.Arrays = codes "arrays"
+type_limit_name limits.Components = codes "components"
+type_limit_name limits.Terms = codes "terms"
+type_limit_name limits.Degree = codes "degree"
+type_limit_name limits.Coefficient = codes "coefficient"
+type_limit_name limits.Scalars = codes "scalars"
+
+abbrev pub rule_name : Rule → List ℕ
+rule_name rules.Operator = codes "operator"
+rule_name rules.Pair = codes "pair"
+rule_name rules.Project = codes "project"
+rule_name rules.Map = codes "map"
+rule_name rules.Reduce = codes "reduce"
+rule_name rules.Fold = codes "fold"
+rule_name rules.Zip = codes "zip"
+rule_name rules.Split = codes "split"
+rule_name rules.Join = codes "join"
+rule_name rules.Transpose = codes "transpose"
+rule_name rules.Slide = codes "slide"
+rule_name rules.Pad = codes "pad"
+rule_name rules.Output = codes "output"
+rule_name rules.Length = codes "length"
+
+-- ---- lines
+
+abbrev pub limit_line : (name : List ℕ) → (count : ℕ) → List ℕ
+limit_line name count = line_of_texts (codes "lift: limit " ∷ name ∷ codes ": " ∷ decimal count ∷ [])
+
+abbrev pub type_line : Rule → Spot → List ℕ
+type_line rule (spots.Input number) = line_of_texts (codes "lift: type: " ∷ rule_name rule ∷ codes " at input " ∷ decimal number ∷ [])
+type_line rule (spots.Node place) = line_of_texts (codes "lift: type: " ∷ rule_name rule ∷ codes " at " ∷ place_text place ∷ [])
+
+abbrev pub memory_line : List ℕ
+memory_line = line_of_texts (codes "lift: memory" ∷ [])
+
 abbrev pub line_of : Refusal → List ℕ
-line_of Words = codes "lift: words\n"
-line_of (Read name) = codes "lift: read " ++ name ++ codes "\n"
-line_of Write = codes "lift: write\n"
-line_of Program = codes "lift: program\n"
-line_of Script = codes "lift: script\n"
-line_of (Limit count) = codes "lift: limit bytes: " ++ decimal count ++ codes "\n"
-line_of LaunchFile = codes "lift: launch\n"
-line_of Memory = codes "lift: memory\n"
+line_of (Program (readings.Syntax token offset)) = line_of_texts (codes "lift: program: token " ∷ decimal token ∷ codes ", byte " ∷ decimal offset ∷ [])
+line_of (Program (readings.Limit which count)) = limit_line (quantity_name which) count
+line_of (Program readings.Memory) = memory_line
+line_of (Typing (typings.IllTyped spot rule)) = type_line rule spot
+line_of (Typing (typings.Limit which spot count)) = limit_line (type_limit_name which) count
+line_of (Typing typings.Memory) = memory_line
+line_of (Script (scripts.Syntax number)) = line_of_texts (codes "lift: script: line " ∷ decimal number ∷ [])
+line_of (Script (scripts.Steps count)) = limit_line (codes "steps") count
+line_of (Step step) = line_of_texts (codes "lift: step " ∷ decimal step ∷ codes ": shape" ∷ [])
+line_of (Nest (nests.Undecided place)) = line_of_texts (codes "lift: nest: N1 at " ∷ place_text place ∷ [])
+line_of (Nest nests.Unprinted) = line_of_texts (codes "lift: nest: N0 at ." ∷ [])
+line_of Memory = memory_line

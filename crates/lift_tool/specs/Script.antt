@@ -1,7 +1,9 @@
 -- The text of a script.
-use Rattle.std.specs.Prelude.{◌≡◌, ℕ, List, [], ◌∷◌, Bool, true, ◌&&◌, ◌||◌, ◌==◌, not, count_by, take, drop, bytes_eq, codes}
-use Rattle.std.specs.List.{prefix_len, list_all}
+use Rattle.std.specs.Prelude.{◌≡◌, ◌+◌, ◌<◌, ℕ, List, [], ◌∷◌, Bool, true, ◌&&◌, ◌||◌, ◌==◌, not, count_by, length, take, drop, bytes_eq, codes}
+use Rattle.std.specs.List.{prefix_len}
 use Rattle.std.specs.Str.Lines.{lines}
+use Rattle.lift_tool.specs.declared.script.ScriptRefusal.{ScriptRefusal}
+use Rattle.lift_tool.specs.declared.script.ScriptRefusal.TheVariants.{Syntax, Steps}
 
 -- the end of a line, LF
 abbrev pub is_line_end : ℕ → Bool
@@ -32,7 +34,7 @@ abbrev pub has_words : List (List ℕ) → List ℕ → Bool
 has_words [] line = bytes_eq (first_word line) []
 has_words (word ∷ words) line = bytes_eq (first_word line) word && has_words words (behind_word line)
 
--- the line is the step that the whole term becomes sequential
+-- the line is the step by which the whole term becomes sequential
 abbrev pub is_step : List ℕ → Bool
 is_step line = has_words (codes "at" ∷ codes "." ∷ codes "to-seq" ∷ []) line
 
@@ -45,7 +47,25 @@ is_end_or_comment (b ∷ bs) = b == 35
 abbrev pub is_no_step : List ℕ → Bool
 is_no_step line = is_end_or_comment (from_word line)
 
--- one line is the step, and every other is no step
-pub record IsScript (text : List ℕ) : Type 0 where
-  pub one_step : count_by is_step (lines text) ≡ 1
-  pub others : list_all (λ line. is_step line || is_no_step line) (lines text) ≡ true
+-- the line is the step, or no step
+abbrev pub is_line : List ℕ → Bool
+is_line line = is_step line || is_no_step line
+
+-- how many lines stand before the first that is neither
+abbrev pub good_lines : List ℕ → ℕ
+good_lines text = prefix_len is_line (lines text)
+
+-- each line is a step or none, and so many are steps
+pub record IsScript (text : List ℕ) (steps : ℕ) : Type 0 where
+  pub all : good_lines text ≡ length (lines text)
+  pub count : steps ≡ count_by is_step (lines text)
+
+-- this line, counted from 1, is the first that is neither a step nor none
+pub record StopsAtLine (text : List ℕ) (line : ℕ) : Type 0 where
+  pub there : good_lines text < length (lines text)
+  pub counted : line ≡ good_lines text + 1
+
+-- why a script's text is refused
+abbrev pub RefusesScript : List ℕ → ScriptRefusal → Type 0
+RefusesScript text (Syntax line) = StopsAtLine text line
+RefusesScript text (Steps count) = IsScript text count × (256 < count)

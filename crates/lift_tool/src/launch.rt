@@ -35,7 +35,7 @@ ghost use Rattle.lift_tool.specs.Launch.{
 };
 ghost use Rattle.lift_tool.specs.Shown.{form_of, launch_of};
 
-use crate::program::MapProgram;
+use crate::form::MapProgram;
 use serde_json::{Category, Value};
 use std::alloc::{AllocError, Global};
 
@@ -93,14 +93,14 @@ fn is_for_one_item(value: &Value) -> bool
 }
 
 // The declared size, where it is within its range.
-fn size_of(value: &Value, program: &MapProgram<'_>) -> Option<u32>
+fn size_of(value: &Value, program: &MapProgram) -> Option<u32>
     ensures some { IfSome result (λ n. (size_at (form_of program.now) (view value.now) ≡ Some n)
         × (program.now.from ≤ n) × (n ≤ program.now.to)) }
     ensures none { IfNone result ((n : ℕ) → size_at (form_of program.now) (view value.now) ≡ Some n
         → program.now.from ≤ n → n ≤ program.now.to → ⊥) }
 {
     let range = program.from..=program.to;
-    let size = member_at(value, "sizes", program.size)?.as_u64()?;
+    let size = member_at(value, "sizes", program.size.as_str())?.as_u64()?;
     let size = u32::try_from(size).ok()?;
     range.contains(&size).then_some(size)
 }
@@ -109,11 +109,11 @@ fn size_of(value: &Value, program: &MapProgram<'_>) -> Option<u32>
 fn input_of(
     alloc: Global,
     value: &Value,
-    program: &MapProgram<'_>,
+    program: &MapProgram,
 ) -> Result<Option<Vec<u32>>, AllocError>
     ensures { IfOk result (λ o. option_map (λ v. v.items) o ≡ input_at (form_of program.now) (view value.now)) }
 {
-    match member_at(value, "inputs", program.input).and_then(Value::as_array) {
+    match member_at(value, "inputs", program.input.as_str()).and_then(Value::as_array) {
         Some(values) => words(alloc, values.as_slice()),
         None => Ok(None),
     }
@@ -123,7 +123,7 @@ fn input_of(
 fn launch_of(
     alloc: Global,
     value: &Value,
-    program: &MapProgram<'_>,
+    program: &MapProgram,
 ) -> Result<Option<LaunchFile>, AllocError>
     ensures { IfOk result (λ o. MatchOption o
         ((l : Launch) → ¬ GivesLaunch (form_of program.now) (view value.now) l)
@@ -148,7 +148,7 @@ fn launch_of(
 pub fn read_launch(
     alloc: Global,
     bytes: &[u8],
-    program: &MapProgram<'_>,
+    program: &MapProgram,
 ) -> Result<Option<LaunchFile>, AllocError>
     ensures { IfOk result (λ o. MatchOption o
         ((l : Launch) → ¬ IsLaunch (form_of program.now) bytes.now l)

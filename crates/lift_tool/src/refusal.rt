@@ -1,85 +1,254 @@
-//! Why a call ends without a result: its status, and its line.
-ghost use Rattle.std.specs.Prelude.{
-  ◌≡◌,
-  ◌++◌,
-  ◌∷◌,
-  ◌≤◌,
-  ℕ,
-  [],
-  OnOk,
-  length,
-  take,
+//! Why a program and a script have no kernel: the status, and the line.
+ghost use Rattle.std.specs.Prelude.{◌≡◌};
+ghost use Rattle.lift_io.specs.Causes.{Rose};
+ghost use Rattle.lift_tool.specs.Outcome.{TakesLine};
+ghost use Rattle.lift_tool.specs.Refusal.{
+  limit_line,
+  line_of,
+  memory_line,
+  quantity_name,
+  rule_name,
+  status_of,
+  type_limit_name,
+  type_line,
 };
-ghost use Rattle.std.specs.Io.KnownBytes.{Appends};
-ghost use Rattle.lift_io.specs.Causes.{HasCause, Rose};
-ghost use Rattle.lift_tool.specs.Outcome.{TakesLine, TakesPrefix};
-ghost use Rattle.lift_tool.specs.Refusal.{status_of, line_of};
-ghost use Rattle.lift_tool.specs.Shown.{refusal_of};
 
-use itoa::Buffer;
-use lift_io::{Sink, WriteFailed, write_whole};
+use crate::lines::{Piece, write_line};
+use crate::nest::NestRefusal;
+use crate::script::ScriptRefusal;
+use lift_io::Sink;
+use lift_reader::refusal::{Quantity, ReadRefusal};
+use pattern_types::{Rule, Spot, TypeLimit, TypeRefusal};
 use std::alloc::AllocError;
 
-/// Why a call ends without a result.
-#[derive(Clone, Copy, Debug)]
-pub enum Refusal<'w> {
-    /// The words are no command.
-    Words,
-    /// The file of this name couldn't be read.
-    Read(&'w str),
-    /// The output couldn't be written.
-    Write,
-    /// The program's text is none.
-    Program,
-    /// The script's text is none.
-    Script,
-    /// So many bytes of a file were counted, one more than it may have.
-    Limit(u64),
-    /// The launch file is none for this program.
-    LaunchFile,
-    /// Memory ran out.
+/// Why a program and a script have no kernel: the first cause in the order of the stages.
+#[derive(Debug, Drop)]
+pub enum Refusal {
+    /// The program's text isn't one, or is too large.
+    Program(ReadRefusal),
+    /// The program has no types, or none within the limits.
+    Typing(TypeRefusal),
+    /// The script's text isn't one, or has too many steps.
+    Script(ScriptRefusal),
+    /// This step of the script, counted from 1, doesn't apply.
+    Step(u64),
+    /// What the steps make isn't a nest that is printed.
+    Nest(NestRefusal),
+    /// Memory ran out. It never stands inside another cause.
     Memory,
 }
 
-impl Refusal<'_> {
+fn quantity_name(which: Quantity) -> &'static [u8]
+    ensures { result.now ≡ quantity_name which }
+{
+    match which {
+        Quantity::Sizes => b"sizes".as_slice(),
+        Quantity::Inputs => b"inputs".as_slice(),
+        Quantity::Nodes => b"nodes".as_slice(),
+    }
+}
+
+fn type_limit_name(which: TypeLimit) -> &'static [u8]
+    ensures { result.now ≡ type_limit_name which }
+{
+    match which {
+        TypeLimit::Arrays => b"arrays".as_slice(),
+        TypeLimit::Components => b"components".as_slice(),
+        TypeLimit::Terms => b"terms".as_slice(),
+        TypeLimit::Degree => b"degree".as_slice(),
+        TypeLimit::Coefficient => b"coefficient".as_slice(),
+        TypeLimit::Scalars => b"scalars".as_slice(),
+    }
+}
+
+fn rule_name(rule: Rule) -> &'static [u8]
+    ensures { result.now ≡ rule_name rule }
+{
+    match rule {
+        Rule::Operator => b"operator".as_slice(),
+        Rule::Pair => b"pair".as_slice(),
+        Rule::Project => b"project".as_slice(),
+        Rule::Map => b"map".as_slice(),
+        Rule::Reduce => b"reduce".as_slice(),
+        Rule::Fold => b"fold".as_slice(),
+        Rule::Zip => b"zip".as_slice(),
+        Rule::Split => b"split".as_slice(),
+        Rule::Join => b"join".as_slice(),
+        Rule::Transpose => b"transpose".as_slice(),
+        Rule::Slide => b"slide".as_slice(),
+        Rule::Pad => b"pad".as_slice(),
+        Rule::Output => b"output".as_slice(),
+        Rule::Length => b"length".as_slice(),
+    }
+}
+
+/// Writes which limit is passed, and the count.
+pub fn report_limit<E: Sink>(err: &mut E, name: &[u8], count: u128)
+    ensures { TakesLine (E.taken err.old) (E.taken err.new) (Rose (E.faults err.old) (E.faults err.new)) (limit_line name.now count) }
+{
+    write_line(
+        err,
+        &[
+            Piece::Text(b"lift: limit "),
+            Piece::Text(name),
+            Piece::Text(b": "),
+            Piece::Number(count),
+        ],
+    );
+}
+
+/// Writes that memory ran out.
+pub fn report_memory<E: Sink>(err: &mut E)
+    ensures { TakesLine (E.taken err.old) (E.taken err.new) (Rose (E.faults err.old) (E.faults err.new)) memory_line }
+{
+    write_line(err, &[Piece::Text(b"lift: memory")]);
+}
+
+// Writes where a program's text doesn't go on.
+fn report_token<E: Sink>(err: &mut E, token: usize, offset: usize)
+    ensures { TakesLine (E.taken err.old) (E.taken err.new) (Rose (E.faults err.old) (E.faults err.new)) (line_of (Refusal.Program (ReadRefusal.Syntax token offset))) }
+{
+    write_line(
+        err,
+        &[
+            Piece::Text(b"lift: program: token "),
+            Piece::Number(token as u128),
+            Piece::Text(b", byte "),
+            Piece::Number(offset as u128),
+        ],
+    );
+}
+
+// Writes which rule is broken, and where.
+fn report_rule<E: Sink>(err: &mut E, rule: Rule, spot: &Spot)
+    ensures { TakesLine (E.taken err.old) (E.taken err.new) (Rose (E.faults err.old) (E.faults err.new)) (type_line rule spot.now) }
+{
+    match spot {
+        Spot::Input(number) => write_line(
+            err,
+            &[
+                Piece::Text(b"lift: type: "),
+                Piece::Text(rule_name(rule)),
+                Piece::Text(b" at input "),
+                Piece::Number(*number as u128),
+            ],
+        ),
+        Spot::Node(place) => write_line(
+            err,
+            &[
+                Piece::Text(b"lift: type: "),
+                Piece::Text(rule_name(rule)),
+                Piece::Text(b" at "),
+                Piece::Place(place.numbers()),
+            ],
+        ),
+    }
+}
+
+fn report_program<E: Sink>(err: &mut E, no: &ReadRefusal)
+    ensures { TakesLine (E.taken err.old) (E.taken err.new) (Rose (E.faults err.old) (E.faults err.new)) (line_of (Refusal.Program no.now)) }
+{
+    match no {
+        ReadRefusal::Syntax { token, offset } => report_token(err, *token, *offset),
+        ReadRefusal::Limit { which, count } => {
+            report_limit(err, quantity_name(*which), *count as u128);
+        }
+        ReadRefusal::Memory => report_memory(err),
+    }
+}
+
+fn report_typing<E: Sink>(err: &mut E, no: &TypeRefusal)
+    ensures { TakesLine (E.taken err.old) (E.taken err.new) (Rose (E.faults err.old) (E.faults err.new)) (line_of (Refusal.Typing no.now)) }
+{
+    match no {
+        TypeRefusal::IllTyped { spot, rule } => report_rule(err, *rule, spot),
+        TypeRefusal::Limit { which, count, .. } => {
+            report_limit(err, type_limit_name(*which), *count);
+        }
+        TypeRefusal::Memory => report_memory(err),
+    }
+}
+
+fn report_script<E: Sink>(err: &mut E, no: ScriptRefusal)
+    ensures { TakesLine (E.taken err.old) (E.taken err.new) (Rose (E.faults err.old) (E.faults err.new)) (line_of (Refusal.Script no)) }
+{
+    match no {
+        ScriptRefusal::Syntax { line } => write_line(
+            err,
+            &[
+                Piece::Text(b"lift: script: line "),
+                Piece::Number(line as u128),
+            ],
+        ),
+        ScriptRefusal::Steps { count } => report_limit(err, b"steps", count as u128),
+    }
+}
+
+fn report_step<E: Sink>(err: &mut E, step: u64)
+    ensures { TakesLine (E.taken err.old) (E.taken err.new) (Rose (E.faults err.old) (E.faults err.new)) (line_of (Refusal.Step step)) }
+{
+    write_line(
+        err,
+        &[
+            Piece::Text(b"lift: step "),
+            Piece::Number(step as u128),
+            Piece::Text(b": shape"),
+        ],
+    );
+}
+
+fn report_nest<E: Sink>(err: &mut E, no: &NestRefusal)
+    ensures { TakesLine (E.taken err.old) (E.taken err.new) (Rose (E.faults err.old) (E.faults err.new)) (line_of (Refusal.Nest no.now)) }
+{
+    match no {
+        NestRefusal::Undecided { place } => write_line(
+            err,
+            &[
+                Piece::Text(b"lift: nest: N1 at "),
+                Piece::Place(place.numbers()),
+            ],
+        ),
+        NestRefusal::Unprinted => write_line(err, &[Piece::Text(b"lift: nest: N0 at .")]),
+    }
+}
+
+impl Refusal {
     /// The status that the program ends with.
-    pub fn status(self) -> u8
-        ensures { result ≡ status_of (refusal_of self.entry) }
+    pub fn status(&self) -> u8
+        ensures { result ≡ status_of self.now }
     {
         match self {
-            Refusal::Words => 2,
-            Refusal::Read(_) => 3,
-            Refusal::Write => 4,
-            Refusal::Program => 6,
-            Refusal::Script => 8,
-            Refusal::Limit(_) => 10,
-            Refusal::LaunchFile => 12,
-            Refusal::Memory => 13,
+            Refusal::Program(ReadRefusal::Syntax { .. }) => 6,
+            Refusal::Typing(TypeRefusal::IllTyped { .. }) => 7,
+            Refusal::Script(ScriptRefusal::Syntax { .. }) => 8,
+            Refusal::Step(_) => 9,
+            Refusal::Program(ReadRefusal::Limit { .. })
+            | Refusal::Typing(TypeRefusal::Limit { .. })
+            | Refusal::Script(ScriptRefusal::Steps { .. }) => 10,
+            Refusal::Nest(_) => 11,
+            Refusal::Program(ReadRefusal::Memory)
+            | Refusal::Typing(TypeRefusal::Memory)
+            | Refusal::Memory => 13,
         }
     }
 
     /// Writes the line that tells of it, without taking memory. A write that fails changes nothing
     /// else.
-    pub fn report<E: Sink>(self, err: &mut E)
-        ensures { TakesLine (E.taken err.old) (E.taken err.new) (Rose (E.faults err.old) (E.faults err.new)) (line_of (refusal_of self.entry)) }
+    pub fn report<E: Sink>(&self, err: &mut E)
+        ensures { TakesLine (E.taken err.old) (E.taken err.new) (Rose (E.faults err.old) (E.faults err.new)) (line_of self.now) }
     {
         match self {
-            Refusal::Words => write_line(err, b"lift: words", b""),
-            Refusal::Read(name) => write_line(err, b"lift: read ", name.as_bytes()),
-            Refusal::Write => write_line(err, b"lift: write", b""),
-            Refusal::Program => write_line(err, b"lift: program", b""),
-            Refusal::Script => write_line(err, b"lift: script", b""),
-            Refusal::Limit(count) => {
-                let mut digits = Buffer::new();
-                write_line(err, b"lift: limit bytes: ", digits.format(count).as_bytes());
-            }
-            Refusal::LaunchFile => write_line(err, b"lift: launch", b""),
-            Refusal::Memory => write_line(err, b"lift: memory", b""),
+            Refusal::Program(no) => report_program(err, no),
+            Refusal::Typing(no) => report_typing(err, no),
+            Refusal::Script(no) => report_script(err, *no),
+            Refusal::Step(step) => report_step(err, *step),
+            Refusal::Nest(no) => report_nest(err, no),
+            Refusal::Memory => report_memory(err),
         }
     }
 }
 
-impl From<AllocError> for Refusal<'_> {
+impl From<AllocError> for Refusal {
     ghost use Rattle.lift_tool.specs.declared.refusal.Refusal.TheVariants.{Memory};
 
     ghost from_gives = { λ _ e. e ≡ Memory };
@@ -89,29 +258,58 @@ impl From<AllocError> for Refusal<'_> {
     }
 }
 
-// Writes one text, and then another.
-fn write_both<S: Sink>(sink: &mut S, first: &[u8], second: &[u8]) -> Result<(), WriteFailed>
-    ensures all { OnOk result (Appends (S.taken sink.old) (S.taken sink.new) (first.now ++ second.now)) }
-    ensures prefix { TakesPrefix (S.taken sink.old) (S.taken sink.new) (first.now ++ second.now) }
-    ensures cause { HasCause (S.faults sink.old) (S.faults sink.new) result }
-{
-    write_whole(sink, first)?;
-    write_whole(sink, second)
+impl From<ReadRefusal> for Refusal {
+    ghost use Rattle.lift_tool.specs.Stages.{program_refused};
+
+    ghost from_gives = { λ no e. e ≡ program_refused no };
+
+    fn from(no: ReadRefusal) -> Self {
+        match no {
+            ReadRefusal::Syntax { token, offset } => {
+                Refusal::Program(ReadRefusal::Syntax { token, offset })
+            }
+            ReadRefusal::Limit { which, count } => {
+                Refusal::Program(ReadRefusal::Limit { which, count })
+            }
+            ReadRefusal::Memory => Refusal::Memory,
+        }
+    }
 }
 
-// Writes two texts and an end of line.
-fn write_parts<S: Sink>(sink: &mut S, head: &[u8], detail: &[u8]) -> Result<(), WriteFailed>
-    ensures all { OnOk result (Appends (S.taken sink.old) (S.taken sink.new) (head.now ++ detail.now ++ 10 ∷ [])) }
-    ensures prefix { TakesPrefix (S.taken sink.old) (S.taken sink.new) (head.now ++ detail.now ++ 10 ∷ []) }
-    ensures cause { HasCause (S.faults sink.old) (S.faults sink.new) result }
-{
-    write_both(sink, head, detail)?;
-    write_whole(sink, b"\n")
+impl From<TypeRefusal> for Refusal {
+    ghost use Rattle.lift_tool.specs.Stages.{typing_refused};
+
+    ghost from_gives = { λ no e. e ≡ typing_refused no };
+
+    fn from(no: TypeRefusal) -> Self {
+        match no {
+            TypeRefusal::IllTyped { spot, rule } => {
+                Refusal::Typing(TypeRefusal::IllTyped { spot, rule })
+            }
+            TypeRefusal::Limit { which, spot, count } => {
+                Refusal::Typing(TypeRefusal::Limit { which, spot, count })
+            }
+            TypeRefusal::Memory => Refusal::Memory,
+        }
+    }
 }
 
-// Writes a line of two parts, as far as the sink takes it.
-fn write_line<E: Sink>(err: &mut E, head: &[u8], detail: &[u8])
-    ensures { TakesLine (E.taken err.old) (E.taken err.new) (Rose (E.faults err.old) (E.faults err.new)) (head.now ++ detail.now ++ 10 ∷ []) }
-{
-    let _ = write_parts(err, head, detail);
+impl From<ScriptRefusal> for Refusal {
+    ghost use Rattle.lift_tool.specs.declared.refusal.Refusal.TheVariants.{Script};
+
+    ghost from_gives = { λ no e. e ≡ Script no };
+
+    fn from(no: ScriptRefusal) -> Self {
+        Refusal::Script(no)
+    }
+}
+
+impl From<NestRefusal> for Refusal {
+    ghost use Rattle.lift_tool.specs.declared.refusal.Refusal.TheVariants.{Nest};
+
+    ghost from_gives = { λ no e. e ≡ Nest no };
+
+    fn from(no: NestRefusal) -> Self {
+        Refusal::Nest(no)
+    }
 }

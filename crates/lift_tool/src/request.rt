@@ -6,6 +6,11 @@ ghost use Rattle.lift_tool.specs.Shown.{asked};
 /// What the words of the command line ask for.
 #[derive(Clone, Copy, Debug)]
 pub enum Request<'w> {
+    /// To compile a program along a script.
+    Compile {
+        program: &'w str,
+        script: &'w str,
+    },
     /// To run a program along a script at a launch.
     Run {
         program: &'w str,
@@ -25,17 +30,28 @@ impl<'w> Request<'w> {
     pub fn from_words(words: &'w [String]) -> Option<Request<'w>>
         ensures { option_map asked result ≡ request_of (map string_bytes words.now) }
     {
-        let [command, program, script, launch] = words else {
-            return None;
-        };
-        let is_run = command.as_str() == "run"
-            && is_file_word(program.as_str())
-            && is_file_word(script.as_str())
-            && is_file_word(launch.as_str());
-        is_run.then_some(Request::Run {
-            program: program.as_str(),
-            script: script.as_str(),
-            launch: launch.as_str(),
-        })
+        match words {
+            [command, program, script] => {
+                let is_compile = command.as_str() == "compile"
+                    && is_file_word(program.as_str())
+                    && is_file_word(script.as_str());
+                is_compile.then_some(Request::Compile {
+                    program: program.as_str(),
+                    script: script.as_str(),
+                })
+            }
+            [command, program, script, launch] => {
+                let is_run = command.as_str() == "run"
+                    && is_file_word(program.as_str())
+                    && is_file_word(script.as_str())
+                    && is_file_word(launch.as_str());
+                is_run.then_some(Request::Run {
+                    program: program.as_str(),
+                    script: script.as_str(),
+                    launch: launch.as_str(),
+                })
+            }
+            _ => None,
+        }
     }
 }

@@ -1,9 +1,10 @@
 //! The text of a script.
-ghost use Rattle.std.specs.Prelude.{◌≡◌, ◌<◌, ◌≤◌, ◌∷◌, ◌↔◌, IsTrue, length};
+ghost use Rattle.std.specs.Prelude.{◌≡◌, ◌<◌, ◌≤◌, ◌∷◌, IfOk, IfErr, length};
 ghost use Rattle.std.specs.List.{position_or_len, prefix_len};
 ghost use Rattle.std.specs.Str.Lines.{lines, strip_carriage_return};
 ghost use Rattle.lift_tool.specs.Script.{
   IsScript,
+  RefusesScript,
   behind_word,
   first_word,
   from_word,
@@ -13,6 +14,9 @@ ghost use Rattle.lift_tool.specs.Script.{
   is_no_step,
   is_step,
 };
+
+/// The most steps that a script may have.
+pub const STEP_LIMIT: u64 = 256;
 
 fn is_blank(byte: u8) -> bool
     ensures { result ≡ is_blank byte }
@@ -106,21 +110,36 @@ fn without_carriage_return(line: &[u8]) -> &[u8]
     }
 }
 
-/// Whether the text is a script: one of its lines is the step that makes the whole term
-/// sequential, and every other is empty, of blanks alone, or a comment.
-pub fn is_script(text: &[u8]) -> bool
-    ensures { IsTrue result ↔ IsScript text.now }
+/// Why a script's text is refused.
+#[derive(Clone, Copy, Debug)]
+pub enum ScriptRefusal {
+    /// This line, counted from 1, is the first that is neither a step nor none.
+    Syntax { line: u64 },
+    /// There are so many steps, more than there may be.
+    Steps { count: u64 },
+}
+
+/// How many steps a script has. Each line of it is the step that makes the whole term sequential,
+/// or is empty, of blanks alone, or a comment.
+pub fn read_script(text: &[u8]) -> Result<u64, ScriptRefusal>
+    ensures steps { IfOk result (λ steps. IsScript text.now steps × (steps ≤ 256)) }
+    ensures refused { IfErr result (RefusesScript text.now) }
 {
     let mut steps = 0u64;
+    let mut lines = 0u64;
     let mut rest = text;
     while !rest.is_empty() {
         let (line, behind) = split_line(rest);
+        lines += 1;
         if is_step(line) {
             steps += 1;
         } else if !is_no_step(line) {
-            return false;
+            return Err(ScriptRefusal::Syntax { line: lines });
         }
         rest = behind;
     }
-    steps == 1
+    if steps > STEP_LIMIT {
+        return Err(ScriptRefusal::Steps { count: steps });
+    }
+    Ok(steps)
 }

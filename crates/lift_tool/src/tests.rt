@@ -12,6 +12,9 @@ const LAUNCH: &str =
 
 const RESULT: &str = "{\"value\":[2,3,0],\"events\":10,\"releases\":0}\n";
 
+const KERNEL: &str =
+    "__kernel void lift(__global const uint *a0, __global uint *o0, const uint s0)\n{\n  uint v0;\n  for (uint i0 = 0u; i0 < s0; i0 += 1u) {\n    v0 = a0[i0];\n    o0[i0] = (v0 + 1u);\n  }\n}\n";
+
 // The files of a call, and the numbers of the reads and writes that fail.
 #[derive(Clone, Copy)]
 struct Call<'a> {
@@ -110,6 +113,71 @@ fn one_map_is_run(rt: HostRuntime) -> Result<(), Fail> {
     Ok(())
 }
 
+const COMPILE: [&str; 3] = ["compile", "p.lift", "s.lift"];
+
+#[test]
+fn one_map_is_compiled(rt: HostRuntime) -> Result<(), Fail> {
+    assert!(rt; KERNEL.len() == 180);
+    assert!(rt; FIRST.ends(rt.alloc(), &COMPILE, 0, KERNEL, "")?);
+    for (program, addend) in [
+        (
+            "size M from 2 to 2; input q: [u32; M]; output map(\\x. add(x, 0), q)",
+            "0u",
+        ),
+        (
+            "size N from 1 to 1048576; input xs: [u32; N]; output map(\\x. add(x, 4294967295), xs)",
+            "4294967295u",
+        ),
+    ] {
+        let mut kernel = String::from_str(
+            rt.alloc(),
+            "__kernel void lift(__global const uint *a0, __global uint *o0, const uint s0)\n{\n  uint v0;\n  for (uint i0 = 0u; i0 < s0; i0 += 1u) {\n    v0 = a0[i0];\n    o0[i0] = (v0 + ",
+        )?;
+        kernel.push_str(addend)?;
+        kernel.push_str(");\n  }\n}\n")?;
+        let other = Call { program, ..FIRST };
+        assert!(rt; other.ends(rt.alloc(), &COMPILE, 0, kernel.as_str(), "")?);
+    }
+    Ok(())
+}
+
+#[test]
+fn a_failed_write_leaves_a_prefix_of_the_kernel(rt: HostRuntime) -> Result<(), Fail> {
+    let failing = Call {
+        failing_out: &[2],
+        ..FIRST
+    };
+    assert!(rt; failing.ends(rt.alloc(), &COMPILE, 4, "__kernel void li", "lift: write\n")?);
+    Ok(())
+}
+
+#[test]
+fn what_is_not_compiled_is_refused(rt: HostRuntime) -> Result<(), Fail> {
+    let program = "size N from 1 to 1000;\ninput xs: [u32; N];\noutput map(";
+    let cut = Call { program, ..FIRST };
+    assert!(rt;
+        cut.ends(
+            rt.alloc(),
+            &COMPILE,
+            6,
+            "",
+            "lift: program: token 20, byte 54\n"
+        )?
+    );
+    let script = "at . to-seq\nat . to-sequence";
+    let wrong = Call { script, ..FIRST };
+    assert!(rt; wrong.ends(rt.alloc(), &COMPILE, 8, "", "lift: script: line 2\n")?);
+    let script = "";
+    let empty = Call { script, ..FIRST };
+    assert!(rt; empty.ends(rt.alloc(), &COMPILE, 11, "", "lift: nest: N1 at .\n")?);
+    let unread = Call {
+        failing_reads: &[2],
+        ..FIRST
+    };
+    assert!(rt; unread.ends(rt.alloc(), &COMPILE, 3, "", "lift: read s.lift\n")?);
+    Ok(())
+}
+
 #[test]
 fn a_thousand_numbers_have_3001_events(rt: HostRuntime) -> Result<(), Fail> {
     let begin = "{\"global\":1,\"local\":1,\"sizes\":{\"N\":1000},\"inputs\":{\"xs\":[0";
@@ -139,48 +207,275 @@ fn programs_of_the_form_are_read(rt: HostRuntime) -> Result<(), Fail> {
     ] {
         assert!(rt; Call { program, ..FIRST }.runs(rt.alloc(), 0, RESULT, "")?);
     }
-    for program in [
-        "",
-        "size N from 1 to 1000; input xs: [u32; N]; output map(",
-        "size N from 0 to 1000; input xs: [u32; N]; output map(\\x. add(x, 1), xs)",
-        "size N from 4 to 3; input xs: [u32; N]; output map(\\x. add(x, 1), xs)",
-        "size N from 1 to 1048577; input xs: [u32; N]; output map(\\x. add(x, 1), xs)",
-        "size N from 1 to 1000; input N: [u32; N]; output map(\\x. add(x, 1), N)",
-        "size N from 1 to 1000; input xs: [u32; M]; output map(\\x. add(x, 1), xs)",
-        "size N from 1 to 1000; input xs: [u32; N]; output map(\\x. add(y, 1), xs)",
-        "size N from 1 to 1000; input xs: [u32; N]; output map(\\x. add(xs, 1), xs)",
-        "size N from 1 to 1000; input xs: [u32; N]; output map(\\x. add(x, 1), ys)",
-        "size N from 1 to 1000; input xs: [u32; N]; output map(\\x. mul(x, 1), xs)",
-        "size N from 1 to 1000; input xs: [u32; N]; output map(\\x. add(1, x), xs)",
-        "size N from 1 to 1000; input xs: [u32; N]; output map(\\x. add(x, 01), xs)",
-        "size N from 1 to 1000; input xs: [u32; N]; output map(\\x. add(x, 4294967296), xs)",
-        "size N from 1 to 1000; input map: [u32; N]; output map(\\x. add(x, 1), map)",
-        "size N from 1 to 1000; input xs: [u32; N]; output map(\\x. add(x, 1), xs);",
-        "size N from 1 to 3; input xs: [u32; N]; output map(\\a23456789012345678901234567890123. add(a23456789012345678901234567890123, 1), xs)",
-        "size N from 1 to 1000; input xs: [u32; N]; output mapSeq(\\x. add(x, 1), xs)",
+    Ok(())
+}
+
+#[test]
+fn texts_that_are_no_programs_are_refused_at_a_token(rt: HostRuntime) -> Result<(), Fail> {
+    for (program, line) in [
+        ("", "lift: program: token 1, byte 0\n"),
+        (
+            "size N from 1 to 1000; input xs: [u32; N]; output map(",
+            "lift: program: token 20, byte 54\n",
+        ),
+        (
+            "size N from 0 to 1000; input xs: [u32; N]; output map(\\x. add(x, 1), xs)",
+            "lift: program: token 4, byte 12\n",
+        ),
+        (
+            "size N from 4 to 3; input xs: [u32; N]; output map(\\x. add(x, 1), xs)",
+            "lift: program: token 6, byte 17\n",
+        ),
+        (
+            "size N from 1 to 1048577; input xs: [u32; N]; output map(\\x. add(x, 1), xs)",
+            "lift: program: token 6, byte 17\n",
+        ),
+        (
+            "size N from 1 to 1000; input N: [u32; N]; output map(\\x. add(x, 1), N)",
+            "lift: program: token 9, byte 29\n",
+        ),
+        (
+            "size N from 1 to 1000; input xs: [u32; M]; output map(\\x. add(x, 1), xs)",
+            "lift: program: token 14, byte 39\n",
+        ),
+        (
+            "size N from 1 to 1000; input xs: [u32; N]; output map(\\x. add(y, 1), xs)",
+            "lift: program: token 25, byte 62\n",
+        ),
+        (
+            "size N from 1 to 1000; input xs: [u32; N]; output map(\\x. add(x, 1), ys)",
+            "lift: program: token 30, byte 69\n",
+        ),
+        (
+            "size N from 1 to 1000; input xs: [u32; N]; output map(\\x. add(x, 01), xs)",
+            "lift: program: token 27, byte 65\n",
+        ),
+        (
+            "size N from 1 to 1000; input xs: [u32; N]; output map(\\x. add(x, 4294967296), xs)",
+            "lift: program: token 27, byte 65\n",
+        ),
+        (
+            "size N from 1 to 1000; input map: [u32; N]; output map(\\x. add(x, 1), map)",
+            "lift: program: token 9, byte 29\n",
+        ),
+        (
+            "size N from 1 to 1000; input xs: [u32; N]; output map(\\x. add(x, 1), xs);",
+            "lift: program: token 32, byte 72\n",
+        ),
+        (
+            "size N from 1 to 3; input xs: [u32; N]; output map(\\a23456789012345678901234567890123. add(a23456789012345678901234567890123, 1), xs)",
+            "lift: program: token 21, byte 52\n",
+        ),
+        (
+            "size N from 1 to 1000; input xs: [u32; N]; output mapSeq(\\x. add(x, 1), xs)",
+            "lift: program: token 18, byte 50\n",
+        ),
     ] {
-        assert!(rt; Call { program, ..FIRST }.runs(rt.alloc(), 6, "", "lift: program\n")?);
+        assert!(rt; Call { program, ..FIRST }.runs(rt.alloc(), 6, "", line)?);
     }
     Ok(())
 }
 
 #[test]
-fn a_script_has_one_step(rt: HostRuntime) -> Result<(), Fail> {
+fn other_programs_are_not_printed(rt: HostRuntime) -> Result<(), Fail> {
+    for program in [
+        "size N from 1 to 1000; input xs: [u32; N]; output map(\\x. mul(x, 1), xs)",
+        "size N from 1 to 1000; input xs: [u32; N]; output map(\\x. add(1, x), xs)",
+        "size N multiple 2 from 2 to 1000; input xs: [u32; N]; output map(\\x. add(x, 1), xs)",
+        "input xs: [u32; 3]; output map(\\x. add(x, 1), xs)",
+        "size N from 1 to 1000; input xs: [u32; 1*N]; output map(\\x. add(x, 1), xs)",
+        "size N from 1 to 1000; input xs: [u32; N]; input ys: [u32; N]; output map(\\x. add(x, 1), xs)",
+        "size N from 1 to 1000; input xs: [u32; N]; output map(\\x. add(x, 1), join(split(1, xs)))",
+    ] {
+        assert!(rt; Call { program, ..FIRST }.runs(rt.alloc(), 11, "", "lift: nest: N0 at .\n")?);
+    }
+    let program = "input xs: [u32; 5]; output xs";
+    let unchanged = Call {
+        program,
+        script: "",
+        ..FIRST
+    };
+    assert!(rt; unchanged.runs(rt.alloc(), 11, "", "lift: nest: N0 at .\n")?);
+    Ok(())
+}
+
+#[test]
+fn ill_typed_programs_are_refused_at_a_spot(rt: HostRuntime) -> Result<(), Fail> {
+    for (program, line) in [
+        (
+            "size N multiple 6 from 6 to 600; input xs: [u32; N]; output split(4, xs)",
+            "lift: type: split at .\n",
+        ),
+        (
+            "input xs: [u32; 3]; input ys: [[u32; 2]; 0]; output xs",
+            "lift: type: length at input 1\n",
+        ),
+        (
+            "input xs: [u32; 3]; output map(\\x. add(xs, 1), xs)",
+            "lift: type: operator at 1\n",
+        ),
+        (
+            "input xs: [u32; 3]; output map(\\x. let y = first(x) in y, xs)",
+            "lift: type: project at 1.0\n",
+        ),
+        ("output 1", "lift: type: output at .\n"),
+    ] {
+        let ill_typed = Call {
+            program,
+            script: "at",
+            ..FIRST
+        };
+        assert!(rt; ill_typed.ends(rt.alloc(), &COMPILE, 7, "", line)?);
+    }
+    Ok(())
+}
+
+#[test]
+fn limits_of_types_are_told_with_their_counts(rt: HostRuntime) -> Result<(), Fail> {
+    for (program, line) in [
+        (
+            "size M from 1 to 65536; size N from 1 to 32768; input xs: [[u32; M]; N]; output xs",
+            "lift: limit scalars: 2147483648\n",
+        ),
+        (
+            "input xs: [[[[[u32; 1]; 1]; 1]; 1]; 1]; output xs",
+            "lift: limit arrays: 5\n",
+        ),
+        (
+            "input xs: [((u32, u32), ((u32, u32), u32)); 1]; output xs",
+            "lift: limit components: 5\n",
+        ),
+        (
+            "input xs: [u32; 2*4294967295*0]; output xs",
+            "lift: limit coefficient: 8589934590\n",
+        ),
+        (
+            "size N from 1 to 2; input xs: [u32; N*N*N*N*N]; output xs",
+            "lift: limit degree: 5\n",
+        ),
+    ] {
+        assert!(rt; Call { program, ..FIRST }.ends(rt.alloc(), &COMPILE, 10, "", line)?);
+    }
+    Ok(())
+}
+
+#[test]
+fn the_first_undecided_node_is_told(rt: HostRuntime) -> Result<(), Fail> {
+    let unstepped = Call {
+        script: "# nothing\n",
+        ..FIRST
+    };
+    assert!(rt; unstepped.runs(rt.alloc(), 11, "", "lift: nest: N1 at .\n")?);
+    for (program, line) in [
+        (
+            "input xs: [[u32; 2]; 3]; output map(\\r. map(\\x. x, r), transpose(map(\\r. r, xs)))",
+            "lift: nest: N1 at 0.0\n",
+        ),
+        (
+            "input xs: [[u32; 2]; 3]; output map(\\r. map(\\x. x, r), transpose(xs))",
+            "lift: nest: N1 at 1\n",
+        ),
+        (
+            "input xs: [[u32; 2]; 3]; output map(\\r. let y = 1 in reduce(add, y, r), xs)",
+            "lift: nest: N1 at 1.1\n",
+        ),
+        (
+            "input xs: [[u32; 2]; 3]; output map(\\r. select(1, 2, let y = map(\\x. x, r) in 3), xs)",
+            "lift: nest: N1 at 1.2.0\n",
+        ),
+        (
+            "input xs: [[u32; 2]; 3]; output map(\\r. zip(r, map(\\x. x, r)), xs)",
+            "lift: nest: N1 at 1.1\n",
+        ),
+    ] {
+        assert!(rt; Call { program, ..FIRST }.runs(rt.alloc(), 11, "", line)?);
+    }
+    Ok(())
+}
+
+#[test]
+fn steps_that_do_not_apply_are_told(rt: HostRuntime) -> Result<(), Fail> {
+    let twice = Call {
+        script: "at . to-seq\n\nat . to-seq\n",
+        ..FIRST
+    };
+    assert!(rt; twice.runs(rt.alloc(), 9, "", "lift: step 2: shape\n")?);
+    let program = "input xs: [u32; 8]; output fold(\\a x. add(a, x), 0, xs)";
+    assert!(rt; Call { program, ..FIRST }.runs(rt.alloc(), 9, "", "lift: step 1: shape\n")?);
+    Ok(())
+}
+
+// A text so many times, and then another.
+fn repeated(alloc: Global, text: &str, times: usize, rest: &str) -> Result<String, AllocError> {
+    let mut all = String::new(alloc);
+    for _ in 0..times {
+        all.push_str(text)?;
+    }
+    all.push_str(rest)?;
+    Ok(all)
+}
+
+#[test]
+fn limits_are_told_with_their_counts(rt: HostRuntime) -> Result<(), Fail> {
+    let sizes =
+        "size a from 1 to 1;size b from 1 to 1;size c from 1 to 1;size d from 1 to 1;size e from 1 to 1;size f from 1 to 1;size g from 1 to 1;size h from 1 to 1;size i from 1 to 1;output 1";
+    let inputs =
+        "input a: [u32; 1];input b: [u32; 1];input c: [u32; 1];input d: [u32; 1];input e: [u32; 1];input f: [u32; 1];input g: [u32; 1];input h: [u32; 1];input i: [u32; 1];output 1";
+    let program = sizes;
+    assert!(rt; Call { program, ..FIRST }.runs(rt.alloc(), 10, "", "lift: limit sizes: 9\n")?);
+    let program = inputs;
+    assert!(rt; Call { program, ..FIRST }.runs(rt.alloc(), 10, "", "lift: limit inputs: 9\n")?);
+    Ok(())
+}
+
+#[test]
+fn the_limit_of_nodes_is_told_with_its_count(rt: HostRuntime) -> Result<(), Fail> {
+    let mut lets = repeated(rt.alloc(), "add(", 11, "1")?;
+    for _ in 0..11 {
+        lets.push_str(",1)")?;
+    }
+    let mut sums = String::from_str(rt.alloc(), "output ")?;
+    for _ in 0..178 {
+        sums.push_str("let x = ")?;
+        sums.push_str(lets.as_str())?;
+        sums.push_str(" in ")?;
+    }
+    sums.push_str("1")?;
+    let program = sums.as_str();
+    assert!(rt; Call { program, ..FIRST }.runs(rt.alloc(), 10, "", "lift: limit nodes: 4273\n")?);
+    Ok(())
+}
+
+#[test]
+fn the_limit_of_steps_is_told_with_its_count(rt: HostRuntime) -> Result<(), Fail> {
+    let steps = repeated(rt.alloc(), "at . to-seq\n", 256, "")?;
+    let script = steps.as_str();
+    assert!(rt; Call { script, ..FIRST }.runs(rt.alloc(), 9, "", "lift: step 2: shape\n")?);
+    let steps = repeated(rt.alloc(), "at . to-seq\n", 257, "")?;
+    let script = steps.as_str();
+    assert!(rt; Call { script, ..FIRST }.runs(rt.alloc(), 10, "", "lift: limit steps: 257\n")?);
+    let steps = repeated(rt.alloc(), "at . to-seq\n", 257, "at . to-sequence")?;
+    let script = steps.as_str();
+    assert!(rt; Call { script, ..FIRST }.runs(rt.alloc(), 8, "", "lift: script: line 258\n")?);
+    Ok(())
+}
+
+#[test]
+fn lines_of_scripts_are_told_apart(rt: HostRuntime) -> Result<(), Fail> {
     for script in ["# first\n \t\n  at\t.  to-seq \r\n#\r\n", "at . to-seq\n"] {
         assert!(rt; Call { script, ..FIRST }.runs(rt.alloc(), 0, RESULT, "")?);
     }
-    for script in [
-        "at . to-seq\nat . to-sequence",
-        "at . to-seq\nat . to-seq\n",
-        "",
-        "at . to-seq # why",
-        "at . to-seq\r",
-        "at . to-seq\r\r\n",
-        "at 0 to-seq",
-        "at. to-seq",
-        "at . to-seq 1",
+    for (script, line) in [
+        ("at . to-seq\nat . to-sequence", "lift: script: line 2\n"),
+        ("at . to-seq # why", "lift: script: line 1\n"),
+        ("# first\r\n\r\nat . to-seq\r", "lift: script: line 3\n"),
+        ("at . to-seq\r\r\n", "lift: script: line 1\n"),
+        ("\n\nat 0 to-seq\nat", "lift: script: line 3\n"),
+        ("at. to-seq", "lift: script: line 1\n"),
+        ("at . to-seq 1", "lift: script: line 1\n"),
+        ("at . to-seq\n\x0b", "lift: script: line 2\n"),
     ] {
-        assert!(rt; Call { script, ..FIRST }.runs(rt.alloc(), 8, "", "lift: script\n")?);
+        assert!(rt; Call { script, ..FIRST }.runs(rt.alloc(), 8, "", line)?);
     }
     Ok(())
 }
@@ -251,9 +546,23 @@ fn the_first_cause_is_told(rt: HostRuntime) -> Result<(), Fail> {
         launch: "",
         ..FIRST
     };
-    assert!(rt; empty.runs(rt.alloc(), 6, "", "lift: program\n")?);
+    assert!(rt; empty.runs(rt.alloc(), 6, "", "lift: program: token 1, byte 0\n")?);
     let program = PROGRAM;
-    assert!(rt; Call { program, ..empty }.runs(rt.alloc(), 8, "", "lift: script\n")?);
+    let script = "at";
+    let scripted = Call {
+        program,
+        script,
+        ..empty
+    };
+    assert!(rt; scripted.runs(rt.alloc(), 8, "", "lift: script: line 1\n")?);
+    assert!(rt; Call { program, ..empty }.runs(rt.alloc(), 11, "", "lift: nest: N1 at .\n")?);
+    let script = SCRIPT;
+    let launched = Call {
+        program,
+        script,
+        ..empty
+    };
+    assert!(rt; launched.runs(rt.alloc(), 12, "", "lift: launch\n")?);
     let long = padded(rt.alloc(), 65_537, "")?;
     let script = long.as_str();
     assert!(rt; Call { script, ..empty }.runs(rt.alloc(), 10, "", "lift: limit bytes: 65537\n")?);

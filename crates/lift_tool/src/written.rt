@@ -1,5 +1,6 @@
 //! The line that a run prints.
-ghost use Rattle.std.specs.Prelude.{◌≡◌, ◌++◌, IfOk, OnOk, decimal};
+ghost use Rattle.std.specs.Prelude.{◌≡◌, ◌++◌, IfOk, OnOk, decimal, map};
+ghost use Rattle.std.specs.List.{join_with_byte};
 ghost use Rattle.lift_tool.specs.ResultLine.{list_text, result_line};
 
 use itoa::Buffer;
@@ -13,17 +14,25 @@ fn push_number(text: &mut Vec<u8>, number: u64) -> Result<(), AllocError>
     text.extend_from_slice(digits.format(number).as_bytes())
 }
 
+/// Writes numbers behind the text, with a byte between.
+pub fn push_joined(text: &mut Vec<u8>, between: u8, numbers: &[u32]) -> Result<(), AllocError>
+    ensures { OnOk result (text.new.items ≡ text.old.items ++ join_with_byte between (map decimal numbers.now)) }
+{
+    for (index, number) in numbers.iter().enumerate() {
+        if index > 0 {
+            text.push(between)?;
+        }
+        push_number(text, u64::from(*number))?;
+    }
+    Ok(())
+}
+
 // Writes a list behind the text.
 fn push_list(text: &mut Vec<u8>, numbers: &[u32]) -> Result<(), AllocError>
     ensures { OnOk result (text.new.items ≡ text.old.items ++ list_text numbers.now) }
 {
     text.push(b'[')?;
-    for (index, number) in numbers.iter().enumerate() {
-        if index > 0 {
-            text.push(b',')?;
-        }
-        push_number(text, u64::from(*number))?;
-    }
+    push_joined(text, b',', numbers)?;
     text.push(b']')?;
     Ok(())
 }

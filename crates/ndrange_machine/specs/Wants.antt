@@ -41,7 +41,7 @@ abbrev pub want_turn : (sizes : List ℕ) → Formula → (x head exit : ℕ) �
 want_turn sizes b x head exit =
     want_if (bound_value sizes b) (λ k. if nat_lt x (2 ^ 32) then (if nat_lt x k then Changes (Repeats x) (head + 1) else Changes Leaves exit) else Fails LoopWrap)
 
--- the ids of the only item's launch are not known to these starts and strides
+-- ids for starts and strides that ask for none
 abbrev pub no_ids : Ids
 no_ids = sizes_alone []
 

@@ -1,0 +1,44 @@
+-- The command of `lift`, as clap sees it: one level of subcommands, whose arguments are file names.
+use Rattle.std.specs.Prelude.{Some, true, codes, List, [], ◌∷◌, fold}
+use Rattle.clap.specs.Words.{App, Rule, Shape, Text, new_app, new_rule, with_rule, with_subcommand}
+use Rattle.clap.specs.declared.builder.ArgAction.TheVariants.{Set}
+
+-- a required argument of one word, the name of a file
+abbrev pub file_rule : Text → Rule
+file_rule id = record (new_rule id) { required = true; action = Some Set }
+
+-- a command with one file name for each id, in this order
+abbrev pub file_command : Text → List Text → App
+file_command name ids = fold (λ command id. with_rule command (file_rule id)) (new_app name) ids
+
+abbrev pub program : Text
+program = codes "program"
+
+abbrev pub script : Text
+script = codes "script"
+
+abbrev pub launch : Text
+launch = codes "launch"
+
+-- a subcommand is required; there is no help and no version, and the words have no program name
+abbrev pub bare_shape : Shape → Shape
+bare_shape s = record s {
+  no_binary_name = true;
+  disable_help_flag = true;
+  disable_help_subcommand = true;
+  disable_version_flag = true;
+  subcommand_required = true;
+}
+
+abbrev pub bare_command : App
+bare_command = record (new_app (codes "lift")) { top = bare_shape (new_app (codes "lift")).top }
+
+abbrev pub subcommands : List App
+subcommands =
+    file_command (codes "compile") (program ∷ script ∷ [])
+    ∷ file_command (codes "run") (program ∷ script ∷ launch ∷ [])
+    ∷ file_command (codes "eval") (program ∷ launch ∷ [])
+    ∷ file_command (codes "steps") (program ∷ script ∷ []) ∷ []
+
+abbrev pub lift_command : App
+lift_command = fold (λ command sub. with_subcommand command sub.top) bare_command subcommands

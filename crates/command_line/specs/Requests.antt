@@ -1,0 +1,72 @@
+-- What the words ask for.
+use Rattle.std.specs.Prelude.{◌≡◌, Some, None, Option, true, Bool, codes, List, [], ◌∷◌, ◌==◌, not, if◌then◌else◌, unwrap_or, option_and_then, string_bytes}
+use Rattle.std.specs.List.{list_all}
+use Rattle.std.specs.Str.{bytes_eq}
+use Rattle.clap.specs.Words.{Row, Text, first_of, subcommand_of, fault_of}
+use Rattle.command_line.specs.App.{lift_command, program, script, launch}
+use Rattle.command_line.specs.declared.request.Request.{Request}
+use Rattle.command_line.specs.declared.request.Request.TheVariants.{Compile, Run, Eval, Steps}
+
+-- a request, with its file names as bytes
+pub data CommandLine : Type 0 where
+  compile : Text → Text → CommandLine
+  run : Text → Text → Text → CommandLine
+  eval : Text → Text → CommandLine
+  steps : Text → Text → CommandLine
+
+abbrev pub line_of : Request → CommandLine
+line_of (Compile p s) = compile (string_bytes p) (string_bytes s)
+line_of (Run p s l) = run (string_bytes p) (string_bytes s) (string_bytes l)
+line_of (Eval p l) = eval (string_bytes p) (string_bytes l)
+line_of (Steps p s) = steps (string_bytes p) (string_bytes s)
+
+-- ---- the form of a command line
+
+abbrev pub name_of : CommandLine → Text
+name_of (compile p s) = codes "compile"
+name_of (run p s l) = codes "run"
+name_of (eval p l) = codes "eval"
+name_of (steps p s) = codes "steps"
+
+abbrev pub files_of : CommandLine → List Text
+files_of (compile p s) = p ∷ s ∷ []
+files_of (run p s l) = p ∷ s ∷ l ∷ []
+files_of (eval p l) = p ∷ l ∷ []
+files_of (steps p s) = p ∷ s ∷ []
+
+abbrev pub words_of : CommandLine → List Text
+words_of line = name_of line ∷ files_of line
+
+-- the word does not begin with a hyphen (45)
+abbrev pub is_plain_word : Text → Bool
+is_plain_word [] = true
+is_plain_word (b ∷ bs) = not (b == 45)
+
+abbrev pub is_plain : CommandLine → Bool
+is_plain line = list_all is_plain_word (files_of line)
+
+-- ---- what clap's matches say
+
+-- the value of the argument; a required one always has it
+abbrev pub value_of : Text → List Row → Text
+value_of id rows = unwrap_or (first_of id rows) []
+
+-- the subcommand of this name, with these matches
+abbrev pub line_at : Text → List Row → Option CommandLine
+line_at name rows =
+    if bytes_eq name (codes "compile") then Some (compile (value_of program rows) (value_of script rows))
+    else (if bytes_eq name (codes "run") then Some (run (value_of program rows) (value_of script rows) (value_of launch rows))
+    else (if bytes_eq name (codes "eval") then Some (eval (value_of program rows) (value_of launch rows))
+    else (if bytes_eq name (codes "steps") then Some (steps (value_of program rows) (value_of script rows))
+    else None)))
+
+abbrev pub line_entered : Option (Text × List Row) → Option CommandLine
+line_entered = option_and_then (λ entered. line_at entered.0 entered.1)
+
+-- what clap's matches of the words say
+abbrev pub line_in : List Text → Option CommandLine
+line_in words = line_entered (subcommand_of lift_command words)
+
+-- clap takes the words
+abbrev pub IsTaken : List Text → Type 0
+IsTaken words = fault_of lift_command words ≡ []

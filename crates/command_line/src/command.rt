@@ -1,0 +1,76 @@
+//! The command as clap is told of it.
+
+ghost use Rattle.std.specs.Prelude.{◌≡◌, IfOk, false, map};
+ghost use Rattle.clap.specs.Words.{app_of, with_rule, with_subcommand};
+ghost use Rattle.clap.specs.declared.Command.TheViews.{out-Command};
+ghost use Rattle.command_line.specs.App as spec;
+
+use clap::{Arg, ArgAction, Command};
+use std::alloc::{AllocError, Global};
+
+// The command with one more required file name.
+fn with_file<'a>(
+    alloc: Global,
+    command: Command<'a>,
+    id: &'a str,
+) -> Result<Command<'a>, AllocError>
+    requires { (out-Command command).has_globals ≡ false }
+    ensures app { IfOk result (λ c. app_of c ≡ with_rule (app_of command.entry) (spec.file_rule id.entry.now)) }
+    ensures local { IfOk result (λ c. (out-Command c).has_globals ≡ false) }
+{
+    command.arg(Arg::new(alloc, id).required(true).action(ArgAction::Set))
+}
+
+// A command with one file name for each id.
+fn file_command<'a>(
+    alloc: Global,
+    name: &'a str,
+    ids: &[&'a str],
+) -> Result<Command<'a>, AllocError>
+    ensures app { IfOk result (λ c. app_of c ≡ spec.file_command name.now (map (λ id. id.now) ids.now)) }
+    ensures local { IfOk result (λ c. (out-Command c).has_globals ≡ false) }
+{
+    let mut command = Command::new(alloc, name);
+    for id in ids {
+        command = with_file(alloc, command, id)?;
+    }
+    Ok(command)
+}
+
+// The command with one more subcommand.
+fn with_subcommand<'a>(command: Command<'a>, inner: Command<'a>) -> Result<Command<'a>, AllocError>
+    requires outer { (out-Command command).has_globals ≡ false }
+    requires inner { (out-Command inner).has_globals ≡ false }
+    ensures app { IfOk result (λ c. app_of c ≡ with_subcommand (app_of command.entry) (app_of inner.entry).top) }
+    ensures local { IfOk result (λ c. (out-Command c).has_globals ≡ false) }
+{
+    command.subcommand(inner)
+}
+
+// The command without its subcommands.
+fn bare_command<'a>(alloc: Global) -> Command<'a>
+    ensures app { app_of result ≡ spec.bare_command }
+    ensures local { (out-Command result).has_globals ≡ false }
+{
+    Command::new(alloc, "lift")
+        .no_binary_name(true)
+        .disable_help_flag(true)
+        .disable_help_subcommand(true)
+        .disable_version_flag(true)
+        .subcommand_required(true)
+}
+
+/// The command of `lift`: one level of subcommands, each with its file names.
+pub fn lift_command<'a>(alloc: Global) -> Result<Command<'a>, AllocError>
+    ensures { IfOk result (λ c. app_of c ≡ spec.lift_command) }
+{
+    let command = bare_command(alloc);
+    let compile = file_command(alloc, "compile", ["program", "script"].as_slice())?;
+    let command = with_subcommand(command, compile)?;
+    let run = file_command(alloc, "run", ["program", "script", "launch"].as_slice())?;
+    let command = with_subcommand(command, run)?;
+    let eval = file_command(alloc, "eval", ["program", "launch"].as_slice())?;
+    let command = with_subcommand(command, eval)?;
+    let steps = file_command(alloc, "steps", ["program", "script"].as_slice())?;
+    with_subcommand(command, steps)
+}

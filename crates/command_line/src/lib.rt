@@ -1,0 +1,65 @@
+//! The command line of `lift`, read by clap.
+//!
+//! - `lift compile PROGRAM SCRIPT`
+//! - `lift run PROGRAM SCRIPT LAUNCH`
+//! - `lift eval PROGRAM LAUNCH`
+//! - `lift steps PROGRAM SCRIPT`
+//!
+//! There is no help and no version.
+#![tactic(auto)]
+
+mod command;
+mod request;
+
+ghost use Rattle.std.specs.Prelude.{◌≡◌, ◌≢◌, IfOk, Some, map, string_bytes, true};
+ghost use Rattle.clap.specs.Words.{subcommand_of, subcommand_rows_of};
+ghost use Rattle.command_line.specs.App.{lift_command};
+ghost use Rattle.command_line.specs.Requests.{CommandLine, IsTaken, is_plain, line_in, line_of, words_of};
+
+use clap::ArgMatches;
+pub use request::{Request, WordsNo};
+use std::alloc::Global;
+
+// Clap's matches of the words.
+fn matched<'w>(alloc: Global, words: &'w [String]) -> Result<ArgMatches<'w>, WordsNo>
+    ensures taken { IfOk result (λ _. IsTaken (map string_bytes words.now)) }
+    ensures rows { IfOk result (λ matches. subcommand_rows_of matches ≡ subcommand_of lift_command (map string_bytes words.now)) }
+    ensures refused { result ≡ Err WordsNo.Refused → IsTaken (map string_bytes words.now) → ⊥ }
+{
+    Ok(command::lift_command(alloc)?.try_get_matches_from(words)?)
+}
+
+// The request that the matches name.
+fn matched_request(alloc: Global, words: &[String]) -> Result<Request, WordsNo>
+    ensures taken { IfOk result (λ _. IsTaken (map string_bytes words.now)) }
+    ensures asked { IfOk result (λ request. line_in (map string_bytes words.now) ≡ Some (line_of request)) }
+    ensures refused { result ≡ Err WordsNo.Refused → IsTaken (map string_bytes words.now) → ⊥ }
+{
+    let matches = matched(alloc, words)?;
+    match request::entered_request(alloc, &matches)? {
+        Some(request) => Ok(request),
+        None => Err(WordsNo::Refused),
+    }
+}
+
+/// Reads the words after the program's name, as clap does for a simple command.
+///
+/// `WordsNo::Refused` where clap refuses them, and `WordsNo::Memory` where memory ran out.
+pub fn read_words(alloc: Global, words: &[String]) -> Result<Request, WordsNo>
+    // Where clap takes the words, they ask for what its matches say.
+    ensures taken { IfOk result (λ _. IsTaken (map string_bytes words.now)) }
+    ensures asked { IfOk result (λ request. line_in (map string_bytes words.now) ≡ Some (line_of request)) }
+
+    // They are refused only where clap refuses them.
+    ensures refused { result ≡ Err WordsNo.Refused → IsTaken (map string_bytes words.now) → ⊥ }
+
+    // Words of just the form, whose file names do not begin with a hyphen, are never refused, and
+    // ask for just what they say.
+    ensures plain { (line : CommandLine) → is_plain line ≡ true → map string_bytes words.now ≡ words_of line
+        → (result ≢ Err WordsNo.Refused) × IfOk result (λ request. line_of request ≡ line) }
+{
+    matched_request(alloc, words)
+}
+
+#[cfg(test)]
+mod tests;

@@ -1,0 +1,125 @@
+//! What a command line asks for.
+
+ghost use Rattle.std.specs.Prelude.{◌≡◌, ◌≢◌, ◌↔◌, IfOk, option_map, string_bytes};
+ghost use Rattle.clap.specs.Words.{found_of, kind_of, rows_of, subcommand_rows_of};
+ghost use Rattle.clap.specs.declared.error.kind.ErrorKind.TheVariants as kind;
+ghost use Rattle.command_line.specs.declared.request.WordsNo.TheVariants.{Memory, Refused};
+ghost use Rattle.command_line.specs.Requests.{line_at, line_entered, line_of, value_of};
+
+use clap::ArgMatches;
+use clap::error::ErrorKind;
+use std::alloc::{AllocError, Global};
+
+/// A command, with the names of its files.
+#[derive(Debug, Drop)]
+pub enum Request {
+    /// Write the kernel of the program under the script.
+    Compile {
+        program: String,
+        script: String,
+    },
+    /// Run that kernel on the bundled device, as the launch file says.
+    Run {
+        program: String,
+        script: String,
+        launch: String,
+    },
+    /// Write the program's source value at the launch file's sizes and inputs.
+    Eval {
+        program: String,
+        launch: String,
+    },
+    /// Write what each step of the script makes of the program.
+    Steps {
+        program: String,
+        script: String,
+    },
+}
+
+/// Why words are no request.
+#[derive(Clone, Copy, Debug, PartialEq, Eq)]
+pub enum WordsNo {
+    /// They are none of the commands' forms.
+    Refused,
+    /// Memory ran out.
+    Memory,
+}
+
+impl From<AllocError> for WordsNo {
+    ghost from_gives = { λ _ no. no ≡ Memory };
+
+    fn from(_error: AllocError) -> WordsNo {
+        WordsNo::Memory
+    }
+}
+
+impl From<clap::Error> for WordsNo {
+    ghost from_gives = { λ error no. (no ≡ Refused) ↔ (kind_of error ≢ kind.OutOfMemory) };
+
+    fn from(error: clap::Error) -> WordsNo {
+        match error.kind() {
+            ErrorKind::OutOfMemory => WordsNo::Memory,
+            _ => WordsNo::Refused,
+        }
+    }
+}
+
+// The value of the argument, which clap has wherever the argument is required.
+fn value<'w>(matches: &ArgMatches<'w>, id: &str) -> &'w str
+    ensures { result.now ≡ value_of id.now (rows_of (found_of matches.now)) }
+{
+    match matches.get_str(id) {
+        Some(text) => text,
+        None => "",
+    }
+}
+
+fn file_name(alloc: Global, matches: &ArgMatches<'_>, id: &str) -> Result<String, AllocError>
+    ensures { IfOk result (λ name. string_bytes name ≡ value_of id.now (rows_of (found_of matches.now))) }
+{
+    String::from_str(alloc, value(matches, id))
+}
+
+// The subcommand of this name asks for a request, if it is one of the command's.
+fn named_request(
+    alloc: Global,
+    name: &str,
+    matches: &ArgMatches<'_>,
+) -> Result<Option<Request>, AllocError>
+    ensures { IfOk result (λ request. option_map line_of request ≡ line_at name.now (rows_of (found_of matches.now))) }
+{
+    let request = match name {
+        "compile" => Request::Compile {
+            program: file_name(alloc, matches, "program")?,
+            script: file_name(alloc, matches, "script")?,
+        },
+        "run" => Request::Run {
+            program: file_name(alloc, matches, "program")?,
+            script: file_name(alloc, matches, "script")?,
+            launch: file_name(alloc, matches, "launch")?,
+        },
+        "eval" => Request::Eval {
+            program: file_name(alloc, matches, "program")?,
+            launch: file_name(alloc, matches, "launch")?,
+        },
+        "steps" => Request::Steps {
+            program: file_name(alloc, matches, "program")?,
+            script: file_name(alloc, matches, "script")?,
+        },
+        _ => return Ok(None),
+    };
+    Ok(Some(request))
+}
+
+/// What the matches ask for. Clap enters a subcommand in all that it takes.
+pub fn entered_request(
+    alloc: Global,
+    matches: &ArgMatches<'_>,
+) -> Result<Option<Request>, AllocError>
+    ensures { IfOk result (λ request. option_map line_of request ≡ line_entered (subcommand_rows_of matches.now)) }
+{
+    match matches.subcommand() {
+        Some((name, inner)) => named_request(alloc, name, inner),
+        None => Ok(None),
+    }
+}

@@ -1,0 +1,51 @@
+-- The text that is printed is the kernel's, and no other.
+use Rattle.std.proofs.Common.{◌≡◌, ℕ, suc, ◌-◌, ◌<◌, ◌^◌, List, Result, Ok, Err, refl, ap, sym, ◌∙◌, subst}
+use Rattle.std.specs.Prelude.{IfOk, Vec, true}
+use Rattle.std.specs.Global.{Global}
+use Rattle.kernel_tree.specs.declared.tree.Kernel as held
+use Rattle.kernel_tree.specs.Code.{Kernel}
+use Rattle.kernel_tree.specs.Grammar.{is_kernel}
+use Rattle.kernel_tree.specs.Kernels.{kernel_of}
+use Rattle.kernel_tree.specs.Pieces.{joined}
+use Rattle.kernel_tree.specs.KernelText.{IsKernelText}
+use Rattle.kernel_spelling.specs.Spelling.{HasText, spelled, spelled_with, text_of}
+use Rattle.kernel_spelling.proofs.Spelled.{all_of}
+use Rattle.kernel_spelling.proofs.Whole.{made_whole, spelled_made}
+use Rattle.kernel_spelling.proofs.Cut.{joined_pieces}
+use Rattle.kernel_spelling.proofs.Stands.{spelled_stands}
+use Rattle.kernel_printer.specs.Bytes.{write_kernel}
+use Rattle.kernel_printer.proofs.Blocks.{written_block, one_output}
+use Rattle.kernel_printer.proofs.Written.{kernel_written}
+
+abbrev Small : held.Kernel → Type 0
+Small k = (k.inputs < 2 ^ 32) × (k.outputs < 2 ^ 32) × (k.sizes < 2 ^ 32) × (k.variables < 2 ^ 32)
+
+has_text : (k : held.Kernel) → Small k → HasText (kernel_of k)
+has_text k s = record {
+  in_grammar = k.in_grammar;
+  written = written_block k.body.items;
+  locals = refl;
+  privates = refl;
+  inputs = s.0;
+  outputs = s.1;
+  sizes = s.2;
+  variables = s.3;
+}
+
+is_text : (k : held.Kernel) (bytes : List ℕ) → bytes ≡ write_kernel (kernel_of k) (k.outputs - 1) → bytes ≡ text_of (kernel_of k)
+is_text k bytes e =
+    let outputs : k.outputs ≡ suc (k.outputs - 1) = one_output (kernel_of k) k.in_grammar in
+    e ∙ kernel_written (kernel_of k) (k.outputs - 1) (written_block k.body.items) ∙ ap (λ o. joined (spelled_with (kernel_of k) o)) (sym outputs)
+
+pub related : {E : Type 0} (k : held.Kernel) (r : Result (Vec ℕ Global) E) → IfOk r (λ text. text.items ≡ write_kernel (kernel_of k) (k.outputs - 1)) → IfOk r (λ _. Small k) → IfOk r (λ text. IsKernelText text.items (kernel_of k))
+related k (Ok text) e s =
+    let h = has_text k s in
+    let K = kernel_of k in
+    subst (λ z. IsKernelText z K) (sym (is_text k text.items e)) (spelled K, all_of K, spelled_stands K h, spelled_made K h, (refl, refl, refl))
+related k (Err e) h s = tt
+
+pub alone : {E : Type 0} (k : held.Kernel) (r : Result (Vec ℕ Global) E) → IfOk r (λ text. text.items ≡ write_kernel (kernel_of k) (k.outputs - 1)) → IfOk r (λ text. (bytes : List ℕ) → IsKernelText bytes (kernel_of k) → bytes ≡ text.items)
+alone k (Ok text) e = λ bytes h.
+    let w = made_whole h.0 h.1 (kernel_of k) h.3 h.4 in
+    joined_pieces bytes h.0 h.2 ∙ ap joined w.1 ∙ sym (is_text k text.items e)
+alone k (Err e) h = tt

@@ -1,0 +1,6 @@
+//! Kernels as text.
+#![tactic(auto)]
+
+mod text;
+
+pub use text::print;

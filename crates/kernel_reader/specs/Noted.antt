@@ -1,0 +1,16 @@
+-- What a reading has noted, without where it lies in memory.
+use Rattle.std.specs.Prelude.{map}
+use Rattle.kernel_tree.specs.Code.{End}
+use Rattle.kernel_tree.specs.Tree.{formula_of, code_then}
+use Rattle.kernel_tree.specs.KernelText.{Notes}
+use Rattle.kernel_reader.specs.declared.made.Made.{Made}
+
+abbrev pub notes_of : Made → Notes
+notes_of m = record {
+  inputs = m.inputs;
+  outputs = m.outputs;
+  sizes = m.sizes;
+  variables = m.variables;
+  values = map formula_of m.values.items;
+  blocks = map (λ block. code_then block.items End) m.blocks.items;
+}

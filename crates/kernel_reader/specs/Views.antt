@@ -1,0 +1,55 @@
+-- The code's values without where they lie in memory.
+use Rattle.std.specs.Prelude.{ℕ, List}
+use Rattle.std.specs.Borrow.{Bor}
+use Rattle.scalar_ops.specs.declared.op.Op.TheVariants.{Add}
+use Rattle.kernel_tree.specs.Formula as formula
+use Rattle.kernel_tree.specs.Tree.{array_of}
+use Rattle.kernel_tree.specs.KernelText as text
+use Rattle.readings.specs.Views.{items_of}
+use Rattle.readings.specs.declared.owed.Owed.{Owed}
+use Rattle.kernel_reader.specs.declared.form.Form.{Form}
+use Rattle.kernel_reader.specs.declared.form.Form.TheVariants as forms
+use Rattle.kernel_reader.specs.declared.form.Mark.{Mark}
+use Rattle.kernel_reader.specs.declared.form.Mark.TheVariants as marks
+
+abbrev pub bytes_of : Bor (List ℕ) → List ℕ
+bytes_of p = p.now
+
+abbrev pub part_of : Form → text.Part
+part_of forms.Parameter = text.Parameter
+part_of forms.Pointer = text.Pointer
+part_of forms.NewInput = text.NewInput
+part_of forms.NewOutput = text.NewOutput
+part_of forms.AfterOutput = text.AfterOutput
+part_of forms.OutputOrSize = text.OutputOrSize
+part_of forms.NewSize = text.NewSize
+part_of forms.AfterSize = text.AfterSize
+part_of forms.Body = text.Body
+part_of forms.NewVariable = text.NewVariable
+part_of (forms.Statement l) = text.Statement l
+part_of (forms.Next l) = text.Next l
+part_of (forms.Source l k) = text.Source l k
+part_of (forms.Turn l) = text.Turn l
+part_of (forms.Indent l) = text.Indent l
+part_of (forms.Value b l d) = text.Value b l d
+part_of (forms.Rest b l d) = text.Rest b l d
+
+abbrev pub note_of : Mark → text.Note
+note_of marks.DeclareInput = text.DeclareInput
+note_of marks.DeclareOutput = text.DeclareOutput
+note_of marks.DeclareSize = text.DeclareSize
+note_of marks.DeclareVariable = text.DeclareVariable
+note_of (marks.Number v) = text.Leaf (formula.Number v)
+note_of (marks.Variable k) = text.Leaf (formula.Variable k)
+note_of (marks.LoopVariable k) = text.Leaf (formula.LoopVariable k)
+note_of (marks.Size k) = text.Leaf (formula.Size k)
+note_of marks.Sum = text.Both Add
+note_of marks.Stop = text.Stop
+note_of (marks.Assign k) = text.Assign k
+note_of (marks.Load k array) = text.Load k (array_of array)
+note_of (marks.Store array) = text.Store (array_of array)
+note_of marks.Loop = text.Loop
+
+-- all that is owed
+abbrev pub owed_by : List (Owed (Bor (List ℕ)) Form Mark) → List text.Item
+owed_by items = items_of bytes_of part_of note_of items

@@ -1,0 +1,96 @@
+// Kernel text, read back.
+
+ghost use Rattle.std.specs.Prelude.{◌≡◌, ℕ, List, IfOk, IfErr, map, []};
+ghost use Rattle.readings.specs.Readings.{Reads};
+ghost use Rattle.kernel_tree.specs.Code as code;
+ghost use Rattle.kernel_tree.specs.Kernels.{kernel_of};
+ghost use Rattle.kernel_tree.specs.KernelText.{IsKernelText, IsMade, Piece, kernels, start, nothing};
+ghost use Rattle.kernel_spelling.specs.Spelling.{HasText, text_of};
+ghost use Rattle.kernel_reader.specs.Views.{bytes_of, owed_by};
+ghost use Rattle.kernel_reader.specs.Noted.{notes_of};
+ghost use Rattle.kernel_reader.specs.Exactly.{Answers, Refuses};
+
+use crate::error::KernelNo;
+use crate::form::{Form, Mark};
+use crate::made::{Made, statements_of};
+use crate::pieces::{offset_of, pieces};
+use kernel_tree::tree::Kernel;
+use readings::{Owed, ReadError, read};
+use std::alloc::{AllocError, Global};
+use std::collections::VecDeque;
+use std::marker::PhantomData;
+
+/// What is owed at first: a whole kernel.
+const START: [Owed<&'static [u8], Form, Mark>; 12] = [
+    Owed::Token(b"__kernel"),
+    Owed::Token(b" "),
+    Owed::Token(b"void"),
+    Owed::Token(b" "),
+    Owed::Token(b"lift"),
+    Owed::Token(b"("),
+    Owed::Form(Form::Parameter),
+    Owed::Token(b"\n"),
+    Owed::Token(b"{"),
+    Owed::Token(b"\n"),
+    Owed::Form(Form::Indent(1)),
+    Owed::Form(Form::Body),
+];
+
+fn first<'a>(alloc: Global) -> Made<'a>
+    ensures { notes_of result ≡ nothing }
+{
+    Made {
+        inputs: 0,
+        outputs: 0,
+        sizes: 0,
+        variables: 0,
+        values: VecDeque::new(alloc),
+        blocks: VecDeque::new(alloc),
+        text: PhantomData,
+    }
+}
+
+/// The kernel that a whole reading made.
+fn kernel_from(alloc: Global, made: Made) -> Result<Kernel, AllocError>
+    requires { (ps : List Piece) × Reads kernels start nothing ps [] (notes_of made) }
+    ensures { IfOk result (λ k. IsMade (notes_of made.entry) (kernel_of k)) }
+{
+    let mut made = made;
+    let Some(block) = made.blocks.pop_front() else {
+        unreachable!();
+    };
+    let body = statements_of(alloc, block)?;
+    Ok(Kernel {
+        inputs: made.inputs,
+        outputs: made.outputs,
+        sizes: made.sizes,
+        variables: made.variables,
+        body,
+    })
+}
+
+/// The kernel whose text these bytes are.
+pub fn read_kernel(alloc: Global, bytes: &[u8]) -> Result<Kernel, KernelNo>
+    // The kernel grammar relates what is answered to the bytes.
+    ensures found { IfOk result (λ k. IsKernelText bytes.now (kernel_of k)) }
+    // A kernel that the grammar relates to the bytes is answered, unless memory runs out.
+    ensures only { (k : code.Kernel) → IsKernelText bytes.now k → Answers k result }
+    // The bytes are that kernel's one text.
+    ensures one { IfOk result (λ k. bytes.now ≡ text_of (kernel_of k)) }
+    // The text of a kernel is read as that kernel, unless memory runs out.
+    ensures back { (k : code.Kernel) → HasText k → bytes.now ≡ text_of k → Answers k result }
+    // A refusal names the first piece at which the text doesn't go on.
+    ensures refused { IfErr result (Refuses bytes.now) }
+{
+    let pieces = pieces(alloc, bytes)?;
+    let made = match read(alloc, &START, first(alloc), &pieces) {
+        Ok(made) => made,
+        Err(ReadError::Memory) => return Err(KernelNo::Memory),
+        Err(ReadError::Refused { taken }) => {
+            return Err(KernelNo::Syntax {
+                offset: offset_of(&pieces, taken),
+            });
+        }
+    };
+    Ok(kernel_from(alloc, made)?)
+}

@@ -1,0 +1,5 @@
+pub mod Kept
+pub mod Spelled
+pub mod Whole
+pub mod Cut
+pub mod Stands

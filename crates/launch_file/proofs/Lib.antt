@@ -1,0 +1,15 @@
+pub mod AtKeys
+pub mod Exact
+pub mod Inputs
+pub mod Lengths
+pub mod Names
+pub mod NamesAt
+pub mod Options
+pub mod Proper
+pub mod Ranges
+pub mod ReadValues
+pub mod Samples
+pub mod Texts
+pub mod TypedValues
+pub mod Whole
+pub mod WrittenData

@@ -1,0 +1,130 @@
+-- The checks of a launch file in their order: what it gives, or the first check that it fails.
+use Rattle.std.specs.Prelude.{◌≡◌, ℕ, suc, ◌/◌, ◌%◌, ◌==◌, ◌&&◌, ◌⊎◌, Bool, true, false, IsTrue, nat_le, List, [], ◌∷◌, Option, Some, None, option_map, option_and_then, Result, Ok, Err, codes}
+use Rattle.std.specs.Option.{ok_or}
+use Rattle.serde_json.specs.Data.{Data, Items}
+use Rattle.serde_json.specs.Find.{get, as_array}
+use Rattle.kernel_tree.specs.Schedule.{Schedule, Numbers, Seed, in_order}
+use Rattle.lift_tree.specs.declared.program.Size.{Size}
+use Rattle.lift_tree.specs.Programs.{PlainInput, PlainProgram}
+use Rattle.lift_tree.specs.Values.{Value}
+use Rattle.launch_file.specs.declared.file.Ask.{Ask}
+use Rattle.launch_file.specs.declared.file.Ask.TheVariants.{Run, Eval}
+use Rattle.launch_file.specs.declared.refusal.Key.TheVariants as key
+use Rattle.launch_file.specs.declared.refusal.LaunchNo.{LaunchNo}
+use Rattle.launch_file.specs.declared.refusal.LaunchNo.TheVariants as no
+use Rattle.launch_file.specs.Json.{IsJson, is_object, whole_at, object_at, word_in, words_in}
+use Rattle.launch_file.specs.Inputs.{read_value}
+use Rattle.launch_file.specs.LaunchFile.{Given}
+
+abbrev pub and_then : {A B E : Type 0} → Result A E → (A → Result B E) → Result B E
+and_then (Ok a) f = f a
+and_then (Err e) f = Err e
+
+abbrev pub demand : Bool → LaunchNo → Result (Unit {0}) LaunchNo
+demand true e = Ok tt
+demand false e = Err e
+
+-- ---- the keys
+-- a list of numbers, or what isn't one by its seed
+abbrev pub schedule_from : Option Items → Option ℕ → Option Schedule
+schedule_from (Some ds) seed = option_map Numbers (words_in ds)
+schedule_from None seed = option_map Seed seed
+
+abbrev pub schedule_in : Data → Option Schedule
+schedule_in d = schedule_from (as_array d) (option_and_then word_in (get (codes "seed") d))
+
+abbrev pub schedule_at : Option Data → Result Schedule LaunchNo
+schedule_at None = Ok in_order
+schedule_at (Some d) = ok_or (schedule_in d) (no.Missing key.Schedule)
+
+abbrev pub schedule_judged : Ask → Data → Result Schedule LaunchNo
+schedule_judged (Run task) d = schedule_at (get (codes "schedule") d)
+schedule_judged Eval d = Ok in_order
+
+-- how many work-items there are in all, or in a group; an evaluation has one
+abbrev pub count_judged : Ask → List ℕ → LaunchNo → Data → Result ℕ LaunchNo
+count_judged (Run task) name missing d = ok_or (whole_at name d) missing
+count_judged Eval name missing d = Ok 1
+
+-- what stands at the keys
+pub record Keyed : Type 0 where
+  pub global : ℕ
+  pub local : ℕ
+  pub sizes : Data
+  pub inputs : Data
+  pub schedule : Schedule
+
+abbrev pub keys_judged : Ask → Data → Result Keyed LaunchNo
+keys_judged ask d =
+    and_then (count_judged ask (codes "global") (no.Missing key.Global) d) (λ global.
+    and_then (count_judged ask (codes "local") (no.Missing key.Local) d) (λ local.
+    and_then (ok_or (object_at (codes "sizes") d) (no.Missing key.Sizes)) (λ sizes.
+    and_then (ok_or (object_at (codes "inputs") d) (no.Missing key.Inputs)) (λ inputs.
+    and_then (schedule_judged ask d) (λ schedule.
+    Ok (record { global = global; local = local; sizes = sizes; inputs = inputs; schedule = schedule }))))))
+
+-- ---- the sizes
+abbrev pub is_in_range : Size → ℕ → Bool
+is_in_range s n = nat_le s.from n && (nat_le n s.to && (n % s.multiple == 0))
+
+-- the size of this number
+abbrev pub size_judged : ℕ → Size → Data → Result ℕ LaunchNo
+size_judged i s d =
+    and_then (ok_or (whole_at s.name d) (no.Missing (key.SizeAt i))) (λ n.
+    and_then (demand (is_in_range s n) (no.Size i n)) (λ _. Ok n))
+
+-- the sizes in turn, of which the first has this number
+abbrev pub sizes_judged : ℕ → List Size → Data → Result (List ℕ) LaunchNo
+sizes_judged i [] d = Ok []
+sizes_judged i (s ∷ ss) d = and_then (size_judged i s d) (λ n. and_then (sizes_judged (suc i) ss d) (λ ns. Ok (n ∷ ns)))
+
+-- the values of their base names
+abbrev pub bases_of : List Size → List ℕ → List ℕ
+bases_of [] ns = []
+bases_of (s ∷ ss) [] = []
+bases_of (s ∷ ss) (n ∷ ns) = n / s.multiple ∷ bases_of ss ns
+
+-- each lies in its range
+abbrev pub AreInRange : List Size → List ℕ → Type 0
+AreInRange [] [] = Unit {0}
+AreInRange (s ∷ ss) (n ∷ ns) = IsTrue (is_in_range s n) × AreInRange ss ns
+AreInRange _ _ = ⊥
+
+pub record AllInRange (sizes : List Size) (given : List ℕ) : Type 0 where
+  pub each : AreInRange sizes given
+
+-- ---- the work-items
+abbrev pub is_grouped : (global local : ℕ) → Bool
+is_grouped global local = nat_le 1 local && (nat_le local 256 && (nat_le 1 global && (nat_le global 65536 && (global % local == 0))))
+
+-- a term without a parallel map is run by one work-item
+abbrev pub is_enough : Ask → (global : ℕ) → Bool
+is_enough (Run true) global = global == 1
+is_enough (Run false) global = true
+is_enough Eval global = true
+
+abbrev pub items_judged : Ask → (global local : ℕ) → Result (Unit {0}) LaunchNo
+items_judged ask global local = and_then (demand (is_grouped global local) (no.Local global local)) (λ _. demand (is_enough ask global) (no.NotTask global))
+
+-- ---- the inputs
+abbrev pub input_judged : List ℕ → ℕ → PlainInput → Data → Result Value LaunchNo
+input_judged sizes i x d =
+    and_then (ok_or (get x.name d) (no.Missing (key.InputAt i))) (λ e. ok_or (read_value sizes x.ty e) (no.Shape i))
+
+abbrev pub inputs_judged : List ℕ → ℕ → List PlainInput → Data → Result (List Value) LaunchNo
+inputs_judged sizes i [] d = Ok []
+inputs_judged sizes i (x ∷ xs) d = and_then (input_judged sizes i x d) (λ v. and_then (inputs_judged sizes (suc i) xs d) (λ vs. Ok (v ∷ vs)))
+
+-- ---- the whole
+abbrev pub judged : PlainProgram → Ask → Data → Result Given LaunchNo
+judged p ask d =
+    and_then (demand (is_object d) no.NotJson) (λ _.
+    and_then (keys_judged ask d) (λ at.
+    and_then (sizes_judged 0 p.sizes at.sizes) (λ sizes.
+    and_then (items_judged ask at.global at.local) (λ _.
+    and_then (inputs_judged sizes 0 p.inputs at.inputs) (λ inputs.
+    Ok (record { launch = record { global = at.global; local = at.local; sizes = sizes }; bases = bases_of p.sizes sizes; inputs = inputs; schedule = at.schedule }))))))
+
+-- what the bytes are refused for: they are no JSON, or their value fails this check first
+abbrev pub Refuses : PlainProgram → Ask → List ℕ → LaunchNo → Type 0
+Refuses p ask bytes e = (((d : Data) → ¬ IsJson bytes d) × (e ≡ no.NotJson)) ⊎ ((d : Data) × IsJson bytes d × (judged p ask d ≡ Err e))

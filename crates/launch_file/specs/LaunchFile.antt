@@ -1,0 +1,83 @@
+-- Launch files.
+use Rattle.std.specs.Prelude.{◌≡◌, ◌<◌, ◌^◌, ℕ, List, [], ◌∷◌, Bool, false, Option, Some, None, codes, map, IsTrue}
+use Rattle.lift_tree.specs.Lists.{Every}
+use Rattle.serde_json.specs.Data.{Data, array}
+use Rattle.serde_json.specs.Find.{get}
+use Rattle.kernel_tree.specs.Launch.{Launch}
+use Rattle.kernel_tree.specs.Schedule.{Schedule, Numbers, Seed, in_order, schedule_of}
+use Rattle.size_arith.specs.Ranges.{sizes_at}
+use Rattle.lift_tree.specs.declared.program.Size.{Size}
+use Rattle.lift_tree.specs.Launches.{IsAdmissibleLaunch}
+use Rattle.lift_tree.specs.Programs.{PlainInput, PlainProgram}
+use Rattle.lift_tree.specs.Types.{HaveTypes}
+use Rattle.lift_tree.specs.Typing.{declared_by}
+use Rattle.lift_tree.specs.Values.{Value, value_of}
+use Rattle.launch_file.specs.declared.file.Ask.{Ask}
+use Rattle.launch_file.specs.declared.file.Ask.TheVariants.{Run, Eval}
+use Rattle.launch_file.specs.declared.file.LaunchFile as held
+use Rattle.launch_file.specs.Json.{IsJson, is_object, number_data, items_data, data_of}
+
+-- what a launch file gives: the launch, the values of the base names, the inputs in order, and the schedule
+pub record Given : Type 0 where
+  pub launch : Launch
+  pub bases : List ℕ
+  pub inputs : List Value
+  pub schedule : Schedule
+
+abbrev pub given_by : held.LaunchFile → Given
+given_by f = record { launch = f.launch; bases = f.sizes; inputs = map value_of f.inputs.items; schedule = schedule_of f.schedule }
+
+abbrev pub is_task : Ask → Bool
+is_task (Run task) = task
+is_task Eval = false
+
+-- the whole number stands at the key
+abbrev pub StandsAt : List ℕ → Data → ℕ → Type 0
+StandsAt key d n = get key d ≡ Some (number_data n)
+
+-- the work-items in all and in a group; an evaluation has one
+abbrev pub GivesItems : Ask → Data → Launch → Type 0
+GivesItems (Run task) d l = StandsAt (codes "global") d l.global × StandsAt (codes "local") d l.local
+GivesItems Eval d l = (l.global ≡ 1) × (l.local ≡ 1)
+
+-- each declared size stands at its name
+abbrev pub GivesSizes : List Size → Data → List ℕ → Type 0
+GivesSizes [] d [] = Unit {0}
+GivesSizes (s ∷ ss) d (n ∷ ns) = StandsAt s.name d n × GivesSizes ss d ns
+GivesSizes _ d _ = ⊥
+
+-- each input stands at its name
+abbrev pub GivesInputs : List PlainInput → Data → List Value → Type 0
+GivesInputs [] d [] = Unit {0}
+GivesInputs (i ∷ is) d (v ∷ vs) = (get i.name d ≡ Some (data_of v)) × GivesInputs is d vs
+GivesInputs _ d _ = ⊥
+
+-- the schedule is a list of numbers, or an object with a seed
+abbrev pub IsScheduleData : Data → Schedule → Type 0
+IsScheduleData d (Numbers ns) = (d ≡ array (items_data ns)) × Every (λ n. n < 2 ^ 32) ns
+IsScheduleData d (Seed x) = StandsAt (codes "seed") d x × (x < 2 ^ 32)
+
+-- one that isn't there is the empty list
+abbrev pub IsSchedule : Option Data → Schedule → Type 0
+IsSchedule None s = s ≡ in_order
+IsSchedule (Some d) s = IsScheduleData d s
+
+-- an evaluation has the empty list
+abbrev pub GivesSchedule : Ask → Data → Schedule → Type 0
+GivesSchedule (Run task) d s = IsSchedule (get (codes "schedule") d) s
+GivesSchedule Eval d s = s ≡ in_order
+
+-- A value is a launch file of the program, and this is what it gives: an admissible launch, and inputs of their types.
+pub record Gives (p : PlainProgram) (ask : Ask) (d : Data) (g : Given) : Type 0 where
+  pub object : IsTrue (is_object d)
+  pub items : GivesItems ask d g.launch
+  pub sizes : (e : Data) × (get (codes "sizes") d ≡ Some e) × IsTrue (is_object e) × GivesSizes p.sizes e g.launch.sizes
+  pub inputs : (e : Data) × (get (codes "inputs") d ≡ Some e) × IsTrue (is_object e) × GivesInputs p.inputs e g.inputs
+  pub schedule : GivesSchedule ask d g.schedule
+  pub bases : g.launch.sizes ≡ sizes_at (declared_by p).names g.bases
+  pub admissible : IsAdmissibleLaunch (declared_by p).names (is_task ask) g.bases g.launch.global g.launch.local
+  pub typed : HaveTypes g.bases (declared_by p).inputs g.inputs
+
+-- the bytes are a launch file of the program
+abbrev pub IsLaunchFile : PlainProgram → Ask → List ℕ → Given → Type 0
+IsLaunchFile p ask bytes g = (d : Data) × IsJson bytes d × Gives p ask d g

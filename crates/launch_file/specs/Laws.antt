@@ -1,0 +1,21 @@
+-- What holds of launch files.
+use Rattle.std.specs.Prelude.{◌≡◌, ◌↔◌, ℕ, List, Ok}
+use Rattle.serde_json.specs.Data.{Data}
+use Rattle.lift_tree.specs.Programs.{PlainProgram}
+use Rattle.launch_file.specs.declared.file.Ask.{Ask}
+use Rattle.launch_file.specs.declared.refusal.LaunchNo.{LaunchNo}
+use Rattle.launch_file.specs.Inputs.{HasProperInputs}
+use Rattle.launch_file.specs.LaunchFile.{Given, Gives, IsLaunchFile}
+use Rattle.launch_file.specs.Judged.{Refuses, judged}
+
+-- a value passes the checks exactly where it is a launch file, and then they find what it gives
+abbrev pub ChecksAreExact : Type 0
+ChecksAreExact = (p : PlainProgram) (ask : Ask) (d : Data) (g : Given) → HasProperInputs p → (judged p ask d ≡ Ok g) ↔ Gives p ask d g
+
+-- a launch file is refused for nothing
+abbrev pub FilesAreNotRefused : Type 0
+FilesAreNotRefused = (p : PlainProgram) (ask : Ask) (bytes : List ℕ) (g : Given) (e : LaunchNo) → HasProperInputs p → IsLaunchFile p ask bytes g → ¬ Refuses p ask bytes e
+
+-- a launch file gives one thing
+abbrev pub FilesGiveOneThing : Type 0
+FilesGiveOneThing = (p : PlainProgram) (ask : Ask) (bytes : List ℕ) (g h : Given) → HasProperInputs p → IsLaunchFile p ask bytes g → IsLaunchFile p ask bytes h → g ≡ h

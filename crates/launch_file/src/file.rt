@@ -1,0 +1,122 @@
+// Launch files.
+
+ghost use Rattle.std.specs.Prelude.{◌≡◌, ◌≢◌, Err, IfErr, IfOk, Ok};
+ghost use Rattle.serde_json.specs.View.{view};
+ghost use Rattle.lift_tree.specs.Programs.{program_of};
+ghost use Rattle.launch_file.specs.Inputs.{HasProperInputs};
+ghost use Rattle.launch_file.specs.Judged.{Refuses, and_then, items_judged, judged};
+ghost use Rattle.launch_file.specs.LaunchFile.{IsLaunchFile, given_by};
+ghost use Rattle.launch_file.specs.declared.refusal.LaunchNo.TheVariants.{Memory};
+
+use crate::keys::{Keyed, find_keys};
+use crate::refusal::LaunchNo;
+use crate::sizes::{bases_of, sizes_in};
+use crate::values::inputs_in;
+use kernel_tree::launches::{Launch, Schedule};
+use lift_tree::program::Program;
+use lift_tree::value::Val;
+use serde_json::{Category, Value};
+use size_arith::Sizes;
+use std::alloc::Global;
+
+/// What a launch file is read for.
+#[derive(Clone, Copy, Debug, PartialEq, Eq)]
+pub enum Ask {
+    /// To run a kernel; `task` says that its term has no parallel map, so that one work-item runs it.
+    Run { task: bool },
+    /// To evaluate the program: how many work-items there are, and in which order they run, is passed over.
+    Eval,
+}
+
+/// A launch of a program with its inputs.
+#[derive(Drop)]
+pub struct LaunchFile {
+    /// The work-items in all and in a group, and each declared size. For an evaluation there is one work-item.
+    pub launch: Launch,
+    /// The declared sizes once more, by their base names.
+    pub sizes: Sizes,
+    /// One value for each input.
+    pub inputs: Vec<Val>,
+    /// In which order a run takes its events. For an evaluation it is the empty list.
+    pub schedule: Schedule,
+}
+
+// The work-items in all and in a group.
+fn work_items(ask: Ask, global: u64, local: u64) -> Result<(u32, u32), LaunchNo>
+    ensures { result ≡ and_then (items_judged ask global local) (λ _. Ok (global, local)) }
+{
+    let is_grouped = 1 <= local
+        && local <= 256
+        && 1 <= global
+        && global <= 65_536
+        && global % local == 0;
+    if !is_grouped {
+        return Err(LaunchNo::Local { global, local });
+    }
+    if ask == (Ask::Run { task: true }) && global != 1 {
+        return Err(LaunchNo::NotTask { global });
+    }
+    Ok((global as u32, local as u32))
+}
+
+#[tactic(auto, using(crate::proofs::Whole::ranges_are))]
+// What the value gives.
+fn launch_in(
+    alloc: Global,
+    value: &Value,
+    program: &Program,
+    ask: Ask,
+) -> Result<LaunchFile, LaunchNo>
+    requires { HasProperInputs (program_of program.now) }
+    ensures ok { IfOk result (λ f. judged (program_of program.now) ask (view value.now) ≡ Ok (given_by f)) }
+    ensures refused { IfErr result (λ e. e ≢ Memory → judged (program_of program.now) ask (view value.now) ≡ Err e) }
+{
+    if !value.is_object() {
+        return Err(LaunchNo::NotJson);
+    }
+    let Keyed {
+        global,
+        local,
+        sizes,
+        inputs,
+        schedule,
+    } = find_keys(alloc, ask, value)?;
+    let given = sizes_in(alloc, &program.sizes, sizes)?;
+    let (global, local) = work_items(ask, global, local)?;
+    let inputs = inputs_in(alloc, &given, &program.inputs, inputs)?;
+    let sizes = bases_of(alloc, &program.sizes, &given)?;
+    let launch = Launch {
+        global,
+        local,
+        sizes: given,
+    };
+    Ok(LaunchFile {
+        launch,
+        sizes,
+        inputs,
+        schedule,
+    })
+}
+
+#[tactic(auto, using(crate::proofs::Whole::launch_file_is))]
+/// The launch file that the bytes are for a program: an admissible launch, and inputs of their types.
+///
+/// The checks come in this order. `NotJson`: the bytes are no JSON (as `serde_json` reads it) or no object. `Missing`, for `global`, `local`, `sizes`, `inputs` and `schedule` in turn: the key isn't there (`schedule` alone needn't be), or its value isn't of its kind. For each declared size in turn `Missing`, where it isn't there or is no whole number, and at once `Size`. `Local`. `NotTask`. For each input in turn `Missing`, where its key isn't there, and at once `Shape`. For an evaluation `global`, `local` and `schedule` are passed over. Of two values at one key the last counts. Want of memory may come at any point.
+///
+/// The inputs' lengths are shown at least 1, and they have at most 2147483647 scalars in each component: inputs that typing takes.
+pub fn read_launch(
+    alloc: Global,
+    bytes: &[u8],
+    program: &Program,
+    ask: Ask,
+) -> Result<LaunchFile, LaunchNo>
+    requires { HasProperInputs (program_of program.now) }
+    ensures ok { IfOk result (λ f. IsLaunchFile (program_of program.now) ask bytes.now (given_by f)) }
+    ensures refused { IfErr result (λ e. e ≢ Memory → Refuses (program_of program.now) ask bytes.now e) }
+{
+    match Value::from_slice(alloc, bytes) {
+        Ok(value) => Ok(launch_in(alloc, &value, program, ask)?),
+        Err(error) if error.classify() == Category::Memory => Err(LaunchNo::Memory),
+        Err(_) => Err(LaunchNo::NotJson),
+    }
+}

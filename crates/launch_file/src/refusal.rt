@@ -1,0 +1,57 @@
+// Why bytes are no launch file of a program.
+
+ghost use Rattle.std.specs.Prelude.{◌≡◌};
+
+use std::alloc::{AllocError, AllocFailed};
+
+/// What a launch file may lack.
+#[derive(Clone, Copy, Debug, PartialEq, Eq)]
+pub enum Key {
+    Global,
+    Local,
+    Sizes,
+    Inputs,
+    Schedule,
+    /// The declared size of this number.
+    SizeAt(usize),
+    /// The input of this number.
+    InputAt(usize),
+}
+
+/// Why bytes are no launch file of a program, or that memory ran out. Sizes and inputs go by their numbers in the order of declaration, from 0.
+#[derive(Clone, Copy, Debug, PartialEq, Eq)]
+pub enum LaunchNo {
+    /// The bytes are no JSON, or no object.
+    NotJson,
+    /// The key isn't there, or its value isn't of its kind.
+    Missing(Key),
+    /// The number given for a declared size is out of its range, or no multiple of its divisor.
+    Size { size: usize, given: u64 },
+    /// The local size isn't 1 to 256, the global size isn't 1 to 65,536, or the local size doesn't divide the global size.
+    Local { global: u64, local: u64 },
+    /// The program is for one work-item alone.
+    NotTask { global: u64 },
+    /// The value at an input's name isn't of the input's type.
+    Shape { input: usize },
+    Memory,
+}
+
+impl From<AllocError> for LaunchNo {
+    ghost use Rattle.launch_file.specs.declared.refusal.LaunchNo.TheVariants.{Memory};
+
+    ghost from_gives = { λ _ e. e ≡ Memory };
+
+    fn from(_: AllocError) -> Self {
+        LaunchNo::Memory
+    }
+}
+
+impl<T: Drop> From<AllocFailed<T>> for LaunchNo {
+    ghost use Rattle.launch_file.specs.declared.refusal.LaunchNo.TheVariants.{Memory};
+
+    ghost from_gives = { λ _ e. e ≡ Memory };
+
+    fn from(_: AllocFailed<T>) -> Self {
+        LaunchNo::Memory
+    }
+}

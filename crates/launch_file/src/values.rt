@@ -1,0 +1,107 @@
+// The inputs that a launch file gives.
+
+ghost use Rattle.std.specs.Prelude.{◌≡◌, ◌≢◌, Err, IfErr, IfOk, Ok, map, option_map};
+ghost use Rattle.serde_json.specs.View.{view};
+ghost use Rattle.lift_tree.specs.InputTypes.{written_of};
+ghost use Rattle.lift_tree.specs.Lists.{Every};
+ghost use Rattle.lift_tree.specs.Programs.{input_of};
+ghost use Rattle.lift_tree.specs.Values.{value_of};
+ghost use Rattle.launch_file.specs.Inputs.{InputsFit, LengthsFit, TypeFits, read_value};
+ghost use Rattle.launch_file.specs.Judged.{input_judged, inputs_judged};
+ghost use Rattle.launch_file.specs.declared.refusal.LaunchNo.TheVariants.{Memory};
+
+use crate::json::{named, word};
+use crate::length::length_at;
+use crate::refusal::{Key, LaunchNo};
+use lift_tree::input_type::InputType;
+use lift_tree::program::Input;
+use lift_tree::value::Val;
+use serde_json::Value;
+use std::alloc::{AllocError, Global};
+
+#[tactic(auto, using(crate::proofs::ReadValues::read_values))]
+// The value of the type that JSON gives at these sizes, where it gives one.
+fn value_in(
+    alloc: Global,
+    sizes: &[u32],
+    ty: &InputType,
+    value: &Value,
+) -> Result<Option<Val>, AllocError>
+    requires { LengthsFit sizes.now (written_of ty.now) }
+    ensures { IfOk result (λ v. option_map value_of v ≡ read_value sizes.now (written_of ty.now) (view value.now)) }
+{
+    match ty {
+        InputType::Number => Ok(word(value).map(Val::Number)),
+        InputType::Pair(left, right) => {
+            let Some(values) = value.as_array() else {
+                return Ok(None);
+            };
+            let [first, second] = values.as_slice() else {
+                return Ok(None);
+            };
+            let Some(first) = value_in(alloc, sizes, left, first)? else {
+                return Ok(None);
+            };
+            let Some(second) = value_in(alloc, sizes, right, second)? else {
+                return Ok(None);
+            };
+            let first = Box::new(alloc, first)?;
+            Ok(Some(Val::Pair(first, Box::new(alloc, second)?)))
+        }
+        InputType::Array(element, length) => {
+            let Some(values) = value.as_array() else {
+                return Ok(None);
+            };
+            if values.len() as u64 != length_at(sizes, length) {
+                return Ok(None);
+            }
+            let mut members = Vec::with_capacity(alloc, values.len())?;
+            for member in values {
+                match value_in(alloc, sizes, element, member)? {
+                    Some(member) => members.push(member)?,
+                    None => return Ok(None),
+                }
+            }
+            Ok(Some(Val::List(members)))
+        }
+    }
+}
+
+// The input of this number.
+fn input_in(
+    alloc: Global,
+    sizes: &[u32],
+    index: usize,
+    input: &Input,
+    value: &Value,
+) -> Result<Val, LaunchNo>
+    requires { TypeFits sizes.now (written_of input.now.ty) }
+    ensures ok { IfOk result (λ v. input_judged sizes.now index (input_of input.now) (view value.now) ≡ Ok (value_of v)) }
+    ensures refused { IfErr result (λ e. e ≢ Memory → input_judged sizes.now index (input_of input.now) (view value.now) ≡ Err e) }
+{
+    let Some(found) = named(value, &input.name) else {
+        return Err(LaunchNo::Missing(Key::InputAt(index)));
+    };
+    match value_in(alloc, sizes, &input.ty, found)? {
+        Some(v) => Ok(v),
+        None => Err(LaunchNo::Shape { input: index }),
+    }
+}
+
+/// The inputs in turn, as the object gives them at these sizes.
+pub fn inputs_in(
+    alloc: Global,
+    sizes: &[u32],
+    inputs: &[Input],
+    value: &Value,
+) -> Result<Vec<Val>, LaunchNo>
+    requires { InputsFit sizes.now (map input_of inputs.now) }
+    ensures ok { IfOk result (λ vs. inputs_judged sizes.now 0 (map input_of inputs.now) (view value.now) ≡ Ok (map value_of vs.items)) }
+    ensures refused { IfErr result (λ e. e ≢ Memory → inputs_judged sizes.now 0 (map input_of inputs.now) (view value.now) ≡ Err e) }
+{
+    let mut given = Vec::new(alloc);
+    for (index, input) in inputs.iter().enumerate() {
+        given.push(input_in(alloc, sizes, index, input, value)?)?;
+    }
+    Ok(given)
+}

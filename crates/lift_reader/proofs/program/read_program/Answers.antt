@@ -1,0 +1,8 @@
+use Rattle.std.proofs.Common.{◌∙◌, ap, sym}
+use Rattle.lift_reader.specs.ProgramText.{first_limit}
+use Rattle.lift_reader.proofs.program.read_program.Goals as goal
+
+pub returns-in-Some-clause-only : goal.returns-in-Some-clause-only
+returns-in-Some-clause-only c = λ p h.
+    let same = c.in_ok-program.ensures.only p h in
+    sym (ap first_limit same) ∙ sym c.first_limit.ensures ∙ c.in-Some.is

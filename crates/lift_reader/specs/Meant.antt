@@ -1,0 +1,48 @@
+-- What the reserved words stand for in a term.
+use Rattle.std.specs.Prelude.{Option, Some, None}
+use Rattle.scalar_ops.specs.declared.op.Reducer.{Reducer}
+use Rattle.scalar_ops.specs.declared.op.Reducer.TheVariants as reducer
+use Rattle.lift_tree.specs.declared.term.Operator.TheVariants as operator
+use Rattle.lift_tree.specs.declared.term.BinaryForm.{BinaryForm}
+use Rattle.lift_tree.specs.declared.term.BinaryForm.TheVariants as binary
+use Rattle.lift_tree.specs.declared.term.UnaryForm.{UnaryForm}
+use Rattle.lift_tree.specs.declared.term.UnaryForm.TheVariants as unary
+use Rattle.lift_reader.specs.declared.word.Word.{Word}
+use Rattle.lift_reader.specs.declared.word.Word.TheVariants as word
+
+-- the operators that a reduce may have
+abbrev pub reducer_of : Word → Option Reducer
+reducer_of word.Add = Some reducer.Add
+reducer_of word.Mul = Some reducer.Mul
+reducer_of word.Min = Some reducer.Min
+reducer_of word.Max = Some reducer.Max
+reducer_of word.And = Some reducer.And
+reducer_of word.Or = Some reducer.Or
+reducer_of word.Xor = Some reducer.Xor
+reducer_of _ = None
+
+-- what is written before two terms
+abbrev pub binary_of : Word → Option BinaryForm
+binary_of word.Add = Some (binary.Operator (operator.Regrouping reducer.Add))
+binary_of word.Mul = Some (binary.Operator (operator.Regrouping reducer.Mul))
+binary_of word.Min = Some (binary.Operator (operator.Regrouping reducer.Min))
+binary_of word.Max = Some (binary.Operator (operator.Regrouping reducer.Max))
+binary_of word.And = Some (binary.Operator (operator.Regrouping reducer.And))
+binary_of word.Or = Some (binary.Operator (operator.Regrouping reducer.Or))
+binary_of word.Xor = Some (binary.Operator (operator.Regrouping reducer.Xor))
+binary_of word.Sub = Some (binary.Operator operator.Sub)
+binary_of word.Shl = Some (binary.Operator operator.Shl)
+binary_of word.Shr = Some (binary.Operator operator.Shr)
+binary_of word.Lt = Some (binary.Operator operator.Lt)
+binary_of word.Eq = Some (binary.Operator operator.Eq)
+binary_of word.Pair = Some binary.Pair
+binary_of word.Zip = Some binary.Zip
+binary_of _ = None
+
+-- what is written before one term
+abbrev pub unary_of : Word → Option UnaryForm
+unary_of word.First = Some unary.First
+unary_of word.Second = Some unary.Second
+unary_of word.Join = Some unary.Join
+unary_of word.Transpose = Some unary.Transpose
+unary_of _ = None

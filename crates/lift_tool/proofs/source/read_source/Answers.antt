@@ -1,0 +1,16 @@
+use Rattle.std.proofs.Common.{sym}
+use Rattle.lift_tool.specs.Compiled.{RefusesSource}
+use Rattle.lift_tool.proofs.Stages.{handed_on, refused_source}
+use Rattle.lift_tool.proofs.source.read_source.Goals as goal
+
+pub returns-in_err-read_program-clause-refused : goal.returns-in_err-read_program-clause-refused
+returns-in_err-read_program-clause-refused c =
+    handed_on (λ why. (script : _) → RefusesSource c.args.text.now script why) _ _ c.from_residual.ensures.1
+    (λ script. refused_source c.args.text.now script _ c.in_err-read_program.ensures.refused c.in_err-read_program.ensures.only)
+
+pub returns-clause-found : goal.returns-clause-found
+returns-clause-found c = record {
+  is = c.in_ok-read_program.ensures.found.0;
+  only = λ q is. sym (c.in_ok-read_program.ensures.only q is);
+  within = c.in_ok-read_program.ensures.found.1;
+}

@@ -1,0 +1,87 @@
+//! A program and a script, compiled to the text of a kernel.
+ghost use Rattle.std.specs.Prelude.{◌≡◌, ◌≤◌, Some, IfErr, IfOk, true};
+ghost use Rattle.kernel_tree.specs.Grammar.{is_kernel};
+ghost use Rattle.kernel_tree.specs.KernelText.{IsKernelText};
+ghost use Rattle.kernel_emit.specs.MapKernel.{map_kernel};
+ghost use Rattle.kernel_spelling.specs.Spelling.{text_of};
+ghost use Rattle.lift_tree.specs.Programs.{program_of};
+ghost use Rattle.lift_tree.specs.Tree.{tree_of};
+ghost use Rattle.lift_tool.specs.Compiled.{IsCompiled, RefusesSource, RefusesSteps};
+ghost use Rattle.lift_tool.specs.Shown.{form_of};
+ghost use Rattle.lift_tool.specs.Steps.{after_steps};
+
+use crate::form::MapProgram;
+use crate::nest::printed_form;
+use crate::refusal::Refusal;
+use crate::script::read_script;
+use crate::source::typed_source;
+use crate::steps::after_steps;
+use kernel_emit::map_kernel;
+use kernel_printer::print;
+use lift_tree::program::Program;
+use lift_tree::term::Term;
+use lift_tree::typed::Typed;
+use std::alloc::{AllocError, Global};
+
+/// The text of a kernel, with the program that it is compiled from.
+#[derive(Debug, Drop)]
+pub struct Compiled {
+    /// The program as it was read, before any step.
+    pub program: Program,
+    /// What is printed of it.
+    pub form: MapProgram,
+    /// The text of the kernel.
+    pub text: Vec<u8>,
+    // The kernel of the form is in the grammar of kernels.
+    ghost in_grammar: { is_kernel (map_kernel form.addend) ≡ true },
+    // The text is that of the kernel of the form.
+    ghost one_kernel: { text.items ≡ text_of (map_kernel form.addend) },
+    // So many elements are the most that its size may be.
+    ghost within: { form.to ≤ 1048576 },
+}
+
+// The term after the steps of a script.
+fn stepped(steps: u64, term: Term) -> Result<Term, Refusal>
+    ensures applied { IfOk result (λ t. after_steps steps (tree_of term) ≡ Some (tree_of t)) }
+    ensures refused { IfErr result (RefusesSteps steps (tree_of term)) }
+{
+    match after_steps(steps, term) {
+        Ok(term) => Ok(term),
+        Err(step) => Err(Refusal::Step(step)),
+    }
+}
+
+// The text of the kernel of a form.
+fn printed(alloc: Global, form: &MapProgram) -> Result<Vec<u8>, AllocError>
+    ensures written { IfOk result (λ text. IsKernelText text.items (map_kernel form.now.addend)) }
+    ensures one_kernel { IfOk result (λ text. text.items ≡ text_of (map_kernel form.now.addend)) }
+    ensures in_grammar { IfOk result (λ _. is_kernel (map_kernel form.now.addend) ≡ true) }
+{
+    let kernel = map_kernel(alloc, form.addend)?;
+    let text = print(alloc, &kernel)?;
+    Ok(text)
+}
+
+/// Compiles a program along a script: to the text of one kernel, of which every run at every
+/// admissible launch leaves the program's value. A refusal is the first cause in the order of the
+/// stages: the program's text and its limits, its types, the script's text and its limit, the
+/// steps, the nest. Want of memory may come at any point.
+pub fn compile_text(alloc: Global, program: &[u8], script: &[u8]) -> Result<Compiled, Refusal>
+    ensures found { IfOk result (λ c. IsCompiled program.now script.now (program_of c.program) (form_of c.form) c.text.items) }
+    ensures refused { IfErr result (RefusesSource program.now script.now) }
+{
+    let Typed {
+        program,
+        term,
+        types: _types,
+    } = typed_source(alloc, program)?;
+    let steps = read_script(script)?;
+    let term = stepped(steps, term)?;
+    let form = printed_form(alloc, &program, &term)?;
+    let text = printed(alloc, &form)?;
+    Ok(Compiled {
+        program,
+        form,
+        text,
+    })
+}

@@ -1,0 +1,9 @@
+pub mod Annotated
+pub mod Formed
+pub mod Members
+pub mod Numbers
+pub mod Renumbered
+pub mod Rows
+pub mod Sizes
+pub mod Sound
+pub mod Unique

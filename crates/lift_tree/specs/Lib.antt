@@ -1,0 +1,14 @@
+pub mod Annotations
+pub mod InputTypes
+pub mod Launches
+pub mod Limits
+pub mod Lists
+pub mod Meaning
+pub mod Places
+pub mod Programs
+pub mod Renumbering
+pub mod Tree
+pub mod Types
+pub mod Typing
+pub mod Values
+pub mod WorkedOut

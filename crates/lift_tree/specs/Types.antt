@@ -1,0 +1,54 @@
+-- Types, wherever they lie in memory, and the values that have them.
+use Rattle.std.specs.Prelude.{ℕ, ◌≡◌, ◌<◌, ◌^◌, List, length, pos, Some, slice_get}
+use Rattle.size_arith.specs.declared.names.Name.{Name}
+use Rattle.size_arith.specs.declared.poly.Monomial.{Monomial}
+use Rattle.size_arith.specs.Polynomial.{value_at}
+use Rattle.size_arith.specs.Shown.{ShownAtLeast}
+use Rattle.lift_tree.specs.declared.ty.Ty as held
+use Rattle.lift_tree.specs.declared.ty.Ty.{Ty}
+use Rattle.lift_tree.specs.Lists.{Every}
+use Rattle.lift_tree.specs.Values.{Value, Word, Both, array, nth}
+
+pub data PlainTy : Type 0 where
+  U32 : PlainTy
+  PairOf : PlainTy → PlainTy → PlainTy
+  ArrayOf : PlainTy → List Monomial → PlainTy
+
+abbrev pub ty_of : Ty → PlainTy
+ty_of held.Number = U32
+ty_of (held.Pair' p a q b) = PairOf (ty_of a) (ty_of b)
+ty_of (held.Array' p a n) = ArrayOf (ty_of a) n
+
+-- an element type: u32, or a pair of element types
+abbrev pub IsElement : PlainTy → Type 0
+IsElement U32 = Unit {0}
+IsElement (PairOf a b) = IsElement a × IsElement b
+IsElement (ArrayOf a n) = ⊥
+
+-- its pairs hold elements only
+abbrev pub HoldsElements : PlainTy → Type 0
+HoldsElements U32 = Unit {0}
+HoldsElements (PairOf a b) = IsElement a × IsElement b
+HoldsElements (ArrayOf a n) = HoldsElements a
+
+-- the type of a program's output: an array, its pairs hold elements only
+abbrev pub IsOutput : PlainTy → Type 0
+IsOutput U32 = ⊥
+IsOutput (PairOf a b) = ⊥
+IsOutput (ArrayOf a n) = HoldsElements a
+
+-- each length is shown at least 1
+abbrev pub IsFormed : List Name → PlainTy → Type 0
+IsFormed names U32 = Unit {0}
+IsFormed names (PairOf a b) = IsFormed names a × IsFormed names b
+IsFormed names (ArrayOf a n) = ShownAtLeast 1 names n × IsFormed names a
+
+-- the value has the type, where the base names have these values
+abbrev pub HasType : List ℕ → PlainTy → Value → Type 0
+HasType ys U32 v = (n : ℕ) × (v ≡ Word n) × (n < 2 ^ 32)
+HasType ys (PairOf a b) v = (x y : Value) × (v ≡ Both x y) × HasType ys a x × HasType ys b y
+HasType ys (ArrayOf a n) v = (xs : List Value) × (v ≡ array xs) × (pos (length xs) ≡ value_at ys n) × Every (HasType ys a) xs
+
+-- the values have these types one by one
+abbrev pub HaveTypes : List ℕ → List PlainTy → List Value → Type 0
+HaveTypes ys tys vs = (n : ℕ) (a : PlainTy) → slice_get tys n ≡ Some a → HasType ys a (nth vs n)

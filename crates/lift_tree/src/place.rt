@@ -1,0 +1,142 @@
+// Places in a term.
+
+ghost use Rattle.std.specs.Prelude.{◌≡◌, Some, None, IfOk, IfErr, OnOk, option_map};
+ghost use Rattle.lift_tree.specs.Tree.{tree_of};
+ghost use Rattle.lift_tree.specs.Places.{child_at, node_at, with_at};
+
+use crate::term::Term;
+use std::marker::Model;
+
+/// A place: the numbers of the children on the way from the root, each counted from 0. Contracts see the list of these numbers.
+#[derive(Debug, Drop)]
+pub struct Place {
+    numbers: Vec<u32>,
+}
+
+impl Model for Place {
+    ghost use Rattle.std.specs.Prelude.{List, ℕ};
+
+    ghost Value = { List ℕ };
+
+    ghost view = { λ p. p.numbers.items };
+}
+
+impl Place {
+    /// The place that these child numbers lead to.
+    pub fn new(numbers: Vec<u32>) -> Self
+        ensures { result ≡ numbers.items }
+    {
+        Place { numbers }
+    }
+
+    /// The child numbers in order.
+    pub fn numbers(&self) -> &[u32]
+        ensures { result.now ≡ self.now }
+    {
+        self.numbers.as_slice()
+    }
+
+    /// The child numbers, moved out.
+    pub fn into_numbers(self) -> Vec<u32>
+        ensures { result.items ≡ self }
+    {
+        self.numbers
+    }
+}
+
+/// The node at a place. None exactly where there is no such place.
+pub fn at<'t>(term: &'t Term, place: &Place) -> Option<&'t Term>
+    ensures { option_map (λ t. tree_of t.now) result ≡ node_at (tree_of term.now) place.now }
+{
+    below(term, place.numbers())
+}
+
+fn below<'t>(term: &'t Term, numbers: &[u32]) -> Option<&'t Term>
+    ensures { option_map (λ t. tree_of t.now) result ≡ node_at (tree_of term.now) numbers.now }
+{
+    let Some((first, rest)) = numbers.split_first() else {
+        return Some(term);
+    };
+    below(child(term, *first)?, rest)
+}
+
+fn child(term: &Term, number: u32) -> Option<&Term>
+    ensures { option_map (λ t. tree_of t.now) result ≡ child_at (tree_of term.now) number }
+{
+    match term {
+        Term::Variable(_) | Term::Number(_) | Term::Input(_) => None,
+        Term::Unary(_, a) => match number {
+            0 => Some(a),
+            _ => None,
+        },
+        Term::Binary(_, a, b) | Term::Let(a, b) | Term::Map(_, a, b) => match number {
+            0 => Some(a),
+            1 => Some(b),
+            _ => None,
+        },
+        Term::Select(a, b, c) | Term::Fold(_, a, b, c) => match number {
+            0 => Some(a),
+            1 => Some(b),
+            2 => Some(c),
+            _ => None,
+        },
+    }
+}
+
+/// The term with another node at a place. Both terms come back unchanged exactly where there is no such place.
+pub fn replaced(mut term: Term, place: &Place, new: Term) -> Result<Term, (Term, Term)>
+    ensures ok { IfOk result (λ t. with_at (tree_of term) place.now (tree_of new) ≡ Some (tree_of t)) }
+    ensures none { IfErr result (λ both. node_at (tree_of term) place.now ≡ None) }
+    ensures kept { IfErr result (λ both. (both.0 ≡ term) × (both.1 ≡ new)) }
+{
+    match put_at(&mut term, place.numbers(), new) {
+        Ok(()) => Ok(term),
+        Err(new) => Err((term, new)),
+    }
+}
+
+// Puts the new node at the place, and gives it back where there is no such place.
+fn put_at(term: &mut Term, numbers: &[u32], new: Term) -> Result<(), Term>
+    ensures ok { OnOk result (with_at (tree_of term.old) numbers.now (tree_of new) ≡ Some (tree_of term.new)) }
+    ensures none { IfErr result (λ t. node_at (tree_of term.old) numbers.now ≡ None) }
+    ensures kept { IfErr result (λ t. (t ≡ new) × (term.new ≡ term.old)) }
+{
+    let Some((first, rest)) = numbers.split_first() else {
+        *term = new;
+        return Ok(());
+    };
+    match term {
+        Term::Variable(_) | Term::Number(_) | Term::Input(_) => Err(new),
+        Term::Unary(_, a) => match *first {
+            0 => put_at(a, rest, new),
+            _ => Err(new),
+        },
+        Term::Binary(_, a, b) => match *first {
+            0 => put_at(a, rest, new),
+            1 => put_at(b, rest, new),
+            _ => Err(new),
+        },
+        Term::Select(a, b, c) => match *first {
+            0 => put_at(a, rest, new),
+            1 => put_at(b, rest, new),
+            2 => put_at(c, rest, new),
+            _ => Err(new),
+        },
+        Term::Let(a, b) => match *first {
+            0 => put_at(a, rest, new),
+            1 => put_at(b, rest, new),
+            _ => Err(new),
+        },
+        Term::Map(_, a, b) => match *first {
+            0 => put_at(a, rest, new),
+            1 => put_at(b, rest, new),
+            _ => Err(new),
+        },
+        Term::Fold(_, a, b, c) => match *first {
+            0 => put_at(a, rest, new),
+            1 => put_at(b, rest, new),
+            2 => put_at(c, rest, new),
+            _ => Err(new),
+        },
+    }
+}

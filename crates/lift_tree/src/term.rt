@@ -1,0 +1,198 @@
+// Terms.
+
+ghost use Rattle.std.specs.Prelude.{◌≡◌, IfOk, min};
+ghost use Rattle.lift_tree.specs.Tree.{tree_of, nodes, height};
+
+use crate::length::Product;
+use scalar_ops::op::Reducer;
+use std::alloc::{AllocError, Global};
+
+/// An operator on two numbers below 2^32. Division and remainder aren't among them, since their right operand is a literal.
+#[derive(Clone, Copy, Debug, PartialEq, Eq)]
+pub enum Operator {
+    /// One that may be regrouped.
+    Regrouping(Reducer),
+    Sub,
+    Shl,
+    Shr,
+    Lt,
+    Eq,
+}
+
+/// A form with one child: the patterns of Lift (ICFP 2015), its stencils' slide and pad (CGO 2018), and the address spaces of Lift IR (CGO 2017).
+#[derive(Debug, Drop)]
+pub enum UnaryForm {
+    /// The whole quotient by this literal.
+    Div(u32),
+    /// The remainder by this literal.
+    Rem(u32),
+    /// A pair's left part.
+    First,
+    /// A pair's right part.
+    Second,
+    /// The rows of an array one after another.
+    Join,
+    /// The columns of an array of rows.
+    Transpose,
+    /// The consecutive pieces of this length, in elements.
+    Split(Product),
+    /// The pieces of the first length that begin at 0 and at each multiple of the second, while they fit, both in elements.
+    Slide(u32, u32),
+    /// So many copies of the first element before, and so many of the last after.
+    Pad(u32, u32),
+    /// The same value, kept in local memory.
+    ToLocal,
+    /// The same value, kept in private memory.
+    ToPrivate,
+}
+
+/// A form with two children and no binder.
+#[derive(Clone, Copy, Debug, PartialEq, Eq)]
+pub enum BinaryForm {
+    Operator(Operator),
+    /// A pair of two values.
+    Pair,
+    /// The array of the pairs of two arrays' elements.
+    Zip,
+    /// The array of one element, the left fold. Its children are the array, then the start.
+    Reduce(Reducer),
+}
+
+/// How a map is run. All kinds have the same value.
+#[derive(Clone, Copy, Debug, PartialEq, Eq)]
+pub enum MapKind {
+    /// Not yet decided: the map of a program.
+    Plain,
+    /// Over the work-items of all groups.
+    Global,
+    /// Over the work-groups.
+    WorkGroup,
+    /// Over the work-items of a group.
+    Local,
+    /// By one work-item.
+    Sequential,
+}
+
+/// How a fold is run. Both kinds have the same value.
+#[derive(Clone, Copy, Debug, PartialEq, Eq)]
+pub enum FoldKind {
+    /// Not yet decided: the fold of a program.
+    Plain,
+    /// By one work-item.
+    Sequential,
+}
+
+/// A term. A variable is the number of binders between it and its own, 0 the nearest. Children stand in the order in which places count them.
+#[derive(Debug, Drop)]
+pub enum Term {
+    Variable(u32),
+    Number(u32),
+    /// The program's input of this number in the order of declaration, from 0.
+    Input(u32),
+    Unary(UnaryForm, Box<Term>),
+    Binary(BinaryForm, Box<Term>, Box<Term>),
+    /// The condition, the term where it isn't 0, and the one where it is.
+    Select(Box<Term>, Box<Term>, Box<Term>),
+    /// The value, and the body under one binder.
+    Let(Box<Term>, Box<Term>),
+    /// The array, and the body under one binder.
+    Map(MapKind, Box<Term>, Box<Term>),
+    /// The array, the start, and the body under two binders: the accumulator, and nearer the element.
+    Fold(FoldKind, Box<Term>, Box<Term>, Box<Term>),
+}
+
+impl UnaryForm {
+    /// The same form in memory of its own.
+    pub fn copy(&self, alloc: Global) -> Result<Self, AllocError>
+        ensures { IfOk result (λ f. f ≡ self.now) }
+    {
+        match self {
+            UnaryForm::Div(n) => Ok(UnaryForm::Div(*n)),
+            UnaryForm::Rem(n) => Ok(UnaryForm::Rem(*n)),
+            UnaryForm::First => Ok(UnaryForm::First),
+            UnaryForm::Second => Ok(UnaryForm::Second),
+            UnaryForm::Join => Ok(UnaryForm::Join),
+            UnaryForm::Transpose => Ok(UnaryForm::Transpose),
+            UnaryForm::Split(length) => Ok(UnaryForm::Split(length.copy(alloc)?)),
+            UnaryForm::Slide(size, step) => Ok(UnaryForm::Slide(*size, *step)),
+            UnaryForm::Pad(before, after) => Ok(UnaryForm::Pad(*before, *after)),
+            UnaryForm::ToLocal => Ok(UnaryForm::ToLocal),
+            UnaryForm::ToPrivate => Ok(UnaryForm::ToPrivate),
+        }
+    }
+}
+
+impl Term {
+    /// An equal term in memory of its own.
+    pub fn copy(&self, alloc: Global) -> Result<Self, AllocError>
+        ensures { IfOk result (λ t. tree_of t ≡ tree_of self.now) }
+    {
+        match self {
+            Term::Variable(n) => Ok(Term::Variable(*n)),
+            Term::Number(n) => Ok(Term::Number(*n)),
+            Term::Input(n) => Ok(Term::Input(*n)),
+            Term::Unary(form, a) => {
+                let form = form.copy(alloc)?;
+                Ok(Term::Unary(form, Box::new(alloc, a.copy(alloc)?)?))
+            }
+            Term::Binary(form, a, b) => {
+                let a = Box::new(alloc, a.copy(alloc)?)?;
+                Ok(Term::Binary(*form, a, Box::new(alloc, b.copy(alloc)?)?))
+            }
+            Term::Select(a, b, c) => {
+                let a = Box::new(alloc, a.copy(alloc)?)?;
+                let b = Box::new(alloc, b.copy(alloc)?)?;
+                Ok(Term::Select(a, b, Box::new(alloc, c.copy(alloc)?)?))
+            }
+            Term::Let(value, body) => {
+                let value = Box::new(alloc, value.copy(alloc)?)?;
+                Ok(Term::Let(value, Box::new(alloc, body.copy(alloc)?)?))
+            }
+            Term::Map(kind, array, body) => {
+                let array = Box::new(alloc, array.copy(alloc)?)?;
+                Ok(Term::Map(*kind, array, Box::new(alloc, body.copy(alloc)?)?))
+            }
+            Term::Fold(kind, array, start, body) => {
+                let array = Box::new(alloc, array.copy(alloc)?)?;
+                let start = Box::new(alloc, start.copy(alloc)?)?;
+                Ok(Term::Fold(*kind, array, start, Box::new(alloc, body.copy(alloc)?)?))
+            }
+        }
+    }
+
+    /// How many nodes the term has; the count stands still at 2^64 - 1.
+    pub fn node_count(&self) -> u64
+        ensures { result ≡ min (nodes (tree_of self.now)) u64.MAX }
+    {
+        match self {
+            Term::Variable(_) | Term::Number(_) | Term::Input(_) => 1,
+            Term::Unary(_, a) => a.node_count().saturating_add(1),
+            Term::Binary(_, a, b) | Term::Let(a, b) | Term::Map(_, a, b) => {
+                a.node_count()
+                    .saturating_add(b.node_count())
+                    .saturating_add(1)
+            }
+            Term::Select(a, b, c) | Term::Fold(_, a, b, c) => a
+                .node_count()
+                .saturating_add(b.node_count())
+                .saturating_add(c.node_count())
+                .saturating_add(1),
+        }
+    }
+
+    /// The term's height, 1 for a leaf; it stands still at 2^64 - 1.
+    pub fn depth(&self) -> u64
+        ensures { result ≡ min (height (tree_of self.now)) u64.MAX }
+    {
+        match self {
+            Term::Variable(_) | Term::Number(_) | Term::Input(_) => 1,
+            Term::Unary(_, a) => a.depth().saturating_add(1),
+            Term::Binary(_, a, b) | Term::Let(a, b) | Term::Map(_, a, b) => {
+                a.depth().max(b.depth()).saturating_add(1)
+            }
+            Term::Select(a, b, c) | Term::Fold(_, a, b, c) => {
+                a.depth().max(b.depth()).max(c.depth()).saturating_add(1)
+            }
+        }
+    }
+}

@@ -1,0 +1,35 @@
+// Types.
+
+ghost use Rattle.std.specs.Prelude.{◌≡◌, IfOk};
+ghost use Rattle.lift_tree.specs.Types.{ty_of};
+
+use size_arith::Poly;
+use std::alloc::{AllocError, Global};
+
+/// A type. Lengths are polynomials over the base names of the declared sizes, counted in elements.
+#[derive(Drop)]
+pub enum Ty {
+    Number,
+    Pair(Box<Ty>, Box<Ty>),
+    /// Of this element type and length.
+    Array(Box<Ty>, Poly),
+}
+
+impl Ty {
+    /// An equal type in memory of its own.
+    pub fn copy(&self, alloc: Global) -> Result<Self, AllocError>
+        ensures { IfOk result (λ t. ty_of t ≡ ty_of self.now) }
+    {
+        match self {
+            Ty::Number => Ok(Ty::Number),
+            Ty::Pair(a, b) => {
+                let a = Box::new(alloc, a.copy(alloc)?)?;
+                Ok(Ty::Pair(a, Box::new(alloc, b.copy(alloc)?)?))
+            }
+            Ty::Array(element, length) => {
+                let length = length.copy(alloc)?;
+                Ok(Ty::Array(Box::new(alloc, element.copy(alloc)?)?, length))
+            }
+        }
+    }
+}

@@ -1,0 +1,14 @@
+pub mod Counted
+pub mod Fitted
+pub mod Forms
+pub mod Inputs
+pub mod Judging
+pub mod Named
+pub mod Products
+pub mod Reached
+pub mod Results
+pub mod Right
+pub mod Table
+pub mod Tried
+pub mod Typed
+pub mod Whole

@@ -1,0 +1,64 @@
+-- The types that a program's term is judged to have are its types.
+use Rattle.std.proofs.Common.{◌≡◌, ℕ, ◌≤◌, List, [], ◌∷◌, length, refl, sym, ap, ◌∙◌, subst}
+use Rattle.std.specs.Prelude.{IsTrue, Result, Ok, Err, map}
+use Rattle.size_arith.specs.declared.names.Name.{Name}
+use Rattle.lift_tree.specs.Tree.{Tree}
+use Rattle.lift_tree.specs.Types.{PlainTy, U32, PairOf, ArrayOf, IsElement, HoldsElements, IsOutput, IsFormed}
+use Rattle.lift_tree.specs.Typing.{Declared, declared_by, IsDeclared}
+use Rattle.lift_tree.specs.WorkedOut.{range_of, worked_out}
+use Rattle.lift_tree.specs.Programs.{PlainInput, PlainProgram}
+use Rattle.lift_tree.specs.Lists.{Every}
+use Rattle.lift_tree.specs.Annotations.{Annotation, Annotates, type_in}
+use Rattle.lift_tree.proofs.Members.{length-map}
+use Rattle.pattern_types.specs.declared.refusal.Rule.TheVariants as rule
+use Rattle.pattern_types.specs.declared.refusal.TypeRefusal.{TypeRefusal}
+use Rattle.pattern_types.specs.declared.fault.NodeFault.{NodeFault}
+use Rattle.pattern_types.specs.Belonging.{Belongs}
+use Rattle.pattern_types.specs.Tests.{is_element, holds_elements, is_output}
+use Rattle.pattern_types.specs.Judged.{and_then, demand, here, at_node, judged, inputs_judged, output_judged, program_judged}
+use Rattle.pattern_types.specs.Judgement.{HasTypes, JudgedTypesAreRight}
+use Rattle.pattern_types.proofs.Results.{yes, and_ok, demand_ok, here_ok}
+use Rattle.pattern_types.proofs.Table.{IsGood, good_formed, is_element_so}
+use Rattle.pattern_types.proofs.Right.{judged_right}
+use Rattle.pattern_types.proofs.Inputs.{inputs_right}
+use Rattle.pattern_types.proofs.Tried.{parts}
+
+at_node_ok : (r : Result Annotation NodeFault) (a : Annotation) → at_node r ≡ Ok a → r ≡ Ok a
+at_node_ok (Ok b) a h = let e : b ≡ a = cc in ap Ok e
+at_node_ok (Err e) a h = absurd (cc)
+
+same_node : (n m : Annotation) → yes NodeFault n ≡ Ok m → n ≡ m
+same_node n m h = cc
+
+holds_so : (a : PlainTy) → IsTrue (holds_elements a) → HoldsElements a
+holds_so U32 h = tt
+holds_so (PairOf a b) h = let p = parts (is_element a) (is_element b) h in (is_element_so a p.0, is_element_so b p.1)
+holds_so (ArrayOf a n) h = holds_so a h
+
+output_so : (a : PlainTy) → IsTrue (is_output a) → IsOutput a
+output_so U32 h = absurd (cc)
+output_so (PairOf a b) h = absurd (cc)
+output_so (ArrayOf a n) h = holds_so a h
+
+pub every_formed : (names : List Name) (types : List PlainTy) → Every (IsGood names) types → Every (IsFormed names) types
+every_formed names [] h = tt
+every_formed names (a ∷ types) h = (good_formed names a h.0, every_formed names types h.1)
+
+pub judged_types_are_right : JudgedTypesAreRight
+judged_types_are_right p t n few are fit belongs h =
+    let names = map range_of p.sizes in
+    let a = and_ok (inputs_judged names 0 p.inputs) _ n h in
+    let r = inputs_right names 0 p.inputs a.0 a.1 in
+    let d : Declared = record { names = names; inputs = a.0 } in
+    let c = and_ok (judged d [] t) output_judged n (at_node_ok _ n a.2) in
+    let o = and_ok (here (demand (is_output (type_in c.0)) rule.Output)) _ n c.2 in
+    let e = same_node c.0 n o.2 in
+    let i : length a.0 ≡ length p.inputs = ap length r.0 ∙ length-map (λ (x : PlainInput). worked_out names x.ty) p.inputs in
+    let b = subst (λ z. Belongs z (length a.0) 0 t) (sym (length-map range_of p.sizes)) (subst (λ z. Belongs (length p.sizes) z 0 t) (sym i) belongs) in
+    let j = judged_right d r.1 [] t c.0 tt fit b c.1 in
+    let m = subst (λ z. Annotates d [] t z) e j.0 in
+    record {
+      declared = record { few = subst (λ z. z ≤ 8) (sym (length-map range_of p.sizes)) few; names = are; inputs = subst (Every (IsFormed names)) r.0 (every_formed names a.0 r.1) };
+      nodes = subst (λ z. Annotates (record { names = names; inputs = z }) [] t n) r.0 m;
+      output = subst (λ z. IsOutput (type_in z)) e (output_so (type_in c.0) (demand_ok _ _ o.0 (here_ok _ o.0 o.1)));
+    }

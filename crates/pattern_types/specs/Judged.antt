@@ -1,0 +1,280 @@
+-- Types, judged in order: the type, or the first refusal.
+use Rattle.std.specs.Prelude.{ℕ, zero, suc, ◌^◌, min, Bool, true, false, ◌&&◌, if◌then◌else◌, nat_lt, List, [], ◌∷◌, length, map, pos, Result, Ok, Err, Option, Some, None}
+use Rattle.size_arith.specs.declared.names.Name.{Name}
+use Rattle.size_arith.specs.declared.poly.Monomial.{Monomial}
+use Rattle.size_arith.specs.declared.poly.PolyNo.{PolyNo}
+use Rattle.size_arith.specs.declared.poly.PolyNo.TheVariants as no
+use Rattle.size_arith.specs.Polynomial.{number, of_monomial, plus, minus, times, limited}
+use Rattle.size_arith.specs.Shown.{largest}
+use Rattle.lift_tree.specs.declared.length.Factor.{Factor}
+use Rattle.lift_tree.specs.declared.length.Part.{Part}
+use Rattle.lift_tree.specs.declared.term.UnaryForm.{UnaryForm}
+use Rattle.lift_tree.specs.declared.term.UnaryForm.TheVariants.{Div, Rem, First, Second, Join, Transpose, Split, Slide, Pad, ToLocal, ToPrivate}
+use Rattle.lift_tree.specs.declared.term.BinaryForm.{BinaryForm}
+use Rattle.lift_tree.specs.declared.term.BinaryForm.TheVariants as binary
+use Rattle.lift_tree.specs.Tree.{Tree, Variable, Number, Input, Unary, Binary, Select, Let, Map, Fold}
+use Rattle.lift_tree.specs.InputTypes as written
+use Rattle.lift_tree.specs.InputTypes.{Written}
+use Rattle.lift_tree.specs.Programs.{PlainInput, PlainProgram}
+use Rattle.lift_tree.specs.Types.{PlainTy, U32, PairOf, ArrayOf}
+use Rattle.lift_tree.specs.Typing.{Declared, constant}
+use Rattle.lift_tree.specs.WorkedOut.{factor_monomial, with_part, range_of}
+use Rattle.lift_tree.specs.Limits.{arrays, components}
+use Rattle.lift_tree.specs.Annotations.{Annotation, Leaf, One, Two, Three, type_in}
+use Rattle.pattern_types.specs.declared.refusal.Rule.{Rule}
+use Rattle.pattern_types.specs.declared.refusal.Rule.TheVariants as rule
+use Rattle.pattern_types.specs.declared.refusal.TypeLimit.{TypeLimit}
+use Rattle.pattern_types.specs.declared.refusal.TypeLimit.TheVariants as limit
+use Rattle.pattern_types.specs.declared.refusal.Spot.{Spot}
+use Rattle.pattern_types.specs.declared.refusal.Spot.TheVariants as spot
+use Rattle.pattern_types.specs.declared.refusal.TypeRefusal.{TypeRefusal}
+use Rattle.pattern_types.specs.declared.refusal.TypeRefusal.TheVariants as refusal
+use Rattle.pattern_types.specs.declared.fault.Fault.{Fault}
+use Rattle.pattern_types.specs.declared.fault.Fault.TheVariants.{Breaks, Passes, Memory}
+use Rattle.pattern_types.specs.declared.fault.NodeFault.{NodeFault}
+use Rattle.pattern_types.specs.Scopes.{nth_type}
+use Rattle.pattern_types.specs.Tests.{is_shown, is_same, exact_quotient, is_element, is_output, is_same_element}
+
+abbrev pub and_then : {A B E : Type 0} → Result A E → (A → Result B E) → Result B E
+and_then (Ok a) f = f a
+and_then (Err e) f = Err e
+
+abbrev pub demand : Bool → Rule → Result (Unit {0}) Fault
+demand true r = Ok tt
+demand false r = Err (Breaks r)
+
+-- ---- lengths
+abbrev pub fault_of : PolyNo → Fault
+fault_of (no.Terms n) = Passes limit.Terms n
+fault_of (no.Degree n) = Passes limit.Degree n
+fault_of (no.Coefficient n) = Passes limit.Coefficient n
+fault_of no.Memory = Memory
+
+abbrev pub faulty : Result (List Monomial) PolyNo → Result (List Monomial) Fault
+faulty (Ok p) = Ok p
+faulty (Err e) = Err (fault_of e)
+
+-- the sum or product, within its limits
+abbrev pub within : List Monomial → Result (List Monomial) Fault
+within p = faulty (limited p)
+
+-- the factors multiplied to a product, from left to right
+abbrev pub product_judged : List Name → List Monomial → List Factor → Result (List Monomial) Fault
+product_judged names p [] = Ok p
+product_judged names p (f ∷ fs) = and_then (within (times p (of_monomial (factor_monomial names f)))) (λ q. product_judged names q fs)
+
+-- the parts added to a sum, from left to right
+abbrev pub sum_judged : List Name → List Monomial → List Part → Result (List Monomial) Fault
+sum_judged names sum [] = Ok sum
+sum_judged names sum (p ∷ ps) =
+    and_then (product_judged names (constant 1) p.product) (λ q. and_then (within (with_part p.sign sum q)) (λ r. sum_judged names r ps))
+
+-- ---- arrays
+-- a count, which stands still at 2^64 - 1
+abbrev pub counted : ℕ → ℕ
+counted n = min n 18446744073709551615
+
+abbrev pub at_most : ℕ → TypeLimit → ℕ → Result (Unit {0}) Fault
+at_most most which n = if nat_lt most n then Err (Passes which n) else Ok tt
+
+-- each component's product of lengths, where those outside have this product
+abbrev pub scalars_judged : List Name → List Monomial → PlainTy → Result (Unit {0}) Fault
+scalars_judged names p U32 = at_most 2147483647 limit.Scalars (largest names p)
+scalars_judged names p (PairOf a b) = and_then (scalars_judged names p a) (λ _. scalars_judged names p b)
+scalars_judged names p (ArrayOf a n) = and_then (within (times p n)) (λ q. scalars_judged names q a)
+
+-- an array that is formed
+abbrev pub formed : List Name → PlainTy → List Monomial → Result PlainTy Fault
+formed names a n =
+    and_then (demand (is_shown 1 names n) rule.Length) (λ _.
+    and_then (at_most 4 limit.Arrays (counted (arrays (ArrayOf a n)))) (λ _.
+    and_then (at_most 4 limit.Components (counted (length (components a)))) (λ _.
+    and_then (scalars_judged names n a) (λ _. Ok (ArrayOf a n)))))
+
+-- ---- the table, one row a form
+abbrev pub number_row : PlainTy → Result PlainTy Fault
+number_row U32 = Ok U32
+number_row (PairOf a b) = Err (Breaks rule.Operator)
+number_row (ArrayOf a n) = Err (Breaks rule.Operator)
+
+abbrev pub first_row : PlainTy → Result PlainTy Fault
+first_row U32 = Err (Breaks rule.Project)
+first_row (PairOf a b) = Ok a
+first_row (ArrayOf a n) = Err (Breaks rule.Project)
+
+abbrev pub second_row : PlainTy → Result PlainTy Fault
+second_row U32 = Err (Breaks rule.Project)
+second_row (PairOf a b) = Ok b
+second_row (ArrayOf a n) = Err (Breaks rule.Project)
+
+abbrev pub join_row : List Name → PlainTy → Result PlainTy Fault
+join_row names U32 = Err (Breaks rule.Join)
+join_row names (PairOf a b) = Err (Breaks rule.Join)
+join_row names (ArrayOf U32 n) = Err (Breaks rule.Join)
+join_row names (ArrayOf (PairOf a b) n) = Err (Breaks rule.Join)
+join_row names (ArrayOf (ArrayOf a m) n) = and_then (within (times n m)) (λ l. formed names a l)
+
+abbrev pub transpose_row : List Name → PlainTy → Result PlainTy Fault
+transpose_row names U32 = Err (Breaks rule.Transpose)
+transpose_row names (PairOf a b) = Err (Breaks rule.Transpose)
+transpose_row names (ArrayOf U32 n) = Err (Breaks rule.Transpose)
+transpose_row names (ArrayOf (PairOf a b) n) = Err (Breaks rule.Transpose)
+transpose_row names (ArrayOf (ArrayOf a m) n) = and_then (formed names a n) (λ row. formed names row m)
+
+-- pieces of length m of an array that has the quotient of them
+abbrev pub pieces_row : List Name → PlainTy → List Monomial → Option (List Monomial) → Result PlainTy Fault
+pieces_row names a m None = Err (Breaks rule.Split)
+pieces_row names a m (Some q) = and_then (formed names a m) (λ piece. formed names piece q)
+
+abbrev pub split_row : List Name → List Monomial → PlainTy → Result PlainTy Fault
+split_row names m U32 = Err (Breaks rule.Split)
+split_row names m (PairOf a b) = Err (Breaks rule.Split)
+split_row names m (ArrayOf a n) = pieces_row names a m (exact_quotient m n)
+
+-- windows of length s, one more than the steps that fit
+abbrev pub windows_row : List Name → PlainTy → ℕ → Option (List Monomial) → Result PlainTy Fault
+windows_row names a s None = Err (Breaks rule.Slide)
+windows_row names a s (Some q) =
+    and_then (formed names a (constant s)) (λ window. and_then (within (plus q (constant 1))) (λ n. formed names window n))
+
+abbrev pub slide_row : List Name → (size step : ℕ) → PlainTy → Result PlainTy Fault
+slide_row names s t U32 = Err (Breaks rule.Slide)
+slide_row names s t (PairOf a b) = Err (Breaks rule.Slide)
+slide_row names s t (ArrayOf a n) =
+    and_then (within (minus n (constant s))) (λ left.
+    and_then (demand (is_shown 0 names left) rule.Slide) (λ _. windows_row names a s (exact_quotient (constant t) left)))
+
+abbrev pub pad_row : List Name → (before after : ℕ) → PlainTy → Result PlainTy Fault
+pad_row names l r U32 = Err (Breaks rule.Pad)
+pad_row names l r (PairOf a b) = Err (Breaks rule.Pad)
+pad_row names l r (ArrayOf a n) = and_then (within (plus (constant l) n)) (λ m. and_then (within (plus m (constant r))) (λ k. formed names a k))
+
+abbrev pub unary_row : List Name → UnaryForm → PlainTy → Result PlainTy Fault
+unary_row names (Div n) a = number_row a
+unary_row names (Rem n) a = number_row a
+unary_row names First a = first_row a
+unary_row names Second a = second_row a
+unary_row names Join a = join_row names a
+unary_row names Transpose a = transpose_row names a
+unary_row names (Split fs) a = and_then (product_judged names (constant 1) fs) (λ m. split_row names m a)
+unary_row names (Slide s t) a = slide_row names s t a
+unary_row names (Pad l r) a = pad_row names l r a
+unary_row names ToLocal a = Ok a
+unary_row names ToPrivate a = Ok a
+
+abbrev pub operator_row : PlainTy → PlainTy → Result PlainTy Fault
+operator_row a b = and_then (number_row a) (λ _. number_row b)
+
+abbrev pub pair_row : PlainTy → PlainTy → Result PlainTy Fault
+pair_row a b = and_then (demand (is_element a && is_element b) rule.Pair) (λ _. Ok (PairOf a b))
+
+abbrev pub zip_row : List Name → PlainTy → PlainTy → Result PlainTy Fault
+zip_row names (ArrayOf a n) (ArrayOf b m) = and_then (demand (is_same n m) rule.Zip) (λ _. formed names (PairOf a b) n)
+zip_row names (ArrayOf a n) U32 = Err (Breaks rule.Zip)
+zip_row names (ArrayOf a n) (PairOf b c) = Err (Breaks rule.Zip)
+zip_row names U32 b = Err (Breaks rule.Zip)
+zip_row names (PairOf a c) b = Err (Breaks rule.Zip)
+
+abbrev pub reduce_row : List Name → PlainTy → PlainTy → Result PlainTy Fault
+reduce_row names (ArrayOf U32 n) U32 = formed names U32 (constant 1)
+reduce_row names (ArrayOf U32 n) (PairOf b c) = Err (Breaks rule.Reduce)
+reduce_row names (ArrayOf U32 n) (ArrayOf b m) = Err (Breaks rule.Reduce)
+reduce_row names (ArrayOf (PairOf a c) n) b = Err (Breaks rule.Reduce)
+reduce_row names (ArrayOf (ArrayOf a m) n) b = Err (Breaks rule.Reduce)
+reduce_row names U32 b = Err (Breaks rule.Reduce)
+reduce_row names (PairOf a c) b = Err (Breaks rule.Reduce)
+
+abbrev pub binary_row : List Name → BinaryForm → PlainTy → PlainTy → Result PlainTy Fault
+binary_row names (binary.Operator o) a b = operator_row a b
+binary_row names binary.Pair a b = pair_row a b
+binary_row names binary.Zip a b = zip_row names a b
+binary_row names (binary.Reduce r) a b = reduce_row names a b
+
+abbrev pub select_row : PlainTy → PlainTy → PlainTy → Result PlainTy Fault
+select_row a b c = and_then (operator_row a b) (λ _. number_row c)
+
+-- the element type of an array, which the rule demands
+abbrev pub element_in : Rule → PlainTy → Result PlainTy Fault
+element_in r U32 = Err (Breaks r)
+element_in r (PairOf a b) = Err (Breaks r)
+element_in r (ArrayOf a n) = Ok a
+
+-- a map's type, from its array's and its body's
+abbrev pub map_end : List Name → PlainTy → PlainTy → Result PlainTy Fault
+map_end names U32 b = Err (Breaks rule.Map)
+map_end names (PairOf a c) b = Err (Breaks rule.Map)
+map_end names (ArrayOf a n) b = formed names b n
+
+-- the element type that a fold's body is given, from its array's type and its start's
+abbrev pub fold_start : PlainTy → PlainTy → Result PlainTy Fault
+fold_start a s = and_then (element_in rule.Fold a) (λ x. and_then (demand (is_element s) rule.Fold) (λ _. Ok x))
+
+-- a fold's type, from its start's and its body's
+abbrev pub fold_end : List Name → PlainTy → PlainTy → Result PlainTy Fault
+fold_end names s b = and_then (demand (is_same_element s b) rule.Fold) (λ _. formed names s (constant 1))
+
+-- ---- terms
+-- a fault of the node itself, and of its child of this number
+abbrev pub here : {A : Type 0} → Result A Fault → Result A NodeFault
+here (Ok a) = Ok a
+here (Err f) = Err (record { place = []; fault = f })
+
+abbrev pub under : {A : Type 0} → ℕ → Result A NodeFault → Result A NodeFault
+under i (Ok a) = Ok a
+under i (Err f) = Err (record { place = i ∷ f.place; fault = f.fault })
+
+abbrev pub judged : Declared → List PlainTy → Tree → Result Annotation NodeFault
+judged d g (Variable n) = Ok (Leaf (nth_type g n))
+judged d g (Number n) = Ok (Leaf U32)
+judged d g (Input n) = Ok (Leaf (nth_type d.inputs n))
+judged d g (Unary f t) = and_then (under 0 (judged d g t)) (λ n. and_then (here (unary_row d.names f (type_in n))) (λ a. Ok (One a n)))
+judged d g (Binary f t u) =
+    and_then (under 0 (judged d g t)) (λ n. and_then (under 1 (judged d g u)) (λ m.
+    and_then (here (binary_row d.names f (type_in n) (type_in m))) (λ a. Ok (Two a n m))))
+judged d g (Select t u v) =
+    and_then (under 0 (judged d g t)) (λ n. and_then (under 1 (judged d g u)) (λ m. and_then (under 2 (judged d g v)) (λ k.
+    and_then (here (select_row (type_in n) (type_in m) (type_in k))) (λ a. Ok (Three a n m k)))))
+judged d g (Let v b) = and_then (under 0 (judged d g v)) (λ n. and_then (under 1 (judged d (type_in n ∷ g) b)) (λ m. Ok (Two (type_in m) n m)))
+judged d g (Map k xs b) =
+    and_then (under 0 (judged d g xs)) (λ n.
+    and_then (here (element_in rule.Map (type_in n))) (λ x.
+    and_then (under 1 (judged d (x ∷ g) b)) (λ m.
+    and_then (here (map_end d.names (type_in n) (type_in m))) (λ a. Ok (Two a n m)))))
+judged d g (Fold k xs s b) =
+    and_then (under 0 (judged d g xs)) (λ n. and_then (under 1 (judged d g s)) (λ m.
+    and_then (here (fold_start (type_in n) (type_in m))) (λ x.
+    and_then (under 2 (judged d (x ∷ type_in m ∷ g) b)) (λ k.
+    and_then (here (fold_end d.names (type_in m) (type_in k))) (λ a. Ok (Three a n m k))))))
+
+-- ---- programs
+abbrev pub input_judged : List Name → Written → Result PlainTy Fault
+input_judged names written.Number = Ok U32
+input_judged names (written.Pair a b) = and_then (input_judged names a) (λ x. and_then (input_judged names b) (λ y. Ok (PairOf x y)))
+input_judged names (written.Array a n) = and_then (input_judged names a) (λ x. and_then (sum_judged names [] n) (λ m. formed names x m))
+
+abbrev pub refusal_at : Spot → Fault → TypeRefusal
+refusal_at s (Breaks r) = refusal.IllTyped s r
+refusal_at s (Passes l n) = refusal.Limit l s n
+refusal_at s Memory = refusal.Memory
+
+abbrev pub at_input : {A : Type 0} → ℕ → Result A Fault → Result A TypeRefusal
+at_input i (Ok a) = Ok a
+at_input i (Err f) = Err (refusal_at (spot.Input i) f)
+
+abbrev pub at_node : {A : Type 0} → Result A NodeFault → Result A TypeRefusal
+at_node (Ok a) = Ok a
+at_node (Err f) = Err (refusal_at (spot.Node f.place) f.fault)
+
+abbrev pub inputs_judged : List Name → ℕ → List PlainInput → Result (List PlainTy) TypeRefusal
+inputs_judged names i [] = Ok []
+inputs_judged names i (x ∷ xs) = and_then (at_input i (input_judged names x.ty)) (λ a. and_then (inputs_judged names (suc i) xs) (λ types. Ok (a ∷ types)))
+
+abbrev pub output_judged : Annotation → Result Annotation NodeFault
+output_judged n = and_then (here (demand (is_output (type_in n)) rule.Output)) (λ _. Ok n)
+
+-- the inputs in order, then the term, at last the output's type
+abbrev pub program_judged : PlainProgram → Tree → Result Annotation TypeRefusal
+program_judged p t =
+    let names = map range_of p.sizes in
+    and_then (inputs_judged names 0 p.inputs) (λ inputs.
+    at_node (and_then (judged (record { names = names; inputs = inputs }) [] t) output_judged))

@@ -1,0 +1,7 @@
+pub mod Belonging
+pub mod Fitting
+pub mod Judged
+pub mod Judgement
+pub mod Numbers
+pub mod Scopes
+pub mod Tests

@@ -1,0 +1,115 @@
+// Why a program is refused.
+
+use lift_tree::place::Place;
+use std::fmt::{self, Display, Formatter, Write};
+
+/// A rule of the typing table, by the pattern that demands it.
+#[derive(Clone, Copy, Debug, PartialEq, Eq)]
+pub enum Rule {
+    /// The operands of an operator and of `select` are numbers.
+    Operator,
+    /// The parts of a `pair` have element types: numbers, and pairs of element types.
+    Pair,
+    /// The operand of `first` and `second` is a pair.
+    Project,
+    /// A `map` goes over an array.
+    Map,
+    /// A `reduce` goes over an array of numbers, from a number.
+    Reduce,
+    /// A `fold` goes over an array; its start has an element type, and its body the start's type.
+    Fold,
+    /// The operands of a `zip` are arrays of the same length.
+    Zip,
+    /// The length of the pieces of a `split` divides the array's.
+    Split,
+    /// The operand of a `join` is an array of arrays.
+    Join,
+    /// The operand of a `transpose` is an array of arrays.
+    Transpose,
+    /// The windows of a `slide` fit the array, and its steps divide what is left.
+    Slide,
+    /// The operand of a `pad` is an array.
+    Pad,
+    /// The whole is an array, whose pairs hold elements only.
+    Output,
+    /// Each array that is formed has a length shown to be at least 1.
+    Length,
+}
+
+impl Display for Rule {
+    fn fmt<W: Write>(&self, f: &mut Formatter<W>) -> Result<(), fmt::Error> {
+        f.write_str(match self {
+            Rule::Operator => "operator",
+            Rule::Pair => "pair",
+            Rule::Project => "project",
+            Rule::Map => "map",
+            Rule::Reduce => "reduce",
+            Rule::Fold => "fold",
+            Rule::Zip => "zip",
+            Rule::Split => "split",
+            Rule::Join => "join",
+            Rule::Transpose => "transpose",
+            Rule::Slide => "slide",
+            Rule::Pad => "pad",
+            Rule::Output => "output",
+            Rule::Length => "length",
+        })
+    }
+}
+
+/// A limit on types.
+#[derive(Clone, Copy, Debug, PartialEq, Eq)]
+pub enum TypeLimit {
+    /// At most 4 arrays around a scalar.
+    Arrays,
+    /// At most 4 scalars in a type's pairs.
+    Components,
+    /// At most 32 monomials in a length.
+    Terms,
+    /// A length's degree is at most 4.
+    Degree,
+    /// The coefficients of a length are from -4,294,967,296 to 4,294,967,296.
+    Coefficient,
+    /// At most 2,147,483,647 scalars in a component.
+    Scalars,
+}
+
+impl Display for TypeLimit {
+    fn fmt<W: Write>(&self, f: &mut Formatter<W>) -> Result<(), fmt::Error> {
+        f.write_str(match self {
+            TypeLimit::Arrays => "arrays",
+            TypeLimit::Components => "components",
+            TypeLimit::Terms => "terms",
+            TypeLimit::Degree => "degree",
+            TypeLimit::Coefficient => "coefficient",
+            TypeLimit::Scalars => "scalars",
+        })
+    }
+}
+
+/// Where a program is refused.
+#[derive(Debug, Drop)]
+pub enum Spot {
+    /// The input of this number in the order of declaration, from 0.
+    Input(u64),
+    /// The node at this place of the term.
+    Node(Place),
+}
+
+/// Why a program has no type, or none within the limits.
+#[derive(Debug, Drop)]
+pub enum TypeRefusal {
+    /// The first spot breaks this rule.
+    IllTyped {
+        spot: Spot,
+        rule: Rule,
+    },
+    /// The first spot passes this limit with this count. Arrays and components are counted up to 2^64 - 1.
+    Limit {
+        which: TypeLimit,
+        spot: Spot,
+        count: u128,
+    },
+    /// Want of memory.
+    Memory,
+}

@@ -1,0 +1,237 @@
+// The typing table: a form's type from its children's.
+
+ghost use Rattle.std.specs.Prelude.{◌≡◌, ◌≢◌, ◌≤◌, IfErr, IfOk, Err, Ok, Some, length};
+ghost use Rattle.lift_tree.specs.Types.{ty_of, PairOf};
+ghost use Rattle.pattern_types.specs.declared.fault.Fault.TheVariants.{Memory};
+ghost use Rattle.pattern_types.specs.Belonging.{FormIsNamed};
+ghost use Rattle.pattern_types.specs.Judged.{number_row, first_row, second_row, join_row, transpose_row, pieces_row, split_row, windows_row, slide_row, pad_row, unary_row, operator_row, pair_row, zip_row, reduce_row, binary_row, select_row};
+
+use crate::arrays::{formed, is_element};
+use crate::fault::{Fault, demanded};
+use crate::lengths::{
+    constant, difference, exact_quotient, is_same, product, product_of, shown, sum,
+};
+use crate::refusal::Rule;
+use lift_tree::term::{BinaryForm, UnaryForm};
+use lift_tree::ty::Ty;
+use size_arith::{Names, Poly};
+use std::alloc::{AllocError, Global};
+
+fn number(operand: &Ty) -> Result<Ty, Fault>
+    ensures ok { IfOk result (λ t. number_row (ty_of operand.now) ≡ Ok (ty_of t)) }
+    ensures refused { IfErr result (λ f. number_row (ty_of operand.now) ≡ Err f) }
+{
+    match operand {
+        Ty::Number => Ok(Ty::Number),
+        Ty::Pair(_, _) | Ty::Array(_, _) => Err(Fault::Breaks(Rule::Operator)),
+    }
+}
+
+fn first(alloc: Global, operand: &Ty) -> Result<Ty, Fault>
+    ensures ok { IfOk result (λ t. first_row (ty_of operand.now) ≡ Ok (ty_of t)) }
+    ensures refused { IfErr result (λ f. f ≢ Memory → first_row (ty_of operand.now) ≡ Err f) }
+{
+    match operand {
+        Ty::Pair(a, _) => Ok(a.copy(alloc)?),
+        Ty::Number | Ty::Array(_, _) => Err(Fault::Breaks(Rule::Project)),
+    }
+}
+
+fn second(alloc: Global, operand: &Ty) -> Result<Ty, Fault>
+    ensures ok { IfOk result (λ t. second_row (ty_of operand.now) ≡ Ok (ty_of t)) }
+    ensures refused { IfErr result (λ f. f ≢ Memory → second_row (ty_of operand.now) ≡ Err f) }
+{
+    match operand {
+        Ty::Pair(_, b) => Ok(b.copy(alloc)?),
+        Ty::Number | Ty::Array(_, _) => Err(Fault::Breaks(Rule::Project)),
+    }
+}
+
+fn join(alloc: Global, names: &Names, operand: &Ty) -> Result<Ty, Fault>
+    ensures ok { IfOk result (λ t. join_row names.now (ty_of operand.now) ≡ Ok (ty_of t)) }
+    ensures refused { IfErr result (λ f. f ≢ Memory → join_row names.now (ty_of operand.now) ≡ Err f) }
+{
+    match operand {
+        Ty::Array(row, outer) => match &**row {
+            Ty::Array(element, inner) => {
+                let all = product(alloc, outer, inner)?;
+                formed(alloc, names, element.copy(alloc)?, all)
+            }
+            Ty::Number | Ty::Pair(_, _) => Err(Fault::Breaks(Rule::Join)),
+        },
+        Ty::Number | Ty::Pair(_, _) => Err(Fault::Breaks(Rule::Join)),
+    }
+}
+
+fn transpose(alloc: Global, names: &Names, operand: &Ty) -> Result<Ty, Fault>
+    ensures ok { IfOk result (λ t. transpose_row names.now (ty_of operand.now) ≡ Ok (ty_of t)) }
+    ensures refused { IfErr result (λ f. f ≢ Memory → transpose_row names.now (ty_of operand.now) ≡ Err f) }
+{
+    match operand {
+        Ty::Array(row, outer) => match &**row {
+            Ty::Array(element, inner) => {
+                let column = formed(alloc, names, element.copy(alloc)?, outer.copy(alloc)?)?;
+                formed(alloc, names, column, inner.copy(alloc)?)
+            }
+            Ty::Number | Ty::Pair(_, _) => Err(Fault::Breaks(Rule::Transpose)),
+        },
+        Ty::Number | Ty::Pair(_, _) => Err(Fault::Breaks(Rule::Transpose)),
+    }
+}
+
+fn split(alloc: Global, names: &Names, piece: Poly, operand: &Ty) -> Result<Ty, Fault>
+    ensures ok { IfOk result (λ t. split_row names.now piece (ty_of operand.now) ≡ Ok (ty_of t)) }
+    ensures refused { IfErr result (λ f. f ≢ Memory → split_row names.now piece (ty_of operand.now) ≡ Err f) }
+{
+    match operand {
+        Ty::Array(element, whole) => match exact_quotient(alloc, &piece, whole)? {
+            Some(count) => {
+                let pieces = formed(alloc, names, element.copy(alloc)?, piece)?;
+                formed(alloc, names, pieces, count)
+            }
+            None => Err(Fault::Breaks(Rule::Split)),
+        },
+        Ty::Number | Ty::Pair(_, _) => Err(Fault::Breaks(Rule::Split)),
+    }
+}
+
+// The windows of this size, one more than the steps that fit.
+fn windows(alloc: Global, names: &Names, element: &Ty, size: u32, steps: &Poly) -> Result<Ty, Fault>
+    ensures ok { IfOk result (λ t. windows_row names.now (ty_of element.now) size (Some steps.now) ≡ Ok (ty_of t)) }
+    ensures refused { IfErr result (λ f. f ≢ Memory → windows_row names.now (ty_of element.now) size (Some steps.now) ≡ Err f) }
+{
+    let window = formed(alloc, names, element.copy(alloc)?, constant(alloc, size)?)?;
+    let count = sum(alloc, steps, &constant(alloc, 1)?)?;
+    formed(alloc, names, window, count)
+}
+
+fn slide(alloc: Global, names: &Names, size: u32, step: u32, operand: &Ty) -> Result<Ty, Fault>
+    ensures ok { IfOk result (λ t. slide_row names.now size step (ty_of operand.now) ≡ Ok (ty_of t)) }
+    ensures refused { IfErr result (λ f. f ≢ Memory → slide_row names.now size step (ty_of operand.now) ≡ Err f) }
+{
+    match operand {
+        Ty::Array(element, whole) => {
+            let left = difference(alloc, whole, &constant(alloc, size)?)?;
+            demanded(shown(0, names, &left), Rule::Slide)?;
+            match exact_quotient(alloc, &constant(alloc, step)?, &left)? {
+                Some(steps) => windows(alloc, names, element, size, &steps),
+                None => Err(Fault::Breaks(Rule::Slide)),
+            }
+        }
+        Ty::Number | Ty::Pair(_, _) => Err(Fault::Breaks(Rule::Slide)),
+    }
+}
+
+fn pad(alloc: Global, names: &Names, before: u32, after: u32, operand: &Ty) -> Result<Ty, Fault>
+    ensures ok { IfOk result (λ t. pad_row names.now before after (ty_of operand.now) ≡ Ok (ty_of t)) }
+    ensures refused { IfErr result (λ f. f ≢ Memory → pad_row names.now before after (ty_of operand.now) ≡ Err f) }
+{
+    match operand {
+        Ty::Array(element, whole) => {
+            let with_first = sum(alloc, &constant(alloc, before)?, whole)?;
+            let with_last = sum(alloc, &with_first, &constant(alloc, after)?)?;
+            formed(alloc, names, element.copy(alloc)?, with_last)
+        }
+        Ty::Number | Ty::Pair(_, _) => Err(Fault::Breaks(Rule::Pad)),
+    }
+}
+
+/// The type of a form with one child.
+pub fn unary(alloc: Global, names: &Names, form: &UnaryForm, operand: &Ty) -> Result<Ty, Fault>
+    requires { FormIsNamed (length names.now) form.now }
+    ensures ok { IfOk result (λ t. unary_row names.now form.now (ty_of operand.now) ≡ Ok (ty_of t)) }
+    ensures refused { IfErr result (λ f. f ≢ Memory → unary_row names.now form.now (ty_of operand.now) ≡ Err f) }
+{
+    match form {
+        UnaryForm::Div(_) | UnaryForm::Rem(_) => number(operand),
+        UnaryForm::First => first(alloc, operand),
+        UnaryForm::Second => second(alloc, operand),
+        UnaryForm::Join => join(alloc, names, operand),
+        UnaryForm::Transpose => transpose(alloc, names, operand),
+        UnaryForm::Split(piece) => {
+            let piece = product_of(alloc, names, piece)?;
+            split(alloc, names, piece, operand)
+        }
+        UnaryForm::Slide(size, step) => slide(alloc, names, *size, *step, operand),
+        UnaryForm::Pad(before, after) => pad(alloc, names, *before, *after, operand),
+        UnaryForm::ToLocal | UnaryForm::ToPrivate => Ok(operand.copy(alloc)?),
+    }
+}
+
+fn operator(a: &Ty, b: &Ty) -> Result<Ty, Fault>
+    ensures ok { IfOk result (λ t. operator_row (ty_of a.now) (ty_of b.now) ≡ Ok (ty_of t)) }
+    ensures refused { IfErr result (λ f. operator_row (ty_of a.now) (ty_of b.now) ≡ Err f) }
+{
+    number(a)?;
+    number(b)
+}
+
+fn pair(alloc: Global, a: &Ty, b: &Ty) -> Result<Ty, Fault>
+    ensures ok { IfOk result (λ t. pair_row (ty_of a.now) (ty_of b.now) ≡ Ok (ty_of t)) }
+    ensures refused { IfErr result (λ f. f ≢ Memory → pair_row (ty_of a.now) (ty_of b.now) ≡ Err f) }
+{
+    demanded(is_element(a) && is_element(b), Rule::Pair)?;
+    Ok(pair_of(alloc, a, b)?)
+}
+
+fn pair_of(alloc: Global, a: &Ty, b: &Ty) -> Result<Ty, AllocError>
+    ensures { IfOk result (λ t. ty_of t ≡ PairOf (ty_of a.now) (ty_of b.now)) }
+{
+    let first = Box::new(alloc, a.copy(alloc)?)?;
+    Ok(Ty::Pair(first, Box::new(alloc, b.copy(alloc)?)?))
+}
+
+fn zip(alloc: Global, names: &Names, a: &Ty, b: &Ty) -> Result<Ty, Fault>
+    ensures ok { IfOk result (λ t. zip_row names.now (ty_of a.now) (ty_of b.now) ≡ Ok (ty_of t)) }
+    ensures refused { IfErr result (λ f. f ≢ Memory → zip_row names.now (ty_of a.now) (ty_of b.now) ≡ Err f) }
+{
+    match a {
+        Ty::Array(first, length) => match b {
+            Ty::Array(second, other) => {
+                demanded(is_same(length, other), Rule::Zip)?;
+                let element = pair_of(alloc, first, second)?;
+                formed(alloc, names, element, length.copy(alloc)?)
+            }
+            Ty::Number | Ty::Pair(_, _) => Err(Fault::Breaks(Rule::Zip)),
+        },
+        Ty::Number | Ty::Pair(_, _) => Err(Fault::Breaks(Rule::Zip)),
+    }
+}
+
+fn reduce(alloc: Global, names: &Names, array: &Ty, start: &Ty) -> Result<Ty, Fault>
+    ensures ok { IfOk result (λ t. reduce_row names.now (ty_of array.now) (ty_of start.now) ≡ Ok (ty_of t)) }
+    ensures refused { IfErr result (λ f. f ≢ Memory → reduce_row names.now (ty_of array.now) (ty_of start.now) ≡ Err f) }
+{
+    match array {
+        Ty::Array(element, _) => match &**element {
+            Ty::Number => match start {
+                Ty::Number => formed(alloc, names, Ty::Number, constant(alloc, 1)?),
+                Ty::Pair(_, _) | Ty::Array(_, _) => Err(Fault::Breaks(Rule::Reduce)),
+            },
+            Ty::Pair(_, _) | Ty::Array(_, _) => Err(Fault::Breaks(Rule::Reduce)),
+        },
+        Ty::Number | Ty::Pair(_, _) => Err(Fault::Breaks(Rule::Reduce)),
+    }
+}
+
+/// The type of a form with two children and no binder.
+pub fn binary(alloc: Global, names: &Names, form: BinaryForm, a: &Ty, b: &Ty) -> Result<Ty, Fault>
+    ensures ok { IfOk result (λ t. binary_row names.now form (ty_of a.now) (ty_of b.now) ≡ Ok (ty_of t)) }
+    ensures refused { IfErr result (λ f. f ≢ Memory → binary_row names.now form (ty_of a.now) (ty_of b.now) ≡ Err f) }
+{
+    match form {
+        BinaryForm::Operator(_) => operator(a, b),
+        BinaryForm::Pair => pair(alloc, a, b),
+        BinaryForm::Zip => zip(alloc, names, a, b),
+        BinaryForm::Reduce(_) => reduce(alloc, names, a, b),
+    }
+}
+
+/// The type of a `select`.
+pub fn select(a: &Ty, b: &Ty, c: &Ty) -> Result<Ty, Fault>
+    ensures ok { IfOk result (λ t. select_row (ty_of a.now) (ty_of b.now) (ty_of c.now) ≡ Ok (ty_of t)) }
+    ensures refused { IfErr result (λ f. select_row (ty_of a.now) (ty_of b.now) (ty_of c.now) ≡ Err f) }
+{
+    operator(a, b)?;
+    number(c)
+}

@@ -1,0 +1,29 @@
+-- Definitions that stay shut, so that proofs see their arguments.
+use Rattle.std.specs.Prelude.{ℕ, List, [], ◌∷◌, map, reverse}
+use Rattle.scalar_ops.specs.declared.op.Reducer.{Reducer}
+use Rattle.scalar_ops.specs.Operators.{combine}
+use Rattle.lift_tree.specs.declared.value.Val.{Val}
+use Rattle.lift_tree.specs.Lists.{fold_left}
+use Rattle.lift_tree.specs.Meaning.{World, meaning}
+use Rattle.lift_tree.specs.Tree.{Tree}
+use Rattle.lift_tree.specs.Values.{Value, Word, value_of, word, members, nth}
+
+-- the values of binders that a stack holds, the nearest first; the stack has it last
+abbrev pub stack : List Val → List Value
+stack vs = reverse (map value_of vs)
+
+-- the members of the rows at this number
+abbrev pub column : ℕ → List Val → List Value
+column n rows = map (λ row. nth (members (value_of row)) n) rows
+
+-- the body's value at each of a list
+unfoldable pub map_under : World → List Value → Tree → List Value → List Value
+map_under w vs b xs = map (λ x. meaning w (x ∷ vs) b) xs
+
+-- the fold of a list by the body
+unfoldable pub fold_under : World → List Value → Tree → Value → List Value → Value
+fold_under w vs b a xs = fold_left (λ a x. meaning w (x ∷ a ∷ vs) b) a xs
+
+-- the fold of a list by an operator
+unfoldable pub fold_by : Reducer → Value → List Value → Value
+fold_by r a xs = fold_left (λ a x. Word (combine r (word a) (word x))) a xs

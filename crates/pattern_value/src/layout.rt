@@ -1,0 +1,175 @@
+// The patterns that lay out the members of lists anew.
+
+ghost use Rattle.std.specs.Prelude.{◌≡◌, ◌++◌, ◌∷◌, [], ◌/◌, IfOk, OnOk, map, replicate, length, take, drop};
+ghost use Rattle.lift_tree.specs.Values.{Both, value_of, members, array, nth};
+ghost use Rattle.lift_tree.specs.Lists.{concat, zip_with, pieces, pieces_that_fit, padded, width, columns};
+ghost use Rattle.lift_tree.specs.Meaning.{rows, array_of_rows};
+ghost use Rattle.pattern_value.specs.Shut.{column};
+
+use crate::part::{all_copied, copied, copied_at, into_members, list, members_of};
+use lift_tree::value::Val;
+use std::alloc::{AllocError, Global};
+
+/// The rows one after another.
+#[tactic(auto, using(crate::proofs::Layouts::joins))]
+pub fn joined(alloc: Global, v: Val) -> Result<Val, AllocError>
+    ensures { IfOk result (λ u. value_of u ≡ array (concat (rows (value_of v)))) }
+{
+    let mut all = Vec::new(alloc);
+    for row in into_members(alloc, v) {
+        append(alloc, &mut all, row)?;
+    }
+    Ok(list(all))
+}
+
+#[tactic(auto, using(crate::proofs::Layouts::joins))]
+fn append(alloc: Global, all: &mut Vec<Val>, row: Val) -> Result<(), AllocError>
+    ensures { OnOk result (map value_of all.new.items ≡ map value_of all.old.items ++ members (value_of row)) }
+{
+    for x in into_members(alloc, row) {
+        all.push(x)?;
+    }
+    Ok(())
+}
+
+/// The columns, as many as the first row is long; where a row is shorter its members are 0.
+#[tactic(auto, using(crate::proofs::Layouts::transposes))]
+pub fn transposed(alloc: Global, v: &Val) -> Result<Val, AllocError>
+    ensures { IfOk result (λ u. value_of u ≡ array_of_rows (columns (width (rows (value_of v.now))) (rows (value_of v.now)))) }
+{
+    let rows = members_of(v);
+    let mut columns = Vec::new(alloc);
+    for index in 0..width_of(rows) {
+        columns.push(column_at(alloc, rows, index)?)?;
+    }
+    Ok(list(columns))
+}
+
+#[tactic(auto, using(crate::proofs::Layouts::transposes))]
+fn width_of(rows: &[Val]) -> usize
+    ensures { result ≡ width (map members (map value_of rows.now)) }
+{
+    match rows {
+        [] => 0,
+        [row, ..] => members_of(row).len(),
+    }
+}
+
+#[tactic(auto, using(crate::proofs::Layouts::transposes))]
+fn column_at(alloc: Global, rows: &[Val], index: usize) -> Result<Val, AllocError>
+    ensures { IfOk result (λ u. value_of u ≡ array (column index rows.now)) }
+{
+    let mut all = Vec::new(alloc);
+    for row in rows {
+        all.push(member_at(alloc, row, index)?)?;
+    }
+    Ok(list(all))
+}
+
+fn member_at(alloc: Global, row: &Val, index: usize) -> Result<Val, AllocError>
+    ensures { IfOk result (λ x. value_of x ≡ nth (members (value_of row.now)) index) }
+{
+    copied_at(alloc, members_of(row), index)
+}
+
+/// So many pieces of `size` members, each `step` members further on.
+#[tactic(auto, using(crate::proofs::Layouts::cuts))]
+pub fn cut(
+    alloc: Global,
+    xs: &[Val],
+    count: usize,
+    size: usize,
+    step: usize,
+) -> Result<Val, AllocError>
+    ensures { IfOk result (λ u. value_of u ≡ array_of_rows (pieces count size step (map value_of xs.now))) }
+{
+    let mut rows = Vec::new(alloc);
+    let mut rest = xs;
+    let mut left = count;
+    while left > 0 {
+        rows.push(list(all_copied(alloc, taken(rest, size))?))?;
+        rest = dropped(rest, step);
+        left -= 1;
+    }
+    Ok(list(rows))
+}
+
+#[tactic(auto, using(crate::proofs::Layouts::take_min))]
+fn taken(xs: &[Val], count: usize) -> &[Val]
+    ensures { result.now ≡ take count xs.now }
+{
+    &xs[..count.min(xs.len())]
+}
+
+#[tactic(auto, using(crate::proofs::Layouts::drop_beyond))]
+fn dropped(xs: &[Val], count: usize) -> &[Val]
+    ensures { result.now ≡ drop count xs.now }
+{
+    if count <= xs.len() { &xs[count..] } else { &[] }
+}
+
+/// The pieces of `size` members that begin at 0 and at each multiple of `step`, while they fit.
+#[tactic(auto, using(crate::proofs::Layouts::counts))]
+pub fn slid(alloc: Global, v: &Val, size: u32, step: u32) -> Result<Val, AllocError>
+    ensures { IfOk result (λ u. value_of u ≡ array_of_rows (pieces (pieces_that_fit size step (length (members (value_of v.now)))) size step (members (value_of v.now)))) }
+{
+    let xs = members_of(v);
+    let (size, step) = (size as usize, step as usize);
+    let count = if step == 0 {
+        0
+    } else {
+        (xs.len() + step).saturating_sub(size) / step
+    };
+    cut(alloc, xs, count, size, step)
+}
+
+/// So many copies of the first member before, and so many of the last after.
+#[tactic(auto, using(crate::proofs::Layouts::pads))]
+pub fn pad(alloc: Global, v: &Val, before: u32, after: u32) -> Result<Val, AllocError>
+    ensures { IfOk result (λ u. value_of u ≡ array (padded before after (members (value_of v.now)))) }
+{
+    let xs = members_of(v);
+    let mut all = Vec::new(alloc);
+    let first = copied_at(alloc, xs, 0)?;
+    repeat(alloc, &mut all, &first, before)?;
+    extend(alloc, &mut all, xs)?;
+    let last = copied_at(alloc, xs, xs.len().saturating_sub(1))?;
+    repeat(alloc, &mut all, &last, after)?;
+    Ok(list(all))
+}
+
+#[tactic(auto, using(crate::proofs::Layouts::pads))]
+fn repeat(alloc: Global, all: &mut Vec<Val>, v: &Val, count: u32) -> Result<(), AllocError>
+    ensures { OnOk result (map value_of all.new.items ≡ map value_of all.old.items ++ replicate count (value_of v.now)) }
+{
+    for index in 0..count {
+        all.push(copied(alloc, v)?)?;
+    }
+    Ok(())
+}
+
+#[tactic(auto, using(crate::proofs::Layouts::pads))]
+fn extend(alloc: Global, all: &mut Vec<Val>, xs: &[Val]) -> Result<(), AllocError>
+    ensures { OnOk result (map value_of all.new.items ≡ map value_of all.old.items ++ map value_of xs.now) }
+{
+    for x in xs {
+        all.push(copied(alloc, x)?)?;
+    }
+    Ok(())
+}
+
+/// The pairs of the members of two lists, as many as the shorter has.
+#[tactic(auto, using(crate::proofs::Layouts::zips))]
+pub fn zipped(alloc: Global, v: &Val, u: &Val) -> Result<Val, AllocError>
+    ensures { IfOk result (λ w. value_of w ≡ array (zip_with Both (members (value_of v.now)) (members (value_of u.now)))) }
+{
+    let xs = members_of(v);
+    let ys = members_of(u);
+    let mut pairs = Vec::new(alloc);
+    for index in 0..xs.len().min(ys.len()) {
+        let x = Box::new(alloc, copied_at(alloc, xs, index)?)?;
+        let y = Box::new(alloc, copied_at(alloc, ys, index)?)?;
+        pairs.push(Val::Pair(x, y))?;
+    }
+    Ok(list(pairs))
+}

@@ -1,0 +1,7 @@
+pub mod Readings
+pub mod Running
+pub mod Meanings
+pub mod Views
+pub mod Exactly
+pub mod Told
+pub mod Nests

@@ -1,0 +1,12 @@
+-- The conditions' names in messages.
+use Rattle.std.specs.Prelude.{ℕ, List, codes}
+use Rattle.rewriting.specs.declared.refused.Condition.{Condition}
+use Rattle.rewriting.specs.declared.refused.Condition.TheVariants.{Positive, Divides, Length, Same, Mentions, Array}
+
+abbrev pub condition_name : Condition → List ℕ
+condition_name Positive = codes "positive"
+condition_name Divides = codes "divides"
+condition_name Length = codes "length"
+condition_name Same = codes "same"
+condition_name Mentions = codes "mentions"
+condition_name Array = codes "array"

@@ -1,0 +1,5 @@
+pub mod Answers
+pub mod Around
+pub mod Conditions
+pub mod Keeps
+pub mod Laws

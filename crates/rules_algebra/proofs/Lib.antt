@@ -1,0 +1,9 @@
+pub mod Kept
+pub mod Lists
+pub mod Polynomials
+pub mod Rest
+pub mod Ruled
+pub mod Split
+pub mod Typed
+pub mod Unnamed
+pub mod Values

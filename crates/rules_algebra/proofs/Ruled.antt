@@ -1,0 +1,254 @@
+-- Each rule keeps type and value.
+use Rattle.std.proofs.Common.{◌≡◌, ℕ, zero, Bool, true, false, Some, List, [], ◌∷◌, refl, sym, ap, ◌∙◌, subst, arith}
+use Rattle.std.specs.Prelude.{Result, Ok, Err, IfOk, IsTrue, if◌then◌else◌, ◌&&◌, ◌↔◌, nat_eq}
+use Rattle.std.specs.Ordering.{int_eq}
+use Rattle.std.proofs.lemmas.Bool.Decides.{nat_tests, Decides-int_eq}
+use Rattle.size_arith.specs.declared.poly.Monomial.{Monomial}
+use Rattle.size_arith.specs.Polynomial.{of_monomial, times, quotient}
+use Rattle.lift_tree.specs.declared.length.Factor.{Factor}
+use Rattle.lift_tree.specs.declared.term.Term.{Term}
+use Rattle.lift_tree.specs.declared.term.UnaryForm.{UnaryForm}
+use Rattle.lift_tree.specs.declared.term.MapKind.TheVariants.{Plain}
+use Rattle.lift_tree.specs.declared.term.FoldKind.TheVariants as fold
+use Rattle.lift_tree.specs.declared.term.UnaryForm.TheVariants.{Join, Split, Transpose, Pad}
+use Rattle.lift_tree.specs.Tree.{Tree, Variable, Unary, Let, Map, Fold, tree_of}
+use Rattle.lift_tree.specs.Renumbering.{substitute, mentions}
+use Rattle.lift_tree.specs.WorkedOut.{product_of}
+use Rattle.lift_tree.specs.Types.{PlainTy, U32, PairOf, ArrayOf}
+use Rattle.lift_tree.specs.Typing.{Declared, Types, UnaryRow}
+use Rattle.lift_tree.specs.Annotations.{Annotation, Leaf, One, Two, Three, Annotates, type_in}
+use Rattle.lift_tree.proofs.Annotated.{annotated_is_typed}
+use Rattle.rewriting.specs.declared.refused.Condition.TheVariants.{Same, Mentions, Array}
+use Rattle.rewriting.specs.declared.refused.Refused.{Refused}
+use Rattle.rewriting.specs.Answers.{Answer, Becomes, NoSide, IsAnswer}
+use Rattle.rewriting.specs.Around.{Around, IsAround}
+use Rattle.rewriting.specs.Keeps.{Keeps, KeepsIn}
+use Rattle.rules_algebra.specs.Fusing.{fuse_map, fuse_fold}
+use Rattle.rules_algebra.specs.Inlining.{let_inline, copy, is_array}
+use Rattle.rules_algebra.specs.Layouts.{join_split, split_join, transpose_transpose, map_join, map_split, map_transpose, without, row_length, same_lengths, child, same, same_powers, PiecesHaveTheirLength}
+use Rattle.rules_algebra.specs.Padding.{pad_map, map_pad}
+use Rattle.rules_algebra.specs.Shapes.{HasPolynomial}
+use Rattle.rules_algebra.proofs.Kept.{fuse_map_keeps, fuse_fold_keeps, let_inline_keeps, map_join_keeps, map_split_keeps, map_transpose_keeps, pad_map_keeps, map_pad_keeps, transpose_transpose_keeps, copy_keeps}
+use Rattle.rules_algebra.proofs.Split.{join_split_keeps, split_join_keeps}
+
+became : (t u : Tree) → Becomes t ≡ Becomes u → t ≡ u
+became t u e = cc
+
+-- what keeps the term's type and value, where it is what the rule gives
+kept : (d : Declared) (g : List PlainTy) (t u v : Tree) → Becomes u ≡ Becomes v → Keeps d g t u → Keeps d g t v
+kept d g t u v e k = subst (Keeps d g t) (became u v e) k
+
+whole : (d : Declared) (a : Around) (t : Tree) → IsAround d a t → Types d a.binders t (type_in a.types)
+whole d a t h = annotated_is_typed d a.binders t a.types h.nodes
+
+fuse_map_rule : (a : Around) (t u : Tree) → fuse_map t ≡ Becomes u → KeepsIn a t u
+fuse_map_rule a (Map Plain (Map Plain xs b) f) u e d h = kept d a.binders _ _ u e (fuse_map_keeps d a.binders xs b f)
+fuse_map_rule a _ u e d h = cc
+
+fuse_fold_rule : (a : Around) (t u : Tree) → fuse_fold t ≡ Becomes u → KeepsIn a t u
+fuse_fold_rule a (Fold fold.Plain (Map Plain xs b) s f) u e d h = kept d a.binders _ _ u e (fuse_fold_keeps d a.binders xs b s f)
+fuse_fold_rule a _ u e d h = cc
+
+let_inline_rule : (a : Around) (t u : Tree) → let_inline t ≡ Becomes u → KeepsIn a t u
+let_inline_rule a (Let v b) u e d h = kept d a.binders (Let v b) (substitute b v) u e (let_inline_keeps d a.binders v b)
+let_inline_rule a _ u e d h = cc
+
+copy_rule : (a : Around) (t u : Tree) → copy a t ≡ Becomes u → KeepsIn a t u
+copy_rule a t u e d h = go (type_in a.types) (whole d a t h) e
+  where
+    go : (b : PlainTy) → Types d a.binders t b → (if is_array b then Becomes (Map Plain t (Variable 0)) else NoSide Array) ≡ Becomes u → Keeps d a.binders t u
+    go U32 ty e = cc
+    go (PairOf x y) ty e = cc
+    go (ArrayOf x n) ty e = kept d a.binders t (Map Plain t (Variable 0)) u e (copy_keeps d a.binders h.declared h.binders t x n ty)
+
+transpose_transpose_rule : (a : Around) (t u : Tree) → transpose_transpose t ≡ Becomes u → KeepsIn a t u
+transpose_transpose_rule a (Unary Transpose (Unary Transpose xs)) u e d h = kept d a.binders (Unary Transpose (Unary Transpose xs)) xs u e (transpose_transpose_keeps d a.binders h.declared h.binders xs (type_in a.types) (whole d a _ h))
+transpose_transpose_rule a _ u e d h = cc
+
+map_join_rule : (a : Around) (t u : Tree) → map_join t ≡ Becomes u → KeepsIn a t u
+map_join_rule a (Map Plain (Unary Join xs) f) u e d h = kept d a.binders _ _ u e (map_join_keeps d a.binders h.declared h.binders xs f)
+map_join_rule a _ u e d h = cc
+
+map_split_rule : (a : Around) (t u : Tree) → map_split t ≡ Becomes u → KeepsIn a t u
+map_split_rule a (Map Plain (Unary (Split fs) xs) (Map Plain (Variable zero) f)) u e d h = go (mentions 1 f) refl e
+  where
+    go : (b : Bool) → mentions 1 f ≡ b → (if b then NoSide Mentions else Becomes (Unary (Split fs) (Map Plain xs (without 1 f)))) ≡ Becomes u → Keeps d a.binders (Map Plain (Unary (Split fs) xs) (Map Plain (Variable zero) f)) u
+    go true m e = cc
+    go false m e = kept d a.binders _ _ u e (map_split_keeps d a.binders h.declared h.binders xs f fs m)
+map_split_rule a _ u e d h = cc
+
+map_transpose_rule : (a : Around) (t u : Tree) → map_transpose t ≡ Becomes u → KeepsIn a t u
+map_transpose_rule a (Map Plain (Unary Transpose xs) (Map Plain (Variable zero) f)) u e d h = go (mentions 1 f) refl e
+  where
+    go : (b : Bool) → mentions 1 f ≡ b → (if b then NoSide Mentions else Becomes (Unary Transpose (Map Plain xs (Map Plain (Variable 0) f)))) ≡ Becomes u → Keeps d a.binders (Map Plain (Unary Transpose xs) (Map Plain (Variable zero) f)) u
+    go true m e = cc
+    go false m e = kept d a.binders _ _ u e (map_transpose_keeps d a.binders h.declared h.binders xs f (type_in a.types) m (whole d a _ h))
+map_transpose_rule a _ u e d h = cc
+
+pad_map_rule : (a : Around) (t u : Tree) → pad_map t ≡ Becomes u → KeepsIn a t u
+pad_map_rule a (Unary (Pad l k) (Map Plain xs f)) u e d h = kept d a.binders _ _ u e (pad_map_keeps d a.binders h.declared h.binders l k xs f (type_in a.types) (whole d a _ h))
+pad_map_rule a _ u e d h = cc
+
+map_pad_rule : (a : Around) (t u : Tree) → map_pad t ≡ Becomes u → KeepsIn a t u
+map_pad_rule a (Map Plain (Unary (Pad l k) xs) f) u e d h = kept d a.binders _ _ u e (map_pad_keeps d a.binders h.declared h.binders l k xs f (type_in a.types) (whole d a _ h))
+map_pad_rule a _ u e d h = cc
+
+-- ---- the types of nodes below
+below : (d : Declared) (g : List PlainTy) (f : UnaryForm) (t : Tree) (n : Annotation) → Annotates d g (Unary f t) n → Annotates d g t (child n) × UnaryRow d.names f (type_in (child n)) (type_in n)
+below d g f t (Leaf a) h = absurd h
+below d g f t (One a n) h = h
+below d g f t (Two a n m) h = absurd h
+below d g f t (Three a n m k) h = absurd h
+
+-- ---- join over split
+pub join_split_rule : (a : Around) (t u : Tree) → join_split t ≡ Becomes u → HasPolynomial (type_in (child (child a.types))) → KeepsIn a t u
+join_split_rule a (Unary Join (Unary (Split fs) xs)) u e p d h =
+    let first = below d a.binders Join (Unary (Split fs) xs) a.types h.nodes in
+    let second = below d a.binders (Split fs) xs (child a.types) first.0 in
+    kept d a.binders (Unary Join (Unary (Split fs) xs)) xs u e
+    (join_split_keeps d a.binders h.declared h.binders xs fs (type_in a.types) (type_in (child (child a.types))) (whole d a _ h) (annotated_is_typed d a.binders xs (child (child a.types)) second.0) p)
+join_split_rule a _ u e p d h = cc
+
+-- ---- split over join
+record SplitOfJoin (d : Declared) (a : Around) (fs : List Factor) (xs : Tree) : Type 0 where
+  x : PlainTy
+  m : List Monomial
+  n : List Monomial
+  q : List Monomial
+  rows : type_in (child (child a.types)) ≡ ArrayOf (ArrayOf x m) n
+  pieces : type_in a.types ≡ ArrayOf (ArrayOf x (of_monomial (product_of a.names fs))) q
+  typed : Types d a.binders xs (type_in (child (child a.types)))
+
+array_same : (x y : PlainTy) (m n : List Monomial) → ArrayOf x m ≡ ArrayOf y n → x ≡ y
+array_same x y m n e = cc
+
+split_of_join : (d : Declared) (a : Around) (fs : List Factor) (xs : Tree) → IsAround d a (Unary (Split fs) (Unary Join xs)) → SplitOfJoin d a fs xs
+split_of_join d a fs xs h =
+    let first = below d a.binders (Split fs) (Unary Join xs) a.types h.nodes in
+    let second = below d a.binders Join xs (child a.types) first.0 in
+    let s = first.1 in
+    let r = second.1 in
+    let e = array_same s.0 r.0 s.1 (times r.2 r.1) (sym s.2 ∙ r.4) in
+    record {
+      x = r.0;
+      m = r.1;
+      n = r.2;
+      q = quotient (product_of d.names fs) s.1;
+      rows = r.3;
+      pieces = s.4
+          ∙ ap (λ z. ArrayOf (ArrayOf z (of_monomial (product_of d.names fs))) (quotient (product_of d.names fs) s.1)) e
+          ∙ ap (λ z. ArrayOf (ArrayOf r.0 (of_monomial (product_of z fs))) (quotient (product_of d.names fs) s.1)) (sym h.names);
+      typed = annotated_is_typed d a.binders xs (child (child a.types)) second.0;
+    }
+
+pub pieces_have_their_length : PiecesHaveTheirLength
+pieces_have_their_length d a fs xs h =
+    let s = (below d a.binders (Split fs) xs a.types h.nodes).1 in
+    ap row_length s.4 ∙ ap (λ z. Some (of_monomial (product_of z fs))) (sym h.names)
+
+-- ---- lengths compared
+and_left : (a b : Bool) → (a && b) ≡ true → a ≡ true
+and_left true b h = refl
+and_left false b h = h
+
+and_right : (a b : Bool) → (a && b) ≡ true → b ≡ true
+and_right true b h = h
+and_right false b h = absurd (cc)
+
+both : (a b : Bool) → a ≡ true → b ≡ true → (a && b) ≡ true
+both a b p q = ap (λ z. z && b) p ∙ q
+
+number_is : (m n : ℕ) → nat_eq m n ≡ true → m ≡ n
+number_is m n h = grind (arith, nat_tests)
+
+number_same : (m : ℕ) → nat_eq m m ≡ true
+number_same m = grind (arith, nat_tests)
+
+powers_are : (ms ns : List ℕ) → same_powers ms ns ≡ true → ms ≡ ns
+powers_are [] [] h = refl
+powers_are [] (n ∷ ns) h = cc
+powers_are (m ∷ ms) [] h = cc
+powers_are (m ∷ ms) (n ∷ ns) h =
+    let a = number_is m n (and_left (nat_eq m n) (same_powers ms ns) h) in
+    let b = powers_are ms ns (and_right (nat_eq m n) (same_powers ms ns) h) in
+    cc
+
+powers_same : (ms : List ℕ) → same_powers ms ms ≡ true
+powers_same [] = refl
+powers_same (m ∷ ms) = both (nat_eq m m) (same_powers ms ms) (number_same m) (powers_same ms)
+
+are : (p q : List Monomial) → same p q ≡ true → p ≡ q
+are [] [] h = refl
+are [] (n ∷ q) h = cc
+are (m ∷ p) [] h = cc
+are (m ∷ p) (n ∷ q) h =
+    let first = and_left (int_eq m.coefficient n.coefficient && same_powers m.powers n.powers) (same p q) h in
+    let c = (Decides-int_eq m.coefficient n.coefficient).0 (and_left (int_eq m.coefficient n.coefficient) (same_powers m.powers n.powers) first) in
+    let k = powers_are m.powers n.powers (and_right (int_eq m.coefficient n.coefficient) (same_powers m.powers n.powers) first) in
+    let e : m ≡ n = λ i. record { coefficient = c i; powers = k i } in
+    ap (λ x. x ∷ p) e ∙ ap (λ r. n ∷ r) (are p q (and_right (int_eq m.coefficient n.coefficient && same_powers m.powers n.powers) (same p q) h))
+
+is_same : (p : List Monomial) → same p p ≡ true
+is_same [] = refl
+is_same (m ∷ p) =
+    both (int_eq m.coefficient m.coefficient && same_powers m.powers m.powers) (same p p)
+    (both (int_eq m.coefficient m.coefficient) (same_powers m.powers m.powers) ((Decides-int_eq m.coefficient m.coefficient).1 refl) (powers_same m.powers))
+    (is_same p)
+
+pub same_decided : (r : Bool) (p q : List Monomial) → (IsTrue r ↔ (p ≡ q)) → r ≡ same p q
+same_decided true p q h = sym (ap (same p) (sym (h.0 refl)) ∙ is_same p)
+same_decided false p q h = go (same p q) refl
+  where
+    go : (b : Bool) → same p q ≡ b → false ≡ b
+    go true e = absurd (let f = h.1 (are p q e) in cc)
+    go false e = refl
+
+pub split_join_rule : (a : Around) (t u : Tree) → split_join a t ≡ Becomes u → HasPolynomial (type_in (child (child a.types))) → KeepsIn a t u
+split_join_rule a (Unary (Split fs) (Unary Join xs)) u e p d h =
+    go (split_of_join d a fs xs h) (same_lengths (row_length (type_in (child (child a.types)))) (row_length (type_in a.types))) refl e
+  where
+    go : (s : SplitOfJoin d a fs xs) (b : Bool) → same_lengths (row_length (type_in (child (child a.types)))) (row_length (type_in a.types)) ≡ b → (if b then Becomes xs else NoSide Same) ≡ Becomes u → Keeps d a.binders (Unary (Split fs) (Unary Join xs)) u
+    go s true m e =
+        let equal : same s.m (of_monomial (product_of a.names fs)) ≡ true =
+        sym (ap (λ z. same_lengths (row_length z) (row_length (type_in a.types))) s.rows ∙ ap (λ z. same_lengths (Some s.m) (row_length z)) s.pieces) ∙ m in
+        let i = are s.m (of_monomial (product_of a.names fs)) equal ∙ ap (λ z. of_monomial (product_of z fs)) h.names in
+        kept d a.binders (Unary (Split fs) (Unary Join xs)) xs u e
+        (split_join_keeps d a.binders h.declared h.binders xs fs (type_in a.types) s.x s.m s.n (whole d a _ h) (subst (Types d a.binders xs) s.rows s.typed) (subst HasPolynomial s.rows p) i)
+    go s false m e = cc
+split_join_rule a _ u e p d h = cc
+
+-- ---- the calls' answers
+pub result_keeps : (a : Around) (said : Answer) (t : Term) (r : Result Term Refused) → ((u : Tree) → said ≡ Becomes u → KeepsIn a (tree_of t) u) → IsAnswer said t r → IfOk r (λ u. KeepsIn a (tree_of t) (tree_of u))
+result_keeps a said t (Ok u) k h = k (tree_of u) h
+result_keeps a said t (Err e) k h = tt
+
+module _ (a : Around) (t : Term) (r : Result Term Refused) where
+  pub fuse_map_result : IsAnswer (fuse_map (tree_of t)) t r → IfOk r (λ u. KeepsIn a (tree_of t) (tree_of u))
+  fuse_map_result h = result_keeps a _ t r (fuse_map_rule a (tree_of t)) h
+
+  pub fuse_fold_result : IsAnswer (fuse_fold (tree_of t)) t r → IfOk r (λ u. KeepsIn a (tree_of t) (tree_of u))
+  fuse_fold_result h = result_keeps a _ t r (fuse_fold_rule a (tree_of t)) h
+
+  pub transpose_transpose_result : IsAnswer (transpose_transpose (tree_of t)) t r → IfOk r (λ u. KeepsIn a (tree_of t) (tree_of u))
+  transpose_transpose_result h = result_keeps a _ t r (transpose_transpose_rule a (tree_of t)) h
+
+  pub map_join_result : IsAnswer (map_join (tree_of t)) t r → IfOk r (λ u. KeepsIn a (tree_of t) (tree_of u))
+  map_join_result h = result_keeps a _ t r (map_join_rule a (tree_of t)) h
+
+  pub map_split_result : IsAnswer (map_split (tree_of t)) t r → IfOk r (λ u. KeepsIn a (tree_of t) (tree_of u))
+  map_split_result h = result_keeps a _ t r (map_split_rule a (tree_of t)) h
+
+  pub map_transpose_result : IsAnswer (map_transpose (tree_of t)) t r → IfOk r (λ u. KeepsIn a (tree_of t) (tree_of u))
+  map_transpose_result h = result_keeps a _ t r (map_transpose_rule a (tree_of t)) h
+
+  pub pad_map_result : IsAnswer (pad_map (tree_of t)) t r → IfOk r (λ u. KeepsIn a (tree_of t) (tree_of u))
+  pad_map_result h = result_keeps a _ t r (pad_map_rule a (tree_of t)) h
+
+  pub map_pad_result : IsAnswer (map_pad (tree_of t)) t r → IfOk r (λ u. KeepsIn a (tree_of t) (tree_of u))
+  map_pad_result h = result_keeps a _ t r (map_pad_rule a (tree_of t)) h
+
+  pub let_inline_result : IsAnswer (let_inline (tree_of t)) t r → IfOk r (λ u. KeepsIn a (tree_of t) (tree_of u))
+  let_inline_result h = result_keeps a _ t r (let_inline_rule a (tree_of t)) h
+
+  pub copy_result : IsAnswer (copy a (tree_of t)) t r → IfOk r (λ u. KeepsIn a (tree_of t) (tree_of u))
+  copy_result h = result_keeps a _ t r (copy_rule a (tree_of t)) h

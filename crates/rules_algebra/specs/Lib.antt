@@ -1,0 +1,6 @@
+pub mod Fusing
+pub mod Inlining
+pub mod Layouts
+pub mod Padding
+pub mod Rows
+pub mod Shapes

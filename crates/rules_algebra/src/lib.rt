@@ -1,0 +1,15 @@
+//! Twelve rewrite rules of Lift (ICFP 2015, CGO 2018): those that rest on the patterns' algebra alone.
+#![tactic(auto)]
+
+mod fusing;
+mod inlining;
+pub mod laws;
+mod layouts;
+mod node_types;
+mod padding;
+mod parts;
+pub mod rule;
+#[cfg(test)]
+mod tests;
+
+pub use rule::{Rule, apply};

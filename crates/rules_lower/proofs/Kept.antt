@@ -1,0 +1,111 @@
+-- The rules keep types and values.
+use Rattle.std.proofs.Common.{◌≡◌, List, [], ◌∷◌, refl, sym, ap, ◌∙◌, subst}
+use Rattle.std.specs.Prelude.{map, if◌then◌else◌, Result, Ok, Err, IfOk}
+use Rattle.size_arith.specs.declared.poly.Monomial.{Monomial}
+use Rattle.lift_tree.specs.declared.term.MapKind.{MapKind}
+use Rattle.lift_tree.specs.declared.term.MapKind.TheVariants as kind
+use Rattle.lift_tree.specs.declared.term.FoldKind.TheVariants as fold
+use Rattle.lift_tree.specs.declared.term.UnaryForm.{UnaryForm}
+use Rattle.lift_tree.specs.declared.term.UnaryForm.TheVariants as unary
+use Rattle.lift_tree.specs.declared.term.Term.{Term}
+use Rattle.lift_tree.specs.Tree.{Tree, tree_of, Variable, Unary, Map, Fold}
+use Rattle.lift_tree.specs.Values.{Value, array, members}
+use Rattle.lift_tree.specs.Meaning.{World, meaning, unary_value}
+use Rattle.lift_tree.specs.Types.{PlainTy, U32, PairOf, ArrayOf}
+use Rattle.lift_tree.specs.Typing.{Declared, UnaryRow, Types}
+use Rattle.lift_tree.specs.Annotations.{type_in}
+use Rattle.lift_tree.proofs.Annotated.{annotated_is_typed}
+use Rattle.lift_tree.proofs.Members.{members-array}
+use Rattle.lift_tree.proofs.Sound.{values_have_types}
+use Rattle.lift_tree.proofs.Unique.{one_type}
+use Rattle.rewriting.specs.declared.refused.Condition.TheVariants.{Array}
+use Rattle.rewriting.specs.Around.{Around}
+use Rattle.rewriting.specs.declared.refused.Refused.{Refused}
+use Rattle.rewriting.specs.Answers.{Becomes, NoSide, IsAnswer}
+use Rattle.rewriting.specs.Keeps.{KeepsIn}
+use Rattle.rules_lower.specs.declared.rule.Rule.{Rule}
+use Rattle.rules_lower.specs.declared.rule.Rule.TheVariants.{ToGlobal, ToWorkGroup, ToLocal, ToSequential, FoldSequential, Local, Private, LocalCopy, PrivateCopy}
+use Rattle.rules_lower.specs.Rules.{answer, mapped, folded, is_array, copied}
+use Rattle.rules_lower.specs.Laws.{LoweringKeeps}
+
+becomes_of : (t u : Tree) → Becomes t ≡ Becomes u → t ≡ u
+becomes_of t u e = cc
+
+-- how a map or a fold is run changes neither type nor value
+run_so : (a : Around) (h k : MapKind) (xs b : Tree) → KeepsIn a (Map h xs b) (Map k xs b)
+run_so a h k xs b d around = record { typed = λ ty p. p; value = λ w vs ok all. refl }
+
+mapped_keeps : (k : MapKind) (a : Around) (t u : Tree) → mapped k t ≡ Becomes u → KeepsIn a t u
+mapped_keeps k a (Map kind.Plain xs b) u e = subst (KeepsIn a (Map kind.Plain xs b)) (becomes_of (Map k xs b) u e) (run_so a kind.Plain k xs b)
+mapped_keeps k a _ u e = absurd (cc)
+
+folded_keeps : (a : Around) (t u : Tree) → folded t ≡ Becomes u → KeepsIn a t u
+folded_keeps a (Fold fold.Plain xs s b) u e =
+    subst (KeepsIn a (Fold fold.Plain xs s b)) (becomes_of (Fold fold.Sequential xs s b) u e) (λ d around. record { typed = λ ty p. p; value = λ w vs ok all. refl })
+folded_keeps a _ u e = absurd (cc)
+
+-- a form that keeps an array where it says
+record IsKeeping (f : UnaryForm) : Type 0 where
+  row : (d : Declared) (b a : PlainTy) → b ≡ a → UnaryRow d.names f b a
+  value : (w : World) (v : Value) → unary_value w f v ≡ v
+
+keeping_local : IsKeeping unary.ToLocal
+keeping_local = record { row = λ d b a e. e; value = λ w v. refl }
+
+keeping_private : IsKeeping unary.ToPrivate
+keeping_private = record { row = λ d b a e. e; value = λ w v. refl }
+
+map_same : (xs : List Value) → map (λ (x : Value). x) xs ≡ xs
+map_same [] = refl
+map_same (x ∷ xs) = ap (λ ys. x ∷ ys) (map_same xs)
+
+-- an array, element by element
+each : (w : World) (x : PlainTy) (n : List Monomial) (v : Value) → (xs : List Value) → v ≡ array xs → array (map (λ (u : Value). u) (members v)) ≡ v
+each w x n v xs e = ap array (map_same (members v)) ∙ ap (λ z. array (members z)) e ∙ ap array (members-array xs) ∙ sym e
+
+copy_keeps : (a : Around) (k : MapKind) (t : Tree) (x : PlainTy) (n : List Monomial) → type_in a.types ≡ ArrayOf x n → KeepsIn a t (Map k t (Variable 0))
+copy_keeps a k t x n e d around =
+    let whole = annotated_is_typed d a.binders t a.types around.nodes in
+    let array_typed = subst (Types d a.binders t) e whole in
+    record {
+      typed = λ ty p. (x, x, n, array_typed, refl, one_type d a.binders t ty (ArrayOf x n) p array_typed);
+      value = λ w vs ok all.
+          let has = values_have_types d w a.binders vs t (ArrayOf x n) around.declared ok around.binders all array_typed in
+          each w x n (meaning w vs t) has.0 has.1;
+    }
+
+kept_keeps : (f : UnaryForm) → IsKeeping f → (a : Around) (t u : Tree) → KeepsIn a t u → KeepsIn a t (Unary f u)
+kept_keeps f k a t u h d around =
+    let q = h d around in
+    record {
+      typed = λ ty p. (ty, q.typed ty p, k.row d ty ty refl);
+      value = λ w vs ok all. k.value w (meaning w vs u) ∙ q.value w vs ok all;
+    }
+
+same_keeps : (a : Around) (t : Tree) → KeepsIn a t t
+same_keeps a t d around = record { typed = λ ty p. p; value = λ w vs ok all. refl }
+
+-- what stands for an array, where the term is one
+on_array_keeps : (a : Around) (t s u : Tree) (ty : PlainTy) → type_in a.types ≡ ty → ((x : PlainTy) (n : List Monomial) → type_in a.types ≡ ArrayOf x n → KeepsIn a t s)
+    → (if is_array ty then Becomes s else NoSide Array) ≡ Becomes u → KeepsIn a t u
+on_array_keeps a t s u U32 e k b = absurd (cc)
+on_array_keeps a t s u (PairOf x y) e k b = absurd (cc)
+on_array_keeps a t s u (ArrayOf x n) e k b = subst (KeepsIn a t) (becomes_of s u b) (k x n e)
+
+pub lowering_keeps : LoweringKeeps
+lowering_keeps ToGlobal a t u e = mapped_keeps kind.Global a t u e
+lowering_keeps ToWorkGroup a t u e = mapped_keeps kind.WorkGroup a t u e
+lowering_keeps ToLocal a t u e = mapped_keeps kind.Local a t u e
+lowering_keeps ToSequential a t u e = mapped_keeps kind.Sequential a t u e
+lowering_keeps FoldSequential a t u e = folded_keeps a t u e
+lowering_keeps Local a t u e = on_array_keeps a t (Unary unary.ToLocal t) u (type_in a.types) refl (λ x n h. kept_keeps unary.ToLocal keeping_local a t t (same_keeps a t)) e
+lowering_keeps Private a t u e = on_array_keeps a t (Unary unary.ToPrivate t) u (type_in a.types) refl (λ x n h. kept_keeps unary.ToPrivate keeping_private a t t (same_keeps a t)) e
+lowering_keeps LocalCopy a t u e =
+    on_array_keeps a t (copied unary.ToLocal kind.Local t) u (type_in a.types) refl (λ x n h. kept_keeps unary.ToLocal keeping_local a t (Map kind.Local t (Variable 0)) (copy_keeps a kind.Local t x n h)) e
+lowering_keeps PrivateCopy a t u e =
+    on_array_keeps a t (copied unary.ToPrivate kind.Sequential t) u (type_in a.types) refl (λ x n h. kept_keeps unary.ToPrivate keeping_private a t (Map kind.Sequential t (Variable 0)) (copy_keeps a kind.Sequential t x n h)) e
+
+-- so does what a call answers
+pub answered_keeps : (rule : Rule) (a : Around) (t : Term) (r : Result Term Refused) → IsAnswer (answer rule a (tree_of t)) t r → IfOk r (λ u. KeepsIn a (tree_of t) (tree_of u))
+answered_keeps rule a t (Ok u) h = lowering_keeps rule a (tree_of t) (tree_of u) h
+answered_keeps rule a t (Err e) h = tt

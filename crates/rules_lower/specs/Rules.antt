@@ -1,0 +1,50 @@
+-- The rules that say how a term is run, one row each.
+use Rattle.std.specs.Prelude.{Bool, true, false, if◌then◌else◌}
+use Rattle.lift_tree.specs.declared.term.MapKind.{MapKind}
+use Rattle.lift_tree.specs.declared.term.MapKind.TheVariants as map
+use Rattle.lift_tree.specs.declared.term.FoldKind.TheVariants as fold
+use Rattle.lift_tree.specs.declared.term.UnaryForm.{UnaryForm}
+use Rattle.lift_tree.specs.declared.term.UnaryForm.TheVariants as unary
+use Rattle.lift_tree.specs.Tree.{Tree, Variable, Unary, Map, Fold}
+use Rattle.lift_tree.specs.Types.{PlainTy, U32, PairOf, ArrayOf}
+use Rattle.lift_tree.specs.Annotations.{type_in}
+use Rattle.rewriting.specs.declared.refused.Condition.TheVariants.{Array}
+use Rattle.rewriting.specs.Around.{Around}
+use Rattle.rewriting.specs.Answers.{Answer, Becomes, NoShape, NoSide}
+use Rattle.rules_lower.specs.declared.rule.Rule.{Rule}
+use Rattle.rules_lower.specs.declared.rule.Rule.TheVariants.{ToGlobal, ToWorkGroup, ToLocal, ToSequential, FoldSequential, Local, Private, LocalCopy, PrivateCopy}
+
+-- a plain map, run so
+abbrev pub mapped : MapKind → Tree → Answer
+mapped k (Map map.Plain xs f) = Becomes (Map k xs f)
+mapped k _ = NoShape
+
+-- a plain fold, run by one work-item
+abbrev pub folded : Tree → Answer
+folded (Fold fold.Plain xs s f) = Becomes (Fold fold.Sequential xs s f)
+folded _ = NoShape
+
+abbrev pub is_array : PlainTy → Bool
+is_array U32 = false
+is_array (PairOf a b) = false
+is_array (ArrayOf a n) = true
+
+-- what an array becomes; the condition is that the term is one
+abbrev pub on_array : Around → Tree → Answer
+on_array a u = if is_array (type_in a.types) then Becomes u else NoSide Array
+
+-- the array copied element by element by a map that is run so, and kept so
+abbrev pub copied : UnaryForm → MapKind → Tree → Tree
+copied f k t = Unary f (Map k t (Variable 0))
+
+-- what the rule says of a term with this around it
+abbrev pub answer : Rule → Around → Tree → Answer
+answer ToGlobal a t = mapped map.Global t
+answer ToWorkGroup a t = mapped map.WorkGroup t
+answer ToLocal a t = mapped map.Local t
+answer ToSequential a t = mapped map.Sequential t
+answer FoldSequential a t = folded t
+answer Local a t = on_array a (Unary unary.ToLocal t)
+answer Private a t = on_array a (Unary unary.ToPrivate t)
+answer LocalCopy a t = on_array a (copied unary.ToLocal map.Local t)
+answer PrivateCopy a t = on_array a (copied unary.ToPrivate map.Sequential t)

@@ -1,0 +1,9 @@
+// Laws of the rules.
+
+ghost use Rattle.rules_lower.specs.Laws.{LoweringKeeps};
+
+/// What a rule makes of a term keeps the term's type and value.
+#[tactic(auto, using(crate::proofs::Kept::lowering_keeps))]
+pub fn lowering_keeps()
+    ensures { LoweringKeeps }
+{}

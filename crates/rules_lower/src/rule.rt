@@ -1,0 +1,138 @@
+// The rules, applied.
+
+ghost use Rattle.std.specs.Prelude.{◌≡◌, IfOk};
+ghost use Rattle.lift_tree.specs.Tree.{Unary, tree_of};
+ghost use Rattle.lift_tree.specs.Annotations.{annotation_of, type_in};
+ghost use Rattle.rewriting.specs.Around.{context_of};
+ghost use Rattle.rewriting.specs.Answers.{IsAnswer};
+ghost use Rattle.rewriting.specs.Keeps.{KeepsIn};
+ghost use Rattle.rules_lower.specs.Rules.{answer, copied, folded, is_array, mapped, on_array};
+
+use lift_tree::term::{FoldKind, MapKind, Term, UnaryForm};
+use lift_tree::ty::Ty;
+use lift_tree::typed::{Context, NodeTypes};
+use rewriting::refused::{Condition, Refused};
+use std::alloc::{AllocError, Global};
+
+/// A rule that says how a term is run.
+#[derive(Clone, Copy, Debug, PartialEq, Eq)]
+pub enum Rule {
+    /// `to-glb`: a map is run over the work-items of all groups.
+    ToGlobal,
+    /// `to-wrg`: a map is run over the work-groups.
+    ToWorkGroup,
+    /// `to-lcl`: a map is run over the work-items of a group.
+    ToLocal,
+    /// `to-seq`: a map is run by one work-item.
+    ToSequential,
+    /// `fold-seq`: a fold is run by one work-item.
+    FoldSequential,
+    /// `local`: an array is kept in local memory.
+    Local,
+    /// `private`: an array is kept in private memory.
+    Private,
+    /// `local-copy`: an array is copied to local memory by the work-items of a group.
+    LocalCopy,
+    /// `private-copy`: an array is copied to private memory by one work-item.
+    PrivateCopy,
+}
+
+/// The term that the rule makes of the term, which has the term's type, and its value at all sizes, inputs and values of binders.
+///
+/// `Shape` comes exactly where the rule wants a plain map or fold and the term is none, and `Side` exactly where it wants an array and the term is none; both hand the term back unchanged. The context is that of the term's place.
+#[tactic(auto, using(crate::proofs::Kept::lowering_keeps))]
+pub fn apply(alloc: Global, rule: &Rule, term: Term, context: &Context) -> Result<Term, Refused>
+    ensures answer { IsAnswer (answer rule.now (context_of context.now) (tree_of term)) term result }
+    ensures keeps { IfOk result (λ u. KeepsIn (context_of context.now) (tree_of term) (tree_of u)) }
+{
+    match *rule {
+        Rule::ToGlobal => mapped(term, MapKind::Global),
+        Rule::ToWorkGroup => mapped(term, MapKind::WorkGroup),
+        Rule::ToLocal => mapped(term, MapKind::Local),
+        Rule::ToSequential => mapped(term, MapKind::Sequential),
+        Rule::FoldSequential => folded(term),
+        Rule::Local => kept(alloc, UnaryForm::ToLocal, term, context),
+        Rule::Private => kept(alloc, UnaryForm::ToPrivate, term, context),
+        Rule::LocalCopy => copied(alloc, UnaryForm::ToLocal, MapKind::Local, term, context),
+        Rule::PrivateCopy => copied(
+            alloc,
+            UnaryForm::ToPrivate,
+            MapKind::Sequential,
+            term,
+            context,
+        ),
+    }
+}
+
+// The plain map, run so.
+fn mapped(term: Term, kind: MapKind) -> Result<Term, Refused>
+    ensures { IsAnswer (mapped kind (tree_of term)) term result }
+{
+    match term {
+        Term::Map(MapKind::Plain, array, body) => Ok(Term::Map(kind, array, body)),
+        other => Err(Refused::Shape(other)),
+    }
+}
+
+// The plain fold, run by one work-item.
+fn folded(term: Term) -> Result<Term, Refused>
+    ensures { IsAnswer (folded (tree_of term)) term result }
+{
+    match term {
+        Term::Fold(FoldKind::Plain, array, start, body) => {
+            Ok(Term::Fold(FoldKind::Sequential, array, start, body))
+        }
+        other => Err(Refused::Shape(other)),
+    }
+}
+
+// The array, kept so.
+fn kept(alloc: Global, form: UnaryForm, term: Term, context: &Context) -> Result<Term, Refused>
+    ensures { IsAnswer (on_array (context_of context.now) (Unary form (tree_of term))) term result }
+{
+    if is_array(&context.types) {
+        Ok(Term::Unary(form, Box::new(alloc, term)?))
+    } else {
+        Err(Refused::Side(Condition::Array, term))
+    }
+}
+
+// The array, copied by a map that is run so, and kept so.
+fn copied(
+    alloc: Global,
+    form: UnaryForm,
+    kind: MapKind,
+    term: Term,
+    context: &Context,
+) -> Result<Term, Refused>
+    ensures { IsAnswer (on_array (context_of context.now) (copied form kind (tree_of term))) term result }
+{
+    if is_array(&context.types) {
+        Ok(copy_of(alloc, form, kind, term)?)
+    } else {
+        Err(Refused::Side(Condition::Array, term))
+    }
+}
+
+fn copy_of(alloc: Global, form: UnaryForm, kind: MapKind, array: Term) -> Result<Term, AllocError>
+    ensures { IfOk result (λ t. tree_of t ≡ copied form kind (tree_of array)) }
+{
+    let element = Box::new(alloc, Term::Variable(0))?;
+    let copy = Term::Map(kind, Box::new(alloc, array)?, element);
+    Ok(Term::Unary(form, Box::new(alloc, copy)?))
+}
+
+// Whether the node is an array.
+fn is_array(types: &NodeTypes) -> bool
+    ensures { result ≡ is_array (type_in (annotation_of types.now)) }
+{
+    match types {
+        NodeTypes::Leaf(ty)
+        | NodeTypes::One(ty, _)
+        | NodeTypes::Two(ty, _, _)
+        | NodeTypes::Three(ty, _, _, _) => match ty {
+            Ty::Array(_, _) => true,
+            _ => false,
+        },
+    }
+}

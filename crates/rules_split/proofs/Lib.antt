@@ -1,0 +1,10 @@
+pub mod Less
+pub mod Lengths
+pub mod Linear
+pub mod Lists
+pub mod Reducing
+pub mod Rows
+pub mod Splitting
+pub mod Tiling
+pub mod Tried
+pub mod Typed

@@ -1,0 +1,12 @@
+pub mod Ranges
+pub mod Integers
+pub mod Values
+pub mod Maps
+pub mod Finding
+pub mod Bounds
+pub mod Steps
+pub mod Limits
+pub mod Caps
+pub mod Signs
+pub mod Soundness
+pub mod Quotients

@@ -1,0 +1,4 @@
+pub mod Ranges
+pub mod Polynomial
+pub mod Shown
+pub mod Code

@@ -1,0 +1,76 @@
+-- The text of a script.
+use Rattle.std.specs.Prelude.{◌≡◌, ◌+◌, ◌<◌, ℕ, List, [], ◌∷◌, Bool, ◌||◌, if◌then◌else◌, length, bytes_eq, codes, Option, Some, None, is_some, option_map, option_and_then}
+use Rattle.std.specs.List.{prefix_len, filter_map}
+use Rattle.std.specs.Str.Lines.{lines}
+use Rattle.strategy_script.specs.declared.rule.PlainRule.{PlainRule}
+use Rattle.strategy_script.specs.declared.rule.NumberedRule.{NumberedRule}
+use Rattle.strategy_script.specs.declared.rule.Rule.{Rule}
+use Rattle.strategy_script.specs.declared.rule.Rule.TheVariants.{Plain, Numbered}
+use Rattle.strategy_script.specs.declared.script.Step.{Step}
+use Rattle.strategy_script.specs.declared.script.ScriptLimit.TheVariants.{Steps}
+use Rattle.strategy_script.specs.declared.script.ScriptNo.{ScriptNo}
+use Rattle.strategy_script.specs.declared.script.ScriptNo.TheVariants.{Syntax, Limit, Memory}
+use Rattle.strategy_script.specs.Lines.{first_word, behind_word, is_no_step}
+use Rattle.strategy_script.specs.Numbers.{number_of, place_of}
+use Rattle.strategy_script.specs.RuleNames.{plain_named, numbered_named}
+
+-- the rule, where no word follows
+abbrev pub ended : List ℕ → Rule → Option Rule
+ended behind rule = if bytes_eq (first_word behind) [] then Some rule else None
+
+abbrev pub plain_rule : PlainRule → List ℕ → Option Rule
+plain_rule rule behind = ended behind (Plain rule)
+
+-- the rule with the number behind its name
+abbrev pub numbered_rule : NumberedRule → List ℕ → Option Rule
+numbered_rule rule behind = option_and_then (λ n. ended (behind_word behind) (Numbered rule n)) (number_of (first_word behind))
+
+abbrev pub rule_named : List ℕ → List ℕ → Option PlainRule → Option Rule
+rule_named name behind (Some rule) = plain_rule rule behind
+rule_named name behind None = option_and_then (λ rule. numbered_rule rule behind) (numbered_named name)
+
+-- the rule that the words name, with its number where it has one
+abbrev pub rule_of : List ℕ → Option Rule
+rule_of text = rule_named (first_word text) (behind_word text) (plain_named (first_word text))
+
+-- the step of a place and a rule
+abbrev pub step_behind : List ℕ → Option Step
+step_behind text = option_and_then (λ place. option_map (λ rule. record { place = place; rule = rule }) (rule_of (behind_word text))) (place_of (first_word text))
+
+-- the step that a line is
+abbrev pub step_of : List ℕ → Option Step
+step_of line = if bytes_eq (first_word line) (codes "at") then step_behind (behind_word line) else None
+
+-- the line is a step, or none
+abbrev pub is_line : List ℕ → Bool
+is_line line = is_some (step_of line) || is_no_step line
+
+-- how many lines stand before the first that is neither
+abbrev pub good_lines : List ℕ → ℕ
+good_lines text = prefix_len is_line (lines text)
+
+-- the steps among the lines
+abbrev pub steps_in : List ℕ → List Step
+steps_in text = filter_map step_of (lines text)
+
+-- each line is a step or none, and these are the steps in order
+pub record IsScript (text : List ℕ) (steps : List Step) : Type 0 where
+  pub all : good_lines text ≡ length (lines text)
+  pub found : steps ≡ steps_in text
+
+-- this line, counted from 1, is the first that is neither a step nor none
+pub record StopsAtLine (text : List ℕ) (line : ℕ) : Type 0 where
+  pub there : good_lines text < length (lines text)
+  pub counted : line ≡ good_lines text + 1
+
+-- each line is a step or none, and so many are steps, more than there may be
+pub record HasTooManySteps (text : List ℕ) (count : ℕ) : Type 0 where
+  pub script : IsScript text (steps_in text)
+  pub counted : count ≡ length (steps_in text)
+  pub above : 256 < count
+
+-- why a text is refused; want of memory is free
+abbrev pub RefusesScript : List ℕ → ScriptNo → Type 0
+RefusesScript text (Syntax line) = StopsAtLine text line
+RefusesScript text (Limit Steps count) = HasTooManySteps text count
+RefusesScript text Memory = Unit {0}
