@@ -2,7 +2,7 @@
 use Rattle.std.proofs.Common.{◌≡◌, ◌∙◌, refl, sym, ap, ap₂, List, [], true, false, Some, Option}
 use Rattle.std.specs.Prelude.{find, fold, is_some, option_map}
 use Rattle.std.specs.Option.{option_map_or}
-use Rattle.clap.specs.Words.{App, Shape, Text, Kinds, built}
+use Rattle.clap.specs.Words.{App, Shape, Text, Kinds, built, fault_of}
 use Rattle.clap.specs.Faults.{built_fault, level_fault, turn_fault, walk_fault, entered_fault}
 use Rattle.clap.specs.Kinds.{or_else}
 use Rattle.clap.specs.Simple.{entered, names_of, label_of, rows_at}
@@ -11,7 +11,7 @@ use Rattle.clap.proofs.FaultLemmas.{stopped_fault}
 use Rattle.clap.proofs.WalkLemmas.{walk_stopped}
 use Rattle.clap.proofs.OnLiterals.{clap_on_literals}
 use Rattle.command_line.specs.App.{lift_command}
-use Rattle.command_line.specs.Requests.{CommandLine, compile, run, eval, steps, line_at, line_entered, line_in, IsTaken, name_of, files_of, words_of, is_plain}
+use Rattle.command_line.specs.Requests.{Asks, CommandLine, compile, run, eval, steps, line_at, line_entered, line_in, IsTaken, name_of, files_of, words_of, is_plain}
 use Rattle.command_line.proofs.Plain.{Takes, held_after, end_fault, level-clean, rows-plain}
 
 unfoldable pub lift_built : App
@@ -68,7 +68,7 @@ form-clean line f e =
     ∙ ap (below (files_of line)) f.found
     ∙ ap₂ or_else (level-clean f.shape (files_of line) e f.takes f.ends) top-ends)
 
-pub plain-taken : (line : CommandLine) → is_plain line ≡ true → IsTaken (words_of line)
+plain-taken : (line : CommandLine) → is_plain line ≡ true → IsTaken (words_of line)
 unfolding lift_built
 plain-taken line e = form-clean line (forms line) e
 
@@ -80,6 +80,10 @@ form-read line f e =
     ∙ ap (line_at f.shape.name) (rows-plain f.shape (files_of line) e f.takes)
     ∙ f.says
 
-pub plain-read : (line : CommandLine) → is_plain line ≡ true → line_in (words_of line) ≡ Some line
+plain-read : (line : CommandLine) → is_plain line ≡ true → line_in (words_of line) ≡ Some line
 unfolding lift_built
 plain-read line e = form-read line (forms line) e
+
+-- words of just the form ask for just what they say
+pub plain-asks : (words : List Text) (line : CommandLine) → is_plain line ≡ true → words ≡ words_of line → Asks words line
+plain-asks words line e w = record { taken = ap (fault_of lift_command) w ∙ plain-taken line e; says = ap line_in w ∙ plain-read line e }

@@ -70,3 +70,8 @@ line_in words = line_entered (subcommand_of lift_command words)
 -- clap takes the words
 abbrev pub IsTaken : List Text → Type 0
 IsTaken words = fault_of lift_command words ≡ []
+
+-- clap takes the words, and its matches say this
+pub record Asks (words : List Text) (line : CommandLine) : Type 0 where
+  pub taken : IsTaken words
+  pub says : line_in words ≡ Some line

@@ -11,10 +11,10 @@
 mod command;
 mod request;
 
-ghost use Rattle.std.specs.Prelude.{◌≡◌, ◌≢◌, IfOk, Some, map, string_bytes, true};
+ghost use Rattle.std.specs.Prelude.{◌≡◌, IfOk, Some, map, string_bytes, true};
 ghost use Rattle.clap.specs.Words.{subcommand_of, subcommand_rows_of};
 ghost use Rattle.command_line.specs.App.{lift_command};
-ghost use Rattle.command_line.specs.Requests.{CommandLine, IsTaken, is_plain, line_in, line_of, words_of};
+ghost use Rattle.command_line.specs.Requests.{Asks, CommandLine, IsTaken, is_plain, line_in, line_of, words_of};
 
 use clap::ArgMatches;
 pub use request::{Request, WordsNo};
@@ -47,16 +47,15 @@ fn matched_request(alloc: Global, words: &[String]) -> Result<Request, WordsNo>
 /// `WordsNo::Refused` where clap refuses them, and `WordsNo::Memory` where memory ran out.
 pub fn read_words(alloc: Global, words: &[String]) -> Result<Request, WordsNo>
     // Where clap takes the words, they ask for what its matches say.
-    ensures taken { IfOk result (λ _. IsTaken (map string_bytes words.now)) }
-    ensures asked { IfOk result (λ request. line_in (map string_bytes words.now) ≡ Some (line_of request)) }
+    ensures asked { IfOk result (λ request. Asks (map string_bytes words.now) (line_of request)) }
 
     // They are refused only where clap refuses them.
-    ensures refused { result ≡ Err WordsNo.Refused → IsTaken (map string_bytes words.now) → ⊥ }
+    ensures refused { result ≡ Err WordsNo.Refused → ¬ IsTaken (map string_bytes words.now) }
 
-    // Words of just the form, whose file names do not begin with a hyphen, are never refused, and
-    // ask for just what they say.
+    // Clap takes words of just the form, whose file names do not begin with a hyphen, and they ask
+    // for just what they say.
     ensures plain { (line : CommandLine) → is_plain line ≡ true → map string_bytes words.now ≡ words_of line
-        → (result ≢ Err WordsNo.Refused) × IfOk result (λ request. line_of request ≡ line) }
+        → Asks (map string_bytes words.now) line }
 {
     matched_request(alloc, words)
 }

@@ -1,3 +1,4 @@
 pub mod Rows
 pub mod Printed
 pub mod MapRuns
+pub mod OneProof

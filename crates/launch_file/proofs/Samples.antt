@@ -49,7 +49,7 @@ numbers_proper p s i e f r t =
     ap (λ ns. map (λ (x : PlainInput). worked_out ns x.ty) p.inputs) names ∙ ap (map (λ (x : PlainInput). worked_out (thousand ∷ []) x.ty)) f ∙ ap (λ ty. worked_out (thousand ∷ []) ty ∷ []) t in
     proper_from p (thousand ∷ []) _ names types (omega arith)
     (record { positive = omega arith; multiple_limit = omega arith; from_positive = omega arith; ordered = omega arith; limit = omega arith; from_divides = refl; to_divides = refl }, tt)
-    ((first_shown, tt), tt) ((omega arith, tt), tt)
+    ((first_shown, tt), tt) (omega arith, tt)
 
 -- ---- two sizes, N from 2 to 8 by twos and M from 1 to 3
 abbrev evens : Name
@@ -112,7 +112,7 @@ tables_proper p s t i j e f r q a b =
       record { positive = omega arith; multiple_limit = omega arith; from_positive = omega arith; ordered = omega arith; limit = omega arith; from_divides = refl; to_divides = refl },
       (record { positive = omega arith; multiple_limit = omega arith; from_positive = omega arith; ordered = omega arith; limit = omega arith; from_divides = refl; to_divides = refl }, tt),
     )
-    ((row_shown, tt), ((less_shown, (two_shown, (tt, tt))), tt)) ((omega arith, tt), ((omega arith, (omega arith, tt)), tt))
+    ((row_shown, tt), ((less_shown, (two_shown, (tt, tt))), tt)) (omega arith, ((omega arith, omega arith), tt))
 
 pub two_pushed : {A : Type 0} (start first second : List A) (x y : A) → start ≡ [] → first ≡ start ++ x ∷ [] → second ≡ first ++ y ∷ [] → second ≡ x ∷ y ∷ []
 two_pushed start first second x y s a b = b ∙ ap (λ xs. xs ++ y ∷ []) (a ∙ ap (λ xs. xs ++ x ∷ []) s)

@@ -1,10 +1,9 @@
 -- A program that is read has proper sizes, and names its own sizes, inputs and binders alone.
-use Rattle.std.proofs.Common.{◌≡◌, ◌∙◌, ◌+◌, ◌<◌, ◌≤◌, ◌%◌, ℕ, suc, List, [], ◌∷◌, ◌++◌, ap, sym, subst, refl, length, map, Option, Some, None, Bool, true, arith}
-use Rattle.std.specs.Prelude.{position, ◌&&◌, ◌==◌, nat_lt}
+use Rattle.std.proofs.Common.{◌≡◌, ◌∙◌, ◌<◌, ◌≤◌, ◌%◌, ℕ, suc, List, [], ◌∷◌, ◌++◌, ap, sym, subst, refl, length, map, Option, Some, None, Bool, true, arith}
+use Rattle.std.specs.Prelude.{position, ◌==◌, nat_lt}
 use Rattle.std.proofs.lemmas.Option.{same_Some}
 use Rattle.std.proofs.lemmas.Bool.{and_parts, eqb-true}
 use Rattle.std.proofs.lemmas.List.Quantifiers.{position-Some}
-use Rattle.readings.specs.Readings.{Owed, Token, Form, Mark, Reads}
 use Rattle.readings.specs.Meanings.{AllMean}
 use Rattle.readings.proofs.Meaning.{read_means}
 use Rattle.size_arith.specs.Ranges.{IsName, AreNames}

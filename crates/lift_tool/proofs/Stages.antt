@@ -12,44 +12,75 @@ use Rattle.lift_reader.specs.declared.refusal.ReadRefusal.TheVariants as reading
 use Rattle.pattern_types.specs.Judged.{program_judged}
 use Rattle.pattern_types.specs.declared.refusal.TypeRefusal.{TypeRefusal}
 use Rattle.pattern_types.specs.declared.refusal.TypeRefusal.TheVariants as typings
-use Rattle.lift_tool.specs.Compiled.{IsRead, IsTyped, RefusesForm, RefusesSource, RefusesSteps}
-use Rattle.lift_tool.specs.Script.{IsScript}
-use Rattle.lift_tool.specs.Stages.{program_refused, typing_refused}
-use Rattle.lift_tool.specs.Steps.{after_steps}
+use Rattle.strategy_script.specs.ScriptText.{IsScript, RefusesScript}
+use Rattle.strategy_script.specs.Steps.{State, terms_of}
+use Rattle.strategy_script.specs.declared.faults.StepNo.{StepNo}
+use Rattle.strategy_script.specs.declared.faults.StepNo.TheVariants as stops
+use Rattle.strategy_script.specs.declared.script.ScriptLimit.TheVariants as limits
+use Rattle.strategy_script.specs.declared.script.ScriptNo.{ScriptNo}
+use Rattle.strategy_script.specs.declared.script.ScriptNo.TheVariants as scripts
+use Rattle.strategy_script.specs.declared.script.Step.{Step}
+use Rattle.lift_tree.specs.Annotations.{Annotation}
+use Rattle.lift_tool.specs.Compiled.{HasTheTerms, IsRead, IsTyped, RefusesForm, RefusesSource, RefusesTerms, RefusesTyped}
+use Rattle.lift_tool.specs.Scripted.{IsLast, source_of}
+use Rattle.lift_tool.specs.Stages.{program_refused, script_refused, step_refused, typing_refused}
 use Rattle.lift_tool.specs.declared.refusal.Refusal.{Refusal}
 use Rattle.lift_tool.specs.declared.refusal.Refusal.TheVariants as refusals
 
 -- what the reader refuses
-pub refused_source : (text script : List ℕ) (why : ReadRefusal) → Refuses text why → ((p : PlainProgram) → IsProgramText text p → Answers p (Err why)) → RefusesSource text script (program_refused why)
-refused_source text script (readings.Syntax token offset) h only = (h, only)
-refused_source text script (readings.Limit which count) h only = record { program = h.0; is = h.1; passes = only }
-refused_source text script readings.Memory h only = tt
+pub refused_source : (text : List ℕ) (why : ReadRefusal) → Refuses text why → ((p : PlainProgram) → IsProgramText text p → Answers p (Err why)) → RefusesTyped text (program_refused why)
+refused_source text (readings.Syntax token offset) h only = (h, only)
+refused_source text (readings.Limit which count) h only = record { program = h.0; is = h.1; passes = only }
+refused_source text readings.Memory h only = tt
 
 -- what the typing refuses
-pub refused_types : (text script : List ℕ) (p : PlainProgram) (t : Tree) (why : TypeRefusal) → IsRead text p → t ≡ p.body → (why ≢ typings.Memory → program_judged p t ≡ Err why) → RefusesSource text script (typing_refused why)
-refused_types text script p t (typings.IllTyped spot rule) read whole h = (p, read, subst (λ (b : Tree). program_judged p b ≡ Err (typings.IllTyped spot rule)) whole (h (λ e. cc (e))))
-refused_types text script p t (typings.Limit which spot count) read whole h = (p, read, subst (λ (b : Tree). program_judged p b ≡ Err (typings.Limit which spot count)) whole (h (λ e. cc (e))))
-refused_types text script p t typings.Memory read whole h = tt
+pub refused_types : (text : List ℕ) (p : PlainProgram) (t : Tree) (why : TypeRefusal) → IsRead text p → t ≡ p.body → (why ≢ typings.Memory → program_judged p t ≡ Err why) → RefusesTyped text (typing_refused why)
+refused_types text p t (typings.IllTyped spot rule) read whole h = (p, read, subst (λ (b : Tree). program_judged p b ≡ Err (typings.IllTyped spot rule)) whole (h (λ e. cc (e))))
+refused_types text p t (typings.Limit which spot count) read whole h = (p, read, subst (λ (b : Tree). program_judged p b ≡ Err (typings.Limit which spot count)) whole (h (λ e. cc (e))))
+refused_types text p t typings.Memory read whole h = tt
+
+-- a program without types has no terms, whatever the script
+pub refused_typed : (program script : List ℕ) (why : Refusal) → RefusesTyped program why → RefusesTerms program script why
+refused_typed program script (refusals.Program why) h = h
+refused_typed program script (refusals.Typing why) h = h
+refused_typed program script refusals.Memory h = tt
+refused_typed program script (refusals.Script why) h = absurd h
+refused_typed program script (refusals.Step step) h = absurd h
+refused_typed program script (refusals.Nest why) h = absurd h
+
+-- what the script's text refuses
+pub refused_script : (program script : List ℕ) (p : PlainProgram) (why : ScriptNo) → IsRead program p → IsTyped p → RefusesScript script why → RefusesTerms program script (script_refused why)
+refused_script program script p (scripts.Syntax line) read typed h = (p, read, typed, h)
+refused_script program script p (scripts.Limit limits.Steps count) read typed h = (p, read, typed, h)
+refused_script program script p scripts.Memory read typed h = tt
 
 -- what the steps refuse
-pub refused_steps : (program script : List ℕ) (p : PlainProgram) (t : Tree) (steps : ℕ) (why : Refusal) → IsRead program p → IsTyped p → IsScript script steps → steps ≤ 256 → t ≡ p.body
-    → RefusesSteps steps t why → RefusesSource program script why
-refused_steps program script p t steps (refusals.Step step) read typed is few whole h = (p, read, typed, (steps, is, few, subst (λ (b : Tree). RefusesSteps steps b (refusals.Step step)) whole h))
-refused_steps program script p t steps (refusals.Program why) read typed is few whole h = absurd h
-refused_steps program script p t steps (refusals.Typing why) read typed is few whole h = absurd h
-refused_steps program script p t steps (refusals.Script why) read typed is few whole h = absurd h
-refused_steps program script p t steps (refusals.Nest why) read typed is few whole h = absurd h
-refused_steps program script p t steps refusals.Memory read typed is few whole h = absurd h
+pub refused_steps : (program script : List ℕ) (p : PlainProgram) (types : Annotation) (steps : List Step) (why : StepNo) → IsRead program p → program_judged p p.body ≡ Ok types → IsScript script steps → length steps ≤ 256
+    → (why ≢ stops.Memory → terms_of p steps (source_of p types) ≡ Err why) → RefusesTerms program script (step_refused why)
+refused_steps program script p types steps (stops.Inapplicable step why) read typed is few h = (p, read, (types, typed), (steps, is, few, (types, typed, h (λ e. cc (e)))))
+refused_steps program script p types steps (stops.Limit which step count) read typed is few h = (p, read, (types, typed), (steps, is, few, (types, typed, h (λ e. cc (e)))))
+refused_steps program script p types steps stops.Memory read typed is few h = tt
+
+-- a program and a script without terms have no kernel
+pub refused_terms : (program script : List ℕ) (why : Refusal) → RefusesTerms program script why → RefusesSource program script why
+refused_terms program script (refusals.Program why) h = h
+refused_terms program script (refusals.Typing why) h = h
+refused_terms program script (refusals.Script why) h = h
+refused_terms program script (refusals.Step step) h = h
+refused_terms program script (refusals.Nest why) h = absurd h
+refused_terms program script refusals.Memory h = tt
 
 -- what the nest refuses
-pub refused_form : (program script : List ℕ) (p : PlainProgram) (term : Tree) (steps : ℕ) (why : Refusal) → IsRead program p → IsTyped p → IsScript script steps → steps ≤ 256 → after_steps steps p.body ≡ Some term
-    → RefusesForm p term why → RefusesSource program script why
-refused_form program script p term steps (refusals.Nest why) read typed is few applied h = (p, read, typed, (steps, is, few, (term, applied, h)))
-refused_form program script p term steps refusals.Memory read typed is few applied h = tt
-refused_form program script p term steps (refusals.Program why) read typed is few applied h = absurd h
-refused_form program script p term steps (refusals.Typing why) read typed is few applied h = absurd h
-refused_form program script p term steps (refusals.Script why) read typed is few applied h = absurd h
-refused_form program script p term steps (refusals.Step step) read typed is few applied h = absurd h
+pub refused_form : (program script : List ℕ) (p : PlainProgram) (terms : List State) (last : State) (why : Refusal) → HasTheTerms program script p terms → IsLast last terms
+    → RefusesForm p last.tree why → RefusesSource program script why
+refused_form program script p terms last (refusals.Nest why) has is h =
+    let read : IsRead program p = record { is = has.is.source; only = has.only; within = has.is.within } in
+    (p, read, has.is.typed, (has.is.steps, has.is.counted, has.is.few, (terms, has.is.made, (last, is, h))))
+refused_form program script p terms last refusals.Memory has is h = tt
+refused_form program script p terms last (refusals.Program why) has is h = absurd h
+refused_form program script p terms last (refusals.Typing why) has is h = absurd h
+refused_form program script p terms last (refusals.Script why) has is h = absurd h
+refused_form program script p terms last (refusals.Step step) has is h = absurd h
 
 -- a refusal that is handed on keeps its cause
 pub handed_on : {V R : Type 0} (P : R → Type 0) (r : Result V R) (e : R) → IsErrAnd r (λ x. x ≡ e) → P e → IfErr r P

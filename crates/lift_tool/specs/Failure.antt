@@ -1,5 +1,8 @@
 -- Why a call ends without a result: its status and its line.
 use Rattle.std.specs.Prelude.{ℕ, List, [], ◌∷◌, codes}
+use Rattle.lift_tree.specs.Programs.{PlainProgram}
+use Rattle.launch_file.specs.Line as launches
+use Rattle.launch_file.specs.declared.refusal.LaunchNo.{LaunchNo}
 use Rattle.lift_tool.specs.declared.refusal.Refusal.{Refusal}
 use Rattle.lift_tool.specs.Refusal as refusals
 use Rattle.lift_tool.specs.Lines.{line_of_texts}
@@ -16,8 +19,8 @@ pub data Failure : Type 0 where
   Write : Failure
   -- the program and the script have no kernel
   Source : Refusal → Failure
-  -- the launch file is none for this program
-  LaunchFile : Failure
+  -- the launch file is none for this program, for this cause
+  Launch : PlainProgram → LaunchNo → Failure
   -- memory ran out
   Memory : Failure
 
@@ -27,7 +30,7 @@ status_of (Read name) = 3
 status_of (TooLong count) = 10
 status_of Write = 4
 status_of (Source why) = refusals.status_of why
-status_of LaunchFile = 12
+status_of (Launch p why) = 12
 status_of Memory = 13
 
 abbrev pub line_of : Failure → List ℕ
@@ -36,5 +39,5 @@ line_of (Read name) = line_of_texts (codes "lift: read " ∷ name ∷ [])
 line_of (TooLong count) = limit_line (codes "bytes") count
 line_of Write = line_of_texts (codes "lift: write" ∷ [])
 line_of (Source why) = refusals.line_of why
-line_of LaunchFile = line_of_texts (codes "lift: launch" ∷ [])
+line_of (Launch p why) = launches.line_of p why
 line_of Memory = memory_line

@@ -2,7 +2,6 @@
 use Rattle.std.specs.Prelude.{ℕ, List, [], ◌∷◌, codes, decimal}
 use Rattle.lift_reader.specs.declared.refusal.Quantity.{Quantity}
 use Rattle.lift_reader.specs.declared.refusal.Quantity.TheVariants as counted
-use Rattle.lift_reader.specs.declared.refusal.ReadRefusal.{ReadRefusal}
 use Rattle.lift_reader.specs.declared.refusal.ReadRefusal.TheVariants as readings
 use Rattle.pattern_types.specs.declared.refusal.Rule.{Rule}
 use Rattle.pattern_types.specs.declared.refusal.Rule.TheVariants as rules
@@ -10,11 +9,17 @@ use Rattle.pattern_types.specs.declared.refusal.Spot.{Spot}
 use Rattle.pattern_types.specs.declared.refusal.Spot.TheVariants as spots
 use Rattle.pattern_types.specs.declared.refusal.TypeLimit.{TypeLimit}
 use Rattle.pattern_types.specs.declared.refusal.TypeLimit.TheVariants as limits
-use Rattle.pattern_types.specs.declared.refusal.TypeRefusal.{TypeRefusal}
 use Rattle.pattern_types.specs.declared.refusal.TypeRefusal.TheVariants as typings
 use Rattle.lift_tool.specs.Lines.{line_of_texts, place_text}
-use Rattle.lift_tool.specs.declared.script.ScriptRefusal.{ScriptRefusal}
-use Rattle.lift_tool.specs.declared.script.ScriptRefusal.TheVariants as scripts
+use Rattle.rewriting.specs.Conditions.{condition_name}
+use Rattle.strategy_script.specs.declared.faults.StepLimit.{StepLimit}
+use Rattle.strategy_script.specs.declared.faults.StepLimit.TheVariants as after
+use Rattle.strategy_script.specs.declared.faults.StepNo.{StepNo}
+use Rattle.strategy_script.specs.declared.faults.StepNo.TheVariants as stops
+use Rattle.strategy_script.specs.declared.faults.Why.{Why}
+use Rattle.strategy_script.specs.declared.faults.Why.TheVariants as whys
+use Rattle.strategy_script.specs.declared.script.ScriptNo.{ScriptNo}
+use Rattle.strategy_script.specs.declared.script.ScriptNo.TheVariants as scripts
 use Rattle.lift_tool.specs.declared.nest.NestRefusal.{NestRefusal}
 use Rattle.lift_tool.specs.declared.nest.NestRefusal.TheVariants as nests
 use Rattle.lift_tool.specs.declared.refusal.Refusal.{Refusal}
@@ -28,8 +33,11 @@ status_of (Typing (typings.IllTyped spot rule)) = 7
 status_of (Typing (typings.Limit which spot count)) = 10
 status_of (Typing typings.Memory) = 13
 status_of (Script (scripts.Syntax line)) = 8
-status_of (Script (scripts.Steps count)) = 10
-status_of (Step step) = 9
+status_of (Script (scripts.Limit which count)) = 10
+status_of (Script scripts.Memory) = 13
+status_of (Step (stops.Inapplicable step why)) = 9
+status_of (Step (stops.Limit which step count)) = 10
+status_of (Step stops.Memory) = 13
 status_of (Nest why) = 11
 status_of Memory = 13
 
@@ -47,6 +55,11 @@ type_limit_name limits.Terms = codes "terms"
 type_limit_name limits.Degree = codes "degree"
 type_limit_name limits.Coefficient = codes "coefficient"
 type_limit_name limits.Scalars = codes "scalars"
+
+abbrev pub step_limit_name : StepLimit → List ℕ
+step_limit_name after.Nodes = codes "nodes"
+step_limit_name after.Depth = codes "depth"
+step_limit_name (after.Types which) = type_limit_name which
 
 abbrev pub rule_name : Rule → List ℕ
 rule_name rules.Operator = codes "operator"
@@ -73,6 +86,12 @@ abbrev pub type_line : Rule → Spot → List ℕ
 type_line rule (spots.Input number) = line_of_texts (codes "lift: type: " ∷ rule_name rule ∷ codes " at input " ∷ decimal number ∷ [])
 type_line rule (spots.Node place) = line_of_texts (codes "lift: type: " ∷ rule_name rule ∷ codes " at " ∷ place_text place ∷ [])
 
+-- why the rule of a step, counted from 1, isn't applied
+abbrev pub step_line : (step : ℕ) → Why → List ℕ
+step_line step whys.NoPlace = line_of_texts (codes "lift: step " ∷ decimal step ∷ codes ": no place" ∷ [])
+step_line step whys.Shape = line_of_texts (codes "lift: step " ∷ decimal step ∷ codes ": shape" ∷ [])
+step_line step (whys.Side condition) = line_of_texts (codes "lift: step " ∷ decimal step ∷ codes ": side " ∷ condition_name condition ∷ [])
+
 abbrev pub memory_line : List ℕ
 memory_line = line_of_texts (codes "lift: memory" ∷ [])
 
@@ -84,8 +103,11 @@ line_of (Typing (typings.IllTyped spot rule)) = type_line rule spot
 line_of (Typing (typings.Limit which spot count)) = limit_line (type_limit_name which) count
 line_of (Typing typings.Memory) = memory_line
 line_of (Script (scripts.Syntax number)) = line_of_texts (codes "lift: script: line " ∷ decimal number ∷ [])
-line_of (Script (scripts.Steps count)) = limit_line (codes "steps") count
-line_of (Step step) = line_of_texts (codes "lift: step " ∷ decimal step ∷ codes ": shape" ∷ [])
+line_of (Script (scripts.Limit which count)) = limit_line (codes "steps") count
+line_of (Script scripts.Memory) = memory_line
+line_of (Step (stops.Inapplicable step why)) = step_line step why
+line_of (Step (stops.Limit which step count)) = limit_line (step_limit_name which) count
+line_of (Step stops.Memory) = memory_line
 line_of (Nest (nests.Undecided place)) = line_of_texts (codes "lift: nest: N1 at " ∷ place_text place ∷ [])
 line_of (Nest nests.Unprinted) = line_of_texts (codes "lift: nest: N0 at ." ∷ [])
 line_of Memory = memory_line

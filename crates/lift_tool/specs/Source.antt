@@ -2,7 +2,20 @@
 use Rattle.std.specs.Prelude.{◌≡◌, ℕ, List, [], ◌∷◌, length, map}
 use Rattle.lift_tree.specs.Meaning.{World, meaning}
 use Rattle.lift_tree.specs.Programs.{PlainProgram}
-use Rattle.lift_tree.specs.Values.{Value, Word, array}
+use Rattle.lift_tree.specs.Values.{Value, Word, array, members, nth, word}
+use Rattle.launch_file.specs.LaunchFile.{Given}
+
+-- the program's value at these sizes and inputs
+abbrev pub source_value : PlainProgram → World → Value
+source_value p w = meaning w [] p.body
+
+-- the sizes and the inputs that a launch file gives
+abbrev pub world_given : Given → World
+world_given g = record { bases = g.bases; sizes = g.launch.sizes; inputs = g.inputs }
+
+-- the numbers of the first input that a launch file gives
+abbrev pub input_given : Given → List ℕ
+input_given g = map word (members (nth g.inputs 0))
 
 -- a list of numbers
 abbrev pub words : List ℕ → Value
@@ -14,4 +27,4 @@ world_of input = record { bases = length input ∷ []; sizes = length input ∷ 
 
 -- the program's value on the input is these numbers
 abbrev pub IsSourceValue : PlainProgram → (input value : List ℕ) → Type 0
-IsSourceValue p input value = words value ≡ meaning (world_of input) [] p.body
+IsSourceValue p input value = words value ≡ source_value p (world_of input)

@@ -1,35 +1,39 @@
 //! A program and a script, compiled to the text of a kernel.
-ghost use Rattle.std.specs.Prelude.{◌≡◌, ◌≤◌, Some, IfErr, IfOk, true};
+ghost use Rattle.std.specs.Prelude.{◌≡◌, ◌≤◌, IfErr, IfOk, true};
+ghost use Rattle.lift_tree.specs.Annotations.{annotation_of, type_in};
 ghost use Rattle.kernel_tree.specs.Grammar.{is_kernel};
 ghost use Rattle.kernel_tree.specs.KernelText.{IsKernelText};
 ghost use Rattle.kernel_emit.specs.MapKernel.{map_kernel};
 ghost use Rattle.kernel_spelling.specs.Spelling.{text_of};
 ghost use Rattle.lift_tree.specs.Programs.{program_of};
-ghost use Rattle.lift_tree.specs.Tree.{tree_of};
-ghost use Rattle.lift_tool.specs.Compiled.{IsCompiled, RefusesSource, RefusesSteps};
+ghost use Rattle.lift_tree.specs.Types.{ty_of};
+ghost use Rattle.lift_tool.specs.OneProof.{meets_once};
+ghost use Rattle.lift_tool.specs.Runs.{MeetsSource};
+ghost use Rattle.lift_tool.specs.Compiled.{IsCompiled, RefusesSource};
 ghost use Rattle.lift_tool.specs.Shown.{form_of};
-ghost use Rattle.lift_tool.specs.Steps.{after_steps};
 
 use crate::form::MapProgram;
 use crate::nest::printed_form;
 use crate::refusal::Refusal;
-use crate::script::read_script;
-use crate::source::typed_source;
-use crate::steps::after_steps;
+use crate::terms::last_term;
 use kernel_emit::map_kernel;
 use kernel_printer::print;
 use lift_tree::program::Program;
-use lift_tree::term::Term;
-use lift_tree::typed::Typed;
+use lift_tree::ty::Ty;
+use lift_tree::typed::{NodeTypes, Typed};
 use std::alloc::{AllocError, Global};
 
 /// The text of a kernel, with the program that it is compiled from.
-#[derive(Debug, Drop)]
+#[derive(Drop)]
 pub struct Compiled {
     /// The program as it was read, before any step.
     pub program: Program,
     /// What is printed of it.
     pub form: MapProgram,
+    /// The type of its output.
+    pub output: Ty,
+    /// Whether one work-item runs the kernel, with no parallel map.
+    pub is_task: bool,
     /// The text of the kernel.
     pub text: Vec<u8>,
     // The kernel of the form is in the grammar of kernels.
@@ -38,16 +42,19 @@ pub struct Compiled {
     ghost one_kernel: { text.items ≡ text_of (map_kernel form.addend) },
     // So many elements are the most that its size may be.
     ghost within: { form.to ≤ 1048576 },
+    // Every run of the kernel at every admissible launch leaves the program's value.
+    ghost meets: { MeetsSource (program_of program) (ty_of output) is_task (map_kernel form.addend) } by { meets_once (program_of program) (ty_of output) is_task (map_kernel form.addend) },
 }
 
-// The term after the steps of a script.
-fn stepped(steps: u64, term: Term) -> Result<Term, Refusal>
-    ensures applied { IfOk result (λ t. after_steps steps (tree_of term) ≡ Some (tree_of t)) }
-    ensures refused { IfErr result (RefusesSteps steps (tree_of term)) }
+// The type of the whole term.
+fn own_type(types: NodeTypes) -> Ty
+    ensures { ty_of result ≡ type_in (annotation_of types) }
 {
-    match after_steps(steps, term) {
-        Ok(term) => Ok(term),
-        Err(step) => Err(Refusal::Step(step)),
+    match types {
+        NodeTypes::Leaf(ty) => ty,
+        NodeTypes::One(ty, _first) => ty,
+        NodeTypes::Two(ty, _first, _second) => ty,
+        NodeTypes::Three(ty, _first, _second, _third) => ty,
     }
 }
 
@@ -67,21 +74,22 @@ fn printed(alloc: Global, form: &MapProgram) -> Result<Vec<u8>, AllocError>
 /// stages: the program's text and its limits, its types, the script's text and its limit, the
 /// steps, the nest. Want of memory may come at any point.
 pub fn compile_text(alloc: Global, program: &[u8], script: &[u8]) -> Result<Compiled, Refusal>
-    ensures found { IfOk result (λ c. IsCompiled program.now script.now (program_of c.program) (form_of c.form) c.text.items) }
+    ensures found { IfOk result (λ c. IsCompiled program.now script.now (program_of c.program) (form_of c.form) (ty_of c.output) c.text.items) }
+    ensures task { IfOk result (λ c. c.is_task ≡ true) }
     ensures refused { IfErr result (RefusesSource program.now script.now) }
 {
     let Typed {
         program,
         term,
-        types: _types,
-    } = typed_source(alloc, program)?;
-    let steps = read_script(script)?;
-    let term = stepped(steps, term)?;
+        types,
+    } = last_term(alloc, program, script)?;
     let form = printed_form(alloc, &program, &term)?;
     let text = printed(alloc, &form)?;
     Ok(Compiled {
         program,
         form,
+        output: own_type(types),
+        is_task: true,
         text,
     })
 }

@@ -10,8 +10,7 @@ ghost use Rattle.std.specs.Prelude.{
   ℕ,
   List,
   [],
-  None,
-  Some,
+  true,
   IfErr,
   IfOk,
   IfSome,
@@ -30,6 +29,7 @@ ghost use Rattle.lift_tool.specs.Outcome.{
   AreTold,
   Cause,
   Compiles,
+  Evaluates,
   HasText,
   NoneRose,
   OnTexts,
@@ -44,35 +44,36 @@ ghost use Rattle.lift_tool.specs.Outcome.{
 };
 ghost use Rattle.lift_tool.specs.Failure as failures;
 ghost use Rattle.lift_tool.specs.Failure.{line_of, status_of};
-ghost use Rattle.lift_tool.specs.Request as requests;
-ghost use Rattle.lift_tool.specs.Request.{files_of, request_of};
+ghost use Rattle.command_line.specs.Requests as requests;
+ghost use Rattle.command_line.specs.Requests.{Asks, IsTaken, is_plain, words_of};
+ghost use Rattle.lift_tool.specs.Request.{files_of};
 ghost use Rattle.lift_tool.specs.Shown.{failure_of};
+ghost use Rattle.lift_tool.specs.StepsText.{IsStepsText};
 
+mod cells;
 mod compile;
+mod eval;
 mod failure;
 mod form;
-mod launch;
 mod lines;
 mod nest;
 mod refusal;
-mod request;
 mod run;
-mod script;
 mod source;
-mod steps;
-mod written;
+mod terms;
 
+use command_line::{Request, read_words};
 pub use compile::{Compiled, compile_text};
+use eval::eval_texts;
 use failure::Failure;
 pub use form::MapProgram;
-pub use launch::{LaunchFile, read_launch};
+use launch_file::file::{Ask, read_launch};
 use lift_io::{Files, ReadNo, Sink, write_whole};
 pub use nest::NestRefusal;
 pub use refusal::Refusal;
-use request::Request;
 pub use run::run_launch;
-pub use script::ScriptRefusal;
 use std::alloc::Global;
+pub use terms::{source_terms, steps_text};
 
 /// The most bytes that a program or a script may have.
 pub const SOURCE_LIMIT: usize = 65_536;
@@ -81,19 +82,19 @@ pub const SOURCE_LIMIT: usize = 65_536;
 pub const LAUNCH_LIMIT: usize = 16_777_216;
 
 // The text of a file.
-fn read_text<'w, F: Files>(
+fn read_text<F: Files>(
     alloc: Global,
     files: &mut F,
-    name: &'w str,
+    name: String,
     limit: usize,
-) -> Result<Vec<u8>, Failure<'w>>
+) -> Result<Vec<u8>, Failure>
     requires { limit ≤ 16777216 }
-    ensures text { IfOk result (λ text. HasText (F.told files.old) name.entry.now limit text.items) }
-    ensures cause { IfErr result (λ no. ReadCause (F.told files.old) (λ n. Rose (F.faults files.old n) (F.faults files.new n)) (name.entry.now, limit) (failure_of no)) }
+    ensures text { IfOk result (λ text. HasText (F.told files.old) (string_bytes name) limit text.items) }
+    ensures cause { IfErr result (λ no. ReadCause (F.told files.old) (λ n. Rose (F.faults files.old n) (F.faults files.new n)) (string_bytes name, limit) (failure_of no)) }
     ensures later { (n : List ℕ) → F.faults files.old n ≤ F.faults files.new n }
     ensures same { (n : List ℕ) → F.told files.new n ≡ F.told files.old n }
 {
-    match files.read_all(alloc, name, limit) {
+    match files.read_all(alloc, name.as_str(), limit) {
         Ok(text) => Ok(text),
         Err(ReadNo::Failed) => Err(Failure::Read(name)),
         Err(ReadNo::TooLong(count)) => Err(Failure::TooLong { count }),
@@ -107,28 +108,32 @@ fn run_texts(
     program: &[u8],
     script: &[u8],
     launch: &[u8],
-) -> Result<Vec<u8>, Failure<'static>>
+) -> Result<Vec<u8>, Failure>
     ensures { MatchResult result
         (λ line. Runs (record { program = program.now; script = script.now; launch = launch.now }) line.items)
         (λ failure. RefusesRun (record { program = program.now; script = script.now; launch = launch.now }) (failure_of failure)) }
 {
     let compiled = compile_text(alloc, program, script)?;
-    let Some(launch) = read_launch(alloc, launch, &compiled.form)? else {
-        return Err(Failure::LaunchFile);
+    let ask = Ask::Run {
+        task: compiled.is_task,
     };
-    Ok(run_launch(alloc, &compiled, &launch)?)
+    let file = match read_launch(alloc, launch, &compiled.program, ask) {
+        Ok(file) => file,
+        Err(no) => return Err(Failure::of_launch(compiled.program, no)),
+    };
+    Ok(run_launch(alloc, &compiled, &file)?)
 }
 
 // The text of the kernel of the files that a request names.
-fn compile_files<'w, F: Files>(
+fn compile_files<F: Files>(
     alloc: Global,
     files: &mut F,
-    program: &'w str,
-    script: &'w str,
-) -> Result<Vec<u8>, Failure<'w>>
-    ensures ok { IfOk result (λ text. (texts : Texts) × AreTexts (F.told files.old) (requests.Compile program.entry.now script.entry.now) texts × Compiles texts text.items) }
+    program: String,
+    script: String,
+) -> Result<Vec<u8>, Failure>
+    ensures ok { IfOk result (λ text. (texts : Texts) × AreTexts (F.told files.old) (requests.compile (string_bytes program) (string_bytes script)) texts × Compiles texts text.items) }
     ensures refused { IfErr result (λ no. RequestCause (F.told files.old) (λ n. Rose (F.faults files.old n) (F.faults files.new n))
-        (requests.Compile program.entry.now script.entry.now) (failure_of no)) }
+        (requests.compile (string_bytes program) (string_bytes script)) (failure_of no)) }
 {
     let program = read_text(alloc, files, program, SOURCE_LIMIT)?;
     let script = read_text(alloc, files, script, SOURCE_LIMIT)?;
@@ -136,17 +141,33 @@ fn compile_files<'w, F: Files>(
     Ok(compiled.text)
 }
 
-// The result line of the files that a request names.
-fn run_files<'w, F: Files>(
+// The lines of the terms of the files that a request names.
+fn steps_files<F: Files>(
     alloc: Global,
     files: &mut F,
-    program: &'w str,
-    script: &'w str,
-    launch: &'w str,
-) -> Result<Vec<u8>, Failure<'w>>
-    ensures ok { IfOk result (λ line. (texts : Texts) × AreTexts (F.told files.old) (requests.Run program.entry.now script.entry.now launch.entry.now) texts × Runs texts line.items) }
+    program: String,
+    script: String,
+) -> Result<Vec<u8>, Failure>
+    ensures ok { IfOk result (λ text. (texts : Texts) × AreTexts (F.told files.old) (requests.steps (string_bytes program) (string_bytes script)) texts × IsStepsText texts.program texts.script text.items) }
     ensures refused { IfErr result (λ no. RequestCause (F.told files.old) (λ n. Rose (F.faults files.old n) (F.faults files.new n))
-        (requests.Run program.entry.now script.entry.now launch.entry.now) (failure_of no)) }
+        (requests.steps (string_bytes program) (string_bytes script)) (failure_of no)) }
+{
+    let program = read_text(alloc, files, program, SOURCE_LIMIT)?;
+    let script = read_text(alloc, files, script, SOURCE_LIMIT)?;
+    Ok(steps_text(alloc, program.as_slice(), script.as_slice())?)
+}
+
+// The result line of the files that a request names.
+fn run_files<F: Files>(
+    alloc: Global,
+    files: &mut F,
+    program: String,
+    script: String,
+    launch: String,
+) -> Result<Vec<u8>, Failure>
+    ensures ok { IfOk result (λ line. (texts : Texts) × AreTexts (F.told files.old) (requests.run (string_bytes program) (string_bytes script) (string_bytes launch)) texts × Runs texts line.items) }
+    ensures refused { IfErr result (λ no. RequestCause (F.told files.old) (λ n. Rose (F.faults files.old n) (F.faults files.new n))
+        (requests.run (string_bytes program) (string_bytes script) (string_bytes launch)) (failure_of no)) }
 {
     let program = read_text(alloc, files, program, SOURCE_LIMIT)?;
     let script = read_text(alloc, files, script, SOURCE_LIMIT)?;
@@ -159,43 +180,56 @@ fn run_files<'w, F: Files>(
     )
 }
 
-// The text that the words ask for.
-fn answer<'w, F: Files>(
+// The result line of the value of the files that a request names.
+fn eval_files<F: Files>(
     alloc: Global,
-    words: &'w [String],
     files: &mut F,
-) -> Result<Vec<u8>, Failure<'w>>
-    ensures ok { IfOk result (λ text. OnTexts (F.told files.old) (map string_bytes words.entry.now) (λ request texts. Answers request texts text.items)) }
-    ensures refused { IfErr result (λ no. WordsCause (F.told files.old) (λ n. Rose (F.faults files.old n) (F.faults files.new n)) (map string_bytes words.entry.now) (failure_of no)) }
+    program: String,
+    launch: String,
+) -> Result<Vec<u8>, Failure>
+    ensures ok { IfOk result (λ line. (texts : Texts) × AreTexts (F.told files.old) (requests.eval (string_bytes program) (string_bytes launch)) texts × Evaluates texts line.items) }
+    ensures refused { IfErr result (λ no. RequestCause (F.told files.old) (λ n. Rose (F.faults files.old n) (F.faults files.new n))
+        (requests.eval (string_bytes program) (string_bytes launch)) (failure_of no)) }
 {
-    let Some(request) = Request::from_words(words) else {
-        return Err(Failure::Words);
-    };
-    match request {
+    let program = read_text(alloc, files, program, SOURCE_LIMIT)?;
+    let launch = read_text(alloc, files, launch, LAUNCH_LIMIT)?;
+    eval_texts(alloc, program.as_slice(), launch.as_slice())
+}
+
+// The text that the words ask for.
+fn answer<F: Files>(alloc: Global, words: &[String], files: &mut F) -> Result<Vec<u8>, Failure>
+    ensures ok { IfOk result (λ text. OnTexts (F.told files.old) (map string_bytes words.now) (λ request texts. Answers request texts text.items)) }
+    ensures refused { IfErr result (λ no. WordsCause (F.told files.old) (λ n. Rose (F.faults files.old n) (F.faults files.new n)) (map string_bytes words.now) (failure_of no)) }
+{
+    match read_words(alloc, words)? {
         Request::Compile { program, script } => compile_files(alloc, files, program, script),
+        Request::Steps { program, script } => steps_files(alloc, files, program, script),
         Request::Run {
             program,
             script,
             launch,
         } => run_files(alloc, files, program, script, launch),
+        Request::Eval { program, launch } => eval_files(alloc, files, program, launch),
     }
 }
 
 // Ends the call without a result.
-fn fail<E: Sink>(err: &mut E, failure: Failure<'_>) -> u8
-    ensures status { result ≡ status_of (failure_of failure.entry) }
-    ensures line { TakesLine (E.taken err.old) (E.taken err.new) (Rose (E.faults err.old) (E.faults err.new)) (line_of (failure_of failure.entry)) }
+fn fail<E: Sink>(err: &mut E, failure: Failure) -> u8
+    ensures status { result ≡ status_of (failure_of failure) }
+    ensures line { TakesLine (E.taken err.old) (E.taken err.new) (Rose (E.faults err.old) (E.faults err.new)) (line_of (failure_of failure)) }
 {
     failure.report(err);
     failure.status()
 }
 
 /// Does what the words of the command line ask for, and answers the status that the program ends
-/// with. `compile PROGRAM SCRIPT` writes the text of a kernel, and `run PROGRAM SCRIPT LAUNCH` the
-/// result line of its run.
+/// with. `compile PROGRAM SCRIPT` writes the text of a kernel, `steps PROGRAM SCRIPT` a line for
+/// each term that the script's steps make, and `run PROGRAM SCRIPT LAUNCH` the result line of the
+/// kernel's run. `eval PROGRAM LAUNCH` writes the result line of the value of the program's source
+/// expression.
 ///
 /// Each file is read, and then its length is judged; all are, before the first is looked at.
-/// Want of memory (status 13) may come at any point once the words are a command.
+/// Want of memory (status 13) may come at any point.
 pub fn lift_tool<F: Files, O: Sink, E: Sink>(
     alloc: Global,
     words: &[String],
@@ -203,7 +237,7 @@ pub fn lift_tool<F: Files, O: Sink, E: Sink>(
     out: &mut O,
     err: &mut E,
 ) -> u8
-    // At 0 the output took just the text of the kernel, or the result line, and nothing went to `err`.
+    // At 0 the output took just the text of the kernel, the lines of the terms, or the result line of the run or of the source value, and nothing went to `err`.
     ensures done { result ≡ 0 → OnTexts (F.told files.old) (map string_bytes words.now) (λ request texts.
         (text : List ℕ) × Answers request texts text × Appends (O.taken out.old) (O.taken out.new) text) × (err.new ≡ err.old) }
 
@@ -215,18 +249,22 @@ pub fn lift_tool<F: Files, O: Sink, E: Sink>(
         (text : List ℕ) × Answers request texts text × TakesPrefix (O.taken out.old) (O.taken out.new) text) }
     ensures untouched { result ≢ 0 → result ≢ 4 → out.new ≡ out.old }
 
-    // Words that ask for nothing are told so, whatever memory there is.
-    ensures words { request_of (map string_bytes words.now) ≡ None → result ≡ 2 }
+    // Words that the command refuses are told so.
+    ensures words { ¬ IsTaken (map string_bytes words.now) → (result ≡ 2) ⊎ (result ≡ 13) }
+
+    // Words of just the form, whose file names don't begin with a hyphen, ask for what they say, and aren't refused.
+    ensures plain { (request : requests.CommandLine) → is_plain request ≡ true → map string_bytes words.now ≡ words_of request
+        → Asks (map string_bytes words.now) request × (result ≢ 2) }
 
     // Told files that are well formed have a result, where no read or write fails and memory lasts.
-    ensures complete { (request : requests.Request) (texts : Texts)
-        → request_of (map string_bytes words.now) ≡ Some request → AreTold (F.told files.old) request texts → Accepts request texts
+    ensures complete { (request : requests.CommandLine) (texts : Texts)
+        → Asks (map string_bytes words.now) request → AreTold (F.told files.old) request texts → Accepts request texts
         → NoneRose (λ n. Rose (F.faults files.old n) (F.faults files.new n)) (files_of request) → ¬ Rose (O.faults out.old) (O.faults out.new)
         → (result ≡ 0) ⊎ (result ≡ 13) }
 
     // Where a cause stands for told files, and no read or write fails, the status is that cause's and no other.
-    ensures exact { (request : requests.Request) (failure : failures.Failure)
-        → request_of (map string_bytes words.now) ≡ Some request → AllTold (F.told files.old) (files_of request)
+    ensures exact { (request : requests.CommandLine) (failure : failures.Failure)
+        → Asks (map string_bytes words.now) request → AllTold (F.told files.old) (files_of request)
         → NoneRose (λ n. Rose (F.faults files.old n) (F.faults files.new n)) (files_of request) → ¬ Rose (O.faults out.old) (O.faults out.new)
         → RequestCause (F.told files.old) (λ n. Rose (F.faults files.old n) (F.faults files.new n)) request failure → status_of failure ≢ 13
         → (result ≡ status_of failure) ⊎ (result ≡ 13) }

@@ -1,6 +1,7 @@
 //! Why a program and a script have no kernel: the status, and the line.
 ghost use Rattle.std.specs.Prelude.{◌≡◌};
 ghost use Rattle.lift_io.specs.Causes.{Rose};
+ghost use Rattle.rewriting.specs.Conditions.{condition_name};
 ghost use Rattle.lift_tool.specs.Outcome.{TakesLine};
 ghost use Rattle.lift_tool.specs.Refusal.{
   limit_line,
@@ -9,17 +10,20 @@ ghost use Rattle.lift_tool.specs.Refusal.{
   quantity_name,
   rule_name,
   status_of,
+  step_limit_name,
+  step_line,
   type_limit_name,
   type_line,
 };
 
 use crate::lines::{Piece, write_line};
 use crate::nest::NestRefusal;
-use crate::script::ScriptRefusal;
 use lift_io::Sink;
 use lift_reader::refusal::{Quantity, ReadRefusal};
 use pattern_types::{Rule, Spot, TypeLimit, TypeRefusal};
+use rewriting::Condition;
 use std::alloc::AllocError;
+use strategy_script::{ScriptNo, StepLimit, StepNo, Why};
 
 /// Why a program and a script have no kernel: the first cause in the order of the stages.
 #[derive(Debug, Drop)]
@@ -29,9 +33,9 @@ pub enum Refusal {
     /// The program has no types, or none within the limits.
     Typing(TypeRefusal),
     /// The script's text isn't one, or has too many steps.
-    Script(ScriptRefusal),
-    /// This step of the script, counted from 1, doesn't apply.
-    Step(u64),
+    Script(ScriptNo),
+    /// A step of the script can't be made, or passes a limit.
+    Step(StepNo),
     /// What the steps make isn't a nest that is printed.
     Nest(NestRefusal),
     /// Memory ran out. It never stands inside another cause.
@@ -58,6 +62,22 @@ fn type_limit_name(which: TypeLimit) -> &'static [u8]
         TypeLimit::Degree => b"degree".as_slice(),
         TypeLimit::Coefficient => b"coefficient".as_slice(),
         TypeLimit::Scalars => b"scalars".as_slice(),
+    }
+}
+
+fn condition_name(condition: Condition) -> &'static [u8]
+    ensures { result.now ≡ condition_name condition }
+{
+    condition.name().as_bytes()
+}
+
+fn step_limit_name(which: StepLimit) -> &'static [u8]
+    ensures { result.now ≡ step_limit_name which }
+{
+    match which {
+        StepLimit::Nodes => b"nodes".as_slice(),
+        StepLimit::Depth => b"depth".as_slice(),
+        StepLimit::Types(which) => type_limit_name(which),
     }
 }
 
@@ -169,32 +189,63 @@ fn report_typing<E: Sink>(err: &mut E, no: &TypeRefusal)
     }
 }
 
-fn report_script<E: Sink>(err: &mut E, no: ScriptRefusal)
+fn report_script<E: Sink>(err: &mut E, no: ScriptNo)
     ensures { TakesLine (E.taken err.old) (E.taken err.new) (Rose (E.faults err.old) (E.faults err.new)) (line_of (Refusal.Script no)) }
 {
     match no {
-        ScriptRefusal::Syntax { line } => write_line(
+        ScriptNo::Syntax { line } => write_line(
             err,
             &[
                 Piece::Text(b"lift: script: line "),
                 Piece::Number(line as u128),
             ],
         ),
-        ScriptRefusal::Steps { count } => report_limit(err, b"steps", count as u128),
+        ScriptNo::Limit { count, .. } => report_limit(err, b"steps", count as u128),
+        ScriptNo::Memory => report_memory(err),
     }
 }
 
-fn report_step<E: Sink>(err: &mut E, step: u64)
-    ensures { TakesLine (E.taken err.old) (E.taken err.new) (Rose (E.faults err.old) (E.faults err.new)) (line_of (Refusal.Step step)) }
+// Writes why the rule of a step isn't applied.
+fn report_why<E: Sink>(err: &mut E, step: u64, why: Why)
+    ensures { TakesLine (E.taken err.old) (E.taken err.new) (Rose (E.faults err.old) (E.faults err.new)) (step_line step why) }
 {
-    write_line(
-        err,
-        &[
-            Piece::Text(b"lift: step "),
-            Piece::Number(step as u128),
-            Piece::Text(b": shape"),
-        ],
-    );
+    match why {
+        Why::NoPlace => write_line(
+            err,
+            &[
+                Piece::Text(b"lift: step "),
+                Piece::Number(step as u128),
+                Piece::Text(b": no place"),
+            ],
+        ),
+        Why::Shape => write_line(
+            err,
+            &[
+                Piece::Text(b"lift: step "),
+                Piece::Number(step as u128),
+                Piece::Text(b": shape"),
+            ],
+        ),
+        Why::Side(condition) => write_line(
+            err,
+            &[
+                Piece::Text(b"lift: step "),
+                Piece::Number(step as u128),
+                Piece::Text(b": side "),
+                Piece::Text(condition_name(condition)),
+            ],
+        ),
+    }
+}
+
+fn report_step<E: Sink>(err: &mut E, no: StepNo)
+    ensures { TakesLine (E.taken err.old) (E.taken err.new) (Rose (E.faults err.old) (E.faults err.new)) (line_of (Refusal.Step no)) }
+{
+    match no {
+        StepNo::Inapplicable { step, why } => report_why(err, step, why),
+        StepNo::Limit { which, count, .. } => report_limit(err, step_limit_name(which), count),
+        StepNo::Memory => report_memory(err),
+    }
 }
 
 fn report_nest<E: Sink>(err: &mut E, no: &NestRefusal)
@@ -220,14 +271,17 @@ impl Refusal {
         match self {
             Refusal::Program(ReadRefusal::Syntax { .. }) => 6,
             Refusal::Typing(TypeRefusal::IllTyped { .. }) => 7,
-            Refusal::Script(ScriptRefusal::Syntax { .. }) => 8,
-            Refusal::Step(_) => 9,
+            Refusal::Script(ScriptNo::Syntax { .. }) => 8,
+            Refusal::Step(StepNo::Inapplicable { .. }) => 9,
             Refusal::Program(ReadRefusal::Limit { .. })
             | Refusal::Typing(TypeRefusal::Limit { .. })
-            | Refusal::Script(ScriptRefusal::Steps { .. }) => 10,
+            | Refusal::Script(ScriptNo::Limit { .. })
+            | Refusal::Step(StepNo::Limit { .. }) => 10,
             Refusal::Nest(_) => 11,
             Refusal::Program(ReadRefusal::Memory)
             | Refusal::Typing(TypeRefusal::Memory)
+            | Refusal::Script(ScriptNo::Memory)
+            | Refusal::Step(StepNo::Memory)
             | Refusal::Memory => 13,
         }
     }
@@ -241,7 +295,7 @@ impl Refusal {
             Refusal::Program(no) => report_program(err, no),
             Refusal::Typing(no) => report_typing(err, no),
             Refusal::Script(no) => report_script(err, *no),
-            Refusal::Step(step) => report_step(err, *step),
+            Refusal::Step(no) => report_step(err, *no),
             Refusal::Nest(no) => report_nest(err, no),
             Refusal::Memory => report_memory(err),
         }
@@ -294,13 +348,35 @@ impl From<TypeRefusal> for Refusal {
     }
 }
 
-impl From<ScriptRefusal> for Refusal {
-    ghost use Rattle.lift_tool.specs.declared.refusal.Refusal.TheVariants.{Script};
+impl From<ScriptNo> for Refusal {
+    ghost use Rattle.lift_tool.specs.Stages.{script_refused};
 
-    ghost from_gives = { λ no e. e ≡ Script no };
+    ghost from_gives = { λ no e. e ≡ script_refused no };
 
-    fn from(no: ScriptRefusal) -> Self {
-        Refusal::Script(no)
+    fn from(no: ScriptNo) -> Self {
+        match no {
+            ScriptNo::Syntax { line } => Refusal::Script(ScriptNo::Syntax { line }),
+            ScriptNo::Limit { which, count } => Refusal::Script(ScriptNo::Limit { which, count }),
+            ScriptNo::Memory => Refusal::Memory,
+        }
+    }
+}
+
+impl From<StepNo> for Refusal {
+    ghost use Rattle.lift_tool.specs.Stages.{step_refused};
+
+    ghost from_gives = { λ no e. e ≡ step_refused no };
+
+    fn from(no: StepNo) -> Self {
+        match no {
+            StepNo::Inapplicable { step, why } => {
+                Refusal::Step(StepNo::Inapplicable { step, why })
+            }
+            StepNo::Limit { which, step, count } => {
+                Refusal::Step(StepNo::Limit { which, step, count })
+            }
+            StepNo::Memory => Refusal::Memory,
+        }
     }
 }
 

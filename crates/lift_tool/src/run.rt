@@ -1,15 +1,21 @@
 //! The run of the text of a kernel.
-ghost use Rattle.std.specs.Prelude.{◌≡◌, ◌<◌, ◌≤◌, ◌^◌, IfOk, length};
+ghost use Rattle.std.specs.Prelude.{◌≡◌, ◌<◌, ◌≤◌, ◌^◌, ◌∷◌, [], IfOk, length};
 ghost use Rattle.kernel_tree.specs.Kernels.{kernel_of};
-ghost use Rattle.kernel_emit.specs.MapKernel.{added, map_kernel};
-ghost use Rattle.lift_tool.specs.Runs.{IsLineOf, RunsInOrder, task_launch, zeroed};
+ghost use Rattle.kernel_emit.specs.MapKernel.{map_kernel};
+ghost use Rattle.lift_tree.specs.Launches.{lists_of};
+ghost use Rattle.lift_tree.specs.Programs.{program_of};
+ghost use Rattle.lift_tree.specs.Types.{ty_of};
+ghost use Rattle.lift_tool.specs.Runs.{Admits, IsLineOfText, RunsInOrder, task_launch, zeroed};
+ghost use Rattle.launch_file.specs.LaunchFile.{given_by};
+ghost use Rattle.lift_tool.specs.Source.{input_given, source_value, world_of};
 
+use crate::cells::{first_input, list_of};
 use crate::compile::Compiled;
-use crate::launch::LaunchFile;
-use crate::written::result_line;
 use kernel_reader::{KernelNo, read_kernel};
 use kernel_tree::launches::{Cells, Launch};
 use kernel_tree::tree::Kernel;
+use launch_file::file::LaunchFile;
+use launch_file::result::result_text;
 use ndrange_device::{Ended, run_in_order};
 use std::alloc::{AllocError, Global};
 
@@ -33,8 +39,9 @@ struct Outcome {
 
 // Runs what is read back from the text on this input, by one work-item, in order.
 fn run_back(alloc: Global, compiled: &Compiled, input: Vec<u32>) -> Result<Outcome, AllocError>
-    requires { length input.items ≤ 1048576 }
-    ensures value { IfOk result (λ o. o.value.items ≡ added compiled.now.form.addend input.items) }
+    requires few { length input.items ≤ 1048576 }
+    requires admits { Admits (program_of compiled.now.program) (ty_of compiled.now.output) compiled.now.is_task (world_of input.items) (task_launch (length input.items)) (zeroed input.items) }
+    ensures value { IfOk result (λ o. o.value.items ∷ [] ≡ lists_of (ty_of compiled.now.output) (source_value (program_of compiled.now.program) (world_of input.items))) }
     ensures run { IfOk result (λ o. RunsInOrder (map_kernel compiled.now.form.addend) input.items o.value.items o.events) }
 {
     let kernel = read_back(alloc, compiled)?;
@@ -47,26 +54,22 @@ fn run_back(alloc: Global, compiled: &Compiled, input: Vec<u32>) -> Result<Outco
     Ok(Outcome { value, events })
 }
 
-// The input of a launch, in memory of its own.
-fn copied(alloc: Global, launch: &LaunchFile) -> Result<Vec<u32>, AllocError>
-    ensures { IfOk result (λ input. input.items ≡ launch.now.input.items) }
-{
-    launch.input.as_slice().to_vec(alloc)
-}
-
 /// The result line of the run of what is read back from the text, by one work-item, in order. No
-/// run of it has a fault, and its value is the program's.
+/// run of it has a fault, and its value is the program's. The input is one that the program admits.
 pub fn run_launch(
     alloc: Global,
     compiled: &Compiled,
-    launch: &LaunchFile,
+    file: &LaunchFile,
 ) -> Result<Vec<u8>, AllocError>
-    requires { length launch.now.input.items ≤ compiled.now.form.to }
-    ensures { IfOk result (λ line. IsLineOf (map_kernel compiled.now.form.addend) launch.now.input.items (added compiled.now.form.addend launch.now.input.items) line.items) }
+    requires few { length (input_given (given_by file.now)) ≤ compiled.now.form.to }
+    requires admits { Admits (program_of compiled.now.program) (ty_of compiled.now.output) compiled.now.is_task
+        (world_of (input_given (given_by file.now))) (task_launch (length (input_given (given_by file.now)))) (zeroed (input_given (given_by file.now))) }
+    ensures { IfOk result (λ line. IsLineOfText (program_of compiled.now.program) (ty_of compiled.now.output) compiled.now.text.items (input_given (given_by file.now)) line.items) }
 {
-    let input = copied(alloc, launch)?;
+    let input = first_input(alloc, file)?;
     let outcome = run_back(alloc, compiled, input)?;
-    Ok(result_line(alloc, outcome.value.as_slice(), outcome.events, 0)?)
+    let value = list_of(alloc, outcome.value.as_slice())?;
+    Ok(result_text(alloc, &value, Some((outcome.events, 0)))?)
 }
 
 // One work-item over so many elements.

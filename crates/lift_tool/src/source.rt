@@ -1,8 +1,11 @@
 //! A program's text: the program, with its types.
-ghost use Rattle.std.specs.Prelude.{◌≡◌, List, ℕ, IfErr, IfOk};
+ghost use Rattle.std.specs.Prelude.{◌≡◌, IfErr, IfOk, Ok};
+ghost use Rattle.lift_tree.specs.Annotations.{annotation_of};
 ghost use Rattle.lift_tree.specs.Programs.{program_of};
 ghost use Rattle.lift_tree.specs.Tree.{tree_of};
-ghost use Rattle.lift_tool.specs.Compiled.{IsRead, IsTyped, RefusesSource};
+ghost use Rattle.pattern_types.specs.Judged.{program_judged};
+ghost use Rattle.strategy_script.specs.Steps.{IsReady};
+ghost use Rattle.lift_tool.specs.Compiled.{IsRead, IsTyped, RefusesTyped};
 
 use crate::refusal::Refusal;
 use lift_reader::program::read_program;
@@ -14,7 +17,7 @@ use std::alloc::Global;
 // The program that a text is.
 fn read_source(alloc: Global, text: &[u8]) -> Result<Program, Refusal>
     ensures found { IfOk result (λ p. IsRead text.now (program_of p)) }
-    ensures refused { IfErr result (λ no. (script : List ℕ) → RefusesSource text.now script no) }
+    ensures refused { IfErr result (RefusesTyped text.now) }
 {
     Ok(read_program(alloc, text)?)
 }
@@ -23,8 +26,10 @@ fn read_source(alloc: Global, text: &[u8]) -> Result<Program, Refusal>
 pub fn typed_source(alloc: Global, text: &[u8]) -> Result<Typed, Refusal>
     ensures found { IfOk result (λ t. IsRead text.now (program_of t.program)) }
     ensures typed { IfOk result (λ t. IsTyped (program_of t.program)) }
+    ensures judged { IfOk result (λ t. program_judged (program_of t.program) (tree_of t.program.body) ≡ Ok (annotation_of t.types)) }
     ensures whole { IfOk result (λ t. tree_of t.term ≡ tree_of t.program.body) }
-    ensures refused { IfErr result (λ no. (script : List ℕ) → RefusesSource text.now script no) }
+    ensures ready { IfOk result IsReady }
+    ensures refused { IfErr result (RefusesTyped text.now) }
 {
     let program = read_source(alloc, text)?;
     let term = program.body.copy(alloc)?;

@@ -1,3 +1,5 @@
+mod steps;
+
 use crate::lift_tool;
 use lift_io::{MemoryFiles, MemorySink, NamedText};
 use std::alloc::{AllocError, Global};
@@ -175,6 +177,243 @@ fn what_is_not_compiled_is_refused(rt: HostRuntime) -> Result<(), Fail> {
         ..FIRST
     };
     assert!(rt; unread.ends(rt.alloc(), &COMPILE, 3, "", "lift: read s.lift\n")?);
+    Ok(())
+}
+
+const EVAL: [&str; 3] = ["eval", "p.lift", "l.json"];
+
+#[test]
+fn source_values_are_told(rt: HostRuntime) -> Result<(), Fail> {
+    for (program, launch, line) in [
+        // 65536 * 65536 is 2^32, and 33 is 1 modulo 32.
+        (
+            "size N from 1 to 8; input xs: [u32; N]; output map(\\x. mul(x, x), xs)",
+            "{\"sizes\":{\"N\":1},\"inputs\":{\"xs\":[65536]}}",
+            "{\"value\":[0]}\n",
+        ),
+        (
+            "size N from 1 to 8; input xs: [u32; N]; output map(\\x. shl(1, x), xs)",
+            "{\"sizes\":{\"N\":1},\"inputs\":{\"xs\":[33]}}",
+            "{\"value\":[2]}\n",
+        ),
+        (
+            "size M from 1 to 65535; size N from 1 to 32768; input xs: [[u32; M]; N]; output xs",
+            "{\"sizes\":{\"M\":2,\"N\":1},\"inputs\":{\"xs\":[[3,4]]}}",
+            "{\"value\":[[3,4]]}\n",
+        ),
+        (
+            "input xs: [u32; 7]; output slide(3, 2, xs)",
+            "{\"sizes\":{},\"inputs\":{\"xs\":[1,2,3,4,5,6,7]}}",
+            "{\"value\":[[1,2,3],[3,4,5],[5,6,7]]}\n",
+        ),
+        (
+            "input xs: [u32; 2]; output pad(2, 1, xs)",
+            "{\"sizes\":{},\"inputs\":{\"xs\":[1,2]}}",
+            "{\"value\":[1,1,1,2,2]}\n",
+        ),
+        // 1 - 10, then 2 less that, then 3 less that: -9, 11, -8.
+        (
+            "input xs: [u32; 3]; output fold(\\a x. sub(x, a), 10, xs)",
+            "{\"sizes\":{},\"inputs\":{\"xs\":[1,2,3]}}",
+            "{\"value\":[4294967288]}\n",
+        ),
+    ] {
+        let call = Call {
+            program,
+            launch,
+            ..FIRST
+        };
+        assert!(rt; call.ends(rt.alloc(), &EVAL, 0, line, "")?);
+    }
+    Ok(())
+}
+
+#[test]
+fn the_examples_have_these_values(rt: HostRuntime) -> Result<(), Fail> {
+    for (program, launch, line) in [
+        // 4 + 10 + 18
+        (
+            "size N from 1 to 4096; input xs: [u32; N]; input ys: [u32; N]; output reduce(add, 0, map(\\p. mul(first(p), second(p)), zip(xs, ys)))",
+            "{\"global\":1,\"local\":1,\"sizes\":{\"N\":3},\"inputs\":{\"xs\":[1,2,3],\"ys\":[4,5,6]}}",
+            "{\"value\":[32]}\n",
+        ),
+        (
+            "size M from 1 to 256; size N from 1 to 256; input rows: [[u32; M]; N]; output transpose(rows)",
+            "{\"global\":1,\"local\":1,\"sizes\":{\"M\":3,\"N\":2},\"inputs\":{\"rows\":[[1,2,3],[4,5,6]]}}",
+            "{\"value\":[[1,4],[2,5],[3,6]]}\n",
+        ),
+        // The ends are repeated: 1 + 1 + 2, and at last 5 + 6 + 6.
+        (
+            "size N multiple 2 from 2 to 4096; input xs: [u32; N]; output join(map(\\w. reduce(add, 0, w), slide(3, 1, pad(1, 1, xs))))",
+            "{\"global\":2,\"local\":2,\"sizes\":{\"N\":6},\"inputs\":{\"xs\":[1,2,3,4,5,6]}}",
+            "{\"value\":[4,6,9,12,15,17]}\n",
+        ),
+        (
+            "size K from 1 to 64; size M from 1 to 64; size N from 1 to 64; input a: [[u32; K]; M]; input b: [[u32; N]; K]; output map(\\row. join(map(\\column. reduce(add, 0, map(\\p. mul(first(p), second(p)), zip(row, column))), transpose(b))), a)",
+            "{\"global\":1,\"local\":1,\"sizes\":{\"K\":2,\"M\":2,\"N\":2},\"inputs\":{\"a\":[[1,2],[3,4]],\"b\":[[5,6],[7,8]]}}",
+            "{\"value\":[[19,22],[43,50]]}\n",
+        ),
+    ] {
+        let call = Call {
+            program,
+            launch,
+            ..FIRST
+        };
+        assert!(rt; call.ends(rt.alloc(), &EVAL, 0, line, "")?);
+    }
+    Ok(())
+}
+
+// The line that is told of the value of a term over xs = [1, 2, 3, 4294967295], ys = [5, 3, 33, 2] and
+// rows = [[1, 2, 3], [4, 5, 6]].
+fn has_value(alloc: Global, term: &str, value: &str) -> Result<bool, AllocError> {
+    let declared = "input xs: [u32; 4]; input ys: [u32; 4]; input rows: [[u32; 3]; 2]; output ";
+    let program = format!(in alloc; "{declared}{term}")?;
+    let line = format!(in alloc; "{{\"value\":{value}}}\n")?;
+    let call = Call {
+        program: program.as_str(),
+        launch: "{\"sizes\":{},\"inputs\":{\"xs\":[1,2,3,4294967295],\"ys\":[5,3,33,2],\"rows\":[[1,2,3],[4,5,6]]}}",
+        ..FIRST
+    };
+    call.ends(alloc, &EVAL, 0, line.as_str(), "")
+}
+
+// Modulo 2^32: 4294967295 is -1, 4294967292 is -4, 4294967266 is -30. A shift by 33 is one by 1.
+#[test]
+fn each_operator_has_its_value(rt: HostRuntime) -> Result<(), Fail> {
+    for (operator, value) in [
+        ("add", "[6,5,36,1]"),
+        ("sub", "[4294967292,4294967295,4294967266,4294967293]"),
+        ("mul", "[5,6,99,4294967294]"),
+        ("min", "[1,2,3,2]"),
+        ("max", "[5,3,33,4294967295]"),
+        // 3 and 33 are 11 and 100001 in base 2.
+        ("and", "[1,2,1,2]"),
+        ("or", "[5,3,35,4294967295]"),
+        ("xor", "[4,1,34,4294967293]"),
+        ("shl", "[32,16,6,4294967292]"),
+        ("shr", "[0,0,1,1073741823]"),
+        ("lt", "[1,1,1,0]"),
+        ("eq", "[0,0,0,0]"),
+        ("pair", "[[1,5],[2,3],[3,33],[4294967295,2]]"),
+    ] {
+        let term = format!(in rt.alloc();
+            "map(\\p. {operator}(first(p), second(p)), zip(xs, ys))"
+        )?;
+        assert!(rt; has_value(rt.alloc(), term.as_str(), value)?, "{operator}");
+    }
+    for (term, value) in [
+        ("map(\\x. eq(x, 3), xs)", "[0,0,1,0]"),
+        // 4294967295 is 3 times 1431655765.
+        ("map(\\x. div(x, 3), xs)", "[0,0,1,1431655765]"),
+        ("map(\\x. rem(x, 3), xs)", "[1,2,0,0]"),
+        // Each condition but 0 chooses the first.
+        ("map(\\x. select(sub(x, 1), 10, x), xs)", "[1,10,10,10]"),
+    ] {
+        assert!(rt; has_value(rt.alloc(), term, value)?, "{term}");
+    }
+    Ok(())
+}
+
+#[test]
+fn each_pattern_has_its_value(rt: HostRuntime) -> Result<(), Fail> {
+    for (term, value) in [
+        ("xs", "[1,2,3,4294967295]"),
+        ("map(\\x. 7, xs)", "[7,7,7,7]"),
+        (
+            "map(\\r. map(\\x. add(x, 1), r), rows)",
+            "[[2,3,4],[5,6,7]]",
+        ),
+        // The nearer binder counts: the squares of 2, 3, 4 and 0.
+        ("map(\\x. let x = add(x, 1) in mul(x, x), xs)", "[4,9,16,0]"),
+        (
+            "let y = map(\\x. add(x, 1), xs) in zip(y, xs)",
+            "[[2,1],[3,2],[4,3],[0,4294967295]]",
+        ),
+        (
+            "map(\\p. second(first(pair(pair(p, 8), p))), xs)",
+            "[8,8,8,8]",
+        ),
+        // 1 + 2 + 3 - 1, from 10.
+        ("reduce(add, 10, xs)", "[15]"),
+        // 1 * 2 * 3 * -1 is -6.
+        ("reduce(mul, 1, xs)", "[4294967290]"),
+        ("reduce(min, 4294967295, xs)", "[1]"),
+        ("reduce(max, 0, xs)", "[4294967295]"),
+        ("reduce(and, 4294967295, xs)", "[0]"),
+        ("reduce(or, 0, xs)", "[4294967295]"),
+        // 1 and 2 differ in both bits of 3.
+        ("reduce(xor, 0, xs)", "[4294967295]"),
+        // From the left: 100 - 1, 99 - 2, 97 - 3, 94 + 1.
+        ("fold(\\a x. sub(a, x), 100, xs)", "[95]"),
+        // (0, 1), (1, 0 + 1), (1, 1 + 2), (3, 1 + 3), (4, 3 - 1)
+        (
+            "fold(\\a x. pair(second(a), add(first(a), x)), pair(0, 1), xs)",
+            "[[4,2]]",
+        ),
+        ("map(\\r. reduce(add, 0, r), rows)", "[[6],[15]]"),
+        ("join(rows)", "[1,2,3,4,5,6]"),
+        ("transpose(rows)", "[[1,4],[2,5],[3,6]]"),
+        ("transpose(split(2, xs))", "[[1,3],[2,4294967295]]"),
+        ("split(2, join(rows))", "[[1,2],[3,4],[5,6]]"),
+        ("slide(2, 1, xs)", "[[1,2],[2,3],[3,4294967295]]"),
+        ("slide(1, 3, xs)", "[[1],[4294967295]]"),
+        ("pad(2, 1, ys)", "[5,5,5,3,33,2,2]"),
+        ("pad(0, 0, ys)", "[5,3,33,2]"),
+        ("pad(1, 0, rows)", "[[1,2,3],[1,2,3],[4,5,6]]"),
+    ] {
+        assert!(rt; has_value(rt.alloc(), term, value)?, "{term}");
+    }
+    Ok(())
+}
+
+#[test]
+fn the_first_check_that_fails_is_told(rt: HostRuntime) -> Result<(), Fail> {
+    for (launch, line) in [
+        (
+            "{\"sizes\":{\"N\":0},\"inputs\":{\"xs\":[]}}",
+            "lift: launch: size N is 0\n",
+        ),
+        (
+            "{\"sizes\":{\"N\":1001},\"inputs\":{}}",
+            "lift: launch: size N is 1001\n",
+        ),
+        (
+            "{\"sizes\":{\"N\":3},\"inputs\":{\"xs\":[1,2]}}",
+            "lift: launch: shape xs\n",
+        ),
+        (
+            "{\"sizes\":{\"N\":3},\"inputs\":{\"xs\":[1,2,4294967296]}}",
+            "lift: launch: shape xs\n",
+        ),
+        (
+            "{\"sizes\":{\"N\":3},\"inputs\":{\"xs\":[1,2,3]}",
+            "lift: launch: not json\n",
+        ),
+        (
+            "{\"inputs\":{\"xs\":[1,2,3]}}",
+            "lift: launch: missing sizes\n",
+        ),
+        (
+            "{\"sizes\":{},\"inputs\":{}}",
+            "lift: launch: missing sizes.N\n",
+        ),
+        (
+            "{\"sizes\":{\"N\":3},\"inputs\":{}}",
+            "lift: launch: missing inputs.xs\n",
+        ),
+    ] {
+        assert!(rt; Call { launch, ..FIRST }.ends(rt.alloc(), &EVAL, 12, "", line)?);
+    }
+    let program = "input xs: [u32; 3]; output 1";
+    assert!(rt;
+        Call { program, ..FIRST }.ends(rt.alloc(), &EVAL, 7, "", "lift: type: output at .\n")?
+    );
+    let unread = Call {
+        failing_reads: &[2],
+        ..FIRST
+    };
+    assert!(rt; unread.ends(rt.alloc(), &EVAL, 3, "", "lift: read l.json\n")?);
     Ok(())
 }
 
@@ -470,7 +709,7 @@ fn lines_of_scripts_are_told_apart(rt: HostRuntime) -> Result<(), Fail> {
         ("at . to-seq # why", "lift: script: line 1\n"),
         ("# first\r\n\r\nat . to-seq\r", "lift: script: line 3\n"),
         ("at . to-seq\r\r\n", "lift: script: line 1\n"),
-        ("\n\nat 0 to-seq\nat", "lift: script: line 3\n"),
+        ("\n\nat 0 to-seq\nat", "lift: script: line 4\n"),
         ("at. to-seq", "lift: script: line 1\n"),
         ("at . to-seq 1", "lift: script: line 1\n"),
         ("at . to-seq\n\x0b", "lift: script: line 2\n"),
@@ -488,27 +727,106 @@ fn launches_of_the_program_are_read(rt: HostRuntime) -> Result<(), Fail> {
     ] {
         assert!(rt; Call { launch, ..FIRST }.runs(rt.alloc(), 0, RESULT, "")?);
     }
-    for launch in [
-        "{\"global\":1,\"local\":1,\"sizes\":{\"N\":3},\"inputs\":{\"xs\":[1,2,4294967295]}",
-        "[]",
-        "{\"global\":2,\"local\":1,\"sizes\":{\"N\":3},\"inputs\":{\"xs\":[1,2,3]}}",
-        "{\"global\":1,\"local\":2,\"sizes\":{\"N\":3},\"inputs\":{\"xs\":[1,2,3]}}",
-        "{\"global\":1,\"sizes\":{\"N\":3},\"inputs\":{\"xs\":[1,2,3]}}",
-        "{\"global\":1,\"local\":1,\"inputs\":{\"xs\":[1,2,3]}}",
-        "{\"global\":1,\"local\":1,\"sizes\":{\"N\":0},\"inputs\":{\"xs\":[]}}",
-        "{\"global\":1,\"local\":1,\"sizes\":{\"N\":1001},\"inputs\":{\"xs\":[1,2,3]}}",
-        "{\"global\":1,\"local\":1,\"sizes\":{\"N\":3.0},\"inputs\":{\"xs\":[1,2,3]}}",
-        "{\"global\":1,\"local\":1,\"sizes\":{\"N\":18446744073709551616},\"inputs\":{\"xs\":[1,2,3]}}",
-        "{\"global\":1,\"local\":1,\"sizes\":[3],\"inputs\":{\"xs\":[1,2,3]}}",
-        "{\"global\":1,\"local\":1,\"sizes\":{\"N\":3},\"inputs\":{\"ys\":[1,2,3]}}",
-        "{\"global\":1,\"local\":1,\"sizes\":{\"N\":3},\"inputs\":{\"xs\":[1,2]}}",
-        "{\"global\":1,\"local\":1,\"sizes\":{\"N\":3},\"inputs\":{\"xs\":[1,2,4294967296]}}",
-        "{\"global\":1,\"local\":1,\"sizes\":{\"N\":3},\"inputs\":{\"xs\":[1,2,-1]}}",
-        "{\"global\":1,\"local\":1,\"sizes\":{\"N\":3},\"inputs\":{\"xs\":null}}",
-        "{\"global\":1,\"local\":1,\"sizes\":{\"N\":3},\"inputs\":{\"xs\":[1,2,3]},\"schedule\":[]}",
+    for (launch, line) in [
+        (
+            "{\"global\":1,\"local\":1,\"sizes\":{\"N\":3},\"inputs\":{\"xs\":[1,2,4294967295]}",
+            "lift: launch: not json\n",
+        ),
+        ("[]", "lift: launch: not json\n"),
+        (
+            "{\"global\":2,\"local\":1,\"sizes\":{\"N\":3},\"inputs\":{\"xs\":[1,2,3]}}",
+            "lift: launch: global 2 for one item\n",
+        ),
+        (
+            "{\"global\":1,\"local\":2,\"sizes\":{\"N\":3},\"inputs\":{\"xs\":[1,2,3]}}",
+            "lift: launch: global 1, local 2\n",
+        ),
+        (
+            "{\"global\":6,\"local\":4,\"sizes\":{\"N\":3},\"inputs\":{\"xs\":[1,2]}}",
+            "lift: launch: global 6, local 4\n",
+        ),
+        (
+            "{\"global\":1,\"sizes\":{\"N\":3},\"inputs\":{\"xs\":[1,2,3]}}",
+            "lift: launch: missing local\n",
+        ),
+        (
+            "{\"global\":1,\"local\":1,\"inputs\":{\"xs\":[1,2,3]}}",
+            "lift: launch: missing sizes\n",
+        ),
+        (
+            "{\"global\":1,\"local\":1,\"sizes\":{\"N\":3},\"inputs\":{\"xs\":[1,2,3]},\"schedule\":null}",
+            "lift: launch: missing schedule\n",
+        ),
+        (
+            "{\"global\":1,\"local\":1,\"sizes\":{\"N\":0},\"inputs\":{\"xs\":[]}}",
+            "lift: launch: size N is 0\n",
+        ),
+        (
+            "{\"global\":1,\"local\":1,\"sizes\":{\"N\":1001},\"inputs\":{\"xs\":[1,2,3]}}",
+            "lift: launch: size N is 1001\n",
+        ),
+        (
+            "{\"global\":1,\"local\":1,\"sizes\":{\"N\":3.0},\"inputs\":{\"xs\":[1,2,3]}}",
+            "lift: launch: missing sizes.N\n",
+        ),
+        (
+            "{\"global\":1,\"local\":1,\"sizes\":{\"N\":18446744073709551616},\"inputs\":{\"xs\":[1,2,3]}}",
+            "lift: launch: missing sizes.N\n",
+        ),
+        (
+            "{\"global\":1,\"local\":1,\"sizes\":{\"N\":3},\"inputs\":{\"ys\":[1,2,3]}}",
+            "lift: launch: missing inputs.xs\n",
+        ),
+        (
+            "{\"global\":1,\"local\":1,\"sizes\":{\"N\":3},\"inputs\":{\"xs\":[1,2]}}",
+            "lift: launch: shape xs\n",
+        ),
+        (
+            "{\"global\":1,\"local\":1,\"sizes\":{\"N\":3},\"inputs\":{\"xs\":[1,2,4294967296]}}",
+            "lift: launch: shape xs\n",
+        ),
     ] {
-        assert!(rt; Call { launch, ..FIRST }.runs(rt.alloc(), 12, "", "lift: launch\n")?);
+        assert!(rt; Call { launch, ..FIRST }.runs(rt.alloc(), 12, "", line)?);
     }
+    Ok(())
+}
+
+// One work-item has one enabled event, so each schedule takes it.
+#[test]
+fn a_schedule_of_one_work_item_changes_nothing(rt: HostRuntime) -> Result<(), Fail> {
+    for launch in [
+        "{\"global\":1,\"local\":1,\"sizes\":{\"N\":3},\"inputs\":{\"xs\":[1,2,4294967295]},\"schedule\":[3,2,1,0]}",
+        "{\"global\":1,\"local\":1,\"sizes\":{\"N\":3},\"inputs\":{\"xs\":[1,2,4294967295]},\"schedule\":{\"seed\":7}}",
+    ] {
+        assert!(rt; Call { launch, ..FIRST }.runs(rt.alloc(), 0, RESULT, "")?);
+    }
+    Ok(())
+}
+
+#[test]
+fn strange_launch_files_are_no_json(rt: HostRuntime) -> Result<(), Fail> {
+    let deep = repeated(rt.alloc(), "[", 100_000, "")?;
+    let launch = deep.as_str();
+    let line = "lift: launch: not json\n";
+    assert!(rt; Call { launch, ..FIRST }.ends(rt.alloc(), &EVAL, 12, "", line)?);
+    let mut texts = Vec::new(rt.alloc());
+    texts.push(named(rt.alloc(), "p.lift", PROGRAM)?)?;
+    texts.push(NamedText {
+        name: String::from_str(rt.alloc(), "u.json")?,
+        text: Vec::from_slice(rt.alloc(), b"{\"sizes\xff\":{}}")?,
+    })?;
+    let mut files = MemoryFiles::new(texts, Vec::new(rt.alloc()));
+    let mut output = MemorySink::new(rt.alloc(), 64, 16, Vec::new(rt.alloc()))?;
+    let mut error = MemorySink::new(rt.alloc(), 64, 16, Vec::new(rt.alloc()))?;
+    let words = strings(rt.alloc(), &["eval", "p.lift", "u.json"])?;
+    let ended = lift_tool(
+        rt.alloc(),
+        words.as_slice(),
+        &mut files,
+        &mut output,
+        &mut error,
+    );
+    assert!(rt; ended == 12 && error.bytes() == line.as_bytes());
     Ok(())
 }
 
@@ -562,7 +880,7 @@ fn the_first_cause_is_told(rt: HostRuntime) -> Result<(), Fail> {
         script,
         ..empty
     };
-    assert!(rt; launched.runs(rt.alloc(), 12, "", "lift: launch\n")?);
+    assert!(rt; launched.runs(rt.alloc(), 12, "", "lift: launch: not json\n")?);
     let long = padded(rt.alloc(), 65_537, "")?;
     let script = long.as_str();
     assert!(rt; Call { script, ..empty }.runs(rt.alloc(), 10, "", "lift: limit bytes: 65537\n")?);

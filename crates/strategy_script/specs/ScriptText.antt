@@ -1,5 +1,5 @@
 -- The text of a script.
-use Rattle.std.specs.Prelude.{◌≡◌, ◌+◌, ◌<◌, ℕ, List, [], ◌∷◌, Bool, ◌||◌, if◌then◌else◌, length, bytes_eq, codes, Option, Some, None, is_some, option_map, option_and_then}
+use Rattle.std.specs.Prelude.{◌≡◌, ◌+◌, ◌<◌, ℕ, List, [], Bool, ◌||◌, if◌then◌else◌, length, bytes_eq, codes, Option, Some, None, is_some, option_map, option_and_then}
 use Rattle.std.specs.List.{prefix_len, filter_map}
 use Rattle.std.specs.Str.Lines.{lines}
 use Rattle.strategy_script.specs.declared.rule.PlainRule.{PlainRule}

@@ -1,30 +1,50 @@
 use Rattle.std.proofs.Common.{subst}
-use Rattle.std.specs.Prelude.{MatchOption}
-use Rattle.kernel_emit.specs.MapKernel.{added}
 use Rattle.lift_tree.specs.Programs.{program_of}
-use Rattle.lift_tool.specs.Compiled.{kernel_of_form}
-use Rattle.lift_tool.specs.Launch.{IsLaunch, Launch}
-use Rattle.lift_tool.specs.Shown.{form_of, launch_of}
-use Rattle.lift_tool.proofs.MapRun.{source_is}
+use Rattle.lift_tree.specs.Types.{ty_of}
+use Rattle.launch_file.specs.declared.file.Ask.TheVariants as asks
+use Rattle.launch_file.specs.LaunchFile.{IsLaunchFile, given_by}
+use Rattle.lift_tool.specs.Shown.{form_of}
+use Rattle.lift_tool.proofs.Causes.{read_form, run_launch_fails}
+use Rattle.lift_tool.proofs.LaunchInput.{few_numbers, launch_admits, line_at}
+use Rattle.lift_tool.proofs.Proper.{proper}
 use Rattle.lift_tool.proofs.run_texts.Goals as goal
+
+pub read_launch-requires : goal.read_launch-requires
+read_launch-requires c =
+    let forms = c.in_ok-compiled.ensures.found.forms in
+    proper _ _ (read_form _ _ _ _ forms) forms.is.scripted.typed
+
+pub run_launch-requires-clause-few : goal.run_launch-requires-clause-few
+run_launch-requires-clause-few c =
+    let file = subst (λ b. IsLaunchFile (program_of c.in_ok-compiled.compiled.program) (asks.Run b) c.args.launch.now (given_by c.in-Ok.file)) c.in_ok-compiled.ensures.task c.in-Ok.ensures.ok in
+    few_numbers _ _ _ _ _ _ _ _ c.in_ok-compiled.ensures.found file
+
+pub run_launch-requires-clause-admits : goal.run_launch-requires-clause-admits
+run_launch-requires-clause-admits c =
+    let file = subst (λ b. IsLaunchFile (program_of c.in_ok-compiled.compiled.program) (asks.Run b) c.args.launch.now (given_by c.in-Ok.file)) c.in_ok-compiled.ensures.task c.in-Ok.ensures.ok in
+    launch_admits _ _ _ _ _ _ _ _ c.in_ok-compiled.ensures.found file c.in_ok-compiled.compiled.is_task
+
+pub returns-in-Err : goal.returns-in-Err
+returns-in-Err c =
+    run_launch_fails (record { program = c.args.program.now; script = c.args.script.now; launch = c.args.launch.now }) (program_of c.in_ok-compiled.compiled.program) (form_of c.in_ok-compiled.compiled.form)
+    c.in_ok-compiled.compiled.is_task c.in-Err.no _ c.of_launch.ensures c.in_ok-compiled.ensures.found.forms c.in_ok-compiled.ensures.task c.in-Err.ensures.refused
 
 pub returns : goal.returns
 returns c =
     let compiled = c.in_ok-compiled.compiled in
-    let form = form_of compiled.form in
+    let given = given_by c.in-Ok.file in
     let found = c.in_ok-compiled.ensures.found in
-    let launch : IsLaunch form c.args.launch.now (launch_of c.in-Some.launch) =
-    subst (λ o. MatchOption o ((l : Launch) → ¬ IsLaunch form c.args.launch.now l) (λ l. IsLaunch form c.args.launch.now (launch_of l))) c.in-Some.is c.in_ok-launch.ensures in
+    let file = subst (λ b. IsLaunchFile (program_of compiled.program) (asks.Run b) c.args.launch.now given) c.in_ok-compiled.ensures.task c.in-Ok.ensures.ok in
+    let line = c.in_ok-run_launch.ensures in
     record {
       program = program_of compiled.program;
-      form = form;
+      form = form_of compiled.form;
+      output = ty_of compiled.output;
       text = compiled.text.items;
       compiled = found;
-      launch = launch_of c.in-Some.launch;
-      launch_file = launch;
-      kernel = kernel_of_form form;
-      read = found.written;
-      value = added form.addend c.in-Some.launch.input.items;
-      source = source_is (program_of compiled.program) found.forms.is.steps found.forms.is.term form c.in-Some.launch.input.items found.forms.is.applied found.forms.is.printed;
-      run = c.in_ok-run_launch.ensures;
+      given = given;
+      launch_file = file;
+      kernel = line.kernel;
+      read = line.read;
+      run = line_at _ _ _ _ _ _ _ _ found file _ line;
     }

@@ -1,12 +1,12 @@
 use Rattle.std.proofs.Common.{sym}
-use Rattle.lift_tool.specs.Compiled.{RefusesSource}
+use Rattle.lift_tool.specs.Compiled.{RefusesTyped}
 use Rattle.lift_tool.proofs.Stages.{handed_on, refused_source}
 use Rattle.lift_tool.proofs.source.read_source.Goals as goal
 
 pub returns-in_err-read_program-clause-refused : goal.returns-in_err-read_program-clause-refused
 returns-in_err-read_program-clause-refused c =
-    handed_on (λ why. (script : _) → RefusesSource c.args.text.now script why) _ _ c.from_residual.ensures.1
-    (λ script. refused_source c.args.text.now script _ c.in_err-read_program.ensures.refused c.in_err-read_program.ensures.only)
+    handed_on (RefusesTyped c.args.text.now) _ _ c.from_residual.ensures.1
+    (refused_source c.args.text.now _ c.in_err-read_program.ensures.refused c.in_err-read_program.ensures.only)
 
 pub returns-clause-found : goal.returns-clause-found
 returns-clause-found c = record {

@@ -1,8 +1,0 @@
-use Rattle.std.proofs.Common.{◌≡◌, ◌++◌, drop}
-use Rattle.std.specs.Prelude.{option_map}
-use Rattle.serde_json.specs.View.{items_view}
-use Rattle.lift_tool.specs.Launch.{words_of}
-use Rattle.lift_tool.proofs.launch.words.Given as goal
-
-abbrev pub invariant-loop-value : goal.invariant-loop-value
-invariant-loop-value l = words_of (items_view l.values) ≡ option_map (λ ns. l.numbers.items ++ ns) (words_of (items_view (drop l.value-index l.values)))

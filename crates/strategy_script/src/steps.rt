@@ -1,0 +1,111 @@
+// One step of a script.
+
+ghost use Rattle.std.specs.Prelude.{◌≡◌, ◌≢◌, Ok, Err, IfOk, IfErr, OnOk};
+ghost use Rattle.lift_tree.specs.Programs.{program_of};
+ghost use Rattle.lift_tree.specs.Renumbering.{IsRenumberable};
+ghost use Rattle.lift_tree.specs.Tree.{tree_of};
+ghost use Rattle.rewriting.specs.Around.{context_of};
+ghost use Rattle.rewriting.specs.Keeps.{KeepsIn};
+ghost use Rattle.strategy_script.specs.RuleAnswers.{answer};
+ghost use Rattle.strategy_script.specs.Steps.{IsAfter, IsReady, answered, at_most, limited, rewritten, state_of, stepped, whole};
+ghost use Rattle.strategy_script.specs.declared.faults.Fault.TheVariants as fault;
+
+use crate::apply::apply;
+use crate::context::around_whole;
+use crate::faults::{Fault, StepLimit, Why};
+use crate::places::context_at;
+use crate::rule::Rule;
+use crate::script::Step;
+use lift_tree::place::{at, replaced};
+use lift_tree::term::Term;
+use lift_tree::typed::{Context, Typed};
+use pattern_types::{TypeRefusal, type_of};
+use rewriting::Refused;
+use std::alloc::Global;
+
+/// The most nodes that a term may have after a step.
+pub const NODE_LIMIT: u128 = 4096;
+
+/// The greatest height that a term may have after a step.
+pub const DEPTH_LIMIT: u128 = 256;
+
+// What the rule makes of the node, in the context of its place.
+#[tactic(auto, using(crate::proofs::Rewritten::becomes, crate::proofs::Rewritten::no_shape, crate::proofs::Rewritten::no_side))]
+fn applied(alloc: Global, rule: Rule, node: &Term, around: &Context) -> Result<Term, Fault>
+    requires { IsRenumberable (tree_of node.now) }
+    ensures ok { IfOk result (λ u. answered (answer rule (context_of around.now) (tree_of node.now)) ≡ Ok (tree_of u)) }
+    ensures keeps { IfOk result (λ u. KeepsIn (context_of around.now) (tree_of node.now) (tree_of u)) }
+    ensures refused { IfErr result (λ e. e ≢ fault.Memory → answered (answer rule (context_of around.now) (tree_of node.now)) ≡ Err e) }
+{
+    let node = node.copy(alloc)?;
+    match apply(alloc, rule, node, around) {
+        Ok(new) => Ok(new),
+        Err(Refused::Shape(_)) => Err(Fault::Stops(Why::Shape)),
+        Err(Refused::Side(condition, _)) => Err(Fault::Stops(Why::Side(condition))),
+        Err(Refused::Memory) => Err(Fault::Memory),
+    }
+}
+
+// The term after a step, before its limits and types are judged.
+#[tactic(auto, using(crate::proofs::Small::node_renumberable, crate::proofs::Rewritten::no_node, crate::proofs::Rewritten::nothing_around, crate::proofs::Rewritten::rewrites, crate::proofs::Rewritten::stops, crate::proofs::Rewritten::rewrite_keeps))]
+fn rewritten(alloc: Global, typed: &Typed, step: &Step) -> Result<Term, Fault>
+    requires { IsReady typed.now }
+    ensures ok { IfOk result (λ t. rewritten step.now (whole typed.now) (tree_of typed.now.term) ≡ Ok (tree_of t)) }
+    ensures keeps { IfOk result (λ t. KeepsIn (whole typed.now) (tree_of typed.now.term) (tree_of t)) }
+    ensures refused { IfErr result (λ e. e ≢ fault.Memory → rewritten step.now (whole typed.now) (tree_of typed.now.term) ≡ Err e) }
+{
+    let Some(node) = at(&typed.term, &step.place) else {
+        return Err(Fault::Stops(Why::NoPlace));
+    };
+    let context = around_whole(alloc, typed)?;
+    let Some(around) = context_at(alloc, context, &typed.term, &step.place)? else {
+        return Err(Fault::Stops(Why::NoPlace));
+    };
+    let new = applied(alloc, step.rule, node, &around)?;
+    let term = typed.term.copy(alloc)?;
+    match replaced(term, &step.place, new) {
+        Ok(term) => Ok(term),
+        Err(_) => unreachable!(),
+    }
+}
+
+fn check_at_most(most: u128, which: StepLimit, count: u128) -> Result<(), Fault>
+    ensures ok { OnOk result (at_most most which count ≡ Ok tt) }
+    ensures refused { IfErr result (λ f. at_most most which count ≡ Err f) }
+{
+    if count > most {
+        return Err(Fault::Passes(which, count));
+    }
+    Ok(())
+}
+
+// Whether the term is within the limits on nodes and height, judged in this order.
+fn check_limits(term: &Term) -> Result<(), Fault>
+    ensures ok { OnOk result (limited (tree_of term.now) ≡ Ok tt) }
+    ensures refused { IfErr result (λ f. limited (tree_of term.now) ≡ Err f) }
+{
+    check_at_most(NODE_LIMIT, StepLimit::Nodes, u128::from(term.node_count()))?;
+    check_at_most(DEPTH_LIMIT, StepLimit::Depth, u128::from(term.depth()))
+}
+
+/// The term after a step, with its types. Its nodes, its height and the limits on types are judged in this order.
+#[tactic(auto, using(crate::proofs::Stepping::steps_to, crate::proofs::Stepping::not_rewritten, crate::proofs::Stepping::not_limited, crate::proofs::Stepping::not_typed, crate::proofs::Stepping::is_after, crate::proofs::Stepping::is_ready, crate::proofs::Stepping::proper_same, crate::proofs::Stepping::is_term_of, crate::proofs::Stepping::copy_has_output))]
+pub fn stepped(alloc: Global, typed: &Typed, step: &Step) -> Result<Typed, Fault>
+    requires { IsReady typed.now }
+    ensures state { IfOk result (λ t. stepped (program_of typed.now.program) step.now (state_of typed.now) ≡ Ok (state_of t)) }
+    ensures after { IfOk result (λ t. IsAfter typed.now t) }
+    ensures ready { IfOk result (λ t. IsReady t) }
+    ensures refused { IfErr result (λ e. e ≢ fault.Memory → stepped (program_of typed.now.program) step.now (state_of typed.now) ≡ Err e) }
+{
+    let term = rewritten(alloc, typed, step)?;
+    check_limits(&term)?;
+    let program = typed.program.copy(alloc)?;
+    match type_of(alloc, program, term) {
+        Ok(next) => Ok(next),
+        Err(TypeRefusal::Limit { which, count, .. }) => {
+            Err(Fault::Passes(StepLimit::Types(which), count))
+        }
+        Err(TypeRefusal::IllTyped { .. }) => unreachable!(),
+        Err(TypeRefusal::Memory) => Err(Fault::Memory),
+    }
+}

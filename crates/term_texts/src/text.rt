@@ -1,0 +1,204 @@
+// Terms as texts.
+
+ghost use Rattle.std.specs.Prelude.{◌≡◌, ◌+◌, ◌++◌, IfOk, OnOk};
+ghost use Rattle.lift_tree.specs.Tree.{tree_of};
+ghost use Rattle.lift_tree.specs.Programs.{program_of};
+ghost use Rattle.term_texts.specs.TermText.{binder_text, fold_binders, fold_start, let_start, map_start, text_at, text_of, two_numbers, unary_end, unary_start};
+
+use crate::names::{
+    fold_name, input_name, is_reduce, map_name, one_more, push_binary_start, push_number,
+    push_product,
+};
+use lift_tree::program::Program;
+use lift_tree::term::{FoldKind, MapKind, Term, UnaryForm};
+use std::alloc::{AllocError, Global};
+
+/// A term of the program as a text, in the syntax of programs: the function first, and `_k` for a binder with k binders around it.
+///
+/// Each variable has its binder in the term, and each input and size that the term names is the program's. The product of each split's numbers is at most 4,294,967,296; the text's stands still at 2^64 - 1.
+pub fn term_text(alloc: Global, term: &Term, program: &Program) -> Result<Vec<u8>, AllocError>
+    ensures { IfOk result (λ text. text.items ≡ text_of (program_of program.now) (tree_of term.now)) }
+{
+    let mut text = Vec::new(alloc);
+    push_term(alloc, &mut text, program, 0, term)?;
+    Ok(text)
+}
+
+fn push_binder(text: &mut Vec<u8>, number: u64) -> Result<(), AllocError>
+    ensures { OnOk result (text.new.items ≡ text.old.items ++ binder_text number) }
+{
+    text.extend_from_slice(b"_")?;
+    push_number(text, number)
+}
+
+// What stands before the one child.
+fn push_unary_start(
+    alloc: Global,
+    text: &mut Vec<u8>,
+    program: &Program,
+    form: &UnaryForm,
+) -> Result<(), AllocError>
+    ensures { OnOk result (text.new.items ≡ text.old.items ++ unary_start (program_of program.now).sizes form.now) }
+{
+    match form {
+        UnaryForm::Div(_) => text.extend_from_slice(b"div("),
+        UnaryForm::Rem(_) => text.extend_from_slice(b"rem("),
+        UnaryForm::First => text.extend_from_slice(b"first("),
+        UnaryForm::Second => text.extend_from_slice(b"second("),
+        UnaryForm::Join => text.extend_from_slice(b"join("),
+        UnaryForm::Transpose => text.extend_from_slice(b"transpose("),
+        UnaryForm::Split(product) => {
+            text.extend_from_slice(b"split(")?;
+            push_product(alloc, text, &program.sizes, product.factors())?;
+            text.extend_from_slice(b", ")
+        }
+        UnaryForm::Slide(size, step) => {
+            text.extend_from_slice(b"slide(")?;
+            push_two(text, *size, *step)
+        }
+        UnaryForm::Pad(before, behind) => {
+            text.extend_from_slice(b"pad(")?;
+            push_two(text, *before, *behind)
+        }
+        UnaryForm::ToLocal => text.extend_from_slice(b"toLocal("),
+        UnaryForm::ToPrivate => text.extend_from_slice(b"toPrivate("),
+    }
+}
+
+fn push_two(text: &mut Vec<u8>, first: u32, second: u32) -> Result<(), AllocError>
+    ensures { OnOk result (text.new.items ≡ text.old.items ++ two_numbers first second) }
+{
+    push_number(text, u64::from(first))?;
+    text.extend_from_slice(b", ")?;
+    push_number(text, u64::from(second))?;
+    text.extend_from_slice(b", ")
+}
+
+// What stands behind the one child.
+fn push_unary_end(text: &mut Vec<u8>, form: &UnaryForm) -> Result<(), AllocError>
+    ensures { OnOk result (text.new.items ≡ text.old.items ++ unary_end form.now) }
+{
+    match form {
+        UnaryForm::Div(number) | UnaryForm::Rem(number) => {
+            text.extend_from_slice(b", ")?;
+            push_number(text, u64::from(*number))?;
+            text.extend_from_slice(b")")
+        }
+        _ => text.extend_from_slice(b")"),
+    }
+}
+
+// What stands before a let's value, with so many binders around it.
+fn push_let_start(text: &mut Vec<u8>, depth: u64) -> Result<(), AllocError>
+    ensures { OnOk result (text.new.items ≡ text.old.items ++ let_start depth) }
+{
+    text.extend_from_slice(b"let ")?;
+    push_binder(text, depth)?;
+    text.extend_from_slice(b" = ")
+}
+
+// What stands before a map's body.
+fn push_map_start(text: &mut Vec<u8>, kind: MapKind, depth: u64) -> Result<(), AllocError>
+    ensures { OnOk result (text.new.items ≡ text.old.items ++ map_start kind depth) }
+{
+    text.extend_from_slice(map_name(kind))?;
+    text.extend_from_slice(b"(\\")?;
+    push_binder(text, depth)?;
+    text.extend_from_slice(b". ")
+}
+
+// What stands before a fold's body.
+fn push_fold_start(
+    text: &mut Vec<u8>,
+    kind: FoldKind,
+    depth: u64,
+    element: u64,
+) -> Result<(), AllocError>
+    requires { element ≡ depth + 1 }
+    ensures { OnOk result (text.new.items ≡ text.old.items ++ fold_start kind depth) }
+{
+    text.extend_from_slice(fold_name(kind))?;
+    push_fold_binders(text, depth, element)?;
+    text.extend_from_slice(b". ")
+}
+
+fn push_fold_binders(text: &mut Vec<u8>, depth: u64, element: u64) -> Result<(), AllocError>
+    ensures { OnOk result (text.new.items ≡ text.old.items ++ fold_binders depth element) }
+{
+    text.extend_from_slice(b"(\\")?;
+    push_binder(text, depth)?;
+    text.extend_from_slice(b" ")?;
+    push_binder(text, element)
+}
+
+// The term behind the text, with so many binders around it.
+#[tactic(auto, using(crate::proofs::Appended::three_behind, crate::proofs::Appended::four_behind, crate::proofs::Appended::five_behind, crate::proofs::Appended::seven_behind))]
+fn push_term(
+    alloc: Global,
+    text: &mut Vec<u8>,
+    program: &Program,
+    depth: u64,
+    term: &Term,
+) -> Result<(), AllocError>
+    ensures { OnOk result (text.new.items ≡ text.old.items ++ text_at (program_of program.now) depth (tree_of term.now)) }
+{
+    match term {
+        Term::Variable(number) => push_binder(text, depth.saturating_sub(u64::from(*number) + 1)),
+        Term::Number(number) => push_number(text, u64::from(*number)),
+        Term::Input(number) => text.extend_from_slice(input_name(&program.inputs, *number)),
+        Term::Unary(form, a) => {
+            push_unary_start(alloc, text, program, form)?;
+            push_term(alloc, text, program, depth, a)?;
+            push_unary_end(text, form)
+        }
+        Term::Binary(form, a, b) => {
+            push_binary_start(text, *form)?;
+            if is_reduce(*form) {
+                push_term(alloc, text, program, depth, b)?;
+                text.extend_from_slice(b", ")?;
+                push_term(alloc, text, program, depth, a)?;
+                text.extend_from_slice(b")")
+            } else {
+                push_term(alloc, text, program, depth, a)?;
+                text.extend_from_slice(b", ")?;
+                push_term(alloc, text, program, depth, b)?;
+                text.extend_from_slice(b")")
+            }
+        }
+        Term::Select(a, b, c) => {
+            text.extend_from_slice(b"select(")?;
+            push_term(alloc, text, program, depth, a)?;
+            text.extend_from_slice(b", ")?;
+            push_term(alloc, text, program, depth, b)?;
+            text.extend_from_slice(b", ")?;
+            push_term(alloc, text, program, depth, c)?;
+            text.extend_from_slice(b")")
+        }
+        Term::Let(value, body) => {
+            let inside = one_more(depth)?;
+            push_let_start(text, depth)?;
+            push_term(alloc, text, program, depth, value)?;
+            text.extend_from_slice(b" in ")?;
+            push_term(alloc, text, program, inside, body)
+        }
+        Term::Map(kind, array, body) => {
+            let inside = one_more(depth)?;
+            push_map_start(text, *kind, depth)?;
+            push_term(alloc, text, program, inside, body)?;
+            text.extend_from_slice(b", ")?;
+            push_term(alloc, text, program, depth, array)?;
+            text.extend_from_slice(b")")
+        }
+        Term::Fold(kind, array, start, body) => {
+            let element = one_more(depth)?;
+            let inside = one_more(element)?;
+            push_fold_start(text, *kind, depth, element)?;
+            push_term(alloc, text, program, inside, body)?;
+            text.extend_from_slice(b", ")?;
+            push_term(alloc, text, program, depth, start)?;
+            text.extend_from_slice(b", ")?;
+            push_term(alloc, text, program, depth, array)?;
+            text.extend_from_slice(b")")
+        }
+    }
+}
