@@ -12,8 +12,8 @@ import tempfile
 import time
 from pathlib import Path
 
-TOP = Path(__file__).resolve().parent.parent
-LIFT = TOP / "crates" / "lift_cli" / "out" / "lift_cli"
+from programs import LIFT
+
 PROGRAM = "size N from 1 to 1048576;\ninput xs: [u32; N];\noutput map(\\x. add(mul(x, x), 1), xs)\n"
 
 

@@ -16,17 +16,7 @@ import subprocess
 import tempfile
 from pathlib import Path
 
-TOP = Path(__file__).resolve().parent.parent
-LIFT = TOP / "crates" / "lift_cli" / "out" / "lift_cli"
-HEAD = "size N from 1 to 1000;\ninput xs: [u32; N];\noutput "
-
-
-def wide(nodes):
-    """A balanced tree of sums with this many nodes, at most one fewer."""
-    if nodes < 3:
-        return "7"
-    left = (nodes - 1) // 2
-    return f"add({wide(left)}, {wide(nodes - 1 - left)})"
+from programs import HEAD, LIFT, wide
 
 
 def instructions(folder, steps):
