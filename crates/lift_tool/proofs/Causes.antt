@@ -1,20 +1,14 @@
 -- Why calls end as they do: each stage's causes exclude one another, and what is well formed.
-use Rattle.std.proofs.Common.{◌≡◌, ◌≢◌, ◌⊎◌, ◌∙◌, ◌<◌, ◌≤◌, ℕ, zero, suc, List, [], ◌∷◌, ap, ap₂, sym, subst, length, Bool, true, false, inl, inr, refl, arith, Option, Some, None, Result, Ok, Err}
-use Rattle.std.specs.Prelude.{IfSome, IfErr, nat_eq, MatchResult, option_and_then}
+use Rattle.std.proofs.Common.{◌≡◌, ◌≢◌, ◌⊎◌, ◌∙◌, ◌<◌, ◌≤◌, ℕ, List, [], ◌∷◌, ap, sym, subst, length, Bool, true, false, inl, inr, refl, arith, Option, Some, None, Result, Ok, Err}
+use Rattle.std.specs.Prelude.{IfSome, IfErr, nat_eq, MatchResult}
 use Rattle.std.specs.Result.{IsErrAnd}
 use Rattle.std.proofs.lemmas.Bool.{true≢false, eq-eqb, eqb-true}
-use Rattle.std.proofs.lemmas.Option.{same_Some, none-some}
+use Rattle.std.proofs.lemmas.Option.{same_Some}
 use Rattle.lift_tree.specs.Programs.{PlainProgram}
-use Rattle.lift_tree.specs.Tree.{Tree}
 use Rattle.lift_tree.specs.Types.{PlainTy}
 use Rattle.lift_reader.specs.ProgramText.{IsProgramText, first_limit}
-use Rattle.lift_reader.specs.declared.refusal.ReadRefusal.{ReadRefusal}
 use Rattle.lift_reader.specs.declared.refusal.ReadRefusal.TheVariants as readings
-use Rattle.pattern_types.specs.Judged.{program_judged}
-use Rattle.pattern_types.specs.declared.refusal.TypeRefusal.{TypeRefusal}
 use Rattle.pattern_types.specs.declared.refusal.TypeRefusal.TheVariants as typings
-use Rattle.lift_tool.specs.declared.nest.NestRefusal.{NestRefusal}
-use Rattle.lift_tool.specs.declared.nest.NestRefusal.TheVariants as nests
 use Rattle.lift_tool.specs.declared.refusal.Refusal.{Refusal}
 use Rattle.lift_tool.specs.declared.refusal.Refusal.TheVariants as refusals
 use Rattle.lift_tool.specs.declared.failure.Failure as code
@@ -28,12 +22,11 @@ use Rattle.lift_tool.specs.Compiled.{HasTerms, IsCompiled, IsRead, IsTyped, IsTh
 use Rattle.lift_tool.specs.StepsText.{IsStepsText}
 use Rattle.lift_tool.proofs.SourceCauses.{one_cause, one_terms_cause, source_stands, terms_stand, typed_cause, typed_stands}
 use Rattle.lift_tool.specs.Failure.{Failure, Words, Read, TooLong, Write, Source, Launch, Memory, status_of}
-use Rattle.lift_tool.specs.Form.{Form, IsPrinted}
+use Rattle.lift_tool.specs.Form.{Form}
 use Rattle.launch_file.specs.declared.file.Ask.TheVariants as asks
 use Rattle.launch_file.specs.LaunchFile as launches
 use Rattle.launch_file.proofs.Exact.{files_are_not_refused}
 use Rattle.lift_tool.proofs.Proper.{proper}
-use Rattle.lift_tool.specs.Nest.{first_undecided}
 use Rattle.lift_tool.specs.Refusal as sources
 use Rattle.command_line.specs.Requests.{CommandLine, compile, run, eval, steps, Asks, IsTaken, is_plain, words_of}
 use Rattle.command_line.proofs.Forms.{plain-asks}

@@ -10,13 +10,14 @@ use Rattle.lift_tree.specs.Typing.{HasOutput, declared_by}
 use Rattle.lift_tree.specs.declared.typed.Typed.{Typed}
 use Rattle.rewriting.specs.Keeps.{Keeps}
 use Rattle.strategy_script.specs.Steps.{State, state_of}
-use Rattle.lift_tool.specs.Compiled.{HasTheTerms, IsCompiled, RefusesForm, RefusesSource, kernel_of_form}
+use Rattle.lift_tool.specs.Compiled.{HasTheTerms, IsCompiled, RefusesForm, RefusesSource}
 use Rattle.lift_tool.specs.Form.{Form, IsPrinted}
+use Rattle.lift_tool.specs.OneList.{IsOverOneList}
 use Rattle.lift_tool.specs.Runs.{MeetsSource}
 use Rattle.lift_tool.specs.Scripted.{IsLast}
 use Rattle.lift_tool.specs.SourceTerms.{IsLastTerm}
 use Rattle.lift_tool.specs.declared.refusal.Refusal.{Refusal}
-use Rattle.lift_tool.proofs.Meets.{meets_source}
+use Rattle.lift_tool.proofs.Meets.{meets_source, over_one_list}
 use Rattle.lift_tool.proofs.Stages.{refused_form}
 use Rattle.lift_tool.proofs.TermsMade.{keeps_valued, last_output}
 
@@ -44,6 +45,12 @@ pub compiled_meets : (program script : List ℕ) (t : Typed) (form : Form) (outp
 compiled_meets program script t form output same h printed =
     let e = ends program script t output same h in
     meets_source (program_of t.program) (tree_of t.term) form output printed (keeps_valued (program_of t.program) (tree_of t.term) output e.typed e.keeps)
+
+pub compiled_over_one_list : (program script : List ℕ) (t : Typed) (form : Form) (output : PlainTy) → output ≡ type_in (annotation_of t.types) → IsLastTerm program script t
+    → IsPrinted (program_of t.program) (tree_of t.term) form → IsOverOneList (program_of t.program) output
+compiled_over_one_list program script t form output same h printed =
+    let e = ends program script t output same h in
+    over_one_list (program_of t.program) (tree_of t.term) form output printed (keeps_valued (program_of t.program) (tree_of t.term) output e.typed e.keeps)
 
 pub compiled_found : (program script : List ℕ) (t : Typed) (form : Form) (output : PlainTy) (text : List ℕ) → output ≡ type_in (annotation_of t.types) → IsLastTerm program script t
     → IsPrinted (program_of t.program) (tree_of t.term) form → IsKernelText text (map_kernel form.addend) → IsCompiled program script (program_of t.program) form output text

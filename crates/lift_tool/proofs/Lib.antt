@@ -1,11 +1,12 @@
+pub mod Admitted
 pub mod Belonging
 pub mod Causes
 pub mod Compiling
 pub mod FewNodes
 pub mod Held
-pub mod LaunchInput
 pub mod LaunchLine
 pub mod MapRun
+pub mod MapText
 pub mod Meets
 pub mod Proper
 pub mod SourceCauses

@@ -1,7 +1,6 @@
--- The run of the kernel of a program by one work-item.
-use Rattle.std.proofs.Common.{Bool, true, ◌≡◌, ℕ, zero, suc, Some, None, rules, ◌<◌, ◌≤◌, List, [], ◌∷◌, ◌++◌, length, replicate, refl, sym, ap, ◌∙◌, subst, arith}
-use Rattle.std.specs.Prelude.{Vec, map, option_and_then, slice_index}
-use Rattle.std.proofs.lemmas.Option.{same_Some, none-some}
+-- The run by one work-item, over a list of numbers, of a kernel that meets its source.
+use Rattle.std.proofs.Common.{Bool, true, true≢false, ◌≡◌, ℕ, ◌<◌, ◌≤◌, List, [], ◌∷◌, ◌++◌, length, map, replicate, refl, sym, ap, ◌∙◌, subst, arith}
+use Rattle.std.specs.Prelude.{Vec, slice_index}
 use Rattle.std.specs.Global.{Global}
 use Rattle.std.proofs.lemmas.List.{length-replicate}
 use Rattle.std.proofs.lemmas.Grind.{same_number_lists}
@@ -12,23 +11,27 @@ use Rattle.kernel_tree.specs.Device.{row, IsStart, start_state, device_of, IsRun
 use Rattle.kernel_emit.specs.Headline.{KeepsHeadline}
 use Rattle.kernel_emit.specs.MapKernel.{map_kernel}
 use Rattle.ndrange_device.specs.InOrder.{EndsInOrder, IsSafe}
-use Rattle.lift_tree.specs.declared.term.MapKind.TheVariants as maps
-use Rattle.lift_tree.specs.Meaning.{World, meaning}
+use Rattle.launch_file.specs.LaunchFile.{Given}
+use Rattle.lift_tree.specs.Launches.{IsAdmissibleLaunch, lists_of}
+use Rattle.lift_tree.specs.Meaning.{World}
 use Rattle.lift_tree.specs.Programs.{PlainProgram}
-use Rattle.lift_tree.specs.Tree.{Tree, Map}
-use Rattle.lift_tree.specs.Values.{Value}
-use Rattle.kernel_tree.specs.KernelText.{IsKernelText}
-use Rattle.kernel_spelling.specs.Spelling.{HasText, spelled, text_of}
-use Rattle.kernel_spelling.proofs.Stands.{spelled_stands}
-use Rattle.kernel_spelling.proofs.Whole.{spelled_made}
-use Rattle.kernel_tree.specs.Grammar.{is_kernel}
-use Rattle.lift_tree.specs.Launches.{lists_of}
 use Rattle.lift_tree.specs.Types.{PlainTy}
-use Rattle.lift_tree.specs.Typing.{HasOutput}
-use Rattle.lift_tool.specs.Runs.{Admits, MeetsSource, task_launch, zeroed}
-use Rattle.lift_tool.specs.Source.{source_value, world_of}
+use Rattle.lift_tree.specs.Typing.{declared_by}
+use Rattle.lift_tree.specs.Values.{Value, Word, Both, Nil, More}
+use Rattle.lift_tool.specs.OneList.{HasOneList, is_list_of_numbers}
+use Rattle.lift_tool.specs.Runs.{Admits, IsAdmissibleFor, MeetsSource, RunsInOrder, begun}
+use Rattle.lift_tool.specs.Source.{first_input, numbers_in, source_value, words, world_given}
+use Rattle.lift_tool.proofs.Meets.{alone}
 
-pub admissible : (addend : ℕ) (xs : List ℕ) → AdmissibleLaunch (map_kernel addend) (task_launch (length xs)) (zeroed xs)
+-- one work-item over so many elements
+abbrev task_launch : ℕ → Launch
+task_launch n = record { global = 1; local = 1; sizes = n ∷ [] }
+
+-- the input, an output as long, and 0 in all other memory
+abbrev pub zeroed : List ℕ → Cells
+zeroed input = record { ins = input ∷ []; outs = replicate (length input) 0 ∷ []; rest = 0 }
+
+admissible : (addend : ℕ) (xs : List ℕ) → AdmissibleLaunch (map_kernel addend) (task_launch (length xs)) (zeroed xs)
 admissible addend xs = record {
   whole = record { positive = omega arith; divides = refl };
   small_groups = omega arith;
@@ -59,71 +62,99 @@ start_is k l c = record {
   epochs = λ g f. refl;
 }
 
--- one row, of this length
-one_row : (rows : List (List ℕ)) (n : ℕ) → n ∷ [] ≡ map length rows → (want : List ℕ) × (rows ≡ want ∷ []) × (length want ≡ n)
-one_row [] n e = absurd (cc (e))
-one_row (r ∷ []) n e = (r, refl, sym (cc (e)))
-one_row (r ∷ q ∷ rs) n e = absurd (cc (e))
+-- ---- at the launch of one work-item
 
--- the run of a kernel that meets the source on this input
-module _ (p : PlainProgram) (output : PlainTy) (is_task : Bool) (addend : ℕ) (xs : List ℕ) (few : length xs ≤ 1048576) (meets : MeetsSource p output is_task (map_kernel addend))
-    (admits : Admits p output is_task (world_of xs) (task_launch (length xs)) (zeroed xs)) where
-  keeps : (es : List Event) → IsRun (device_of (map_kernel addend) (task_launch (length xs)) (zeroed xs)) (start_state (map_kernel addend) (zeroed xs)) es
-      → KeepsHeadline (map_kernel addend) (task_launch (length xs)) (zeroed xs) (λ a i. 0) (lists_of output (source_value p (world_of xs))) (start_state (map_kernel addend) (zeroed xs)) es
+module _ (p : PlainProgram) (output : PlainTy) (is_task : Bool) (addend : ℕ) (w : World) (ns : List ℕ) (few : length ns ≤ 1048576) (meets : MeetsSource p output is_task (map_kernel addend))
+    (admits : Admits p output is_task w (task_launch (length ns)) (zeroed ns)) where
+  keeps : (es : List Event) → IsRun (device_of (map_kernel addend) (task_launch (length ns)) (zeroed ns)) (start_state (map_kernel addend) (zeroed ns)) es
+      → KeepsHeadline (map_kernel addend) (task_launch (length ns)) (zeroed ns) (λ a i. 0) (lists_of output (source_value p w)) (start_state (map_kernel addend) (zeroed ns)) es
   keeps es r =
-      meets (world_of xs) (task_launch (length xs)) (zeroed xs) admits (start_state (map_kernel addend) (zeroed xs)) es
-      (start_is (map_kernel addend) (task_launch (length xs)) (zeroed xs)) r
+      meets w (task_launch (length ns)) (zeroed ns) admits (start_state (map_kernel addend) (zeroed ns)) es
+      (start_is (map_kernel addend) (task_launch (length ns)) (zeroed ns)) r
 
-  safe : IsSafe (map_kernel addend) (task_launch (length xs)) (zeroed xs)
+  safe : IsSafe (map_kernel addend) (task_launch (length ns)) (zeroed ns)
   safe es r = let h = keeps es r in (h.faultless, let b = h.bounded in omega arith)
 
-  pub value_is : (rows : List (List ℕ)) (events : ℕ) → EndsInOrder (map_kernel addend) (task_launch (length xs)) (zeroed xs) rows events
-      → (want : List ℕ) × (rows ≡ want ∷ []) × (want ∷ [] ≡ lists_of output (source_value p (world_of xs)))
-  value_is rows events e =
+  -- where the value has one list, the run leaves it
+  left : (want : List ℕ) → lists_of output (source_value p w) ≡ want ∷ [] → (rows : List (List ℕ)) (events : ℕ) → EndsInOrder (map_kernel addend) (task_launch (length ns)) (zeroed ns) rows events → rows ≡ want ∷ []
+  left want one rows events e =
       let h = keeps e.events e.scheduled.is_run.enabled in
-      let wanted = one_row (lists_of output (source_value p (world_of xs))) (length (replicate (length xs) 0)) admits.outputs in
-      let n : length (row rows 0) ≡ length wanted.0 = e.outputs.lengths 0 ∙ sym wanted.2 in
-      let is : row (lists_of output (source_value p (world_of xs))) 0 ≡ wanted.0 = ap (λ (q : List (List ℕ)). row q 0) wanted.1 in (
-        wanted.0,
-        only_row rows wanted.0 e.outputs.count n
-            (λ i lt. e.outputs.words 0 i (subst (λ m. i < m) (sym n) lt)
-            ∙ h.left e.over 0 i (subst (λ (q : List ℕ). i < length q) (sym is) lt) ∙ ap (λ (q : List ℕ). slice_index q i) is),
-        sym wanted.1,
-      )
+      let counts : length (replicate (length ns) 0) ∷ [] ≡ length want ∷ [] = admits.outputs ∙ ap (map length) one in
+      let long : length (replicate (length ns) 0) ≡ length want = cc (counts) in
+      let n : length (row rows 0) ≡ length want = e.outputs.lengths 0 ∙ long in
+      let is : row (lists_of output (source_value p w)) 0 ≡ want = ap (λ (q : List (List ℕ)). row q 0) one in
+      only_row rows want e.outputs.count n
+      (λ i lt. e.outputs.words 0 i (subst (λ m. i < m) (sym n) lt)
+      ∙ h.left e.over 0 i (subst (λ (q : List ℕ). i < length q) (sym is) lt) ∙ ap (λ (q : List ℕ). slice_index q i) is)
 
-  -- what was made is the map's kernel, at its launch, with its cells
-  pub safe_as_made : (k : Kernel) (l : Launch) (c : Cells) → k ≡ map_kernel addend → l ≡ task_launch (length xs) → c ≡ zeroed xs → IsSafe k l c
-  safe_as_made k l c p q r = rw (p, q, r) safe
+-- ---- at the launch that is given
 
--- the same run of what was made
-pub as_made : (addend : ℕ) (xs : List ℕ) (k : Kernel) (l : Launch) (c : Cells) (rows : List (List ℕ)) (events : ℕ) → k ≡ map_kernel addend → l ≡ task_launch (length xs) → c ≡ zeroed xs → EndsInOrder k l c rows events → EndsInOrder (map_kernel addend) (task_launch (length xs)) (zeroed xs) rows events
-as_made addend xs k l c rows events p q r e =
-    subst (λ x. EndsInOrder (map_kernel addend) (task_launch (length xs)) x rows events) r
-    (subst (λ x. EndsInOrder (map_kernel addend) x c rows events) q
-    (subst (λ x. EndsInOrder x l c rows events) p e))
+-- a list of numbers is that of its numbers
+numbers_are : (v : Value) → is_list_of_numbers v ≡ true → words (numbers_in v) ≡ v
+numbers_are (Word n) h = absurd (true≢false (sym h))
+numbers_are (Both u v) h = absurd (true≢false (sym h))
+numbers_are Nil h = refl
+numbers_are (More (Word n) rest) h = ap (More (Word n)) (numbers_are rest h)
+numbers_are (More (Both u v) rest) h = absurd (true≢false (sym h))
+numbers_are (More Nil rest) h = absurd (true≢false (sym h))
+numbers_are (More (More u v) rest) h = absurd (true≢false (sym h))
 
--- ---- the text
+module _ (p : PlainProgram) (output : PlainTy) (is_task : Bool) (addend : ℕ) (g : Given) (one_item : is_task ≡ true) (has : HasOneList p output (world_given g)) (ok : IsAdmissibleFor p is_task g) where
+  launch_is : g.launch ≡ task_launch (length (first_input (world_given g)))
+  launch_is =
+      let global : g.launch.global ≡ 1 = ok.launch.alone one_item in
+      let local : g.launch.local ≡ 1 = alone g.launch.global g.launch.local global ok.launch.local_least ok.launch.divides in
+      let sizes : g.launch.sizes ≡ length (first_input (world_given g)) ∷ [] = has.sizes in
+      λ i. record { global = global i; local = local i; sizes = sizes i }
 
--- the kernel of a form has a text, where it is in the grammar
-pub has_text_of : (addend : ℕ) → is_kernel (map_kernel addend) ≡ true → HasText (map_kernel addend)
-has_text_of addend in_grammar = record {
-  in_grammar = in_grammar;
-  written = refl;
-  locals = refl;
-  privates = refl;
-  inputs = omega arith;
-  outputs = omega arith;
-  sizes = omega arith;
-  variables = omega arith;
-}
+  begun_is : begun p output (world_given g) ≡ zeroed (first_input (world_given g))
+  begun_is =
+      let outs : map (λ (list : List ℕ). replicate (length list) 0) (lists_of output (source_value p (world_given g))) ≡ replicate (length (first_input (world_given g))) 0 ∷ [] =
+      ap (map (λ (list : List ℕ). replicate (length list) 0)) has.list ∙ ap (λ (n : ℕ). replicate n 0 ∷ []) has.long in
+      λ i. record { ins = has.buffers i; outs = outs i; rest = 0 }
 
-pub has_text : (addend : ℕ) → is_kernel (map_kernel addend) ≡ true → IsKernelText (text_of (map_kernel addend)) (map_kernel addend)
-has_text addend in_grammar =
-    let t = has_text_of addend in_grammar in
-    (spelled (map_kernel addend), _, spelled_stands (map_kernel addend) t, spelled_made (map_kernel addend) t, (refl, refl, refl))
+  admits_given : Admits p output is_task (world_given g) (task_launch (length (first_input (world_given g)))) (zeroed (first_input (world_given g)))
+  admits_given = record {
+    world = ok.world;
+    launch = subst (λ (l : Launch). IsAdmissibleLaunch (declared_by p).names is_task g.bases l.global l.local) launch_is ok.launch;
+    sizes = sym has.sizes;
+    inputs = sym has.buffers;
+    outputs = ap (λ (n : ℕ). n ∷ []) (length-replicate (length (first_input (world_given g))) 0 ∙ sym has.long) ∙ sym (ap (map length) has.list);
+  }
 
--- the one text of a form's kernel
-pub text_of_form : (addend : ℕ) (k : Kernel) (text : List ℕ) → is_kernel k ≡ true → k ≡ map_kernel addend → ((bytes : List ℕ) → IsKernelText bytes k → bytes ≡ text) → text ≡ text_of (map_kernel addend)
-text_of_form addend k text in_grammar same only =
-    let mapped : is_kernel (map_kernel addend) ≡ true = ap is_kernel (sym same) ∙ in_grammar in
-    sym (only (text_of (map_kernel addend)) (subst (IsKernelText (text_of (map_kernel addend))) (sym same) (has_text addend mapped)))
+  -- what was made is the kernel at this launch, with these cells: the device takes it
+  pub admissible_as_made : (k : Kernel) (l : Launch) (c : Cells) → k ≡ map_kernel addend → l ≡ g.launch → c ≡ zeroed (first_input (world_given g)) → AdmissibleLaunch k l c
+  admissible_as_made k l c kernel launch cells =
+      let launched : l ≡ task_launch (length (first_input (world_given g))) = launch ∙ launch_is in
+      rw (kernel, launched, cells) (admissible addend (first_input (world_given g)))
+
+  pub one_item_as_made : (l : Launch) → l ≡ g.launch → l.global ≡ 1
+  one_item_as_made l launch = ap (λ (x : Launch). x.global) (launch ∙ launch_is)
+
+  module _ (meets : MeetsSource p output is_task (map_kernel addend)) where
+    pub safe_as_made : (k : Kernel) (l : Launch) (c : Cells) → k ≡ map_kernel addend → l ≡ g.launch → c ≡ zeroed (first_input (world_given g)) → IsSafe k l c
+    safe_as_made k l c kernel launch cells =
+        let launched : l ≡ task_launch (length (first_input (world_given g))) = launch ∙ launch_is in
+        rw (kernel, launched, cells) (safe p output is_task addend (world_given g) (first_input (world_given g)) has.most meets admits_given)
+
+    -- its run leaves the value's numbers
+    pub left_as_made : (k : Kernel) (l : Launch) (c : Cells) (rows : List (List ℕ)) (events : ℕ) → k ≡ map_kernel addend → l ≡ g.launch → c ≡ zeroed (first_input (world_given g)) → EndsInOrder k l c rows events
+        → rows ≡ numbers_in (source_value p (world_given g)) ∷ []
+    left_as_made k l c rows events kernel launch cells e =
+        left p output is_task addend (world_given g) (first_input (world_given g)) has.most meets admits_given (numbers_in (source_value p (world_given g))) has.list rows events
+        (subst (λ x. EndsInOrder (map_kernel addend) (task_launch (length (first_input (world_given g)))) x rows events) cells
+        (subst (λ x. EndsInOrder (map_kernel addend) x c rows events) (launch ∙ launch_is)
+        (subst (λ x. EndsInOrder x l c rows events) kernel e)))
+
+    -- and is the run at the launch that is given
+    pub run_as_made : (k : Kernel) (l : Launch) (c : Cells) (rows : List (List ℕ)) (events : ℕ) → k ≡ map_kernel addend → l ≡ g.launch → c ≡ zeroed (first_input (world_given g)) → EndsInOrder k l c rows events
+        → RunsInOrder p output (map_kernel addend) g events
+    run_as_made k l c rows events kernel launch cells e =
+        subst (λ x. EndsInOrder (map_kernel addend) g.launch (begun p output (world_given g)) x events) (left_as_made k l c rows events kernel launch cells e ∙ sym has.list)
+        (subst (λ x. EndsInOrder (map_kernel addend) g.launch x rows events) (cells ∙ sym begun_is)
+        (subst (λ x. EndsInOrder (map_kernel addend) x c rows events) launch
+        (subst (λ x. EndsInOrder x l c rows events) kernel e)))
+
+  -- a value with these numbers is the program's
+  pub value_as_left : (value : List ℕ) → value ≡ numbers_in (source_value p (world_given g)) → words value ≡ source_value p (world_given g)
+  value_as_left value is = ap words is ∙ numbers_are (source_value p (world_given g)) has.numbers

@@ -1,10 +1,9 @@
 -- The kernel of a program meets its source.
-use Rattle.std.proofs.Common.{Bool, ◌≡◌, ◌∙◌, ◌+◌, ◌*◌, ◌%◌, ◌<◌, ◌≤◌, ◌^◌, ℕ, zero, suc, List, [], ◌∷◌, length, map, true, refl, sym, ap, subst, arith, pos}
+use Rattle.std.proofs.Common.{◌≡◌, ◌∙◌, ◌+◌, ◌*◌, ◌%◌, ◌<◌, ◌≤◌, ◌^◌, ℕ, zero, suc, List, [], ◌∷◌, length, map, true, refl, sym, ap, subst, arith, pos}
 use Rattle.std.proofs.Common.{mod-eq_of_lt}
 use Rattle.std.proofs.lemmas.Int.{ints}
-use Rattle.std.proofs.lemmas.Option.{same_Some}
 use Rattle.std.proofs.Math.Nat.{pow-zero, pow-suc}
-use Rattle.std.proofs.lemmas.List.{length-map, length-replicate}
+use Rattle.std.proofs.lemmas.List.{length-map}
 use Rattle.size_arith.specs.declared.names.Name.{Name}
 use Rattle.size_arith.specs.Polynomial.{value_at}
 use Rattle.size_arith.specs.Ranges as ranges
@@ -26,14 +25,15 @@ use Rattle.lift_tree.specs.declared.typed.Typed.{Typed}
 use Rattle.lift_tree.specs.Programs.{PlainProgram, program_of}
 use Rattle.lift_tree.specs.Tree.{Tree, tree_of}
 use Rattle.lift_tree.proofs.Annotated.{annotated_is_typed}
-use Rattle.lift_tree.specs.Types.{PlainTy, U32, PairOf, ArrayOf, HasType, HaveTypes}
+use Rattle.lift_tree.specs.Types.{PlainTy, U32, PairOf, ArrayOf, HasType}
 use Rattle.lift_tree.specs.Typing.{HasOutput, IsAdmissible, declared_by}
 use Rattle.lift_tree.proofs.Sound.{values_have_types}
 use Rattle.lift_tree.specs.Values.{Value, Word, More, array, members, list_of, nth}
 use Rattle.lift_tree.specs.WorkedOut.{length_of, range_of}
 use Rattle.lift_tool.specs.Form.{Form, IsPrinted, size_of, input_of, sequential_map}
-use Rattle.lift_tool.specs.Runs.{Admits, MeetsSource, task_launch, zeroed}
-use Rattle.lift_tool.specs.Source.{source_value, words, world_of, IsSourceValue}
+use Rattle.lift_tool.specs.OneList.{IsOverOneList, is_list_of_numbers}
+use Rattle.lift_tool.specs.Runs.{MeetsSource}
+use Rattle.lift_tool.specs.Source.{first_input, numbers_in, source_value, words}
 
 -- ---- lists of numbers
 
@@ -45,6 +45,14 @@ list_of_words (n ∷ ns) = ap (λ xs. n ∷ xs) (list_of_words ns)
 pub members_of_words : (ns : List ℕ) → members (words ns) ≡ map Word ns
 members_of_words [] = refl
 members_of_words (n ∷ ns) = ap (λ xs. Word n ∷ xs) (members_of_words ns)
+
+numbers_of_words : (ns : List ℕ) → numbers_in (words ns) ≡ ns
+numbers_of_words [] = refl
+numbers_of_words (n ∷ ns) = ap (λ xs. n ∷ xs) (numbers_of_words ns)
+
+words_are_numbers : (ns : List ℕ) → is_list_of_numbers (words ns) ≡ true
+words_are_numbers [] = refl
+words_are_numbers (n ∷ ns) = words_are_numbers ns
 
 -- values that are numbers are those of a list of numbers
 as_words : (ys : List ℕ) (xs : List Value) → Every (HasType ys U32) xs → (ns : List ℕ) × (xs ≡ map Word ns)
@@ -173,12 +181,16 @@ valued p term output typed same = record {
   same = same;
 }
 
+-- the source's value
+value_is : (form : Form) (body term : Tree) (output : PlainTy) → Valued (of_form form body) output term → term ≡ sequential_map form.addend
+    → (w : World) (ns : List ℕ) → IsAdmissible (declared_by (of_form form body)) w → Holds form w ns → source_value (of_form form body) w ≡ words (added form.addend ns)
+value_is form body term output valued becomes w ns ok holds = valued.same w ok ∙ ap (meaning w []) becomes ∙ map_value form.addend w ns holds.input
+
 -- what the outputs hold in the end
 lists_are : (form : Form) (body term : Tree) (output : PlainTy) → Valued (of_form form body) output term → term ≡ sequential_map form.addend
     → (w : World) (ns : List ℕ) → IsAdmissible (declared_by (of_form form body)) w → Holds form w ns → lists_of output (source_value (of_form form body) w) ≡ added form.addend ns ∷ []
 lists_are form body term output valued becomes w ns ok holds =
-    let v : source_value (of_form form body) w ≡ words (added form.addend ns) =
-    valued.same w ok ∙ ap (meaning w []) becomes ∙ map_value form.addend w ns holds.input in
+    let v = value_is form body term output valued becomes w ns ok holds in
     let long : length (added form.addend ns) ≡ length ns = length-map ns (λ x. (x + form.addend) % 2 ^ 32) in
     let some : 1 ≤ length (added form.addend ns) = let a = holds.least in let b = valued.declared.0.from_positive in omega (arith, long, a, b) in
     ap (lists_of output) v ∙ one_output w.bases output (added form.addend ns) some (subst (HasType w.bases output) v (valued.typed w ok))
@@ -218,76 +230,29 @@ meets_source p term form output printed valued =
     subst (λ (q : PlainProgram). MeetsSource q output true (map_kernel form.addend)) (sym is)
     (of_form_meets form p.body term output (subst (λ (q : PlainProgram). Valued q output term) is valued) printed.becomes printed.most)
 
--- ---- inputs that are lists of numbers
+-- ---- one list
 
-words_have_type : (ys : List ℕ) (ns : List ℕ) → Every (λ n. n < 2 ^ 32) ns → Every (HasType ys U32) (map Word ns)
-words_have_type ys [] h = tt
-words_have_type ys (n ∷ ns) h = ((n, refl, h.0), words_have_type ys ns h.1)
-
-of_form_admissible : (form : Form) (body : Tree) (input : List ℕ) → Every (λ n. n < 2 ^ 32) input → form.from ≤ length input → length input ≤ form.to
-    → IsAdmissible (declared_by (of_form form body)) (world_of input)
-of_form_admissible form body input small least most = record {
-  bases = ((omega (arith, least), omega (arith, most)), tt);
-  sizes = ap (λ n. n ∷ []) (let e : length input ≡ 1 * length input = omega arith in e);
-  inputs = given;
-}
-  where
-    given : HaveTypes (length input ∷ []) (ArrayOf U32 (counted form) ∷ []) (words input ∷ [])
-    given zero a e =
-        subst (λ b. HasType (length input ∷ []) b (words input)) (same_Some _ _ e)
-        (map Word input, refl, ap pos (length-map input Word) ∙ sym (counted_at form (length input)), words_have_type (length input ∷ []) input small)
-    given (suc n) a e = absurd (cc (e))
-
--- so many numbers are an admissible input
-pub admissible_input : (p : PlainProgram) (term : Tree) (form : Form) (input : List ℕ) → IsPrinted p term form → Every (λ n. n < 2 ^ 32) input → form.from ≤ length input → length input ≤ form.to
-    → IsAdmissible (declared_by p) (world_of input)
-admissible_input p term form input printed small least most =
-    subst (λ (q : PlainProgram). IsAdmissible (declared_by q) (world_of input)) (sym (is_of_form p term form printed)) (of_form_admissible form p.body input small least most)
-
-of_form_admits : (form : Form) (body term : Tree) (output : PlainTy) (is_task : Bool) (input : List ℕ) → Valued (of_form form body) output term → term ≡ sequential_map form.addend
-    → Every (λ n. n < 2 ^ 32) input → form.from ≤ length input → length input ≤ form.to → Admits (of_form form body) output is_task (world_of input) (task_launch (length input)) (zeroed input)
-of_form_admits form body term output is_task input valued becomes small least most =
-    let ok = of_form_admissible form body input small least most in
-    let held = world_holds form body (world_of input) ok in
-    let lists = lists_are form body term output valued becomes (world_of input) held.0 ok held.1 in
-    let same : length held.0 ≡ length input = cc (held.1.bases) in
+of_form_list : (form : Form) (body term : Tree) (output : PlainTy) → Valued (of_form form body) output term → term ≡ sequential_map form.addend → form.to ≤ 1048576
+    → IsOverOneList (of_form form body) output
+of_form_list form body term output valued becomes most w ok =
+    let held = world_holds form body w ok in
+    let ns = held.0 in
+    let h = held.1 in
+    let v = value_is form body term output valued becomes w ns ok h in
+    let input : first_input w ≡ ns = ap numbers_in h.input ∙ numbers_of_words ns in
+    let value : numbers_in (source_value (of_form form body) w) ≡ added form.addend ns = ap numbers_in v ∙ numbers_of_words (added form.addend ns) in
     record {
-      world = ok;
-      launch = record {
-        sizes = ok.bases;
-        local_least = omega arith;
-        local_most = omega arith;
-        global_least = omega arith;
-        global_most = omega arith;
-        divides = refl;
-        alone = λ _. refl;
-      };
-      sizes = refl;
-      inputs = ap (λ (ns : List ℕ). ns ∷ []) (sym (list_of_words input));
-      outputs = ap (λ n. n ∷ []) (length-replicate (length input) 0 ∙ sym same ∙ sym (length-map held.0 (λ x. (x + form.addend) % 2 ^ 32))) ∙ sym (ap (map length) lists);
+      sizes = h.sizes ∙ ap (λ (xs : List ℕ). length xs ∷ []) (sym input);
+      most = subst (λ (xs : List ℕ). length xs ≤ 1048576) (sym input) (let a = h.most in omega (arith, a, most));
+      buffers = h.buffers ∙ ap (λ (xs : List ℕ). xs ∷ []) (sym input);
+      numbers = ap is_list_of_numbers v ∙ words_are_numbers (added form.addend ns);
+      list = lists_are form body term output valued becomes w ns ok h ∙ ap (λ (xs : List ℕ). xs ∷ []) (sym value);
+      long = ap length value ∙ length-map ns (λ x. (x + form.addend) % 2 ^ 32) ∙ ap length (sym input);
     }
 
-of_form_left : (form : Form) (body term : Tree) (output : PlainTy) (input value : List ℕ) → Valued (of_form form body) output term → term ≡ sequential_map form.addend
-    → IsAdmissible (declared_by (of_form form body)) (world_of input) → value ∷ [] ≡ lists_of output (source_value (of_form form body) (world_of input))
-    → IsSourceValue (of_form form body) input value
-of_form_left form body term output input value valued becomes ok left =
-    let held = world_holds form body (world_of input) ok in
-    let lists = left ∙ lists_are form body term output valued becomes (world_of input) held.0 ok held.1 in
-    let same : value ≡ added form.addend held.0 = cc (lists) in
-    ap words same ∙ sym (valued.same (world_of input) ok ∙ ap (meaning (world_of input) []) becomes ∙ map_value form.addend (world_of input) held.0 held.1.input)
-
--- a kernel of a printed program may run on so many numbers
-pub admits_input : (p : PlainProgram) (term : Tree) (form : Form) (output : PlainTy) (is_task : Bool) (input : List ℕ) → IsPrinted p term form → Valued p output term
-    → Every (λ n. n < 2 ^ 32) input → form.from ≤ length input → length input ≤ form.to → Admits p output is_task (world_of input) (task_launch (length input)) (zeroed input)
-admits_input p term form output is_task input printed valued small least most =
+-- a printed program is over one list of numbers
+pub over_one_list : (p : PlainProgram) (term : Tree) (form : Form) (output : PlainTy) → IsPrinted p term form → Valued p output term → IsOverOneList p output
+over_one_list p term form output printed valued =
     let is = is_of_form p term form printed in
-    subst (λ (q : PlainProgram). Admits q output is_task (world_of input) (task_launch (length input)) (zeroed input)) (sym is)
-    (of_form_admits form p.body term output is_task input (subst (λ (q : PlainProgram). Valued q output term) is valued) printed.becomes small least most)
-
--- the numbers in the one output are the source's value
-pub left_is_source : (p : PlainProgram) (term : Tree) (form : Form) (output : PlainTy) (input value : List ℕ) → IsPrinted p term form → Valued p output term
-    → IsAdmissible (declared_by p) (world_of input) → value ∷ [] ≡ lists_of output (source_value p (world_of input)) → IsSourceValue p input value
-left_is_source p term form output input value printed valued =
-    let is = is_of_form p term form printed in
-    subst (λ (q : PlainProgram). IsAdmissible (declared_by q) (world_of input) → value ∷ [] ≡ lists_of output (source_value q (world_of input)) → IsSourceValue q input value) (sym is)
-    (of_form_left form p.body term output input value (subst (λ (q : PlainProgram). Valued q output term) is valued) printed.becomes)
+    subst (λ (q : PlainProgram). IsOverOneList q output) (sym is)
+    (of_form_list form p.body term output (subst (λ (q : PlainProgram). Valued q output term) is valued) printed.becomes printed.most)

@@ -1,5 +1,5 @@
 -- Why a program and a script have no kernel: each stage's causes exclude one another, and what is well formed.
-use Rattle.std.proofs.Common.{◌≡◌, ◌≢◌, ◌∙◌, ◌++◌, ◌≤◌, ◌<◌, ℕ, List, [], ◌∷◌, ap, sym, subst, length, refl, arith, Some, None, Ok, Err}
+use Rattle.std.proofs.Common.{◌≡◌, ◌≢◌, ◌∙◌, ◌++◌, ◌≤◌, ℕ, List, [], ◌∷◌, ap, sym, subst, length, refl, arith, None, Ok, Err}
 use Rattle.std.proofs.lemmas.Option.{none-some}
 use Rattle.lift_tree.specs.Programs.{PlainProgram}
 use Rattle.lift_tree.specs.Tree.{Tree}

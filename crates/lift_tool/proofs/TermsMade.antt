@@ -1,14 +1,13 @@
 -- The terms of a program and a script.
-use Rattle.std.proofs.Common.{◌≡◌, ◌∙◌, ◌+◌, ◌<◌, ◌≤◌, take, get_or, ℕ, List, [], ◌∷◌, ◌++◌, length, map, Ok, Err, Result, refl, sym, ap, subst, append_assoc, append-nil, arith}
+use Rattle.std.proofs.Common.{◌≡◌, ◌∙◌, ◌+◌, ◌<◌, ◌≤◌, take, get_or, ℕ, List, [], ◌∷◌, ◌++◌, length, map, Ok, Result, refl, sym, ap, subst, append_assoc, append-nil, arith}
 use Rattle.std.specs.Prelude.{codes}
 use Rattle.std.proofs.lemmas.List.{map-append, take_more}
-use Rattle.lift_tree.specs.Annotations.{Annotation, annotation_of, type_in, IsTyped}
+use Rattle.lift_tree.specs.Annotations.{annotation_of, type_in}
 use Rattle.lift_tree.specs.Lists.{Every}
-use Rattle.lift_tree.specs.Meaning.{World, meaning}
 use Rattle.lift_tree.specs.Programs.{PlainProgram, program_of}
 use Rattle.lift_tree.specs.Tree.{Tree, tree_of}
 use Rattle.lift_tree.specs.Types.{PlainTy}
-use Rattle.lift_tree.specs.Typing.{HasOutput, IsAdmissible, Types, declared_by}
+use Rattle.lift_tree.specs.Typing.{HasOutput, declared_by}
 use Rattle.lift_tree.specs.declared.typed.Typed.{Typed}
 use Rattle.lift_tree.proofs.Annotated.{annotated_is_typed}
 use Rattle.lift_tree.proofs.Unique.{one_type}
@@ -16,14 +15,13 @@ use Rattle.pattern_types.specs.Judged.{program_judged}
 use Rattle.pattern_types.proofs.Results.{and_ok}
 use Rattle.rewriting.specs.Keeps.{Keeps}
 use Rattle.strategy_script.specs.ScriptText.{IsScript}
-use Rattle.strategy_script.specs.Steps.{IsAfter, IsReady, State, at_step, state_of, stepped, terms_from, terms_of}
+use Rattle.strategy_script.specs.Steps.{IsAfter, State, at_step, state_of, stepped, terms_from, terms_of}
 use Rattle.strategy_script.specs.declared.faults.StepNo.{StepNo}
 use Rattle.strategy_script.specs.declared.script.Step.{Step}
 use Rattle.term_texts.specs.TermText.{text_of}
 use Rattle.lift_tool.specs.Compiled.{IsRead}
 use Rattle.lift_tool.specs.Scripted.{AreTerms, source_of, term_lines}
 use Rattle.lift_tool.specs.SourceTerms.{AreSourceTerms, IsLastTerm, IsSourceTerm, typed_line, typed_lines}
-use Rattle.lift_tool.specs.Source.{source_value}
 use Rattle.lift_tool.specs.StepsText.{IsStepsText}
 use Rattle.lift_tool.proofs.Meets.{Valued, valued}
 

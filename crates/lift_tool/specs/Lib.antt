@@ -3,6 +3,7 @@ pub mod Failure
 pub mod Form
 pub mod Lines
 pub mod Nest
+pub mod OneList
 pub mod OneProof
 pub mod Outcome
 pub mod Refusal

@@ -14,13 +14,10 @@ use Rattle.lift_tool.specs.Lines.{line_of_texts, place_text}
 use Rattle.rewriting.specs.Conditions.{condition_name}
 use Rattle.strategy_script.specs.declared.faults.StepLimit.{StepLimit}
 use Rattle.strategy_script.specs.declared.faults.StepLimit.TheVariants as after
-use Rattle.strategy_script.specs.declared.faults.StepNo.{StepNo}
 use Rattle.strategy_script.specs.declared.faults.StepNo.TheVariants as stops
 use Rattle.strategy_script.specs.declared.faults.Why.{Why}
 use Rattle.strategy_script.specs.declared.faults.Why.TheVariants as whys
-use Rattle.strategy_script.specs.declared.script.ScriptNo.{ScriptNo}
 use Rattle.strategy_script.specs.declared.script.ScriptNo.TheVariants as scripts
-use Rattle.lift_tool.specs.declared.nest.NestRefusal.{NestRefusal}
 use Rattle.lift_tool.specs.declared.nest.NestRefusal.TheVariants as nests
 use Rattle.lift_tool.specs.declared.refusal.Refusal.{Refusal}
 use Rattle.lift_tool.specs.declared.refusal.Refusal.TheVariants.{Program, Typing, Script, Step, Nest, Memory}

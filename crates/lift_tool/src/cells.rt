@@ -2,7 +2,7 @@
 ghost use Rattle.std.specs.Prelude.{◌≡◌, IfOk, map};
 ghost use Rattle.launch_file.specs.LaunchFile.{given_by};
 ghost use Rattle.lift_tree.specs.Values.{array, members, value_of, word};
-ghost use Rattle.lift_tool.specs.Source.{input_given, words};
+ghost use Rattle.lift_tool.specs.Source.{first_input, words, world_given};
 
 use launch_file::file::LaunchFile;
 use lift_tree::value::Val;
@@ -46,7 +46,7 @@ fn numbers_of(alloc: Global, value: &Val) -> Result<Vec<u32>, AllocError>
 /// The numbers of a launch file's first input.
 #[tactic(auto, using(crate::proofs::Held::numbers))]
 pub fn first_input(alloc: Global, file: &LaunchFile) -> Result<Vec<u32>, AllocError>
-    ensures { IfOk result (λ numbers. numbers.items ≡ input_given (given_by file.now)) }
+    ensures { IfOk result (λ numbers. numbers.items ≡ first_input (world_given (given_by file.now))) }
 {
     match file.inputs.first() {
         Some(input) => numbers_of(alloc, input),

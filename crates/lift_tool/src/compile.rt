@@ -1,5 +1,5 @@
 //! A program and a script, compiled to the text of a kernel.
-ghost use Rattle.std.specs.Prelude.{◌≡◌, ◌≤◌, IfErr, IfOk, true};
+ghost use Rattle.std.specs.Prelude.{◌≡◌, IfErr, IfOk, true};
 ghost use Rattle.lift_tree.specs.Annotations.{annotation_of, type_in};
 ghost use Rattle.kernel_tree.specs.Grammar.{is_kernel};
 ghost use Rattle.kernel_tree.specs.KernelText.{IsKernelText};
@@ -7,7 +7,8 @@ ghost use Rattle.kernel_emit.specs.MapKernel.{map_kernel};
 ghost use Rattle.kernel_spelling.specs.Spelling.{text_of};
 ghost use Rattle.lift_tree.specs.Programs.{program_of};
 ghost use Rattle.lift_tree.specs.Types.{ty_of};
-ghost use Rattle.lift_tool.specs.OneProof.{meets_once};
+ghost use Rattle.lift_tool.specs.OneList.{IsOverOneList};
+ghost use Rattle.lift_tool.specs.OneProof.{meets_once, one_list_once};
 ghost use Rattle.lift_tool.specs.Runs.{MeetsSource};
 ghost use Rattle.lift_tool.specs.Compiled.{IsCompiled, RefusesSource};
 ghost use Rattle.lift_tool.specs.Shown.{form_of};
@@ -40,8 +41,9 @@ pub struct Compiled {
     ghost in_grammar: { is_kernel (map_kernel form.addend) ≡ true },
     // The text is that of the kernel of the form.
     ghost one_kernel: { text.items ≡ text_of (map_kernel form.addend) },
-    // So many elements are the most that its size may be.
-    ghost within: { form.to ≤ 1048576 },
+    // One work-item runs it, over one list of numbers.
+    ghost one_item: { is_task ≡ true },
+    ghost one_list: { IsOverOneList (program_of program) (ty_of output) } by { one_list_once (program_of program) (ty_of output) },
     // Every run of the kernel at every admissible launch leaves the program's value.
     ghost meets: { MeetsSource (program_of program) (ty_of output) is_task (map_kernel form.addend) } by { meets_once (program_of program) (ty_of output) is_task (map_kernel form.addend) },
 }

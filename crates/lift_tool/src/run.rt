@@ -1,13 +1,12 @@
 //! The run of the text of a kernel.
-ghost use Rattle.std.specs.Prelude.{◌≡◌, ◌<◌, ◌≤◌, ◌^◌, ◌∷◌, [], IfOk, length};
+ghost use Rattle.std.specs.Prelude.{◌≡◌, ◌∷◌, [], IfOk, length, replicate};
 ghost use Rattle.kernel_tree.specs.Kernels.{kernel_of};
 ghost use Rattle.kernel_emit.specs.MapKernel.{map_kernel};
-ghost use Rattle.lift_tree.specs.Launches.{lists_of};
 ghost use Rattle.lift_tree.specs.Programs.{program_of};
 ghost use Rattle.lift_tree.specs.Types.{ty_of};
-ghost use Rattle.lift_tool.specs.Runs.{Admits, IsLineOfText, RunsInOrder, task_launch, zeroed};
+ghost use Rattle.lift_tool.specs.Runs.{IsAdmissibleFor, IsLineOfText, RunsInOrder};
 ghost use Rattle.launch_file.specs.LaunchFile.{given_by};
-ghost use Rattle.lift_tool.specs.Source.{input_given, source_value, world_of};
+ghost use Rattle.lift_tool.specs.Source.{source_value, words, world_given};
 
 use crate::cells::{first_input, list_of};
 use crate::compile::Compiled;
@@ -30,65 +29,20 @@ fn read_back(alloc: Global, compiled: &Compiled) -> Result<Kernel, AllocError>
     }
 }
 
-// What a run leaves: the output's numbers, and how many events it had.
-#[derive(Debug, Drop)]
-struct Outcome {
-    value: Vec<u32>,
-    events: u64,
-}
-
-// Runs what is read back from the text on this input, by one work-item, in order.
-fn run_back(alloc: Global, compiled: &Compiled, input: Vec<u32>) -> Result<Outcome, AllocError>
-    requires few { length input.items ≤ 1048576 }
-    requires admits { Admits (program_of compiled.now.program) (ty_of compiled.now.output) compiled.now.is_task (world_of input.items) (task_launch (length input.items)) (zeroed input.items) }
-    ensures value { IfOk result (λ o. o.value.items ∷ [] ≡ lists_of (ty_of compiled.now.output) (source_value (program_of compiled.now.program) (world_of input.items))) }
-    ensures run { IfOk result (λ o. RunsInOrder (map_kernel compiled.now.form.addend) input.items o.value.items o.events) }
+// The launch once more.
+fn copied(alloc: Global, launch: &Launch) -> Result<Launch, AllocError>
+    ensures { IfOk result (λ copy. copy ≡ launch.now) }
 {
-    let kernel = read_back(alloc, compiled)?;
-    let launch = task_launch(alloc, input.len())?;
-    let cells = zeroed(alloc, input)?;
-    let Ended { mut outs, events } = run_in_order(alloc, kernel, launch, cells)?;
-    let Some(value) = outs.pop() else {
-        unreachable!()
-    };
-    Ok(Outcome { value, events })
-}
-
-/// The result line of the run of what is read back from the text, by one work-item, in order. No
-/// run of it has a fault, and its value is the program's. The input is one that the program admits.
-pub fn run_launch(
-    alloc: Global,
-    compiled: &Compiled,
-    file: &LaunchFile,
-) -> Result<Vec<u8>, AllocError>
-    requires few { length (input_given (given_by file.now)) ≤ compiled.now.form.to }
-    requires admits { Admits (program_of compiled.now.program) (ty_of compiled.now.output) compiled.now.is_task
-        (world_of (input_given (given_by file.now))) (task_launch (length (input_given (given_by file.now)))) (zeroed (input_given (given_by file.now))) }
-    ensures { IfOk result (λ line. IsLineOfText (program_of compiled.now.program) (ty_of compiled.now.output) compiled.now.text.items (input_given (given_by file.now)) line.items) }
-{
-    let input = first_input(alloc, file)?;
-    let outcome = run_back(alloc, compiled, input)?;
-    let value = list_of(alloc, outcome.value.as_slice())?;
-    Ok(result_text(alloc, &value, Some((outcome.events, 0)))?)
-}
-
-// One work-item over so many elements.
-fn task_launch(alloc: Global, count: usize) -> Result<Launch, AllocError>
-    requires { count < 2 ^ 32 }
-    ensures { IfOk result (λ launch. launch ≡ task_launch count) }
-{
-    let mut sizes = Vec::new(alloc);
-    sizes.push(count as u32)?;
     Ok(Launch {
-        global: 1,
-        local: 1,
-        sizes,
+        global: launch.global,
+        local: launch.local,
+        sizes: launch.sizes.as_slice().to_vec(alloc)?,
     })
 }
 
-// The input, and an output as long.
-fn zeroed(alloc: Global, input: Vec<u32>) -> Result<Cells, AllocError>
-    ensures { IfOk result (λ cells. cells ≡ zeroed input.items) }
+// The input, an output as long, and 0 in all other memory.
+fn cells_of(alloc: Global, input: Vec<u32>) -> Result<Cells, AllocError>
+    ensures { IfOk result (λ cells. cells ≡ record { ins = input.items ∷ []; outs = replicate (length input.items) 0 ∷ []; rest = 0 }) }
 {
     let output = vec![in alloc; 0; input.len()]?;
     let mut ins = Vec::new(alloc);
@@ -96,4 +50,44 @@ fn zeroed(alloc: Global, input: Vec<u32>) -> Result<Cells, AllocError>
     let mut outs = Vec::new(alloc);
     outs.push(output)?;
     Ok(Cells { ins, outs, rest: 0 })
+}
+
+// What a run leaves: the output's numbers, and how many events it had.
+#[derive(Debug, Drop)]
+struct Outcome {
+    value: Vec<u32>,
+    events: u64,
+}
+
+// Runs what is read back from the text, by one work-item, in order.
+fn run_back(alloc: Global, compiled: &Compiled, file: &LaunchFile) -> Result<Outcome, AllocError>
+    requires { IsAdmissibleFor (program_of compiled.now.program) compiled.now.is_task (given_by file.now) }
+    ensures value { IfOk result (λ o. words o.value.items ≡ source_value (program_of compiled.now.program) (world_given (given_by file.now))) }
+    ensures run { IfOk result (λ o. RunsInOrder (program_of compiled.now.program) (ty_of compiled.now.output) (map_kernel compiled.now.form.addend) (given_by file.now) o.events) }
+{
+    let kernel = read_back(alloc, compiled)?;
+    let launch = copied(alloc, &file.launch)?;
+    let input = first_input(alloc, file)?;
+    let cells = cells_of(alloc, input)?;
+    let Ended { mut outs, events } = run_in_order(alloc, kernel, launch, cells)?;
+    let Some(value) = outs.pop() else {
+        unreachable!()
+    };
+    Ok(Outcome { value, events })
+}
+
+/// The result line of the run of what is read back from the text, at the launch and on the inputs
+/// of a launch file, which are admissible for the program; so far one work-item runs it, in order.
+/// No run of it has a fault, and its value is the program's.
+pub fn run_launch(
+    alloc: Global,
+    compiled: &Compiled,
+    file: &LaunchFile,
+) -> Result<Vec<u8>, AllocError>
+    requires { IsAdmissibleFor (program_of compiled.now.program) compiled.now.is_task (given_by file.now) }
+    ensures { IfOk result (λ line. IsLineOfText (program_of compiled.now.program) (ty_of compiled.now.output) compiled.now.text.items (given_by file.now) line.items) }
+{
+    let outcome = run_back(alloc, compiled, file)?;
+    let value = list_of(alloc, outcome.value.as_slice())?;
+    Ok(result_text(alloc, &value, Some((outcome.events, 0)))?)
 }

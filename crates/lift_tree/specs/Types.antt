@@ -1,5 +1,5 @@
 -- Types, wherever they lie in memory, and the values that have them.
-use Rattle.std.specs.Prelude.{ℕ, ◌≡◌, ◌<◌, ◌^◌, List, length, pos, Some, slice_get}
+use Rattle.std.specs.Prelude.{ℕ, ◌≡◌, ◌<◌, ◌^◌, Bool, true, false, List, length, pos, Some, slice_get}
 use Rattle.size_arith.specs.declared.names.Name.{Name}
 use Rattle.size_arith.specs.declared.poly.Monomial.{Monomial}
 use Rattle.size_arith.specs.Polynomial.{value_at}
@@ -18,6 +18,11 @@ abbrev pub ty_of : Ty → PlainTy
 ty_of held.Number = U32
 ty_of (held.Pair' p a q b) = PairOf (ty_of a) (ty_of b)
 ty_of (held.Array' p a n) = ArrayOf (ty_of a) n
+
+abbrev pub is_array : PlainTy → Bool
+is_array U32 = false
+is_array (PairOf a b) = false
+is_array (ArrayOf a n) = true
 
 -- an element type: u32, or a pair of element types
 abbrev pub IsElement : PlainTy → Type 0

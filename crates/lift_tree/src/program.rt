@@ -1,10 +1,13 @@
 // Programs.
 
-ghost use Rattle.std.specs.Prelude.{◌≡◌, IfOk, map};
+ghost use Rattle.std.specs.Prelude.{◌≡◌, ◌≤◌, ◌+◌, ◌++◌, IfOk, OnOk, length, map};
+ghost use Rattle.size_arith.specs.Ranges.{AreNames};
 ghost use Rattle.lift_tree.specs.Programs.{input_of, program_of};
+ghost use Rattle.lift_tree.specs.WorkedOut.{range_of};
 
 use crate::input_type::InputType;
 use crate::term::Term;
+use size_arith::{Name, Names};
 use std::alloc::{AllocError, Global};
 use std::marker::Model;
 
@@ -108,6 +111,36 @@ impl Program {
             inputs,
             body,
         })
+    }
+
+    /// The ranges of the declared sizes, in their order.
+    pub fn names(&self, alloc: Global) -> Result<Names, AllocError>
+        requires few { length self.now.sizes.items ≤ 8 }
+        requires declared { AreNames (map range_of self.now.sizes.items) }
+        ensures { IfOk result (λ names. names ≡ map range_of self.now.sizes.items) }
+    {
+        let mut names = Names::new(alloc);
+        add_ranges(&mut names, &self.sizes)?;
+        Ok(names)
+    }
+}
+
+// Adds the ranges of declared sizes.
+fn add_ranges(names: &mut Names, sizes: &[Size]) -> Result<(), AllocError>
+    requires few { length names.old + length sizes.now ≤ 8 }
+    requires declared { AreNames (map range_of sizes.now) }
+    ensures { OnOk result (names.new ≡ names.old ++ map range_of sizes.now) }
+{
+    match sizes {
+        [] => Ok(()),
+        [first, rest @ ..] => {
+            names.push(Name {
+                multiple: first.multiple,
+                from: first.from,
+                to: first.to,
+            })?;
+            add_ranges(names, rest)
+        }
     }
 }
 

@@ -7,8 +7,9 @@ use crate::program::{Identifier, Input, Program, Size};
 use crate::renumber::{dropped, is_renumberable, raised, substituted};
 use crate::term::{BinaryForm, FoldKind, MapKind, Operator, Term, UnaryForm};
 use crate::ty::Ty;
+use crate::typed::NodeTypes;
 use scalar_ops::Reducer;
-use size_arith::{Monomial, Poly};
+use size_arith::{Monomial, Name, Poly};
 use std::alloc::{AllocError, Global};
 use std::process::Abort;
 use std::test::Fail;
@@ -398,6 +399,53 @@ fn copies_a_type(rt: HostRuntime) -> Result<(), Fail> {
     let ty = Ty::Pair(Box::new(alloc, first)?, Box::new(alloc, second)?);
     let copy = ty.copy(alloc)?;
     assert_eq!(rt; coefficients(alloc, &copy)?.as_slice(), [3, 5].as_slice());
+    Ok(())
+}
+
+#[test]
+fn arrays_alone_are_arrays(rt: HostRuntime) -> Result<(), Fail> {
+    let alloc = rt.alloc();
+    let array = Ty::Array(Box::new(alloc, Ty::Number)?, constant(alloc, 3)?);
+    assert!(rt; array.is_array());
+    let pair = Ty::Pair(Box::new(alloc, array)?, Box::new(alloc, Ty::Number)?);
+    assert!(rt; !pair.is_array());
+    assert!(rt; !Ty::Number.is_array());
+    Ok(())
+}
+
+#[test]
+fn the_own_type_is_the_nodes(rt: HostRuntime) -> Result<(), Fail> {
+    let alloc = rt.alloc();
+    let array = Ty::Array(Box::new(alloc, Ty::Number)?, constant(alloc, 3)?);
+    let below = NodeTypes::Leaf(Ty::Number);
+    let types = NodeTypes::One(array, Box::new(alloc, below)?);
+    assert!(rt; types.own_type().is_array());
+    Ok(())
+}
+
+#[test]
+fn names_are_the_ranges_of_the_sizes(rt: HostRuntime) -> Result<(), Fail> {
+    let alloc = rt.alloc();
+    let name = Identifier::new(b"N".as_slice().to_vec(alloc)?);
+    let mut sizes = Vec::new(alloc);
+    sizes.push(Size {
+        name,
+        multiple: 2,
+        from: 2,
+        to: 4096,
+    })?;
+    let program = Program {
+        sizes,
+        inputs: Vec::new(alloc),
+        body: Term::Number(0),
+    };
+    let names = program.names(alloc)?;
+    let range = Name {
+        multiple: 2,
+        from: 2,
+        to: 4096,
+    };
+    assert_eq!(rt; names.as_slice(), [range].as_slice());
     Ok(())
 }
 

@@ -1,7 +1,7 @@
 // Types.
 
 ghost use Rattle.std.specs.Prelude.{◌≡◌, IfOk};
-ghost use Rattle.lift_tree.specs.Types.{ty_of};
+ghost use Rattle.lift_tree.specs.Types.{is_array, ty_of};
 
 use size_arith::Poly;
 use std::alloc::{AllocError, Global};
@@ -30,6 +30,16 @@ impl Ty {
                 let length = length.copy(alloc)?;
                 Ok(Ty::Array(Box::new(alloc, element.copy(alloc)?)?, length))
             }
+        }
+    }
+
+    /// Whether it is an array's type.
+    pub fn is_array(&self) -> bool
+        ensures { result ≡ is_array (ty_of self.now) }
+    {
+        match self {
+            Ty::Number | Ty::Pair(_, _) => false,
+            Ty::Array(_, _) => true,
         }
     }
 }

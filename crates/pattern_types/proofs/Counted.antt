@@ -7,7 +7,7 @@ use Rattle.pattern_types.specs.Scopes.{nth_type}
 use Rattle.lift_tree.specs.Types.{PlainTy}
 use Rattle.lift_tree.specs.Limits.{components}
 use Rattle.lift_tree.proofs.Members.{length-map}
-use Rattle.lift_tree.specs.Values.{Side, Left, Right}
+use Rattle.lift_tree.specs.Values.{Left, Right}
 
 pub component_counts : (a b : PlainTy) → length (map (λ c. Left ∷ c) (components a) ++ map (λ c. Right ∷ c) (components b)) ≡ length (components a) + length (components b)
 component_counts a b = simp (length-append, length-map)

@@ -5,6 +5,8 @@ use Rattle.size_arith.specs.declared.names.Name.{Name}
 use Rattle.size_arith.specs.declared.poly.Monomial.{Monomial}
 use Rattle.size_arith.specs.Polynomial.{of_monomial, times, AllLow}
 use Rattle.size_arith.specs.Shown.{ShownAtLeast, largest}
+use Rattle.size_arith.specs.Decisions.{is_shown}
+use Rattle.size_arith.proofs.Decisions.{decides_shown}
 use Rattle.lift_tree.specs.declared.length.Factor.{Factor}
 use Rattle.lift_tree.specs.declared.length.Part.{Part}
 use Rattle.lift_tree.specs.InputTypes as written
@@ -22,12 +24,10 @@ use Rattle.pattern_types.specs.declared.refusal.TypeRefusal.{TypeRefusal}
 use Rattle.pattern_types.specs.declared.refusal.TypeRefusal.TheVariants.{IllTyped, Limit, Memory}
 use Rattle.pattern_types.specs.declared.fault.Fault.{Fault}
 use Rattle.pattern_types.specs.declared.fault.Fault.TheVariants as fault
-use Rattle.pattern_types.specs.Tests.{is_shown}
 use Rattle.pattern_types.specs.Judged.{product_judged, sum_judged, scalars_judged, formed, input_judged, at_input, refusal_at, inputs_judged}
 use Rattle.pattern_types.specs.Fitting.{ProductFits, SumFits, ScalarsFit, ArrayFits, InputFits}
 use Rattle.pattern_types.proofs.Products.{product_right}
 use Rattle.pattern_types.proofs.Inputs.{sum_right}
-use Rattle.pattern_types.proofs.Tried.{decides_shown}
 use Rattle.pattern_types.proofs.Judging.{done, Judges, Comes, Refuses, itself, answers, judges_same, judges_as, judges_then, judges_three, judges_demand, judges_at_most, judges_counted, judges_within}
 
 -- ---- lengths

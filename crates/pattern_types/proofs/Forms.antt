@@ -1,10 +1,13 @@
 -- Each row of the table, where the typing relation has it: its type, unless a limit is passed.
 use Rattle.std.proofs.Common.{◌≡◌, ℕ, zero, suc, ◌<◌, List, [], ◌∷◌, refl, sym, subst, arith, Bool, true, false, ℤ, pos, negsuc, Some, None}
 use Rattle.std.specs.Prelude.{IsTrue, ◌&&◌, if◌then◌else◌, Result}
+use Rattle.std.proofs.lemmas.Bool.{and_from}
 use Rattle.size_arith.specs.declared.names.Name.{Name}
 use Rattle.size_arith.specs.declared.poly.Monomial.{Monomial}
 use Rattle.size_arith.specs.Polynomial.{number, no_powers, is_zero, on, of_monomial, plus, minus, times, AllDivide, quotient}
 use Rattle.size_arith.specs.Shown.{ShownAtLeast}
+use Rattle.size_arith.specs.Decisions.{is_shown, is_same}
+use Rattle.size_arith.proofs.Decisions.{decides_shown, decides_same}
 use Rattle.lift_tree.specs.declared.length.Factor.{Factor}
 use Rattle.lift_tree.specs.declared.term.UnaryForm.{UnaryForm}
 use Rattle.lift_tree.specs.declared.term.UnaryForm.TheVariants.{Div, Rem, First, Second, Join, Transpose, Split, Slide, Pad, ToLocal, ToPrivate}
@@ -16,12 +19,12 @@ use Rattle.lift_tree.specs.WorkedOut.{product_of}
 use Rattle.lift_tree.specs.Typing.{constant, UnaryRow, BinaryRow}
 use Rattle.pattern_types.specs.declared.refusal.Rule.TheVariants as rule
 use Rattle.pattern_types.specs.declared.fault.Fault.{Fault}
-use Rattle.pattern_types.specs.Tests.{is_shown, is_same, exact_quotient, all_divide, is_element}
+use Rattle.pattern_types.specs.Tests.{exact_quotient, all_divide, is_element}
 use Rattle.pattern_types.specs.Judged.{pieces_row, windows_row, unary_row, operator_row, zip_row, reduce_row, binary_row}
 use Rattle.pattern_types.specs.Fitting.{ArrayFits, OuterFits, UnaryFits}
 use Rattle.pattern_types.proofs.Products.{product_right}
 use Rattle.pattern_types.proofs.Table.{IsGood, constant_low, quotient_low}
-use Rattle.pattern_types.proofs.Tried.{decides_shown, decides_all_divide, decides_same, joined}
+use Rattle.pattern_types.proofs.Tried.{decides_all_divide}
 use Rattle.pattern_types.proofs.Typed.{divisor_is}
 use Rattle.pattern_types.proofs.Judging.{Judges, itself, answers, judges_then, judges_three, judges_four, judges_demand, judges_within, low_small}
 use Rattle.pattern_types.proofs.Fitted.{judges_product, judges_formed}
@@ -124,7 +127,7 @@ judges_unary names ToPrivate b a r g o = answers r
 -- ---- forms with two children
 pub element_is : (a : PlainTy) → IsElement a → IsTrue (is_element a)
 element_is U32 h = refl
-element_is (PairOf a b) h = joined (is_element a) (is_element b) (element_is a h.0) (element_is b h.1)
+element_is (PairOf a b) h = and_from (is_element a) (is_element b) (element_is a h.0) (element_is b h.1)
 element_is (ArrayOf a n) h = absurd h
 
 abbrev Gives : List Name → PlainTy → Result PlainTy Fault → Type 0
@@ -136,7 +139,7 @@ judges_operator b c e f = subst (λ z. Judges itself (Unit {0}) U32 (operator_ro
 pub judges_binary : (names : List Name) (f : BinaryForm) (b c a : PlainTy) → BinaryRow f b c a → IsGood names b → Gives names a (binary_row names f b c)
 judges_binary names (binary.Operator o) b c a r g = subst (λ z. Gives names z (operator_row b c)) (sym r.2) (λ h. judges_operator b c r.0 r.1)
 judges_binary names binary.Pair b c a r g =
-    subst (λ z. Gives names z (binary_row names binary.Pair b c)) (sym r.2) (λ h. judges_demand (is_element b && is_element c) rule.Pair _ (joined (is_element b) (is_element c) (element_is b r.0) (element_is c r.1)) (answers refl))
+    subst (λ z. Gives names z (binary_row names binary.Pair b c)) (sym r.2) (λ h. judges_demand (is_element b && is_element c) rule.Pair _ (and_from (is_element b) (is_element c) (element_is b r.0) (element_is c r.1)) (answers refl))
 judges_binary names binary.Zip b c a r g =
     let x = r.0 in
     let y = r.1 in

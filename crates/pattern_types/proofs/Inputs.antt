@@ -1,20 +1,20 @@
 -- Where inputs are judged to have types, these are their types, and formed.
-use Rattle.std.proofs.Common.{◌≡◌, ℕ, suc, List, [], ◌∷◌, length, refl, sym, ap, ◌∙◌, subst}
+use Rattle.std.proofs.Common.{◌≡◌, ℕ, suc, List, [], ◌∷◌, sym, ap, ◌∙◌, subst}
 use Rattle.std.specs.Prelude.{Result, Ok, Err, map}
 use Rattle.size_arith.specs.declared.names.Name.{Name}
 use Rattle.size_arith.specs.declared.poly.Monomial.{Monomial}
-use Rattle.size_arith.specs.Polynomial.{AllLow, of_monomial}
+use Rattle.size_arith.specs.Polynomial.{AllLow}
 use Rattle.lift_tree.specs.declared.length.Part.{Part}
 use Rattle.lift_tree.specs.InputTypes as written
 use Rattle.lift_tree.specs.InputTypes.{Written}
 use Rattle.lift_tree.specs.Programs.{PlainInput}
 use Rattle.lift_tree.specs.Types.{PlainTy, U32, PairOf, ArrayOf}
 use Rattle.lift_tree.specs.Typing.{constant}
-use Rattle.lift_tree.specs.WorkedOut.{product_of, sum_of, with_part, worked_out}
+use Rattle.lift_tree.specs.WorkedOut.{sum_of, with_part, worked_out}
 use Rattle.lift_tree.specs.Lists.{Every}
 use Rattle.pattern_types.specs.declared.fault.Fault.{Fault}
 use Rattle.pattern_types.specs.declared.refusal.TypeRefusal.{TypeRefusal}
-use Rattle.pattern_types.specs.Judged.{and_then, within, product_judged, sum_judged, formed, input_judged, at_input, inputs_judged}
+use Rattle.pattern_types.specs.Judged.{within, product_judged, sum_judged, input_judged, at_input, inputs_judged}
 use Rattle.pattern_types.proofs.Results.{yes, and_ok, within_ok}
 use Rattle.pattern_types.proofs.Products.{product_right}
 use Rattle.pattern_types.proofs.Table.{IsGood, formed_right}

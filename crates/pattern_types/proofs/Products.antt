@@ -1,17 +1,17 @@
 -- A product worked out from left to right is the product.
-use Rattle.std.proofs.Common.{◌≡◌, ℕ, zero, suc, ◌+◌, ◌≤◌, ◌<◌, List, [], ◌∷◌, length, refl, sym, ap, ◌∙◌, subst, arith, ℤ, pos, negsuc, ◌*ℤ◌, add_assoc, length-set}
-use Rattle.std.specs.Prelude.{Result, Ok, Err}
+use Rattle.std.proofs.Common.{◌≡◌, ℕ, zero, suc, ◌+◌, List, [], ◌∷◌, length, refl, sym, ap, ◌∙◌, subst, arith, ℤ, pos, negsuc, ◌*ℤ◌, add_assoc, length-set}
+use Rattle.std.specs.Prelude.{Ok}
 use Rattle.std.proofs.lemmas.Int.{ints}
-use borrow.Author.Differences.{up, down, product_is, same_in}
+use borrow.Author.Differences.{product_is, same_in}
 use Rattle.size_arith.specs.declared.names.Name.{Name}
 use Rattle.size_arith.specs.declared.poly.Monomial.{Monomial}
-use Rattle.size_arith.specs.Polynomial.{no_powers, total, number, add_powers, on, of_monomial, times, AllLow}
+use Rattle.size_arith.specs.Polynomial.{no_powers, number, add_powers, on, of_monomial, times, AllLow}
 use Rattle.size_arith.proofs.Values.{AllZero}
 use Rattle.lift_tree.specs.declared.length.Factor.{Factor}
 use Rattle.lift_tree.specs.declared.length.Factor.TheVariants as factor
 use Rattle.lift_tree.specs.WorkedOut.{nth_name, factor_monomial, product_of}
 use Rattle.lift_tree.specs.Typing.{constant}
-use Rattle.pattern_types.specs.Judged.{and_then, within, product_judged}
+use Rattle.pattern_types.specs.Judged.{within, product_judged}
 use Rattle.pattern_types.proofs.Results.{and_ok, within_ok}
 
 abbrev both : Monomial → Monomial → Monomial

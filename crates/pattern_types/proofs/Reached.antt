@@ -1,6 +1,7 @@
 -- Where a program's term has types, it is judged to have them, unless a limit is passed.
 use Rattle.std.proofs.Common.{◌≡◌, ℕ, List, [], ◌∷◌, length, refl, sym, ap, subst, Bool, true, false}
-use Rattle.std.specs.Prelude.{IsTrue, ◌≢◌, Result, Ok, Err, map}
+use Rattle.std.specs.Prelude.{IsTrue, ◌≢◌, Result, Ok, Err}
+use Rattle.std.proofs.lemmas.Bool.{and_from}
 use Rattle.size_arith.specs.declared.names.Name.{Name}
 use Rattle.size_arith.specs.declared.poly.Monomial.{Monomial}
 use Rattle.lift_tree.specs.Tree.{Tree, Variable, Number, Input, Unary, Binary, Select, Let, Map, Fold}
@@ -31,7 +32,6 @@ use Rattle.pattern_types.specs.Judgement.{HasTypes, IsJudgement, TypesAreJudged,
 use Rattle.pattern_types.specs.Fitting.{OuterFits, NodesFit, IsWithinLimits}
 use Rattle.pattern_types.proofs.Results.{under_ok}
 use Rattle.pattern_types.proofs.Table.{IsGood, constant_low}
-use Rattle.pattern_types.proofs.Tried.{joined}
 use Rattle.pattern_types.proofs.Inputs.{inputs_right}
 use Rattle.pattern_types.proofs.Right.{judged_right, get_nth}
 use Rattle.pattern_types.proofs.Whole.{every_formed}
@@ -60,7 +60,7 @@ judges_start a s x l e h =
 
 same_is : (a : PlainTy) → IsElement a → IsTrue (is_same_element a a)
 same_is U32 h = refl
-same_is (PairOf a b) h = joined (is_same_element a a) (is_same_element b b) (same_is a h.0) (same_is b h.1)
+same_is (PairOf a b) h = and_from (is_same_element a a) (is_same_element b b) (same_is a h.0) (same_is b h.1)
 same_is (ArrayOf a n) h = absurd h
 
 judges_end : (names : List Name) (s b c : PlainTy) → b ≡ s → IsElement s → c ≡ ArrayOf s (constant 1) → IsFormed names c → Judges itself (OuterFits names c) c (fold_end names s b)
@@ -123,7 +123,7 @@ module _ (d : Declared) (good : Every (IsGood d.names) d.inputs) where
 -- ---- programs
 holds_is : (a : PlainTy) → HoldsElements a → IsTrue (holds_elements a)
 holds_is U32 h = refl
-holds_is (PairOf a b) h = joined (is_element a) (is_element b) (element_is a h.0) (element_is b h.1)
+holds_is (PairOf a b) h = and_from (is_element a) (is_element b) (element_is a h.0) (element_is b h.1)
 holds_is (ArrayOf a n) h = holds_is a h
 
 output_is : (a : PlainTy) → IsOutput a → IsTrue (is_output a)

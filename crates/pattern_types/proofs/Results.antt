@@ -2,13 +2,11 @@
 use Rattle.std.proofs.Common.{◌≡◌, ℕ, ◌≤◌, List, [], ◌∷◌, length, refl, ap, subst, arith, Bool, true, false}
 use Rattle.std.specs.Prelude.{IsTrue, Result, Ok, Err, if◌then◌else◌, nat_lt}
 use Rattle.std.proofs.lemmas.Bool.Decides.{nat_tests}
-use Rattle.size_arith.specs.declared.names.Name.{Name}
 use Rattle.size_arith.specs.declared.poly.Monomial.{Monomial}
 use Rattle.size_arith.specs.declared.poly.PolyNo.{PolyNo}
 use Rattle.size_arith.specs.declared.poly.PolyNo.TheVariants as no
-use Rattle.size_arith.specs.Polynomial.{total, degree, greatest, limited, AllLow}
+use Rattle.size_arith.specs.Polynomial.{degree, greatest, limited, AllLow}
 use Rattle.pattern_types.specs.declared.refusal.Rule.{Rule}
-use Rattle.pattern_types.specs.declared.refusal.Rule.TheVariants as rule
 use Rattle.pattern_types.specs.declared.fault.Fault.{Fault}
 use Rattle.pattern_types.specs.declared.fault.NodeFault.{NodeFault}
 use Rattle.pattern_types.specs.Judged.{and_then, demand, faulty, within, here, under}

@@ -1,11 +1,11 @@
 -- Where a term is judged to have types, each node has its type.
-use Rattle.std.proofs.Common.{◌≡◌, ℕ, zero, suc, ◌<◌, ◌^◌, List, [], ◌∷◌, length, refl, sym, ap, ◌∙◌, subst, arith, Some}
-use Rattle.std.specs.Prelude.{IsTrue, ◌&&◌, Result, Ok, Err, slice_get}
+use Rattle.std.proofs.Common.{◌≡◌, ℕ, zero, suc, ◌<◌, List, [], ◌∷◌, length, refl, sym, ap, subst, arith, Some}
+use Rattle.std.specs.Prelude.{Ok, slice_get}
 use Rattle.size_arith.specs.declared.names.Name.{Name}
 use Rattle.size_arith.specs.declared.poly.Monomial.{Monomial}
 use Rattle.lift_tree.specs.Tree.{Tree, Variable, Number, Input, Unary, Binary, Select, Let, Map, Fold}
 use Rattle.lift_tree.specs.Types.{PlainTy, U32, PairOf, ArrayOf, IsElement}
-use Rattle.lift_tree.specs.Typing.{Declared, constant, BinaryRow}
+use Rattle.lift_tree.specs.Typing.{Declared, constant}
 use Rattle.lift_tree.specs.Lists.{Every}
 use Rattle.lift_tree.specs.Annotations.{Annotation, Leaf, One, Two, Three, type_in, Annotates}
 use Rattle.pattern_types.specs.declared.refusal.Rule.{Rule}
@@ -16,10 +16,9 @@ use Rattle.pattern_types.specs.Belonging.{Belongs}
 use Rattle.pattern_types.specs.Numbers.{NumbersFit}
 use Rattle.pattern_types.specs.Scopes.{nth_type}
 use Rattle.pattern_types.specs.Tests.{is_element, is_same_element}
-use Rattle.pattern_types.specs.Judged.{and_then, demand, here, under, unary_row, binary_row, select_row, operator_row, number_row, element_in, map_end, fold_start, fold_end, formed, judged}
+use Rattle.pattern_types.specs.Judged.{and_then, demand, here, under, unary_row, binary_row, select_row, operator_row, number_row, element_in, map_end, fold_start, fold_end, judged}
 use Rattle.pattern_types.proofs.Results.{yes, and_ok, demand_ok, here_ok, under_ok}
 use Rattle.pattern_types.proofs.Table.{IsGood, formed_right, unary_right, binary_right, number_right, constant_low, is_element_so, same_element}
-use Rattle.pattern_types.proofs.Tried.{parts}
 
 pub get_nth : (g : List PlainTy) (n : ℕ) → n < length g → slice_get g n ≡ Some (nth_type g n)
 get_nth [] n h = absurd (omega arith)

@@ -1,10 +1,13 @@
 -- Each row of the table, as it is judged, is the typing relation's.
-use Rattle.std.proofs.Common.{◌≡◌, ℕ, zero, suc, ◌+◌, ◌-◌, ◌≤◌, ◌<◌, List, [], ◌∷◌, length, refl, sym, ap, ◌∙◌, subst, arith, Bool, true, false, ℤ, pos, negsuc, Some, None}
-use Rattle.std.specs.Prelude.{IsTrue, ◌&&◌, if◌then◌else◌, Result, Ok, Err, Option}
+use Rattle.std.proofs.Common.{◌≡◌, ℕ, zero, suc, ◌≤◌, List, [], ◌∷◌, length, refl, sym, ap, ◌∙◌, subst, arith, Bool, true, false, ℤ, pos, negsuc, Some, None}
+use Rattle.std.specs.Prelude.{IsTrue, ◌&&◌, if◌then◌else◌, Ok, Option}
+use Rattle.std.proofs.lemmas.Bool.{and_parts}
 use Rattle.size_arith.specs.declared.names.Name.{Name}
 use Rattle.size_arith.specs.declared.poly.Monomial.{Monomial}
 use Rattle.size_arith.specs.Polynomial.{total, less_powers, number, on, of_monomial, plus, minus, times, AllLow, AtMost, AllDivide, quotient}
 use Rattle.size_arith.specs.Shown.{ShownAtLeast}
+use Rattle.size_arith.specs.Decisions.{is_shown, is_same}
+use Rattle.size_arith.proofs.Decisions.{decides_shown, decides_same}
 use Rattle.lift_tree.specs.declared.length.Factor.{Factor}
 use Rattle.lift_tree.specs.declared.term.UnaryForm.{UnaryForm}
 use Rattle.lift_tree.specs.declared.term.UnaryForm.TheVariants.{Div, Rem, First, Second, Join, Transpose, Split, Slide, Pad, ToLocal, ToPrivate}
@@ -14,16 +17,15 @@ use Rattle.lift_tree.specs.Types.{PlainTy, U32, PairOf, ArrayOf, IsElement, IsFo
 use Rattle.lift_tree.specs.WorkedOut.{product_of}
 use Rattle.lift_tree.specs.Typing.{constant, UnaryRow, BinaryRow}
 use Rattle.lift_tree.specs.Limits.{arrays, components}
-use Rattle.pattern_types.specs.declared.refusal.Rule.{Rule}
 use Rattle.pattern_types.specs.declared.refusal.Rule.TheVariants as rule
 use Rattle.pattern_types.specs.declared.refusal.TypeLimit.TheVariants as limit
 use Rattle.pattern_types.specs.declared.fault.Fault.{Fault}
 use Rattle.pattern_types.specs.Belonging.{FormIsNamed}
-use Rattle.pattern_types.specs.Tests.{is_shown, is_same, exact_quotient, all_divide, is_element, is_same_element}
-use Rattle.pattern_types.specs.Judged.{and_then, demand, at_most, counted, within, product_judged, formed, scalars_judged, unary_row, binary_row, split_row, pieces_row, windows_row, operator_row, number_row, zip_row, reduce_row}
+use Rattle.pattern_types.specs.Tests.{exact_quotient, all_divide, is_element, is_same_element}
+use Rattle.pattern_types.specs.Judged.{demand, at_most, counted, within, product_judged, formed, scalars_judged, unary_row, binary_row, split_row, pieces_row, windows_row, number_row, zip_row, reduce_row}
 use Rattle.pattern_types.proofs.Results.{yes, and_ok, within_ok, demand_ok}
 use Rattle.pattern_types.proofs.Products.{product_right}
-use Rattle.pattern_types.proofs.Tried.{decides_shown, decides_all_divide, decides_same, parts}
+use Rattle.pattern_types.proofs.Tried.{decides_all_divide}
 
 -- formed, and each length of a degree of at most 4
 abbrev pub IsGood : List Name → PlainTy → Type 0
@@ -169,7 +171,7 @@ unary_right names z ToPrivate b a i g h = let e = same_ok b a h in (e, subst (Is
 -- ---- pairs of types
 pub is_element_so : (a : PlainTy) → IsTrue (is_element a) → IsElement a
 is_element_so U32 h = tt
-is_element_so (PairOf a b) h = let p = parts (is_element a) (is_element b) h in (is_element_so a p.0, is_element_so b p.1)
+is_element_so (PairOf a b) h = let p = and_parts (is_element a) (is_element b) h in (is_element_so a p.0, is_element_so b p.1)
 is_element_so (ArrayOf a n) h = absurd (cc)
 
 pub same_element : (a b : PlainTy) → IsTrue (is_same_element a b) → a ≡ b
@@ -178,7 +180,7 @@ same_element U32 (PairOf c d) h = absurd (cc)
 same_element U32 (ArrayOf c n) h = absurd (cc)
 same_element (PairOf a b) U32 h = absurd (cc)
 same_element (PairOf a b) (PairOf c d) h =
-    let p = parts (is_same_element a c) (is_same_element b d) h in
+    let p = and_parts (is_same_element a c) (is_same_element b d) h in
     ap (λ z. PairOf z b) (same_element a c p.0) ∙ ap (λ z. PairOf c z) (same_element b d p.1)
 same_element (PairOf a b) (ArrayOf c n) h = absurd (cc)
 same_element (ArrayOf a m) b h = absurd (cc)
@@ -211,7 +213,7 @@ binary_right names (binary.Operator o) b c a g k h =
     ((x.0, y.0, y.1), subst (IsGood names) (sym y.1) tt)
 binary_right names binary.Pair b c a g k h =
     let p = and_ok (demand (is_element b && is_element c) rule.Pair) (λ _. Ok (PairOf b c)) a h in
-    let e = parts (is_element b) (is_element c) (demand_ok _ _ p.0 p.1) in
+    let e = and_parts (is_element b) (is_element c) (demand_ok _ _ p.0 p.1) in
     let f = same_ok (PairOf b c) a p.2 in
     ((is_element_so b e.0, is_element_so c e.1, sym f), subst (IsGood names) f (g, k))
 binary_right names binary.Zip b c a g k h = zip_right names b c a g k h

@@ -1,27 +1,25 @@
 -- The types that a program's term is judged to have are its types.
-use Rattle.std.proofs.Common.{◌≡◌, ℕ, ◌≤◌, List, [], ◌∷◌, length, refl, sym, ap, ◌∙◌, subst}
+use Rattle.std.proofs.Common.{◌≡◌, ◌≤◌, List, [], ◌∷◌, length, sym, ap, ◌∙◌, subst}
 use Rattle.std.specs.Prelude.{IsTrue, Result, Ok, Err, map}
+use Rattle.std.proofs.lemmas.Bool.{and_parts}
 use Rattle.size_arith.specs.declared.names.Name.{Name}
-use Rattle.lift_tree.specs.Tree.{Tree}
-use Rattle.lift_tree.specs.Types.{PlainTy, U32, PairOf, ArrayOf, IsElement, HoldsElements, IsOutput, IsFormed}
-use Rattle.lift_tree.specs.Typing.{Declared, declared_by, IsDeclared}
+use Rattle.lift_tree.specs.Types.{PlainTy, U32, PairOf, ArrayOf, HoldsElements, IsOutput, IsFormed}
+use Rattle.lift_tree.specs.Typing.{Declared}
 use Rattle.lift_tree.specs.WorkedOut.{range_of, worked_out}
-use Rattle.lift_tree.specs.Programs.{PlainInput, PlainProgram}
+use Rattle.lift_tree.specs.Programs.{PlainInput}
 use Rattle.lift_tree.specs.Lists.{Every}
 use Rattle.lift_tree.specs.Annotations.{Annotation, Annotates, type_in}
 use Rattle.lift_tree.proofs.Members.{length-map}
 use Rattle.pattern_types.specs.declared.refusal.Rule.TheVariants as rule
-use Rattle.pattern_types.specs.declared.refusal.TypeRefusal.{TypeRefusal}
 use Rattle.pattern_types.specs.declared.fault.NodeFault.{NodeFault}
 use Rattle.pattern_types.specs.Belonging.{Belongs}
 use Rattle.pattern_types.specs.Tests.{is_element, holds_elements, is_output}
-use Rattle.pattern_types.specs.Judged.{and_then, demand, here, at_node, judged, inputs_judged, output_judged, program_judged}
-use Rattle.pattern_types.specs.Judgement.{HasTypes, JudgedTypesAreRight}
+use Rattle.pattern_types.specs.Judged.{demand, here, at_node, judged, inputs_judged, output_judged}
+use Rattle.pattern_types.specs.Judgement.{JudgedTypesAreRight}
 use Rattle.pattern_types.proofs.Results.{yes, and_ok, demand_ok, here_ok}
 use Rattle.pattern_types.proofs.Table.{IsGood, good_formed, is_element_so}
 use Rattle.pattern_types.proofs.Right.{judged_right}
 use Rattle.pattern_types.proofs.Inputs.{inputs_right}
-use Rattle.pattern_types.proofs.Tried.{parts}
 
 at_node_ok : (r : Result Annotation NodeFault) (a : Annotation) → at_node r ≡ Ok a → r ≡ Ok a
 at_node_ok (Ok b) a h = let e : b ≡ a = cc in ap Ok e
@@ -32,7 +30,7 @@ same_node n m h = cc
 
 holds_so : (a : PlainTy) → IsTrue (holds_elements a) → HoldsElements a
 holds_so U32 h = tt
-holds_so (PairOf a b) h = let p = parts (is_element a) (is_element b) h in (is_element_so a p.0, is_element_so b p.1)
+holds_so (PairOf a b) h = let p = and_parts (is_element a) (is_element b) h in (is_element_so a p.0, is_element_so b p.1)
 holds_so (ArrayOf a n) h = holds_so a h
 
 output_so : (a : PlainTy) → IsTrue (is_output a) → IsOutput a

@@ -1,5 +1,5 @@
 -- Which programs lie within the limits on types, where they have types.
-use Rattle.std.specs.Prelude.{ℕ, ◌≤◌, suc, List, [], ◌∷◌, length, map, pos}
+use Rattle.std.specs.Prelude.{◌≤◌, List, [], ◌∷◌, length, map, pos}
 use Rattle.size_arith.specs.declared.names.Name.{Name}
 use Rattle.size_arith.specs.declared.poly.Monomial.{Monomial}
 use Rattle.size_arith.specs.Polynomial.{number, of_monomial, plus, minus, times, quotient}
@@ -7,8 +7,8 @@ use Rattle.size_arith.specs.Shown.{largest}
 use Rattle.lift_tree.specs.declared.length.Factor.{Factor}
 use Rattle.lift_tree.specs.declared.length.Part.{Part}
 use Rattle.lift_tree.specs.declared.term.UnaryForm.{UnaryForm}
-use Rattle.lift_tree.specs.declared.term.UnaryForm.TheVariants.{Div, Rem, First, Second, Join, Transpose, Split, Slide, Pad, ToLocal, ToPrivate}
-use Rattle.lift_tree.specs.Tree.{Tree, Variable, Number, Input, Unary, Binary, Select, Let, Map, Fold}
+use Rattle.lift_tree.specs.declared.term.UnaryForm.TheVariants.{Join, Transpose, Split, Slide, Pad}
+use Rattle.lift_tree.specs.Tree.{Tree, Unary, Binary, Select, Let, Map, Fold}
 use Rattle.lift_tree.specs.InputTypes as written
 use Rattle.lift_tree.specs.InputTypes.{Written}
 use Rattle.lift_tree.specs.Types.{PlainTy, U32, PairOf, ArrayOf}
@@ -17,7 +17,7 @@ use Rattle.lift_tree.specs.WorkedOut.{factor_monomial, product_of, with_part, le
 use Rattle.lift_tree.specs.Limits.{arrays, components, IsSmall}
 use Rattle.lift_tree.specs.Lists.{Every}
 use Rattle.lift_tree.specs.Programs.{PlainInput, PlainProgram}
-use Rattle.lift_tree.specs.Annotations.{Annotation, Leaf, One, Two, Three, type_in}
+use Rattle.lift_tree.specs.Annotations.{Annotation, One, Two, Three, type_in}
 
 -- ---- lengths: each product and each sum as it arises, from left to right
 abbrev pub ProductFits : List Name → (so_far : List Monomial) → List Factor → Type 0

@@ -1,11 +1,12 @@
 -- Types, judged in order: the type, or the first refusal.
-use Rattle.std.specs.Prelude.{ℕ, zero, suc, ◌^◌, min, Bool, true, false, ◌&&◌, if◌then◌else◌, nat_lt, List, [], ◌∷◌, length, map, pos, Result, Ok, Err, Option, Some, None}
+use Rattle.std.specs.Prelude.{ℕ, suc, min, Bool, true, false, ◌&&◌, if◌then◌else◌, nat_lt, List, [], ◌∷◌, length, map, Result, Ok, Err, Option, Some, None}
 use Rattle.size_arith.specs.declared.names.Name.{Name}
 use Rattle.size_arith.specs.declared.poly.Monomial.{Monomial}
 use Rattle.size_arith.specs.declared.poly.PolyNo.{PolyNo}
 use Rattle.size_arith.specs.declared.poly.PolyNo.TheVariants as no
-use Rattle.size_arith.specs.Polynomial.{number, of_monomial, plus, minus, times, limited}
+use Rattle.size_arith.specs.Polynomial.{of_monomial, plus, minus, times, limited}
 use Rattle.size_arith.specs.Shown.{largest}
+use Rattle.size_arith.specs.Decisions.{is_shown, is_same}
 use Rattle.lift_tree.specs.declared.length.Factor.{Factor}
 use Rattle.lift_tree.specs.declared.length.Part.{Part}
 use Rattle.lift_tree.specs.declared.term.UnaryForm.{UnaryForm}
@@ -33,7 +34,7 @@ use Rattle.pattern_types.specs.declared.fault.Fault.{Fault}
 use Rattle.pattern_types.specs.declared.fault.Fault.TheVariants.{Breaks, Passes, Memory}
 use Rattle.pattern_types.specs.declared.fault.NodeFault.{NodeFault}
 use Rattle.pattern_types.specs.Scopes.{nth_type}
-use Rattle.pattern_types.specs.Tests.{is_shown, is_same, exact_quotient, is_element, is_output, is_same_element}
+use Rattle.pattern_types.specs.Tests.{exact_quotient, is_element, is_output, is_same_element}
 
 abbrev pub and_then : {A B E : Type 0} → Result A E → (A → Result B E) → Result B E
 and_then (Ok a) f = f a

@@ -1,37 +1,8 @@
 -- What the typing table demands, as tests.
-use Rattle.std.specs.Prelude.{ℕ, zero, suc, Bool, true, false, not, ◌&&◌, if◌then◌else◌, ◌-◌, nat_le, nat_eq, List, [], ◌∷◌, length, ℤ, pos, neg_ℤ, int_le, int_rem, Option, Some, None}
-use Rattle.std.specs.Ordering.{int_eq}
-use Rattle.size_arith.specs.declared.names.Name.{Name}
+use Rattle.std.specs.Prelude.{ℕ, Bool, true, false, not, ◌&&◌, if◌then◌else◌, nat_le, List, [], ◌∷◌, int_rem, Option, Some, None}
 use Rattle.size_arith.specs.declared.poly.Monomial.{Monomial}
-use Rattle.size_arith.specs.Polynomial.{number, is_zero, quotient}
-use Rattle.size_arith.specs.Shown.{shifted}
-use Rattle.size_arith.specs.Ranges.{leasts}
+use Rattle.size_arith.specs.Polynomial.{is_zero, quotient}
 use Rattle.lift_tree.specs.Types.{PlainTy, U32, PairOf, ArrayOf}
-
-abbrev pub all_upto : ℕ → (ℕ → Bool) → Bool
-all_upto zero f = f 0
-all_upto (suc k) f = all_upto k f && f (suc k)
-
--- all lists of so many powers, in all at most so much
-abbrev pub all_powers : (count most : ℕ) → (List ℕ → Bool) → Bool
-all_powers zero most f = f []
-all_powers (suc n) most f = all_upto most (λ j. all_powers n (most - j) (λ js. f (j ∷ js)))
-
--- shown to be at least k
-abbrev pub is_shown : ℕ → List Name → List Monomial → Bool
-is_shown k names p = all_powers (length names) 4 (λ js. int_le (pos 0) (shifted (leasts names) (number (neg_ℤ (pos k)) ∷ p) js))
-
-abbrev pub same_powers : List ℕ → List ℕ → Bool
-same_powers [] [] = true
-same_powers [] (n ∷ ns) = false
-same_powers (m ∷ ms) [] = false
-same_powers (m ∷ ms) (n ∷ ns) = nat_eq m n && same_powers ms ns
-
-abbrev pub is_same : List Monomial → List Monomial → Bool
-is_same [] [] = true
-is_same [] (n ∷ q) = false
-is_same (m ∷ p) [] = false
-is_same (m ∷ p) (n ∷ q) = int_eq m.coefficient n.coefficient && (same_powers m.powers n.powers && is_same p q)
 
 abbrev pub are_at_most : List ℕ → List ℕ → Bool
 are_at_most [] ns = true

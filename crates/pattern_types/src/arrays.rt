@@ -8,7 +8,7 @@ ghost use Rattle.pattern_types.specs.Judged.{at_most, counted, element_in, forme
 ghost use Rattle.pattern_types.specs.Tests.{is_element, holds_elements, is_output, is_same_element};
 
 use crate::fault::{Fault, demanded};
-use crate::lengths::{product, shown};
+use crate::lengths::product;
 use crate::refusal::{Rule, TypeLimit};
 use lift_tree::ty::Ty;
 use size_arith::{Names, Poly};
@@ -132,7 +132,7 @@ pub fn formed(alloc: Global, names: &Names, element: Ty, length: Poly) -> Result
     ensures ok { IfOk result (λ t. formed names.now (ty_of element) length ≡ Ok (ty_of t)) }
     ensures refused { IfErr result (λ f. f ≢ Memory → formed names.now (ty_of element) length ≡ Err f) }
 {
-    demanded(shown(1, names, &length), Rule::Length)?;
+    demanded(length.shown_at_least(1, names), Rule::Length)?;
     limited(
         4,
         TypeLimit::Arrays,

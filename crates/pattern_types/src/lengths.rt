@@ -1,13 +1,13 @@
 // Lengths, worked out over the base names.
 
-ghost use Rattle.std.specs.Prelude.{◌≡◌, ◌≢◌, ◌≤◌, ◌<◌, ◌∷◌, [], IfErr, IfOk, Err, Ok, length, true, ◌↔◌, IsTrue};
+ghost use Rattle.std.specs.Prelude.{◌≡◌, ◌≢◌, ◌≤◌, ◌<◌, ◌∷◌, [], IfErr, IfOk, Err, Ok, length};
 ghost use Rattle.size_arith.specs.Polynomial.{plus, minus, times, of_monomial, total};
 ghost use Rattle.lift_tree.specs.Typing.{constant};
 ghost use Rattle.lift_tree.specs.WorkedOut.{factor_monomial, with_part};
 ghost use Rattle.pattern_types.specs.declared.fault.Fault.TheVariants.{Memory};
 ghost use Rattle.pattern_types.specs.Belonging.{AreNamed, PartsAreNamed};
 ghost use Rattle.pattern_types.specs.Judged.{within, product_judged, sum_judged};
-ghost use Rattle.pattern_types.specs.Tests.{is_shown, is_same, exact_quotient};
+ghost use Rattle.pattern_types.specs.Tests.{exact_quotient};
 
 use crate::fault::Fault;
 use lift_tree::length::{Factor, Part, Product, Sign};
@@ -39,13 +39,6 @@ pub fn product(alloc: Global, first: &Poly, second: &Poly) -> Result<Poly, Fault
     ensures refused { IfErr result (λ f. f ≢ Memory → within (times first.now second.now) ≡ Err f) }
 {
     Ok(first.mul(alloc, second)?)
-}
-
-pub fn shown(least: u64, names: &Names, poly: &Poly) -> bool
-    ensures { result ≡ is_shown least names.now poly.now }
-{
-    let _monomials = poly.as_slice();
-    poly.shown_at_least(least, names)
 }
 
 fn divided(alloc: Global, monomial: &Monomial, poly: &Poly) -> Result<Option<Poly>, AllocError>
@@ -141,10 +134,4 @@ pub fn with_parts(
             with_parts(alloc, names, next, rest)
         }
     }
-}
-
-pub fn is_same(a: &Poly, b: &Poly) -> bool
-    ensures { result ≡ is_same a.now b.now }
-{
-    a.same(b)
 }

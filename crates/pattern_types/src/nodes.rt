@@ -3,7 +3,7 @@
 ghost use Rattle.std.specs.Prelude.{◌≡◌, ◌≢◌, ◌<◌, IfErr, IfOk, OnOk, Err, Ok, [], ◌∷◌, length, map};
 ghost use Rattle.lift_tree.specs.Types.{ty_of};
 ghost use Rattle.lift_tree.specs.Tree.{tree_of};
-ghost use Rattle.lift_tree.specs.Annotations.{annotation_of, type_in, One, Two, Three};
+ghost use Rattle.lift_tree.specs.Annotations.{annotation_of, One, Two, Three};
 ghost use Rattle.pattern_types.specs.declared.fault.Fault.TheVariants.{Memory};
 ghost use Rattle.pattern_types.specs.Belonging.{Belongs};
 ghost use Rattle.pattern_types.specs.Judged.{judged, map_end, fold_start, fold_end};
@@ -21,18 +21,6 @@ use lift_tree::typed::NodeTypes;
 use size_arith::Names;
 use std::alloc::{AllocError, Global};
 use std::collections::VecDeque;
-
-/// The type of the node itself.
-pub fn own_type(types: &NodeTypes) -> &Ty
-    ensures { ty_of result.now ≡ type_in (annotation_of types.now) }
-{
-    match types {
-        NodeTypes::Leaf(ty) => ty,
-        NodeTypes::One(ty, _) => ty,
-        NodeTypes::Two(ty, _, _) => ty,
-        NodeTypes::Three(ty, _, _, _) => ty,
-    }
-}
 
 fn one(alloc: Global, ty: Ty, a: NodeTypes) -> Result<NodeTypes, AllocError>
     ensures { IfOk result (λ n. annotation_of n ≡ One (ty_of ty) (annotation_of a)) }
@@ -160,7 +148,7 @@ pub fn judge(
         Term::Input(n) => Ok(NodeTypes::Leaf(made!(alloc, nth(alloc, inputs, *n)))),
         Term::Unary(form, a) => {
             let a = child!(alloc, 0, judge(alloc, names, inputs, scope, a));
-            let ty = here!(alloc, unary(alloc, names, form, own_type(&a)));
+            let ty = here!(alloc, unary(alloc, names, form, a.own_type()));
             Ok(made!(alloc, one(alloc, ty, a)))
         }
         Term::Binary(form, a, b) => {
@@ -168,7 +156,7 @@ pub fn judge(
             let b = child!(alloc, 1, judge(alloc, names, inputs, scope, b));
             let ty = here!(
                 alloc,
-                binary(alloc, names, *form, own_type(&a), own_type(&b))
+                binary(alloc, names, *form, a.own_type(), b.own_type())
             );
             Ok(made!(alloc, two(alloc, ty, a, b)))
         }
@@ -176,15 +164,15 @@ pub fn judge(
             let a = child!(alloc, 0, judge(alloc, names, inputs, scope, a));
             let b = child!(alloc, 1, judge(alloc, names, inputs, scope, b));
             let c = child!(alloc, 2, judge(alloc, names, inputs, scope, c));
-            let ty = here!(alloc, select(own_type(&a), own_type(&b), own_type(&c)));
+            let ty = here!(alloc, select(a.own_type(), b.own_type(), c.own_type()));
             Ok(made!(alloc, three(alloc, ty, a, b, c)))
         }
         Term::Let(value, body) => {
             let value = child!(alloc, 0, judge(alloc, names, inputs, scope, value));
-            made!(alloc, bind(alloc, scope, own_type(&value)));
+            made!(alloc, bind(alloc, scope, value.own_type()));
             let body = child!(alloc, 1, judge(alloc, names, inputs, scope, body));
             scope.pop_front();
-            let ty = made!(alloc, own_type(&body).copy(alloc));
+            let ty = made!(alloc, body.own_type().copy(alloc));
             Ok(made!(alloc, two(alloc, ty, value, body)))
         }
         Term::Map(_, array, body) => {
@@ -194,29 +182,29 @@ pub fn judge(
                 bind(
                     alloc,
                     scope,
-                    here!(alloc, element_of(own_type(&array), Rule::Map))
+                    here!(alloc, element_of(array.own_type(), Rule::Map))
                 )
             );
             let body = child!(alloc, 1, judge(alloc, names, inputs, scope, body));
             scope.pop_front();
             let ty = here!(
                 alloc,
-                map_end(alloc, names, own_type(&array), own_type(&body))
+                map_end(alloc, names, array.own_type(), body.own_type())
             );
             Ok(made!(alloc, two(alloc, ty, array, body)))
         }
         Term::Fold(_, array, start, body) => {
             let array = child!(alloc, 0, judge(alloc, names, inputs, scope, array));
             let start = child!(alloc, 1, judge(alloc, names, inputs, scope, start));
-            let element = here!(alloc, fold_start(own_type(&array), own_type(&start)));
-            made!(alloc, bind(alloc, scope, own_type(&start)));
+            let element = here!(alloc, fold_start(array.own_type(), start.own_type()));
+            made!(alloc, bind(alloc, scope, start.own_type()));
             made!(alloc, bind(alloc, scope, element));
             let body = child!(alloc, 2, judge(alloc, names, inputs, scope, body));
             scope.pop_front();
             scope.pop_front();
             let ty = here!(
                 alloc,
-                fold_end(alloc, names, own_type(&start), own_type(&body))
+                fold_end(alloc, names, start.own_type(), body.own_type())
             );
             Ok(made!(alloc, three(alloc, ty, array, start, body)))
         }

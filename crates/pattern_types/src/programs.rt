@@ -1,11 +1,9 @@
 // The types of a program: its inputs in order, then the term.
 
-ghost use Rattle.std.specs.Prelude.{◌≡◌, ◌≢◌, ◌≤◌, ◌<◌, ◌+◌, ◌++◌, IfErr, IfOk, OnOk, Err, Ok, [], ◌∷◌, length, map, take};
-ghost use Rattle.size_arith.specs.Ranges.{AreNames};
+ghost use Rattle.std.specs.Prelude.{◌≡◌, ◌≢◌, ◌≤◌, ◌<◌, ◌+◌, IfErr, IfOk, OnOk, Err, Ok, [], ◌∷◌, length, map, take};
 ghost use Rattle.lift_tree.specs.InputTypes.{written_of};
 ghost use Rattle.lift_tree.specs.Types.{ty_of, PairOf};
 ghost use Rattle.lift_tree.specs.Tree.{tree_of};
-ghost use Rattle.lift_tree.specs.WorkedOut.{range_of};
 ghost use Rattle.lift_tree.specs.Programs.{input_of, program_of};
 ghost use Rattle.lift_tree.specs.Annotations.{annotation_of, IsTyped};
 ghost use Rattle.pattern_types.specs.declared.fault.Fault.TheVariants.{Memory};
@@ -20,46 +18,16 @@ ghost use Rattle.pattern_types.specs.Scopes.{declared_as};
 use crate::arrays::{formed, is_output};
 use crate::fault::{Fault, NodeFault, demanded};
 use crate::lengths::with_parts;
-use crate::nodes::{judge, own_type};
+use crate::nodes::judge;
 use crate::refusal::{Rule, Spot, TypeRefusal};
 use lift_tree::input_type::InputType;
-use lift_tree::program::{Input, Program, Size};
+use lift_tree::program::{Input, Program};
 use lift_tree::term::Term;
 use lift_tree::ty::Ty;
 use lift_tree::typed::{NodeTypes, Typed};
-use size_arith::{Name, Names, Poly};
+use size_arith::{Names, Poly};
 use std::alloc::{AllocError, Global};
 use std::collections::VecDeque;
-
-// Adds the ranges of declared sizes.
-fn add_ranges(names: &mut Names, sizes: &[Size]) -> Result<(), AllocError>
-    requires few { length names.old + length sizes.now ≤ 8 }
-    requires declared { AreNames (map range_of sizes.now) }
-    ensures { OnOk result (names.new ≡ names.old ++ map range_of sizes.now) }
-{
-    match sizes {
-        [] => Ok(()),
-        [first, rest @ ..] => {
-            names.push(Name {
-                multiple: first.multiple,
-                from: first.from,
-                to: first.to,
-            })?;
-            add_ranges(names, rest)
-        }
-    }
-}
-
-// The ranges of the declared sizes.
-fn names_of(alloc: Global, sizes: &[Size]) -> Result<Names, AllocError>
-    requires few { length sizes.now ≤ 8 }
-    requires declared { AreNames (map range_of sizes.now) }
-    ensures { IfOk result (λ names. names ≡ map range_of sizes.now) }
-{
-    let mut names = Names::new(alloc);
-    add_ranges(&mut names, sizes)?;
-    Ok(names)
-}
 
 fn pair_of(alloc: Global, a: Ty, b: Ty) -> Result<Ty, AllocError>
     ensures { IfOk result (λ t. ty_of t ≡ PairOf (ty_of a) (ty_of b)) }
@@ -138,7 +106,7 @@ fn judge_output(
     ensures refused { IfErr result (λ e. e.fault ≢ Memory → and_then (judged (declared_as names.now inputs.now.items) [] (tree_of term.now)) output_judged ≡ Err e) }
 {
     let types = judge(alloc, names, inputs, &mut VecDeque::new(alloc), term)?;
-    match demanded(is_output(own_type(&types)), Rule::Output) {
+    match demanded(is_output(types.own_type()), Rule::Output) {
         Ok(()) => Ok(types),
         Err(fault) => Err(fault.of_root(alloc)),
     }
@@ -176,7 +144,7 @@ fn judge_program(alloc: Global, program: &Program, term: &Term) -> Result<NodeTy
     ensures types { IfOk result (λ n. program_judged (program_of program.now) (tree_of term.now) ≡ Ok (annotation_of n)) }
     ensures refused { IfErr result (λ e. e ≢ refusal.Memory → program_judged (program_of program.now) (tree_of term.now) ≡ Err e) }
 {
-    let Ok(names) = names_of(alloc, &program.sizes) else {
+    let Ok(names) = program.names(alloc) else {
         return Err(TypeRefusal::Memory);
     };
     let inputs = judge_inputs(alloc, &names, 0, &program.inputs)?;

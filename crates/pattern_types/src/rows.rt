@@ -8,9 +8,7 @@ ghost use Rattle.pattern_types.specs.Judged.{number_row, first_row, second_row, 
 
 use crate::arrays::{formed, is_element};
 use crate::fault::{Fault, demanded};
-use crate::lengths::{
-    constant, difference, exact_quotient, is_same, product, product_of, shown, sum,
-};
+use crate::lengths::{constant, difference, exact_quotient, product, product_of, sum};
 use crate::refusal::Rule;
 use lift_tree::term::{BinaryForm, UnaryForm};
 use lift_tree::ty::Ty;
@@ -112,7 +110,7 @@ fn slide(alloc: Global, names: &Names, size: u32, step: u32, operand: &Ty) -> Re
     match operand {
         Ty::Array(element, whole) => {
             let left = difference(alloc, whole, &constant(alloc, size)?)?;
-            demanded(shown(0, names, &left), Rule::Slide)?;
+            demanded(left.shown_at_least(0, names), Rule::Slide)?;
             match exact_quotient(alloc, &constant(alloc, step)?, &left)? {
                 Some(steps) => windows(alloc, names, element, size, &steps),
                 None => Err(Fault::Breaks(Rule::Slide)),
@@ -188,7 +186,7 @@ fn zip(alloc: Global, names: &Names, a: &Ty, b: &Ty) -> Result<Ty, Fault>
     match a {
         Ty::Array(first, length) => match b {
             Ty::Array(second, other) => {
-                demanded(is_same(length, other), Rule::Zip)?;
+                demanded(length.same(other), Rule::Zip)?;
                 let element = pair_of(alloc, first, second)?;
                 formed(alloc, names, element, length.copy(alloc)?)
             }

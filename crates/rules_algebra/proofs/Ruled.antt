@@ -1,10 +1,10 @@
 -- Each rule keeps type and value.
-use Rattle.std.proofs.Common.{◌≡◌, ℕ, zero, Bool, true, false, Some, List, [], ◌∷◌, refl, sym, ap, ◌∙◌, subst, arith}
-use Rattle.std.specs.Prelude.{Result, Ok, Err, IfOk, IsTrue, if◌then◌else◌, ◌&&◌, ◌↔◌, nat_eq}
-use Rattle.std.specs.Ordering.{int_eq}
-use Rattle.std.proofs.lemmas.Bool.Decides.{nat_tests, Decides-int_eq}
+use Rattle.std.proofs.Common.{◌≡◌, zero, Bool, true, false, Some, List, refl, sym, ap, ◌∙◌, subst}
+use Rattle.std.specs.Prelude.{Result, Ok, Err, IfOk, if◌then◌else◌}
 use Rattle.size_arith.specs.declared.poly.Monomial.{Monomial}
 use Rattle.size_arith.specs.Polynomial.{of_monomial, times, quotient}
+use Rattle.size_arith.specs.Decisions.{is_same}
+use Rattle.size_arith.proofs.Decisions.{decides_same}
 use Rattle.lift_tree.specs.declared.length.Factor.{Factor}
 use Rattle.lift_tree.specs.declared.term.Term.{Term}
 use Rattle.lift_tree.specs.declared.term.UnaryForm.{UnaryForm}
@@ -14,7 +14,7 @@ use Rattle.lift_tree.specs.declared.term.UnaryForm.TheVariants.{Join, Split, Tra
 use Rattle.lift_tree.specs.Tree.{Tree, Variable, Unary, Let, Map, Fold, tree_of}
 use Rattle.lift_tree.specs.Renumbering.{substitute, mentions}
 use Rattle.lift_tree.specs.WorkedOut.{product_of}
-use Rattle.lift_tree.specs.Types.{PlainTy, U32, PairOf, ArrayOf}
+use Rattle.lift_tree.specs.Types.{PlainTy, U32, PairOf, ArrayOf, is_array}
 use Rattle.lift_tree.specs.Typing.{Declared, Types, UnaryRow}
 use Rattle.lift_tree.specs.Annotations.{Annotation, Leaf, One, Two, Three, Annotates, type_in}
 use Rattle.lift_tree.proofs.Annotated.{annotated_is_typed}
@@ -24,8 +24,8 @@ use Rattle.rewriting.specs.Answers.{Answer, Becomes, NoSide, IsAnswer}
 use Rattle.rewriting.specs.Around.{Around, IsAround}
 use Rattle.rewriting.specs.Keeps.{Keeps, KeepsIn}
 use Rattle.rules_algebra.specs.Fusing.{fuse_map, fuse_fold}
-use Rattle.rules_algebra.specs.Inlining.{let_inline, copy, is_array}
-use Rattle.rules_algebra.specs.Layouts.{join_split, split_join, transpose_transpose, map_join, map_split, map_transpose, without, row_length, same_lengths, child, same, same_powers, PiecesHaveTheirLength}
+use Rattle.rules_algebra.specs.Inlining.{let_inline, copy}
+use Rattle.rules_algebra.specs.Layouts.{join_split, split_join, transpose_transpose, map_join, map_split, map_transpose, without, row_length, same_lengths, child, PiecesHaveTheirLength}
 use Rattle.rules_algebra.specs.Padding.{pad_map, map_pad}
 use Rattle.rules_algebra.specs.Shapes.{HasPolynomial}
 use Rattle.rules_algebra.proofs.Kept.{fuse_map_keeps, fuse_fold_keeps, let_inline_keeps, map_join_keeps, map_split_keeps, map_transpose_keeps, pad_map_keeps, map_pad_keeps, transpose_transpose_keeps, copy_keeps}
@@ -146,72 +146,15 @@ pieces_have_their_length d a fs xs h =
     let s = (below d a.binders (Split fs) xs a.types h.nodes).1 in
     ap row_length s.4 ∙ ap (λ z. Some (of_monomial (product_of z fs))) (sym h.names)
 
--- ---- lengths compared
-and_left : (a b : Bool) → (a && b) ≡ true → a ≡ true
-and_left true b h = refl
-and_left false b h = h
-
-and_right : (a b : Bool) → (a && b) ≡ true → b ≡ true
-and_right true b h = h
-and_right false b h = absurd (cc)
-
-both : (a b : Bool) → a ≡ true → b ≡ true → (a && b) ≡ true
-both a b p q = ap (λ z. z && b) p ∙ q
-
-number_is : (m n : ℕ) → nat_eq m n ≡ true → m ≡ n
-number_is m n h = grind (arith, nat_tests)
-
-number_same : (m : ℕ) → nat_eq m m ≡ true
-number_same m = grind (arith, nat_tests)
-
-powers_are : (ms ns : List ℕ) → same_powers ms ns ≡ true → ms ≡ ns
-powers_are [] [] h = refl
-powers_are [] (n ∷ ns) h = cc
-powers_are (m ∷ ms) [] h = cc
-powers_are (m ∷ ms) (n ∷ ns) h =
-    let a = number_is m n (and_left (nat_eq m n) (same_powers ms ns) h) in
-    let b = powers_are ms ns (and_right (nat_eq m n) (same_powers ms ns) h) in
-    cc
-
-powers_same : (ms : List ℕ) → same_powers ms ms ≡ true
-powers_same [] = refl
-powers_same (m ∷ ms) = both (nat_eq m m) (same_powers ms ms) (number_same m) (powers_same ms)
-
-are : (p q : List Monomial) → same p q ≡ true → p ≡ q
-are [] [] h = refl
-are [] (n ∷ q) h = cc
-are (m ∷ p) [] h = cc
-are (m ∷ p) (n ∷ q) h =
-    let first = and_left (int_eq m.coefficient n.coefficient && same_powers m.powers n.powers) (same p q) h in
-    let c = (Decides-int_eq m.coefficient n.coefficient).0 (and_left (int_eq m.coefficient n.coefficient) (same_powers m.powers n.powers) first) in
-    let k = powers_are m.powers n.powers (and_right (int_eq m.coefficient n.coefficient) (same_powers m.powers n.powers) first) in
-    let e : m ≡ n = λ i. record { coefficient = c i; powers = k i } in
-    ap (λ x. x ∷ p) e ∙ ap (λ r. n ∷ r) (are p q (and_right (int_eq m.coefficient n.coefficient && same_powers m.powers n.powers) (same p q) h))
-
-is_same : (p : List Monomial) → same p p ≡ true
-is_same [] = refl
-is_same (m ∷ p) =
-    both (int_eq m.coefficient m.coefficient && same_powers m.powers m.powers) (same p p)
-    (both (int_eq m.coefficient m.coefficient) (same_powers m.powers m.powers) ((Decides-int_eq m.coefficient m.coefficient).1 refl) (powers_same m.powers))
-    (is_same p)
-
-pub same_decided : (r : Bool) (p q : List Monomial) → (IsTrue r ↔ (p ≡ q)) → r ≡ same p q
-same_decided true p q h = sym (ap (same p) (sym (h.0 refl)) ∙ is_same p)
-same_decided false p q h = go (same p q) refl
-  where
-    go : (b : Bool) → same p q ≡ b → false ≡ b
-    go true e = absurd (let f = h.1 (are p q e) in cc)
-    go false e = refl
-
 pub split_join_rule : (a : Around) (t u : Tree) → split_join a t ≡ Becomes u → HasPolynomial (type_in (child (child a.types))) → KeepsIn a t u
 split_join_rule a (Unary (Split fs) (Unary Join xs)) u e p d h =
     go (split_of_join d a fs xs h) (same_lengths (row_length (type_in (child (child a.types)))) (row_length (type_in a.types))) refl e
   where
     go : (s : SplitOfJoin d a fs xs) (b : Bool) → same_lengths (row_length (type_in (child (child a.types)))) (row_length (type_in a.types)) ≡ b → (if b then Becomes xs else NoSide Same) ≡ Becomes u → Keeps d a.binders (Unary (Split fs) (Unary Join xs)) u
     go s true m e =
-        let equal : same s.m (of_monomial (product_of a.names fs)) ≡ true =
+        let equal : is_same s.m (of_monomial (product_of a.names fs)) ≡ true =
         sym (ap (λ z. same_lengths (row_length z) (row_length (type_in a.types))) s.rows ∙ ap (λ z. same_lengths (Some s.m) (row_length z)) s.pieces) ∙ m in
-        let i = are s.m (of_monomial (product_of a.names fs)) equal ∙ ap (λ z. of_monomial (product_of z fs)) h.names in
+        let i = (decides_same s.m (of_monomial (product_of a.names fs))).0 equal ∙ ap (λ z. of_monomial (product_of z fs)) h.names in
         kept d a.binders (Unary (Split fs) (Unary Join xs)) xs u e
         (split_join_keeps d a.binders h.declared h.binders xs fs (type_in a.types) s.x s.m s.n (whole d a _ h) (subst (Types d a.binders xs) s.rows s.typed) (subst HasPolynomial s.rows p) i)
     go s false m e = cc

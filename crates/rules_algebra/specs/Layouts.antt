@@ -1,11 +1,11 @@
 -- Rules on join, split and transpose.
-use Rattle.std.specs.Prelude.{ℕ, zero, ◌≡◌, Bool, true, false, ◌&&◌, Option, Some, None, List, [], ◌∷◌, nat_eq, if◌then◌else◌}
-use Rattle.std.specs.Ordering.{int_eq}
+use Rattle.std.specs.Prelude.{ℕ, zero, ◌≡◌, Bool, false, Option, Some, None, List, if◌then◌else◌}
 use Rattle.rewriting.specs.declared.refused.Condition.TheVariants.{Same, Mentions}
 use Rattle.rewriting.specs.Answers.{Answer, Becomes, NoShape, NoSide}
 use Rattle.rewriting.specs.Around.{Around, IsAround}
 use Rattle.size_arith.specs.declared.poly.Monomial.{Monomial}
 use Rattle.size_arith.specs.Polynomial.{of_monomial}
+use Rattle.size_arith.specs.Decisions.{is_same}
 use Rattle.lift_tree.specs.declared.term.MapKind.TheVariants.{Plain}
 use Rattle.lift_tree.specs.declared.term.UnaryForm.TheVariants.{Join, Split, Transpose}
 use Rattle.lift_tree.specs.Tree.{Tree, Variable, Number, Unary, Map}
@@ -21,25 +21,13 @@ abbrev pub join_split : Tree → Answer
 join_split (Unary Join (Unary (Split m) xs)) = Becomes xs
 join_split _ = NoShape
 
-abbrev pub same_powers : List ℕ → List ℕ → Bool
-same_powers [] [] = true
-same_powers [] (n ∷ ns) = false
-same_powers (m ∷ ms) [] = false
-same_powers (m ∷ ms) (n ∷ ns) = nat_eq m n && same_powers ms ns
-
-abbrev pub same : List Monomial → List Monomial → Bool
-same [] [] = true
-same [] (n ∷ q) = false
-same (m ∷ p) [] = false
-same (m ∷ p) (n ∷ q) = (int_eq m.coefficient n.coefficient && same_powers m.powers n.powers) && same p q
-
 -- the length of the rows of an array of arrays
 abbrev pub row_length : PlainTy → Option (List Monomial)
 row_length (ArrayOf (ArrayOf a m) n) = Some m
 row_length _ = None
 
 abbrev pub same_lengths : Option (List Monomial) → Option (List Monomial) → Bool
-same_lengths (Some m) (Some n) = same m n
+same_lengths (Some m) (Some n) = is_same m n
 same_lengths (Some m) None = false
 same_lengths None n = false
 

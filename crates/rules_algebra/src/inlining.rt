@@ -8,7 +8,6 @@ ghost use Rattle.rewriting.specs.Answers.{IsAnswer, NoShape};
 ghost use Rattle.rules_algebra.specs.Shapes.{IsLet};
 ghost use Rattle.rules_algebra.specs.Inlining;
 
-use crate::node_types::{is_array, node_type};
 use crate::parts::{boxed, let_parts};
 use lift_tree::renumber::substituted;
 use lift_tree::term::{MapKind, Term};
@@ -41,7 +40,7 @@ fn is_let(term: &Term) -> bool
 pub fn copy(alloc: Global, term: Term, context: &Context) -> Result<Term, Refused>
     ensures { IsAnswer (Inlining.copy (context_of context.now) (tree_of term)) term result }
 {
-    if !is_array(node_type(&context.types)) {
+    if !context.types.own_type().is_array() {
         return Err(Refused::Side(Condition::Array, term));
     }
     let array = boxed(alloc, term)?;

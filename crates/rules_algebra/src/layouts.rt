@@ -10,7 +10,7 @@ ghost use Rattle.rewriting.specs.Around.{Around, context_of};
 ghost use Rattle.rewriting.specs.Keeps.{KeepsIn};
 ghost use Rattle.rules_algebra.specs.Layouts;
 
-use crate::node_types::{child, have_same_rows, length_below, node_type};
+use crate::node_types::{child, have_same_rows, length_below};
 use crate::parts::{boxed, joined, map_parts, split_parts, transposed};
 use lift_tree::renumber::{dropped, raised};
 use lift_tree::term::{MapKind, Term, UnaryForm};
@@ -125,7 +125,7 @@ fn are_as_long(types: &NodeTypes) -> bool
         (Layouts.row_length (type_in (Layouts.child (Layouts.child (annotation_of types.now)))))
         (Layouts.row_length (type_in (annotation_of types.now))) }
 {
-    have_same_rows(node_type(child(child(types))), node_type(types))
+    have_same_rows(child(child(types)).own_type(), types.own_type())
 }
 
 fn unjoined(term: Term) -> Term

@@ -3,25 +3,12 @@
 ghost use Rattle.std.specs.Prelude.{◌≡◌, option_map};
 ghost use Rattle.lift_tree.specs.Types.{ty_of};
 ghost use Rattle.lift_tree.specs.Annotations.{annotation_of, type_in};
-ghost use Rattle.rules_algebra.specs.Inlining.{is_array as is_array_type};
-ghost use Rattle.rules_algebra.specs.Layouts.{row_length as row_length_of, same_lengths, same, child as child_of};
+ghost use Rattle.rules_algebra.specs.Layouts.{row_length as row_length_of, same_lengths, child as child_of};
 ghost use Rattle.rules_algebra.specs.Shapes.{HasPolynomial};
 
 use lift_tree::ty::Ty;
 use lift_tree::typed::NodeTypes;
 use size_arith::{Monomial, Poly};
-
-// The node's own type.
-pub fn node_type(types: &NodeTypes) -> &Ty
-    ensures { ty_of result.now ≡ type_in (annotation_of types.now) }
-{
-    match types {
-        NodeTypes::Leaf(ty)
-        | NodeTypes::One(ty, _)
-        | NodeTypes::Two(ty, _, _)
-        | NodeTypes::Three(ty, _, _, _) => ty,
-    }
-}
 
 // The types of the only child, or the node's where it hasn't one child.
 pub fn child(types: &NodeTypes) -> &NodeTypes
@@ -30,15 +17,6 @@ pub fn child(types: &NodeTypes) -> &NodeTypes
     match types {
         NodeTypes::One(_, child) => child,
         _ => types,
-    }
-}
-
-pub fn is_array(ty: &Ty) -> bool
-    ensures { result ≡ is_array_type (ty_of ty.now) }
-{
-    match ty {
-        Ty::Number | Ty::Pair(_, _) => false,
-        Ty::Array(_, _) => true,
     }
 }
 
@@ -61,24 +39,18 @@ pub fn have_same_rows(a: &Ty, b: &Ty) -> bool
 {
     match row_length(a) {
         Some(m) => match row_length(b) {
-            Some(n) => are_same(m, n),
+            Some(n) => m.same(n),
             None => false,
         },
         None => false,
     }
 }
 
-fn are_same(m: &Poly, n: &Poly) -> bool
-    ensures { result ≡ same m.now n.now }
-{
-    m.same(n)
-}
-
 // The length of the array that is the only child's only child. Once it is read, it is known to be a polynomial.
 pub fn length_below(types: &NodeTypes) -> Option<&[Monomial]>
     ensures { HasPolynomial (type_in (child_of (child_of (annotation_of types.now)))) }
 {
-    match node_type(child(child(types))) {
+    match child(child(types)).own_type() {
         Ty::Number | Ty::Pair(_, _) => None,
         Ty::Array(_, length) => Some(length.as_slice()),
     }

@@ -11,7 +11,7 @@ use Rattle.lift_tree.specs.declared.term.Term.{Term}
 use Rattle.lift_tree.specs.Tree.{Tree, tree_of, Variable, Unary, Map, Fold}
 use Rattle.lift_tree.specs.Values.{Value, array, members}
 use Rattle.lift_tree.specs.Meaning.{World, meaning, unary_value}
-use Rattle.lift_tree.specs.Types.{PlainTy, U32, PairOf, ArrayOf}
+use Rattle.lift_tree.specs.Types.{PlainTy, U32, PairOf, ArrayOf, is_array}
 use Rattle.lift_tree.specs.Typing.{Declared, UnaryRow, Types}
 use Rattle.lift_tree.specs.Annotations.{type_in}
 use Rattle.lift_tree.proofs.Annotated.{annotated_is_typed}
@@ -25,7 +25,7 @@ use Rattle.rewriting.specs.Answers.{Becomes, NoSide, IsAnswer}
 use Rattle.rewriting.specs.Keeps.{KeepsIn}
 use Rattle.rules_lower.specs.declared.rule.Rule.{Rule}
 use Rattle.rules_lower.specs.declared.rule.Rule.TheVariants.{ToGlobal, ToWorkGroup, ToLocal, ToSequential, FoldSequential, Local, Private, LocalCopy, PrivateCopy}
-use Rattle.rules_lower.specs.Rules.{answer, mapped, folded, is_array, copied}
+use Rattle.rules_lower.specs.Rules.{answer, mapped, folded, copied}
 use Rattle.rules_lower.specs.Laws.{LoweringKeeps}
 
 becomes_of : (t u : Tree) → Becomes t ≡ Becomes u → t ≡ u

@@ -1,12 +1,12 @@
 -- The rules that say how a term is run, one row each.
-use Rattle.std.specs.Prelude.{Bool, true, false, if◌then◌else◌}
+use Rattle.std.specs.Prelude.{if◌then◌else◌}
 use Rattle.lift_tree.specs.declared.term.MapKind.{MapKind}
 use Rattle.lift_tree.specs.declared.term.MapKind.TheVariants as map
 use Rattle.lift_tree.specs.declared.term.FoldKind.TheVariants as fold
 use Rattle.lift_tree.specs.declared.term.UnaryForm.{UnaryForm}
 use Rattle.lift_tree.specs.declared.term.UnaryForm.TheVariants as unary
 use Rattle.lift_tree.specs.Tree.{Tree, Variable, Unary, Map, Fold}
-use Rattle.lift_tree.specs.Types.{PlainTy, U32, PairOf, ArrayOf}
+use Rattle.lift_tree.specs.Types.{is_array}
 use Rattle.lift_tree.specs.Annotations.{type_in}
 use Rattle.rewriting.specs.declared.refused.Condition.TheVariants.{Array}
 use Rattle.rewriting.specs.Around.{Around}
@@ -23,11 +23,6 @@ mapped k _ = NoShape
 abbrev pub folded : Tree → Answer
 folded (Fold fold.Plain xs s f) = Becomes (Fold fold.Sequential xs s f)
 folded _ = NoShape
-
-abbrev pub is_array : PlainTy → Bool
-is_array U32 = false
-is_array (PairOf a b) = false
-is_array (ArrayOf a n) = true
 
 -- what an array becomes; the condition is that the term is one
 abbrev pub on_array : Around → Tree → Answer

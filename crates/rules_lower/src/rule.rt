@@ -2,15 +2,13 @@
 
 ghost use Rattle.std.specs.Prelude.{◌≡◌, IfOk};
 ghost use Rattle.lift_tree.specs.Tree.{Unary, tree_of};
-ghost use Rattle.lift_tree.specs.Annotations.{annotation_of, type_in};
 ghost use Rattle.rewriting.specs.Around.{context_of};
 ghost use Rattle.rewriting.specs.Answers.{IsAnswer};
 ghost use Rattle.rewriting.specs.Keeps.{KeepsIn};
-ghost use Rattle.rules_lower.specs.Rules.{answer, copied, folded, is_array, mapped, on_array};
+ghost use Rattle.rules_lower.specs.Rules.{answer, copied, folded, mapped, on_array};
 
 use lift_tree::term::{FoldKind, MapKind, Term, UnaryForm};
-use lift_tree::ty::Ty;
-use lift_tree::typed::{Context, NodeTypes};
+use lift_tree::typed::Context;
 use rewriting::refused::{Condition, Refused};
 use std::alloc::{AllocError, Global};
 
@@ -90,7 +88,7 @@ fn folded(term: Term) -> Result<Term, Refused>
 fn kept(alloc: Global, form: UnaryForm, term: Term, context: &Context) -> Result<Term, Refused>
     ensures { IsAnswer (on_array (context_of context.now) (Unary form (tree_of term))) term result }
 {
-    if is_array(&context.types) {
+    if context.types.own_type().is_array() {
         Ok(Term::Unary(form, Box::new(alloc, term)?))
     } else {
         Err(Refused::Side(Condition::Array, term))
@@ -107,7 +105,7 @@ fn copied(
 ) -> Result<Term, Refused>
     ensures { IsAnswer (on_array (context_of context.now) (copied form kind (tree_of term))) term result }
 {
-    if is_array(&context.types) {
+    if context.types.own_type().is_array() {
         Ok(copy_of(alloc, form, kind, term)?)
     } else {
         Err(Refused::Side(Condition::Array, term))
@@ -120,19 +118,4 @@ fn copy_of(alloc: Global, form: UnaryForm, kind: MapKind, array: Term) -> Result
     let element = Box::new(alloc, Term::Variable(0))?;
     let copy = Term::Map(kind, Box::new(alloc, array)?, element);
     Ok(Term::Unary(form, Box::new(alloc, copy)?))
-}
-
-// Whether the node is an array.
-fn is_array(types: &NodeTypes) -> bool
-    ensures { result ≡ is_array (type_in (annotation_of types.now)) }
-{
-    match types {
-        NodeTypes::Leaf(ty)
-        | NodeTypes::One(ty, _)
-        | NodeTypes::Two(ty, _, _)
-        | NodeTypes::Three(ty, _, _, _) => match ty {
-            Ty::Array(_, _) => true,
-            _ => false,
-        },
-    }
 }

@@ -1,11 +1,11 @@
 -- The lengths of pieces, rows and tiles.
-use Rattle.std.proofs.Common.{◌≡◌, ℕ, zero, suc, ◌+◌, ◌-◌, ◌*◌, ◌≤◌, ◌<◌, List, [], ◌∷◌, length, ℤ, pos, negsuc, ◌+ℤ◌, ◌*ℤ◌, ◌≤ℤ◌, refl, sym, ap, ◌∙◌, subst, arith, false}
+use Rattle.std.proofs.Common.{◌≡◌, ℕ, zero, suc, ◌+◌, ◌*◌, ◌≤◌, ◌<◌, List, [], ◌∷◌, length, ℤ, pos, negsuc, ◌+ℤ◌, ◌*ℤ◌, ◌≤ℤ◌, refl, sym, ap, ◌∙◌, subst, arith, false}
 use Rattle.std.specs.Prelude.{int_div}
 use Rattle.std.proofs.lemmas.Int.{ints}
 use Rattle.std.proofs.Math.IntN.{*ℤ_comm}
 use Rattle.size_arith.specs.declared.names.Name.{Name}
 use Rattle.size_arith.specs.declared.poly.Monomial.{Monomial}
-use Rattle.size_arith.specs.Polynomial.{place, coefficient, no_powers, add_powers, less_powers, number, is_zero, put, added, plus, minus, times, AllWide, AllAfter, IsCanonical, AllDivide, quotient}
+use Rattle.size_arith.specs.Polynomial.{place, no_powers, add_powers, less_powers, number, is_zero, put, added, plus, minus, times, AllWide, AllAfter, IsCanonical, AllDivide, quotient}
 use Rattle.size_arith.specs.Shown.{share, part, shifted, ShownAtLeast}
 use Rattle.size_arith.specs.Ranges.{leasts}
 use Rattle.size_arith.proofs.Integers.{one_times}

@@ -2,6 +2,7 @@
 use Rattle.std.proofs.Common.{◌≡◌, ℕ, zero, suc, ◌+◌, ◌-◌, ◌*◌, ◌/◌, ◌%◌, ◌<◌, ◌≤◌, List, [], ◌∷◌, length, refl, sym, ap, ◌∙◌, subst, arith, add-one, zero-add, ℤ, pos, negsuc, ◌+ℤ◌, ◌-ℤ◌, ◌*ℤ◌, ◌≤ℤ◌, false, None}
 use Rattle.std.specs.Prelude.{map, IsTrue, ◌&&◌, neg_ℤ, nat_le, nat_eq}
 use Rattle.std.proofs.lemmas.Int.{ints}
+use Rattle.std.proofs.lemmas.Bool.{and_parts}
 use Rattle.std.proofs.lemmas.Bool.Decides.{nat_tests}
 use Rattle.std.proofs.Math.Nat.{mul-div_cancel_left, add-mul-mod_self_right}
 use Rattle.size_arith.specs.declared.names.Name.{Name}
@@ -9,8 +10,10 @@ use Rattle.size_arith.specs.declared.poly.Monomial.{Monomial}
 use Rattle.size_arith.specs.Polynomial.{Place, Before, Here, After, place, hit, coefficient, no_powers, number, is_zero, plus, minus, times, value_at, AllWide, IsCanonical, IsPoly, AllDivide, quotient}
 use Rattle.size_arith.specs.Shown.{part, shifted, ShownAtLeast}
 use Rattle.size_arith.specs.Ranges.{leasts}
+use Rattle.size_arith.specs.Decisions.{is_shown}
+use Rattle.size_arith.proofs.Decisions.{decides_shown}
 use Rattle.size_arith.proofs.Integers.{add_mul, mul_add, mul_left, cancel, one_times}
-use Rattle.size_arith.proofs.Limits.{canonical-added, canonical-times}
+use Rattle.size_arith.proofs.Limits.{canonical-added, canonical-times, low_of}
 use Rattle.size_arith.proofs.Maps.{same_map_same_list}
 use Rattle.size_arith.proofs.Soundness.{shown_at_least}
 use Rattle.size_arith.proofs.Values.{value-minus}
@@ -30,12 +33,12 @@ use Rattle.lift_tree.proofs.Unique.{one_type}
 use Rattle.rewriting.specs.Answers.{Becomes}
 use Rattle.rewriting.specs.Around.{Around}
 use Rattle.rewriting.specs.Keeps.{KeepsIn}
-use Rattle.rules_split.specs.Tests.{divides, is_shown}
+use Rattle.rules_split.specs.Tests.{divides}
 use Rattle.rules_split.specs.Rules.{tiled, tile_slide, tile_sides, first_false, array_length}
 use Rattle.rules_split.proofs.Linear.{total_by, total-constant, total-quotient, no_powers_at_most}
 use Rattle.rules_split.proofs.Lists.{map_every, map-map, map-concat, tiles}
 use Rattle.rules_split.proofs.Lengths.{canonical-constant, wide-minus, canonical-minus, wide-plus, wide-quotient, canonical-quotient, total-plus, total-minus, total-times, shifted_total, shown-constant}
-use Rattle.rules_split.proofs.Tried.{divided_by, at_least_one, none_false, parts, shown_by, unless_none}
+use Rattle.rules_split.proofs.Tried.{divided_by, at_least_one, none_false, unless_none}
 use Rattle.rules_split.proofs.Typed.{same_array, slide_array}
 
 -- ---- values
@@ -263,7 +266,7 @@ tiles_hold t u v a p h =
     record {
       some = some;
       whole = same v c.0;
-      shown = shown_by u a.names n p (parts (nat_le u 4294967295) (is_shown u a.names n) d.0).1;
+      shown = (decides_shown u a.names n (low_of n n refl p)).0 (and_parts (nat_le u 4294967295) (is_shown u a.names n) d.0).1;
       divide = divided_by v (minus n (constant u)) some (wide-minus n u p.wide) e.0;
     }
   where

@@ -4,6 +4,7 @@ use Rattle.scalar_ops.specs.declared.op.Reducer.{Reducer}
 use Rattle.scalar_ops.specs.Operators.{neutral}
 use Rattle.size_arith.specs.declared.poly.Monomial.{Monomial}
 use Rattle.size_arith.specs.Polynomial.{minus}
+use Rattle.size_arith.specs.Decisions.{is_shown}
 use Rattle.lift_tree.specs.declared.length.Factor.TheVariants as factor
 use Rattle.lift_tree.specs.declared.term.UnaryForm.TheVariants.{Join, Transpose, Split, Slide}
 use Rattle.lift_tree.specs.declared.term.BinaryForm.TheVariants.{Operator, Reduce}
@@ -21,7 +22,7 @@ use Rattle.rewriting.specs.Around.{Around}
 use Rattle.rewriting.specs.Answers.{Answer, Becomes, NoShape, NoSide}
 use Rattle.rules_split.specs.declared.rule.Rule.{Rule}
 use Rattle.rules_split.specs.declared.rule.Rule.TheVariants as rule
-use Rattle.rules_split.specs.Tests.{divides, is_shown}
+use Rattle.rules_split.specs.Tests.{divides}
 
 -- ---- conditions
 -- a condition by its name, and whether it holds

@@ -2,12 +2,13 @@
 
 ghost use Rattle.std.specs.Prelude.{◌≡◌, ◌<◌, ◌≤◌, ◌%◌, ◌^◌, ◌&&◌, ◌+ℤ◌, [], pos, neg_ℤ, unsigned_abs, int_rem, nat_le, nat_eq};
 ghost use Rattle.size_arith.specs.Polynomial.{is_zero, minus, IsPoly};
+ghost use Rattle.size_arith.specs.Decisions.{is_shown};
 ghost use Rattle.lift_tree.specs.Typing.{constant};
 ghost use Rattle.lift_tree.specs.Types.{ty_of};
-ghost use Rattle.lift_tree.specs.Annotations.{annotation_of, type_in};
+ghost use Rattle.lift_tree.specs.Annotations.{annotation_of};
 ghost use Rattle.rewriting.specs.Around.{context_of};
 ghost use Rattle.rules_split.specs.Rules.{length_in, array_length, first_false, piece_sides, tile_sides};
-ghost use Rattle.rules_split.specs.Tests.{divides, is_shown};
+ghost use Rattle.rules_split.specs.Tests.{divides};
 
 use lift_tree::ty::Ty;
 use lift_tree::typed::{Context, NodeTypes};
@@ -77,18 +78,6 @@ fn length_in<'t>(ty: &'t Ty, none: &'t Poly) -> &'t Poly
     }
 }
 
-// The node's own type.
-fn own_type(types: &NodeTypes) -> &Ty
-    ensures { ty_of result.now ≡ type_in (annotation_of types.now) }
-{
-    match types {
-        NodeTypes::Leaf(ty)
-        | NodeTypes::One(ty, _)
-        | NodeTypes::Two(ty, _, _)
-        | NodeTypes::Three(ty, _, _, _) => ty,
-    }
-}
-
 // The length of the array that is the node's first child, or the other where there is none.
 fn array_length<'t>(types: &'t NodeTypes, none: &'t Poly) -> &'t Poly
     requires { none.now ≡ [] }
@@ -97,7 +86,7 @@ fn array_length<'t>(types: &'t NodeTypes, none: &'t Poly) -> &'t Poly
     match types {
         NodeTypes::Leaf(_) => none,
         NodeTypes::One(_, array) | NodeTypes::Two(_, array, _) | NodeTypes::Three(_, array, _, _) =>
-            { length_in(own_type(array), none) }
+            { length_in(array.own_type(), none) }
     }
 }
 
@@ -117,20 +106,11 @@ pub fn false_side_of_pieces(alloc: Global, k: u32, types: &NodeTypes) -> Option<
     }
 }
 
-// Whether it is shown to be at least so much, at all admissible sizes.
-fn is_shown(least: u64, names: &Names, length: &Poly) -> bool
-    ensures { result ≡ is_shown least names.now length.now }
-{
-    let _names = names.as_slice();
-    let _length = length.as_slice();
-    length.shown_at_least(least, names)
-}
-
 // Whether the length is shown to be at least this, which is a number of 32 bits.
 fn is_long_enough(tile: u64, names: &Names, length: &Poly) -> bool
     ensures { result ≡ (nat_le tile 4294967295 && is_shown tile names.now length.now) }
 {
-    tile <= 4294967295 && is_shown(tile, names, length)
+    tile <= 4294967295 && length.shown_at_least(tile, names)
 }
 
 // Whether the number divides another.

@@ -9,4 +9,5 @@ pub mod Limits
 pub mod Caps
 pub mod Signs
 pub mod Soundness
+pub mod Decisions
 pub mod Quotients

@@ -5,7 +5,7 @@ use Rattle.std.proofs.Math.Nat.{pow-suc, pow-zero, pow-le-pow_left, div-le_of_le
 use Rattle.std.proofs.lemmas.Nat.{mul-le}
 use Rattle.size_arith.specs.declared.poly.Monomial.{Monomial}
 use Rattle.size_arith.specs.declared.names.Name.{Name}
-use Rattle.size_arith.specs.Polynomial.{product, total, degree, number, value_at, AllWide, AllLow, IsPoly}
+use Rattle.size_arith.specs.Polynomial.{product, total, degree, number, value_at, AllLow, IsPoly}
 use Rattle.size_arith.specs.Ranges.{AreNames, IsName, Admissible, leasts, greatests}
 use Rattle.size_arith.specs.Shown.{share, part, shifted, IsNeverNegative, ShownAtLeast, positive_part, largest, sum_upto, sum_over, raised}
 use Rattle.size_arith.specs.Code.{AllExtended}
@@ -14,7 +14,6 @@ use Rattle.std.proofs.lemmas.Bool.Decides.{nat_tests}
 use Rattle.size_arith.proofs.Integers.{add_mul, mul_both, mul_add}
 use Rattle.size_arith.proofs.Values.{number_at}
 use Rattle.size_arith.proofs.Limits.{low_of, low_degree}
-use Rattle.size_arith.proofs.Ranges.{length-leasts}
 
 -- sums are alike, add, scale and keep their sign
 upto_same : (d : ℕ) (f g : ℕ → ℤ) → ((j : ℕ) → f j ≡ g j) → sum_upto d f ≡ sum_upto d g

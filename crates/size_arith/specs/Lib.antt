@@ -1,4 +1,5 @@
 pub mod Ranges
 pub mod Polynomial
 pub mod Shown
+pub mod Decisions
 pub mod Code

@@ -4,6 +4,7 @@ ghost use Rattle.std.specs.Prelude.{◌≡◌, ℕ, ℤ, ◌≤◌, ◌<◌, ◌
 ghost use Rattle.size_arith.specs.Polynomial;
 ghost use Rattle.size_arith.specs.Ranges;
 ghost use Rattle.size_arith.specs.Shown;
+ghost use Rattle.size_arith.specs.Decisions;
 ghost use Rattle.size_arith.specs.declared.poly.PolyNo.TheVariants.{Memory};
 ghost use Rattle.size_arith.specs.declared.poly.Monomial.{Monomial};
 
@@ -258,6 +259,7 @@ impl Poly {
     /// Whether the polynomials are the same map from powers to coefficients.
     pub fn same(&self, other: &Poly) -> bool
         ensures same { IsTrue result ↔ (self.now ≡ other.now) }
+        ensures test { result ≡ Decisions.is_same self.now other.now }
         ensures map { IsTrue result
             ↔ ((ms : List ℕ) → Polynomial.coefficient self.now ms ≡ Polynomial.coefficient other.now ms) }
     {
@@ -276,6 +278,7 @@ impl Poly {
     /// What is shown holds; what holds need not be shown.
     pub fn shown_at_least(&self, k: u64, names: &Names) -> bool
         ensures shown { IsTrue result ↔ Shown.ShownAtLeast k names.now self.now }
+        ensures test { result ≡ Decisions.is_shown k names.now self.now }
         ensures sound { IsTrue result → (ys : List ℕ) → Ranges.Admissible names.now ys
             → pos k ≤ℤ Polynomial.value_at ys self.now }
     {

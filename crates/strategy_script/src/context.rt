@@ -1,47 +1,13 @@
 // What stands around a whole typed term.
 
-ghost use Rattle.std.specs.Prelude.{◌≡◌, ◌≤◌, ◌+◌, ◌++◌, IfOk, OnOk, [], length, map};
-ghost use Rattle.size_arith.specs.Ranges.{AreNames};
+ghost use Rattle.std.specs.Prelude.{◌≡◌, IfOk};
 ghost use Rattle.lift_tree.specs.Annotations.{annotation_of};
-ghost use Rattle.lift_tree.specs.WorkedOut.{range_of};
 ghost use Rattle.pattern_types.specs.Belonging.{IsProper};
 ghost use Rattle.rewriting.specs.Around.{context_of};
 ghost use Rattle.strategy_script.specs.Steps.{whole};
 
-use lift_tree::program::Size;
 use lift_tree::typed::{Context, NodeTypes, Typed};
-use size_arith::{Name, Names};
 use std::alloc::{AllocError, Global};
-
-// Adds the ranges of declared sizes.
-fn add_ranges(names: &mut Names, sizes: &[Size]) -> Result<(), AllocError>
-    requires few { length names.old + length sizes.now ≤ 8 }
-    requires declared { AreNames (map range_of sizes.now) }
-    ensures { OnOk result (names.new ≡ names.old ++ map range_of sizes.now) }
-{
-    match sizes {
-        [] => Ok(()),
-        [first, rest @ ..] => {
-            names.push(Name {
-                multiple: first.multiple,
-                from: first.from,
-                to: first.to,
-            })?;
-            add_ranges(names, rest)
-        }
-    }
-}
-
-// The ranges of the declared sizes.
-fn names_of(alloc: Global, sizes: &[Size]) -> Result<Names, AllocError>
-    requires few { length sizes.now ≤ 8 }
-    requires declared { AreNames (map range_of sizes.now) }
-    ensures { IfOk result (λ names. names ≡ map range_of sizes.now) }
-{
-    let mut names = Names::new(alloc);
-    add_ranges(&mut names, sizes)?;
-    Ok(names)
-}
 
 // Equal types in memory of their own.
 fn copied_types(alloc: Global, types: &NodeTypes) -> Result<NodeTypes, AllocError>
@@ -72,7 +38,7 @@ pub fn around_whole(alloc: Global, typed: &Typed) -> Result<Context, AllocError>
     requires { IsProper typed.now.program }
     ensures { IfOk result (λ c. context_of c ≡ whole typed.now) }
 {
-    let names = names_of(alloc, &typed.program.sizes)?;
+    let names = typed.program.names(alloc)?;
     let types = copied_types(alloc, &typed.types)?;
     Ok(Context {
         names,

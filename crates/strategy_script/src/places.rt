@@ -1,7 +1,7 @@
 // What stands around the nodes of a term.
 
 ghost use Rattle.std.specs.Prelude.{◌≡◌, ◌∷◌, IfOk, OnOk, map, option_map};
-ghost use Rattle.lift_tree.specs.Annotations.{annotation_of, type_in};
+ghost use Rattle.lift_tree.specs.Annotations.{annotation_of};
 ghost use Rattle.lift_tree.specs.Places.{child_at};
 ghost use Rattle.lift_tree.specs.Tree.{tree_of};
 ghost use Rattle.lift_tree.specs.Types.{ty_of};
@@ -61,18 +61,6 @@ fn child_types(types: NodeTypes, number: u32) -> Option<NodeTypes>
     }
 }
 
-// The node's own type.
-fn own_type(types: &NodeTypes) -> &Ty
-    ensures { ty_of result.now ≡ type_in (annotation_of types.now) }
-{
-    match types {
-        NodeTypes::Leaf(ty)
-        | NodeTypes::One(ty, _)
-        | NodeTypes::Two(ty, _, _)
-        | NodeTypes::Three(ty, _, _, _) => ty,
-    }
-}
-
 // The type of an array's elements.
 fn element_of(alloc: Global, ty: &Ty) -> Result<Ty, AllocError>
     ensures { IfOk result (λ element. ty_of element ≡ element_of (ty_of ty.now)) }
@@ -105,7 +93,7 @@ fn put_binders(
         Term::Let(_, _) => match types {
             NodeTypes::Two(_, value, _) => match number {
                 0 => Ok(()),
-                1 => put_binder(binders, own_type(value).copy(alloc)?),
+                1 => put_binder(binders, value.own_type().copy(alloc)?),
                 _ => Ok(()),
             },
             _ => Ok(()),
@@ -113,7 +101,7 @@ fn put_binders(
         Term::Map(_, _, _) => match types {
             NodeTypes::Two(_, array, _) => match number {
                 0 => Ok(()),
-                1 => put_binder(binders, element_of(alloc, own_type(array))?),
+                1 => put_binder(binders, element_of(alloc, array.own_type())?),
                 _ => Ok(()),
             },
             _ => Ok(()),
@@ -123,8 +111,8 @@ fn put_binders(
                 0 => Ok(()),
                 1 => Ok(()),
                 2 => {
-                    put_binder(binders, own_type(start).copy(alloc)?)?;
-                    put_binder(binders, element_of(alloc, own_type(array))?)
+                    put_binder(binders, start.own_type().copy(alloc)?)?;
+                    put_binder(binders, element_of(alloc, array.own_type())?)
                 }
                 _ => Ok(()),
             },

@@ -232,7 +232,6 @@ fn a_script_makes_a_term_each_step(rt: HostRuntime) -> Result<(), Fail> {
     Ok(())
 }
 
-// Row 9 of the refusals: map(\x. r, r) names the row r.
 #[test]
 fn the_first_step_that_is_not_made_is_told(rt: HostRuntime) -> Result<(), Fail> {
     let alloc = rt.alloc();
@@ -278,6 +277,7 @@ fn the_first_step_that_is_not_made_is_told(rt: HostRuntime) -> Result<(), Fail> 
             "at . split-join",
             "Inapplicable { step: 1, why: Side(Same) }",
         ),
+        // map(\x. r, r) names the row r
         (
             "map(\\r. map(\\x. r, r), split(2, xs))",
             "at . map-split",

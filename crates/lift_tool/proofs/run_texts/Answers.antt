@@ -5,7 +5,7 @@ use Rattle.launch_file.specs.declared.file.Ask.TheVariants as asks
 use Rattle.launch_file.specs.LaunchFile.{IsLaunchFile, given_by}
 use Rattle.lift_tool.specs.Shown.{form_of}
 use Rattle.lift_tool.proofs.Causes.{read_form, run_launch_fails}
-use Rattle.lift_tool.proofs.LaunchInput.{few_numbers, launch_admits, line_at}
+use Rattle.lift_tool.proofs.Admitted.{given_is_admissible}
 use Rattle.lift_tool.proofs.Proper.{proper}
 use Rattle.lift_tool.proofs.run_texts.Goals as goal
 
@@ -14,15 +14,8 @@ read_launch-requires c =
     let forms = c.in_ok-compiled.ensures.found.forms in
     proper _ _ (read_form _ _ _ _ forms) forms.is.scripted.typed
 
-pub run_launch-requires-clause-few : goal.run_launch-requires-clause-few
-run_launch-requires-clause-few c =
-    let file = subst (λ b. IsLaunchFile (program_of c.in_ok-compiled.compiled.program) (asks.Run b) c.args.launch.now (given_by c.in-Ok.file)) c.in_ok-compiled.ensures.task c.in-Ok.ensures.ok in
-    few_numbers _ _ _ _ _ _ _ _ c.in_ok-compiled.ensures.found file
-
-pub run_launch-requires-clause-admits : goal.run_launch-requires-clause-admits
-run_launch-requires-clause-admits c =
-    let file = subst (λ b. IsLaunchFile (program_of c.in_ok-compiled.compiled.program) (asks.Run b) c.args.launch.now (given_by c.in-Ok.file)) c.in_ok-compiled.ensures.task c.in-Ok.ensures.ok in
-    launch_admits _ _ _ _ _ _ _ _ c.in_ok-compiled.ensures.found file c.in_ok-compiled.compiled.is_task
+pub run_launch-requires : goal.run_launch-requires
+run_launch-requires c = given_is_admissible _ _ _ _ c.in-Ok.ensures.ok
 
 pub returns-in-Err : goal.returns-in-Err
 returns-in-Err c =
@@ -46,5 +39,5 @@ returns c =
       launch_file = file;
       kernel = line.kernel;
       read = line.read;
-      run = line_at _ _ _ _ _ _ _ _ found file _ line;
+      run = line.run;
     }

@@ -1,14 +1,7 @@
-use Rattle.std.proofs.Common.{◌≡◌, subst, sym, true}
-use Rattle.kernel_emit.specs.MapKernel.{map_kernel}
-use Rattle.lift_tree.specs.Annotations.{annotation_of, type_in}
-use Rattle.lift_tree.specs.Programs.{PlainProgram, program_of}
-use Rattle.lift_tree.specs.Tree.{tree_of}
-use Rattle.lift_tree.specs.Types.{PlainTy, ty_of}
-use Rattle.lift_tree.specs.declared.typed.Typed.{Typed}
+use Rattle.std.proofs.Common.{refl}
 use Rattle.lift_tool.specs.Compiled.{RefusesSource}
-use Rattle.lift_tool.specs.Runs.{MeetsSource}
 use Rattle.lift_tool.specs.Shown.{form_of}
-use Rattle.lift_tool.proofs.Compiling.{compiled_found, compiled_meets, form_refused}
+use Rattle.lift_tool.proofs.Compiling.{compiled_found, compiled_meets, compiled_over_one_list, form_refused}
 use Rattle.lift_tool.proofs.Stages.{handed_on, refused_terms}
 use Rattle.lift_tool.proofs.compile.compile_text.Goals as goal
 
@@ -19,7 +12,8 @@ invariant_of-result c =
     record {
       in_grammar = c.in_ok-text.ensures.in_grammar;
       one_kernel = c.in_ok-text.ensures.one_kernel;
-      within = printed.most;
+      one_item = refl;
+      one_list = compiled_over_one_list c.args.program.now c.args.script.now t (form_of c.in_ok-form.form) _ c.own_type.ensures c.in_ok-program.ensures.last printed;
       meets = compiled_meets c.args.program.now c.args.script.now t (form_of c.in_ok-form.form) _ c.own_type.ensures c.in_ok-program.ensures.last printed;
     }
 

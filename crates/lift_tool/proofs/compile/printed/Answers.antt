@@ -1,7 +1,7 @@
 use Rattle.std.proofs.Common.{◌∙◌, ap, subst, sym}
 use Rattle.kernel_tree.specs.Grammar.{is_kernel}
 use Rattle.kernel_tree.specs.KernelText.{IsKernelText}
-use Rattle.lift_tool.proofs.MapRun.{text_of_form}
+use Rattle.lift_tool.proofs.MapText.{text_of_form}
 use Rattle.lift_tool.proofs.compile.printed.Goals as goal
 
 pub returns-clause-written : goal.returns-clause-written

@@ -1,7 +1,7 @@
 use Rattle.std.proofs.Common.{◌∙◌, Err, subst}
 use Rattle.kernel_reader.specs.Exactly.{Answers}
 use Rattle.kernel_emit.specs.MapKernel.{map_kernel}
-use Rattle.lift_tool.proofs.MapRun.{has_text_of}
+use Rattle.lift_tool.proofs.MapText.{has_text_of}
 use Rattle.lift_tool.proofs.run.read_back.Goals as goal
 
 pub returns-in-Ok : goal.returns-in-Ok

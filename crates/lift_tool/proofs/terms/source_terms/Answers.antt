@@ -1,4 +1,3 @@
-use Rattle.std.proofs.Common.{Ok}
 use Rattle.lift_tree.specs.Annotations.{annotation_of}
 use Rattle.lift_tree.specs.Programs.{program_of}
 use Rattle.lift_tool.specs.Compiled.{RefusesTerms}

@@ -1,5 +1,4 @@
-use Rattle.std.proofs.Common.{◌∙◌, ap, sym}
-use Rattle.lift_tool.specs.SourceTerms.{typed_line, typed_lines}
+use Rattle.std.proofs.Common.{◌∙◌}
 use Rattle.lift_tool.proofs.TermsMade.{one_line_more}
 use Rattle.lift_tool.proofs.terms.terms_text.Goals as goal
 
