@@ -15,7 +15,8 @@ fn with_file<'a>(
     id: &'a str,
 ) -> Result<Command<'a>, AllocError>
     requires { (out-Command command).has_globals ≡ false }
-    ensures app { IfOk result (λ c. app_of c ≡ with_rule (app_of command.entry) (spec.file_rule id.entry.now)) }
+    ensures app { IfOk result (λ c. app_of c
+        ≡ with_rule (app_of command.entry) (spec.file_rule id.entry.now)) }
     ensures local { IfOk result (λ c. (out-Command c).has_globals ≡ false) }
 {
     command.arg(Arg::new(alloc, id).required(true).action(ArgAction::Set))
@@ -27,7 +28,8 @@ fn file_command<'a>(
     name: &'a str,
     ids: &[&'a str],
 ) -> Result<Command<'a>, AllocError>
-    ensures app { IfOk result (λ c. app_of c ≡ spec.file_command name.now (map (λ id. id.now) ids.now)) }
+    ensures app { IfOk result (λ c. app_of c
+        ≡ spec.file_command name.now (map (λ id. id.now) ids.now)) }
     ensures local { IfOk result (λ c. (out-Command c).has_globals ≡ false) }
 {
     let mut command = Command::new(alloc, name);
@@ -41,7 +43,8 @@ fn file_command<'a>(
 fn with_subcommand<'a>(command: Command<'a>, inner: Command<'a>) -> Result<Command<'a>, AllocError>
     requires outer { (out-Command command).has_globals ≡ false }
     requires inner { (out-Command inner).has_globals ≡ false }
-    ensures app { IfOk result (λ c. app_of c ≡ with_subcommand (app_of command.entry) (app_of inner.entry).top) }
+    ensures app { IfOk result (λ c. app_of c
+        ≡ with_subcommand (app_of command.entry) (app_of inner.entry).top) }
     ensures local { IfOk result (λ c. (out-Command c).has_globals ≡ false) }
 {
     command.subcommand(inner)

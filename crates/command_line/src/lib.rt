@@ -23,7 +23,8 @@ use std::alloc::Global;
 // Clap's matches of the words.
 fn matched<'w>(alloc: Global, words: &'w [String]) -> Result<ArgMatches<'w>, WordsNo>
     ensures taken { IfOk result (λ _. IsTaken (map string_bytes words.now)) }
-    ensures rows { IfOk result (λ matches. subcommand_rows_of matches ≡ subcommand_of lift_command (map string_bytes words.now)) }
+    ensures rows { IfOk result (λ matches. subcommand_rows_of matches
+        ≡ subcommand_of lift_command (map string_bytes words.now)) }
     ensures refused { result ≡ Err WordsNo.Refused → IsTaken (map string_bytes words.now) → ⊥ }
 {
     Ok(command::lift_command(alloc)?.try_get_matches_from(words)?)
@@ -32,7 +33,8 @@ fn matched<'w>(alloc: Global, words: &'w [String]) -> Result<ArgMatches<'w>, Wor
 // The request that the matches name.
 fn matched_request(alloc: Global, words: &[String]) -> Result<Request, WordsNo>
     ensures taken { IfOk result (λ _. IsTaken (map string_bytes words.now)) }
-    ensures asked { IfOk result (λ request. line_in (map string_bytes words.now) ≡ Some (line_of request)) }
+    ensures asked { IfOk result (λ request. line_in (map string_bytes words.now)
+        ≡ Some (line_of request)) }
     ensures refused { result ≡ Err WordsNo.Refused → IsTaken (map string_bytes words.now) → ⊥ }
 {
     let matches = matched(alloc, words)?;
@@ -54,11 +56,9 @@ pub fn read_words(alloc: Global, words: &[String]) -> Result<Request, WordsNo>
 
     // Clap takes words of just the form, whose file names do not begin with a hyphen, and they ask
     // for just what they say.
-    ensures plain { (line : CommandLine) → is_plain line ≡ true → map string_bytes words.now ≡ words_of line
+    ensures plain { (line : CommandLine) → is_plain line ≡ true
+        → map string_bytes words.now ≡ words_of line
         → Asks (map string_bytes words.now) line }
 {
     matched_request(alloc, words)
 }
-
-#[cfg(test)]
-mod tests;

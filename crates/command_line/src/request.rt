@@ -11,7 +11,7 @@ use clap::error::ErrorKind;
 use std::alloc::{AllocError, Global};
 
 /// A command, with the names of its files.
-#[derive(Debug, Drop)]
+#[derive(Drop)]
 pub enum Request {
     /// Write the kernel of the program under the script.
     Compile {
@@ -37,7 +37,7 @@ pub enum Request {
 }
 
 /// Why words are no request.
-#[derive(Clone, Copy, Debug, PartialEq, Eq)]
+#[derive(Clone, Copy)]
 pub enum WordsNo {
     /// They are none of the commands' forms.
     Refused,
@@ -75,7 +75,8 @@ fn value<'w>(matches: &ArgMatches<'w>, id: &str) -> &'w str
 }
 
 fn file_name(alloc: Global, matches: &ArgMatches<'_>, id: &str) -> Result<String, AllocError>
-    ensures { IfOk result (λ name. string_bytes name ≡ value_of id.now (rows_of (found_of matches.now))) }
+    ensures { IfOk result (λ name. string_bytes name
+        ≡ value_of id.now (rows_of (found_of matches.now))) }
 {
     String::from_str(alloc, value(matches, id))
 }
@@ -86,7 +87,8 @@ fn named_request(
     name: &str,
     matches: &ArgMatches<'_>,
 ) -> Result<Option<Request>, AllocError>
-    ensures { IfOk result (λ request. option_map line_of request ≡ line_at name.now (rows_of (found_of matches.now))) }
+    ensures { IfOk result (λ request. option_map line_of request
+        ≡ line_at name.now (rows_of (found_of matches.now))) }
 {
     let request = match name {
         "compile" => Request::Compile {
@@ -116,7 +118,8 @@ pub fn entered_request(
     alloc: Global,
     matches: &ArgMatches<'_>,
 ) -> Result<Option<Request>, AllocError>
-    ensures { IfOk result (λ request. option_map line_of request ≡ line_entered (subcommand_rows_of matches.now)) }
+    ensures { IfOk result (λ request. option_map line_of request
+        ≡ line_entered (subcommand_rows_of matches.now)) }
 {
     match matches.subcommand() {
         Some((name, inner)) => named_request(alloc, name, inner),

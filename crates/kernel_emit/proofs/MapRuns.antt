@@ -280,6 +280,7 @@ module _ (addend : ℕ) (l : Launch) (c : Cells) (xs : List ℕ) (task : IsTaskL
   unfolding d deeds_of owners owned
   keeps es r =
       record {
+        shape = ap (λ m. m ∷ []) (length-map xs (λ x. (x + addend) % 2 ^ 32)) ∙ sym cells.output;
         faultless = all.every.faultless es r;
         bounded = let a = all.every.bounded es r in let b = length_run in let e = bound_is in omega arith;
         at_most_once = λ a i. let x = all.every.count es r (is_write (output_cell a i)) in let y = all.counted 0 first_below (output_cell a i) refl in let z = few a i in omega arith;

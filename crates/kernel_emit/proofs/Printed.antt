@@ -14,12 +14,14 @@ use Rattle.kernel_tree.specs.Tree.{code_then, kernel_with}
 use Rattle.kernel_emit.specs.MapKernel.{map_kernel, map_turn}
 use Rattle.kernel_emit.proofs.Rows.{before-Loop}
 
-pub printed : (before xs : List Stmt) (turn : Vec Stmt Global) (addend : ℕ) → before ≡ [] → xs ≡ before ++ Loop start.Zero (expr.Size 0) stride.One turn ∷ [] → code_then turn.items End ≡ map_turn addend → kernel_with 1 1 1 1 xs ≡ map_kernel addend
+pub printed : (before xs : List Stmt) (turn : Vec Stmt Global) (addend : ℕ) → before ≡ [] → xs ≡ before ++ Loop start.Zero (expr.Size 0) stride.One turn ∷ [] → code_then turn.items End ≡ map_turn addend → code_then xs End ≡ (map_kernel addend).code
 printed before xs turn addend empty pushed body =
     let only : xs ≡ Loop start.Zero (expr.Size 0) stride.One turn ∷ [] = pushed ∙ ap (λ ys. ys ++ Loop start.Zero (expr.Size 0) stride.One turn ∷ []) empty in
-    let code : code_then xs End ≡ Loops FromZero (Size 0) ByOne (map_turn addend) End =
     ap (λ ys. code_then ys End) only ∙ before-Loop start.Zero (expr.Size 0) stride.One turn End ∙ ap (λ c. Loops FromZero (Size 0) ByOne c End) body
-    in
+
+-- a body with the code of the map's kernel makes that kernel
+pub kernel_is : (body : List Stmt) (addend : ℕ) → code_then body End ≡ (map_kernel addend).code → kernel_with 1 1 1 1 body ≡ map_kernel addend
+kernel_is body addend code =
     let made : Code → Kernel = λ c. record { inputs = 1; outputs = 1; sizes = 1; locals = []; privates = []; variables = 1; code = c } in
     ap made code
 

@@ -1,5 +1,5 @@
 -- What a kernel owes: whatever the order of its events, it has no fault, ends within its bound, and leaves what it should.
-use Rattle.std.specs.Prelude.{◌≡◌, ℕ, ◌<◌, ◌≤◌, true, List, length, count_by, slice_index}
+use Rattle.std.specs.Prelude.{◌≡◌, ℕ, ◌<◌, ◌≤◌, true, List, length, map, count_by, slice_index}
 use Rattle.kernel_tree.specs.declared.events.Event.{Event}
 use Rattle.kernel_tree.specs.Code.{Output, Kernel}
 use Rattle.kernel_tree.specs.Launch.{Launch, Cells}
@@ -15,8 +15,9 @@ output_cell a i = record { array = Output a; home = 0; index = i }
 abbrev pub times_written : Device → State → List Event → Cell → ℕ
 times_written d s es c = count_by (is_write c) (accesses d s es)
 
--- A run keeps what its kernel owes, where `owner` says whose each output cell is, and `wanted` what the outputs hold in the end.
+-- A run keeps what its kernel owes, where `owner` says whose each output cell is, and `wanted`, a row for each output and a word for each of its cells, what the outputs hold in the end.
 pub record KeepsHeadline (k : Kernel) (l : Launch) (c : Cells) (owner : (array index : ℕ) → ℕ) (wanted : List (List ℕ)) (s : State) (es : List Event) : Type 0 where
+  pub shape : map length wanted ≡ map length c.outs
   pub faultless : IsFaultless (device_of k l c) s es
   pub bounded : length es ≤ bound k l
   pub at_most_once : (a i : ℕ) → times_written (device_of k l c) s es (output_cell a i) ≤ 1

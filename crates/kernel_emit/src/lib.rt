@@ -7,6 +7,8 @@ ghost use Rattle.kernel_tree.specs.Code.{End};
 ghost use Rattle.kernel_tree.specs.Tree.{code_then};
 ghost use Rattle.kernel_emit.specs.MapKernel.{MapKernelKeeps, map_kernel, map_turn};
 
+pub mod laws;
+
 use kernel_tree::tree::{Array, Expr, Kernel, Start, Stmt, Stride};
 use std::alloc::{AllocError, Global};
 
@@ -14,9 +16,7 @@ use std::alloc::{AllocError, Global};
 pub fn map_kernel(alloc: Global, addend: u32) -> Result<Kernel, AllocError>
     ensures { IfOk result (λ kernel. kernel_of kernel ≡ map_kernel addend) }
 {
-    let mut body = Vec::new(alloc);
-    let turn = map_turn(alloc, addend)?;
-    body.push(Stmt::Loop(Start::Zero, Expr::Size(0), Stride::One, turn))?;
+    let body = map_body(alloc, addend)?;
     Ok(Kernel {
         inputs: 1,
         outputs: 1,
@@ -24,6 +24,16 @@ pub fn map_kernel(alloc: Global, addend: u32) -> Result<Kernel, AllocError>
         variables: 1,
         body,
     })
+}
+
+// The loop over the elements.
+fn map_body(alloc: Global, addend: u32) -> Result<Vec<Stmt>, AllocError>
+    ensures { IfOk result (λ body. code_then body.items End ≡ (map_kernel addend).code) }
+{
+    let mut body = Vec::new(alloc);
+    let turn = map_turn(alloc, addend)?;
+    body.push(Stmt::Loop(Start::Zero, Expr::Size(0), Stride::One, turn))?;
+    Ok(body)
 }
 
 // The statements of one turn.

@@ -1,6 +1,6 @@
 -- Facts of blocks, indents and counts.
-use Rattle.std.proofs.Common.{◌≡◌, ℕ, zero, suc, ◌<◌, ◌-◌, ◌+◌, ◌*◌, List, [], ◌∷◌, ◌++◌, replicate, ap, ◌∙◌, get_or, length, refl, subst, sym, arith, Bool, true}
-use Rattle.std.specs.Prelude.{codes, nat_lt, ◌&&◌, ◌||◌}
+use Rattle.std.proofs.Common.{◌≡◌, ℕ, zero, suc, ◌<◌, ◌-◌, ◌+◌, ◌*◌, List, [], ◌∷◌, ◌++◌, replicate, drop, ap, ◌∙◌, get_or, length, refl, subst, sym, arith, true}
+use Rattle.std.specs.Prelude.{codes, nat_lt}
 use Rattle.std.proofs.lemmas.Bool.{ltb-true, and_parts, and_from}
 use Rattle.kernel_tree.specs.declared.tree.Expr.{Expr}
 use Rattle.kernel_tree.specs.declared.tree.Expr as expr
@@ -8,8 +8,11 @@ use Rattle.kernel_tree.specs.declared.tree.Array.{Array}
 use Rattle.kernel_tree.specs.declared.tree.Array.TheVariants as array_form
 use Rattle.kernel_tree.specs.declared.tree.Stmt.{Stmt, Row_of-Stmt, end_of-Stmt, more_of-Stmt}
 use Rattle.kernel_tree.specs.declared.tree.Stmt as stmt
-use Rattle.kernel_tree.specs.Code.{Code, End, Assigns, Loads, Stores, Loops, Syncs, Kernel}
-use Rattle.kernel_tree.specs.Grammar.{deepest, is_constant, is_expression, is_readable, is_writable, has_statement, are_statements, are_lengths, is_kernel}
+use Rattle.kernel_tree.specs.declared.tree.Start.TheVariants as start_form
+use Rattle.kernel_tree.specs.declared.tree.Stride.TheVariants as stride_form
+use Rattle.kernel_tree.specs.Code.{Start, Stride, Code, End, Loops, Kernel}
+use Rattle.kernel_tree.specs.Formula.{Formula}
+use Rattle.kernel_tree.specs.Grammar.{deepest, is_constant, is_expression, is_readable, is_writable, has_statement, are_statements, is_kernel}
 use Rattle.kernel_tree.specs.KernelText.{indent}
 use Rattle.kernel_tree.specs.Tree.{formula_of, array_of, before, code_of, code_then}
 use Rattle.kernel_spelling.specs.Spelling.{is_written, has_name, is_written_code}
@@ -31,7 +34,7 @@ mutual
   written_before (stmt.Assign v e) rest h = and_from (is_written (formula_of e)) (is_written_code rest) (written_expression e) h
   written_before (stmt.Load v a i) rest h = and_from (has_name (array_of a)) _ (named_array a) (and_from (is_written (formula_of i)) (is_written_code rest) (written_expression i) h)
   written_before (stmt.Store a i e) rest h = and_from (has_name (array_of a)) _ (named_array a) (and_from (is_written (formula_of i)) _ (written_expression i) (and_from (is_written (formula_of e)) (is_written_code rest) (written_expression e) h))
-  written_before (stmt.Loop' s b c shape body) rest h = and_from (is_written (formula_of b)) _ (written_expression b) (and_from (is_written_code (code_of body)) (is_written_code rest) (written_row body) h)
+  written_before (stmt.Loop' start_form.Zero b stride_form.One shape body) rest h = and_from (is_written (formula_of b)) _ (written_expression b) (and_from (is_written_code (code_of body)) (is_written_code rest) (written_row body) h)
 
   written_row : {m : _} (row : Row_of-Stmt m) → is_written_code (code_of row) ≡ true
   written_row end_of-Stmt = refl
@@ -52,3 +55,36 @@ two_more (suc n) = ap (λ z. 32 ∷ z) (two_more n)
 
 pub indent_more : (level : ℕ) → indent level ++ codes "  " ≡ indent (level + 1)
 indent_more level = two_more (2 * level) ∙ ap (λ n. replicate n 32) (let w : suc (suc (2 * level)) ≡ 2 * (level + 1) = omega arith in w)
+
+-- ---- statements of a kernel
+
+abbrev Fits : Kernel → ℕ → Code → Type 0
+Fits k l c = are_statements k l c ≡ true
+
+-- what stands behind a statement
+behind : (k : Kernel) (l : ℕ) (s : Stmt) (rest : Code) → Fits k l (before s rest) → Fits k l rest
+behind k l (stmt.Assign v e) rest h = (and_parts (is_expression k l (formula_of e)) _ (and_parts (nat_lt v k.variables) _ h).1).1
+behind k l (stmt.Load v a i) rest h =
+    let p = and_parts (is_readable k (array_of a)) _ (and_parts (nat_lt v k.variables) _ h).1 in
+    (and_parts (is_expression k l (formula_of i)) _ p.1).1
+behind k l (stmt.Store a i e) rest h =
+    let p = and_parts (is_expression k l (formula_of i)) _ (and_parts (is_writable k (array_of a)) _ h).1 in
+    (and_parts (is_expression k l (formula_of e)) _ p.1).1
+behind k l (stmt.Loop' s b c shape body) rest h =
+    let p = and_parts (is_constant (formula_of b)) _ (and_parts (nat_lt l deepest) _ h).1 in
+    let q = and_parts (has_statement (code_of body)) _ (and_parts (is_expression k l (formula_of b)) _ p.1).1 in
+    (and_parts (are_statements k (suc l) (code_of body)) _ q.1).1
+
+-- a statement of a block, with those behind it
+pub statement_at : (k : Kernel) (l : ℕ) (ss : List Stmt) (i : ℕ) (s : Stmt) → i < length ss → s ≡ get_or ss i s → Fits k l (code_then ss End) → Fits k l (before s (code_then (drop (suc i) ss) End))
+statement_at k l [] i s less e h = absurd (omega (arith, less))
+statement_at k l (x ∷ ss) zero s less e h = subst (λ z. Fits k l (before z (code_then ss End))) (sym e) h
+statement_at k l (x ∷ ss) (suc i) s less e h = statement_at k l ss i s (omega (arith, less)) e (behind k l x (code_then ss End) h)
+
+-- a loop's body
+pub body_of : (k : Kernel) (l : ℕ) (start : Start) (b : Formula) (stride : Stride) (body rest : Code) → Fits k l (Loops start b stride body rest) → (l < deepest) × Fits k (suc l) body
+body_of k l start b stride body rest h =
+    let o = and_parts (nat_lt l deepest) _ h in
+    let p = and_parts (is_constant b) _ o.1 in
+    let q = and_parts (has_statement body) _ (and_parts (is_expression k l b) _ p.1).1 in
+    (ltb-true l deepest o.0, (and_parts (are_statements k (suc l) body) _ q.1).0)

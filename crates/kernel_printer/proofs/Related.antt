@@ -8,11 +8,7 @@ use Rattle.kernel_tree.specs.Grammar.{is_kernel}
 use Rattle.kernel_tree.specs.Kernels.{kernel_of}
 use Rattle.kernel_tree.specs.Pieces.{joined}
 use Rattle.kernel_tree.specs.KernelText.{IsKernelText}
-use Rattle.kernel_spelling.specs.Spelling.{HasText, spelled, spelled_with, text_of}
-use Rattle.kernel_spelling.proofs.Spelled.{all_of}
-use Rattle.kernel_spelling.proofs.Whole.{made_whole, spelled_made}
-use Rattle.kernel_spelling.proofs.Cut.{joined_pieces}
-use Rattle.kernel_spelling.proofs.Stands.{spelled_stands}
+use Rattle.kernel_spelling.specs.Spelling.{HasText, spelled_with, text_of}
 use Rattle.kernel_printer.specs.Bytes.{write_kernel}
 use Rattle.kernel_printer.proofs.Blocks.{written_block, one_output}
 use Rattle.kernel_printer.proofs.Written.{kernel_written}
@@ -37,15 +33,10 @@ is_text k bytes e =
     let outputs : k.outputs ≡ suc (k.outputs - 1) = one_output (kernel_of k) k.in_grammar in
     e ∙ kernel_written (kernel_of k) (k.outputs - 1) (written_block k.body.items) ∙ ap (λ o. joined (spelled_with (kernel_of k) o)) (sym outputs)
 
-pub related : {E : Type 0} (k : held.Kernel) (r : Result (Vec ℕ Global) E) → IfOk r (λ text. text.items ≡ write_kernel (kernel_of k) (k.outputs - 1)) → IfOk r (λ _. Small k) → IfOk r (λ text. IsKernelText text.items (kernel_of k))
-related k (Ok text) e s =
-    let h = has_text k s in
-    let K = kernel_of k in
-    subst (λ z. IsKernelText z K) (sym (is_text k text.items e)) (spelled K, all_of K, spelled_stands K h, spelled_made K h, (refl, refl, refl))
-related k (Err e) h s = tt
+pub related : {E : Type 0} (k : held.Kernel) (r : Result (Vec ℕ Global) E) → ((k : Kernel) → HasText k → IsKernelText (text_of k) k) → IfOk r (λ text. text.items ≡ write_kernel (kernel_of k) (k.outputs - 1)) → IfOk r (λ _. Small k) → IfOk r (λ text. IsKernelText text.items (kernel_of k))
+related k (Ok text) taken e s = subst (λ z. IsKernelText z (kernel_of k)) (sym (is_text k text.items e)) (taken (kernel_of k) (has_text k s))
+related k (Err e) taken h s = tt
 
-pub alone : {E : Type 0} (k : held.Kernel) (r : Result (Vec ℕ Global) E) → IfOk r (λ text. text.items ≡ write_kernel (kernel_of k) (k.outputs - 1)) → IfOk r (λ text. (bytes : List ℕ) → IsKernelText bytes (kernel_of k) → bytes ≡ text.items)
-alone k (Ok text) e = λ bytes h.
-    let w = made_whole h.0 h.1 (kernel_of k) h.3 h.4 in
-    joined_pieces bytes h.0 h.2 ∙ ap joined w.1 ∙ sym (is_text k text.items e)
-alone k (Err e) h = tt
+pub alone : {E : Type 0} (k : held.Kernel) (r : Result (Vec ℕ Global) E) → ((bytes : List ℕ) (k : Kernel) → IsKernelText bytes k → (is_kernel k ≡ true) × (bytes ≡ text_of k)) → IfOk r (λ text. text.items ≡ write_kernel (kernel_of k) (k.outputs - 1)) → IfOk r (λ text. (bytes : List ℕ) → IsKernelText bytes (kernel_of k) → bytes ≡ text.items)
+alone k (Ok text) only e = λ bytes h. (only bytes (kernel_of k) h).1 ∙ sym (is_text k text.items e)
+alone k (Err e) only h = tt

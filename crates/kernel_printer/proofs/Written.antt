@@ -1,13 +1,13 @@
 -- What is written is the spelling.
-use Rattle.std.proofs.Common.{◌≡◌, ℕ, zero, suc, ◌+◌, List, [], ◌∷◌, ◌++◌, refl, ap, sym, ◌∙◌, arith, true, Bool}
+use Rattle.std.proofs.Common.{◌≡◌, ℕ, zero, suc, ◌+◌, List, [], ◌∷◌, ◌++◌, ap, sym, ◌∙◌, arith, true}
 use Rattle.std.specs.Prelude.{◌&&◌, codes, decimal}
 use Rattle.std.proofs.lemmas.Bool.{and_parts}
 use Rattle.std.proofs.lemmas.List.{append_assoc, append-nil}
 use Rattle.scalar_ops.specs.declared.op.Op.TheVariants.{Add}
 use Rattle.kernel_tree.specs.Formula.{Formula, Number, Variable, LoopVariable, Size, Id, Binary, Choose}
-use Rattle.kernel_tree.specs.Code.{Array, Code, End, Assigns, Loads, Stores, Loops, Syncs, Kernel}
+use Rattle.kernel_tree.specs.Code.{Code, End, Assigns, Loads, Stores, Loops, Syncs, Kernel}
 use Rattle.kernel_tree.specs.Pieces.{joined}
-use Rattle.kernel_tree.specs.KernelText.{Piece, space, line, semicolon, equals, plus, closes, index_begins, index_ends, indent, named}
+use Rattle.kernel_tree.specs.KernelText.{Piece, space, line, semicolon, equals, plus, closes, index_ends, indent, named}
 use Rattle.kernel_spelling.specs.Spelling.{spell, array_name, spell_end, spell_code, loop_line, step_line, spell_variables, spell_sizes, spell_outputs, spell_inputs, first_output, spell_body, spell_kernel, is_written, is_written_code, starts_at_zero, steps_by_one, has_name}
 use Rattle.kernel_printer.specs.Bytes.{write_expression, write_end, write_loop, write_code, write_inputs, write_outputs, write_sizes, write_variables, write_kernel}
 

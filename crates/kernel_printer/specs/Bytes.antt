@@ -1,8 +1,8 @@
 -- A kernel's text, each part written behind what stands before it.
-use Rattle.std.specs.Prelude.{ℕ, zero, suc, List, [], ◌∷◌, ◌++◌, decimal, codes}
+use Rattle.std.specs.Prelude.{◌≡◌, ℕ, zero, suc, List, ◌++◌, decimal, codes}
 use Rattle.scalar_ops.specs.declared.op.Op.TheVariants.{Add}
 use Rattle.kernel_tree.specs.Formula.{Formula, Number, Variable, LoopVariable, Size, Binary}
-use Rattle.kernel_tree.specs.Code.{Array, Code, End, Assigns, Loads, Stores, Loops, Syncs, Kernel}
+use Rattle.kernel_tree.specs.Code.{Code, End, Assigns, Loads, Stores, Loops, Syncs, Kernel}
 use Rattle.kernel_tree.specs.KernelText.{indent, named}
 use Rattle.kernel_spelling.specs.Spelling.{array_name}
 
@@ -30,6 +30,10 @@ write_code l front (Loads k array i after) = write_code l (write_expression (fro
 write_code l front (Stores array i e after) = write_code l (write_expression (write_expression (front ++ indent (suc l) ++ array_name array ++ codes "[") i ++ codes "] = ") e ++ codes ";\n") after
 write_code l front (Loops start b stride body after) = write_code l (write_code (suc l) (write_loop l front b) body) after
 write_code l front (Syncs on_local on_global after) = write_code l front after
+
+-- `written` is `front` and then these statements, whatever comes after them in their block
+abbrev pub IsPut : (loops : ℕ) → (statements : Code → Code) → (front written : List ℕ) → Type 0
+IsPut loops statements front written = (after : Code) → write_code loops front (statements after) ≡ write_code loops written after
 
 -- the first of them
 abbrev pub write_inputs : List ℕ → ℕ → List ℕ

@@ -1,14 +1,17 @@
 // The one text of a kernel.
 
 ghost use Rattle.std.specs.Prelude.{◌≡◌, ◌++◌, ◌+◌, ◌≤◌, ◌<◌, ◌^◌, ◌-◌, IfOk, OnOk, List, ℕ, decimal, codes};
-ghost use Rattle.kernel_tree.specs.Code.{Code, End};
+ghost use Rattle.kernel_tree.specs.Code.{Code, End, Assigns, Loads, Stores};
 ghost use Rattle.kernel_tree.specs.Kernels.{kernel_of};
 ghost use Rattle.kernel_tree.specs.KernelText.{IsKernelText, indent, named};
 ghost use Rattle.kernel_tree.specs.Tree.{formula_of, array_of, before, code_then};
 ghost use Rattle.kernel_spelling.specs.Spelling.{array_name};
-ghost use Rattle.kernel_printer.specs.Bytes.{write_expression, write_code, write_end, write_loop, write_inputs, write_outputs, write_sizes, write_variables, write_kernel};
+ghost use Rattle.kernel_printer.specs.Bytes.{write_expression, write_end, write_loop, write_inputs, write_outputs, write_sizes, write_variables, write_kernel, IsPut};
+ghost use Rattle.kernel_printer.specs.Depths.{StandWithin};
 
 use itoa::Buffer;
+use kernel_spelling::one_text;
+use kernel_tree::laws::blocks;
 use kernel_tree::tree::{Array, Expr, Kernel, Stmt};
 use std::alloc::{AllocError, Global};
 
@@ -48,7 +51,8 @@ fn print_indent(text: &mut Vec<u8>, level: u32) -> Result<(), AllocError>
 }
 
 fn print_expression(text: &mut Vec<u8>, expression: &Expr) -> Result<(), AllocError>
-    ensures { OnOk result (text.new.items ≡ write_expression text.old.items (formula_of expression.now)) }
+    ensures { let e = formula_of expression.now in
+        OnOk result (text.new.items ≡ write_expression text.old.items e) }
 {
     match expression {
         Expr::Number(number) => {
@@ -73,7 +77,8 @@ fn print_expression(text: &mut Vec<u8>, expression: &Expr) -> Result<(), AllocEr
 /// Puts the line of a loop behind the text, with its brace.
 fn print_loop(text: &mut Vec<u8>, loops: u32, bound: &Expr) -> Result<(), AllocError>
     requires { loops + 1 < 2 ^ 32 }
-    ensures { OnOk result (text.new.items ≡ write_loop loops text.old.items (formula_of bound.now)) }
+    ensures { let b = formula_of bound.now in
+        OnOk result (text.new.items ≡ write_loop loops text.old.items b) }
 {
     print_indent(text, loops + 1)?;
     text.extend_from_slice(b"for (uint ")?;
@@ -144,10 +149,79 @@ fn print_end(text: &mut Vec<u8>, loops: u32) -> Result<(), AllocError>
     Ok(())
 }
 
+/// Puts an assignment within so many loops behind the text.
+fn print_assign(
+    text: &mut Vec<u8>,
+    loops: u32,
+    variable: u32,
+    value: &Expr,
+) -> Result<(), AllocError>
+    requires { loops ≤ 1024 }
+    ensures { let done = λ (after : Code). Assigns variable (formula_of value.now) after in
+        OnOk result (IsPut loops done text.old.items text.new.items) }
+{
+    print_indent(text, loops + 1)?;
+    print_name(text, b'v', variable)?;
+    text.extend_from_slice(b" = ")?;
+    print_expression(text, value)?;
+    text.extend_from_slice(b";\n")?;
+    Ok(())
+}
+
+/// Puts a load within so many loops behind the text.
+fn print_load(
+    text: &mut Vec<u8>,
+    loops: u32,
+    variable: u32,
+    array: Array,
+    index: &Expr,
+) -> Result<(), AllocError>
+    requires { loops ≤ 1024 }
+    ensures { let i = formula_of index.now in
+        let done = λ (after : Code). Loads variable (array_of array) i after in
+        OnOk result (IsPut loops done text.old.items text.new.items) }
+{
+    print_indent(text, loops + 1)?;
+    print_name(text, b'v', variable)?;
+    text.extend_from_slice(b" = ")?;
+    print_array(text, array)?;
+    text.extend_from_slice(b"[")?;
+    print_expression(text, index)?;
+    text.extend_from_slice(b"];\n")?;
+    Ok(())
+}
+
+/// Puts a store within so many loops behind the text.
+fn print_store(
+    text: &mut Vec<u8>,
+    loops: u32,
+    array: Array,
+    index: &Expr,
+    value: &Expr,
+) -> Result<(), AllocError>
+    requires { loops ≤ 1024 }
+    ensures { let i = formula_of index.now in
+        let e = formula_of value.now in
+        let done = λ (after : Code). Stores (array_of array) i e after in
+        OnOk result (IsPut loops done text.old.items text.new.items) }
+{
+    print_indent(text, loops + 1)?;
+    print_array(text, array)?;
+    text.extend_from_slice(b"[")?;
+    print_expression(text, index)?;
+    text.extend_from_slice(b"] = ")?;
+    print_expression(text, value)?;
+    text.extend_from_slice(b";\n")?;
+    Ok(())
+}
+
 #[cycle(printing)]
 fn print_block(text: &mut Vec<u8>, loops: u32, block: &[Stmt]) -> Result<(), AllocError>
-    ensures { OnOk result ((after : Code) → write_code loops text.old.items (code_then block.now after) ≡ write_code loops text.new.items after) }
+    requires deep { loops ≤ 1024 }
+    requires of_kernel { StandWithin loops (code_then block.now End) }
+    ensures { OnOk result (IsPut loops (code_then block.now) text.old.items text.new.items) }
 {
+    blocks();
     for statement in block {
         print_statement(text, loops, statement)?;
     }
@@ -156,42 +230,16 @@ fn print_block(text: &mut Vec<u8>, loops: u32, block: &[Stmt]) -> Result<(), All
 
 #[cycle(printing)]
 fn print_statement(text: &mut Vec<u8>, loops: u32, statement: &Stmt) -> Result<(), AllocError>
-    ensures { OnOk result ((after : Code) → write_code loops text.old.items (before statement.now after) ≡ write_code loops text.new.items after) }
+    requires deep { loops ≤ 1024 }
+    requires of_kernel { (after : Code) × StandWithin loops (before statement.now after) }
+    ensures { OnOk result (IsPut loops (before statement.now) text.old.items text.new.items) }
 {
-    // So many loops around one another don't fit into memory.
-    if loops == u32::MAX {
-        return Err(AllocError);
-    }
     match statement {
-        Stmt::Assign(k, value) => {
-            print_indent(text, loops + 1)?;
-            print_name(text, b'v', *k)?;
-            text.extend_from_slice(b" = ")?;
-            print_expression(text, value)?;
-            text.extend_from_slice(b";\n")?;
-            Ok(())
-        }
-        Stmt::Load(k, array, index) => {
-            print_indent(text, loops + 1)?;
-            print_name(text, b'v', *k)?;
-            text.extend_from_slice(b" = ")?;
-            print_array(text, *array)?;
-            text.extend_from_slice(b"[")?;
-            print_expression(text, index)?;
-            text.extend_from_slice(b"];\n")?;
-            Ok(())
-        }
-        Stmt::Store(array, index, value) => {
-            print_indent(text, loops + 1)?;
-            print_array(text, *array)?;
-            text.extend_from_slice(b"[")?;
-            print_expression(text, index)?;
-            text.extend_from_slice(b"] = ")?;
-            print_expression(text, value)?;
-            text.extend_from_slice(b";\n")?;
-            Ok(())
-        }
+        Stmt::Assign(variable, value) => print_assign(text, loops, *variable, value),
+        Stmt::Load(variable, array, index) => print_load(text, loops, *variable, *array, index),
+        Stmt::Store(array, index, value) => print_store(text, loops, *array, index, value),
         Stmt::Loop(_start, bound, _stride, body) => {
+            blocks();
             print_loop(text, loops, bound)?;
             print_block(text, loops + 1, body)?;
             print_end(text, loops + 1)?;
@@ -201,8 +249,11 @@ fn print_statement(text: &mut Vec<u8>, loops: u32, statement: &Stmt) -> Result<(
 }
 
 fn print_kernel(alloc: Global, kernel: &Kernel) -> Result<Vec<u8>, AllocError>
-    ensures text { IfOk result (λ text. text.items ≡ write_kernel (kernel_of kernel.now) (kernel.now.outputs - 1)) }
-    ensures counts { IfOk result (λ _. (kernel.now.inputs < 2 ^ 32) × (kernel.now.outputs < 2 ^ 32) × (kernel.now.sizes < 2 ^ 32) × (kernel.now.variables < 2 ^ 32)) }
+    ensures text { let k = kernel.now in
+        IfOk result (λ text. text.items ≡ write_kernel (kernel_of k) (k.outputs - 1)) }
+    ensures counts { let k = kernel.now in
+        IfOk result (λ _.
+        (k.inputs < 2 ^ 32) × (k.outputs < 2 ^ 32) × (k.sizes < 2 ^ 32) × (k.variables < 2 ^ 32)) }
 {
     let mut text = Vec::from_slice(alloc, b"__kernel void lift(")?;
     print_inputs(&mut text, kernel.inputs)?;
@@ -220,7 +271,9 @@ pub fn print(alloc: Global, kernel: &Kernel) -> Result<Vec<u8>, AllocError>
     // The kernel grammar relates the text to the kernel.
     ensures text { IfOk result (λ text. IsKernelText text.items (kernel_of kernel.now)) }
     // It relates no other bytes to it.
-    ensures only { IfOk result (λ text. (bytes : List ℕ) → IsKernelText bytes (kernel_of kernel.now) → bytes ≡ text.items) }
+    ensures only { IfOk result (λ text.
+        (bytes : List ℕ) → IsKernelText bytes (kernel_of kernel.now) → bytes ≡ text.items) }
 {
+    one_text();
     print_kernel(alloc, kernel)
 }

@@ -7,14 +7,9 @@ use Rattle.readings.specs.Readings.{Reads}
 use Rattle.readings.specs.Exactly.{StopsAt, Answers, Refuses}
 use Rattle.readings.specs.declared.error.ReadError.{ReadError}
 use Rattle.readings.specs.declared.error.ReadError.TheVariants.{Refused}
-use Rattle.kernel_tree.specs.Code.{Code, End, Kernel}
+use Rattle.kernel_tree.specs.Code.{Kernel}
 use Rattle.kernel_tree.specs.Pieces.{ArePieces, joined}
-use Rattle.kernel_tree.specs.KernelText.{Notes, kernels, start, nothing, IsMade, IsKernelText}
-use Rattle.kernel_spelling.specs.Spelling.{HasText, spelled, text_of}
-use Rattle.kernel_spelling.proofs.Spelled.{all_of}
-use Rattle.kernel_spelling.proofs.Stands.{spelled_stands}
-use Rattle.kernel_spelling.proofs.Whole.{made_whole, spelled_made}
-use Rattle.kernel_spelling.proofs.Cut.{joined_pieces, one_cut}
+use Rattle.kernel_tree.specs.KernelText.{Piece, Notes, kernels, start, nothing, IsKernelText}
 use Rattle.kernel_reader.specs.Views.{bytes_of}
 use Rattle.kernel_reader.specs.Noted.{notes_of}
 
@@ -31,10 +26,13 @@ lengths (p ∷ ps) =
     ∙ ap (λ n. length p.now + n) (lengths ps)
     ∙ sym (length-append p.now (joined (map bytes_of ps)))
 
-pub whole_length : (bytes : List ℕ) (ps : List (Bor (List ℕ))) → ArePieces bytes (map bytes_of ps) → sum_by (λ (p : Bor (List ℕ)). length (bytes_of p)) ps ≡ length bytes
-whole_length bytes ps h = lengths ps ∙ sym (ap length (joined_pieces bytes (map bytes_of ps) h))
+pub whole_length : (bytes : List ℕ) (ps : List (Bor (List ℕ))) → bytes ≡ joined (map bytes_of ps) → sum_by (λ (p : Bor (List ℕ)). length (bytes_of p)) ps ≡ length bytes
+whole_length bytes ps h = lengths ps ∙ sym (ap length h)
 
 -- ---- readings
+
+abbrev OneCut : Type 0
+OneCut = (bytes : List ℕ) (ps qs : List Piece) → ArePieces bytes ps → ArePieces bytes qs → ps ≡ qs
 
 pub from_nothing : (n m : Notes) (ps qs : List (Bor (List ℕ))) → n ≡ nothing → ps ≡ qs → Reads kernels start n (map bytes_of ps) [] m → Reads kernels start nothing (map bytes_of qs) [] m
 from_nothing n m ps qs e f r = subst (λ z. Reads kernels start nothing (map bytes_of z) [] m) f (subst (λ z. Reads kernels start z (map bytes_of ps) [] m) e r)
@@ -49,31 +47,7 @@ pub stops_at : (n : Notes) (ps qs : List (Bor (List ℕ))) (e : ReadError) (i : 
 stops_at n ps qs e i w a f r = stops_from_nothing n ps qs i a f (subst (λ z. Refuses kernels start n (map bytes_of ps) z) w r)
 
 -- the reading of a kernel's text, by these pieces
-pub reading_of : (bytes : List ℕ) (k : Kernel) (n : Notes) (ps qs : List (Bor (List ℕ))) → n ≡ nothing → ps ≡ qs → ArePieces bytes (map bytes_of qs) → (h : IsKernelText bytes k) → Reads kernels start n (map bytes_of ps) [] h.1
-reading_of bytes k n ps qs e f cut h =
-    let pieces : h.0 ≡ map bytes_of ps = one_cut bytes h.0 (map bytes_of qs) h.2 cut ∙ ap (λ z. map bytes_of z) (sym f) in
+pub reading_of : OneCut → (bytes : List ℕ) (k : Kernel) (n : Notes) (ps qs : List (Bor (List ℕ))) → n ≡ nothing → ps ≡ qs → ArePieces bytes (map bytes_of qs) → (h : IsKernelText bytes k) → Reads kernels start n (map bytes_of ps) [] h.1
+reading_of one bytes k n ps qs e f cut h =
+    let pieces : h.0 ≡ map bytes_of ps = one bytes h.0 (map bytes_of qs) h.2 cut ∙ ap (λ z. map bytes_of z) (sym f) in
     subst (λ z. Reads kernels start z (map bytes_of ps) [] h.1) (sym e) (subst (λ z. Reads kernels start nothing z [] h.1) pieces h.3)
-
--- ---- kernels
-
-abbrev first_block : List Code → Code
-first_block [] = End
-first_block (c ∷ cs) = c
-
-abbrev kernel_at : Notes → Kernel
-kernel_at n = record { inputs = n.inputs; outputs = n.outputs; sizes = n.sizes; locals = []; privates = []; variables = n.variables; code = first_block n.blocks }
-
-made_from : (n : Notes) (k : Kernel) → IsMade n k → kernel_at n ≡ k
-made_from n k h =
-    ap kernel_at h.0
-    ∙ ap (λ (z : List ℕ). record k { locals = z; privates = [] }) (sym h.1)
-    ∙ ap (λ (z : List ℕ). record k { privates = z }) (sym h.2)
-
-pub one_kernel : (n m : Notes) (k l : Kernel) → n ≡ m → IsMade n k → IsMade m l → k ≡ l
-one_kernel n m k l e h g = sym (made_from n k h) ∙ ap kernel_at e ∙ made_from m l g
-
-pub text_is : (bytes : List ℕ) (k : Kernel) → IsKernelText bytes k → bytes ≡ text_of k
-text_is bytes k h = joined_pieces bytes h.0 h.2 ∙ ap joined (made_whole h.0 h.1 k h.3 h.4).1
-
-pub has_text : (bytes : List ℕ) (k : Kernel) → HasText k → bytes ≡ text_of k → IsKernelText bytes k
-has_text bytes k t e = subst (λ z. IsKernelText z k) (sym e) (spelled k, all_of k, spelled_stands k t, spelled_made k t, (refl, t.locals, t.privates))

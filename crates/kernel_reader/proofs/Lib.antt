@@ -1,3 +1,2 @@
-pub mod Loops
+pub mod Found
 pub mod Whole
-mod Found

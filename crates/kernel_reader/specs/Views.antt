@@ -1,11 +1,13 @@
 -- The code's values without where they lie in memory.
-use Rattle.std.specs.Prelude.{ℕ, List}
+use Rattle.std.specs.Prelude.{ℕ, List, Option, Result, Bool}
 use Rattle.std.specs.Borrow.{Bor}
 use Rattle.scalar_ops.specs.declared.op.Op.TheVariants.{Add}
 use Rattle.kernel_tree.specs.Formula as formula
 use Rattle.kernel_tree.specs.Tree.{array_of}
 use Rattle.kernel_tree.specs.KernelText as text
+use Rattle.std.specs.declared.alloc.AllocError.{AllocError}
 use Rattle.readings.specs.Views.{items_of}
+use Rattle.readings.specs.Given as given
 use Rattle.readings.specs.declared.owed.Owed.{Owed}
 use Rattle.kernel_reader.specs.declared.form.Form.{Form}
 use Rattle.kernel_reader.specs.declared.form.Form.TheVariants as forms
@@ -35,10 +37,10 @@ part_of (forms.Value b l d) = text.Value b l d
 part_of (forms.Rest b l d) = text.Rest b l d
 
 abbrev pub note_of : Mark → text.Note
-note_of marks.DeclareInput = text.DeclareInput
-note_of marks.DeclareOutput = text.DeclareOutput
-note_of marks.DeclareSize = text.DeclareSize
-note_of marks.DeclareVariable = text.DeclareVariable
+note_of (marks.DeclareInput count) = text.DeclareInput count
+note_of (marks.DeclareOutput count) = text.DeclareOutput count
+note_of (marks.DeclareSize count) = text.DeclareSize count
+note_of (marks.DeclareVariable count) = text.DeclareVariable count
 note_of (marks.Number v) = text.Leaf (formula.Number v)
 note_of (marks.Variable k) = text.Leaf (formula.Variable k)
 note_of (marks.LoopVariable k) = text.Leaf (formula.LoopVariable k)
@@ -53,3 +55,7 @@ note_of marks.Loop = text.Loop
 -- all that is owed
 abbrev pub owed_by : List (Owed (Bor (List ℕ)) Form Mark) → List text.Item
 owed_by items = items_of bytes_of part_of note_of items
+
+-- the alternative, where there is one, was put before all that was owed
+abbrev pub Gave : Result Bool AllocError → (old new : List (Owed (Bor (List ℕ)) Form Mark)) → Option (List text.Item) → Type 0
+Gave result old new alternative = given.Gave owed_by result old new alternative

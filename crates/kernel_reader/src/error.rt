@@ -3,12 +3,13 @@
 ghost use Rattle.std.specs.Prelude.{◌≡◌};
 ghost use Rattle.kernel_reader.specs.declared.error.KernelNo.TheVariants.{Memory};
 
-use std::alloc::{AllocError, AllocFailed};
+use std::alloc::AllocError;
 
 /// Why no kernel was read.
-#[derive(Debug, Drop)]
+#[derive(Drop)]
 pub enum KernelNo {
-    /// The text is no kernel's: the byte at which the first piece begins at which it doesn't go on; the text's length, if that is its end.
+    /// The text is no kernel's: the byte at which the first piece begins at which it doesn't go on;
+    /// the text's length, if that is its end.
     Syntax { offset: usize },
     /// Memory ran out.
     Memory,

@@ -1,9 +1,11 @@
-// The forms and the marks of kernel text.
+// The forms and the marks of kernel text, and its pieces.
 
 use kernel_tree::tree::Array;
+use readings::Owed;
+use std::collections::VecDeque;
 
 /// A form of kernel text, which gives way to the alternative that begins with the next piece.
-#[derive(Clone, Copy, Debug)]
+#[derive(Clone, Copy)]
 pub enum Form {
     /// An input, or the first output.
     Parameter,
@@ -35,12 +37,16 @@ pub enum Form {
 }
 
 /// What is noted between pieces.
-#[derive(Clone, Copy, Debug)]
+#[derive(Clone, Copy)]
 pub enum Mark {
-    DeclareInput,
-    DeclareOutput,
-    DeclareSize,
-    DeclareVariable,
+    /// So many inputs are declared now.
+    DeclareInput(u32),
+    /// So many outputs are declared now.
+    DeclareOutput(u32),
+    /// So many sizes are declared now.
+    DeclareSize(u32),
+    /// So many variables are declared now.
+    DeclareVariable(u32),
     Number(u32),
     Variable(u32),
     LoopVariable(u32),
@@ -53,3 +59,52 @@ pub enum Mark {
     Store(Array),
     Loop,
 }
+
+/// What is owed: pieces, forms and marks.
+pub type Debt<'a> = Owed<&'a [u8], Form, Mark>;
+
+pub type Debts<'a> = VecDeque<Debt<'a>>;
+
+// The pieces with which alternatives begin.
+
+pub const GLOBAL: &[u8] = b"__global";
+
+pub const CONST: &[u8] = b"const";
+
+pub const UINT: &[u8] = b"uint";
+
+pub const FOR: &[u8] = b"for";
+
+pub const OPEN: &[u8] = b"(";
+
+pub const CLOSE: &[u8] = b")";
+
+pub const COMMA: &[u8] = b",";
+
+pub const PLUS: &[u8] = b"+";
+
+pub const CLOSE_BLOCK: &[u8] = b"}";
+
+// The pieces that come after them alone, as they are owed.
+
+pub const SPACE: Debt<'static> = Owed::Token(b" ");
+
+pub const LINE: Debt<'static> = Owed::Token(b"\n");
+
+pub const SEMICOLON: Debt<'static> = Owed::Token(b";");
+
+pub const STAR: Debt<'static> = Owed::Token(b"*");
+
+pub const EQUALS: Debt<'static> = Owed::Token(b"=");
+
+pub const LESS: Debt<'static> = Owed::Token(b"<");
+
+pub const OPEN_INDEX: Debt<'static> = Owed::Token(b"[");
+
+pub const CLOSE_INDEX: Debt<'static> = Owed::Token(b"]");
+
+pub const OPEN_BLOCK: Debt<'static> = Owed::Token(b"{");
+
+pub const ZERO: Debt<'static> = Owed::Token(b"0u");
+
+pub const ONE: Debt<'static> = Owed::Token(b"1u");

@@ -3,13 +3,11 @@
 
 mod error;
 mod form;
-mod kinds;
 mod made;
+mod parameters;
 mod pieces;
 mod read;
+mod statements;
 
 pub use error::KernelNo;
 pub use read::read_kernel;
-
-#[cfg(test)]
-mod tests;

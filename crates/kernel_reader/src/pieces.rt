@@ -46,7 +46,8 @@ fn piece_len(text: &[u8]) -> usize
     }
 }
 
-/// The pieces of a text, in order: longest runs of letters, digits and `_`, longest runs of spaces, and single other bytes.
+/// The pieces of a text, in order: longest runs of letters, digits and `_`, longest runs of spaces,
+/// and single other bytes.
 pub fn pieces<'a>(alloc: Global, text: &'a [u8]) -> Result<Vec<&'a [u8]>, AllocError>
     ensures { IfOk result (λ pieces. ArePieces text.now (map bytes_of pieces.items)) }
 {

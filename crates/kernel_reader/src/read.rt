@@ -11,9 +11,10 @@ ghost use Rattle.kernel_reader.specs.Noted.{notes_of};
 ghost use Rattle.kernel_reader.specs.Exactly.{Answers, Refuses};
 
 use crate::error::KernelNo;
-use crate::form::{Form, Mark};
+use crate::form::{Debt, Form, LINE, OPEN, OPEN_BLOCK, SPACE};
 use crate::made::{Made, statements_of};
 use crate::pieces::{offset_of, pieces};
+use kernel_spelling::{one_cut, one_kernel, one_text, whole_readings};
 use kernel_tree::tree::Kernel;
 use readings::{Owed, ReadError, read};
 use std::alloc::{AllocError, Global};
@@ -21,17 +22,17 @@ use std::collections::VecDeque;
 use std::marker::PhantomData;
 
 /// What is owed at first: a whole kernel.
-const START: [Owed<&'static [u8], Form, Mark>; 12] = [
+const START: [Debt<'static>; 12] = [
     Owed::Token(b"__kernel"),
-    Owed::Token(b" "),
+    SPACE,
     Owed::Token(b"void"),
-    Owed::Token(b" "),
+    SPACE,
     Owed::Token(b"lift"),
-    Owed::Token(b"("),
+    Owed::Token(OPEN),
     Owed::Form(Form::Parameter),
-    Owed::Token(b"\n"),
-    Owed::Token(b"{"),
-    Owed::Token(b"\n"),
+    LINE,
+    OPEN_BLOCK,
+    LINE,
     Owed::Form(Form::Indent(1)),
     Owed::Form(Form::Body),
 ];
@@ -55,6 +56,7 @@ fn kernel_from(alloc: Global, made: Made) -> Result<Kernel, AllocError>
     requires { (ps : List Piece) × Reads kernels start nothing ps [] (notes_of made) }
     ensures { IfOk result (λ k. IsMade (notes_of made.entry) (kernel_of k)) }
 {
+    whole_readings();
     let mut made = made;
     let Some(block) = made.blocks.pop_front() else {
         unreachable!();
@@ -82,6 +84,9 @@ pub fn read_kernel(alloc: Global, bytes: &[u8]) -> Result<Kernel, KernelNo>
     // A refusal names the first piece at which the text doesn't go on.
     ensures refused { IfErr result (Refuses bytes.now) }
 {
+    one_text();
+    one_kernel();
+    one_cut();
     let pieces = pieces(alloc, bytes)?;
     let made = match read(alloc, &START, first(alloc), &pieces) {
         Ok(made) => made,

@@ -1,19 +1,18 @@
 -- Each alternative of a kernel's text keeps the meaning.
 use Rattle.std.proofs.Common.{◌≡◌, ℕ, suc, ◌+◌, ◌-◌, ◌^◌, ◌≤◌, ◌<◌, List, [], ◌∷◌, ◌++◌, Some, Bool, true, false, refl, ap, sym, ◌∙◌, subst, arith, max}
-use Rattle.std.specs.Prelude.{nat_lt, nat_le, ◌&&◌}
+use Rattle.std.specs.Prelude.{nat_lt, nat_le}
 use Rattle.std.proofs.Math.Nat.{max-le}
 use Rattle.std.proofs.lemmas.Bool.{lt-ltb, le-leb, and_from}
 use Rattle.std.proofs.lemmas.Option.{same_Some}
-use Rattle.readings.specs.Readings.{Owed, Token, Form, Mark}
-use Rattle.readings.specs.Meanings.{AllMean}
-use Rattle.readings.proofs.Meaning.{split}
+use Rattle.readings.specs.Readings.{Token, Form, Mark}
+use Rattle.readings.specs.Meanings.{AllMean, split}
 use Rattle.scalar_ops.specs.declared.op.Op.TheVariants.{Add}
-use Rattle.kernel_tree.specs.Formula.{Formula, Number, Variable, LoopVariable, Size, Binary}
-use Rattle.kernel_tree.specs.Code.{Array, FromZero, ByOne, Code, End, Assigns, Loads, Stores, Loops, Kernel}
+use Rattle.kernel_tree.specs.Formula.{Formula, Number, Binary}
+use Rattle.kernel_tree.specs.Code.{Array, FromZero, ByOne, Code, End, Assigns, Loads, Stores, Loops}
 use Rattle.kernel_tree.specs.Grammar.{deepest, height, is_constant, names_declared, is_expression, is_readable, is_writable, are_statements, has_statement}
-use Rattle.kernel_tree.specs.KernelText.{Piece, Part, Parameter, Pointer, NewInput, NewOutput, AfterOutput, OutputOrSize, NewSize, AfterSize, Body, NewVariable, Statement, Next, Source, Turn, Indent, Value, Rest, Note, DeclareInput, DeclareOutput, DeclareSize, DeclareVariable, Both, Stop, Assign, Load, Store, Loop, Notes, Item, texts, stored, loop_head, loop_step, noted, both_of, space, line, comma, semicolon, star, equals, less, plus, opens, closes, index_begins, index_ends, block_begins, block_ends, global, const, uint, for, indent, variable, input, output, size, loop_variable, literal, zero_literal, one_literal, kernels, marked, Names, a_variable, a_loop_variable, a_size, Readable, from_input, from_output, Writable, to_output, Gives, an_input, pointer_to_const, pointer, new_input, new_output, last_output, more_outputs, another_output, first_size, new_size, last_size, more_sizes, declaration, new_variable, statements, assign, store, loop, load, value, another, end, end_of_loop, turn, indented, number, named_value, both, sum}
+use Rattle.kernel_tree.specs.KernelText.{Piece, Part, Parameter, Pointer, NewInput, NewOutput, AfterOutput, OutputOrSize, NewSize, AfterSize, Body, NewVariable, Statement, Next, Source, Turn, Indent, Value, Rest, Note, Both, Stop, Assign, Load, Store, Loop, Notes, Item, texts, stored, loop_head, loop_step, noted, space, line, comma, semicolon, star, equals, less, plus, opens, closes, index_begins, index_ends, block_begins, block_ends, global, const, uint, for, indent, variable, input, output, size, loop_variable, literal, zero_literal, one_literal, kernels, marked, Names, a_variable, a_loop_variable, a_size, Readable, from_input, from_output, Writable, to_output, Gives, an_input, pointer_to_const, pointer, new_input, new_output, last_output, more_outputs, another_output, first_size, new_size, last_size, more_sizes, declaration, new_variable, statements, assign, store, loop, load, value, another, end, end_of_loop, turn, indented, number, named_value, both, sum}
 use Rattle.kernel_spelling.specs.Spelling.{spell, array_name, spell_code, loop_line, step_line, spell_variables, spell_sizes, spell_outputs, spell_inputs, first_output}
-use Rattle.kernel_spelling.specs.Meaning.{counted, FitsAt, IsValue, IsRest, IsCode, IsStatement, IsBody, AreSizes, AreOutputs, IsNewOutput, AreParameters, Means}
+use Rattle.kernel_spelling.specs.Meaning.{counted, FitsAt, IsValue, IsRest, IsCode, IsStatement, Means}
 
 abbrev All : List Item → Notes → List Piece → Notes → List Piece → Type 0
 All o n ts n1 back = AllMean kernels Means o n ts n1 back

@@ -3,3 +3,4 @@ pub mod Spelled
 pub mod Whole
 pub mod Cut
 pub mod Stands
+pub mod One

@@ -8,9 +8,9 @@ use Rattle.readings.specs.Readings.{Token, Form, Mark, Reads, stands, takes, giv
 use Rattle.scalar_ops.specs.declared.op.Op.TheVariants.{Add}
 use Rattle.kernel_tree.specs.Formula.{Formula, Number, Variable, LoopVariable, Size, Id, Binary, Choose}
 use Rattle.kernel_tree.specs.Code.{Array, Input, Output, Local, Private, FromZero, ByOne, Code, End, Assigns, Loads, Stores, Loops, Syncs, Kernel}
-use Rattle.kernel_tree.specs.Grammar.{deepest, height, is_constant, names_declared, is_expression, is_readable, is_writable, are_statements, has_statement, is_kernel, are_lengths}
-use Rattle.kernel_tree.specs.KernelText.{Piece, Part, Parameter, Body, Statement, Next, Source, AfterOutput, AfterSize, Indent, Turn, Value, Rest, Note, Assign, Load, Store, Loop, Notes, Item, texts, stored, loop_head, loop_step, noted, number_limit, space, line, comma, semicolon, star, equals, less, plus, opens, closes, index_begins, index_ends, block_begins, block_ends, uint, for, indent, loop_variable, literal, zero_literal, one_literal, kernels, marked, Names, a_variable, a_loop_variable, a_size, Readable, from_input, from_output, Writable, to_output, Gives, an_input, pointer_to_const, pointer, new_input, new_output, last_output, more_outputs, another_output, first_size, new_size, last_size, more_sizes, declaration, new_variable, statements, assign, store, loop, load, value, another, end, end_of_loop, turn, indented, number, named_value, both, sum, start, nothing, IsMade}
-use Rattle.kernel_spelling.specs.Spelling.{spell, array_name, spell_code, loop_line, step_line, spell_variables, spell_sizes, spell_outputs, spell_inputs, first_output, spell_body, spelled_with, spelled, HasText, is_written, has_name, starts_at_zero, steps_by_one, is_written_code}
+use Rattle.kernel_tree.specs.Grammar.{deepest, height, is_constant, names_declared, is_expression, is_readable, is_writable, are_statements, has_statement}
+use Rattle.kernel_tree.specs.KernelText.{Piece, Part, Parameter, Body, Statement, Next, Source, AfterOutput, AfterSize, Indent, Value, Note, Assign, Load, Store, Loop, Notes, Item, texts, stored, loop_head, loop_step, noted, number_limit, line, semicolon, opens, index_begins, index_ends, block_begins, for, indent, literal, kernels, marked, Names, a_variable, a_loop_variable, a_size, Readable, from_input, from_output, Writable, to_output, Gives, an_input, pointer_to_const, pointer, new_input, new_output, last_output, more_outputs, another_output, first_size, new_size, last_size, more_sizes, declaration, new_variable, statements, assign, store, loop, load, value, another, end, end_of_loop, turn, indented, number, named_value, both, sum, start, nothing}
+use Rattle.kernel_spelling.specs.Spelling.{spell, array_name, spell_code, loop_line, step_line, spell_variables, spell_sizes, spell_outputs, spell_inputs, first_output, spell_body, spelled_with, HasText, is_written, has_name, is_written_code}
 use Rattle.kernel_spelling.specs.Meaning.{counted, FitsAt}
 use Rattle.kernel_spelling.proofs.Kept.{before}
 

@@ -1,14 +1,14 @@
 -- The pieces of a spelled kernel are the pieces of its text.
-use Rattle.std.proofs.Common.{◌≡◌, ℕ, zero, suc, ◌+◌, ◌^◌, ◌<◌, ◌≤◌, List, [], ◌∷◌, Bool, true, false, refl, ap, sym, ◌∙◌, subst, arith, length, lit<, lit≤}
+use Rattle.std.proofs.Common.{◌≡◌, ℕ, zero, suc, ◌+◌, ◌^◌, ◌<◌, ◌≤◌, List, [], ◌∷◌, true, refl, ap, sym, ◌∙◌, subst, arith, length, lit<, lit≤}
 use Rattle.std.specs.Prelude.{◌&&◌, codes, nat_lt, nat_le}
-use Rattle.std.proofs.lemmas.Bool.{ltb-true, leb-true, and_parts}
+use Rattle.std.proofs.lemmas.Bool.{ltb-true, and_parts}
 use Rattle.scalar_ops.specs.declared.op.Op.TheVariants.{Add}
 use Rattle.kernel_tree.specs.Formula.{Formula, Number, Variable, LoopVariable, Size, Id, Binary, Choose}
-use Rattle.kernel_tree.specs.Code.{Array, Input, Output, Local, Private, FromZero, ByOne, Code, End, Assigns, Loads, Stores, Loops, Syncs, Kernel}
+use Rattle.kernel_tree.specs.Code.{Array, Input, Output, Local, Private, Code, End, Assigns, Loads, Stores, Loops, Syncs, Kernel}
 use Rattle.kernel_tree.specs.Grammar.{deepest, height, is_constant, names_declared, is_expression, is_readable, is_writable, are_statements, has_statement, are_lengths}
 use Rattle.kernel_tree.specs.Pieces.{is_word, joined, ArePieces}
-use Rattle.kernel_tree.specs.KernelText.{Piece, Notes, number_limit, space, line, comma, semicolon, star, equals, less, plus, opens, closes, index_begins, index_ends, block_begins, block_ends, global, const, uint, for, indent, input, output, size, variable, loop_variable, literal, zero_literal, one_literal}
-use Rattle.kernel_spelling.specs.Spelling.{spell, array_name, spell_end, spell_code, loop_line, step_line, spell_variables, spell_sizes, spell_outputs, spell_inputs, first_output, spell_head, spell_body, spelled_with, spelled, HasText, is_written, has_name, starts_at_zero, steps_by_one, is_written_code}
+use Rattle.kernel_tree.specs.KernelText.{Piece, Notes, number_limit, space, line, semicolon, closes, global, const, uint, for, loop_variable, zero_literal, one_literal}
+use Rattle.kernel_spelling.specs.Spelling.{spell, array_name, spell_end, spell_code, loop_line, step_line, spell_variables, spell_sizes, spell_outputs, spell_inputs, first_output, spell_body, spelled_with, spelled, HasText, is_written, has_name, starts_at_zero, steps_by_one, is_written_code}
 use Rattle.kernel_spelling.specs.Meaning.{counted}
 use Rattle.kernel_spelling.proofs.Cut.{Stand, NoWord, NoBlank, all_of, word, single, blanks, indented, a_name, a_literal}
 use Rattle.kernel_spelling.proofs.Spelled.{CountsFit, smaller, loops_small, all_of as all_notes}

@@ -1,15 +1,14 @@
 -- What is read is a kernel, spelled.
-use Rattle.std.proofs.Common.{◌≡◌, ℕ, zero, suc, ◌+◌, List, [], ◌∷◌, ◌++◌, Bool, true, refl, ap, sym, ◌∙◌, subst, arith, length}
+use Rattle.std.proofs.Common.{◌≡◌, ℕ, zero, suc, ◌+◌, List, [], ◌∷◌, ◌++◌, true, refl, ap, sym, ◌∙◌, subst, arith, length}
 use Rattle.std.specs.Prelude.{nat_lt, nat_le, ◌&&◌, ◌||◌, codes}
 use Rattle.std.proofs.lemmas.Bool.{and_from, and_parts, lt-ltb}
 use Rattle.readings.specs.Readings.{Form, Reads}
-use Rattle.readings.specs.Meanings.{AllMean}
-use Rattle.readings.proofs.Meaning.{read_means}
+use Rattle.readings.specs.Meanings.{read_means}
 use Rattle.kernel_tree.specs.Formula.{Formula, Number, Variable, LoopVariable, Size, Id, Binary, Choose}
 use Rattle.kernel_tree.specs.Code.{Array, Input, Output, Local, Private, Code, End, Assigns, Loads, Stores, Loops, Syncs, Kernel}
 use Rattle.kernel_tree.specs.Grammar.{deepest, is_operator, is_constant, height, names_declared, is_expression, is_readable, is_writable, are_statements, has_statement, are_lengths, is_kernel}
 use Rattle.kernel_tree.specs.KernelText.{Piece, Notes, Item, texts, line, block_begins, kernels, start, nothing, IsMade, Indent, Body, Parameter, space, opens, indent}
-use Rattle.kernel_spelling.specs.Spelling.{spell_code, spell_variables, spell_head, spell_inputs, first_output, spell_outputs, spell_sizes, spell_kernel, spelled, spelled_with, text_of, HasText}
+use Rattle.kernel_spelling.specs.Spelling.{spell_code, spell_variables, spell_head, spell_inputs, first_output, spell_outputs, spell_sizes, spelled, spelled_with, HasText}
 use Rattle.kernel_spelling.specs.Meaning.{counted, Means, AreParameters, IsBody}
 use Rattle.kernel_spelling.proofs.Kept.{before, at_tokens, at_indent, kept}
 use Rattle.kernel_spelling.proofs.Spelled.{all_of, reads_kernel}

@@ -4,7 +4,7 @@ use Rattle.scalar_ops.specs.declared.op.Op.TheVariants.{Add}
 use Rattle.kernel_tree.specs.Formula.{Formula}
 use Rattle.kernel_tree.specs.Code.{Code, End, Kernel}
 use Rattle.kernel_tree.specs.Grammar.{deepest, height, is_constant, names_declared, are_statements, has_statement}
-use Rattle.kernel_tree.specs.KernelText.{Piece, Part, Parameter, Pointer, NewInput, NewOutput, AfterOutput, OutputOrSize, NewSize, AfterSize, Body, NewVariable, Statement, Next, Source, Turn, Indent, Value, Rest, Notes, noted, both_of, space, line, comma, semicolon, star, equals, plus, closes, const, uint, global, indent, variable, input, output, size, loop_variable}
+use Rattle.kernel_tree.specs.KernelText.{Piece, Part, Parameter, Pointer, NewInput, NewOutput, AfterOutput, OutputOrSize, NewSize, AfterSize, Body, NewVariable, Statement, Next, Source, Turn, Indent, Value, Rest, Notes, noted, both_of, space, comma, star, equals, plus, closes, const, uint, global, indent, variable, output, loop_variable}
 use Rattle.kernel_spelling.specs.Spelling.{spell, spell_code, spell_variables, spell_sizes, spell_outputs, spell_inputs, first_output}
 
 -- the kernel of the names declared so far

@@ -1,6 +1,5 @@
 -- The one spelling of a kernel, as pieces. Each takes what comes after it.
 use Rattle.std.specs.Prelude.{◌≡◌, ℕ, zero, suc, ◌<◌, List, [], ◌∷◌, codes, Bool, true, false, ◌&&◌}
-use Rattle.scalar_ops.specs.declared.op.Op.{Op}
 use Rattle.scalar_ops.specs.declared.op.Op.TheVariants.{Add}
 use Rattle.kernel_tree.specs.Formula.{Formula, Number, Variable, LoopVariable, Size, Binary}
 use Rattle.kernel_tree.specs.Code.{Array, Input, Output, Local, Private, Start, FromZero, Stride, ByOne, Code, End, Assigns, Loads, Stores, Loops, Syncs, Kernel}

@@ -1,9 +1,11 @@
 // Laws of the kernel grammar.
 
-ghost use Rattle.std.specs.Prelude.{◌≡◌, true, ℕ, List};
+ghost use Rattle.std.specs.Prelude.{◌≡◌, true, ℕ, List, []};
+ghost use Rattle.readings.specs.Readings.{Reads};
 ghost use Rattle.kernel_tree.specs.Code.{Kernel};
 ghost use Rattle.kernel_tree.specs.Grammar.{is_kernel};
-ghost use Rattle.kernel_tree.specs.KernelText.{IsKernelText};
+ghost use Rattle.kernel_tree.specs.KernelText.{Piece, Notes, IsKernelText, IsMade, kernels, start, nothing};
+ghost use Rattle.kernel_tree.specs.Pieces.{ArePieces, joined};
 ghost use Rattle.kernel_spelling.specs.Spelling.{HasText, text_of};
 
 /// A kernel has one text.
@@ -11,5 +13,27 @@ pub fn one_text()
     // The kernel grammar relates a kernel to its text.
     ensures taken { (k : Kernel) → HasText k → IsKernelText (text_of k) k }
     // It relates no other bytes to that kernel, and nothing but kernels to bytes.
-    ensures only { (bytes : List ℕ) (k : Kernel) → IsKernelText bytes k → (is_kernel k ≡ true) × (bytes ≡ text_of k) }
+    ensures only { (bytes : List ℕ) (k : Kernel) → IsKernelText bytes k →
+        (is_kernel k ≡ true) × (bytes ≡ text_of k) }
+{}
+
+/// A text is of one kernel.
+pub fn one_kernel()
+    ensures { (bytes : List ℕ) (k l : Kernel) →
+        IsKernelText bytes k → IsKernelText bytes l → k ≡ l }
+{}
+
+/// A text is cut into pieces in one way, and is what they are together.
+pub fn one_cut()
+    ensures one { (bytes : List ℕ) (ps qs : List Piece) →
+        ArePieces bytes ps → ArePieces bytes qs → ps ≡ qs }
+    ensures whole { (bytes : List ℕ) (ps : List Piece) → ArePieces bytes ps → bytes ≡ joined ps }
+{}
+
+/// What a whole reading notes is one kernel, of the grammar.
+pub fn whole_readings()
+    ensures made { (ps : List Piece) (n : Notes) →
+        Reads kernels start nothing ps [] n → (k : Kernel) × IsMade n k }
+    ensures in_grammar { (ps : List Piece) (n : Notes) (k : Kernel) →
+        Reads kernels start nothing ps [] n → IsMade n k → is_kernel k ≡ true }
 {}

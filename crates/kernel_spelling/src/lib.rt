@@ -1,6 +1,9 @@
-//! The one spelling of a kernel: what the text of each kernel is, and that the kernel grammar relates the kernel to no other.
+//! The spelling of kernels: what the pieces of a kernel's text are, which alternative of a form
+//! begins with which piece, and that each kernel has one text and each text is of one kernel.
 #![tactic(auto)]
 
+mod kinds;
 mod laws;
 
-pub use laws::one_text;
+pub use kinds::Kind;
+pub use laws::{one_cut, one_kernel, one_text, whole_readings};

@@ -12,6 +12,7 @@ use Rattle.kernel_tree.specs.Code.{Array, Input, Output, Local, Private}
 use Rattle.kernel_tree.specs.Launch.{IsWhole, group_of, first_item, ids_of}
 use Rattle.kernel_tree.specs.Device.{Device, Cell, State, Memory, Fence, same_array, same_cell, fence_of, wants, CanStep, StandTogether, Enabled, moves, taken, stored, has_flag, releases, after, run, IsRun, IsStuck, write}
 use Rattle.kernel_tree.specs.Faults.{Access, access_at, accessed, accesses_of, accesses, Among, IsRace, failure, failure_of, NoFailure, NoRace}
+use Rattle.kernel_tree.specs.Histories.{Act, act_of, acts_of, history}
 use Rattle.kernel_tree.proofs.Grouping.{first_of_group}
 
 -- two events touch no item together
@@ -62,6 +63,11 @@ module _ (d : Device) (whole : IsWhole d.launch) where
   enabled_kept s (Step k) f ap_ h = (h.0, subst CanStep (sym (wants_kept d s f k (ap_ k (eq-eqb k k refl)))) h.1)
   enabled_kept s (Release g) f ap_ h =
       (h.0, λ j q. rw (wants_kept d s f (first_item d.launch g) (ap_ _ (moves-first g)), wants_kept d s f j (ap_ j (eq-eqb _ _ q))) (h.1 j q))
+
+  pub enabled_back : (s : State) (e f : Event) → Apart d e f → Enabled d (after d s f) e → Enabled d s e
+  enabled_back s (Step k) f apart h = (h.0, subst CanStep (wants_kept d s f k (apart k (eq-eqb k k refl))) h.1)
+  enabled_back s (Release g) f apart h =
+      (h.0, λ j q. subst (λ w. StandTogether w (wants d s j)) (wants_kept d s f (first_item d.launch g) (apart _ (moves-first g))) (subst (λ w. StandTogether (wants d (after d s f) (first_item d.launch g)) w) (wants_kept d s f j (apart j (eq-eqb _ _ q))) (h.1 j q)))
 
   failure_kept : (s : State) (e f : Event) → Apart d e f → failure_of d (after d s f) e ≡ failure_of d s e
   unfolding failure_of
@@ -273,30 +279,46 @@ among-swap x xs ys zs h =
 abbrev weight : (Access → Bool) → Access → ℕ
 weight p x = cond (p x) 1 0
 
+-- two events that move no item together tell the same of each item in either order
+acts_swap : (d : Device) (s : State) (e f : Event) (k : ℕ) (rest : List Act) → Apart d e f → Apart d f e → acts_of d s e k ++ (acts_of d (after d s e) f k ++ rest) ≡ acts_of d s f k ++ (acts_of d (after d s f) e k ++ rest)
+acts_swap d s e f k rest a1 a2 = go (moves d.launch e k) (moves d.launch f k) refl refl
+  where
+    act : State → Act
+    act t = act_of d.launch k (wants d t k)
+
+    go : (a b : Bool) → moves d.launch e k ≡ a → moves d.launch f k ≡ b → acts_of d s e k ++ (acts_of d (after d s e) f k ++ rest) ≡ acts_of d s f k ++ (acts_of d (after d s f) e k ++ rest)
+    go true b p q = rw (p, a1 k p) (ap (λ w. act_of d.launch k w ∷ rest) (sym (wants_kept d s f k (a1 k p))))
+    go false true p q = rw (p, q) (ap (λ w. act_of d.launch k w ∷ rest) (wants_kept d s e k p))
+    go false false p q = rw (p, q) refl
+
 -- another run that ends there too, by as many events and with the same accesses
-pub record Alike (d : Device) (s : State) (es fs : List Event) : Type 0 where
+pub record SameEnd (d : Device) (s : State) (es fs : List Event) : Type 0 where
   pub is_run : IsRun d s fs
   pub no_failure : NoFailure d s fs
   pub ends : run d s fs ≡ run d s es
   pub long : length fs ≡ length es
+  pub events : (q : Event → Bool) → count_by q fs ≡ count_by q es
   pub among : (a : Access) → Among a (accesses d s fs) → Among a (accesses d s es)
   pub count : (p : Access → Bool) → count_by p (accesses d s fs) ≡ count_by p (accesses d s es)
+  pub history : (k : ℕ) → history d s fs k ≡ history d s es k
 
 module _ (d : Device) where
-  pub alike_itself : (s : State) (es : List Event) → IsRun d s es → NoFailure d s es → Alike d s es es
-  alike_itself s es r f = record { is_run = r; no_failure = f; ends = refl; long = refl; among = λ a h. h; count = λ p. refl }
+  pub same_end_itself : (s : State) (es : List Event) → IsRun d s es → NoFailure d s es → SameEnd d s es es
+  same_end_itself s es r f = record { is_run = r; no_failure = f; ends = refl; long = refl; events = λ q. refl; among = λ a h. h; count = λ p. refl; history = λ k. refl }
 
-  pub alike_on : (s : State) (es fs gs : List Event) → Alike d s es fs → Alike d s fs gs → Alike d s es gs
-  alike_on s es fs gs a b = record {
+  pub same_end_on : (s : State) (es fs gs : List Event) → SameEnd d s es fs → SameEnd d s fs gs → SameEnd d s es gs
+  same_end_on s es fs gs a b = record {
     is_run = b.is_run;
     no_failure = b.no_failure;
     ends = b.ends ∙ a.ends;
     long = b.long ∙ a.long;
+    events = λ q. b.events q ∙ a.events q;
     among = λ x h. a.among x (b.among x h);
     count = λ p. b.count p ∙ a.count p;
+    history = λ k. b.history k ∙ a.history k;
   }
 
-  among_ahead : (s : State) (e : Event) (es fs : List Event) → Alike d (after d s e) es fs → (a : Access) → Among a (accesses d s (e ∷ fs)) → Among a (accesses d s (e ∷ es))
+  among_ahead : (s : State) (e : Event) (es fs : List Event) → SameEnd d (after d s e) es fs → (a : Access) → Among a (accesses d s (e ∷ fs)) → Among a (accesses d s (e ∷ es))
   among_ahead s e es fs r a h =
       ⊎_elim
       (λ x. among-left a (accesses_of d s e) (accesses d (after d s e) es) x)
@@ -315,20 +337,36 @@ module _ (d : Device) where
       let d = sum_by-append f xs zs in
       omega arith
 
-  pub alike_ahead : (s : State) (e : Event) (es fs : List Event) → Enabled d s e → failure_of d s e ≡ None → Alike d (after d s e) es fs → Alike d s (e ∷ es) (e ∷ fs)
-  alike_ahead s e es fs en ok r = record {
+  event_ahead : (q : Event → Bool) (e : Event) (fs es : List Event) → count_by q fs ≡ count_by q es → count_by q (e ∷ fs) ≡ count_by q (e ∷ es)
+  event_ahead q e fs es h =
+      let f = λ (x : Event). cond (q x) 1 0 in
+      sum_by-append f (e ∷ []) fs ∙ ap (λ n. sum_by f (e ∷ []) + n) h ∙ sym (sum_by-append f (e ∷ []) es)
+
+  event_swap : (q : Event → Bool) (e f : Event) (es : List Event) → count_by q (e ∷ f ∷ es) ≡ count_by q (f ∷ e ∷ es)
+  event_swap q e f es =
+      let w : Event → ℕ = λ x. cond (q x) 1 0 in
+      let a : count_by q (e ∷ f ∷ es) ≡ sum_by w (e ∷ []) + count_by q (f ∷ es) = sum_by-append w (e ∷ []) (f ∷ es) in
+      let b : count_by q (f ∷ es) ≡ sum_by w (f ∷ []) + count_by q es = sum_by-append w (f ∷ []) es in
+      let c : count_by q (f ∷ e ∷ es) ≡ sum_by w (f ∷ []) + count_by q (e ∷ es) = sum_by-append w (f ∷ []) (e ∷ es) in
+      let g : count_by q (e ∷ es) ≡ sum_by w (e ∷ []) + count_by q es = sum_by-append w (e ∷ []) es in
+      omega arith
+
+  pub same_end_ahead : (s : State) (e : Event) (es fs : List Event) → Enabled d s e → failure_of d s e ≡ None → SameEnd d (after d s e) es fs → SameEnd d s (e ∷ es) (e ∷ fs)
+  same_end_ahead s e es fs en ok r = record {
     is_run = (en, r.is_run);
     no_failure = (ok, r.no_failure);
     ends = r.ends;
     long = ap suc r.long;
+    events = λ q. event_ahead q e fs es (r.events q);
     among = among_ahead s e es fs r;
     count = λ p. count_ahead p (accesses_of d s e) _ _ (r.count p);
+    history = λ k. ap (λ xs. acts_of d s e k ++ xs) (r.history k);
   }
 
 module _ (d : Device) (whole : IsWhole d.launch) where
   -- what two runs share, when their first two events are swapped
-  alike_swapped : (s : State) (e f : Event) (es : List Event) → e ≢ f → Enabled d s e → Enabled d s f → NoClash d s e f → NoFailure d s (f ∷ e ∷ es) → IsRun d (after d (after d s f) e) es → Alike d s (f ∷ e ∷ es) (e ∷ f ∷ es)
-  alike_swapped s e f es n ee ef clear ok r =
+  same_end_swapped : (s : State) (e f : Event) (es : List Event) → e ≢ f → Enabled d s e → Enabled d s f → NoClash d s e f → NoFailure d s (f ∷ e ∷ es) → IsRun d (after d (after d s f) e) es → SameEnd d s (f ∷ e ∷ es) (e ∷ f ∷ es)
+  same_end_swapped s e f es n ee ef clear ok r =
       let back : f ≢ e = λ p. n (sym p) in
       let a1 = enabled_apart d s e f n ee ef in
       let a2 = enabled_apart d s f e back ef ee in
@@ -347,14 +385,18 @@ module _ (d : Device) (whole : IsWhole d.launch) where
         no_failure = (sym (failure_kept d whole s e f a1) ∙ ok.1.0, (failure_kept d whole s f e a2 ∙ ok.0, subst (λ t. NoFailure d t es) same ok.1.1));
         ends = ap (λ t. run d t es) (sym same);
         long = refl;
+        events = λ q. event_swap d q e f es;
         among = λ a h. subst (Among a) (sym acc') (among-swap a (accesses_of d s e) (accesses_of d s f) rest (subst (Among a) acc h));
         count = λ p. ap (count_by p) acc ∙ count_swap d p (accesses_of d s e) (accesses_of d s f) rest ∙ sym (ap (count_by p) acc');
+        history = λ k.
+            ap (λ t. acts_of d s e k ++ (acts_of d (after d s e) f k ++ history d t es k)) (sym same)
+            ∙ acts_swap d s e f k (history d (after d (after d s f) e) es k) a1 a2;
       }
 
   pub no_race_later : (s : State) (f : Event) (es : List Event) → NoRace d s (f ∷ es) → NoRace d (after d s f) es
   no_race_later s f es clear a b x y = clear a b (among-right a (accesses_of d s f) _ x) (among-right b (accesses_of d s f) _ y)
 
-  pub onward : (s : State) (e f : Event) (es fs : List Event) → e ≢ f → Enabled d s e → IsRun d s (f ∷ es) → NoFailure d s (f ∷ es) → NoRace d s (f ∷ es) → Alike d (after d s f) es (e ∷ fs) → Alike d s (f ∷ es) (e ∷ f ∷ fs)
+  pub onward : (s : State) (e f : Event) (es fs : List Event) → e ≢ f → Enabled d s e → IsRun d s (f ∷ es) → NoFailure d s (f ∷ es) → NoRace d s (f ∷ es) → SameEnd d (after d s f) es (e ∷ fs) → SameEnd d s (f ∷ es) (e ∷ f ∷ fs)
   unfolding NoClash
   onward s e f es fs n en r ok clear a =
       let apart = enabled_apart d s e f n en r.0 in
@@ -362,23 +404,23 @@ module _ (d : Device) (whole : IsWhole d.launch) where
       a.among x (among-left x (accesses_of d (after d s f) e) _ (subst (Among x) (sym (accesses_kept d whole s e f apart)) h)) in
       let clash : NoClash d s e f =
       λ x y hx hy. clear x y (among-right x (accesses_of d s f) _ (early x hx)) (among-left y (accesses_of d s f) _ hy) in
-      alike_on d s (f ∷ es) (f ∷ e ∷ fs) (e ∷ f ∷ fs) (alike_ahead d s f es (e ∷ fs) r.0 ok.0 a) (alike_swapped s e f fs n en r.0 clash (ok.0, a.no_failure) a.is_run.1)
+      same_end_on d s (f ∷ es) (f ∷ e ∷ fs) (e ∷ f ∷ fs) (same_end_ahead d s f es (e ∷ fs) r.0 ok.0 a) (same_end_swapped s e f fs n en r.0 clash (ok.0, a.no_failure) a.is_run.1)
 
   -- an event that is enabled comes somewhere in a run that goes on to the end, and may come first
-  pulled : (s : State) (es : List Event) (e : Event) → IsRun d s es → NoFailure d s es → NoRace d s es → IsStuck d (run d s es) → Enabled d s e → (fs : List Event) × Alike d s es (e ∷ fs)
+  pub pulled : (s : State) (es : List Event) (e : Event) → IsRun d s es → NoFailure d s es → NoRace d s es → IsStuck d (run d s es) → Enabled d s e → (fs : List Event) × SameEnd d s es (e ∷ fs)
   pulled s [] e r ok clear stuck en = absurd (stuck e en)
   pulled s (f ∷ es) e r ok clear stuck en =
       ⊎_elim
-      (λ p. (es, subst (λ x. Alike d s (f ∷ es) (x ∷ es)) (sym p) (alike_itself d s (f ∷ es) r ok)))
+      (λ p. (es, subst (λ x. SameEnd d s (f ∷ es) (x ∷ es)) (sym p) (same_end_itself d s (f ∷ es) r ok)))
       (λ n. let a = pulled (after d s f) es e r.1 ok.1 (no_race_later s f es clear) stuck (enabled_kept d whole s e f (enabled_apart d s e f n en r.0) en) in (f ∷ a.0, onward s e f es a.0 n en r ok clear a.1))
       (event_cases e f)
 
   -- every run goes on to the same end
-  pub confluent : (es fs : List Event) (s : State) → IsRun d s es → NoFailure d s es → NoRace d s es → IsStuck d (run d s es) → IsRun d s fs → (rest : List Event) × Alike d s es (fs ++ rest)
-  confluent es [] s r ok clear stuck q = (es, alike_itself d s es r ok)
+  pub confluent : (es fs : List Event) (s : State) → IsRun d s es → NoFailure d s es → NoRace d s es → IsStuck d (run d s es) → IsRun d s fs → (rest : List Event) × SameEnd d s es (fs ++ rest)
+  confluent es [] s r ok clear stuck q = (es, same_end_itself d s es r ok)
   confluent es (f ∷ fs) s r ok clear stuck q =
       let a = pulled s es f r ok clear stuck q.0 in
       let none : NoRace d (after d s f) a.0 =
       λ x y hx hy. clear x y (a.1.among x (among-right x (accesses_of d s f) _ hx)) (a.1.among y (among-right y (accesses_of d s f) _ hy)) in
       let b = confluent a.0 fs (after d s f) a.1.is_run.1 a.1.no_failure.1 none (subst (IsStuck d) (sym a.1.ends) stuck) q.1 in
-      (b.0, alike_on d s es (f ∷ a.0) (f ∷ (fs ++ b.0)) a.1 (alike_ahead d s f a.0 (fs ++ b.0) q.0 a.1.no_failure.0 b.1))
+      (b.0, same_end_on d s es (f ∷ a.0) (f ∷ (fs ++ b.0)) a.1 (same_end_ahead d s f a.0 (fs ++ b.0) q.0 a.1.no_failure.0 b.1))

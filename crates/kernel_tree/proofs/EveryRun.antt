@@ -11,7 +11,7 @@ use Rattle.kernel_tree.specs.Device.{Device, State, wants, CanStep, StandTogethe
 use Rattle.kernel_tree.specs.Faults.{Access, accesses_of, accesses, Among, Diverges, SomeDiverges, NoFailure, NoDivergence}
 use Rattle.kernel_tree.specs.EveryRun.{Completes, EveryRun}
 use Rattle.kernel_tree.proofs.Grouping.{first_of_group, in_launch, first_in_launch}
-use Rattle.kernel_tree.proofs.Confluence.{Alike, confluent, among-left, wants_kept}
+use Rattle.kernel_tree.proofs.Confluence.{SameEnd, confluent, among-left, wants_kept}
 
 module _ (d : Device) where
   pub run-append : (s : State) (es fs : List Event) → run d s (es ++ fs) ≡ run d (run d s es) fs
@@ -90,7 +90,7 @@ module _ (d : Device) (whole : IsWhole d.launch) where
 
   module _ (s : State) (es : List Event) (all : Completes d s es) where
     -- every run goes on to the same end
-    goes : (fs : List Event) → IsRun d s fs → (rest : List Event) × Alike d s es (fs ++ rest)
+    pub goes : (fs : List Event) → IsRun d s fs → (rest : List Event) × SameEnd d s es (fs ++ rest)
     goes fs q = confluent d whole es fs s all.is_run all.no_failure all.no_race (ended_stuck (run d s es) all.ended) q
 
     undiverged : (fs : List Event) → IsRun d s fs → SomeDiverges d (run d s fs) → ⊥
@@ -101,11 +101,11 @@ module _ (d : Device) (whole : IsWhole d.launch) where
         ended_undiverged (run d s es) all.ended (v.0, subst (λ t. Diverges d t v.0) same on)
 
     -- a run that cannot go on is alike
-    whole_run : (fs : List Event) → IsRun d s fs → IsStuck d (run d s fs) → Alike d s es fs
+    pub whole_run : (fs : List Event) → IsRun d s fs → IsStuck d (run d s fs) → SameEnd d s es fs
     whole_run fs q stuck =
         let a = goes fs q in
         let none = no_more (run d s fs) a.0 stuck (is_run-back d s fs a.0 a.1.is_run) in
-        subst (Alike d s es) (ap (λ xs. fs ++ xs) none ∙ append-nil fs) a.1
+        subst (SameEnd d s es) (ap (λ xs. fs ++ xs) none ∙ append-nil fs) a.1
 
     few : (fs : List Event) → IsRun d s fs → (p : Access → Bool) → count_by p (accesses d s fs) ≤ count_by p (accesses d s es)
     few fs q p =
@@ -125,7 +125,11 @@ module _ (d : Device) (whole : IsWhole d.launch) where
       bounded = λ fs q. let a = goes fs q in let n = a.1.long in let m = length-append fs a.0 in omega arith;
       among = λ fs q x h. let a = goes fs q in a.1.among x (among-front d s fs a.0 x h);
       count = few;
+      events = λ fs q c. let a = goes fs q in let n = a.1.events c in let m = sum_by-append (λ x. cond (c x) 1 0) fs a.0 in omega arith;
+      goes_on = λ fs q. let a = goes fs q in (a.0, a.1.is_run, a.1.ends);
+      ended = all.ended;
       ends = λ fs q stuck. (whole_run fs q stuck).ends;
       end_length = λ fs q stuck. (whole_run fs q stuck).long;
       end_count = λ fs q stuck. (whole_run fs q stuck).count;
+      end_events = λ fs q stuck. (whole_run fs q stuck).events;
     }

@@ -4,13 +4,13 @@ use Rattle.std.specs.Prelude.{◌==◌, if◌then◌else◌, cond, filter}
 use Rattle.std.proofs.lemmas.Bool.{cases_eq, eq-eqb, ne_eqb, eqb-true, cases_Bool, eqb-false}
 use Rattle.kernel_tree.specs.declared.events.Event.{Event}
 use Rattle.kernel_tree.specs.declared.events.Event.TheVariants.{Step, Release}
-use Rattle.kernel_tree.specs.Launch.{IsWhole, group_of, first_item}
+use Rattle.kernel_tree.specs.Launch.{IsWhole, group_of}
 use Rattle.kernel_tree.specs.Item.{Wants, Reads, Writes}
-use Rattle.kernel_tree.specs.Device.{Device, State, Fence, fence_of, wants, CanStep, StandTogether, Enabled, after, run, IsRun}
+use Rattle.kernel_tree.specs.Device.{Device, State, Fence, fence_of, wants, after, run, IsRun}
 use Rattle.kernel_tree.specs.Faults.{Access, accessed, accesses_of, accesses, Among, SomeDiverges, NoFailure, NoRace, NoDivergence, IsFaultless}
 use Rattle.kernel_tree.specs.Deeds.{Every}
 use Rattle.kernel_tree.specs.Footprints.{group_acting, KeepsGroups, KeepsItems, steps, LeavesOthers, LeadsAlike}
-use Rattle.kernel_tree.proofs.Confluence.{Apart, Alike, alike_itself, alike_on, alike_ahead, no_race_later, onward, wants_kept, moves-first, among-right, among-append}
+use Rattle.kernel_tree.proofs.Confluence.{Apart, SameEnd, same_end_itself, same_end_on, same_end_ahead, no_race_later, onward, enabled_back, among-right, among-append}
 use Rattle.kernel_tree.proofs.EveryRun.{diverged_stays}
 
 module _ (d : Device) (whole : IsWhole d.launch) (actor : Event → ℕ) (Acts : Event → Type 0) (parts : (e f : Event) → Acts e → Acts f → actor e ≢ actor f → Apart d e f) where
@@ -18,14 +18,9 @@ module _ (d : Device) (whole : IsWhole d.launch) (actor : Event → ℕ) (Acts :
   abbrev events_by : ℕ → List Event → List Event
   events_by a es = filter (λ e. actor e == a) es
 
-  enabled_back : (s : State) (e f : Event) → Apart d e f → Enabled d (after d s f) e → Enabled d s e
-  enabled_back s (Step k) f apart h = (h.0, subst CanStep (wants_kept d s f k (apart k (eq-eqb k k refl))) h.1)
-  enabled_back s (Release g) f apart h =
-      (h.0, λ j q. subst (λ w. StandTogether w (wants d s j)) (wants_kept d s f (first_item d.launch g) (apart _ (moves-first d whole g))) (subst (λ w. StandTogether (wants d (after d s f) (first_item d.launch g)) w) (wants_kept d s f j (apart j (eq-eqb _ _ q))) (h.1 j q)))
-
   record Pulled (s : State) (es : List Event) (e : Event) : Type 0 where
     rest : List Event
-    alike : Alike d s es (e ∷ rest)
+    alike : SameEnd d s es (e ∷ rest)
     order : (a : ℕ) → events_by a (e ∷ rest) ≡ events_by a es
     acts : Every Acts rest
 
@@ -49,12 +44,12 @@ module _ (d : Device) (whole : IsWhole d.launch) (actor : Event → ℕ) (Acts :
       here : actor f ≡ actor e → Pulled s (f ∷ es) e
       here q =
           let same : f ≡ e = let x : f ∷ events_by (actor e) es ≡ e ∷ more = rw (eq-eqb _ _ q) at h in cc in
-          record { rest = es; alike = subst (λ x. Alike d s (f ∷ es) (x ∷ es)) same (alike_itself d s (f ∷ es) r ok); order = λ a. ap (λ x. events_by a (x ∷ es)) (sym same); acts = acts.1 }
+          record { rest = es; alike = subst (λ x. SameEnd d s (f ∷ es) (x ∷ es)) same (same_end_itself d s (f ∷ es) r ok); order = λ a. ap (λ x. events_by a (x ∷ es)) (sym same); acts = acts.1 }
 
       later : (actor f == actor e) ≡ false → Pulled (after d s f) es e → Pulled s (f ∷ es) e
       later q p =
           let n : actor e ≢ actor f = λ x. eqb-false _ _ q (sym x) in
-          let en = enabled_back s e f (parts e f act acts.0 n) p.alike.is_run.0 in
+          let en = enabled_back d whole s e f (parts e f act acts.0 n) p.alike.is_run.0 in
           let differ : e ≢ f = λ x. n (ap actor x) in
           record {
             rest = f ∷ p.rest;
@@ -74,14 +69,14 @@ module _ (d : Device) (whole : IsWhole d.launch) (actor : Event → ℕ) (Acts :
   nothing [] h = refl
   nothing (f ∷ fs) h = let x : f ∷ events_by (actor f) fs ≡ [] = rw (eq-eqb (actor f) _ refl) at (h (actor f)) in cc
 
-  pub reordered : (fs es : List Event) (s : State) → Every Acts es → Every Acts fs → IsRun d s es → NoFailure d s es → NoRace d s es → ((a : ℕ) → events_by a fs ≡ events_by a es) → Alike d s es fs
-  reordered [] es s acts these r ok clear same = subst (Alike d s es) (nothing es (λ a. sym (same a))) (alike_itself d s es r ok)
+  pub reordered : (fs es : List Event) (s : State) → Every Acts es → Every Acts fs → IsRun d s es → NoFailure d s es → NoRace d s es → ((a : ℕ) → events_by a fs ≡ events_by a es) → SameEnd d s es fs
+  reordered [] es s acts these r ok clear same = subst (SameEnd d s es) (nothing es (λ a. sym (same a))) (same_end_itself d s es r ok)
   reordered (f ∷ fs) es s acts these r ok clear same =
       let h : events_by (actor f) es ≡ f ∷ events_by (actor f) fs = sym (same (actor f)) ∙ (rw (eq-eqb (actor f) _ refl) refl) in
       let p = pulled s es f (events_by (actor f) fs) acts these.0 r ok clear h in
       let none : NoRace d (after d s f) p.rest = λ x y hx hy. clear x y (p.alike.among x (among-right x (accesses_of d s f) _ hx)) (p.alike.among y (among-right y (accesses_of d s f) _ hy)) in
       let rest_same = λ (a : ℕ). tail_same a f fs p.rest (same a ∙ sym (p.order a)) in
-      alike_on d s es (f ∷ p.rest) (f ∷ fs) p.alike (alike_ahead d s f p.rest fs p.alike.is_run.0 p.alike.no_failure.0 (reordered fs p.rest (after d s f) p.acts these.1 p.alike.is_run.1 p.alike.no_failure.1 none rest_same))
+      same_end_on d s es (f ∷ p.rest) (f ∷ fs) p.alike (same_end_ahead d s f p.rest fs p.alike.is_run.0 p.alike.no_failure.0 (reordered fs p.rest (after d s f) p.acts these.1 p.alike.is_run.1 p.alike.no_failure.1 none rest_same))
 
 module _ (d : Device) (whole : IsWhole d.launch) where
   -- a run that doesn't diverge at its end doesn't on its way
@@ -94,7 +89,7 @@ module _ (d : Device) (whole : IsWhole d.launch) where
   undiverged_end s e [] h v = h.0 v
   undiverged_end s e (f ∷ es) h v = undiverged_end (after d s e) f es h.1 v
 
-  leads_alike : (s : State) (es fs : List Event) → IsFaultless d s es → Alike d s es fs → LeadsAlike d s es fs
+  leads_alike : (s : State) (es fs : List Event) → IsFaultless d s es → SameEnd d s es fs → LeadsAlike d s es fs
   leads_alike s es fs ok a = record {
     is_run = a.is_run;
     faultless = record {

@@ -13,3 +13,9 @@ pub mod Rounds
 pub mod Rows
 pub mod WorkedKernels
 pub mod Scheduled
+pub mod Histories
+pub mod Totals
+pub mod Alike
+pub mod Leading
+pub mod Meets
+pub mod WorkedAlike

@@ -2,7 +2,7 @@
 use Rattle.std.proofs.Common.{ℕ, zero, suc, ◌<◌, ◌≤◌, List, [], ◌∷◌, ◌++◌, subst, arith}
 use Rattle.kernel_tree.specs.Item.{item, Frame}
 use Rattle.kernel_tree.specs.Device.{Device, Memory}
-use Rattle.kernel_tree.specs.Deeds.{Deed, Moved, Goes, written, all_turns}
+use Rattle.kernel_tree.specs.Deeds.{Deed, Moved, Goes, all_turns}
 use Rattle.kernel_tree.specs.Rounds.{Loop, loop_code, Counts, Turns, Turn, Through}
 use Rattle.kernel_tree.proofs.Deeds.{goes_on, goes_moved, tested_at, next_enter, next_again, inside, outside, goes_loop}
 
@@ -13,7 +13,7 @@ module _ (d : Device) (k : ℕ) (fs : List Frame) (p : Loop) (count : ℕ) (r : 
     goes : (m : Memory) → Ok m → Goes d k (item (loop_code p) fs first) m deeds (tested_at d k fs r.bound p.start p.bound p.stride p.body p.after t vars)
     inv : Inv t vars deeds
 
-  module _ (stays : (t : ℕ) (vars : List ℕ) (ds : List Deed) → Inv t vars ds → (m : Memory) → Ok m → Ok (written ds m)) (begin : Inv 0 first (Moved ∷ [])) (turn : (t : ℕ) (vars : List ℕ) (ds : List Deed) → t < count → Inv t vars ds → Turn d k fs p Ok Inv t vars ds) where
+  module _ (begin : Inv 0 first (Moved ∷ [])) (turn : (t : ℕ) (vars : List ℕ) (ds : List Deed) → t < count → Inv t vars ds → Turn d k fs p Ok Inv t vars ds) where
     reach : (t : ℕ) → t ≤ count → Reached t
     reach zero le = record { vars = first; deeds = Moved ∷ []; goes = λ m ok. goes_moved d k _ _ m (next_enter d k fs r.bound p.start p.bound p.stride p.body p.after first r.bound_is); inv = begin }
     reach (suc t) le =
@@ -23,7 +23,7 @@ module _ (d : Device) (k : ℕ) (fs : List Frame) (p : Loop) (count : ℕ) (r : 
         record {
           vars = u.after;
           deeds = h.deeds ++ (u.deeds ++ Moved ∷ []);
-          goes = λ m ok. goes_on d k _ _ _ m h.deeds (u.deeds ++ Moved ∷ []) (subst (λ z. Goes d k (item (loop_code p) fs first) m h.deeds z) (inside d k fs r.bound p.start p.bound p.stride p.body p.after t h.vars (r.below t lt)) (h.goes m ok)) (goes_on d k _ _ _ _ u.deeds (Moved ∷ []) (u.goes (written h.deeds m) (stays t h.vars h.deeds h.inv m ok)) (goes_moved d k _ _ _ (next_again d k fs r.bound p.start p.bound p.stride p.body p.after t u.after r.bound_is (r.fits t lt))));
+          goes = λ m ok. goes_on d k _ _ _ m h.deeds (u.deeds ++ Moved ∷ []) (subst (λ z. Goes d k (item (loop_code p) fs first) m h.deeds z) (inside d k fs r.bound p.start p.bound p.stride p.body p.after t h.vars (r.below t lt)) (h.goes m ok)) (goes_on d k _ _ _ _ u.deeds (Moved ∷ []) (u.goes m ok) (goes_moved d k _ _ _ (next_again d k fs r.bound p.start p.bound p.stride p.body p.after t u.after r.bound_is (r.fits t lt))));
           inv = u.inv;
         }
 

@@ -1,17 +1,19 @@
 -- The worked kernels, computed.
-use Rattle.std.proofs.Common.{◌≡◌, ℕ, zero, suc, ◌<◌, Bool, true, false, [], ◌∷◌, Some, None, refl, sym, ap, ◌∙◌, subst, inl, inr, ⊎_elim, arith}
+use Rattle.std.proofs.Common.{◌≡◌, ℕ, List, ◌++◌, zero, suc, ◌<◌, Bool, true, false, [], ◌∷◌, Some, None, refl, sym, ap, ◌∙◌, subst, inl, inr, ⊎_elim, arith}
 use Rattle.std.specs.Prelude.{replicate}
-use Rattle.kernel_tree.specs.declared.events.Event.TheVariants.{Step}
+use Rattle.kernel_tree.specs.declared.events.Event.TheVariants.{Step, Release}
 use Rattle.kernel_tree.specs.declared.events.FaultKind.TheVariants as fault
+use Rattle.kernel_tree.specs.Formula.{sizes_alone}
+use Rattle.kernel_tree.specs.Code.{End}
 use Rattle.kernel_tree.specs.Launch.{group_of, item_count, IsWhole}
 use Rattle.kernel_tree.proofs.Grouping.{in_launch}
 use Rattle.kernel_tree.specs.declared.events.Access.TheVariants.{Write}
 use Rattle.kernel_tree.specs.declared.tree.Array.TheVariants as held
 use Rattle.kernel_tree.specs.Seen.{seen_of}
-use Rattle.kernel_tree.specs.Item.{next, Ends}
-use Rattle.kernel_tree.specs.Device.{Device, device_of, start_state, State, wants, CanStep, AllTogether, after, run, IsRun, AllEnded, write, Cell}
+use Rattle.kernel_tree.specs.Item.{next, Ends, Frame, item, loop_variables, Moves, Fails}
+use Rattle.kernel_tree.specs.Device.{Device, device_of, start_state, State, wants, CanStep, AllTogether, after, run, IsRun, AllEnded, write, Cell, Enabled}
 use Rattle.kernel_tree.specs.Faults.{Access, failure_of, accesses_of, RacesAfter, SomeDiverges}
-use Rattle.kernel_tree.specs.Worked.{one_output, one_cell, Faults, writes_first, writes_second, writes_local, writes_private, divides_by_zero, some_meet_a_barrier, swaps, to_the_barrier, increments, of_three, three_words, left_at, two_items, first_state}
+use Rattle.kernel_tree.specs.Worked.{one_output, one_cell, Faults, writes_first, writes_second, writes_local, writes_private, divides_by_zero, some_meet_a_barrier, swaps, to_the_barrier, increments, of_three, three_words, left_at, two_items, first_state, ends_a_turn, meets_in_loops, first_turns, meeting, met}
 
 pub race : Faults writes_first 2 1 (Step 0 ∷ []) (Step 1) (Some fault.Race)
 unfolding next after failure_of accesses_of
@@ -184,3 +186,61 @@ private_apart = (((omega arith, tt), tt), (refl, races, two_ended d (after d s (
 pub race_seen : seen_of two_items first_state (Step 1) (Some fault.Race) ≡ record { event = Step 1; access = Some (Write (record { array = held.Output 0; index = 0 })); fault = Some (record { kind = fault.Race; cell = Some (record { array = held.Output 0; index = 0 }) }) }
 unfolding next
 race_seen = refl
+
+-- turns
+
+pub goes_on : next (sizes_alone []) (ends_a_turn 4294967294) ≡ Moves (item End [] [])
+unfolding next
+goes_on = refl
+
+pub wraps : next (sizes_alone []) (ends_a_turn 4294967295) ≡ Fails fault.LoopWrap
+unfolding next
+wraps = refl
+
+pub first_variable : loop_variables (met.items 0).frames ≡ 0 ∷ 0 ∷ []
+unfolding next after
+first_variable = refl
+
+pub second_variable : loop_variables (met.items 1).frames ≡ 0 ∷ 1 ∷ []
+unfolding next after
+second_variable = refl
+
+met_together : AllTogether meeting met 0
+unfolding next after
+met_together zero q = (refl, refl, refl, refl)
+met_together (suc zero) q = (refl, refl, refl, refl)
+met_together (suc (suc j)) q = absurd (omega arith)
+
+pub same_turns : Enabled meeting met (Release 0)
+same_turns = (omega arith, met_together)
+
+pub other_turns : Faults meets_in_loops 2 2 (first_turns ++ Release 0 ∷ Step 0 ∷ Step 1 ∷ Step 1 ∷ []) (Step 1) (Some fault.Divergent)
+unfolding next after failure_of accesses_of
+other_turns = (
+  ((omega arith, tt), ((omega arith, tt), ((omega arith, tt), ((omega arith, tt), ((omega arith, met_together), ((omega arith, tt), ((omega arith, tt), ((omega arith, tt), tt)))))))),
+  (
+    refl,
+    (λ r. r.2),
+    (
+      0,
+      record {
+        within = omega arith;
+        stopped = stops;
+        not_ended = λ h. let e = h 0 refl in cc;
+        not_together = λ h. let e = ap outer_turn (h 1 refl).3 in absurd (omega arith);
+      },
+    ),
+  ),
+)
+  where
+    s : State
+    s = run meeting met (Release 0 ∷ Step 0 ∷ Step 1 ∷ Step 1 ∷ Step 1 ∷ [])
+
+    outer_turn : List Frame → ℕ
+    outer_turn (f ∷ g ∷ fs) = g.turn
+    outer_turn _ = 0
+
+    stops : (j : ℕ) → group_of meeting.launch j ≡ 0 → CanStep (wants meeting s j) → ⊥
+    stops zero q c = c
+    stops (suc zero) q c = c
+    stops (suc (suc j)) q c = omega arith

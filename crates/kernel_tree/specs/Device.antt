@@ -4,7 +4,7 @@ use Rattle.kernel_tree.specs.declared.events.Event.{Event}
 use Rattle.kernel_tree.specs.declared.events.Event.TheVariants.{Step, Release}
 use Rattle.kernel_tree.specs.Code.{Array, Input, Output, Local, Private, Kernel}
 use Rattle.kernel_tree.specs.Launch.{Launch, Cells, item_count, group_count, group_of, first_item, ids_of}
-use Rattle.kernel_tree.specs.Item.{Frame, Item, item, Wants, Ends, Waits, Moves, Reads, Writes, next}
+use Rattle.kernel_tree.specs.Item.{Frame, Item, item, Wants, Ends, Waits, Moves, Reads, Writes, Fails, next}
 
 -- what a run takes place on: the launch, and how many cells each array has
 pub record Device : Type 0 where
@@ -104,7 +104,10 @@ wants d s k = next (ids_of d.launch k) (s.items k)
 abbrev pub CanStep : Wants → Type 0
 CanStep Ends = ⊥
 CanStep (Waits on_local on_global x) = ⊥
-CanStep _ = Unit {0}
+CanStep (Moves x) = Unit {0}
+CanStep (Reads a n f) = Unit {0}
+CanStep (Writes a n v x) = Unit {0}
+CanStep (Fails f) = Unit {0}
 
 -- a loop but for its variable: at the same turn numbers the variables of two items may differ
 abbrev pub still : Frame → Frame
@@ -134,11 +137,16 @@ taken l k (Waits a b x) m y = x
 taken l k (Moves x) m y = x
 taken l k (Reads a n f) m y = f (m (cell_at l k a n))
 taken l k (Writes a n v x) m y = x
-taken l k _ m y = y
+taken l k Ends m y = y
+taken l k (Fails f) m y = y
 
 abbrev pub stored : Launch → ℕ → Wants → Memory → Memory
 stored l k (Writes a n v x) m = write (cell_at l k a n) v m
-stored l k _ m = m
+stored l k Ends m = m
+stored l k (Waits a b x) m = m
+stored l k (Moves x) m = m
+stored l k (Reads a n f) m = m
+stored l k (Fails f) m = m
 
 abbrev pub memory_after : Device → State → Event → Memory
 memory_after d s (Step k) = stored d.launch k (wants d s k) s.memory

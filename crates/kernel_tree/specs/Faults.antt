@@ -5,7 +5,7 @@ use Rattle.kernel_tree.specs.declared.events.Event.TheVariants.{Step, Release}
 use Rattle.kernel_tree.specs.declared.events.FaultKind.{FaultKind}
 use Rattle.kernel_tree.specs.declared.events.FaultKind.TheVariants.{Race, OutOfRange, Divergent}
 use Rattle.kernel_tree.specs.Launch.{Launch, group_count, group_of}
-use Rattle.kernel_tree.specs.Item.{Wants, Ends, Reads, Writes, Fails}
+use Rattle.kernel_tree.specs.Item.{Wants, Ends, Waits, Moves, Reads, Writes, Fails}
 use Rattle.kernel_tree.specs.Device.{Device, Cell, cell_at, Fence, fence_of, State, wants, CanStep, AllTogether, after, run, IsRun}
 
 -- an access of a cell by an item, at the cell's epoch for the item's group
@@ -23,7 +23,10 @@ access_at g k c w epochs = record { item = k; group = g; cell = c; writes = w; e
 abbrev pub accessed : Launch → ℕ → Wants → (Fence → ℕ) → List Access
 accessed l k (Reads a n f) epochs = access_at (group_of l k) k (cell_at l k a n) false epochs ∷ []
 accessed l k (Writes a n v x) epochs = access_at (group_of l k) k (cell_at l k a n) true epochs ∷ []
-accessed l k _ epochs = []
+accessed l k Ends epochs = []
+accessed l k (Waits a b x) epochs = []
+accessed l k (Moves x) epochs = []
+accessed l k (Fails f) epochs = []
 
 unfoldable pub accesses_of : Device → State → Event → List Access
 accesses_of d s (Step k) = accessed d.launch k (wants d s k) (s.epochs (group_of d.launch k))
@@ -56,7 +59,9 @@ abbrev pub failure : Device → Wants → Option FaultKind
 failure d (Fails f) = Some f
 failure d (Reads a n x) = if nat_lt n (d.lengths a) then None else Some OutOfRange
 failure d (Writes a n v x) = if nat_lt n (d.lengths a) then None else Some OutOfRange
-failure d _ = None
+failure d Ends = None
+failure d (Waits a b x) = None
+failure d (Moves x) = None
 
 -- the fault that an event has whatever else happens in the run: a divisor of 0, an access outside its array, or a loop variable that would wrap
 unfoldable pub failure_of : Device → State → Event → Option FaultKind

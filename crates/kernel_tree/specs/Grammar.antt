@@ -1,7 +1,7 @@
 -- Which kernels are of the kernel grammar.
 use Rattle.std.specs.Prelude.{ℕ, suc, ◌^◌, max, Bool, true, false, ◌&&◌, ◌||◌, List, [], ◌∷◌, length, nat_lt, nat_le}
 use Rattle.scalar_ops.specs.declared.op.Op.{Op}
-use Rattle.scalar_ops.specs.declared.op.Op.TheVariants.{Lt, Eq}
+use Rattle.scalar_ops.specs.declared.op.Op.TheVariants.{Add, Mul, Min, Max, And, Or, Xor, Sub, Shl, Shr, Div, Rem, Lt, Eq}
 use Rattle.kernel_tree.specs.Formula.{Formula, Number, Variable, LoopVariable, Size, Id, Binary, Choose}
 use Rattle.kernel_tree.specs.Code.{Array, Input, Output, Local, Private, Code, End, Assigns, Loads, Stores, Loops, Syncs, Kernel}
 
@@ -17,9 +17,20 @@ height _ = 1
 
 -- a comparison is no operator here; it stands in a conditional alone
 abbrev pub is_operator : Op → Bool
+is_operator Add = true
+is_operator Mul = true
+is_operator Min = true
+is_operator Max = true
+is_operator And = true
+is_operator Or = true
+is_operator Xor = true
+is_operator Sub = true
+is_operator Shl = true
+is_operator Shr = true
+is_operator Div = true
+is_operator Rem = true
 is_operator Lt = false
 is_operator Eq = false
-is_operator _ = true
 
 -- literals, sizes and operators alone, as in a loop's bound
 abbrev pub is_constant : Formula → Bool

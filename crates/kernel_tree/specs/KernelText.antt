@@ -1,5 +1,5 @@
 -- The kernel grammar: which bytes are the text of which kernel. A text is read piece by piece, by what is still owed.
-use Rattle.std.specs.Prelude.{◌≡◌, ℕ, zero, suc, ◌+◌, ◌*◌, ◌<◌, ◌≤◌, ◌^◌, Bool, true, false, List, [], ◌∷◌, ◌++◌, Option, Some, None, codes, replicate, decimal}
+use Rattle.std.specs.Prelude.{◌≡◌, ℕ, suc, ◌*◌, ◌<◌, ◌≤◌, ◌^◌, Bool, true, false, List, [], ◌∷◌, ◌++◌, Option, Some, None, codes, replicate, decimal}
 use Rattle.readings.specs.Readings.{Owed, Token, Form, Mark, Grammar, Reads}
 use Rattle.scalar_ops.specs.declared.op.Op.{Op}
 use Rattle.scalar_ops.specs.declared.op.Op.TheVariants.{Add}
@@ -128,7 +128,7 @@ pub data Part : Type 0 where
   Rest : (bound : Bool) → (loops depth : ℕ) → Part  -- what follows the left part of an expression in parentheses
 
 pub data Note : Type 0 where
-  DeclareInput DeclareOutput DeclareSize DeclareVariable : Note
+  DeclareInput DeclareOutput DeclareSize DeclareVariable : (count : ℕ) → Note  -- so many are declared now
   Leaf : Formula → Note
   Both : Op → Note
   Stop : Note
@@ -185,17 +185,17 @@ pub data Gives : Notes → Part → Piece → List Item → Type 0 where
   an_input : {n : Notes} → Gives n Parameter global (Token space ∷ Form Pointer ∷ [])
   pointer_to_const : {n : Notes} → Gives n Pointer const (texts (space ∷ uint ∷ space ∷ star ∷ []) ++ Form NewInput ∷ [])
   pointer : {n : Notes} → Gives n Pointer uint (texts (space ∷ star ∷ []) ++ Form NewOutput ∷ [])
-  new_input : {n : Notes} → suc n.inputs < number_limit → Gives n NewInput (input n.inputs) (Mark DeclareInput ∷ texts (comma ∷ space ∷ []) ++ Form Parameter ∷ [])
-  new_output : {n : Notes} → suc n.outputs < number_limit → Gives n NewOutput (output n.outputs) (Mark DeclareOutput ∷ Form AfterOutput ∷ [])
+  new_input : {n : Notes} → suc n.inputs < number_limit → Gives n NewInput (input n.inputs) (Mark (DeclareInput (suc n.inputs)) ∷ texts (comma ∷ space ∷ []) ++ Form Parameter ∷ [])
+  new_output : {n : Notes} → suc n.outputs < number_limit → Gives n NewOutput (output n.outputs) (Mark (DeclareOutput (suc n.outputs)) ∷ Form AfterOutput ∷ [])
   last_output : {n : Notes} → Gives n AfterOutput closes []
   more_outputs : {n : Notes} → Gives n AfterOutput comma (Token space ∷ Form OutputOrSize ∷ [])
   another_output : {n : Notes} → Gives n OutputOrSize global (texts (space ∷ uint ∷ space ∷ star ∷ []) ++ Form NewOutput ∷ [])
   first_size : {n : Notes} → Gives n OutputOrSize const (texts (space ∷ uint ∷ space ∷ []) ++ Form NewSize ∷ [])
-  new_size : {n : Notes} → suc n.sizes < number_limit → Gives n NewSize (size n.sizes) (Mark DeclareSize ∷ Form AfterSize ∷ [])
+  new_size : {n : Notes} → suc n.sizes < number_limit → Gives n NewSize (size n.sizes) (Mark (DeclareSize (suc n.sizes)) ∷ Form AfterSize ∷ [])
   last_size : {n : Notes} → Gives n AfterSize closes []
   more_sizes : {n : Notes} → Gives n AfterSize comma (texts (space ∷ const ∷ space ∷ uint ∷ space ∷ []) ++ Form NewSize ∷ [])
   declaration : {n : Notes} → Gives n Body uint (Token space ∷ Form NewVariable ∷ [])
-  new_variable : {n : Notes} → suc n.variables < number_limit → Gives n NewVariable (variable n.variables) (Mark DeclareVariable ∷ texts (semicolon ∷ line ∷ []) ++ Form (Indent 1) ∷ Form Body ∷ [])
+  new_variable : {n : Notes} → suc n.variables < number_limit → Gives n NewVariable (variable n.variables) (Mark (DeclareVariable (suc n.variables)) ∷ texts (semicolon ∷ line ∷ []) ++ Form (Indent 1) ∷ Form Body ∷ [])
   statements : {n : Notes} → {p : Piece} → {alternative : List Item} → Gives n (Statement 0) p alternative → Gives n Body p alternative
   assign : {n : Notes} → {l k : ℕ} → k < number_limit → k < n.variables → Gives n (Statement l) (variable k) (texts (space ∷ equals ∷ space ∷ []) ++ Form (Source l k) ∷ [])
   store : {n : Notes} → {l : ℕ} → {p : Piece} → {array : Array} → Writable n p array
@@ -242,10 +242,10 @@ loop_of n (b ∷ values) (after ∷ body ∷ blocks) = Some (noted n values (Loo
 loop_of n _ _ = None
 
 abbrev pub marked : Note → Notes → Option Notes
-marked DeclareInput n = Some (record n { inputs = suc n.inputs })
-marked DeclareOutput n = Some (record n { outputs = suc n.outputs })
-marked DeclareSize n = Some (record n { sizes = suc n.sizes })
-marked DeclareVariable n = Some (record n { variables = suc n.variables })
+marked (DeclareInput count) n = Some (record n { inputs = count })
+marked (DeclareOutput count) n = Some (record n { outputs = count })
+marked (DeclareSize count) n = Some (record n { sizes = count })
+marked (DeclareVariable count) n = Some (record n { variables = count })
 marked (Leaf e) n = Some (noted n (e ∷ n.values) n.blocks)
 marked (Both op) n = both_of n op n.values
 marked Stop n = Some (noted n n.values (End ∷ n.blocks))

@@ -43,11 +43,10 @@ pub record IsWhole (l : Launch) : Type 0 where
   pub positive : 0 < l.local
   pub divides : l.global ≡ group_count l * l.local
 
--- a launch that the device takes for the kernel with these cells
-pub record AdmissibleLaunch (k : Kernel) (l : Launch) (c : Cells) : Type 0 where
+-- the kernel may be started at this launch with these cells: groups are whole and small, items are few, and the counts agree
+pub record MayStart (k : Kernel) (l : Launch) (c : Cells) : Type 0 where
   pub whole : IsWhole l
   pub small_groups : l.local ≤ 256
-  pub some_items : 0 < l.global
   pub few_items : l.global ≤ 65536
   pub sizes : length l.sizes ≡ k.sizes
   pub ins : length c.ins ≡ k.inputs

@@ -12,11 +12,16 @@ pub mod Schedule
 pub mod Bound
 pub mod EveryRun
 pub mod Deeds
+pub mod Histories
+pub mod Alike
 pub mod Independent
 pub mod Footprints
 pub mod Chunks
 pub mod Releases
 pub mod Rounds
+pub mod Meets
 pub mod Worked
+pub mod WorkedAlike
 pub mod Pieces
 pub mod KernelText
+pub mod Blocks

@@ -11,8 +11,8 @@ use Rattle.kernel_tree.specs.declared.events.FaultKind.{FaultKind}
 use Rattle.kernel_tree.specs.declared.events.FaultKind.TheVariants.{Race}
 use Rattle.kernel_tree.specs.declared.events.Fault.{Fault}
 use Rattle.kernel_tree.specs.declared.events.Seen.{Seen}
-use Rattle.kernel_tree.specs.Code.{Array, Input, Output}
-use Rattle.kernel_tree.specs.Item.{Wants, Reads, Writes}
+use Rattle.kernel_tree.specs.Code.{Array, Input, Output, Local, Private}
+use Rattle.kernel_tree.specs.Item.{Wants, Ends, Waits, Moves, Reads, Writes, Fails}
 use Rattle.kernel_tree.specs.Device.{Device, State, wants, run}
 use Rattle.kernel_tree.specs.Faults.{FaultIs}
 
@@ -20,7 +20,8 @@ use Rattle.kernel_tree.specs.Faults.{FaultIs}
 abbrev pub shared : Array → Option held.Array
 shared (Input n) = Some (held_array.Input n)
 shared (Output n) = Some (held_array.Output n)
-shared _ = None
+shared (Local n) = None
+shared (Private n) = None
 
 abbrev pub shared_cell : Array → ℕ → Option Cell
 shared_cell a n = option_map (λ b. record { array = b; index = n }) (shared a)
@@ -29,12 +30,18 @@ shared_cell a n = option_map (λ b. record { array = b; index = n }) (shared a)
 abbrev pub cell_wanted : Wants → Option Cell
 cell_wanted (Reads a n f) = shared_cell a n
 cell_wanted (Writes a n v x) = shared_cell a n
-cell_wanted _ = None
+cell_wanted Ends = None
+cell_wanted (Waits a b x) = None
+cell_wanted (Moves x) = None
+cell_wanted (Fails f) = None
 
 abbrev pub access_wanted : Wants → Option Access
 access_wanted (Reads a n f) = option_map Read (shared_cell a n)
 access_wanted (Writes a n v x) = option_map Write (shared_cell a n)
-access_wanted _ = None
+access_wanted Ends = None
+access_wanted (Waits a b x) = None
+access_wanted (Moves x) = None
+access_wanted (Fails f) = None
 
 -- only a race carries a cell
 abbrev pub fault_of : Wants → FaultKind → Fault

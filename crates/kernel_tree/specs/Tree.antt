@@ -6,7 +6,9 @@ use Rattle.kernel_tree.specs.declared.tree.Expr as expr
 use Rattle.kernel_tree.specs.declared.tree.Array as array
 use Rattle.kernel_tree.specs.declared.tree.Array.TheVariants as array_form
 use Rattle.kernel_tree.specs.declared.tree.Start as start
+use Rattle.kernel_tree.specs.declared.tree.Start.TheVariants as start_form
 use Rattle.kernel_tree.specs.declared.tree.Stride as stride
+use Rattle.kernel_tree.specs.declared.tree.Stride.TheVariants as stride_form
 use Rattle.kernel_tree.specs.declared.tree.Stmt.{Stmt, Row_of-Stmt, end_of-Stmt, more_of-Stmt}
 use Rattle.kernel_tree.specs.declared.tree.Stmt as stmt
 use Rattle.kernel_tree.specs.Formula.{Formula, Number, Variable, LoopVariable, Size, Binary}
@@ -24,10 +26,10 @@ array_of (array_form.Input n) = Input n
 array_of (array_form.Output n) = Output n
 
 abbrev pub start_of : start.Start → Start
-start_of _ = FromZero
+start_of start_form.Zero = FromZero
 
 abbrev pub stride_of : stride.Stride → Stride
-stride_of _ = ByOne
+stride_of stride_form.One = ByOne
 
 abbrev mutual
   -- a statement, and what comes after it

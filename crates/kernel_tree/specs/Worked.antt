@@ -4,9 +4,10 @@ use Rattle.scalar_ops.specs.declared.op.Op.TheVariants.{Add, Sub, Div}
 use Rattle.kernel_tree.specs.declared.events.Event.{Event}
 use Rattle.kernel_tree.specs.declared.events.Event.TheVariants.{Step, Release}
 use Rattle.kernel_tree.specs.declared.events.FaultKind.{FaultKind}
-use Rattle.kernel_tree.specs.Formula.{Formula, Number, Variable, LoopVariable, Size, Id, LocalId, Binary}
+use Rattle.kernel_tree.specs.Formula.{Formula, Number, Variable, LoopVariable, Size, Id, LocalId, Binary, Choose, Equal}
 use Rattle.kernel_tree.specs.Code.{Input, Output, Local, Private, FromZero, FromLocalId, ByOne, Code, End, Assigns, Loads, Stores, Loops, Syncs, Kernel}
 use Rattle.kernel_tree.specs.Launch.{Launch, Cells}
+use Rattle.kernel_tree.specs.Item.{Item, item}
 use Rattle.kernel_tree.specs.Device.{Device, device_of, State, start_state, run, IsRun}
 use Rattle.kernel_tree.specs.Faults.{FaultIs}
 
@@ -94,3 +95,42 @@ first_state = start_state (one_output writes_first) one_cell
 
 abbrev pub of_two_groups : Launch
 of_two_groups = record { global = 4; local = 2; sizes = [] }
+
+-- six items in groups of two
+abbrev pub of_six : Launch
+of_six = record { global = 6; local = 2; sizes = [] }
+
+abbrev pub one_group : Launch
+one_group = record { global = 2; local = 2; sizes = [] }
+
+-- ((0u == 0u) ? 1u : (1u / 0u))
+abbrev pub divides_unchosen : Formula
+divides_unchosen = Choose Equal (Number 0) (Number 0) (Number 1) (Binary Div (Number 1) (Number 0))
+
+-- for (uint i0 = 0u; i0 < (1u / 0u); i0 += 1u) { v0 = 0u; }
+abbrev pub without_a_bound : Code
+without_a_bound = Loops FromZero (Binary Div (Number 1) (Number 0)) ByOne (Assigns 0 (Number 0) End) End
+
+-- an item at the end of a turn of a loop up to 4294967295u, its variable at this word
+abbrev pub ends_a_turn : (variable : ℕ) → Item
+ends_a_turn v = item End (record { turn = 0; variable = v; bound = Number 4294967295; stride = ByOne; body = End; after = End } ∷ []) []
+
+-- for (uint i0 = 0u; i0 < 2u; i0 += 1u) { for (uint i1 = (uint)get_local_id(0); i1 < 2u; i1 += 1u) { barrier(..); } }
+abbrev pub meets_in_loops : Code
+meets_in_loops = Loops FromZero (Number 2) ByOne (Loops FromLocalId (Number 2) ByOne (Syncs true false End) End) End
+
+-- two items of one group come to that barrier in their first turns
+abbrev pub first_turns : List Event
+first_turns = Step 0 ∷ Step 0 ∷ Step 1 ∷ Step 1 ∷ []
+
+-- there, after these events
+abbrev pub meeting : Device
+meeting = device_of (one_output meets_in_loops) one_group one_cell
+
+abbrev pub met : State
+met = run meeting (start_state (one_output meets_in_loops) one_cell) first_turns
+
+-- the statements within this many loops
+abbrev pub in_loops : ℕ → Code → Code
+in_loops zero code = code
+in_loops (suc n) code = Loops FromZero (Number 1) ByOne (in_loops n code) End

@@ -3,7 +3,7 @@
 use crate::tree::Array;
 
 /// One step of the device.
-#[derive(Clone, Copy, Debug, PartialEq, Eq)]
+#[derive(Clone, Copy, PartialEq, Eq)]
 pub enum Event {
     /// A statement of the work-item with this global id.
     Step(u32),
@@ -12,21 +12,21 @@ pub enum Event {
 }
 
 /// A cell of shared memory: an array and the place in it, in elements.
-#[derive(Clone, Copy, Debug, PartialEq, Eq)]
+#[derive(Clone, Copy, PartialEq, Eq)]
 pub struct Cell {
     pub array: Array,
     pub index: u32,
 }
 
 /// An access of shared memory.
-#[derive(Clone, Copy, Debug, PartialEq, Eq)]
+#[derive(Clone, Copy, PartialEq, Eq)]
 pub enum Access {
     Read(Cell),
     Write(Cell),
 }
 
 /// Why an event is a fault.
-#[derive(Clone, Copy, Debug, PartialEq, Eq)]
+#[derive(Clone, Copy, PartialEq, Eq)]
 pub enum FaultKind {
     /// Two work-items access one cell with nothing to order them, and one of them writes.
     Race,
@@ -41,14 +41,14 @@ pub enum FaultKind {
 }
 
 /// A fault, with the cell of a race.
-#[derive(Clone, Copy, Debug, PartialEq, Eq)]
+#[derive(Clone, Copy, PartialEq, Eq)]
 pub struct Fault {
     pub kind: FaultKind,
     pub cell: Option<Cell>,
 }
 
 /// What is seen of an event: its access of shared memory and its fault, where it has one.
-#[derive(Clone, Copy, Debug, PartialEq, Eq)]
+#[derive(Clone, Copy, PartialEq, Eq)]
 pub struct Seen {
     pub event: Event,
     pub access: Option<Access>,

@@ -1,7 +1,8 @@
 // Laws of the device, each carried by a function that does nothing.
 
-ghost use Rattle.std.specs.Prelude.{◌≡◌, ℕ, ◌<◌, ◌≤◌, Bool, List, [], ◌∷◌, Some, length, slice_set};
+ghost use Rattle.std.specs.Prelude.{◌≡◌, ℕ, ◌<◌, ◌≤◌, Bool, List, [], ◌∷◌, ◌++◌, Some, length, slice_set};
 ghost use Rattle.kernel_tree.specs.declared.events.Event.{Event};
+ghost use Rattle.kernel_tree.specs.declared.events.Event.TheVariants.{Release};
 ghost use Rattle.kernel_tree.specs.Formula.{Formula, value};
 ghost use Rattle.kernel_tree.specs.Launch.{Launch, Cells, IsWhole, item_count, ids_of};
 ghost use Rattle.kernel_tree.specs.Code.{Array, Code, Assigns, Loads, Stores, Kernel};
@@ -10,17 +11,43 @@ ghost use Rattle.kernel_tree.specs.Bound.{bound};
 ghost use Rattle.kernel_tree.specs.Faults.{accesses, NoFailure, IsFaultless};
 ghost use Rattle.kernel_tree.specs.Deeds.{Deed, Moved, Got, Gave, all_turns, Goes, AloneRun};
 ghost use Rattle.kernel_tree.specs.Independent.{Owners, Independent, one_by_one, AsAllowed};
-ghost use Rattle.kernel_tree.specs.Device.{Device, device_of, cell_at, Memory, Fence, State, IsStart, IsRun, AllEnded};
+ghost use Rattle.kernel_tree.specs.Device.{Device, device_of, cell_at, Memory, Fence, State, IsStart, after, run, IsRun, AllEnded, IsStuck};
 ghost use Rattle.kernel_tree.specs.Footprints.{KeepsGroups, KeepsItems, steps, LeavesOthers, LeadsAlike};
-ghost use Rattle.kernel_tree.specs.Chunks.{Phases, Chunk, Chunked, AsChunked, Stretch, Passed};
+ghost use Rattle.kernel_tree.specs.Chunks.{Phases, Chunk, Rel, Chunked, AsChunked, Stretch, in_turn, Passed, Leads, release_acts, InTurn};
 ghost use Rattle.kernel_tree.specs.Releases.{AtBarrier, Released};
 ghost use Rattle.kernel_tree.specs.Rounds.{Loop, loop_code, Turns};
 ghost use Rattle.kernel_tree.specs.Schedule.{Schedule, Chooses, ScheduledRun};
 ghost use Rattle.kernel_tree.specs.EveryRun.{Completes, EveryRun};
+ghost use Rattle.kernel_tree.specs.Histories.{Act, EveryHistory};
+ghost use Rattle.kernel_tree.specs.Meets.{MeetTogether};
+ghost use Rattle.kernel_tree.specs.Alike.{Histories, Enacts, AsHistories, CountsAs, GoesAlike, KernelEnacts, KernelsAlike};
+ghost use Rattle.kernel_tree.specs.Blocks.{LoopCode, CodeBehind};
 
 /// One complete run without a failure and without a race tells of every run from its state, in whatever order the events come: no run has a fault, none has more events or accesses, and each that cannot go on has come to the same end.
 pub fn one_run_tells_of_all()
     ensures { (d : Device) (s : State) (es : List Event) → IsWhole d.launch → Completes d s es → EveryRun d s es }
+{}
+
+/// In every run from the state of a complete one each item does, in its own order, a front of what it does in the complete one, with the same accesses, and each group is released as often at first; a run that cannot go on has the whole.
+pub fn every_history()
+    ensures { (d : Device) (s : State) (es : List Event) → IsWhole d.launch → Completes d s es → EveryHistory d s es }
+{}
+
+/// Where a complete run gives the items these histories, the runs from its state are just what the histories allow, with the accesses that they tell, and as many: nothing else of the kernel counts.
+pub fn runs_by_histories()
+    ensures counted { (d : Device) (s : State) (h : Histories) → IsWhole d.launch → Enacts d s h → CountsAs d s h }
+    ensures runs { (d : Device) (s : State) (h : Histories) → IsWhole d.launch → Enacts d s h → AsHistories d s h }
+{}
+
+/// Two kernels whose items have the same histories go alike: each run of one is a run of the other, with the same accesses event by event, and a schedule makes of both the same run.
+pub fn alike()
+    ensures states { (l : Launch) (m n : Array → ℕ) (s t : State) (h : Histories) → IsWhole l → s.epochs ≡ t.epochs → Enacts (record { launch = l; lengths = m }) s h → Enacts (record { launch = l; lengths = n }) t h → GoesAlike (record { launch = l; lengths = m }) s (record { launch = l; lengths = n }) t }
+    ensures kernels { (k m : Kernel) (l : Launch) (c : Cells) (h : Histories) → IsWhole l → KernelEnacts k l c h → KernelEnacts m l c h → KernelsAlike k m l c }
+{}
+
+/// Where one run tells of every run, in every run the items of a group meet the same barriers with the same turn numbers.
+pub fn groups_meet()
+    ensures { (d : Device) (s : State) (es fs : List Event) → EveryRun d s es → IsRun d s fs → MeetTogether d (run d s fs) }
 {}
 
 /// The rules by which one item goes on: an assignment moves it, a load gets a cell of its array, a store gives one its value, and a loop goes through by its turns.
@@ -59,6 +86,15 @@ pub fn chunks_tell_of_all()
     ensures { (p : Phases) (d : Device) (s t : State) (cs : List Chunk) → IsWhole d.launch → Chunked p d s cs t → AllEnded d t → AsChunked p d s t cs }
 {}
 
+/// What the items do in chunks, put together: in none they do nothing; after one another they do one after the other; a stretch is each item's deeds; a release takes each item of its group past the barrier. Where all items have ended, these are their histories.
+pub fn chunks_lead()
+    ensures none { (p : Phases) (d : Device) (s : State) → Leads p d s [] s (λ j. []) }
+    ensures join { (p : Phases) (d : Device) (s t u : State) (cs es : List Chunk) (f g : ℕ → List Act) → Leads p d s cs t f → Leads p d t es u g → Leads p d s (cs ++ es) u (λ j. f j ++ g j) }
+    ensures stretch { (p : Phases) (d : Device) (s : State) (epochs : Fence → ℕ) (n : ℕ) (at : ℕ → ℕ) (deeds : ℕ → List Deed) (ends : ℕ → Item) (acts : ℕ → List Act) → Stretch p d s epochs n at deeds ends → InTurn n at deeds acts → (t : State) × Passed p d s epochs n at deeds ends t × Leads p d s (in_turn at deeds ends n) t acts }
+    ensures release { (p : Phases) (d : Device) (s : State) (g : ℕ) (on_local on_global : Bool) (rest : Code) (frames : ℕ → List Frame) (vars : ℕ → List ℕ) → IsWhole d.launch → AtBarrier d s g on_local on_global rest frames vars → Leads p d s (Rel g ∷ []) (after d s (Release g)) (release_acts d.launch g on_local on_global) }
+    ensures over { (p : Phases) (d : Device) (s t : State) (cs : List Chunk) (acts : ℕ → List Act) → IsWhole d.launch → Leads p d s cs t acts → AllEnded d t → Enacts d s acts }
+{}
+
 /// Different items, each by its own deeds between two releases, may go on one after another: each cell of theirs then holds what its owner leaves there.
 pub fn items_between_releases()
     ensures { (p : Phases) (d : Device) (s : State) (epochs : Fence → ℕ) (n : ℕ) (at : ℕ → ℕ) (deeds : ℕ → List Deed) (ends : ℕ → Item) → Stretch p d s epochs n at deeds ends → (t : State) × Passed p d s epochs n at deeds ends t }
@@ -69,8 +105,16 @@ pub fn a_release()
     ensures { (d : Device) (s : State) (g : ℕ) (on_local on_global : Bool) (rest : Code) (frames : ℕ → List Frame) (vars : ℕ → List ℕ) → IsWhole d.launch → AtBarrier d s g on_local on_global rest frames vars → Released d s g on_local on_global rest frames vars }
 {}
 
-/// A schedule takes one event in a state, and makes one run from it.
+/// A schedule takes one event in a state, and makes one run from it. Where no run has a fault, it goes on until no event is enabled.
 pub fn one_scheduled_run()
     ensures choice { (d : Device) (schedule : Schedule) (n : ℕ) (s : State) (e f : Event) → Chooses schedule n d s e → Chooses schedule n d s f → e ≡ f }
+    ensures to_end { (d : Device) (schedule : Schedule) (s : State) (es : List Event) → ((fs : List Event) → IsRun d s fs → IsFaultless d s fs) → ScheduledRun schedule d s es → IsStuck d (run d s es) }
     ensures run { (d : Device) (schedule : Schedule) (s : State) (es fs : List Event) → ScheduledRun schedule d s es → ScheduledRun schedule d s fs → es ≡ fs }
+{}
+
+/// Blocks as the program holds them: a loop's code has the code of its body's statements, and the code of statements
+/// behind others is behind theirs.
+pub fn blocks()
+    ensures loops { LoopCode }
+    ensures behind { CodeBehind }
 {}

@@ -20,21 +20,21 @@ pub enum Expr {
 }
 
 /// An array in global memory, by its number among the arrays of its kind.
-#[derive(Clone, Copy, Debug, PartialEq, Eq)]
+#[derive(Clone, Copy, PartialEq, Eq)]
 pub enum Array {
     Input(u32),
     Output(u32),
 }
 
 /// What a loop's variable begins with.
-#[derive(Clone, Copy, Debug, PartialEq, Eq)]
+#[derive(Clone, Copy, PartialEq, Eq)]
 pub enum Start {
     /// `0u`
     Zero,
 }
 
 /// What is added to a loop's variable after each turn.
-#[derive(Clone, Copy, Debug, PartialEq, Eq)]
+#[derive(Clone, Copy, PartialEq, Eq)]
 pub enum Stride {
     /// `1u`
     One,

@@ -1,19 +1,24 @@
 // Small kernels whose runs are known. They show what the definitions say.
 
-ghost use Rattle.std.specs.Prelude.{◌≡◌, [], ◌∷◌, Some, None, true, false, replicate};
+ghost use Rattle.std.specs.Prelude.{◌≡◌, ℕ, [], ◌∷◌, ◌++◌, Some, None, true, false, replicate};
 ghost use Rattle.kernel_tree.specs.declared.events.Event.TheVariants.{Step, Release};
 ghost use Rattle.kernel_tree.specs.declared.events.Access.TheVariants.{Read, Write};
 ghost use Rattle.kernel_tree.specs.declared.tree.Array.TheVariants as held;
 ghost use Rattle.kernel_tree.specs.declared.events.FaultKind.TheVariants as fault;
-ghost use Rattle.kernel_tree.specs.Formula.{Number, Variable, LoopVariable};
+ghost use Rattle.scalar_ops.specs.declared.op.Op.TheVariants.{Lt};
+ghost use Rattle.kernel_tree.specs.Formula.{Number, Variable, LoopVariable, Binary, value, sizes_alone};
+ghost use Rattle.kernel_tree.specs.Launch.{ids_of};
 ghost use Rattle.kernel_tree.specs.Code.{Input, Output, Private, FromZero, ByOne, End, Stores, Loops, Syncs};
 ghost use Rattle.kernel_tree.specs.Grammar.{is_kernel, is_expression};
-ghost use Rattle.kernel_tree.specs.Device.{device_of, start_state, run, IsRun, AllEnded};
-ghost use Rattle.kernel_tree.specs.Item.{item, Reads, Writes};
+ghost use Rattle.kernel_tree.specs.Device.{AllEnded, Enabled, IsRun, device_of, run, start_state};
+ghost use Rattle.kernel_tree.specs.Item.{Fails, Moves, Reads, Writes, item, loop_variables, next};
 ghost use Rattle.kernel_tree.specs.Seen.{access_wanted, fault_of, seen_of};
 ghost use Rattle.kernel_tree.specs.Bound.{bound};
+ghost use Rattle.kernel_tree.specs.Launch.{Cells};
+ghost use Rattle.kernel_tree.specs.Alike.{KernelsAlike};
+ghost use Rattle.kernel_tree.specs.WorkedAlike.{plain_kernel, choosing_kernel, pairs, SwapsCount};
 ghost use Rattle.kernel_tree.specs.Schedule.{Numbers, Seed, number_at, choose_event, place_of};
-ghost use Rattle.kernel_tree.specs.Worked.{Faults, one_output, writes_first, writes_second, writes_local, writes_private, two_items, first_state, of_two_groups, divides_by_zero, some_meet_a_barrier, swaps, to_the_barrier, increments, of_three, three_words, nested, left_at};
+ghost use Rattle.kernel_tree.specs.Worked.{Faults, one_output, writes_first, writes_second, writes_local, writes_private, two_items, first_state, of_two_groups, divides_by_zero, some_meet_a_barrier, swaps, to_the_barrier, increments, of_three, three_words, nested, left_at, of_six, divides_unchosen, without_a_bound, ends_a_turn, meets_in_loops, first_turns, meeting, met, in_loops};
 
 /// Two items that write one cell race. A write past the array is out of range. A divisor of 0 is a fault. Where one item of a group ends and the other stands at a barrier, the group diverges.
 pub fn worked_faults()
@@ -45,12 +50,35 @@ pub fn worked_run()
     ensures bounded { bound increments of_three ≡ 10 }
 {}
 
+/// An item knows its number in the launch and in its group, and its group's number, from 0.
+pub fn worked_ids()
+    ensures { ids_of of_six 3 ≡ record { global_id = 3; group_id = 1; local_id = 1; global_size = 6; group_count = 3; local_size = 2; sizes = [] } }
+{}
+
+/// Of a conditional only the chosen part is evaluated. A loop whose bound has no value counts one event an item. A loop's variable stays below 2^32.
+pub fn worked_values()
+    ensures chosen { value (sizes_alone []) [] [] divides_unchosen ≡ Some 1 }
+    ensures unbounded { bound (one_output without_a_bound) (record { global = 3; local = 1; sizes = [] }) ≡ 3 }
+    ensures goes_on { next (sizes_alone []) (ends_a_turn 4294967294) ≡ Moves (item End [] []) }
+    ensures wraps { next (sizes_alone []) (ends_a_turn 4294967295) ≡ Fails fault.LoopWrap }
+{}
+
+/// Items stand together at a barrier where their turn numbers are the same, though their loops' variables differ. At one barrier in different turns they diverge.
+pub fn worked_turns()
+    ensures first_variable { loop_variables (met.items 0).frames ≡ 0 ∷ 0 ∷ [] }
+    ensures second_variable { loop_variables (met.items 1).frames ≡ 0 ∷ 1 ∷ [] }
+    ensures same_turns { Enabled meeting met (Release 0) }
+    ensures other_turns { Faults meets_in_loops 2 2 (first_turns ++ Release 0 ∷ Step 0 ∷ Step 1 ∷ Step 1 ∷ []) (Step 1) (Some fault.Divergent) }
+{}
+
 /// A list's numbers are taken modulo the count of enabled events, and a seed's by the high half of the generator's word.
 pub fn worked_schedules()
     ensures listed { choose_event (Numbers (3 ∷ 6 ∷ [])) 1 (Step 0 ∷ Step 1 ∷ Step 2 ∷ Step 3 ∷ []) ≡ Some (Step 2) }
     ensures used_up { choose_event (Numbers (3 ∷ 6 ∷ [])) 2 (Step 0 ∷ Step 1 ∷ Step 2 ∷ Step 3 ∷ []) ≡ Some (Step 0) }
     ensures release { place_of of_two_groups (Release 1) ≡ 2 }
     ensures seeded { number_at (Seed 7) 0 ≡ 15648 }
+    ensures second { number_at (Seed 7) 1 ≡ 59866 }
+    ensures third { number_at (Seed 7) 2 ≡ 40140 }
 {}
 
 /// An event's access is seen where it is of shared memory, and a fault has a cell where it is a race.
@@ -61,7 +89,7 @@ pub fn worked_sights()
     ensures read { access_wanted (Reads (Input 2) 5 (λ x. item End [] [])) ≡ Some (Read (record { array = held.Input 2; index = 5 })) }
 {}
 
-/// A kernel names only what it declares, a loop's variable only within the loop, writes no input, has a statement in each block and a flag at each barrier, and no bound looks at a variable. Expressions nest 1,024 deep.
+/// A kernel names only what it declares, a loop's variable only within the loop, writes no input, has a statement in each block and a flag at each barrier, no comparison but in a conditional, and no bound looks at a variable. Expressions and loops nest 1,024 deep.
 pub fn worked_kernels()
     ensures increments { is_kernel increments ≡ true }
     ensures undeclared { is_kernel (one_output (Stores (Output 1) (Number 0) (Number 0) End)) ≡ false }
@@ -70,6 +98,15 @@ pub fn worked_kernels()
     ensures empty { is_kernel (one_output (Loops FromZero (Number 1) ByOne End End)) ≡ false }
     ensures varying { is_kernel (one_output (Loops FromZero (Variable 0) ByOne (Stores (Output 0) (Number 0) (Number 0) End) End)) ≡ false }
     ensures unflagged { is_kernel (one_output (Syncs false false End)) ≡ false }
+    ensures compared { is_kernel (one_output (Stores (Output 0) (Number 0) (Binary Lt (Number 0) (Number 1)) End)) ≡ false }
+    ensures deep_loops { is_kernel (one_output (in_loops 1024 writes_first)) ≡ true }
+    ensures deeper_loops { is_kernel (one_output (in_loops 1025 writes_first)) ≡ false }
     ensures deep { is_expression (one_output End) 0 (nested 1023) ≡ true }
     ensures deeper { is_expression (one_output End) 0 (nested 1024) ≡ false }
+{}
+
+/// Two kernels that swap words over a barrier and spell their indices in two ways go alike, in however many groups. In every run that can't go on each of their items has stored and loaded one local word, and each group was released once.
+pub fn worked_alike()
+    ensures alike { (m : ℕ) (c : Cells) → KernelsAlike plain_kernel choosing_kernel (pairs m) c }
+    ensures traffic { SwapsCount }
 {}

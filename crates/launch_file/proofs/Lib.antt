@@ -8,7 +8,6 @@ pub mod Options
 pub mod Proper
 pub mod Ranges
 pub mod ReadValues
-pub mod Samples
 pub mod Texts
 pub mod TypedValues
 pub mod Whole

@@ -19,7 +19,8 @@ use Rattle.lift_tree.specs.Meaning.{product_at}
 use Rattle.lift_tree.specs.Programs.{PlainInput}
 use Rattle.lift_tree.specs.Types.{IsFormed}
 use Rattle.lift_tree.specs.WorkedOut.{product_of, with_part, sum_of, length_of, worked_out}
-use Rattle.launch_file.specs.Inputs.{HasFewScalars, ScalarsAreFew, if_added, if_taken, added_at, taken_at, length_at, LengthsFit, InputsFit}
+use Rattle.lift_tree.specs.Limits.{HasFewScalars, ScalarsAreFew}
+use Rattle.launch_file.specs.Inputs.{if_added, if_taken, added_at, taken_at, length_at, LengthsFit, InputsFit}
 
 -- what a part comes to is added or taken
 part_value : (ys : List ℕ) (sign : Sign) (sum p : List Monomial) (n : ℕ) → value_at ys p ≡ pos n → value_at ys (with_part sign sum p) +ℤ pos (if_taken sign n) ≡ value_at ys sum +ℤ pos (if_added sign n)

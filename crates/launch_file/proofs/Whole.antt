@@ -20,7 +20,8 @@ use Rattle.launch_file.specs.declared.refusal.Key.TheVariants as key
 use Rattle.launch_file.specs.declared.refusal.LaunchNo.{LaunchNo}
 use Rattle.launch_file.specs.declared.refusal.LaunchNo.TheVariants as no
 use Rattle.launch_file.specs.Json.{is_object, whole_at, data_of}
-use Rattle.launch_file.specs.Inputs.{HasProperInputs, InputsFit, read_value}
+use Rattle.lift_tree.specs.Limits.{HasProperInputs}
+use Rattle.launch_file.specs.Inputs.{InputsFit, read_value}
 use Rattle.launch_file.specs.LaunchFile.{Given, Gives, StandsAt, GivesSizes, GivesInputs, IsLaunchFile}
 use Rattle.launch_file.specs.Judged.{demand, is_in_range, size_judged, sizes_judged, AreInRange, AllInRange, bases_of, Keyed, keys_judged, items_judged, input_judged, inputs_judged, judged, Refuses}
 use Rattle.launch_file.proofs.Options.{and_ok, then_ok, ok_or_is, demand_is, demand_gives, yes, same_ok, same_some}

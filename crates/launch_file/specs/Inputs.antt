@@ -1,9 +1,5 @@
 -- The inputs of a program, and the values that JSON gives for them.
 use Rattle.std.specs.Prelude.{◌≤◌, ◌<◌, ◌^◌, ℕ, ◌+◌, ◌-◌, ◌==◌, List, [], ◌∷◌, Option, Some, None, option_map, option_and_then, if◌then◌else◌}
-use Rattle.size_arith.specs.declared.names.Name.{Name}
-use Rattle.size_arith.specs.declared.poly.Monomial.{Monomial}
-use Rattle.size_arith.specs.Polynomial.{times}
-use Rattle.size_arith.specs.Shown.{largest}
 use Rattle.serde_json.specs.Data.{Data, Items, no_items, item}
 use Rattle.serde_json.specs.Events.{items_len}
 use Rattle.serde_json.specs.Find.{as_array}
@@ -11,30 +7,10 @@ use Rattle.lift_tree.specs.declared.length.Sign.{Sign}
 use Rattle.lift_tree.specs.declared.length.Sign.TheVariants.{Plus, Minus}
 use Rattle.lift_tree.specs.declared.length.Part.{Part}
 use Rattle.lift_tree.specs.InputTypes.{Written, Number, Pair, Array}
-use Rattle.lift_tree.specs.Lists.{Every}
 use Rattle.lift_tree.specs.Meaning.{product_at}
-use Rattle.lift_tree.specs.Programs.{PlainInput, PlainProgram}
-use Rattle.lift_tree.specs.Types.{PlainTy, U32, PairOf, ArrayOf}
-use Rattle.lift_tree.specs.Typing.{declared_by, IsDeclared}
+use Rattle.lift_tree.specs.Programs.{PlainInput}
 use Rattle.lift_tree.specs.Values.{Value, Word, Both, array}
 use Rattle.launch_file.specs.Json.{word_in}
-
--- each component has at most 2147483647 scalars at the largest sizes, where this is the product of the lengths outside
-abbrev pub ScalarsAreFew : List Name → (outside : List Monomial) → PlainTy → Type 0
-ScalarsAreFew names p U32 = largest names p ≤ 2147483647
-ScalarsAreFew names p (PairOf a b) = ScalarsAreFew names p a × ScalarsAreFew names p b
-ScalarsAreFew names p (ArrayOf a n) = ScalarsAreFew names (times p n) a
-
--- the products go inwards from the outermost length
-abbrev pub HasFewScalars : List Name → PlainTy → Type 0
-HasFewScalars names U32 = Unit {0}
-HasFewScalars names (PairOf a b) = HasFewScalars names a × HasFewScalars names b
-HasFewScalars names (ArrayOf a n) = ScalarsAreFew names n a
-
--- sizes with their ranges, and inputs whose lengths are shown at least 1 and whose scalars are few: those that typing takes
-pub record HasProperInputs (p : PlainProgram) : Type 0 where
-  pub declared : IsDeclared (declared_by p)
-  pub scalars : Every (HasFewScalars (declared_by p).names) (declared_by p).inputs
 
 -- ---- lengths, where the declared sizes have these values
 abbrev pub if_added : Sign → ℕ → ℕ

@@ -4,7 +4,7 @@ use Rattle.serde_json.specs.Data.{Data}
 use Rattle.lift_tree.specs.Programs.{PlainProgram}
 use Rattle.launch_file.specs.declared.file.Ask.{Ask}
 use Rattle.launch_file.specs.declared.refusal.LaunchNo.{LaunchNo}
-use Rattle.launch_file.specs.Inputs.{HasProperInputs}
+use Rattle.lift_tree.specs.Limits.{HasProperInputs}
 use Rattle.launch_file.specs.LaunchFile.{Given, Gives, IsLaunchFile}
 use Rattle.launch_file.specs.Judged.{Refuses, judged}
 

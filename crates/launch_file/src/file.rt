@@ -1,9 +1,9 @@
-// Launch files.
+//! Launch files.
 
 ghost use Rattle.std.specs.Prelude.{◌≡◌, ◌≢◌, Err, IfErr, IfOk, Ok};
 ghost use Rattle.serde_json.specs.View.{view};
 ghost use Rattle.lift_tree.specs.Programs.{program_of};
-ghost use Rattle.launch_file.specs.Inputs.{HasProperInputs};
+ghost use Rattle.lift_tree.specs.Limits.{HasProperInputs};
 ghost use Rattle.launch_file.specs.Judged.{Refuses, and_then, items_judged, judged};
 ghost use Rattle.launch_file.specs.LaunchFile.{IsLaunchFile, given_by};
 ghost use Rattle.launch_file.specs.declared.refusal.LaunchNo.TheVariants.{Memory};
@@ -20,18 +20,21 @@ use size_arith::Sizes;
 use std::alloc::Global;
 
 /// What a launch file is read for.
-#[derive(Clone, Copy, Debug, PartialEq, Eq)]
+#[derive(Clone, Copy, PartialEq, Eq)]
 pub enum Ask {
-    /// To run a kernel; `task` says that its term has no parallel map, so that one work-item runs it.
+    /// To run a kernel; `task` says that its term has no parallel map, so that one work-item runs
+    /// it.
     Run { task: bool },
-    /// To evaluate the program: how many work-items there are, and in which order they run, is passed over.
+    /// To evaluate the program: how many work-items there are, and in which order they run, is
+    /// passed over.
     Eval,
 }
 
 /// A launch of a program with its inputs.
 #[derive(Drop)]
 pub struct LaunchFile {
-    /// The work-items in all and in a group, and each declared size. For an evaluation there is one work-item.
+    /// The work-items in all and in a group, and each declared size. For an evaluation there is one
+    /// work-item.
     pub launch: Launch,
     /// The declared sizes once more, by their base names.
     pub sizes: Sizes,
@@ -68,8 +71,10 @@ fn launch_in(
     ask: Ask,
 ) -> Result<LaunchFile, LaunchNo>
     requires { HasProperInputs (program_of program.now) }
-    ensures ok { IfOk result (λ f. judged (program_of program.now) ask (view value.now) ≡ Ok (given_by f)) }
-    ensures refused { IfErr result (λ e. e ≢ Memory → judged (program_of program.now) ask (view value.now) ≡ Err e) }
+    ensures ok { let judged = judged (program_of program.now) ask (view value.now) in
+        IfOk result (λ f. judged ≡ Ok (given_by f)) }
+    ensures refused { let judged = judged (program_of program.now) ask (view value.now) in
+        IfErr result (λ e. e ≢ Memory → judged ≡ Err e) }
 {
     if !value.is_object() {
         return Err(LaunchNo::NotJson);
@@ -99,11 +104,19 @@ fn launch_in(
 }
 
 #[tactic(auto, using(crate::proofs::Whole::launch_file_is))]
-/// The launch file that the bytes are for a program: an admissible launch, and inputs of their types.
+/// The launch file that the bytes are for a program: an admissible launch, and inputs of their
+/// types.
 ///
-/// The checks come in this order. `NotJson`: the bytes are no JSON (as `serde_json` reads it) or no object. `Missing`, for `global`, `local`, `sizes`, `inputs` and `schedule` in turn: the key isn't there (`schedule` alone needn't be), or its value isn't of its kind. For each declared size in turn `Missing`, where it isn't there or is no whole number, and at once `Size`. `Local`. `NotTask`. For each input in turn `Missing`, where its key isn't there, and at once `Shape`. For an evaluation `global`, `local` and `schedule` are passed over. Of two values at one key the last counts. Want of memory may come at any point.
+/// The checks come in this order. `NotJson`: the bytes are no JSON (as `serde_json` reads it) or
+/// no object. `Missing`, for `global`, `local`, `sizes`, `inputs` and `schedule` in turn: the key
+/// isn't there (`schedule` alone needn't be), or its value isn't of its kind. For each declared
+/// size in turn `Missing`, where it isn't there or is no whole number, and at once `Size`.
+/// `Local`. `NotTask`. For each input in turn `Missing`, where its key isn't there, and at once
+/// `Shape`. For an evaluation `global`, `local` and `schedule` are passed over. Of two values at
+/// one key the last counts. Want of memory may come at any point.
 ///
-/// The inputs' lengths are shown at least 1, and they have at most 2147483647 scalars in each component: inputs that typing takes.
+/// The inputs are those that typing takes: their lengths are shown at least 1, and they have at
+/// most 2147483647 scalars in each component.
 pub fn read_launch(
     alloc: Global,
     bytes: &[u8],
@@ -111,8 +124,10 @@ pub fn read_launch(
     ask: Ask,
 ) -> Result<LaunchFile, LaunchNo>
     requires { HasProperInputs (program_of program.now) }
-    ensures ok { IfOk result (λ f. IsLaunchFile (program_of program.now) ask bytes.now (given_by f)) }
-    ensures refused { IfErr result (λ e. e ≢ Memory → Refuses (program_of program.now) ask bytes.now e) }
+    ensures ok { IfOk result (λ f.
+        IsLaunchFile (program_of program.now) ask bytes.now (given_by f)) }
+    ensures refused { IfErr result (λ e. e ≢ Memory
+        → Refuses (program_of program.now) ask bytes.now e) }
 {
     match Value::from_slice(alloc, bytes) {
         Ok(value) => Ok(launch_in(alloc, &value, program, ask)?),

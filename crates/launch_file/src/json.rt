@@ -1,4 +1,4 @@
-// Looking into JSON values.
+//! Looking into JSON values.
 
 ghost use Rattle.std.specs.Prelude.{◌≡◌, IfOk, option_map};
 ghost use Rattle.serde_json.specs.Find.{get};

@@ -1,6 +1,6 @@
-// What stands at the keys of a launch file.
+//! What stands at the keys of a launch file.
 
-ghost use Rattle.std.specs.Prelude.{◌≡◌, ◌≢◌, Err, IfErr, IfOk, MatchOption, Ok, option_map};
+ghost use Rattle.std.specs.Prelude.{◌≡◌, ◌≢◌, Err, IfErr, IfOk, Ok, option_map};
 ghost use Rattle.serde_json.specs.View.{view};
 ghost use Rattle.kernel_tree.specs.Schedule.{schedule_of};
 ghost use Rattle.launch_file.specs.Judged as checks;
@@ -47,7 +47,8 @@ fn schedule_in(alloc: Global, value: &Value) -> Result<Option<Schedule>, AllocEr
 
 fn schedule(alloc: Global, ask: Ask, value: &Value) -> Result<Schedule, LaunchNo>
     ensures ok { IfOk result (λ s. schedule_judged ask (view value.now) ≡ Ok (schedule_of s)) }
-    ensures refused { IfErr result (λ e. e ≢ Memory → schedule_judged ask (view value.now) ≡ Err e) }
+    ensures refused { IfErr result (λ e. e ≢ Memory
+        → schedule_judged ask (view value.now) ≡ Err e) }
 {
     match ask {
         Ask::Run { .. } => match value.get("schedule") {
@@ -61,7 +62,8 @@ fn schedule(alloc: Global, ask: Ask, value: &Value) -> Result<Schedule, LaunchNo
 /// What stands at the keys, or the first of them that is missing.
 pub fn find_keys<'v>(alloc: Global, ask: Ask, value: &'v Value) -> Result<Keyed<'v>, LaunchNo>
     ensures ok { IfOk result (λ k. keys_judged ask (view value.entry.now) ≡ Ok (keyed_of k)) }
-    ensures refused { IfErr result (λ e. e ≢ Memory → keys_judged ask (view value.entry.now) ≡ Err e) }
+    ensures refused { IfErr result (λ e. e ≢ Memory
+        → keys_judged ask (view value.entry.now) ≡ Err e) }
 {
     let global = count(ask, value, "global", LaunchNo::Missing(Key::Global))?;
     let local = count(ask, value, "local", LaunchNo::Missing(Key::Local))?;

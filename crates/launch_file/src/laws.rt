@@ -1,8 +1,9 @@
-// Laws of launch files.
+//! Laws of launch files.
 
 ghost use Rattle.launch_file.specs.Laws.{ChecksAreExact, FilesGiveOneThing, FilesAreNotRefused};
 
-/// The checks let a JSON value pass exactly where it is a launch file of the program, and find just what it gives.
+/// The checks let a JSON value pass exactly where it is a launch file of the program, and find just
+/// what it gives.
 pub fn checks_are_exact()
     ensures { ChecksAreExact }
 {}

@@ -1,11 +1,11 @@
-// Lengths at given sizes.
+//! Lengths at given sizes.
 
 ghost use Rattle.std.specs.Prelude.{◌≡◌, ◌%◌, ◌^◌};
 ghost use Rattle.lift_tree.specs.Meaning.{factor_at, nth_size, product_at};
 ghost use Rattle.launch_file.specs.Inputs as lengths;
 ghost use Rattle.launch_file.specs.Inputs.{LengthFits};
 
-use lift_tree::length::{Factor, Length, Part, Sign};
+use lift_tree::length::{Factor, Length, Sign};
 
 #[tactic(auto, using(crate::proofs::Lengths::sizes_by_number))]
 // The value of a factor; a size that isn't declared counts as 0.

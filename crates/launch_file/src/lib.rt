@@ -1,4 +1,5 @@
-//! Launch files of programs of the Lift pattern language, and the line that a run or an evaluation prints.
+//! Launch files of programs of the Lift pattern language, and the line that a run or an evaluation
+//! prints.
 #![tactic(auto)]
 
 pub mod file;
@@ -10,6 +11,4 @@ pub mod line;
 pub mod refusal;
 pub mod result;
 mod sizes;
-#[cfg(test)]
-mod tests;
 mod values;

@@ -1,4 +1,4 @@
-// The line that tells why bytes are no launch file.
+//! The line that tells why bytes are no launch file.
 
 ghost use Rattle.std.specs.Prelude.{◌≡◌, ◌++◌, codes};
 ghost use Rattle.lift_tree.specs.Programs.{program_of};
@@ -8,7 +8,7 @@ use crate::refusal::{Key, LaunchNo};
 use lift_tree::program::Program;
 
 /// What a part of a line tells.
-#[derive(Clone, Copy, Debug)]
+#[derive(Clone, Copy)]
 pub enum Detail<'a> {
     Nothing,
     /// A name, byte by byte.
@@ -18,7 +18,7 @@ pub enum Detail<'a> {
 }
 
 /// A line without its end, in four parts: so it can be written without taking memory.
-#[derive(Clone, Copy, Debug)]
+#[derive(Clone, Copy)]
 pub struct Line<'a> {
     pub head: &'a [u8],
     pub first: Detail<'a>,
@@ -76,7 +76,8 @@ fn input_name(program: &Program, number: usize) -> &[u8]
 
 // The line on a key that is missing.
 fn missing(key: Key, program: &Program) -> Line<'_>
-    ensures { line_text result ++ codes "\n" ≡ line_of (program_of program.entry.now) (LaunchNo.Missing key) }
+    ensures { line_text result ++ codes "\n"
+        ≡ line_of (program_of program.entry.now) (LaunchNo.Missing key) }
 {
     match key {
         Key::Global => Line::words(b"lift: launch: missing global"),

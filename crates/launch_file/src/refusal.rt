@@ -1,11 +1,12 @@
-// Why bytes are no launch file of a program.
+//! Why bytes are no launch file of a program.
 
 ghost use Rattle.std.specs.Prelude.{◌≡◌};
 
 use std::alloc::{AllocError, AllocFailed};
+use thiserror::Error;
 
 /// What a launch file may lack.
-#[derive(Clone, Copy, Debug, PartialEq, Eq)]
+#[derive(Clone, Copy, Debug)]
 pub enum Key {
     Global,
     Local,
@@ -18,21 +19,30 @@ pub enum Key {
     InputAt(usize),
 }
 
-/// Why bytes are no launch file of a program, or that memory ran out. Sizes and inputs go by their numbers in the order of declaration, from 0.
-#[derive(Clone, Copy, Debug, PartialEq, Eq)]
+/// Why bytes are no launch file of a program, or that memory ran out. Sizes and inputs go by their
+/// numbers in the order of declaration, from 0.
+#[derive(Clone, Copy, Debug, Error)]
 pub enum LaunchNo {
     /// The bytes are no JSON, or no object.
+    #[error("no JSON object")]
     NotJson,
     /// The key isn't there, or its value isn't of its kind.
+    #[error("missing {0:?}")]
     Missing(Key),
     /// The number given for a declared size is out of its range, or no multiple of its divisor.
+    #[error("size {size} is {given}")]
     Size { size: usize, given: u64 },
-    /// The local size isn't 1 to 256, the global size isn't 1 to 65,536, or the local size doesn't divide the global size.
+    /// The local size isn't 1 to 256, the global size isn't 1 to 65,536, or the local size doesn't
+    /// divide the global size.
+    #[error("global {global}, local {local}")]
     Local { global: u64, local: u64 },
     /// The program is for one work-item alone.
+    #[error("global {global} for one item")]
     NotTask { global: u64 },
     /// The value at an input's name isn't of the input's type.
+    #[error("input {input} has another shape")]
     Shape { input: usize },
+    #[error("out of memory")]
     Memory,
 }
 

@@ -1,4 +1,4 @@
-// The line that a run or an evaluation prints.
+//! The line that a run or an evaluation prints.
 
 ghost use Rattle.std.specs.Prelude.{◌≡◌, ◌++◌, IfOk, OnOk, decimal};
 ghost use Rattle.lift_tree.specs.Values.{value_of};
@@ -60,7 +60,8 @@ fn push_counts(text: &mut Vec<u8>, counts: Option<(u64, u64)>) -> Result<(), All
 
 /// The value, and the counts of events and of releases where there are any, as JSON on a line.
 ///
-/// An array is a list, and a pair a list of its two parts. There are no spaces, and LF ends the line.
+/// An array is a list, and a pair a list of its two parts. There are no spaces, and LF ends the
+/// line.
 pub fn result_text(
     alloc: Global,
     value: &Val,

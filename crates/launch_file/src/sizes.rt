@@ -1,10 +1,11 @@
-// The declared sizes that a launch file gives.
+//! The declared sizes that a launch file gives.
 
-ghost use Rattle.std.specs.Prelude.{◌≡◌, ◌≢◌, ◌++◌, ◌≤◌, ◌+◌, Err, IfErr, IfOk, Ok, OnOk, length, map};
+ghost use Rattle.std.specs.Prelude.{◌≡◌, ◌≢◌, ◌++◌, Err, IfErr, IfOk, Ok, OnOk, map};
 ghost use Rattle.serde_json.specs.View.{view};
 ghost use Rattle.size_arith.specs.Ranges.{AreNames, IsName};
 ghost use Rattle.lift_tree.specs.WorkedOut.{range_of};
-ghost use Rattle.launch_file.specs.Judged.{AllInRange, AreInRange, bases_of, size_judged, sizes_judged};
+ghost use Rattle.launch_file.specs.Judged.{AllInRange, AreInRange, bases_of};
+ghost use Rattle.launch_file.specs.Judged.{size_judged, sizes_judged};
 ghost use Rattle.launch_file.specs.declared.refusal.LaunchNo.TheVariants.{Memory};
 
 use crate::json::named;
@@ -36,7 +37,8 @@ fn size_in(index: usize, size: &Size, value: &Value) -> Result<u32, LaunchNo>
 pub fn sizes_in(alloc: Global, sizes: &[Size], value: &Value) -> Result<Vec<u32>, LaunchNo>
     requires { AreNames (map range_of sizes.now) }
     ensures ok { IfOk result (λ ns. sizes_judged 0 sizes.now (view value.now) ≡ Ok ns.items) }
-    ensures refused { IfErr result (λ e. e ≢ Memory → sizes_judged 0 sizes.now (view value.now) ≡ Err e) }
+    ensures refused { IfErr result (λ e. e ≢ Memory
+        → sizes_judged 0 sizes.now (view value.now) ≡ Err e) }
 {
     let mut given = Vec::new(alloc);
     for (index, size) in sizes.iter().enumerate() {

@@ -1,11 +1,10 @@
-// The inputs that a launch file gives.
+//! The inputs that a launch file gives.
 
 ghost use Rattle.std.specs.Prelude.{◌≡◌, ◌≢◌, Err, IfErr, IfOk, Ok, map, option_map};
 ghost use Rattle.serde_json.specs.View.{view};
 ghost use Rattle.lift_tree.specs.InputTypes.{written_of};
-ghost use Rattle.lift_tree.specs.Lists.{Every};
 ghost use Rattle.lift_tree.specs.Programs.{input_of};
-ghost use Rattle.lift_tree.specs.Values.{value_of};
+ghost use Rattle.lift_tree.specs.Values.{Both, value_of};
 ghost use Rattle.launch_file.specs.Inputs.{InputsFit, LengthsFit, TypeFits, read_value};
 ghost use Rattle.launch_file.specs.Judged.{input_judged, inputs_judged};
 ghost use Rattle.launch_file.specs.declared.refusal.LaunchNo.TheVariants.{Memory};
@@ -19,6 +18,13 @@ use lift_tree::value::Val;
 use serde_json::Value;
 use std::alloc::{AllocError, Global};
 
+fn pair_of(alloc: Global, first: Val, second: Val) -> Result<Val, AllocError>
+    ensures { IfOk result (λ v. value_of v ≡ Both (value_of first) (value_of second)) }
+{
+    let first = Box::new(alloc, first)?;
+    Ok(Val::Pair(first, Box::new(alloc, second)?))
+}
+
 #[tactic(auto, using(crate::proofs::ReadValues::read_values))]
 // The value of the type that JSON gives at these sizes, where it gives one.
 fn value_in(
@@ -28,7 +34,8 @@ fn value_in(
     value: &Value,
 ) -> Result<Option<Val>, AllocError>
     requires { LengthsFit sizes.now (written_of ty.now) }
-    ensures { IfOk result (λ v. option_map value_of v ≡ read_value sizes.now (written_of ty.now) (view value.now)) }
+    ensures { IfOk result (λ v.
+        option_map value_of v ≡ read_value sizes.now (written_of ty.now) (view value.now)) }
 {
     match ty {
         InputType::Number => Ok(word(value).map(Val::Number)),
@@ -45,8 +52,7 @@ fn value_in(
             let Some(second) = value_in(alloc, sizes, right, second)? else {
                 return Ok(None);
             };
-            let first = Box::new(alloc, first)?;
-            Ok(Some(Val::Pair(first, Box::new(alloc, second)?)))
+            Ok(Some(pair_of(alloc, first, second)?))
         }
         InputType::Array(element, length) => {
             let Some(values) = value.as_array() else {
@@ -76,8 +82,11 @@ fn input_in(
     value: &Value,
 ) -> Result<Val, LaunchNo>
     requires { TypeFits sizes.now (written_of input.now.ty) }
-    ensures ok { IfOk result (λ v. input_judged sizes.now index (input_of input.now) (view value.now) ≡ Ok (value_of v)) }
-    ensures refused { IfErr result (λ e. e ≢ Memory → input_judged sizes.now index (input_of input.now) (view value.now) ≡ Err e) }
+    ensures ok { let judged = input_judged sizes.now index (input_of input.now) (view value.now) in
+        IfOk result (λ v. judged ≡ Ok (value_of v)) }
+    ensures refused { let judged =
+        input_judged sizes.now index (input_of input.now) (view value.now) in
+        IfErr result (λ e. e ≢ Memory → judged ≡ Err e) }
 {
     let Some(found) = named(value, &input.name) else {
         return Err(LaunchNo::Missing(Key::InputAt(index)));
@@ -96,8 +105,12 @@ pub fn inputs_in(
     value: &Value,
 ) -> Result<Vec<Val>, LaunchNo>
     requires { InputsFit sizes.now (map input_of inputs.now) }
-    ensures ok { IfOk result (λ vs. inputs_judged sizes.now 0 (map input_of inputs.now) (view value.now) ≡ Ok (map value_of vs.items)) }
-    ensures refused { IfErr result (λ e. e ≢ Memory → inputs_judged sizes.now 0 (map input_of inputs.now) (view value.now) ≡ Err e) }
+    ensures ok { let judged =
+        inputs_judged sizes.now 0 (map input_of inputs.now) (view value.now) in
+        IfOk result (λ vs. judged ≡ Ok (map value_of vs.items)) }
+    ensures refused { let judged =
+        inputs_judged sizes.now 0 (map input_of inputs.now) (view value.now) in
+        IfErr result (λ e. e ≢ Memory → judged ≡ Err e) }
 {
     let mut given = Vec::new(alloc);
     for (index, input) in inputs.iter().enumerate() {

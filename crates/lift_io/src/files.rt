@@ -4,20 +4,23 @@ ghost use Rattle.std.specs.Prelude.{
   ◌≤◌,
   ◌<◌,
   ◌+◌,
+  ◌∷◌,
   ℕ,
   List,
+  [],
   Some,
   Option,
   IfOk,
   IfSome,
   length,
 };
+ghost use Rattle.lift_io.specs.Asked.{Asks};
 ghost use Rattle.lift_io.specs.Causes.{Rose};
 
 use std::alloc::{AllocError, Global};
 
 /// Why a read gave no text.
-#[derive(Clone, Copy, Debug, PartialEq, Eq)]
+#[derive(Clone, Copy)]
 pub enum ReadNo {
     /// The read failed, as the name's count of faults shows.
     Failed,
@@ -48,19 +51,27 @@ pub trait Files {
     /// How often a read of that name has failed. The count stands still at its type's end.
     ghost faults: { Self → List ℕ → ℕ };
 
+    /// The names asked so far, in order, where they are told.
+    ghost asked: { Self → Option (List (List ℕ)) };
+
     /// Reads the text under a name if it has at most `limit` bytes, and of a longer one takes a
     /// single byte more than that.
     fn read_all(&mut self, alloc: Global, name: &str, limit: usize) -> Result<Vec<u8>, ReadNo>
         requires { limit ≤ LONGEST }
 
         // A text that is told is given whole; one that is longer than the limit is never given.
-        ensures text { IfOk result (λ bytes. IfSome (told self.old name.now) (λ text. bytes.items ≡ text)) }
+        ensures text { IfOk result (λ bytes. IfSome (told self.old name.now)
+            (λ text. bytes.items ≡ text)) }
         ensures within { IfOk result (λ bytes. length bytes.items ≤ limit) }
         ensures too_long { (n : ℕ) → result ≡ Err (ReadNo.TooLong n)
             → (n ≡ limit + 1) × IfSome (told self.old name.now) (λ text. limit < length text) }
-        ensures failed { result ≡ Err ReadNo.Failed → Rose (faults self.old name.now) (faults self.new name.now) }
+        ensures failed { result ≡ Err ReadNo.Failed
+            → Rose (faults self.old name.now) (faults self.new name.now) }
 
         // No count falls, and no text changes.
         ensures later { (n : List ℕ) → faults self.old n ≤ faults self.new n }
-        ensures same { (n : List ℕ) → told self.new n ≡ told self.old n };
+        ensures same { (n : List ℕ) → told self.new n ≡ told self.old n }
+
+        // This name is asked, and no other.
+        ensures asks { Asks (asked self.old) (asked self.new) (name.now ∷ []) };
 }

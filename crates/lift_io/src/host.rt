@@ -32,6 +32,8 @@ impl<R: rt::Files + Drop> Files for HostFiles<R> {
 
     ghost faults = { λ s n. s.faults };
 
+    ghost asked = { λ s. None };
+
     fn read_all(&mut self, alloc: Global, name: &str, limit: usize) -> Result<Vec<u8>, ReadNo> {
         match self.first_bytes(alloc, name, limit as u64 + 1) {
             Ok(bytes) if bytes.len() > limit => Err(ReadNo::TooLong(limit as u64 + 1)),

@@ -15,6 +15,3 @@ pub use host::{HostFiles, HostSink};
 pub use memory_files::{MemoryFiles, NamedText};
 pub use memory_sink::MemorySink;
 pub use sinks::{NeverFails, Sink, WriteFailed, write_whole};
-
-#[cfg(test)]
-mod tests;

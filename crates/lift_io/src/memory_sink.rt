@@ -15,13 +15,14 @@ ghost use Rattle.std.specs.Prelude.{
   vec_capacity,
 };
 ghost use Rattle.std.specs.Io.KnownBytes.{WriteAppends};
-ghost use Rattle.lift_io.specs.Causes.{HasCause, Rose};
+ghost use Rattle.lift_io.specs.Causes.{HasCause, one_more};
 
 use crate::sinks::{Sink, WriteFailed};
 use std::alloc::{AllocError, Global};
 
 /// A sink in memory. It takes at most `most` bytes a call, and `room` bytes in all; the calls whose
-/// numbers are listed fail (the first call is number 1), and so does a call without room.
+/// numbers are listed fail (the first call is number 1), and so does a call without room. A call with
+/// an empty piece takes nothing, and doesn't fail.
 #[derive(Drop)]
 pub struct MemorySink {
     bytes: Vec<u8>,
@@ -61,9 +62,8 @@ impl MemorySink {
 
     // Counts a fault.
     fn fault(&mut self) -> WriteFailed
-        ensures only { self.new ≡ record self.old { faults = self.new.faults } }
+        ensures counts { self.new ≡ record self.old { faults = one_more self.old.faults } }
         ensures later { self.old.faults ≤ self.new.faults }
-        ensures rose { Rose self.old.faults self.new.faults }
     {
         self.faults = self.faults.saturating_add(1);
         WriteFailed
@@ -78,7 +78,7 @@ impl MemorySink {
 }
 
 impl Sink for MemorySink {
-    ghost use Rattle.lift_io.specs.MemorySink.{NextFails, next_count, call_number};
+    ghost use Rattle.lift_io.specs.MemorySink.{IsCounted, NextFails, next_count};
 
     ghost taken = { λ s. Some s.bytes.items };
 
@@ -87,21 +87,25 @@ impl Sink for MemorySink {
     fn write(&mut self, piece: &[u8]) -> Result<usize, WriteFailed>
         ensures within { IfOk result (λ k. k ≤ length piece.now) }
         ensures some { IfOk result (λ k. 0 < length piece.now → 0 < k) }
+        ensures none { length piece.now ≡ 0 → result ≡ Ok 0 }
         ensures bytes { WriteAppends (Some self.old.bytes.items) (Some self.new.bytes.items) result piece.now }
         ensures cause { HasCause self.old.faults self.new.faults result }
 
-        // Beyond what all sinks promise: how many bytes it takes, and just the calls that were asked
-        // to fail do.
+        // Beyond what all sinks promise: how many bytes it takes, that just the calls that were
+        // asked to fail do, that just they are faults, and that nothing else changes.
         ensures count { IfOk result (λ k. k ≡ next_count self.old piece.now) }
         ensures fails { IsErr result ↔ NextFails self.old piece.now }
-        ensures counts { self.new.calls ≡ call_number self.old }
+        ensures counted { IsCounted self.old self.new result }
     {
         self.calls = self.calls.saturating_add(1);
+        if piece.is_empty() {
+            return Ok(0);
+        }
         let count = self.most.min(piece.len()).min(self.room - self.bytes.len());
-        if self.failing.contains(&self.calls) {
+        if count == 0 {
             return Err(self.fault());
         }
-        if count == 0 && !piece.is_empty() {
+        if self.failing.contains(&self.calls) {
             return Err(self.fault());
         }
         let Ok(()) = self.bytes.extend_from_slice(&piece[..count]) else {

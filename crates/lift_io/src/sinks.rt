@@ -17,7 +17,7 @@ ghost use Rattle.std.specs.Io.KnownBytes.{Appends, WriteAppends};
 ghost use Rattle.lift_io.specs.Causes.{HasCause};
 
 /// A write failed, and took nothing.
-#[derive(Clone, Copy, Debug, PartialEq, Eq)]
+#[derive(Clone, Copy)]
 pub struct WriteFailed;
 
 /// What takes bytes.
@@ -29,10 +29,11 @@ pub trait Sink {
     ghost faults: { Self → ℕ };
 
     /// Takes the first bytes of the piece, at least one where there is one, and answers how many.
-    /// It takes no memory.
+    /// An empty piece gives 0. It takes no memory.
     fn write(&mut self, piece: &[u8]) -> Result<usize, WriteFailed>
         ensures within { IfOk result (λ k. k ≤ length piece.now) }
         ensures some { IfOk result (λ k. 0 < length piece.now → 0 < k) }
+        ensures none { length piece.now ≡ 0 → result ≡ Ok 0 }
         ensures bytes { WriteAppends (taken self.old) (taken self.new) result piece.now }
         ensures cause { HasCause (faults self.old) (faults self.new) result };
 }

@@ -6,7 +6,6 @@ use Rattle.std.proofs.lemmas.Bool.{ltb-true, leb-true, le-leb, and_from, and_par
 use Rattle.std.specs.Cmp.Lexicographic.{same_text}
 use Rattle.readings.specs.Readings.{Form, Mark}
 use Rattle.readings.specs.Running.{Decides}
-use Rattle.lift_tree.specs.declared.length.Factor.TheVariants as factor
 use Rattle.lift_tree.specs.declared.length.Sign.{Sign}
 use Rattle.lift_tree.specs.declared.length.Sign.TheVariants as sign
 use Rattle.lift_tree.specs.declared.term.UnaryForm.{UnaryForm}

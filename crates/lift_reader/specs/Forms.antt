@@ -1,6 +1,5 @@
 -- The code's forms and marks, wherever their names lie in memory.
-use Rattle.std.specs.Prelude.{ℕ, ◌≡◌, List, Option, Some, None, cond, Result, IfOk, ◌++◌, option_map, Bool}
-use Rattle.std.specs.declared.alloc.AllocError.{AllocError}
+use Rattle.std.specs.Prelude.{ℕ, List}
 use Rattle.readings.specs.declared.owed.Owed.{Owed}
 use Rattle.readings.specs.Views.{items_of}
 use Rattle.lift_tree.specs.declared.term.UnaryForm.{UnaryForm}
@@ -106,7 +105,3 @@ action_of action.Finish = grammar.Finish
 
 abbrev pub items : List (Owed Kind Nonterminal Action) → List grammar.Item
 items owed = items_of lexeme nonterminal_of action_of owed
-
--- the alternative, where there is one, was put before all that was owed
-abbrev pub Gave : Result Bool AllocError → (old new : List (Owed Kind Nonterminal Action)) → Option (List grammar.Item) → Type 0
-Gave result old new alternative = IfOk result (λ found. cond found (Some (items new)) None ≡ option_map (λ alt. alt ++ items old) alternative)

@@ -156,6 +156,27 @@ pair d = Form (ElementType (d + 1)) ∷ comma ∷ Form (ElementType (d + 1)) ∷
 abbrev pub part : (done next : Sign) → List Item
 part done next = Mark (EndPart done) ∷ Mark BeginProduct ∷ Form (LengthFactor 0) ∷ Form (LengthRest next) ∷ []
 
+-- what follows the name of an input
+abbrev pub behind_input : List ℕ → List Item
+behind_input x = colon ∷ Form (ArrayType 1) ∷ semicolon ∷ Mark (DeclareInput x) ∷ Form Inputs ∷ []
+
+-- what follows the names that a let, a map and a fold bind
+abbrev pub behind_let : ℕ → List ℕ → List Item
+behind_let d x =
+    equals ∷ term d ∷ keyword word.In ∷ Mark (Bind x) ∷ term d ∷ Mark Unbind
+    ∷ Mark (Make2 trees.Let) ∷ []
+
+abbrev pub behind_map : ℕ → List ℕ → List Item
+behind_map d x =
+    dot ∷ Mark (Bind x) ∷ term d ∷ Mark Unbind ∷ comma ∷ term d ∷ closes
+    ∷ Mark (Make2 (λ body array. trees.Map maps.Plain array body)) ∷ []
+
+abbrev pub behind_fold : ℕ → (first second : List ℕ) → List Item
+behind_fold d x y =
+    dot ∷ Mark (Bind x) ∷ Mark (Bind y) ∷ term d ∷ Mark Unbind ∷ Mark Unbind
+    ∷ comma ∷ term d ∷ comma ∷ term d ∷ closes
+    ∷ Mark (Make3 (λ body start array. trees.Fold folds.Plain array start body)) ∷ []
+
 -- With the notes n, this form has an alternative that is this token and then this.
 pub data Gives : Noted → Nonterminal → Lexeme → List Item → Type 0 where
   -- { size } { input } "output" term
@@ -172,7 +193,7 @@ pub data Gives : Noted → Nonterminal → Lexeme → List Item → Type 0 where
   from : {n : Noted} → {x : List ℕ} → {m a : ℕ} → 1 ≤ a → divides m a ≡ true → Gives n (From x m) (ANumber a) (keyword word.To ∷ Form (To x m a) ∷ [])
   to : {n : Noted} → {x : List ℕ} → {m a b : ℕ} → a ≤ b → b ≤ 1048576 → divides m b ≡ true → Gives n (To x m a) (ANumber b) (semicolon ∷ Mark (DeclareSize (record { name = x; multiple = m; from = a; to = b })) ∷ Form Sizes ∷ [])
   -- "input" NAME ":" array ";"
-  input_name : {n : Noted} → {x : List ℕ} → is_new n x ≡ true → Gives n InputName (AName x) (colon ∷ Form (ArrayType 1) ∷ semicolon ∷ Mark (DeclareInput x) ∷ Form Inputs ∷ [])
+  input_name : {n : Noted} → {x : List ℕ} → is_new n x ≡ true → Gives n InputName (AName x) (behind_input x)
   -- "[" type ";" len "]"
   array_type : {n : Noted} → {d : ℕ} → d ≤ 64 → Gives n (ArrayType d) (ASymbol 91) (array d)
   -- "u32" | "(" elem "," elem ")"
@@ -207,17 +228,17 @@ pub data Gives : Noted → Nonterminal → Lexeme → List Item → Type 0 where
   select : {n : Noted} → {d : ℕ} → d < 256 → Gives n (Term d) (AWord word.Select) (opens ∷ term (d + 1) ∷ comma ∷ term (d + 1) ∷ comma ∷ term (d + 1) ∷ closes ∷ Mark (Make3 trees.Select) ∷ [])
   -- "let" NAME "=" term "in" term
   let_in : {n : Noted} → {d : ℕ} → d < 256 → Gives n (Term d) (AWord word.Let) (Form (LetName (d + 1)) ∷ [])
-  let_name : {n : Noted} → {d : ℕ} → {x : List ℕ} → Gives n (LetName d) (AName x) (equals ∷ term d ∷ keyword word.In ∷ Mark (Bind x) ∷ term d ∷ Mark Unbind ∷ Mark (Make2 trees.Let) ∷ [])
+  let_name : {n : Noted} → {d : ℕ} → {x : List ℕ} → Gives n (LetName d) (AName x) (behind_let d x)
   -- "map" "(" "\" NAME "." term "," term ")"
   map : {n : Noted} → {d : ℕ} → d < 256 → Gives n (Term d) (AWord word.Map) (opens ∷ backslash ∷ Form (MapName (d + 1)) ∷ [])
-  map_name : {n : Noted} → {d : ℕ} → {x : List ℕ} → Gives n (MapName d) (AName x) (dot ∷ Mark (Bind x) ∷ term d ∷ Mark Unbind ∷ comma ∷ term d ∷ closes ∷ Mark (Make2 (λ body array. trees.Map maps.Plain array body)) ∷ [])
+  map_name : {n : Noted} → {d : ℕ} → {x : List ℕ} → Gives n (MapName d) (AName x) (behind_map d x)
   -- "reduce" "(" op7 "," term "," term ")"
   reduce : {n : Noted} → {d : ℕ} → d < 256 → Gives n (Term d) (AWord word.Reduce) (opens ∷ Form (ReduceOperator (d + 1)) ∷ [])
   reduce_operator : {n : Noted} → {d : ℕ} → {w : Word} → {r : Reducer} → reducer_of w ≡ Some r → Gives n (ReduceOperator d) (AWord w) (comma ∷ term d ∷ comma ∷ term d ∷ closes ∷ Mark (Make2 (λ start array. trees.Binary (binaries.Reduce r) array start)) ∷ [])
   -- "fold" "(" "\" NAME NAME "." term "," term "," term ")"; the second name is the nearer
   fold : {n : Noted} → {d : ℕ} → d < 256 → Gives n (Term d) (AWord word.Fold) (opens ∷ backslash ∷ Form (FoldName (d + 1)) ∷ [])
   fold_name : {n : Noted} → {d : ℕ} → {x : List ℕ} → Gives n (FoldName d) (AName x) (Form (FoldSecondName d x) ∷ [])
-  fold_second_name : {n : Noted} → {d : ℕ} → {x y : List ℕ} → Gives n (FoldSecondName d x) (AName y) (dot ∷ Mark (Bind x) ∷ Mark (Bind y) ∷ term d ∷ Mark Unbind ∷ Mark Unbind ∷ comma ∷ term d ∷ comma ∷ term d ∷ closes ∷ Mark (Make3 (λ body start array. trees.Fold folds.Plain array start body)) ∷ [])
+  fold_second_name : {n : Noted} → {d : ℕ} → {x y : List ℕ} → Gives n (FoldSecondName d x) (AName y) (behind_fold d x y)
   -- "split" "(" mono "," term ")"
   split : {n : Noted} → {d : ℕ} → d < 256 → Gives n (Term d) (AWord word.Split) (opens ∷ Mark BeginProduct ∷ Form (LengthFactor 1) ∷ Form (SplitRest (d + 1)) ∷ [])
   split_times : {n : Noted} → {d : ℕ} → Gives n (SplitRest d) (ASymbol 42) (Form (LengthFactor 1) ∷ Form (SplitRest d) ∷ [])

@@ -1,6 +1,5 @@
 -- What the code's reading has noted, wherever it lies in memory.
-use Rattle.std.specs.Prelude.{◌≡◌, map, Option, Some, None, Result, IfOk, Bool, cond}
-use Rattle.std.specs.declared.alloc.AllocError.{AllocError}
+use Rattle.std.specs.Prelude.{map}
 use Rattle.lift_tree.specs.Tree.{tree_of}
 use Rattle.lift_tree.specs.InputTypes.{written_of}
 use Rattle.lift_tree.specs.Programs.{input_of}
@@ -17,7 +16,3 @@ noted_by r = record {
   parts = r.parts.items;
   made = map tree_of r.made.items;
 }
-
--- the notes are what was to be made of them, where something was
-abbrev pub Noticed : Result Bool AllocError → Option Noted → Noted → Type 0
-Noticed result wanted now = IfOk result (λ made. cond made (Some now) None ≡ wanted)

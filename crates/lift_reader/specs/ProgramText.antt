@@ -5,6 +5,7 @@ use Rattle.readings.specs.declared.error.ReadError.{ReadError}
 use Rattle.readings.specs.declared.error.ReadError.TheVariants as reading
 use Rattle.readings.specs.Exactly.{StopsAt}
 use Rattle.lift_tree.specs.declared.program.Program.{Program}
+use Rattle.lift_tree.specs.Belonging.{IsProper, IsTermOf}
 use Rattle.lift_tree.specs.Programs.{PlainProgram, program_of}
 use Rattle.lift_tree.specs.Tree.{nodes}
 use Rattle.lift_reader.specs.declared.refusal.Quantity.{Quantity}
@@ -70,3 +71,7 @@ Gives p (Err reading.Memory) = Unit {0}
 -- the program that was noted
 abbrev pub program_noted : Noted → Option PlainProgram
 program_noted n = with_first (λ t made. record { sizes = n.sizes; inputs = n.inputs; body = t }) n.made
+
+-- a text's program within its limits is proper, and its body is a term of it
+abbrev pub ProgramsMayBeTyped : Type 0
+ProgramsMayBeTyped = (text : List ℕ) (p : PlainProgram) → IsProgramText text p → first_limit p ≡ None → IsProper p × IsTermOf p p.body

@@ -9,15 +9,13 @@ use Rattle.lift_tree.specs.declared.term.UnaryForm.{UnaryForm}
 use Rattle.lift_tree.specs.declared.term.UnaryForm.TheVariants as unaries
 use Rattle.lift_tree.specs.declared.term.BinaryForm.{BinaryForm}
 use Rattle.lift_tree.specs.declared.term.BinaryForm.TheVariants as binaries
-use Rattle.lift_tree.specs.declared.term.MapKind.TheVariants as maps
-use Rattle.lift_tree.specs.declared.term.FoldKind.TheVariants as folds
 use Rattle.lift_tree.specs.Tree as trees
 use Rattle.lift_reader.specs.declared.word.Word.{Word}
 use Rattle.lift_reader.specs.declared.word.Word.TheVariants as word
 use Rattle.lift_reader.specs.Words.{spelling}
 use Rattle.lift_reader.specs.Meant.{reducer_of, binary_of, unary_of}
 use Rattle.lift_reader.specs.Tokens.{Lexeme, AWord, AName, ANumber, ASymbol, Wrong}
-use Rattle.lift_reader.specs.Grammar.{Nonterminal, Sizes, Inputs, SizeName, SizeRange, Multiple, From, To, InputName, ArrayType, ElementType, AnyType, LengthFactor, LengthRest, Term, Divisor, First, Second, LetName, MapName, FoldName, FoldSecondName, ReduceOperator, SplitRest, Action, DeclareSize, DeclareInput, NumberType, BeginProduct, Multiply, EndPart, ArrayOf, Leaf, Bind, Unbind, Make1, Make2, Make3, Split, Noted, Item, keyword, opens, closes, comma, semicolon, colon, equals, dot, backslash, term, is_new, size_named, input_named, binder_named, divides, array, pair, part, marked}
+use Rattle.lift_reader.specs.Grammar.{Nonterminal, Sizes, Inputs, SizeName, SizeRange, Multiple, From, To, InputName, ArrayType, ElementType, AnyType, LengthFactor, LengthRest, Term, Divisor, First, Second, LetName, MapName, FoldName, FoldSecondName, ReduceOperator, SplitRest, Action, DeclareSize, NumberType, BeginProduct, Multiply, EndPart, ArrayOf, Leaf, Make1, Make2, Make3, Split, Noted, Item, keyword, opens, closes, comma, semicolon, backslash, term, is_new, size_named, input_named, binder_named, divides, array, pair, part, behind_input, behind_let, behind_map, behind_fold, marked}
 
 abbrev pub same : Lexeme → Lexeme → Bool
 same (AWord a) (AWord b) = bytes_eq (spelling a) (spelling b)
@@ -79,6 +77,12 @@ or_else (Some a) o = Some a
 abbrev pub named : Noted → List ℕ → Option trees.Tree
 named n x = or_else (option_map trees.Variable (binder_named n x)) (option_map trees.Input (input_named n x))
 
+abbrev pub variable_row : Noted → List ℕ → Option (List Item)
+variable_row n x = option_map (λ t. Mark (Leaf t) ∷ []) (named n x)
+
+abbrev pub size_row : Noted → List ℕ → Option (List Item)
+size_row n x = option_map (λ i. Mark (Multiply (factor.Size i)) ∷ []) (size_named n x)
+
 abbrev pub two_terms : ℕ → BinaryForm → List Item
 two_terms d f = opens ∷ term (d + 1) ∷ comma ∷ term (d + 1) ∷ closes ∷ Mark (Make2 (trees.Binary f)) ∷ []
 
@@ -103,19 +107,19 @@ compound d w = or_else (option_map (two_terms d) (binary_of w)) (or_else (option
 
 abbrev pub term_row : Noted → ℕ → Lexeme → Option (List Item)
 term_row n d (ANumber v) = Some (Mark (Leaf (trees.Number v)) ∷ [])
-term_row n d (AName x) = option_map (λ t. Mark (Leaf t) ∷ []) (named n x)
+term_row n d (AName x) = variable_row n x
 term_row n d (AWord w) = cond (nat_lt d 256) (compound d w) None
 term_row n d _ = None
 
 -- what follows a name
 abbrev pub name_row : Noted → Nonterminal → List ℕ → Option (List Item)
 name_row n SizeName x = cond (is_new n x) (Some (Form (SizeRange x) ∷ [])) None
-name_row n InputName x = cond (is_new n x) (Some (colon ∷ Form (ArrayType 1) ∷ semicolon ∷ Mark (DeclareInput x) ∷ Form Inputs ∷ [])) None
-name_row n (LetName d) x = Some (equals ∷ term d ∷ keyword word.In ∷ Mark (Bind x) ∷ term d ∷ Mark Unbind ∷ Mark (Make2 trees.Let) ∷ [])
-name_row n (MapName d) x = Some (dot ∷ Mark (Bind x) ∷ term d ∷ Mark Unbind ∷ comma ∷ term d ∷ closes ∷ Mark (Make2 (λ body array. trees.Map maps.Plain array body)) ∷ [])
+name_row n InputName x = cond (is_new n x) (Some (behind_input x)) None
+name_row n (LetName d) x = Some (behind_let d x)
+name_row n (MapName d) x = Some (behind_map d x)
 name_row n (FoldName d) x = Some (Form (FoldSecondName d x) ∷ [])
-name_row n (FoldSecondName d x) y = Some (dot ∷ Mark (Bind x) ∷ Mark (Bind y) ∷ term d ∷ Mark Unbind ∷ Mark Unbind ∷ comma ∷ term d ∷ comma ∷ term d ∷ closes ∷ Mark (Make3 (λ body start array. trees.Fold folds.Plain array start body)) ∷ [])
-name_row n (LengthFactor least) x = option_map (λ i. Mark (Multiply (factor.Size i)) ∷ []) (size_named n x)
+name_row n (FoldSecondName d x) y = Some (behind_fold d x y)
+name_row n (LengthFactor least) x = size_row n x
 name_row n _ x = None
 
 -- what follows a number

@@ -1,14 +1,14 @@
-// Reads programs.
+//! Reads programs.
 
 ghost use Rattle.std.specs.Prelude.{◌≡◌, IfOk, IfErr, None, map};
 ghost use Rattle.readings.specs.Exactly as exactly;
+ghost use Rattle.lift_tree.specs.Belonging.{IsProper, IsTermOf};
 ghost use Rattle.lift_tree.specs.Programs.{PlainProgram, program_of};
+ghost use Rattle.lift_tree.specs.Tree.{tree_of};
 ghost use Rattle.lift_reader.specs.Shown.{lexeme, placed};
 ghost use Rattle.lift_reader.specs.Grammar.{IsProgram, programs, start, nothing};
-ghost use Rattle.lift_reader.specs.ProgramText.{IsProgramText, Refuses, Answers, Gives, first_limit, place_of};
-
-#[cfg(test)]
-mod tests;
+ghost use Rattle.lift_reader.specs.ProgramText.{IsProgramText, ProgramsMayBeTyped, Refuses};
+ghost use Rattle.lift_reader.specs.ProgramText.{Answers, Gives, first_limit, place_of};
 
 use crate::grammar::{Action, Nonterminal};
 use crate::reader::Reader;
@@ -22,7 +22,8 @@ use std::alloc::{AllocError, Global};
 fn read_tokens(alloc: Global, tokens: &[Kind]) -> Result<Program, ReadError>
     ensures found { IfOk result (λ p. IsProgram (map lexeme tokens.now) (program_of p)) }
     ensures only { (p : PlainProgram) → IsProgram (map lexeme tokens.now) p → Gives p result }
-    ensures refused { IfErr result (exactly.Refuses programs start nothing (map lexeme tokens.now)) }
+    ensures refused { IfErr result (exactly.Refuses programs start nothing
+        (map lexeme tokens.now)) }
 {
     let program = Owed::Form(Nonterminal::Sizes);
     let finish = Owed::Mark(Action::Finish);
@@ -86,14 +87,18 @@ fn first_limit(program: &Program) -> Option<(Quantity, u64)>
 
 /// Reads the text of a program.
 ///
-/// The text is refused at the first token at which no program goes on, or, once all of it is in the grammar, by the first
-/// of the sizes, the inputs and the term's nodes that is above its limit.
+/// The text is refused at the first token at which no program goes on, or, once all of it is in the
+/// grammar, by the first of the sizes, the inputs and the term's nodes that is above its limit.
 pub fn read_program(alloc: Global, text: &[u8]) -> Result<Program, ReadRefusal>
     // What is answered is the text's program, and within the limits.
-    ensures found { IfOk result (λ p. IsProgramText text.now (program_of p) × (first_limit (program_of p) ≡ None)) }
+    ensures found { IfOk result (λ p.
+        IsProgramText text.now (program_of p) × (first_limit (program_of p) ≡ None)) }
+    // Its sizes are proper, and its inputs and its body name what it declares: it may be typed.
+    ensures proper { IfOk result (λ p. IsProper (program_of p)) }
+    ensures body { IfOk result (λ p. IsTermOf (program_of p) (tree_of p.body)) }
     // A program's text is answered with the program or its first limit, unless memory runs out.
     ensures only { (p : PlainProgram) → IsProgramText text.now p → Answers p result }
-    // A refusal names the first token at which the text doesn't go on, or the first limit of its program.
+    // A refusal names the first token at which the text doesn't go on, or its first limit.
     ensures refused { IfErr result (Refuses text.now) }
 {
     let program = read_text(alloc, text)?;
@@ -102,3 +107,9 @@ pub fn read_program(alloc: Global, text: &[u8]) -> Result<Program, ReadRefusal>
         None => Ok(program),
     }
 }
+
+/// A text's program within its limits may be typed: its sizes are proper, and its inputs and its
+/// body name what it declares.
+pub fn programs_may_be_typed()
+    ensures { ProgramsMayBeTyped }
+{}

@@ -1,19 +1,18 @@
-// The tokens of a program's text.
+//! The tokens of a program's text.
 
 ghost use Rattle.std.specs.Prelude.{◌≡◌, ◌≤◌, ◌<◌, length, map, IfOk, ℕ, List};
 ghost use Rattle.std.specs.List.{prefix_len};
 ghost use Rattle.std.specs.Char.{is_ascii_digit};
-ghost use Rattle.lift_reader.specs.Tokens.{is_space, is_inner, is_symbol, gap_len, run_len, within, value_after, number_of, lexeme_of, AreTokens, Lexeme};
+ghost use Rattle.lift_reader.specs.Tokens.{is_space, is_inner, is_symbol, gap_len, run_len};
+ghost use Rattle.lift_reader.specs.Tokens.{within, value_after, number_of, lexeme_of};
+ghost use Rattle.lift_reader.specs.Tokens.{AreTokens, Lexeme};
 ghost use Rattle.lift_reader.specs.Shown.{lexeme, placed};
-
-#[cfg(test)]
-mod tests;
 
 use crate::word::Word;
 use std::alloc::{AllocError, Global};
 
 /// What a token is. A name borrows its bytes from the text.
-#[derive(Clone, Copy, Debug, PartialEq, Eq)]
+#[derive(Clone, Copy, PartialEq, Eq)]
 pub enum Kind<'a> {
     /// A reserved word.
     Word(Word),
@@ -28,7 +27,7 @@ pub enum Kind<'a> {
 }
 
 /// A token, and the byte of the text at which it begins.
-#[derive(Clone, Copy, Debug)]
+#[derive(Clone, Copy)]
 pub struct Token<'a> {
     pub offset: usize,
     pub kind: Kind<'a>,
@@ -171,7 +170,8 @@ fn kind_of(run: &[u8]) -> Kind<'_>
 
 /// The tokens of a text, in order.
 ///
-/// Spaces, tabs, CR and LF part tokens, and so do comments, from `#` to the end of the line. The error is want of memory.
+/// Spaces, tabs, CR and LF part tokens, and so do comments, from `#` to the end of the line. The
+/// error is want of memory.
 pub fn tokens<'a>(alloc: Global, text: &'a [u8]) -> Result<Vec<Token<'a>>, AllocError>
     ensures { IfOk result (λ tokens. AreTokens 0 text.now (map placed tokens.items)) }
 {
@@ -196,5 +196,6 @@ pub fn tokens<'a>(alloc: Global, text: &'a [u8]) -> Result<Vec<Token<'a>>, Alloc
 
 /// A text has one list of tokens.
 pub fn one_list_of_tokens()
-    ensures { (at : ℕ) (text : List ℕ) (some others : List (ℕ × Lexeme)) → AreTokens at text some → AreTokens at text others → some ≡ others }
+    ensures { (at : ℕ) (text : List ℕ) (some others : List (ℕ × Lexeme))
+        → AreTokens at text some → AreTokens at text others → some ≡ others }
 {}

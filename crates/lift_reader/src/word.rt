@@ -1,10 +1,10 @@
-// The reserved words.
+//! The reserved words.
 
 ghost use Rattle.std.specs.Prelude.{◌≡◌};
 ghost use Rattle.lift_reader.specs.Words.{spelling, word_of};
 
 /// A reserved word, which is no name.
-#[derive(Clone, Copy, Debug, PartialEq, Eq)]
+#[derive(Clone, Copy, PartialEq, Eq)]
 pub enum Word {
     Size,
     Multiple,

@@ -1,4 +1,5 @@
 pub mod Annotations
+pub mod Belonging
 pub mod InputTypes
 pub mod Launches
 pub mod Limits

@@ -42,6 +42,10 @@ IsOutput U32 = ⊥
 IsOutput (PairOf a b) = ⊥
 IsOutput (ArrayOf a n) = HoldsElements a
 
+-- the type of a program's input, as an output's
+abbrev pub IsInput : PlainTy → Type 0
+IsInput a = IsOutput a
+
 -- each length is shown at least 1
 abbrev pub IsFormed : List Name → PlainTy → Type 0
 IsFormed names U32 = Unit {0}

@@ -10,7 +10,7 @@ use Rattle.lift_tree.specs.declared.term.UnaryForm.TheVariants.{Div, Rem, First,
 use Rattle.lift_tree.specs.declared.term.BinaryForm.{BinaryForm}
 use Rattle.lift_tree.specs.declared.term.BinaryForm.TheVariants as binary
 use Rattle.lift_tree.specs.Tree.{Tree, Variable, Number, Input, Unary, Binary, Select, Let, Map, Fold}
-use Rattle.lift_tree.specs.Types.{PlainTy, U32, PairOf, ArrayOf, IsElement, IsFormed, IsOutput, HasType, HaveTypes}
+use Rattle.lift_tree.specs.Types.{PlainTy, U32, PairOf, ArrayOf, IsElement, IsFormed, IsInput, IsOutput, HasType, HaveTypes}
 use Rattle.lift_tree.specs.WorkedOut.{product_of, worked_out, range_of}
 use Rattle.lift_tree.specs.Programs.{PlainProgram}
 use Rattle.lift_tree.specs.Meaning.{World, meaning}
@@ -63,10 +63,11 @@ Types d g (Map k xs b) a = (x y : PlainTy) × (n : List Monomial) × Types d g x
 Types d g (Fold k xs s b) a = (x y : PlainTy) × (n : List Monomial) × Types d g xs (ArrayOf x n) × Types d g s y × IsElement y × Types d (x ∷ y ∷ g) b y × (a ≡ ArrayOf y (constant 1))
 
 -- ---- programs
--- at most eight sizes, each with its range, and inputs whose lengths are shown at least 1
+-- at most eight sizes, each with its range, and inputs: arrays whose pairs hold elements only, and whose lengths are shown at least 1
 pub record IsDeclared (d : Declared) : Type 0 where
   pub few : length d.names ≤ 8
   pub names : AreNames d.names
+  pub arrays : Every IsInput d.inputs
   pub inputs : Every (IsFormed d.names) d.inputs
 
 abbrev pub declared_by : PlainProgram → Declared

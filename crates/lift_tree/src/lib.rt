@@ -10,8 +10,6 @@ pub mod place;
 pub mod program;
 pub mod renumber;
 pub mod term;
-#[cfg(test)]
-mod tests;
 pub mod ty;
 pub mod typed;
 pub mod value;

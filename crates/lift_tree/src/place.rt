@@ -2,7 +2,7 @@
 
 ghost use Rattle.std.specs.Prelude.{◌≡◌, Some, None, IfOk, IfErr, OnOk, option_map};
 ghost use Rattle.lift_tree.specs.Tree.{tree_of};
-ghost use Rattle.lift_tree.specs.Places.{child_at, node_at, with_at};
+ghost use Rattle.lift_tree.specs.Places.{node_at, with_at};
 
 use crate::term::Term;
 use std::marker::Model;
@@ -57,35 +57,13 @@ fn below<'t>(term: &'t Term, numbers: &[u32]) -> Option<&'t Term>
     let Some((first, rest)) = numbers.split_first() else {
         return Some(term);
     };
-    below(child(term, *first)?, rest)
-}
-
-fn child(term: &Term, number: u32) -> Option<&Term>
-    ensures { option_map (λ t. tree_of t.now) result ≡ child_at (tree_of term.now) number }
-{
-    match term {
-        Term::Variable(_) | Term::Number(_) | Term::Input(_) => None,
-        Term::Unary(_, a) => match number {
-            0 => Some(a),
-            _ => None,
-        },
-        Term::Binary(_, a, b) | Term::Let(a, b) | Term::Map(_, a, b) => match number {
-            0 => Some(a),
-            1 => Some(b),
-            _ => None,
-        },
-        Term::Select(a, b, c) | Term::Fold(_, a, b, c) => match number {
-            0 => Some(a),
-            1 => Some(b),
-            2 => Some(c),
-            _ => None,
-        },
-    }
+    below(term.child(*first)?, rest)
 }
 
 /// The term with another node at a place. Both terms come back unchanged exactly where there is no such place.
 pub fn replaced(mut term: Term, place: &Place, new: Term) -> Result<Term, (Term, Term)>
-    ensures ok { IfOk result (λ t. with_at (tree_of term) place.now (tree_of new) ≡ Some (tree_of t)) }
+    ensures ok { IfOk result (λ t. with_at (tree_of term) place.now (tree_of new)
+        ≡ Some (tree_of t)) }
     ensures none { IfErr result (λ both. node_at (tree_of term) place.now ≡ None) }
     ensures kept { IfErr result (λ both. (both.0 ≡ term) × (both.1 ≡ new)) }
 {
@@ -97,7 +75,8 @@ pub fn replaced(mut term: Term, place: &Place, new: Term) -> Result<Term, (Term,
 
 // Puts the new node at the place, and gives it back where there is no such place.
 fn put_at(term: &mut Term, numbers: &[u32], new: Term) -> Result<(), Term>
-    ensures ok { OnOk result (with_at (tree_of term.old) numbers.now (tree_of new) ≡ Some (tree_of term.new)) }
+    ensures ok { OnOk result (with_at (tree_of term.old) numbers.now (tree_of new)
+        ≡ Some (tree_of term.new)) }
     ensures none { IfErr result (λ t. node_at (tree_of term.old) numbers.now ≡ None) }
     ensures kept { IfErr result (λ t. (t ≡ new) × (term.new ≡ term.old)) }
 {

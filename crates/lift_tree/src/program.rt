@@ -12,7 +12,7 @@ use std::alloc::{AllocError, Global};
 use std::marker::Model;
 
 /// The name of a size or an input: ASCII letters, digits and `_`. Contracts see the list of its bytes.
-#[derive(Debug, Drop)]
+#[derive(Drop)]
 pub struct Identifier {
     bytes: Vec<u8>,
 }
@@ -49,7 +49,7 @@ impl Identifier {
 }
 
 /// A declared size: it ranges over the multiples of `multiple` from `from` to `to`.
-#[derive(Debug, Drop)]
+#[derive(Drop)]
 pub struct Size {
     pub name: Identifier,
     pub multiple: u32,
@@ -72,7 +72,7 @@ impl Size {
 }
 
 /// A declared input with its type as written.
-#[derive(Debug, Drop)]
+#[derive(Drop)]
 pub struct Input {
     pub name: Identifier,
     pub ty: InputType,
@@ -91,7 +91,7 @@ impl Input {
 }
 
 /// A program: its sizes and inputs in the order of declaration, and the term whose value it gives. Terms and lengths name sizes and inputs by their numbers in that order, from 0.
-#[derive(Debug, Drop)]
+#[derive(Drop)]
 pub struct Program {
     pub sizes: Vec<Size>,
     pub inputs: Vec<Input>,

@@ -1,6 +1,6 @@
 // Renumbering of variables where binders are put in or taken out.
 
-ghost use Rattle.std.specs.Prelude.{◌≡◌, ◌+◌, ◌*◌, ◌<◌, ◌^◌, ◌↔◌, Some, None, IfOk, IfSome, IsNone, IsTrue, false, nat_eq};
+ghost use Rattle.std.specs.Prelude.{◌≡◌, ◌+◌, ◌*◌, ◌<◌, ◌^◌, ◌↔◌, Some, None, IfOk, OnOk, IfSome, IsNone, IsTrue, false, nat_eq};
 ghost use Rattle.lift_tree.specs.Tree.{tree_of, height};
 ghost use Rattle.lift_tree.specs.Meaning.{SameWithOneMore, SameWithValue};
 ghost use Rattle.lift_tree.specs.Renumbering.{up, down, shift, raise, put, put_variable, substitute, mentions, AllBelow, IsRenumberable};
@@ -39,7 +39,9 @@ pub fn raised(alloc: Global, term: &Term, from: u32) -> Result<Term, AllocError>
     ensures raised { IfOk result (λ t. tree_of t ≡ raise from (tree_of term.now)) }
     ensures value { IfOk result (λ t. SameWithOneMore from (tree_of term.now) (tree_of t)) }
 {
-    shifted(alloc, term, 1, from as u64)
+    let mut room = term.copy(alloc)?;
+    make_room(&mut room, 1, from as u64);
+    Ok(room)
 }
 
 // A variable's number after `more` binders at `from`.
@@ -56,54 +58,38 @@ fn shifted_number(number: u32, more: u32, from: u64) -> u32
     }
 }
 
-// The term, renumbered for `more` binders at `from`.
-fn shifted(alloc: Global, term: &Term, more: u32, from: u64) -> Result<Term, AllocError>
+// Renumbers the term for `more` binders at `from`.
+fn make_room(term: &mut Term, more: u32, from: u64)
     requires more_small { more < 2 ^ 31 }
-    requires numbers_small { AllBelow (2 ^ 31) (tree_of term.now) }
-    requires from_small { from + 2 * height (tree_of term.now) < 2 ^ 34 }
-    ensures { IfOk result (λ t. tree_of t ≡ shift more from (tree_of term.now)) }
+    requires numbers_small { AllBelow (2 ^ 31) (tree_of term.old) }
+    requires from_small { from + 2 * height (tree_of term.old) < 2 ^ 34 }
+    ensures { tree_of term.new ≡ shift more from (tree_of term.old) }
 {
     match term {
-        Term::Variable(n) => Ok(Term::Variable(shifted_number(*n, more, from))),
-        Term::Number(n) => Ok(Term::Number(*n)),
-        Term::Input(n) => Ok(Term::Input(*n)),
-        Term::Unary(form, a) => {
-            let form = form.copy(alloc)?;
-            Ok(Term::Unary(form, Box::new(alloc, shifted(alloc, a, more, from)?)?))
-        }
-        Term::Binary(form, a, b) => {
-            let a = Box::new(alloc, shifted(alloc, a, more, from)?)?;
-            Ok(Term::Binary(*form, a, Box::new(alloc, shifted(alloc, b, more, from)?)?))
+        Term::Variable(n) => *n = shifted_number(*n, more, from),
+        Term::Number(_) | Term::Input(_) => {}
+        Term::Unary(_, a) => make_room(a, more, from),
+        Term::Binary(_, a, b) => {
+            make_room(a, more, from);
+            make_room(b, more, from);
         }
         Term::Select(a, b, c) => {
-            let a = Box::new(alloc, shifted(alloc, a, more, from)?)?;
-            let b = Box::new(alloc, shifted(alloc, b, more, from)?)?;
-            Ok(Term::Select(a, b, Box::new(alloc, shifted(alloc, c, more, from)?)?))
+            make_room(a, more, from);
+            make_room(b, more, from);
+            make_room(c, more, from);
         }
         Term::Let(value, body) => {
-            let value = Box::new(alloc, shifted(alloc, value, more, from)?)?;
-            Ok(Term::Let(
-                value,
-                Box::new(alloc, shifted(alloc, body, more, from + 1)?)?,
-            ))
+            make_room(value, more, from);
+            make_room(body, more, from + 1);
         }
-        Term::Map(kind, array, body) => {
-            let array = Box::new(alloc, shifted(alloc, array, more, from)?)?;
-            Ok(Term::Map(
-                *kind,
-                array,
-                Box::new(alloc, shifted(alloc, body, more, from + 1)?)?,
-            ))
+        Term::Map(_, array, body) => {
+            make_room(array, more, from);
+            make_room(body, more, from + 1);
         }
-        Term::Fold(kind, array, start, body) => {
-            let array = Box::new(alloc, shifted(alloc, array, more, from)?)?;
-            let start = Box::new(alloc, shifted(alloc, start, more, from)?)?;
-            Ok(Term::Fold(
-                *kind,
-                array,
-                start,
-                Box::new(alloc, shifted(alloc, body, more, from + 2)?)?,
-            ))
+        Term::Fold(_, array, start, body) => {
+            make_room(array, more, from);
+            make_room(start, more, from);
+            make_room(body, more, from + 2);
         }
     }
 }
@@ -115,12 +101,15 @@ pub fn dropped(alloc: Global, term: &Term, from: u32) -> Result<Option<Term>, Al
     requires renumberable { IsRenumberable (tree_of term.now) }
     ensures named { IfOk result (λ o. IsNone o ↔ IsTrue (mentions from (tree_of term.now))) }
     ensures dropped { IfOk result (λ o. IfSome o (λ t. raise from (tree_of t) ≡ tree_of term.now)) }
-    ensures value { IfOk result (λ o. IfSome o (λ t. SameWithOneMore from (tree_of t) (tree_of term.now))) }
+    ensures value { IfOk result (λ o. IfSome o
+        (λ t. SameWithOneMore from (tree_of t) (tree_of term.now))) }
 {
     if is_named(term, from as u64) {
         return Ok(None);
     }
-    Ok(Some(lowered(alloc, term, from as u64)?))
+    let mut closed = term.copy(alloc)?;
+    close_gap(&mut closed, from as u64);
+    Ok(Some(closed))
 }
 
 // Whether the term names the binder `from`.
@@ -154,51 +143,38 @@ fn lowered_number(number: u32, from: u64) -> u32
     }
 }
 
-// The term before one more binder at `from` was put in, which it doesn't name.
+// Renumbers the term, which doesn't name the binder `from`, for that binder taken out.
 #[tactic(auto, using(crate::proofs::Numbers::unnamed))]
-fn lowered(alloc: Global, term: &Term, from: u64) -> Result<Term, AllocError>
-    requires unnamed { mentions from (tree_of term.now) ≡ false }
-    requires from_small { from + 2 * height (tree_of term.now) < 2 ^ 34 }
-    ensures { IfOk result (λ t. raise from (tree_of t) ≡ tree_of term.now) }
+fn close_gap(term: &mut Term, from: u64)
+    requires unnamed { mentions from (tree_of term.old) ≡ false }
+    requires from_small { from + 2 * height (tree_of term.old) < 2 ^ 34 }
+    ensures { raise from (tree_of term.new) ≡ tree_of term.old }
 {
     match term {
-        Term::Variable(n) => Ok(Term::Variable(lowered_number(*n, from))),
-        Term::Number(n) => Ok(Term::Number(*n)),
-        Term::Input(n) => Ok(Term::Input(*n)),
-        Term::Unary(form, a) => {
-            let form = form.copy(alloc)?;
-            Ok(Term::Unary(form, Box::new(alloc, lowered(alloc, a, from)?)?))
-        }
-        Term::Binary(form, a, b) => {
-            let a = Box::new(alloc, lowered(alloc, a, from)?)?;
-            Ok(Term::Binary(*form, a, Box::new(alloc, lowered(alloc, b, from)?)?))
+        Term::Variable(n) => *n = lowered_number(*n, from),
+        Term::Number(_) | Term::Input(_) => {}
+        Term::Unary(_, a) => close_gap(a, from),
+        Term::Binary(_, a, b) => {
+            close_gap(a, from);
+            close_gap(b, from);
         }
         Term::Select(a, b, c) => {
-            let a = Box::new(alloc, lowered(alloc, a, from)?)?;
-            let b = Box::new(alloc, lowered(alloc, b, from)?)?;
-            Ok(Term::Select(a, b, Box::new(alloc, lowered(alloc, c, from)?)?))
+            close_gap(a, from);
+            close_gap(b, from);
+            close_gap(c, from);
         }
         Term::Let(value, body) => {
-            let value = Box::new(alloc, lowered(alloc, value, from)?)?;
-            Ok(Term::Let(value, Box::new(alloc, lowered(alloc, body, from + 1)?)?))
+            close_gap(value, from);
+            close_gap(body, from + 1);
         }
-        Term::Map(kind, array, body) => {
-            let array = Box::new(alloc, lowered(alloc, array, from)?)?;
-            Ok(Term::Map(
-                *kind,
-                array,
-                Box::new(alloc, lowered(alloc, body, from + 1)?)?,
-            ))
+        Term::Map(_, array, body) => {
+            close_gap(array, from);
+            close_gap(body, from + 1);
         }
-        Term::Fold(kind, array, start, body) => {
-            let array = Box::new(alloc, lowered(alloc, array, from)?)?;
-            let start = Box::new(alloc, lowered(alloc, start, from)?)?;
-            Ok(Term::Fold(
-                *kind,
-                array,
-                start,
-                Box::new(alloc, lowered(alloc, body, from + 2)?)?,
-            ))
+        Term::Fold(_, array, start, body) => {
+            close_gap(array, from);
+            close_gap(start, from);
+            close_gap(body, from + 2);
         }
     }
 }
@@ -208,10 +184,14 @@ fn lowered(alloc: Global, term: &Term, from: u64) -> Result<Term, AllocError>
 pub fn substituted(alloc: Global, body: &Term, value: &Term) -> Result<Term, AllocError>
     requires body { IsRenumberable (tree_of body.now) }
     requires value { IsRenumberable (tree_of value.now) }
-    ensures substituted { IfOk result (λ t. tree_of t ≡ substitute (tree_of body.now) (tree_of value.now)) }
-    ensures value { IfOk result (λ t. SameWithValue (tree_of body.now) (tree_of value.now) (tree_of t)) }
+    ensures substituted { IfOk result (λ t. tree_of t
+        ≡ substitute (tree_of body.now) (tree_of value.now)) }
+    ensures value { IfOk result
+        (λ t. SameWithValue (tree_of body.now) (tree_of value.now) (tree_of t)) }
 {
-    filled(alloc, body, value, 0)
+    let mut whole = body.copy(alloc)?;
+    fill(alloc, &mut whole, value, 0)?;
+    Ok(whole)
 }
 
 // The variable, with the value for the binder `from`.
@@ -219,10 +199,13 @@ pub fn substituted(alloc: Global, body: &Term, value: &Term) -> Result<Term, All
 fn filled_variable(alloc: Global, number: u32, value: &Term, from: u64) -> Result<Term, AllocError>
     requires number_small { number < 2 ^ 31 }
     requires value { IsRenumberable (tree_of value.now) }
-    ensures { IfOk result (λ t. tree_of t ≡ put_variable from (tree_of value.now) (down from number)) }
+    ensures { IfOk result (λ t. tree_of t
+        ≡ put_variable from (tree_of value.now) (down from number)) }
 {
     if number as u64 == from {
-        shifted(alloc, value, number, 0)
+        let mut moved = value.copy(alloc)?;
+        make_room(&mut moved, number, 0);
+        Ok(moved)
     } else if (number as u64) < from {
         Ok(Term::Variable(number))
     } else {
@@ -230,54 +213,41 @@ fn filled_variable(alloc: Global, number: u32, value: &Term, from: u64) -> Resul
     }
 }
 
-// The term, with the value for the binder `from`.
-fn filled(alloc: Global, term: &Term, value: &Term, from: u64) -> Result<Term, AllocError>
-    requires numbers_small { AllBelow (2 ^ 31) (tree_of term.now) }
-    requires from_small { from + 2 * height (tree_of term.now) < 2 ^ 34 }
+// Puts the value for the binder `from` into the term.
+fn fill(alloc: Global, term: &mut Term, value: &Term, from: u64) -> Result<(), AllocError>
+    requires numbers_small { AllBelow (2 ^ 31) (tree_of term.old) }
+    requires from_small { from + 2 * height (tree_of term.old) < 2 ^ 34 }
     requires value { IsRenumberable (tree_of value.now) }
-    ensures { IfOk result (λ t. tree_of t ≡ put from (tree_of value.now) (tree_of term.now)) }
+    ensures { OnOk result (tree_of term.new ≡ put from (tree_of value.now) (tree_of term.old)) }
 {
     match term {
-        Term::Variable(n) => filled_variable(alloc, *n, value, from),
-        Term::Number(n) => Ok(Term::Number(*n)),
-        Term::Input(n) => Ok(Term::Input(*n)),
-        Term::Unary(form, a) => {
-            let form = form.copy(alloc)?;
-            Ok(Term::Unary(form, Box::new(alloc, filled(alloc, a, value, from)?)?))
+        Term::Variable(n) => {
+            *term = filled_variable(alloc, *n, value, from)?;
+            Ok(())
         }
-        Term::Binary(form, a, b) => {
-            let a = Box::new(alloc, filled(alloc, a, value, from)?)?;
-            Ok(Term::Binary(*form, a, Box::new(alloc, filled(alloc, b, value, from)?)?))
+        Term::Number(_) | Term::Input(_) => Ok(()),
+        Term::Unary(_, a) => fill(alloc, a, value, from),
+        Term::Binary(_, a, b) => {
+            fill(alloc, a, value, from)?;
+            fill(alloc, b, value, from)
         }
         Term::Select(a, b, c) => {
-            let a = Box::new(alloc, filled(alloc, a, value, from)?)?;
-            let b = Box::new(alloc, filled(alloc, b, value, from)?)?;
-            Ok(Term::Select(a, b, Box::new(alloc, filled(alloc, c, value, from)?)?))
+            fill(alloc, a, value, from)?;
+            fill(alloc, b, value, from)?;
+            fill(alloc, c, value, from)
         }
         Term::Let(bound, body) => {
-            let bound = Box::new(alloc, filled(alloc, bound, value, from)?)?;
-            Ok(Term::Let(
-                bound,
-                Box::new(alloc, filled(alloc, body, value, from + 1)?)?,
-            ))
+            fill(alloc, bound, value, from)?;
+            fill(alloc, body, value, from + 1)
         }
-        Term::Map(kind, array, body) => {
-            let array = Box::new(alloc, filled(alloc, array, value, from)?)?;
-            Ok(Term::Map(
-                *kind,
-                array,
-                Box::new(alloc, filled(alloc, body, value, from + 1)?)?,
-            ))
+        Term::Map(_, array, body) => {
+            fill(alloc, array, value, from)?;
+            fill(alloc, body, value, from + 1)
         }
-        Term::Fold(kind, array, start, body) => {
-            let array = Box::new(alloc, filled(alloc, array, value, from)?)?;
-            let start = Box::new(alloc, filled(alloc, start, value, from)?)?;
-            Ok(Term::Fold(
-                *kind,
-                array,
-                start,
-                Box::new(alloc, filled(alloc, body, value, from + 2)?)?,
-            ))
+        Term::Fold(_, array, start, body) => {
+            fill(alloc, array, value, from)?;
+            fill(alloc, start, value, from)?;
+            fill(alloc, body, value, from + 2)
         }
     }
 }

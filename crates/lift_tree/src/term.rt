@@ -1,6 +1,8 @@
 // Terms.
 
-ghost use Rattle.std.specs.Prelude.{◌≡◌, IfOk, min};
+ghost use Rattle.std.specs.Prelude.{◌≡◌, IfOk, min, option_map};
+ghost use Rattle.lift_tree.specs.Places.{child_at};
+ghost use Rattle.lift_tree.specs.Tree as tree;
 ghost use Rattle.lift_tree.specs.Tree.{tree_of, nodes, height};
 
 use crate::length::Product;
@@ -123,6 +125,63 @@ impl UnaryForm {
 }
 
 impl Term {
+    /// The form over this child.
+    pub fn unary(alloc: Global, form: UnaryForm, a: Term) -> Result<Self, AllocError>
+        ensures { IfOk result (λ t. tree_of t ≡ tree.Unary form (tree_of a)) }
+    {
+        Ok(Term::Unary(form, Box::new(alloc, a)?))
+    }
+
+    /// The form over these children.
+    pub fn binary(alloc: Global, form: BinaryForm, a: Term, b: Term) -> Result<Self, AllocError>
+        ensures { IfOk result (λ t. tree_of t ≡ tree.Binary form (tree_of a) (tree_of b)) }
+    {
+        let a = Box::new(alloc, a)?;
+        Ok(Term::Binary(form, a, Box::new(alloc, b)?))
+    }
+
+    /// `yes` where the condition isn't 0, else `no`.
+    pub fn select(alloc: Global, condition: Term, yes: Term, no: Term) -> Result<Self, AllocError>
+        ensures { IfOk result (λ t. tree_of t
+            ≡ tree.Select (tree_of condition) (tree_of yes) (tree_of no)) }
+    {
+        let condition = Box::new(alloc, condition)?;
+        let yes = Box::new(alloc, yes)?;
+        Ok(Term::Select(condition, yes, Box::new(alloc, no)?))
+    }
+
+    /// The body, with a binder of this value.
+    pub fn bind(alloc: Global, value: Term, body: Term) -> Result<Self, AllocError>
+        ensures { IfOk result (λ t. tree_of t ≡ tree.Let (tree_of value) (tree_of body)) }
+    {
+        let value = Box::new(alloc, value)?;
+        Ok(Term::Let(value, Box::new(alloc, body)?))
+    }
+
+    /// The array of the body's values, where its binder has each value of the array.
+    pub fn map(alloc: Global, kind: MapKind, array: Term, body: Term) -> Result<Self, AllocError>
+        ensures { IfOk result (λ t. tree_of t ≡ tree.Map kind (tree_of array) (tree_of body)) }
+    {
+        let array = Box::new(alloc, array)?;
+        Ok(Term::Map(kind, array, Box::new(alloc, body)?))
+    }
+
+    /// The left fold of the array, from the start by the body.
+    pub fn fold(
+        alloc: Global,
+        kind: FoldKind,
+        array: Term,
+        start: Term,
+        body: Term,
+    ) -> Result<Self, AllocError>
+        ensures { IfOk result (λ t. tree_of t
+            ≡ tree.Fold kind (tree_of array) (tree_of start) (tree_of body)) }
+    {
+        let array = Box::new(alloc, array)?;
+        let start = Box::new(alloc, start)?;
+        Ok(Term::Fold(kind, array, start, Box::new(alloc, body)?))
+    }
+
     /// An equal term in memory of its own.
     pub fn copy(&self, alloc: Global) -> Result<Self, AllocError>
         ensures { IfOk result (λ t. tree_of t ≡ tree_of self.now) }
@@ -131,32 +190,53 @@ impl Term {
             Term::Variable(n) => Ok(Term::Variable(*n)),
             Term::Number(n) => Ok(Term::Number(*n)),
             Term::Input(n) => Ok(Term::Input(*n)),
-            Term::Unary(form, a) => {
-                let form = form.copy(alloc)?;
-                Ok(Term::Unary(form, Box::new(alloc, a.copy(alloc)?)?))
-            }
+            Term::Unary(form, a) => Term::unary(alloc, form.copy(alloc)?, a.copy(alloc)?),
             Term::Binary(form, a, b) => {
-                let a = Box::new(alloc, a.copy(alloc)?)?;
-                Ok(Term::Binary(*form, a, Box::new(alloc, b.copy(alloc)?)?))
+                let a = a.copy(alloc)?;
+                Term::binary(alloc, *form, a, b.copy(alloc)?)
             }
             Term::Select(a, b, c) => {
-                let a = Box::new(alloc, a.copy(alloc)?)?;
-                let b = Box::new(alloc, b.copy(alloc)?)?;
-                Ok(Term::Select(a, b, Box::new(alloc, c.copy(alloc)?)?))
+                let a = a.copy(alloc)?;
+                let b = b.copy(alloc)?;
+                Term::select(alloc, a, b, c.copy(alloc)?)
             }
             Term::Let(value, body) => {
-                let value = Box::new(alloc, value.copy(alloc)?)?;
-                Ok(Term::Let(value, Box::new(alloc, body.copy(alloc)?)?))
+                let value = value.copy(alloc)?;
+                Term::bind(alloc, value, body.copy(alloc)?)
             }
             Term::Map(kind, array, body) => {
-                let array = Box::new(alloc, array.copy(alloc)?)?;
-                Ok(Term::Map(*kind, array, Box::new(alloc, body.copy(alloc)?)?))
+                let array = array.copy(alloc)?;
+                Term::map(alloc, *kind, array, body.copy(alloc)?)
             }
             Term::Fold(kind, array, start, body) => {
-                let array = Box::new(alloc, array.copy(alloc)?)?;
-                let start = Box::new(alloc, start.copy(alloc)?)?;
-                Ok(Term::Fold(*kind, array, start, Box::new(alloc, body.copy(alloc)?)?))
+                let array = array.copy(alloc)?;
+                let start = start.copy(alloc)?;
+                Term::fold(alloc, *kind, array, start, body.copy(alloc)?)
             }
+        }
+    }
+
+    /// The child of this number, counted from 0. None where there is no such child.
+    pub fn child(&self, number: u32) -> Option<&Term>
+        ensures { option_map (λ t. tree_of t.now) result ≡ child_at (tree_of self.now) number }
+    {
+        match self {
+            Term::Variable(_) | Term::Number(_) | Term::Input(_) => None,
+            Term::Unary(_, a) => match number {
+                0 => Some(a),
+                _ => None,
+            },
+            Term::Binary(_, a, b) | Term::Let(a, b) | Term::Map(_, a, b) => match number {
+                0 => Some(a),
+                1 => Some(b),
+                _ => None,
+            },
+            Term::Select(a, b, c) | Term::Fold(_, a, b, c) => match number {
+                0 => Some(a),
+                1 => Some(b),
+                2 => Some(c),
+                _ => None,
+            },
         }
     }
 

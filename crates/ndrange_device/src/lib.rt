@@ -25,7 +25,7 @@ pub fn run_in_order(
     launch: Launch,
     cells: Cells,
 ) -> Result<Ended, AllocError>
-    requires admissible { seen.AdmissibleLaunch (kernel_of kernel) launch cells }
+    requires may_start { seen.MayStart (kernel_of kernel) launch cells }
     requires one_item { launch.global ≡ 1 }
     requires safe { IsSafe (kernel_of kernel) launch cells }
     ensures { IfOk result (λ ended. EndsInOrder (kernel_of kernel) launch cells (map (λ row. row.items) ended.outs.items) ended.events) }
@@ -37,8 +37,6 @@ pub fn run_in_order(
         let _ = machine.step(event);
         events += 1;
     }
-    Ok(Ended {
-        outs: machine.outputs(),
-        events,
-    })
+    let outs = machine.outputs();
+    Ok(Ended { outs, events })
 }

@@ -7,7 +7,9 @@ use Rattle.kernel_tree.specs.declared.tree.Expr.{Expr}
 use Rattle.kernel_tree.specs.declared.tree.Expr as expr
 use Rattle.kernel_tree.specs.declared.tree.Array as held_array
 use Rattle.kernel_tree.specs.declared.tree.Start as held_start
+use Rattle.kernel_tree.specs.declared.tree.Start.TheVariants as held_start_form
 use Rattle.kernel_tree.specs.declared.tree.Stride as held_stride
+use Rattle.kernel_tree.specs.declared.tree.Stride.TheVariants as held_stride_form
 use Rattle.kernel_tree.specs.declared.events.FaultKind.{FaultKind}
 use Rattle.kernel_tree.specs.declared.events.FaultKind.TheVariants.{ZeroDivisor, LoopWrap}
 use Rattle.kernel_tree.specs.Formula.{Formula, Ids, sizes_alone, value, bound_value}
@@ -55,10 +57,10 @@ ids_free ids loops vars (expr.Size s) = refl
 ids_free ids loops vars (expr.Sum' p a q b) = cc (ids_free ids loops vars a, ids_free ids loops vars b)
 
 start_free : (ids : Ids) (s : held_start.Start) → start_value no_ids (start_of s) ≡ start_value ids (start_of s)
-start_free ids s = refl
+start_free ids held_start_form.Zero = refl
 
 stride_free : (ids : Ids) (c : held_stride.Stride) → stride_value no_ids (stride_of c) ≡ stride_value ids (stride_of c)
-stride_free ids c = refl
+stride_free ids held_stride_form.One = refl
 
 -- a line by its text
 is_assign : (l : held.Line) (v : ℕ) (e : Formula) → text_of l ≡ Assign v e → (d : Expr) × (l ≡ held_line.Assign v d) × (formula_of d ≡ e)

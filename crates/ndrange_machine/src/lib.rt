@@ -11,6 +11,3 @@ mod value;
 mod want;
 
 pub use machine::Machine;
-
-#[cfg(test)]
-mod tests;

@@ -39,7 +39,7 @@ impl Machine {
         launch: Launch,
         cells: Cells,
     ) -> Result<Machine, AllocError>
-        requires admissible { seen.AdmissibleLaunch (kernel_of kernel) launch cells }
+        requires may_start { seen.MayStart (kernel_of kernel) launch cells }
         requires one_item { launch.global ≡ 1 }
         ensures { IfOk result (λ m. StandsFor (kernel_of kernel) launch cells m []) }
     {

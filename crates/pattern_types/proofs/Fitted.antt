@@ -11,7 +11,7 @@ use Rattle.lift_tree.specs.declared.length.Factor.{Factor}
 use Rattle.lift_tree.specs.declared.length.Part.{Part}
 use Rattle.lift_tree.specs.InputTypes as written
 use Rattle.lift_tree.specs.InputTypes.{Written}
-use Rattle.lift_tree.specs.Limits.{arrays, components}
+use Rattle.lift_tree.specs.Limits.{arrays, components, IsSmall, ProductFits, SumFits, ProductsAreSmall, ScalarsAreFew, ArrayFits, InputFits}
 use Rattle.lift_tree.specs.Lists.{Every}
 use Rattle.lift_tree.specs.Programs.{PlainInput}
 use Rattle.lift_tree.specs.Types.{PlainTy, U32, PairOf, ArrayOf, IsFormed}
@@ -25,7 +25,6 @@ use Rattle.pattern_types.specs.declared.refusal.TypeRefusal.TheVariants.{IllType
 use Rattle.pattern_types.specs.declared.fault.Fault.{Fault}
 use Rattle.pattern_types.specs.declared.fault.Fault.TheVariants as fault
 use Rattle.pattern_types.specs.Judged.{product_judged, sum_judged, scalars_judged, formed, input_judged, at_input, refusal_at, inputs_judged}
-use Rattle.pattern_types.specs.Fitting.{ProductFits, SumFits, ScalarsFit, ArrayFits, InputFits}
 use Rattle.pattern_types.proofs.Products.{product_right}
 use Rattle.pattern_types.proofs.Inputs.{sum_right}
 use Rattle.pattern_types.proofs.Judging.{done, Judges, Comes, Refuses, itself, answers, judges_same, judges_as, judges_then, judges_three, judges_demand, judges_at_most, judges_counted, judges_within}
@@ -51,6 +50,25 @@ judges_sum names (p ∷ ps) s =
     judges_three (judges_then _ (judges_product names p.product) (λ e w. judges_then _ (judges_within next) (λ f v. judges_sum names ps next)))
 
 -- ---- arrays
+-- the products are small and the scalars few, in the order in which they are judged
+abbrev ScalarsFit : List Name → List Monomial → PlainTy → Type 0
+ScalarsFit names p U32 = ScalarsAreFew names p U32
+ScalarsFit names p (PairOf a b) = ScalarsFit names p a × ScalarsFit names p b
+ScalarsFit names p (ArrayOf a n) = IsSmall (times p n) × ScalarsFit names (times p n) a
+
+parts_fit : (names : List Name) (p : List Monomial) (a : PlainTy) → ScalarsFit names p a → ProductsAreSmall p a × ScalarsAreFew names p a
+parts_fit names p U32 h = (tt, h)
+parts_fit names p (PairOf a b) h =
+    let x = parts_fit names p a h.0 in
+    let y = parts_fit names p b h.1 in
+    ((x.0, y.0), (x.1, y.1))
+parts_fit names p (ArrayOf a n) h = let x = parts_fit names (times p n) a h.1 in ((h.0, x.0), x.1)
+
+both_fit : (names : List Name) (p : List Monomial) (a : PlainTy) → ProductsAreSmall p a → ScalarsAreFew names p a → ScalarsFit names p a
+both_fit names p U32 h k = k
+both_fit names p (PairOf a b) h k = (both_fit names p a h.0 k.0, both_fit names p b h.1 k.1)
+both_fit names p (ArrayOf a n) h k = (h.0, both_fit names (times p n) a h.1 k)
+
 judges_scalars : (names : List Name) (p : List Monomial) (a : PlainTy) → Judges itself (ScalarsFit names p a) done (scalars_judged names p a)
 judges_scalars names p U32 = judges_at_most 2147483647 limit.Scalars (largest names p)
 judges_scalars names p (PairOf a b) = judges_then _ (judges_scalars names p a) (λ e w. judges_scalars names p b)
@@ -63,11 +81,11 @@ judges_formed names a n low shown =
     (judges_then _ (judges_counted limit.Arrays (arrays (ArrayOf a n))) (λ e w.
     judges_then _ (judges_counted limit.Components (length (components a))) (λ f v.
     judges_then _ (judges_scalars names n a) (λ g u. answers refl))))
-    (λ h. record { arrays = h.0; components = h.1.0; scalars = h.1.1.0 })
-    (λ h. (h.arrays, (h.components, (h.scalars, tt)))))
+    (λ h. let x = parts_fit names n a h.1.1.0 in record { arrays = h.0; components = h.1.0; products = x.0; scalars = x.1 })
+    (λ h. (h.arrays, (h.components, (both_fit names n a h.products h.scalars, tt)))))
 
 -- ---- inputs
-judges_input : (names : List Name) (w : Written) → IsFormed names (worked_out names w) → Judges itself (InputFits names w) (worked_out names w) (input_judged names w)
+pub judges_input : (names : List Name) (w : Written) → IsFormed names (worked_out names w) → Judges itself (InputFits names w) (worked_out names w) (input_judged names w)
 judges_input names written.Number h = answers refl
 judges_input names (written.Pair v w) h =
     judges_same (judges_then _ (judges_input names v h.0) (λ e x. judges_then _ (judges_input names w h.1) (λ f y. answers refl))) (λ x. (x.0, x.1.0)) (λ x. (x.0, (x.1, tt)))

@@ -13,7 +13,6 @@ use Rattle.lift_tree.specs.declared.term.UnaryForm.{UnaryForm}
 use Rattle.lift_tree.specs.declared.term.UnaryForm.TheVariants.{Div, Rem, First, Second, Join, Transpose, Split, Slide, Pad, ToLocal, ToPrivate}
 use Rattle.lift_tree.specs.declared.term.BinaryForm.{BinaryForm}
 use Rattle.lift_tree.specs.declared.term.BinaryForm.TheVariants as binary
-use Rattle.lift_tree.specs.Limits.{IsSmall}
 use Rattle.lift_tree.specs.Types.{PlainTy, U32, PairOf, ArrayOf, IsElement, IsFormed}
 use Rattle.lift_tree.specs.WorkedOut.{product_of}
 use Rattle.lift_tree.specs.Typing.{constant, UnaryRow, BinaryRow}
@@ -21,7 +20,7 @@ use Rattle.pattern_types.specs.declared.refusal.Rule.TheVariants as rule
 use Rattle.pattern_types.specs.declared.fault.Fault.{Fault}
 use Rattle.pattern_types.specs.Tests.{exact_quotient, all_divide, is_element}
 use Rattle.pattern_types.specs.Judged.{pieces_row, windows_row, unary_row, operator_row, zip_row, reduce_row, binary_row}
-use Rattle.pattern_types.specs.Fitting.{ArrayFits, OuterFits, UnaryFits}
+use Rattle.lift_tree.specs.Limits.{IsSmall, ArrayFits, OuterFits, UnaryFits}
 use Rattle.pattern_types.proofs.Products.{product_right}
 use Rattle.pattern_types.proofs.Table.{IsGood, constant_low, quotient_low}
 use Rattle.pattern_types.proofs.Tried.{decides_all_divide}
@@ -37,17 +36,17 @@ exact_one d n h = go (all_divide d n) ((decides_all_divide d n).1 h)
     go true e = refl
     go false e = absurd (cc)
 
-exact_on : (c : ℤ) (ms : List ℕ) (n : List Monomial) → is_zero c ≡ false → AllDivide (record { coefficient = c; powers = ms }) n → exact_quotient (on c ms []) n ≡ Some (quotient (record { coefficient = c; powers = ms }) n)
+pub exact_on : (c : ℤ) (ms : List ℕ) (n : List Monomial) → is_zero c ≡ false → AllDivide (record { coefficient = c; powers = ms }) n → exact_quotient (on c ms []) n ≡ Some (quotient (record { coefficient = c; powers = ms }) n)
 exact_on (pos zero) ms n e h = absurd (cc)
 exact_on (pos (suc c)) ms n e h = exact_one _ n h
 exact_on (negsuc c) ms n e h = exact_one _ n h
 
-above_zero : (t : ℕ) → 0 < t → is_zero (pos t) ≡ false
+pub above_zero : (t : ℕ) → 0 < t → is_zero (pos t) ≡ false
 above_zero zero h = absurd (omega arith)
 above_zero (suc t) h = refl
 
 -- ---- forms with one child
-same_array : (x y : PlainTy) (n m : List Monomial) → ArrayOf x n ≡ ArrayOf y m → (x ≡ y) × (n ≡ m)
+pub same_array : (x y : PlainTy) (n m : List Monomial) → ArrayOf x n ≡ ArrayOf y m → (x ≡ y) × (n ≡ m)
 same_array x y n m e = (cc, cc)
 
 first_is : (a b c d : PlainTy) → PairOf a b ≡ PairOf c d → (a ≡ c) × (b ≡ d)

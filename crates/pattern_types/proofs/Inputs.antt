@@ -28,7 +28,7 @@ same_type a c h = cc
 same_types : (a c : List PlainTy) → yes TypeRefusal a ≡ Ok c → a ≡ c
 same_types a c h = cc
 
-at_input_ok : (i : ℕ) (r : Result PlainTy Fault) (a : PlainTy) → at_input i r ≡ Ok a → r ≡ Ok a
+pub at_input_ok : (i : ℕ) (r : Result PlainTy Fault) (a : PlainTy) → at_input i r ≡ Ok a → r ≡ Ok a
 at_input_ok i (Ok b) a h = let e : b ≡ a = cc in ap Ok e
 at_input_ok i (Err e) a h = absurd (cc)
 
@@ -42,7 +42,7 @@ sum_right names (p ∷ ps) s q l h =
     let r = sum_right names ps n.0 q v.1 n.2 in
     (r.0 ∙ ap (λ z. sum_of names z ps) (sym v.0 ∙ ap (with_part p.sign s) w.0), r.1)
 
-input_right : (names : List Name) (w : Written) (a : PlainTy) → input_judged names w ≡ Ok a → (a ≡ worked_out names w) × IsGood names a
+pub input_right : (names : List Name) (w : Written) (a : PlainTy) → input_judged names w ≡ Ok a → (a ≡ worked_out names w) × IsGood names a
 input_right names written.Number a h = let e = same_type U32 a h in (sym e, subst (IsGood names) e tt)
 input_right names (written.Pair v w) a h =
     let p = and_ok (input_judged names v) _ a h in

@@ -1,11 +1,14 @@
 pub mod Counted
+pub mod Faults
 pub mod Fitted
 pub mod Forms
 pub mod Inputs
 pub mod Judging
 pub mod Named
 pub mod Products
+pub mod Proper
 pub mod Reached
+pub mod Refused
 pub mod Results
 pub mod Right
 pub mod Table

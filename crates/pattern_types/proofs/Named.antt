@@ -2,7 +2,7 @@
 use Rattle.std.proofs.Common.{ℕ, List, [], ◌∷◌, arith}
 use Rattle.lift_tree.specs.declared.length.Factor.{Factor}
 use Rattle.lift_tree.specs.declared.length.Factor.TheVariants as factor
-use Rattle.pattern_types.specs.Belonging.{AreNamed}
+use Rattle.lift_tree.specs.Belonging.{AreNamed}
 
 pub named_any : (s : ℕ) (fs : List Factor) → AreNamed s 1 fs → AreNamed s 0 fs
 named_any s [] h = tt

@@ -22,14 +22,14 @@ use Rattle.pattern_types.specs.declared.refusal.TypeRefusal.TheVariants.{IllType
 use Rattle.pattern_types.specs.declared.fault.Fault.{Fault}
 use Rattle.pattern_types.specs.declared.fault.Fault.TheVariants as fault
 use Rattle.pattern_types.specs.declared.fault.NodeFault.{NodeFault}
-use Rattle.pattern_types.specs.Belonging.{Belongs}
+use Rattle.lift_tree.specs.Belonging.{Belongs}
 use Rattle.pattern_types.specs.Numbers.{NumbersFit}
 use Rattle.pattern_types.specs.Scopes.{nth_type}
 use Rattle.pattern_types.specs.Tests.{is_element, holds_elements, is_output, is_same_element}
 use Rattle.pattern_types.specs.Judged as table
 use Rattle.pattern_types.specs.Judged.{under, select_row, element_in, map_end, fold_start, fold_end, judged, at_node, refusal_at, output_judged, program_judged}
 use Rattle.pattern_types.specs.Judgement.{HasTypes, IsJudgement, TypesAreJudged, OutputsHaveTypes, OutputsBelong, Explains}
-use Rattle.pattern_types.specs.Fitting.{OuterFits, NodesFit, IsWithinLimits}
+use Rattle.lift_tree.specs.Limits.{OuterFits, NodesFit, IsWithinLimits}
 use Rattle.pattern_types.proofs.Results.{under_ok}
 use Rattle.pattern_types.proofs.Table.{IsGood, constant_low}
 use Rattle.pattern_types.proofs.Inputs.{inputs_right}
@@ -126,7 +126,7 @@ holds_is U32 h = refl
 holds_is (PairOf a b) h = and_from (is_element a) (is_element b) (element_is a h.0) (element_is b h.1)
 holds_is (ArrayOf a n) h = holds_is a h
 
-output_is : (a : PlainTy) → IsOutput a → IsTrue (is_output a)
+pub output_is : (a : PlainTy) → IsOutput a → IsTrue (is_output a)
 output_is U32 h = absurd h
 output_is (PairOf a b) h = absurd h
 output_is (ArrayOf a n) h = holds_is a h
@@ -188,9 +188,7 @@ outputs_have_types p t a h =
     (n.0, record { declared = h.declared; nodes = n.1; output = subst IsOutput (sym n.2) h.output }, n.2)
 
 pub outputs_belong : OutputsBelong
-outputs_belong p t a h =
-    let n = all_named (program_of p) t a h in
-    (subst (λ z. Belongs (length p.sizes.items) z 0 t) (length-map input_of p.inputs.items) n.0, n.1)
+outputs_belong p t a h = all_named p t a h
 
 -- the types that are judged pass no limit
 pub judged_within : (p : PlainProgram) (t : Tree) (n : Annotation) → HasTypes p t n → program_judged p t ≡ Ok n → IsWithinLimits p t n

@@ -12,7 +12,7 @@ use Rattle.pattern_types.specs.declared.refusal.Rule.{Rule}
 use Rattle.pattern_types.specs.declared.refusal.Rule.TheVariants as rule
 use Rattle.pattern_types.specs.declared.fault.Fault.{Fault}
 use Rattle.pattern_types.specs.declared.fault.NodeFault.{NodeFault}
-use Rattle.pattern_types.specs.Belonging.{Belongs}
+use Rattle.lift_tree.specs.Belonging.{Belongs}
 use Rattle.pattern_types.specs.Numbers.{NumbersFit}
 use Rattle.pattern_types.specs.Scopes.{nth_type}
 use Rattle.pattern_types.specs.Tests.{is_element, is_same_element}
@@ -45,12 +45,12 @@ select_right a b c z h =
     let w = number_right c z p.2 in
     (x.0, y.0, w.0, w.1)
 
-element_right : (r : Rule) (a x : PlainTy) → element_in r a ≡ Ok x → (l : List Monomial) × (a ≡ ArrayOf x l)
+pub element_right : (r : Rule) (a x : PlainTy) → element_in r a ≡ Ok x → (l : List Monomial) × (a ≡ ArrayOf x l)
 element_right r U32 x h = absurd (cc)
 element_right r (PairOf a b) x h = absurd (cc)
 element_right r (ArrayOf a n) x h = (n, let e : a ≡ x = cc in ap (λ z. ArrayOf z n) e)
 
-start_right : (a s x : PlainTy) → fold_start a s ≡ Ok x → (l : List Monomial) × (a ≡ ArrayOf x l) × IsElement s
+pub start_right : (a s x : PlainTy) → fold_start a s ≡ Ok x → (l : List Monomial) × (a ≡ ArrayOf x l) × IsElement s
 start_right a s x h =
     let p = and_ok (element_in rule.Fold a) _ x h in
     let q = and_ok (demand (is_element s) rule.Fold) _ x p.2 in

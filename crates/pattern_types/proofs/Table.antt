@@ -20,7 +20,7 @@ use Rattle.lift_tree.specs.Limits.{arrays, components}
 use Rattle.pattern_types.specs.declared.refusal.Rule.TheVariants as rule
 use Rattle.pattern_types.specs.declared.refusal.TypeLimit.TheVariants as limit
 use Rattle.pattern_types.specs.declared.fault.Fault.{Fault}
-use Rattle.pattern_types.specs.Belonging.{FormIsNamed}
+use Rattle.lift_tree.specs.Belonging.{FormIsNamed}
 use Rattle.pattern_types.specs.Tests.{exact_quotient, all_divide, is_element, is_same_element}
 use Rattle.pattern_types.specs.Judged.{demand, at_most, counted, within, product_judged, formed, scalars_judged, unary_row, binary_row, split_row, pieces_row, windows_row, number_row, zip_row, reduce_row}
 use Rattle.pattern_types.proofs.Results.{yes, and_ok, within_ok, demand_ok}
@@ -55,14 +55,14 @@ quotient_low d (m ∷ p) h l =
     let b = l.0 in
     (omega arith, quotient_low d p h.1 l.1)
 
-exact_one : (d : Monomial) (n q : List Monomial) → exact_quotient (d ∷ []) n ≡ Some q → AllDivide d n × (q ≡ quotient d n)
+pub exact_one : (d : Monomial) (n q : List Monomial) → exact_quotient (d ∷ []) n ≡ Some q → AllDivide d n × (q ≡ quotient d n)
 exact_one d n q h = go (all_divide d n) refl h
   where
     go : (b : Bool) → all_divide d n ≡ b → (if b then Some (quotient d n) else None) ≡ Some q → AllDivide d n × (q ≡ quotient d n)
     go true e k = ((decides_all_divide d n).0 e, let f : quotient d n ≡ q = cc in sym f)
     go false e k = absurd (cc)
 
-exact_on : (c : ℤ) (ms : List ℕ) (n q : List Monomial) → exact_quotient (on c ms []) n ≡ Some q → AllDivide (record { coefficient = c; powers = ms }) n × (q ≡ quotient (record { coefficient = c; powers = ms }) n)
+pub exact_on : (c : ℤ) (ms : List ℕ) (n q : List Monomial) → exact_quotient (on c ms []) n ≡ Some q → AllDivide (record { coefficient = c; powers = ms }) n × (q ≡ quotient (record { coefficient = c; powers = ms }) n)
 exact_on (pos zero) ms n q h = absurd (cc)
 exact_on (pos (suc c)) ms n q h = exact_one _ n q h
 exact_on (negsuc c) ms n q h = exact_one _ n q h

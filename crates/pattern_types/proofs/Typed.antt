@@ -18,7 +18,7 @@ use Rattle.lift_tree.specs.WorkedOut.{nth_name, product_of}
 use Rattle.lift_tree.specs.Lists.{Every}
 use Rattle.lift_tree.specs.Annotations.{Annotation, Leaf, One, Two, Three, type_in, Annotates}
 use Rattle.lift_tree.proofs.Formed.{formed}
-use Rattle.pattern_types.specs.Belonging.{AreNamed, FormIsNamed, Belongs}
+use Rattle.lift_tree.specs.Belonging.{AreNamed, FormIsNamed, Belongs}
 use Rattle.pattern_types.specs.Numbers.{NumbersFit}
 
 -- ---- no length is 0

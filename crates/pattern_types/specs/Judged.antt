@@ -62,13 +62,16 @@ within p = faulty (limited p)
 -- the factors multiplied to a product, from left to right
 abbrev pub product_judged : List Name → List Monomial → List Factor → Result (List Monomial) Fault
 product_judged names p [] = Ok p
-product_judged names p (f ∷ fs) = and_then (within (times p (of_monomial (factor_monomial names f)))) (λ q. product_judged names q fs)
+product_judged names p (f ∷ fs) =
+    and_then (within (times p (of_monomial (factor_monomial names f)))) (λ q.
+    product_judged names q fs)
 
 -- the parts added to a sum, from left to right
 abbrev pub sum_judged : List Name → List Monomial → List Part → Result (List Monomial) Fault
 sum_judged names sum [] = Ok sum
 sum_judged names sum (p ∷ ps) =
-    and_then (product_judged names (constant 1) p.product) (λ q. and_then (within (with_part p.sign sum q)) (λ r. sum_judged names r ps))
+    and_then (product_judged names (constant 1) p.product) (λ q.
+    and_then (within (with_part p.sign sum q)) (λ r. sum_judged names r ps))
 
 -- ---- arrays
 -- a count, which stands still at 2^64 - 1
@@ -81,7 +84,8 @@ at_most most which n = if nat_lt most n then Err (Passes which n) else Ok tt
 -- each component's product of lengths, where those outside have this product
 abbrev pub scalars_judged : List Name → List Monomial → PlainTy → Result (Unit {0}) Fault
 scalars_judged names p U32 = at_most 2147483647 limit.Scalars (largest names p)
-scalars_judged names p (PairOf a b) = and_then (scalars_judged names p a) (λ _. scalars_judged names p b)
+scalars_judged names p (PairOf a b) =
+    and_then (scalars_judged names p a) (λ _. scalars_judged names p b)
 scalars_judged names p (ArrayOf a n) = and_then (within (times p n)) (λ q. scalars_judged names q a)
 
 -- an array that is formed
@@ -120,10 +124,12 @@ transpose_row names U32 = Err (Breaks rule.Transpose)
 transpose_row names (PairOf a b) = Err (Breaks rule.Transpose)
 transpose_row names (ArrayOf U32 n) = Err (Breaks rule.Transpose)
 transpose_row names (ArrayOf (PairOf a b) n) = Err (Breaks rule.Transpose)
-transpose_row names (ArrayOf (ArrayOf a m) n) = and_then (formed names a n) (λ row. formed names row m)
+transpose_row names (ArrayOf (ArrayOf a m) n) =
+    and_then (formed names a n) (λ row. formed names row m)
 
 -- pieces of length m of an array that has the quotient of them
-abbrev pub pieces_row : List Name → PlainTy → List Monomial → Option (List Monomial) → Result PlainTy Fault
+abbrev pub pieces_row : List Name → PlainTy → List Monomial → Option (List Monomial)
+    → Result PlainTy Fault
 pieces_row names a m None = Err (Breaks rule.Split)
 pieces_row names a m (Some q) = and_then (formed names a m) (λ piece. formed names piece q)
 
@@ -136,19 +142,23 @@ split_row names m (ArrayOf a n) = pieces_row names a m (exact_quotient m n)
 abbrev pub windows_row : List Name → PlainTy → ℕ → Option (List Monomial) → Result PlainTy Fault
 windows_row names a s None = Err (Breaks rule.Slide)
 windows_row names a s (Some q) =
-    and_then (formed names a (constant s)) (λ window. and_then (within (plus q (constant 1))) (λ n. formed names window n))
+    and_then (formed names a (constant s)) (λ window.
+    and_then (within (plus q (constant 1))) (λ n. formed names window n))
 
 abbrev pub slide_row : List Name → (size step : ℕ) → PlainTy → Result PlainTy Fault
 slide_row names s t U32 = Err (Breaks rule.Slide)
 slide_row names s t (PairOf a b) = Err (Breaks rule.Slide)
 slide_row names s t (ArrayOf a n) =
     and_then (within (minus n (constant s))) (λ left.
-    and_then (demand (is_shown 0 names left) rule.Slide) (λ _. windows_row names a s (exact_quotient (constant t) left)))
+    and_then (demand (is_shown 0 names left) rule.Slide) (λ _.
+    windows_row names a s (exact_quotient (constant t) left)))
 
 abbrev pub pad_row : List Name → (before after : ℕ) → PlainTy → Result PlainTy Fault
 pad_row names l r U32 = Err (Breaks rule.Pad)
 pad_row names l r (PairOf a b) = Err (Breaks rule.Pad)
-pad_row names l r (ArrayOf a n) = and_then (within (plus (constant l) n)) (λ m. and_then (within (plus m (constant r))) (λ k. formed names a k))
+pad_row names l r (ArrayOf a n) =
+    and_then (within (plus (constant l) n)) (λ m.
+    and_then (within (plus m (constant r))) (λ k. formed names a k))
 
 abbrev pub unary_row : List Name → UnaryForm → PlainTy → Result PlainTy Fault
 unary_row names (Div n) a = number_row a
@@ -157,7 +167,8 @@ unary_row names First a = first_row a
 unary_row names Second a = second_row a
 unary_row names Join a = join_row names a
 unary_row names Transpose a = transpose_row names a
-unary_row names (Split fs) a = and_then (product_judged names (constant 1) fs) (λ m. split_row names m a)
+unary_row names (Split fs) a =
+    and_then (product_judged names (constant 1) fs) (λ m. split_row names m a)
 unary_row names (Slide s t) a = slide_row names s t a
 unary_row names (Pad l r) a = pad_row names l r a
 unary_row names ToLocal a = Ok a
@@ -170,7 +181,8 @@ abbrev pub pair_row : PlainTy → PlainTy → Result PlainTy Fault
 pair_row a b = and_then (demand (is_element a && is_element b) rule.Pair) (λ _. Ok (PairOf a b))
 
 abbrev pub zip_row : List Name → PlainTy → PlainTy → Result PlainTy Fault
-zip_row names (ArrayOf a n) (ArrayOf b m) = and_then (demand (is_same n m) rule.Zip) (λ _. formed names (PairOf a b) n)
+zip_row names (ArrayOf a n) (ArrayOf b m) =
+    and_then (demand (is_same n m) rule.Zip) (λ _. formed names (PairOf a b) n)
 zip_row names (ArrayOf a n) U32 = Err (Breaks rule.Zip)
 zip_row names (ArrayOf a n) (PairOf b c) = Err (Breaks rule.Zip)
 zip_row names U32 b = Err (Breaks rule.Zip)
@@ -208,11 +220,13 @@ map_end names (ArrayOf a n) b = formed names b n
 
 -- the element type that a fold's body is given, from its array's type and its start's
 abbrev pub fold_start : PlainTy → PlainTy → Result PlainTy Fault
-fold_start a s = and_then (element_in rule.Fold a) (λ x. and_then (demand (is_element s) rule.Fold) (λ _. Ok x))
+fold_start a s =
+    and_then (element_in rule.Fold a) (λ x. and_then (demand (is_element s) rule.Fold) (λ _. Ok x))
 
 -- a fold's type, from its start's and its body's
 abbrev pub fold_end : List Name → PlainTy → PlainTy → Result PlainTy Fault
-fold_end names s b = and_then (demand (is_same_element s b) rule.Fold) (λ _. formed names s (constant 1))
+fold_end names s b =
+    and_then (demand (is_same_element s b) rule.Fold) (λ _. formed names s (constant 1))
 
 -- ---- terms
 -- a fault of the node itself, and of its child of this number
@@ -224,34 +238,58 @@ abbrev pub under : {A : Type 0} → ℕ → Result A NodeFault → Result A Node
 under i (Ok a) = Ok a
 under i (Err f) = Err (record { place = i ∷ f.place; fault = f.fault })
 
+-- a node, from its children
+abbrev pub unary_node : List Name → UnaryForm → Annotation → Result Annotation NodeFault
+unary_node names f n = and_then (here (unary_row names f (type_in n))) (λ a. Ok (One a n))
+
+abbrev pub binary_node : List Name → BinaryForm → (n m : Annotation) → Result Annotation NodeFault
+binary_node names f n m =
+    and_then (here (binary_row names f (type_in n) (type_in m))) (λ a. Ok (Two a n m))
+
+abbrev pub select_node : (n m k : Annotation) → Result Annotation NodeFault
+select_node n m k =
+    and_then (here (select_row (type_in n) (type_in m) (type_in k))) (λ a. Ok (Three a n m k))
+
+abbrev pub map_node : List Name → (array body : Annotation) → Result Annotation NodeFault
+map_node names n m =
+    and_then (here (map_end names (type_in n) (type_in m))) (λ a. Ok (Two a n m))
+
+abbrev pub fold_node : List Name → (array start body : Annotation) → Result Annotation NodeFault
+fold_node names n m k =
+    and_then (here (fold_end names (type_in m) (type_in k))) (λ a. Ok (Three a n m k))
+
 abbrev pub judged : Declared → List PlainTy → Tree → Result Annotation NodeFault
 judged d g (Variable n) = Ok (Leaf (nth_type g n))
 judged d g (Number n) = Ok (Leaf U32)
 judged d g (Input n) = Ok (Leaf (nth_type d.inputs n))
-judged d g (Unary f t) = and_then (under 0 (judged d g t)) (λ n. and_then (here (unary_row d.names f (type_in n))) (λ a. Ok (One a n)))
+judged d g (Unary f t) = and_then (under 0 (judged d g t)) (λ n. unary_node d.names f n)
 judged d g (Binary f t u) =
-    and_then (under 0 (judged d g t)) (λ n. and_then (under 1 (judged d g u)) (λ m.
-    and_then (here (binary_row d.names f (type_in n) (type_in m))) (λ a. Ok (Two a n m))))
+    and_then (under 0 (judged d g t)) (λ n.
+    and_then (under 1 (judged d g u)) (λ m. binary_node d.names f n m))
 judged d g (Select t u v) =
-    and_then (under 0 (judged d g t)) (λ n. and_then (under 1 (judged d g u)) (λ m. and_then (under 2 (judged d g v)) (λ k.
-    and_then (here (select_row (type_in n) (type_in m) (type_in k))) (λ a. Ok (Three a n m k)))))
-judged d g (Let v b) = and_then (under 0 (judged d g v)) (λ n. and_then (under 1 (judged d (type_in n ∷ g) b)) (λ m. Ok (Two (type_in m) n m)))
+    and_then (under 0 (judged d g t)) (λ n.
+    and_then (under 1 (judged d g u)) (λ m.
+    and_then (under 2 (judged d g v)) (λ k. select_node n m k)))
+judged d g (Let v b) =
+    and_then (under 0 (judged d g v)) (λ n.
+    and_then (under 1 (judged d (type_in n ∷ g) b)) (λ m. Ok (Two (type_in m) n m)))
 judged d g (Map k xs b) =
     and_then (under 0 (judged d g xs)) (λ n.
     and_then (here (element_in rule.Map (type_in n))) (λ x.
-    and_then (under 1 (judged d (x ∷ g) b)) (λ m.
-    and_then (here (map_end d.names (type_in n) (type_in m))) (λ a. Ok (Two a n m)))))
+    and_then (under 1 (judged d (x ∷ g) b)) (λ m. map_node d.names n m)))
 judged d g (Fold k xs s b) =
-    and_then (under 0 (judged d g xs)) (λ n. and_then (under 1 (judged d g s)) (λ m.
+    and_then (under 0 (judged d g xs)) (λ n.
+    and_then (under 1 (judged d g s)) (λ m.
     and_then (here (fold_start (type_in n) (type_in m))) (λ x.
-    and_then (under 2 (judged d (x ∷ type_in m ∷ g) b)) (λ k.
-    and_then (here (fold_end d.names (type_in m) (type_in k))) (λ a. Ok (Three a n m k))))))
+    and_then (under 2 (judged d (x ∷ type_in m ∷ g) b)) (λ k. fold_node d.names n m k))))
 
 -- ---- programs
 abbrev pub input_judged : List Name → Written → Result PlainTy Fault
 input_judged names written.Number = Ok U32
-input_judged names (written.Pair a b) = and_then (input_judged names a) (λ x. and_then (input_judged names b) (λ y. Ok (PairOf x y)))
-input_judged names (written.Array a n) = and_then (input_judged names a) (λ x. and_then (sum_judged names [] n) (λ m. formed names x m))
+input_judged names (written.Pair a b) =
+    and_then (input_judged names a) (λ x. and_then (input_judged names b) (λ y. Ok (PairOf x y)))
+input_judged names (written.Array a n) =
+    and_then (input_judged names a) (λ x. and_then (sum_judged names [] n) (λ m. formed names x m))
 
 abbrev pub refusal_at : Spot → Fault → TypeRefusal
 refusal_at s (Breaks r) = refusal.IllTyped s r
@@ -268,7 +306,9 @@ at_node (Err f) = Err (refusal_at (spot.Node f.place) f.fault)
 
 abbrev pub inputs_judged : List Name → ℕ → List PlainInput → Result (List PlainTy) TypeRefusal
 inputs_judged names i [] = Ok []
-inputs_judged names i (x ∷ xs) = and_then (at_input i (input_judged names x.ty)) (λ a. and_then (inputs_judged names (suc i) xs) (λ types. Ok (a ∷ types)))
+inputs_judged names i (x ∷ xs) =
+    and_then (at_input i (input_judged names x.ty)) (λ a.
+    and_then (inputs_judged names (suc i) xs) (λ types. Ok (a ∷ types)))
 
 abbrev pub output_judged : Annotation → Result Annotation NodeFault
 output_judged n = and_then (here (demand (is_output (type_in n)) rule.Output)) (λ _. Ok n)

@@ -1,7 +1,6 @@
-pub mod Belonging
-pub mod Fitting
 pub mod Judged
 pub mod Judgement
 pub mod Numbers
+pub mod Refusals
 pub mod Scopes
 pub mod Tests

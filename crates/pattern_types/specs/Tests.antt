@@ -10,7 +10,9 @@ are_at_most (m ∷ ms) [] = false
 are_at_most (m ∷ ms) (n ∷ ns) = nat_le m n && are_at_most ms ns
 
 abbrev pub divides : Monomial → Monomial → Bool
-divides d m = not (is_zero d.coefficient) && (is_zero (int_rem m.coefficient d.coefficient) && are_at_most d.powers m.powers)
+divides d m =
+    not (is_zero d.coefficient)
+    && (is_zero (int_rem m.coefficient d.coefficient) && are_at_most d.powers m.powers)
 
 abbrev pub all_divide : Monomial → List Monomial → Bool
 all_divide d [] = true

@@ -106,7 +106,8 @@ fn limited(most: u128, which: TypeLimit, count: u128) -> Result<(), Fault>
 // Judges the number of scalars of each component, where the lengths outside have this product.
 fn judge_scalars(alloc: Global, names: &Names, outside: &Poly, ty: &Ty) -> Result<(), Fault>
     ensures ok { OnOk result (scalars_judged names.now outside.now (ty_of ty.now) ≡ Ok tt) }
-    ensures refused { IfErr result (λ f. f ≢ Memory → scalars_judged names.now outside.now (ty_of ty.now) ≡ Err f) }
+    ensures refused { IfErr result (λ f. f ≢ Memory
+        → scalars_judged names.now outside.now (ty_of ty.now) ≡ Err f) }
 {
     match ty {
         Ty::Number => limited(2147483647, TypeLimit::Scalars, outside.largest(names)),
@@ -130,7 +131,8 @@ fn array_of(alloc: Global, element: Ty, length: Poly) -> Result<Ty, AllocError>
 /// The array of these elements and this length, which is formed.
 pub fn formed(alloc: Global, names: &Names, element: Ty, length: Poly) -> Result<Ty, Fault>
     ensures ok { IfOk result (λ t. formed names.now (ty_of element) length ≡ Ok (ty_of t)) }
-    ensures refused { IfErr result (λ f. f ≢ Memory → formed names.now (ty_of element) length ≡ Err f) }
+    ensures refused { IfErr result (λ f. f ≢ Memory → formed names.now (ty_of element) length
+        ≡ Err f) }
 {
     demanded(length.shown_at_least(1, names), Rule::Length)?;
     limited(

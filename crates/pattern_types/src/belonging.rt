@@ -5,8 +5,9 @@ ghost use Rattle.size_arith.specs.Ranges.{IsName, AreNames};
 ghost use Rattle.lift_tree.specs.InputTypes.{written_of};
 ghost use Rattle.lift_tree.specs.Tree.{tree_of, height};
 ghost use Rattle.lift_tree.specs.WorkedOut.{range_of};
-ghost use Rattle.lift_tree.specs.Programs.{input_of};
-ghost use Rattle.pattern_types.specs.Belonging.{IsNamed, IsProper, IsTermOf, AreNamed, PartsAreNamed, TypeIsNamed, InputsAreNamed, FormIsNamed, Belongs};
+ghost use Rattle.lift_tree.specs.Programs.{PlainInput, input_of, program_of};
+ghost use Rattle.lift_tree.specs.Belonging.{IsNamed, IsProper, IsTermOf, AreNamed, PartsAreNamed, TypeIsNamed, InputsAreNamed, IsElementType, HoldsElementTypes, IsInputType, FormIsNamed, Belongs};
+ghost use Rattle.lift_tree.specs.Lists.{Every};
 
 use lift_tree::input_type::InputType;
 use lift_tree::length::{Factor, Part};
@@ -51,6 +52,45 @@ fn type_is_named(sizes: usize, ty: &InputType) -> bool
         InputType::Array(element, parts) => {
             type_is_named(sizes, element) && parts_are_named(sizes, parts.parts())
         }
+    }
+}
+
+fn is_element_type(ty: &InputType) -> bool
+    ensures { IsTrue result ↔ IsElementType (written_of ty.now) }
+{
+    match ty {
+        InputType::Number => true,
+        InputType::Pair(a, b) => is_element_type(a) && is_element_type(b),
+        InputType::Array(_, _) => false,
+    }
+}
+
+fn holds_element_types(ty: &InputType) -> bool
+    ensures { IsTrue result ↔ HoldsElementTypes (written_of ty.now) }
+{
+    match ty {
+        InputType::Number => true,
+        InputType::Pair(a, b) => is_element_type(a) && is_element_type(b),
+        InputType::Array(element, _) => holds_element_types(element),
+    }
+}
+
+fn is_input_type(ty: &InputType) -> bool
+    ensures { IsTrue result ↔ IsInputType (written_of ty.now) }
+{
+    match ty {
+        InputType::Number | InputType::Pair(_, _) => false,
+        InputType::Array(element, _) => holds_element_types(element),
+    }
+}
+
+fn are_input_types(inputs: &[Input]) -> bool
+    ensures { IsTrue result
+        ↔ Every (λ (i : PlainInput). IsInputType i.ty) (map input_of inputs.now) }
+{
+    match inputs {
+        [] => true,
+        [first, rest @ ..] => is_input_type(&first.ty) && are_input_types(rest),
     }
 }
 
@@ -127,18 +167,24 @@ fn are_ranges(sizes: &[Size]) -> bool
     }
 }
 
-/// Whether the program's sizes are at most 8 with proper ranges, and its inputs name these sizes alone.
+/// Whether the program's sizes are at most 8 with proper ranges, and its inputs arrays whose pairs
+/// hold elements only and whose lengths name these sizes alone.
 pub fn is_proper(program: &Program) -> bool
-    ensures { IsTrue result ↔ IsProper program.now }
+    ensures { IsTrue result ↔ IsProper (program_of program.now) }
 {
     program.sizes.len() <= 8
         && are_ranges(&program.sizes)
         && inputs_are_named(program.sizes.len(), &program.inputs)
+        && are_input_types(&program.inputs)
 }
 
-/// Whether each variable of the term has its binder, its inputs and sizes are the program's, and its numbers that have to be at least 1 are. Terms of a height from 2^31 on are answered by false.
+/// Whether each variable of the term has its binder, its inputs and sizes are the program's, and
+/// its
+/// numbers that have to be at least 1 are. Terms of a height from 2^31 on are answered by false.
 pub fn belongs_to(program: &Program, term: &Term) -> bool
-    ensures { IsTrue result ↔ ((height (tree_of term.now) < 2 ^ 31) × IsTermOf program.now (tree_of term.now)) }
+    ensures { IsTrue result
+        ↔ ((height (tree_of term.now) < 2 ^ 31)
+        × IsTermOf (program_of program.now) (tree_of term.now)) }
 {
     term.depth() < 1 << 31 && belongs(program.sizes.len(), program.inputs.len(), 0, term)
 }

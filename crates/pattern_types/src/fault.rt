@@ -10,7 +10,7 @@ use size_arith::PolyNo;
 use std::alloc::{AllocError, Global};
 
 /// What is wrong at a node or an input.
-#[derive(Clone, Copy, Debug)]
+#[derive(Clone, Copy)]
 pub enum Fault {
     Breaks(Rule),
     Passes(TypeLimit, u128),
@@ -69,9 +69,11 @@ impl Fault {
 }
 
 impl NodeFault {
-    /// The fault, of the child of this number. It becomes want of memory where there is none for the place.
+    /// The fault, of the child of this number. It becomes want of memory where there is none for
+    /// the place.
     pub fn under(self, alloc: Global, number: u32) -> NodeFault
-        ensures { result.fault ≢ Memory → result ≡ record { place = number ∷ self.place; fault = self.fault } }
+        ensures { result.fault ≢ Memory → result
+            ≡ record { place = number ∷ self.place; fault = self.fault } }
     {
         let mut numbers = self.place.into_numbers();
         match numbers.insert(0, number) {

@@ -5,7 +5,7 @@ ghost use Rattle.size_arith.specs.Polynomial.{plus, minus, times, of_monomial, t
 ghost use Rattle.lift_tree.specs.Typing.{constant};
 ghost use Rattle.lift_tree.specs.WorkedOut.{factor_monomial, with_part};
 ghost use Rattle.pattern_types.specs.declared.fault.Fault.TheVariants.{Memory};
-ghost use Rattle.pattern_types.specs.Belonging.{AreNamed, PartsAreNamed};
+ghost use Rattle.lift_tree.specs.Belonging.{AreNamed, PartsAreNamed};
 ghost use Rattle.pattern_types.specs.Judged.{within, product_judged, sum_judged};
 ghost use Rattle.pattern_types.specs.Tests.{exact_quotient};
 
@@ -84,7 +84,8 @@ pub fn times_factors(
 ) -> Result<Poly, Fault>
     requires { AreNamed (length names.now) 0 factors.now }
     ensures ok { IfOk result (λ p. product_judged names.now so_far factors.now ≡ Ok p) }
-    ensures refused { IfErr result (λ f. f ≢ Memory → product_judged names.now so_far factors.now ≡ Err f) }
+    ensures refused { IfErr result (λ f. f ≢ Memory → product_judged names.now so_far factors.now
+        ≡ Err f) }
 {
     match factors {
         [] => Ok(so_far),
@@ -99,7 +100,8 @@ pub fn times_factors(
 pub fn product_of(alloc: Global, names: &Names, factors: &Product) -> Result<Poly, Fault>
     requires { AreNamed (length names.now) 0 factors.now }
     ensures ok { IfOk result (λ p. product_judged names.now (constant 1) factors.now ≡ Ok p) }
-    ensures refused { IfErr result (λ f. f ≢ Memory → product_judged names.now (constant 1) factors.now ≡ Err f) }
+    ensures refused { IfErr result (λ f. f ≢ Memory
+        → product_judged names.now (constant 1) factors.now ≡ Err f) }
 {
     let one = constant(alloc, 1)?;
     times_factors(alloc, names, one, factors.factors())
@@ -107,7 +109,8 @@ pub fn product_of(alloc: Global, names: &Names, factors: &Product) -> Result<Pol
 
 fn with_part(alloc: Global, sum_so_far: &Poly, sign: Sign, part: &Poly) -> Result<Poly, Fault>
     ensures ok { IfOk result (λ p. within (with_part sign sum_so_far.now part.now) ≡ Ok p) }
-    ensures refused { IfErr result (λ f. f ≢ Memory → within (with_part sign sum_so_far.now part.now) ≡ Err f) }
+    ensures refused { IfErr result (λ f. f ≢ Memory
+        → within (with_part sign sum_so_far.now part.now) ≡ Err f) }
 {
     match sign {
         Sign::Plus => sum(alloc, sum_so_far, part),
@@ -124,7 +127,8 @@ pub fn with_parts(
 ) -> Result<Poly, Fault>
     requires { PartsAreNamed (length names.now) parts.now }
     ensures ok { IfOk result (λ p. sum_judged names.now sum_so_far parts.now ≡ Ok p) }
-    ensures refused { IfErr result (λ f. f ≢ Memory → sum_judged names.now sum_so_far parts.now ≡ Err f) }
+    ensures refused { IfErr result (λ f. f ≢ Memory → sum_judged names.now sum_so_far parts.now
+        ≡ Err f) }
 {
     match parts {
         [] => Ok(sum_so_far),

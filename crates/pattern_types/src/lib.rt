@@ -1,4 +1,5 @@
-//! Types of programs of the Lift pattern language: the type of each node of a term, or the first rule or limit that is passed.
+//! Types of programs of the Lift pattern language: the type of each node of a term, or the first
+//! rule or limit that is passed.
 #![tactic(auto)]
 
 mod arrays;
@@ -10,8 +11,6 @@ mod nodes;
 mod programs;
 pub mod refusal;
 mod rows;
-#[cfg(test)]
-mod tests;
 
 pub use belonging::{belongs_to, is_proper};
 pub use programs::type_of;

@@ -8,10 +8,10 @@ ghost use Rattle.lift_tree.specs.Programs.{input_of, program_of};
 ghost use Rattle.lift_tree.specs.Annotations.{annotation_of, IsTyped};
 ghost use Rattle.pattern_types.specs.declared.fault.Fault.TheVariants.{Memory};
 ghost use Rattle.pattern_types.specs.declared.refusal.TypeRefusal.TheVariants as refusal;
-ghost use Rattle.pattern_types.specs.Belonging.{Belongs, TypeIsNamed, InputsAreNamed, IsProper, IsTermOf};
+ghost use Rattle.lift_tree.specs.Belonging.{Belongs, TypeIsNamed, InputsAreNamed, IsProper, IsTermOf};
 ghost use Rattle.pattern_types.specs.Judged.{and_then, input_judged, inputs_judged, judged, output_judged, program_judged, at_node};
 ghost use Rattle.pattern_types.specs.Numbers.{NumbersFit};
-ghost use Rattle.pattern_types.specs.Fitting.{IsWithinLimits};
+ghost use Rattle.lift_tree.specs.Limits.{IsWithinLimits, HasProperInputs};
 ghost use Rattle.pattern_types.specs.Judgement.{Explains};
 ghost use Rattle.pattern_types.specs.Scopes.{declared_as};
 
@@ -40,7 +40,8 @@ fn pair_of(alloc: Global, a: Ty, b: Ty) -> Result<Ty, AllocError>
 fn judge_input(alloc: Global, names: &Names, ty: &InputType) -> Result<Ty, Fault>
     requires { TypeIsNamed (length names.now) (written_of ty.now) }
     ensures ok { IfOk result (λ t. input_judged names.now (written_of ty.now) ≡ Ok (ty_of t)) }
-    ensures refused { IfErr result (λ f. f ≢ Memory → input_judged names.now (written_of ty.now) ≡ Err f) }
+    ensures refused { IfErr result (λ f. f ≢ Memory → input_judged names.now (written_of ty.now)
+        ≡ Err f) }
 {
     match ty {
         InputType::Number => Ok(Ty::Number),
@@ -73,9 +74,12 @@ fn judge_inputs(
 ) -> Result<VecDeque<Ty>, TypeRefusal>
     requires named { InputsAreNamed (length names.now) (map input_of inputs.now) }
     requires room { number + length inputs.now ≤ u64.MAX }
-    ensures count { IfOk result (λ types. length (map ty_of types.items) ≡ length inputs.now) }
-    ensures ok { IfOk result (λ types. inputs_judged names.now number (map input_of inputs.now) ≡ Ok (map ty_of types.items)) }
-    ensures refused { IfErr result (λ e. e ≢ refusal.Memory → inputs_judged names.now number (map input_of inputs.now) ≡ Err e) }
+    ensures count { IfOk result (λ types. length (map ty_of types.items)
+        ≡ length (map input_of inputs.now)) }
+    ensures ok { IfOk result (λ types. inputs_judged names.now number (map input_of inputs.now)
+        ≡ Ok (map ty_of types.items)) }
+    ensures refused { IfErr result (λ e. e ≢ refusal.Memory
+        → inputs_judged names.now number (map input_of inputs.now) ≡ Err e) }
 {
     match inputs {
         [] => Ok(VecDeque::new(alloc)),
@@ -100,10 +104,14 @@ fn judge_output(
     inputs: &VecDeque<Ty>,
     term: &Term,
 ) -> Result<NodeTypes, NodeFault>
-    requires { Belongs (length names.now) (length (map ty_of inputs.now.items)) 0 (tree_of term.now) }
+    requires { Belongs (length names.now) (length (map ty_of inputs.now.items)) 0
+        (tree_of term.now) }
     ensures numbers { IfOk result (λ _. NumbersFit (tree_of term.now)) }
-    ensures ok { IfOk result (λ n. and_then (judged (declared_as names.now inputs.now.items) [] (tree_of term.now)) output_judged ≡ Ok (annotation_of n)) }
-    ensures refused { IfErr result (λ e. e.fault ≢ Memory → and_then (judged (declared_as names.now inputs.now.items) [] (tree_of term.now)) output_judged ≡ Err e) }
+    ensures ok { IfOk result (λ n. and_then (judged (declared_as names.now inputs.now.items) []
+        (tree_of term.now)) output_judged ≡ Ok (annotation_of n)) }
+    ensures refused { IfErr result (λ e. e.fault ≢ Memory
+        → and_then (judged (declared_as names.now inputs.now.items) []
+        (tree_of term.now)) output_judged ≡ Err e) }
 {
     let types = judge(alloc, names, inputs, &mut VecDeque::new(alloc), term)?;
     match demanded(is_output(types.own_type()), Rule::Output) {
@@ -114,20 +122,36 @@ fn judge_output(
 
 /// The types of all nodes of a term of a program, for all its admissible sizes at once.
 ///
-/// The program's inputs are judged in order, then the term, children before their parent and a body once its binders have types, and last the output. Each array that is formed has a length shown to be at least 1, and then the limits on arrays, components, terms, degree, coefficient and scalars are judged, inner arrays first. Lengths are worked out from left to right, and each sum and product is limited as it arises. `IllTyped` and `Limit` are of the first spot that breaks a rule or passes a limit, in this order.
+/// The program's inputs are judged in order, then the term, children before their parent and a body
+/// once its binders have types, and last the output. Each array that is formed has a length shown
+/// to be at least 1, and then the limits on arrays, components, terms, degree, coefficient and
+/// scalars are judged, inner arrays first. Lengths are worked out from left to right, and each sum
+/// and product is limited as it arises. `IllTyped` and `Limit` are of the first spot that breaks a
+/// rule or passes a limit, in this order.
 ///
-/// What is answered is typed, within the limits: the sizes and inputs are proper, each node has its type, and the whole an output's; each array that is formed and each length that is worked out passes no limit. `IllTyped` comes only where the term has no type, and `Limit` only where it has none within the limits. Want of memory may come at any point.
+/// What is answered is typed, within the limits: the sizes and inputs are proper, each node has its
+/// type, and the whole an output's; each array that is formed and each length that is worked out
+/// passes no limit. `IllTyped` comes only where the term has no type, and `Limit` only where it has
+/// none within the limits. Want of memory may come at any point.
 ///
-/// Each variable has its binder in the term. The inputs and sizes that the term names are the program's, as are the sizes that its inputs name. There are at most 8 sizes, each with a proper range, and the numbers of `div`, `rem`, `split` and `slide` are at least 1. A term that is known to have an output's type meets this ([`outputs_belong`](crate::laws::outputs_belong)).
+/// Each variable has its binder in the term. The inputs and sizes that the term names are the
+/// program's, as are the sizes that its inputs name. The inputs are arrays, and their pairs hold
+/// elements only. There are at most 8 sizes, each with a proper range, and the numbers of `div`,
+/// `rem`, `split` and `slide` are at least 1. A term that is known to have an output's type meets
+/// this ([`outputs_belong`](crate::laws::outputs_belong)).
 pub fn type_of(alloc: Global, program: Program, term: Term) -> Result<Typed, TypeRefusal>
-    requires proper { IsProper program }
-    requires term { IsTermOf program (tree_of term) }
+    requires proper { IsProper (program_of program) }
+    requires term { IsTermOf (program_of program) (tree_of term) }
     ensures program { IfOk result (λ t. (t.program ≡ program) × (t.term ≡ term)) }
-    ensures types { IfOk result (λ t. program_judged (program_of program) (tree_of term) ≡ Ok (annotation_of t.types)) }
+    ensures types { IfOk result (λ t. program_judged (program_of program) (tree_of term)
+        ≡ Ok (annotation_of t.types)) }
     ensures typed { IfOk result IsTyped }
-    ensures within { IfOk result (λ t. IsWithinLimits (program_of program) (tree_of term) (annotation_of t.types)) }
+    ensures within { IfOk result (λ t. IsWithinLimits (program_of program) (tree_of term)
+        (annotation_of t.types)) }
+    ensures inputs { IfOk result (λ t. HasProperInputs (program_of t.program)) }
     ensures explained { IfErr result (λ e. Explains e (program_of program) (tree_of term)) }
-    ensures refused { IfErr result (λ e. e ≢ refusal.Memory → program_judged (program_of program) (tree_of term) ≡ Err e) }
+    ensures refused { IfErr result (λ e. e ≢ refusal.Memory
+        → program_judged (program_of program) (tree_of term) ≡ Err e) }
 {
     let types = judge_program(alloc, &program, &term)?;
     Ok(Typed {
@@ -138,11 +162,13 @@ pub fn type_of(alloc: Global, program: Program, term: Term) -> Result<Typed, Typ
 }
 
 fn judge_program(alloc: Global, program: &Program, term: &Term) -> Result<NodeTypes, TypeRefusal>
-    requires proper { IsProper program.now }
-    requires term { IsTermOf program.now (tree_of term.now) }
+    requires proper { IsProper (program_of program.now) }
+    requires term { IsTermOf (program_of program.now) (tree_of term.now) }
     ensures numbers { IfOk result (λ _. NumbersFit (tree_of term.now)) }
-    ensures types { IfOk result (λ n. program_judged (program_of program.now) (tree_of term.now) ≡ Ok (annotation_of n)) }
-    ensures refused { IfErr result (λ e. e ≢ refusal.Memory → program_judged (program_of program.now) (tree_of term.now) ≡ Err e) }
+    ensures types { IfOk result (λ n. program_judged (program_of program.now) (tree_of term.now)
+        ≡ Ok (annotation_of n)) }
+    ensures refused { IfErr result (λ e. e ≢ refusal.Memory
+        → program_judged (program_of program.now) (tree_of term.now) ≡ Err e) }
 {
     let Ok(names) = program.names(alloc) else {
         return Err(TypeRefusal::Memory);

@@ -1,10 +1,9 @@
 // Why a program is refused.
 
 use lift_tree::place::Place;
-use std::fmt::{self, Display, Formatter, Write};
 
 /// A rule of the typing table, by the pattern that demands it.
-#[derive(Clone, Copy, Debug, PartialEq, Eq)]
+#[derive(Clone, Copy, PartialEq, Eq)]
 pub enum Rule {
     /// The operands of an operator and of `select` are numbers.
     Operator,
@@ -36,29 +35,8 @@ pub enum Rule {
     Length,
 }
 
-impl Display for Rule {
-    fn fmt<W: Write>(&self, f: &mut Formatter<W>) -> Result<(), fmt::Error> {
-        f.write_str(match self {
-            Rule::Operator => "operator",
-            Rule::Pair => "pair",
-            Rule::Project => "project",
-            Rule::Map => "map",
-            Rule::Reduce => "reduce",
-            Rule::Fold => "fold",
-            Rule::Zip => "zip",
-            Rule::Split => "split",
-            Rule::Join => "join",
-            Rule::Transpose => "transpose",
-            Rule::Slide => "slide",
-            Rule::Pad => "pad",
-            Rule::Output => "output",
-            Rule::Length => "length",
-        })
-    }
-}
-
 /// A limit on types.
-#[derive(Clone, Copy, Debug, PartialEq, Eq)]
+#[derive(Clone, Copy, PartialEq, Eq)]
 pub enum TypeLimit {
     /// At most 4 arrays around a scalar.
     Arrays,
@@ -74,21 +52,8 @@ pub enum TypeLimit {
     Scalars,
 }
 
-impl Display for TypeLimit {
-    fn fmt<W: Write>(&self, f: &mut Formatter<W>) -> Result<(), fmt::Error> {
-        f.write_str(match self {
-            TypeLimit::Arrays => "arrays",
-            TypeLimit::Components => "components",
-            TypeLimit::Terms => "terms",
-            TypeLimit::Degree => "degree",
-            TypeLimit::Coefficient => "coefficient",
-            TypeLimit::Scalars => "scalars",
-        })
-    }
-}
-
 /// Where a program is refused.
-#[derive(Debug, Drop)]
+#[derive(Drop)]
 pub enum Spot {
     /// The input of this number in the order of declaration, from 0.
     Input(u64),
@@ -97,14 +62,15 @@ pub enum Spot {
 }
 
 /// Why a program has no type, or none within the limits.
-#[derive(Debug, Drop)]
+#[derive(Drop)]
 pub enum TypeRefusal {
     /// The first spot breaks this rule.
     IllTyped {
         spot: Spot,
         rule: Rule,
     },
-    /// The first spot passes this limit with this count. Arrays and components are counted up to 2^64 - 1.
+    /// The first spot passes this limit with this count. Arrays and components are counted up to
+    /// 2^64 - 1.
     Limit {
         which: TypeLimit,
         spot: Spot,

@@ -3,7 +3,7 @@
 ghost use Rattle.std.specs.Prelude.{◌≡◌, ◌≢◌, ◌≤◌, IfErr, IfOk, Err, Ok, Some, length};
 ghost use Rattle.lift_tree.specs.Types.{ty_of, PairOf};
 ghost use Rattle.pattern_types.specs.declared.fault.Fault.TheVariants.{Memory};
-ghost use Rattle.pattern_types.specs.Belonging.{FormIsNamed};
+ghost use Rattle.lift_tree.specs.Belonging.{FormIsNamed};
 ghost use Rattle.pattern_types.specs.Judged.{number_row, first_row, second_row, join_row, transpose_row, pieces_row, split_row, windows_row, slide_row, pad_row, unary_row, operator_row, pair_row, zip_row, reduce_row, binary_row, select_row};
 
 use crate::arrays::{formed, is_element};
@@ -47,7 +47,8 @@ fn second(alloc: Global, operand: &Ty) -> Result<Ty, Fault>
 
 fn join(alloc: Global, names: &Names, operand: &Ty) -> Result<Ty, Fault>
     ensures ok { IfOk result (λ t. join_row names.now (ty_of operand.now) ≡ Ok (ty_of t)) }
-    ensures refused { IfErr result (λ f. f ≢ Memory → join_row names.now (ty_of operand.now) ≡ Err f) }
+    ensures refused { IfErr result (λ f. f ≢ Memory → join_row names.now (ty_of operand.now)
+        ≡ Err f) }
 {
     match operand {
         Ty::Array(row, outer) => match &**row {
@@ -63,7 +64,8 @@ fn join(alloc: Global, names: &Names, operand: &Ty) -> Result<Ty, Fault>
 
 fn transpose(alloc: Global, names: &Names, operand: &Ty) -> Result<Ty, Fault>
     ensures ok { IfOk result (λ t. transpose_row names.now (ty_of operand.now) ≡ Ok (ty_of t)) }
-    ensures refused { IfErr result (λ f. f ≢ Memory → transpose_row names.now (ty_of operand.now) ≡ Err f) }
+    ensures refused { IfErr result (λ f. f ≢ Memory → transpose_row names.now (ty_of operand.now)
+        ≡ Err f) }
 {
     match operand {
         Ty::Array(row, outer) => match &**row {
@@ -79,7 +81,8 @@ fn transpose(alloc: Global, names: &Names, operand: &Ty) -> Result<Ty, Fault>
 
 fn split(alloc: Global, names: &Names, piece: Poly, operand: &Ty) -> Result<Ty, Fault>
     ensures ok { IfOk result (λ t. split_row names.now piece (ty_of operand.now) ≡ Ok (ty_of t)) }
-    ensures refused { IfErr result (λ f. f ≢ Memory → split_row names.now piece (ty_of operand.now) ≡ Err f) }
+    ensures refused { IfErr result (λ f. f ≢ Memory → split_row names.now piece (ty_of operand.now)
+        ≡ Err f) }
 {
     match operand {
         Ty::Array(element, whole) => match exact_quotient(alloc, &piece, whole)? {
@@ -95,8 +98,10 @@ fn split(alloc: Global, names: &Names, piece: Poly, operand: &Ty) -> Result<Ty, 
 
 // The windows of this size, one more than the steps that fit.
 fn windows(alloc: Global, names: &Names, element: &Ty, size: u32, steps: &Poly) -> Result<Ty, Fault>
-    ensures ok { IfOk result (λ t. windows_row names.now (ty_of element.now) size (Some steps.now) ≡ Ok (ty_of t)) }
-    ensures refused { IfErr result (λ f. f ≢ Memory → windows_row names.now (ty_of element.now) size (Some steps.now) ≡ Err f) }
+    ensures ok { IfOk result (λ t. windows_row names.now (ty_of element.now) size (Some steps.now)
+        ≡ Ok (ty_of t)) }
+    ensures refused { IfErr result (λ f. f ≢ Memory
+        → windows_row names.now (ty_of element.now) size (Some steps.now) ≡ Err f) }
 {
     let window = formed(alloc, names, element.copy(alloc)?, constant(alloc, size)?)?;
     let count = sum(alloc, steps, &constant(alloc, 1)?)?;
@@ -104,8 +109,10 @@ fn windows(alloc: Global, names: &Names, element: &Ty, size: u32, steps: &Poly) 
 }
 
 fn slide(alloc: Global, names: &Names, size: u32, step: u32, operand: &Ty) -> Result<Ty, Fault>
-    ensures ok { IfOk result (λ t. slide_row names.now size step (ty_of operand.now) ≡ Ok (ty_of t)) }
-    ensures refused { IfErr result (λ f. f ≢ Memory → slide_row names.now size step (ty_of operand.now) ≡ Err f) }
+    ensures ok { IfOk result (λ t. slide_row names.now size step (ty_of operand.now)
+        ≡ Ok (ty_of t)) }
+    ensures refused { IfErr result (λ f. f ≢ Memory
+        → slide_row names.now size step (ty_of operand.now) ≡ Err f) }
 {
     match operand {
         Ty::Array(element, whole) => {
@@ -121,8 +128,10 @@ fn slide(alloc: Global, names: &Names, size: u32, step: u32, operand: &Ty) -> Re
 }
 
 fn pad(alloc: Global, names: &Names, before: u32, after: u32, operand: &Ty) -> Result<Ty, Fault>
-    ensures ok { IfOk result (λ t. pad_row names.now before after (ty_of operand.now) ≡ Ok (ty_of t)) }
-    ensures refused { IfErr result (λ f. f ≢ Memory → pad_row names.now before after (ty_of operand.now) ≡ Err f) }
+    ensures ok { IfOk result (λ t. pad_row names.now before after (ty_of operand.now)
+        ≡ Ok (ty_of t)) }
+    ensures refused { IfErr result (λ f. f ≢ Memory
+        → pad_row names.now before after (ty_of operand.now) ≡ Err f) }
 {
     match operand {
         Ty::Array(element, whole) => {
@@ -137,8 +146,10 @@ fn pad(alloc: Global, names: &Names, before: u32, after: u32, operand: &Ty) -> R
 /// The type of a form with one child.
 pub fn unary(alloc: Global, names: &Names, form: &UnaryForm, operand: &Ty) -> Result<Ty, Fault>
     requires { FormIsNamed (length names.now) form.now }
-    ensures ok { IfOk result (λ t. unary_row names.now form.now (ty_of operand.now) ≡ Ok (ty_of t)) }
-    ensures refused { IfErr result (λ f. f ≢ Memory → unary_row names.now form.now (ty_of operand.now) ≡ Err f) }
+    ensures ok { IfOk result (λ t. unary_row names.now form.now (ty_of operand.now)
+        ≡ Ok (ty_of t)) }
+    ensures refused { IfErr result (λ f. f ≢ Memory
+        → unary_row names.now form.now (ty_of operand.now) ≡ Err f) }
 {
     match form {
         UnaryForm::Div(_) | UnaryForm::Rem(_) => number(operand),
@@ -166,7 +177,8 @@ fn operator(a: &Ty, b: &Ty) -> Result<Ty, Fault>
 
 fn pair(alloc: Global, a: &Ty, b: &Ty) -> Result<Ty, Fault>
     ensures ok { IfOk result (λ t. pair_row (ty_of a.now) (ty_of b.now) ≡ Ok (ty_of t)) }
-    ensures refused { IfErr result (λ f. f ≢ Memory → pair_row (ty_of a.now) (ty_of b.now) ≡ Err f) }
+    ensures refused { IfErr result (λ f. f ≢ Memory → pair_row (ty_of a.now) (ty_of b.now)
+        ≡ Err f) }
 {
     demanded(is_element(a) && is_element(b), Rule::Pair)?;
     Ok(pair_of(alloc, a, b)?)
@@ -181,7 +193,8 @@ fn pair_of(alloc: Global, a: &Ty, b: &Ty) -> Result<Ty, AllocError>
 
 fn zip(alloc: Global, names: &Names, a: &Ty, b: &Ty) -> Result<Ty, Fault>
     ensures ok { IfOk result (λ t. zip_row names.now (ty_of a.now) (ty_of b.now) ≡ Ok (ty_of t)) }
-    ensures refused { IfErr result (λ f. f ≢ Memory → zip_row names.now (ty_of a.now) (ty_of b.now) ≡ Err f) }
+    ensures refused { IfErr result (λ f. f ≢ Memory → zip_row names.now (ty_of a.now) (ty_of b.now)
+        ≡ Err f) }
 {
     match a {
         Ty::Array(first, length) => match b {
@@ -197,8 +210,10 @@ fn zip(alloc: Global, names: &Names, a: &Ty, b: &Ty) -> Result<Ty, Fault>
 }
 
 fn reduce(alloc: Global, names: &Names, array: &Ty, start: &Ty) -> Result<Ty, Fault>
-    ensures ok { IfOk result (λ t. reduce_row names.now (ty_of array.now) (ty_of start.now) ≡ Ok (ty_of t)) }
-    ensures refused { IfErr result (λ f. f ≢ Memory → reduce_row names.now (ty_of array.now) (ty_of start.now) ≡ Err f) }
+    ensures ok { IfOk result (λ t. reduce_row names.now (ty_of array.now) (ty_of start.now)
+        ≡ Ok (ty_of t)) }
+    ensures refused { IfErr result (λ f. f ≢ Memory
+        → reduce_row names.now (ty_of array.now) (ty_of start.now) ≡ Err f) }
 {
     match array {
         Ty::Array(element, _) => match &**element {
@@ -214,8 +229,10 @@ fn reduce(alloc: Global, names: &Names, array: &Ty, start: &Ty) -> Result<Ty, Fa
 
 /// The type of a form with two children and no binder.
 pub fn binary(alloc: Global, names: &Names, form: BinaryForm, a: &Ty, b: &Ty) -> Result<Ty, Fault>
-    ensures ok { IfOk result (λ t. binary_row names.now form (ty_of a.now) (ty_of b.now) ≡ Ok (ty_of t)) }
-    ensures refused { IfErr result (λ f. f ≢ Memory → binary_row names.now form (ty_of a.now) (ty_of b.now) ≡ Err f) }
+    ensures ok { IfOk result (λ t. binary_row names.now form (ty_of a.now) (ty_of b.now)
+        ≡ Ok (ty_of t)) }
+    ensures refused { IfErr result (λ f. f ≢ Memory
+        → binary_row names.now form (ty_of a.now) (ty_of b.now) ≡ Err f) }
 {
     match form {
         BinaryForm::Operator(_) => operator(a, b),
@@ -227,8 +244,10 @@ pub fn binary(alloc: Global, names: &Names, form: BinaryForm, a: &Ty, b: &Ty) ->
 
 /// The type of a `select`.
 pub fn select(a: &Ty, b: &Ty, c: &Ty) -> Result<Ty, Fault>
-    ensures ok { IfOk result (λ t. select_row (ty_of a.now) (ty_of b.now) (ty_of c.now) ≡ Ok (ty_of t)) }
-    ensures refused { IfErr result (λ f. select_row (ty_of a.now) (ty_of b.now) (ty_of c.now) ≡ Err f) }
+    ensures ok { IfOk result (λ t. select_row (ty_of a.now) (ty_of b.now) (ty_of c.now)
+        ≡ Ok (ty_of t)) }
+    ensures refused { IfErr result (λ f. select_row (ty_of a.now) (ty_of b.now) (ty_of c.now)
+        ≡ Err f) }
 {
     operator(a, b)?;
     number(c)

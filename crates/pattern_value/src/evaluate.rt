@@ -67,7 +67,11 @@ impl World<'_> {
     // The consecutive pieces of this length.
     #[tactic(auto, using(crate::proofs::Sizes::splits))]
     fn split(&self, alloc: Global, factors: &[Factor], v: &Val) -> Result<Val, AllocError>
-        ensures { IfOk result (λ u. value_of u ≡ array_of_rows (pieces (length (members (value_of v.now)) / product_at (world_of self.now).sizes factors.now) (product_at (world_of self.now).sizes factors.now) (product_at (world_of self.now).sizes factors.now) (members (value_of v.now)))) }
+        ensures { IfOk result (λ u. value_of u ≡ array_of_rows (pieces
+            (length (members (value_of v.now)) / product_at (world_of self.now).sizes factors.now)
+            (product_at (world_of self.now).sizes factors.now)
+            (product_at (world_of self.now).sizes factors.now)
+            (members (value_of v.now)))) }
     {
         let xs = members_of(v);
         let size = self.product(factors) as usize;
@@ -77,7 +81,8 @@ impl World<'_> {
 
     // The value of a form at its child's value.
     fn unary(&self, alloc: Global, form: &UnaryForm, v: Val) -> Result<Val, AllocError>
-        ensures { IfOk result (λ u. value_of u ≡ unary_value (world_of self.now) form.now (value_of v)) }
+        ensures { IfOk result (λ u. value_of u
+            ≡ unary_value (world_of self.now) form.now (value_of v)) }
     {
         match form {
             UnaryForm::Div(n) => Ok(Val::Number(quotient(word_of(&v), *n))),
@@ -102,7 +107,9 @@ impl World<'_> {
         binders: &mut Vec<Val>,
         term: &Term,
     ) -> Result<Val, AllocError>
-        ensures { IfOk result (λ v. (value_of v ≡ meaning (world_of self.now) (stack binders.old.items) (tree_of term.now)) × (binders.new.items ≡ binders.old.items)) }
+        ensures { IfOk result (λ v. (value_of v
+            ≡ meaning (world_of self.now) (stack binders.old.items) (tree_of term.now))
+            × (binders.new.items ≡ binders.old.items)) }
     {
         match term {
             Term::Variable(n) => copied_binder(alloc, binders, *n),
@@ -141,7 +148,11 @@ impl World<'_> {
         xs: &Term,
         body: &Term,
     ) -> Result<Val, AllocError>
-        ensures { IfOk result (λ v. (value_of v ≡ array (map_under (world_of self.now) (stack binders.old.items) (tree_of body.now) (members (meaning (world_of self.now) (stack binders.old.items) (tree_of xs.now))))) × (binders.new.items ≡ binders.old.items)) }
+        ensures { IfOk result (λ v. (value_of v
+            ≡ array (map_under (world_of self.now) (stack binders.old.items)
+            (tree_of body.now) (members (meaning (world_of self.now)
+            (stack binders.old.items) (tree_of xs.now)))))
+            × (binders.new.items ≡ binders.old.items)) }
     {
         let members = self.value(alloc, binders, xs)?;
         let all = self.mapped(alloc, binders, into_members(alloc, members), body)?;
@@ -157,7 +168,12 @@ impl World<'_> {
         start: &Term,
         body: &Term,
     ) -> Result<Val, AllocError>
-        ensures { IfOk result (λ v. (value_of v ≡ array (fold_under (world_of self.now) (stack binders.old.items) (tree_of body.now) (meaning (world_of self.now) (stack binders.old.items) (tree_of start.now)) (members (meaning (world_of self.now) (stack binders.old.items) (tree_of xs.now))) ∷ [])) × (binders.new.items ≡ binders.old.items)) }
+        ensures { IfOk result (λ v. (value_of v
+            ≡ array (fold_under (world_of self.now) (stack binders.old.items)
+            (tree_of body.now) (meaning (world_of self.now) (stack binders.old.items)
+            (tree_of start.now)) (members (meaning (world_of self.now)
+            (stack binders.old.items) (tree_of xs.now))) ∷ []))
+            × (binders.new.items ≡ binders.old.items)) }
     {
         let members = self.value(alloc, binders, xs)?;
         let start = self.value(alloc, binders, start)?;
@@ -175,7 +191,9 @@ impl World<'_> {
         v: Val,
         body: &Term,
     ) -> Result<Val, AllocError>
-        ensures { IfOk result (λ u. (value_of u ≡ meaning (world_of self.now) (value_of v ∷ stack binders.old.items) (tree_of body.now)) × (binders.new.items ≡ binders.old.items)) }
+        ensures { IfOk result (λ u. (value_of u
+            ≡ meaning (world_of self.now) (value_of v ∷ stack binders.old.items)
+            (tree_of body.now)) × (binders.new.items ≡ binders.old.items)) }
     {
         binders.push(v)?;
         let u = self.value(alloc, binders, body)?;
@@ -194,7 +212,10 @@ impl World<'_> {
         x: Val,
         body: &Term,
     ) -> Result<Val, AllocError>
-        ensures { IfOk result (λ u. (value_of u ≡ meaning (world_of self.now) (value_of x ∷ value_of end ∷ stack binders.old.items) (tree_of body.now)) × (binders.new.items ≡ binders.old.items)) }
+        ensures { IfOk result (λ u. (value_of u
+            ≡ meaning (world_of self.now) (value_of x ∷ value_of end ∷ stack
+            binders.old.items) (tree_of body.now))
+            × (binders.new.items ≡ binders.old.items)) }
     {
         binders.push(end)?;
         let u = self.under(alloc, binders, x, body)?;
@@ -211,7 +232,9 @@ impl World<'_> {
         xs: Vec<Val>,
         body: &Term,
     ) -> Result<Vec<Val>, AllocError>
-        ensures { IfOk result (λ c. (map value_of c.items ≡ map_under (world_of self.now) (stack binders.old.items) (tree_of body.now) (map value_of xs.items)) × (binders.new.items ≡ binders.old.items)) }
+        ensures { IfOk result (λ c. (map value_of c.items
+            ≡ map_under (world_of self.now) (stack binders.old.items) (tree_of body.now)
+            (map value_of xs.items)) × (binders.new.items ≡ binders.old.items)) }
     {
         let mut all = Vec::new(alloc);
         for x in xs {
@@ -230,7 +253,10 @@ impl World<'_> {
         xs: Vec<Val>,
         body: &Term,
     ) -> Result<Val, AllocError>
-        ensures { IfOk result (λ v. (value_of v ≡ fold_under (world_of self.now) (stack binders.old.items) (tree_of body.now) (value_of start) (map value_of xs.items)) × (binders.new.items ≡ binders.old.items)) }
+        ensures { IfOk result (λ v. (value_of v
+            ≡ fold_under (world_of self.now) (stack binders.old.items) (tree_of body.now)
+            (value_of start) (map value_of xs.items))
+            × (binders.new.items ≡ binders.old.items)) }
     {
         let mut end = start;
         for x in xs {

@@ -24,7 +24,8 @@ pub fn joined(alloc: Global, v: Val) -> Result<Val, AllocError>
 
 #[tactic(auto, using(crate::proofs::Layouts::joins))]
 fn append(alloc: Global, all: &mut Vec<Val>, row: Val) -> Result<(), AllocError>
-    ensures { OnOk result (map value_of all.new.items ≡ map value_of all.old.items ++ members (value_of row)) }
+    ensures { OnOk result (map value_of all.new.items
+        ≡ map value_of all.old.items ++ members (value_of row)) }
 {
     for x in into_members(alloc, row) {
         all.push(x)?;
@@ -35,7 +36,8 @@ fn append(alloc: Global, all: &mut Vec<Val>, row: Val) -> Result<(), AllocError>
 /// The columns, as many as the first row is long; where a row is shorter its members are 0.
 #[tactic(auto, using(crate::proofs::Layouts::transposes))]
 pub fn transposed(alloc: Global, v: &Val) -> Result<Val, AllocError>
-    ensures { IfOk result (λ u. value_of u ≡ array_of_rows (columns (width (rows (value_of v.now))) (rows (value_of v.now)))) }
+    ensures { IfOk result (λ u. value_of u
+        ≡ array_of_rows (columns (width (rows (value_of v.now))) (rows (value_of v.now)))) }
 {
     let rows = members_of(v);
     let mut columns = Vec::new(alloc);
@@ -81,7 +83,8 @@ pub fn cut(
     size: usize,
     step: usize,
 ) -> Result<Val, AllocError>
-    ensures { IfOk result (λ u. value_of u ≡ array_of_rows (pieces count size step (map value_of xs.now))) }
+    ensures { IfOk result (λ u. value_of u
+        ≡ array_of_rows (pieces count size step (map value_of xs.now))) }
 {
     let mut rows = Vec::new(alloc);
     let mut rest = xs;
@@ -111,7 +114,9 @@ fn dropped(xs: &[Val], count: usize) -> &[Val]
 /// The pieces of `size` members that begin at 0 and at each multiple of `step`, while they fit.
 #[tactic(auto, using(crate::proofs::Layouts::counts))]
 pub fn slid(alloc: Global, v: &Val, size: u32, step: u32) -> Result<Val, AllocError>
-    ensures { IfOk result (λ u. value_of u ≡ array_of_rows (pieces (pieces_that_fit size step (length (members (value_of v.now)))) size step (members (value_of v.now)))) }
+    ensures { IfOk result (λ u. value_of u
+        ≡ array_of_rows (pieces (pieces_that_fit size step
+        (length (members (value_of v.now)))) size step (members (value_of v.now)))) }
 {
     let xs = members_of(v);
     let (size, step) = (size as usize, step as usize);
@@ -140,7 +145,8 @@ pub fn pad(alloc: Global, v: &Val, before: u32, after: u32) -> Result<Val, Alloc
 
 #[tactic(auto, using(crate::proofs::Layouts::pads))]
 fn repeat(alloc: Global, all: &mut Vec<Val>, v: &Val, count: u32) -> Result<(), AllocError>
-    ensures { OnOk result (map value_of all.new.items ≡ map value_of all.old.items ++ replicate count (value_of v.now)) }
+    ensures { OnOk result (map value_of all.new.items
+        ≡ map value_of all.old.items ++ replicate count (value_of v.now)) }
 {
     for index in 0..count {
         all.push(copied(alloc, v)?)?;
@@ -150,7 +156,8 @@ fn repeat(alloc: Global, all: &mut Vec<Val>, v: &Val, count: u32) -> Result<(), 
 
 #[tactic(auto, using(crate::proofs::Layouts::pads))]
 fn extend(alloc: Global, all: &mut Vec<Val>, xs: &[Val]) -> Result<(), AllocError>
-    ensures { OnOk result (map value_of all.new.items ≡ map value_of all.old.items ++ map value_of xs.now) }
+    ensures { OnOk result (map value_of all.new.items
+        ≡ map value_of all.old.items ++ map value_of xs.now) }
 {
     for x in xs {
         all.push(copied(alloc, x)?)?;
@@ -161,7 +168,8 @@ fn extend(alloc: Global, all: &mut Vec<Val>, xs: &[Val]) -> Result<(), AllocErro
 /// The pairs of the members of two lists, as many as the shorter has.
 #[tactic(auto, using(crate::proofs::Layouts::zips))]
 pub fn zipped(alloc: Global, v: &Val, u: &Val) -> Result<Val, AllocError>
-    ensures { IfOk result (λ w. value_of w ≡ array (zip_with Both (members (value_of v.now)) (members (value_of u.now)))) }
+    ensures { IfOk result (λ w. value_of w
+        ≡ array (zip_with Both (members (value_of v.now)) (members (value_of u.now)))) }
 {
     let xs = members_of(v);
     let ys = members_of(u);

@@ -8,6 +8,3 @@ mod part;
 mod value;
 
 pub use value::value_of;
-
-#[cfg(test)]
-mod tests;

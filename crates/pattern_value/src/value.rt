@@ -22,8 +22,11 @@ pub fn value_of(
     sizes: &Sizes,
     inputs: &[Val],
 ) -> Result<Val, AllocError>
-    ensures value { IfOk result (λ v. values.value_of v ≡ meaning (world_at typed.now.program sizes.now inputs.now) [] (tree_of typed.now.term)) }
-    ensures typed { IfOk result (λ v. HasItsType typed.now (world_at typed.now.program sizes.now inputs.now) (values.value_of v)) }
+    ensures value { IfOk result (λ v. values.value_of v
+        ≡ meaning (world_at typed.now.program sizes.now inputs.now) []
+        (tree_of typed.now.term)) }
+    ensures typed { IfOk result (λ v. HasItsType typed.now (world_at typed.now.program sizes.now
+        inputs.now) (values.value_of v)) }
 {
     let world = World {
         sizes: &typed.program.sizes,

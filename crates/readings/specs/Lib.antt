@@ -2,6 +2,7 @@ pub mod Readings
 pub mod Running
 pub mod Meanings
 pub mod Views
+pub mod Given
 pub mod Exactly
 pub mod Told
-pub mod Nests
+pub mod OneReading

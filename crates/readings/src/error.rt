@@ -6,11 +6,12 @@ ghost use Rattle.readings.specs.declared.error.ReadError.TheVariants.{Memory};
 use std::alloc::{AllocError, AllocFailed};
 
 /// Why a text could not be read.
-#[derive(Debug, Drop)]
+#[derive(Drop)]
 pub enum ReadError {
     /// Memory ran out.
     Memory,
-    /// The text doesn't go on at the token after the first `taken` ones; at its end, where it has no more.
+    /// The text doesn't go on at the token after the first `taken` ones; at its end, where it has
+    /// no more.
     Refused { taken: usize },
 }
 

@@ -1,12 +1,12 @@
 // What a reading still owes.
 
-ghost use Rattle.std.specs.Prelude.{◌≡◌, ◌++◌, OnOk};
+ghost use Rattle.std.specs.Prelude.{◌≡◌, ◌++◌, OnOk, IfOk, true};
 
 use std::alloc::AllocError;
 use std::collections::VecDeque;
 
 /// One thing that a reading owes.
-#[derive(Clone, Copy, Debug)]
+#[derive(Clone, Copy)]
 pub enum Owed<T, F, M> {
     /// A token that has to come next.
     Token(T),
@@ -26,4 +26,13 @@ pub fn owe<O: Copy>(owed: &mut VecDeque<O>, alternative: &[O]) -> Result<(), All
         owed.push_front(alternative[left])?;
     }
     Ok(())
+}
+
+/// Puts a form's alternative before all that is owed, and answers that there is one.
+pub fn give<O: Copy>(owed: &mut VecDeque<O>, alternative: &[O]) -> Result<bool, AllocError>
+    ensures found { IfOk result (λ found. found ≡ true) }
+    ensures given { OnOk result (owed.new.items ≡ alternative.now ++ owed.old.items) }
+{
+    owe(owed, alternative)?;
+    Ok(true)
 }

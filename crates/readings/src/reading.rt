@@ -1,9 +1,10 @@
 // A reading: the notes, and what is still owed.
 
-ghost use Rattle.std.specs.Prelude.{◌≡◌, IfOk, IfErr, OnOk, List, map, cond, Some, None, option_map, ◌++◌, []};
+ghost use Rattle.std.specs.Prelude.{◌≡◌, IfOk, IfErr, map, []};
 ghost use Rattle.readings.specs.Readings.{Grammar, Reads};
 ghost use Rattle.readings.specs.Running.{Table, Decides, next, last};
 ghost use Rattle.readings.specs.Views.{items_of};
+ghost use Rattle.readings.specs.Given.{Gave, Noticed};
 ghost use Rattle.readings.specs.Exactly.{Answers, Refuses};
 ghost use Rattle.readings.specs.Told.{Tells};
 
@@ -14,11 +15,12 @@ use std::collections::VecDeque;
 
 /// What a reading has noted, and the grammar that it reads by.
 ///
-/// The grammar itself is a ghost: `grammar` says which alternatives each form has, and what each mark makes of the
-/// notes, over plain values (`PlainToken` and the others) to which `token_of` and the others take the code's. The code
-/// is tied to it by `table`, which finds the alternative of a form that begins with a token: `is_same`, `give` and
-/// `mark` compute the table, and the law `decides` says that the table is the grammar's, so that no form has two
-/// alternatives that begin with one token.
+/// The grammar itself is a ghost: `grammar` says which alternatives each form has, and what each
+/// mark makes of the notes, over plain values (`PlainToken` and the others) to which `token_of` and
+/// the others take the code's. The code is tied to it by `table`, which finds the alternative of a
+/// form that begins with a token: `is_same`, `give` and `mark` compute the table, and the law
+/// `decides` says that the table is the grammar's, so that no form has two alternatives that begin
+/// with one token.
 pub trait Notes: Drop {
     type Token: Copy;
 
@@ -50,19 +52,21 @@ pub trait Notes: Drop {
     fn is_same(a: Self::Token, b: Self::Token) -> bool
         ensures { result ≡ table.same (token_of a) (token_of b) };
 
-    /// Puts before all that is owed the form's alternative that begins with the token, without that token. `false`
-    /// where it has none.
+    /// Puts before all that is owed the form's alternative that begins with the token, without that
+    /// token. `false` where it has none.
     fn give(
         &self,
         form: Self::Form,
         token: Self::Token,
         owed: &mut VecDeque<Owed<Self::Token, Self::Form, Self::Mark>>,
     ) -> Result<bool, AllocError>
-        ensures { IfOk result (λ found. cond found (Some (items_of token_of form_of mark_of owed.new.items)) None ≡ option_map (λ alternative. alternative ++ items_of token_of form_of mark_of owed.old.items) (table.row (notes_of self.now) (form_of form) (token_of token))) };
+        ensures { Gave (items_of token_of form_of mark_of) result owed.old.items owed.new.items
+            (table.row (notes_of self.now) (form_of form) (token_of token)) };
 
     /// Makes of the notes what the mark makes of them. `false` where it makes nothing of them.
     fn mark(&mut self, alloc: Global, mark: Self::Mark) -> Result<bool, AllocError>
-        ensures { IfOk result (λ made. cond made (Some (notes_of self.new)) None ≡ table.marked (mark_of mark) (notes_of self.old)) };
+        ensures { let wanted = table.marked (mark_of mark) (notes_of self.old) in
+            Noticed result wanted (notes_of self.new) };
 
     ghost decides: { Decides grammar table };
 }
@@ -74,7 +78,10 @@ fn take<N: Notes>(
     owed: &mut VecDeque<Owed<N::Token, N::Form, N::Mark>>,
     token: N::Token,
 ) -> Result<bool, AllocError>
-    ensures { IfOk result (λ ok. cond ok (Some (items_of N.token_of N.form_of N.mark_of owed.new.items, N.notes_of notes.new)) None ≡ next N.table (items_of N.token_of N.form_of N.mark_of owed.old.items) (N.notes_of notes.old) (N.token_of token)) }
+    ensures { let items = items_of N.token_of N.form_of N.mark_of in
+        Noticed result
+        (next N.table (items owed.old.items) (N.notes_of notes.old) (N.token_of token))
+        (items owed.new.items, N.notes_of notes.new) }
 {
     while let Some(item) = owed.pop_front() {
         match item {
@@ -96,7 +103,10 @@ fn end<N: Notes>(
     notes: &mut N,
     owed: &mut VecDeque<Owed<N::Token, N::Form, N::Mark>>,
 ) -> Result<bool, AllocError>
-    ensures { IfOk result (λ ok. cond ok (Some (N.notes_of notes.new)) None ≡ last N.table (items_of N.token_of N.form_of N.mark_of owed.old.items) (N.notes_of notes.old)) }
+    ensures { let items = items_of N.token_of N.form_of N.mark_of in
+        Noticed result
+        (last N.table (items owed.old.items) (N.notes_of notes.old))
+        (N.notes_of notes.new) }
 {
     while let Some(item) = owed.pop_front() {
         match item {
@@ -118,7 +128,8 @@ fn run<N: Notes>(
     notes: N,
     tokens: &[N::Token],
 ) -> Result<N, ReadError>
-    ensures { Tells N.notes_of N.table (items_of N.token_of N.form_of N.mark_of start.now) (N.notes_of notes) (map N.token_of tokens.now) result }
+    ensures { let owed = items_of N.token_of N.form_of N.mark_of start.now in
+        Tells N.notes_of N.table owed (N.notes_of notes) (map N.token_of tokens.now) result }
 {
     let mut notes = notes;
     let mut owed = VecDeque::new(alloc);
@@ -136,7 +147,8 @@ fn run<N: Notes>(
     Ok(notes)
 }
 
-/// Reads all the tokens, where `start` is owed and `notes` are noted at first: the notes once nothing more is owed.
+/// Reads all the tokens, where `start` is owed and `notes` are noted at first: the notes once
+/// nothing more is owed.
 pub fn read<N: Notes>(
     alloc: Global,
     start: &[Owed<N::Token, N::Form, N::Mark>],
@@ -144,11 +156,17 @@ pub fn read<N: Notes>(
     tokens: &[N::Token],
 ) -> Result<N, ReadError>
     // What is answered is noted by a reading of these tokens.
-    ensures found { IfOk result (λ n. Reads N.grammar (items_of N.token_of N.form_of N.mark_of start.now) (N.notes_of notes) (map N.token_of tokens.now) [] (N.notes_of n)) }
+    ensures found { let owed = items_of N.token_of N.form_of N.mark_of start.now in
+        let text = map N.token_of tokens.now in
+        IfOk result (λ n. Reads N.grammar owed (N.notes_of notes) text [] (N.notes_of n)) }
     // What a reading of these tokens notes is answered, unless memory runs out.
-    ensures only { (n : N.PlainNotes) → Reads N.grammar (items_of N.token_of N.form_of N.mark_of start.now) (N.notes_of notes) (map N.token_of tokens.now) [] n → Answers N.notes_of n result }
+    ensures only { let owed = items_of N.token_of N.form_of N.mark_of start.now in
+        let text = map N.token_of tokens.now in
+        (n : N.PlainNotes) →
+        Reads N.grammar owed (N.notes_of notes) text [] n → Answers N.notes_of n result }
     // A refusal names the first token at which the text doesn't go on.
-    ensures refused { IfErr result (Refuses N.grammar (items_of N.token_of N.form_of N.mark_of start.now) (N.notes_of notes) (map N.token_of tokens.now)) }
+    ensures refused { let owed = items_of N.token_of N.form_of N.mark_of start.now in
+        IfErr result (Refuses N.grammar owed (N.notes_of notes) (map N.token_of tokens.now)) }
 {
     run(alloc, start, notes, tokens)
 }

@@ -17,7 +17,8 @@ pub record Around : Type 0 where
   pub types : Annotation
 
 abbrev pub context_of : Context → Around
-context_of c = record { names = c.names; binders = map ty_of c.binders.items; types = annotation_of c.types }
+context_of c =
+    record { names = c.names; binders = map ty_of c.binders.items; types = annotation_of c.types }
 
 -- this stands around the term, in a program with these sizes and inputs
 pub record IsAround (d : Declared) (a : Around) (t : Tree) : Type 0 where
@@ -50,14 +51,20 @@ child_types n i = None
 abbrev pub child_binders : Tree → ℕ → Annotation → List PlainTy → List PlainTy
 child_binders (Let v b) (suc zero) (Two a n m) g = type_in n ∷ g
 child_binders (Map h xs b) (suc zero) (Two a n m) g = element_of (type_in n) ∷ g
-child_binders (Fold h xs s b) (suc (suc zero)) (Three a n m k) g = element_of (type_in n) ∷ type_in m ∷ g
+child_binders (Fold h xs s b) (suc (suc zero)) (Three a n m k) g =
+    element_of (type_in n) ∷ type_in m ∷ g
 child_binders t i n g = g
 
 -- what stands around a child
 abbrev pub around_child : Around → Tree → ℕ → Option Around
-around_child a t i = option_map (λ n. record { names = a.names; binders = child_binders t i a.types a.binders; types = n }) (child_types a.types i)
+around_child a t i =
+    option_map
+    (λ n. record { names = a.names; binders = child_binders t i a.types a.binders; types = n })
+    (child_types a.types i)
 
 -- what stands around the node at a place; none where there is no such place
 abbrev pub around_at : Around → Tree → List ℕ → Option Around
 around_at a t [] = Some a
-around_at a t (i ∷ is) = option_and_then (λ c. option_and_then (λ b. around_at b c is) (around_child a t i)) (child_at t i)
+around_at a t (i ∷ is) =
+    option_and_then (λ c. option_and_then (λ b. around_at b c is) (around_child a t i))
+    (child_at t i)

@@ -10,7 +10,8 @@ use Rattle.rewriting.specs.Around.{Around, IsAround}
 -- what stands for t has its type, and its value at all admissible sizes, inputs and values of the binders
 pub record Keeps (d : Declared) (binders : List PlainTy) (t u : Tree) : Type 0 where
   pub typed : (a : PlainTy) → Types d binders t a → Types d binders u a
-  pub value : (w : World) (vs : List Value) → IsAdmissible d w → HaveTypes w.bases binders vs → meaning w vs u ≡ meaning w vs t
+  pub value : (w : World) (vs : List Value) → IsAdmissible d w → HaveTypes w.bases binders vs
+      → meaning w vs u ≡ meaning w vs t
 
 -- in whatever program this stands around t, what stands for t keeps its type and value
 abbrev pub KeepsIn : Around → Tree → Tree → Type 0

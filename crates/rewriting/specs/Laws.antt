@@ -10,7 +10,8 @@ use Rattle.rewriting.specs.Keeps.{Keeps}
 -- something stands around each node of a typed term
 abbrev pub PlacesHaveContexts : Type 0
 PlacesHaveContexts =
-    (d : Declared) (a : Around) (t r : Tree) (place : List ℕ) → IsAround d a t → node_at t place ≡ Some r
+    (d : Declared) (a : Around) (t r : Tree) (place : List ℕ)
+    → IsAround d a t → node_at t place ≡ Some r
     → (b : Around) × (around_at a t place ≡ Some b) × IsAround d b r
 
 -- what keeps the node's type and value at a place keeps the whole's
@@ -22,4 +23,5 @@ RewritesKeepTheWhole =
 
 -- one rewrite after another
 abbrev pub KeepingGoesOn : Type 0
-KeepingGoesOn = (d : Declared) (g : List PlainTy) (t u v : Tree) → Keeps d g t u → Keeps d g u v → Keeps d g t v
+KeepingGoesOn =
+    (d : Declared) (g : List PlainTy) (t u v : Tree) → Keeps d g t u → Keeps d g u v → Keeps d g t v

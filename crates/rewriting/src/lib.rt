@@ -5,7 +5,5 @@
 
 pub mod laws;
 pub mod refused;
-#[cfg(test)]
-mod tests;
 
 pub use refused::{Condition, Refused};

@@ -8,7 +8,7 @@ use lift_tree::term::Term;
 use std::alloc::{AllocError, AllocFailed};
 
 /// What a rule demands beside its shape. A rule tries its conditions in a fixed order, and names the first that is false.
-#[derive(Clone, Copy, Debug, PartialEq, Eq)]
+#[derive(Clone, Copy, PartialEq, Eq)]
 pub enum Condition {
     /// The rule's number is at least 1.
     Positive,
@@ -41,7 +41,7 @@ impl Condition {
 }
 
 /// Why a rule doesn't rewrite a term.
-#[derive(Debug, Drop)]
+#[derive(Drop)]
 pub enum Refused {
     /// The term isn't of the rule's shape. It comes back unchanged.
     Shape(Term),

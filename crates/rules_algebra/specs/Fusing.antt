@@ -12,5 +12,6 @@ fuse_map _ = NoShape
 
 -- fold(\a y. f, s, map(\x. g, xs)) becomes fold(\a x. let y = g in f, s, xs)
 abbrev pub fuse_fold : Tree → Answer
-fuse_fold (Fold fold.Plain (Map Plain xs g) s f) = Becomes (Fold fold.Plain xs s (Let (raise 1 g) (raise 1 f)))
+fuse_fold (Fold fold.Plain (Map Plain xs g) s f) =
+    Becomes (Fold fold.Plain xs s (Let (raise 1 g) (raise 1 f)))
 fuse_fold _ = NoShape

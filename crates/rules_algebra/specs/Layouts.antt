@@ -40,12 +40,16 @@ child (Three a n m k) = Three a n m k
 
 -- split(m, join(xs)) becomes xs where the inner length of xs is m, which is the length of the pieces
 abbrev pub split_join : Around → Tree → Answer
-split_join a (Unary (Split m) (Unary Join xs)) = if same_lengths (row_length (type_in (child (child a.types)))) (row_length (type_in a.types)) then Becomes xs else NoSide Same
+split_join a (Unary (Split m) (Unary Join xs)) =
+    if same_lengths (row_length (type_in (child (child a.types)))) (row_length (type_in a.types))
+    then Becomes xs else NoSide Same
 split_join a _ = NoShape
 
 -- the pieces of a typed split are as long as it says
 abbrev pub PiecesHaveTheirLength : Type 0
-PiecesHaveTheirLength = (d : Declared) (a : Around) (m : List Factor) (xs : Tree) → IsAround d a (Unary (Split m) xs) → row_length (type_in a.types) ≡ Some (of_monomial (product_of a.names m))
+PiecesHaveTheirLength =
+    (d : Declared) (a : Around) (m : List Factor) (xs : Tree) → IsAround d a (Unary (Split m) xs)
+    → row_length (type_in a.types) ≡ Some (of_monomial (product_of a.names m))
 
 -- transpose(transpose(xs)) becomes xs
 abbrev pub transpose_transpose : Tree → Answer
@@ -54,7 +58,8 @@ transpose_transpose _ = NoShape
 
 -- map(\x. f, join(xs)) becomes join(map(\r. map(\x. f, r), xs))
 abbrev pub map_join : Tree → Answer
-map_join (Map Plain (Unary Join xs) f) = Becomes (Unary Join (Map Plain xs (Map Plain (Variable 0) (raise 1 f))))
+map_join (Map Plain (Unary Join xs) f) =
+    Becomes (Unary Join (Map Plain xs (Map Plain (Variable 0) (raise 1 f))))
 map_join _ = NoShape
 
 -- the term for one binder fewer at k, which it doesn't name, so that any value may stand there
@@ -63,10 +68,13 @@ without k t = put k (Number 0) t
 
 -- map(\r. map(\x. f, r), split(m, xs)) becomes split(m, map(\x. f, xs)) where f hasn't r
 abbrev pub map_split : Tree → Answer
-map_split (Map Plain (Unary (Split m) xs) (Map Plain (Variable zero) f)) = if mentions 1 f then NoSide Mentions else Becomes (Unary (Split m) (Map Plain xs (without 1 f)))
+map_split (Map Plain (Unary (Split m) xs) (Map Plain (Variable zero) f)) =
+    if mentions 1 f then NoSide Mentions else Becomes (Unary (Split m) (Map Plain xs (without 1 f)))
 map_split _ = NoShape
 
 -- map(\r. map(\x. f, r), transpose(xs)) becomes transpose(map(\r. map(\x. f, r), xs)) where f hasn't r
 abbrev pub map_transpose : Tree → Answer
-map_transpose (Map Plain (Unary Transpose xs) (Map Plain (Variable zero) f)) = if mentions 1 f then NoSide Mentions else Becomes (Unary Transpose (Map Plain xs (Map Plain (Variable 0) f)))
+map_transpose (Map Plain (Unary Transpose xs) (Map Plain (Variable zero) f)) =
+    if mentions 1 f then NoSide Mentions
+    else Becomes (Unary Transpose (Map Plain xs (Map Plain (Variable 0) f)))
 map_transpose _ = NoShape

@@ -63,7 +63,8 @@ MapsRowsOf inner t = IsPlainMap t × inner (first_child t) × IsRowMap (body t)
 
 -- the term for one binder fewer, the second nearest; none where it names that binder
 abbrev pub IsLowered : Tree → Option Term → Type 0
-IsLowered f o = MatchOption o (mentions 1 f ≡ true) (λ t. (mentions 1 f ≡ false) × (without 1 f ≡ tree_of t))
+IsLowered f o =
+    MatchOption o (mentions 1 f ≡ true) (λ t. (mentions 1 f ≡ false) × (without 1 f ≡ tree_of t))
 
 -- an array's length is a polynomial
 abbrev pub HasPolynomial : PlainTy → Type 0

@@ -27,7 +27,8 @@ pub fn fuse_map(alloc: Global, term: Term) -> Result<Term, Refused>
 }
 
 fn is_map_of_map(term: &Term) -> bool
-    ensures { MatchBool result (Over IsPlainMap IsPlainMap (tree_of term.now)) (Fusing.fuse_map (tree_of term.now) ≡ NoShape) }
+    ensures { MatchBool result (Over IsPlainMap IsPlainMap (tree_of term.now))
+        (Fusing.fuse_map (tree_of term.now) ≡ NoShape) }
 {
     match term {
         Term::Map(MapKind::Plain, array, _) => match &**array {
@@ -62,7 +63,8 @@ pub fn fuse_fold(alloc: Global, term: Term) -> Result<Term, Refused>
 }
 
 fn is_fold_of_map(term: &Term) -> bool
-    ensures { MatchBool result (Over IsPlainFold IsPlainMap (tree_of term.now)) (Fusing.fuse_fold (tree_of term.now) ≡ NoShape) }
+    ensures { MatchBool result (Over IsPlainFold IsPlainMap (tree_of term.now))
+        (Fusing.fuse_fold (tree_of term.now) ≡ NoShape) }
 {
     match term {
         Term::Fold(FoldKind::Plain, array, _, _) => match &**array {

@@ -8,7 +8,7 @@ ghost use Rattle.rewriting.specs.Answers.{IsAnswer, NoShape};
 ghost use Rattle.rules_algebra.specs.Shapes.{IsLet};
 ghost use Rattle.rules_algebra.specs.Inlining;
 
-use crate::parts::{boxed, let_parts};
+use crate::parts::let_parts;
 use lift_tree::renumber::substituted;
 use lift_tree::term::{MapKind, Term};
 use lift_tree::typed::Context;
@@ -28,7 +28,8 @@ pub fn let_inline(alloc: Global, term: Term) -> Result<Term, Refused>
 }
 
 fn is_let(term: &Term) -> bool
-    ensures { MatchBool result (IsLet (tree_of term.now)) (Inlining.let_inline (tree_of term.now) ≡ NoShape) }
+    ensures { MatchBool result (IsLet (tree_of term.now))
+        (Inlining.let_inline (tree_of term.now) ≡ NoShape) }
 {
     match term {
         Term::Let(_, _) => true,
@@ -43,7 +44,5 @@ pub fn copy(alloc: Global, term: Term, context: &Context) -> Result<Term, Refuse
     if !context.types.own_type().is_array() {
         return Err(Refused::Side(Condition::Array, term));
     }
-    let array = boxed(alloc, term)?;
-    let element = boxed(alloc, Term::Variable(0))?;
-    Ok(Term::Map(MapKind::Plain, array, element))
+    Ok(Term::map(alloc, MapKind::Plain, term, Term::Variable(0))?)
 }

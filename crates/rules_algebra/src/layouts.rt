@@ -30,7 +30,8 @@ pub fn transpose_transpose(term: Term) -> Result<Term, Refused>
 }
 
 fn is_transposed_twice(term: &Term) -> bool
-    ensures { MatchBool result (Over IsTranspose IsTranspose (tree_of term.now)) (Layouts.transpose_transpose (tree_of term.now) ≡ NoShape) }
+    ensures { MatchBool result (Over IsTranspose IsTranspose (tree_of term.now))
+        (Layouts.transpose_transpose (tree_of term.now) ≡ NoShape) }
 {
     match term {
         Term::Unary(UnaryForm::Transpose, columns) => match &**columns {
@@ -59,7 +60,8 @@ pub fn map_join(alloc: Global, term: Term) -> Result<Term, Refused>
 }
 
 fn is_map_of_join(term: &Term) -> bool
-    ensures { MatchBool result (Over IsPlainMap IsJoin (tree_of term.now)) (Layouts.map_join (tree_of term.now) ≡ NoShape) }
+    ensures { MatchBool result (Over IsPlainMap IsJoin (tree_of term.now))
+        (Layouts.map_join (tree_of term.now) ≡ NoShape) }
 {
     match term {
         Term::Map(MapKind::Plain, array, _) => match &**array {
@@ -92,7 +94,8 @@ fn unsplit(term: Term) -> Term
 }
 
 fn is_join_of_split(term: &Term) -> bool
-    ensures { MatchBool result (Over IsJoin IsSplit (tree_of term.now)) (Layouts.join_split (tree_of term.now) ≡ NoShape) }
+    ensures { MatchBool result (Over IsJoin IsSplit (tree_of term.now))
+        (Layouts.join_split (tree_of term.now) ≡ NoShape) }
 {
     match term {
         Term::Unary(UnaryForm::Join, pieces) => match &**pieces {
@@ -105,7 +108,8 @@ fn is_join_of_split(term: &Term) -> bool
 
 // The rows that are joined and split again, where the pieces are as long as they.
 pub fn split_join(term: Term, context: &Context) -> Result<Term, Refused>
-    ensures answer { IsAnswer (Layouts.split_join (context_of context.now) (tree_of term)) term result }
+    ensures answer { IsAnswer
+        (Layouts.split_join (context_of context.now) (tree_of term)) term result }
     ensures keeps { IfOk result (λ t. KeepsIn (context_of context.now) (tree_of term) (tree_of t)) }
 {
     if !is_split_of_join(&term) {
@@ -131,7 +135,9 @@ fn are_as_long(types: &NodeTypes) -> bool
 fn unjoined(term: Term) -> Term
     requires { Over IsSplit IsJoin (tree_of term) }
     ensures { (a : Around)
-        → Layouts.same_lengths (Layouts.row_length (type_in (Layouts.child (Layouts.child a.types)))) (Layouts.row_length (type_in a.types)) ≡ true
+        → Layouts.same_lengths
+        (Layouts.row_length (type_in (Layouts.child (Layouts.child a.types))))
+        (Layouts.row_length (type_in a.types)) ≡ true
         → Layouts.split_join a (tree_of term) ≡ Becomes (tree_of result) }
 {
     let (_length, array) = split_parts(term);
@@ -139,7 +145,8 @@ fn unjoined(term: Term) -> Term
 }
 
 fn is_split_of_join(term: &Term) -> bool
-    ensures { MatchBool result (Over IsSplit IsJoin (tree_of term.now)) ((a : Around) → Layouts.split_join a (tree_of term.now) ≡ NoShape) }
+    ensures { MatchBool result (Over IsSplit IsJoin (tree_of term.now))
+        ((a : Around) → Layouts.split_join a (tree_of term.now) ≡ NoShape) }
 {
     match term {
         Term::Unary(UnaryForm::Split(_), array) => match &**array {
@@ -169,7 +176,8 @@ pub fn map_split(alloc: Global, term: Term) -> Result<Term, Refused>
 }
 
 fn maps_pieces(term: &Term) -> bool
-    ensures { MatchBool result (MapsRowsOf IsSplit (tree_of term.now)) (Layouts.map_split (tree_of term.now) ≡ NoShape) }
+    ensures { MatchBool result (MapsRowsOf IsSplit (tree_of term.now))
+        (Layouts.map_split (tree_of term.now) ≡ NoShape) }
 {
     match term {
         Term::Map(MapKind::Plain, array, rows) => match &**array {
@@ -235,7 +243,8 @@ pub fn map_transpose(alloc: Global, term: Term) -> Result<Term, Refused>
 }
 
 fn maps_columns(term: &Term) -> bool
-    ensures { MatchBool result (MapsRowsOf IsTranspose (tree_of term.now)) (Layouts.map_transpose (tree_of term.now) ≡ NoShape) }
+    ensures { MatchBool result (MapsRowsOf IsTranspose (tree_of term.now))
+        (Layouts.map_transpose (tree_of term.now) ≡ NoShape) }
 {
     match term {
         Term::Map(MapKind::Plain, array, rows) => match &**array {

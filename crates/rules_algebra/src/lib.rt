@@ -9,7 +9,5 @@ mod node_types;
 mod padding;
 mod parts;
 pub mod rule;
-#[cfg(test)]
-mod tests;
 
 pub use rule::{Rule, apply};

@@ -25,7 +25,8 @@ pub fn pad_map(alloc: Global, term: Term) -> Result<Term, Refused>
 }
 
 fn is_pad_of_map(term: &Term) -> bool
-    ensures { MatchBool result (Over IsPad IsPlainMap (tree_of term.now)) (Padding.pad_map (tree_of term.now) ≡ NoShape) }
+    ensures { MatchBool result (Over IsPad IsPlainMap (tree_of term.now))
+        (Padding.pad_map (tree_of term.now) ≡ NoShape) }
 {
     match term {
         Term::Unary(UnaryForm::Pad(_, _), array) => match &**array {
@@ -50,7 +51,8 @@ pub fn map_pad(alloc: Global, term: Term) -> Result<Term, Refused>
 }
 
 fn is_map_of_pad(term: &Term) -> bool
-    ensures { MatchBool result (Over IsPlainMap IsPad (tree_of term.now)) (Padding.map_pad (tree_of term.now) ≡ NoShape) }
+    ensures { MatchBool result (Over IsPlainMap IsPad (tree_of term.now))
+        (Padding.map_pad (tree_of term.now) ≡ NoShape) }
 {
     match term {
         Term::Map(MapKind::Plain, array, _) => match &**array {

@@ -31,7 +31,8 @@ pub fn map_parts(term: Term) -> (Box<Term>, Box<Term>)
 // A plain fold's array, start and body.
 pub fn fold_parts(term: Term) -> (Box<Term>, Box<Term>, Box<Term>)
     requires { IsPlainFold (tree_of term) }
-    ensures { tree_of term ≡ Fold fold.Plain (tree_of result.0.value) (tree_of result.1.value) (tree_of result.2.value) }
+    ensures { tree_of term ≡ Fold fold.Plain
+        (tree_of result.0.value) (tree_of result.1.value) (tree_of result.2.value) }
 {
     match term {
         Term::Fold(FoldKind::Plain, array, start, body) => (array, start, body),

@@ -20,7 +20,7 @@ use rewriting::Refused;
 use std::alloc::Global;
 
 /// A rule of this crate. `xs`, `f`, `g`, `s`, `v` and `b` stand for any terms; maps and folds are plain ones.
-#[derive(Clone, Copy, Debug, PartialEq, Eq)]
+#[derive(Clone, Copy, PartialEq, Eq)]
 pub enum Rule {
     /// `map(\y. f, map(\x. g, xs))` becomes `map(\x. let y = g in f, xs)`.
     FuseMap,
@@ -51,7 +51,8 @@ pub enum Rule {
 /// The term rewritten by the rule, or why it isn't: it isn't of the rule's shape, or the rule's condition is false. In whatever program the context is that of the term's place, the new term has the old one's type and value.
 pub fn apply(alloc: Global, rule: &Rule, term: Term, context: &Context) -> Result<Term, Refused>
     requires { IsRenumberable (tree_of term) }
-    ensures answer { IsAnswer (answer_of rule.now (context_of context.now) (tree_of term)) term result }
+    ensures answer { IsAnswer
+        (answer_of rule.now (context_of context.now) (tree_of term)) term result }
     ensures keeps { IfOk result (λ t. KeepsIn (context_of context.now) (tree_of term) (tree_of t)) }
 {
     match rule {

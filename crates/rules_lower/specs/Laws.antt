@@ -9,4 +9,5 @@ use Rattle.rules_lower.specs.Rules.{answer}
 
 -- what a rule makes of a term keeps the term's type and value
 abbrev pub LoweringKeeps : Type 0
-LoweringKeeps = (rule : Rule) (a : Around) (t u : Tree) → answer rule a t ≡ Becomes u → KeepsIn a t u
+LoweringKeeps =
+    (rule : Rule) (a : Around) (t u : Tree) → answer rule a t ≡ Becomes u → KeepsIn a t u

@@ -5,7 +5,5 @@
 
 pub mod laws;
 pub mod rule;
-#[cfg(test)]
-mod tests;
 
 pub use rule::{Rule, apply};

@@ -13,7 +13,7 @@ use rewriting::refused::{Condition, Refused};
 use std::alloc::{AllocError, Global};
 
 /// A rule that says how a term is run.
-#[derive(Clone, Copy, Debug, PartialEq, Eq)]
+#[derive(Clone, Copy, PartialEq, Eq)]
 pub enum Rule {
     /// `to-glb`: a map is run over the work-items of all groups.
     ToGlobal,
@@ -40,7 +40,8 @@ pub enum Rule {
 /// `Shape` comes exactly where the rule wants a plain map or fold and the term is none, and `Side` exactly where it wants an array and the term is none; both hand the term back unchanged. The context is that of the term's place.
 #[tactic(auto, using(crate::proofs::Kept::lowering_keeps))]
 pub fn apply(alloc: Global, rule: &Rule, term: Term, context: &Context) -> Result<Term, Refused>
-    ensures answer { IsAnswer (answer rule.now (context_of context.now) (tree_of term)) term result }
+    ensures answer { IsAnswer
+        (answer rule.now (context_of context.now) (tree_of term)) term result }
     ensures keeps { IfOk result (λ u. KeepsIn (context_of context.now) (tree_of term) (tree_of u)) }
 {
     match *rule {
@@ -89,7 +90,7 @@ fn kept(alloc: Global, form: UnaryForm, term: Term, context: &Context) -> Result
     ensures { IsAnswer (on_array (context_of context.now) (Unary form (tree_of term))) term result }
 {
     if context.types.own_type().is_array() {
-        Ok(Term::Unary(form, Box::new(alloc, term)?))
+        Ok(Term::unary(alloc, form, term)?)
     } else {
         Err(Refused::Side(Condition::Array, term))
     }
@@ -103,7 +104,8 @@ fn copied(
     term: Term,
     context: &Context,
 ) -> Result<Term, Refused>
-    ensures { IsAnswer (on_array (context_of context.now) (copied form kind (tree_of term))) term result }
+    ensures { IsAnswer
+        (on_array (context_of context.now) (copied form kind (tree_of term))) term result }
 {
     if context.types.own_type().is_array() {
         Ok(copy_of(alloc, form, kind, term)?)
@@ -115,7 +117,6 @@ fn copied(
 fn copy_of(alloc: Global, form: UnaryForm, kind: MapKind, array: Term) -> Result<Term, AllocError>
     ensures { IfOk result (λ t. tree_of t ≡ copied form kind (tree_of array)) }
 {
-    let element = Box::new(alloc, Term::Variable(0))?;
-    let copy = Term::Map(kind, Box::new(alloc, array)?, element);
-    Ok(Term::Unary(form, Box::new(alloc, copy)?))
+    let copy = Term::map(alloc, kind, array, Term::Variable(0))?;
+    Term::unary(alloc, form, copy)
 }

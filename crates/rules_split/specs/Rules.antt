@@ -70,7 +70,8 @@ mapped_by_rows rows f = joined rows (Map map.Plain (Variable 0) (raise 1 f))
 
 -- reduce(op, s, join(map(\r. reduce(op, e, r), rows))), where e is the operator's neutral element
 abbrev pub reduced_by_rows : Reducer → (rows s : Tree) → Tree
-reduced_by_rows r rows s = Binary (Reduce r) (joined rows (Binary (Reduce r) (Variable 0) (Number (neutral r)))) s
+reduced_by_rows r rows s =
+    Binary (Reduce r) (joined rows (Binary (Reduce r) (Variable 0) (Number (neutral r)))) s
 
 -- fold(\a x. op(a, x), s, xs)
 abbrev pub folded : Reducer → (xs s : Tree) → Tree
@@ -88,7 +89,9 @@ reducer_of t = None
 -- ---- the rows
 -- pieces of length k: k is at least 1, and divides n
 abbrev pub piece_sides : ℕ → List Monomial → List Side
-piece_sides k n = record { name = Positive; holds = nat_le 1 k } ∷ record { name = Divides; holds = divides k n } ∷ []
+piece_sides k n =
+    record { name = Positive; holds = nat_le 1 k } ∷ record { name = Divides; holds = divides k n }
+    ∷ []
 
 -- tiles of length u, which begin v elements apart: v is at least 1, t divides v, u is a number with n - u shown at least 0, and v divides n - u
 abbrev pub tile_sides : (t u v : ℕ) → Around → List Side
@@ -101,15 +104,19 @@ tile_sides t u v a =
     ∷ []
 
 abbrev pub split_map : ℕ → Around → Tree → Answer
-split_map k a (Map map.Plain xs f) = under (piece_sides k (array_length a.types)) (mapped_by_rows (in_pieces k xs) f)
+split_map k a (Map map.Plain xs f) =
+    under (piece_sides k (array_length a.types)) (mapped_by_rows (in_pieces k xs) f)
 split_map k a t = NoShape
 
 abbrev pub split_reduce : ℕ → Around → Tree → Answer
-split_reduce k a (Binary (Reduce r) xs s) = under (piece_sides k (array_length a.types)) (reduced_by_rows r (in_pieces k xs) s)
+split_reduce k a (Binary (Reduce r) xs s) =
+    under (piece_sides k (array_length a.types)) (reduced_by_rows r (in_pieces k xs) s)
 split_reduce k a t = NoShape
 
 abbrev pub stride_reduce : ℕ → Around → Tree → Answer
-stride_reduce k a (Binary (Reduce r) xs s) = under (piece_sides k (array_length a.types)) (reduced_by_rows r (Unary Transpose (in_pieces k xs)) s)
+stride_reduce k a (Binary (Reduce r) xs s) =
+    under (piece_sides k (array_length a.types))
+    (reduced_by_rows r (Unary Transpose (in_pieces k xs)) s)
 stride_reduce k a t = NoShape
 
 abbrev pub reduce_fold : Tree → Answer
@@ -117,7 +124,8 @@ reduce_fold (Binary (Reduce r) xs s) = Becomes (folded r xs s)
 reduce_fold t = NoShape
 
 abbrev pub tile_slide : ℕ → Around → Tree → Answer
-tile_slide v a (Unary (Slide s t) xs) = let u = v + s - t in under (tile_sides t u v a) (tiled s t u v xs)
+tile_slide v a (Unary (Slide s t) xs) =
+    let u = v + s - t in under (tile_sides t u v a) (tiled s t u v xs)
 tile_slide v a t = NoShape
 
 -- what the rule says of a term, which has this around it

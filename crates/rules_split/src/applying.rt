@@ -23,7 +23,8 @@ use std::alloc::Global;
 /// `Shape` comes exactly where the term isn't of the row's shape, and `Side` exactly where it is, with the first false condition; both hand the term back. What is given has the term's type, up to limits, and its value.
 pub fn apply(alloc: Global, rule: &Rule, term: Term, context: &Context) -> Result<Term, Refused>
     requires { IsRenumberable (tree_of term) }
-    ensures answer { IsAnswer (answer rule.now (context_of context.now) (tree_of term)) term result }
+    ensures answer { IsAnswer
+        (answer rule.now (context_of context.now) (tree_of term)) term result }
     ensures keeps { IfOk result (λ t. KeepsIn (context_of context.now) (tree_of term) (tree_of t)) }
 {
     match *rule {
@@ -99,7 +100,8 @@ fn split_reduce_by<R: Regroup>(
 }
 
 fn stride_reduce(alloc: Global, k: u32, term: Term, context: &Context) -> Result<Term, Refused>
-    ensures answer { IsAnswer (stride_reduce k (context_of context.now) (tree_of term)) term result }
+    ensures answer { IsAnswer
+        (stride_reduce k (context_of context.now) (tree_of term)) term result }
     ensures keeps { IfOk result (λ t. KeepsIn (context_of context.now) (tree_of term) (tree_of t)) }
 {
     match reducer_of(&term) {
@@ -122,7 +124,8 @@ fn stride_reduce_by<R: Regroup>(
     context: &Context,
 ) -> Result<Term, Refused>
     requires { reducer_of (tree_of term) ≡ Some R.operator }
-    ensures answer { IsAnswer (stride_reduce k (context_of context.now) (tree_of term)) term result }
+    ensures answer { IsAnswer
+        (stride_reduce k (context_of context.now) (tree_of term)) term result }
     ensures keeps { IfOk result (λ t. KeepsIn (context_of context.now) (tree_of term) (tree_of t)) }
 {
     if let Some(side) = false_side_of_pieces(alloc, k, &context.types) {

@@ -26,9 +26,8 @@ pub fn in_pieces(alloc: Global, k: u32, array: Box<Term>) -> Result<Term, AllocE
 fn joined(alloc: Global, rows: Term, body: Term) -> Result<Term, AllocError>
     ensures { IfOk result (λ t. tree_of t ≡ joined (tree_of rows) (tree_of body)) }
 {
-    let rows = Box::new(alloc, rows)?;
-    let mapped = Term::Map(MapKind::Plain, rows, Box::new(alloc, body)?);
-    Ok(Term::Unary(UnaryForm::Join, Box::new(alloc, mapped)?))
+    let mapped = Term::map(alloc, MapKind::Plain, rows, body)?;
+    Term::unary(alloc, UnaryForm::Join, mapped)
 }
 
 /// The rows, each mapped, one after another.
@@ -36,19 +35,18 @@ pub fn mapped_by_rows(alloc: Global, rows: Term, body: &Term) -> Result<Term, Al
     requires { IsRenumberable (tree_of body.now) }
     ensures { IfOk result (λ t. tree_of t ≡ mapped_by_rows (tree_of rows) (tree_of body.now)) }
 {
-    let row = Box::new(alloc, Term::Variable(0))?;
-    let body = Box::new(alloc, raised(alloc, body, 1)?)?;
-    joined(alloc, rows, Term::Map(MapKind::Plain, row, body))
+    let body = raised(alloc, body, 1)?;
+    let mapped = Term::map(alloc, MapKind::Plain, Term::Variable(0), body)?;
+    joined(alloc, rows, mapped)
 }
 
 // The nearest binder's array, reduced from the neutral element.
 fn row_reduced<R: Regroup>(alloc: Global, form: BinaryForm) -> Result<Term, AllocError>
     requires { form ≡ Reduce R.operator }
-    ensures { IfOk result (λ t. tree_of t ≡ Binary (Reduce R.operator) (Variable 0) (Number (neutral R.operator))) }
+    ensures { IfOk result
+        (λ t. tree_of t ≡ Binary (Reduce R.operator) (Variable 0) (Number (neutral R.operator))) }
 {
-    let row = Box::new(alloc, Term::Variable(0))?;
-    let start = Box::new(alloc, Term::Number(R::neutral()))?;
-    Ok(Term::Binary(form, row, start))
+    Term::binary(alloc, form, Term::Variable(0), Term::Number(R::neutral()))
 }
 
 /// The rows reduced one by one from the neutral element, and what they give from the start.
@@ -59,7 +57,8 @@ pub fn reduced_by_rows<R: Regroup>(
     start: Box<Term>,
 ) -> Result<Term, AllocError>
     requires { form ≡ Reduce R.operator }
-    ensures { IfOk result (λ t. tree_of t ≡ reduced_by_rows R.operator (tree_of rows) (tree_of start.value)) }
+    ensures { IfOk result
+        (λ t. tree_of t ≡ reduced_by_rows R.operator (tree_of rows) (tree_of start.value)) }
 {
     let rows = joined(alloc, rows, row_reduced::<R>(alloc, form)?)?;
     Ok(Term::Binary(form, Box::new(alloc, rows)?, start))
@@ -69,7 +68,7 @@ pub fn reduced_by_rows<R: Regroup>(
 pub fn transposed(alloc: Global, array: Term) -> Result<Term, AllocError>
     ensures { IfOk result (λ t. tree_of t ≡ Unary Transpose (tree_of array)) }
 {
-    Ok(Term::Unary(UnaryForm::Transpose, Box::new(alloc, array)?))
+    Term::unary(alloc, UnaryForm::Transpose, array)
 }
 
 /// The array folded by the operator, accumulator first.
@@ -79,13 +78,12 @@ pub fn folded(
     array: Box<Term>,
     start: Box<Term>,
 ) -> Result<Term, AllocError>
-    ensures { IfOk result (λ t. tree_of t ≡ folded reducer (tree_of array.value) (tree_of start.value)) }
+    ensures { IfOk result
+        (λ t. tree_of t ≡ folded reducer (tree_of array.value) (tree_of start.value)) }
 {
     let form = BinaryForm::Operator(Operator::Regrouping(reducer));
-    let accumulator = Box::new(alloc, Term::Variable(1))?;
-    let element = Box::new(alloc, Term::Variable(0))?;
-    let body = Box::new(alloc, Term::Binary(form, accumulator, element))?;
-    Ok(Term::Fold(FoldKind::Plain, array, start, body))
+    let body = Term::binary(alloc, form, Term::Variable(1), Term::Variable(0))?;
+    Ok(Term::Fold(FoldKind::Plain, array, start, Box::new(alloc, body)?))
 }
 
 /// The pieces of `size` elements that begin `step` apart, by tiles of `tile` elements that begin v apart.
@@ -100,10 +98,6 @@ pub fn tiled(
     ensures { IfOk result (λ t. tree_of t ≡ tiled size step tile v (tree_of array.value)) }
 {
     let tiles = Term::Unary(UnaryForm::Slide(tile, v), array);
-    let of_tile = Box::new(alloc, Term::Variable(0))?;
-    joined(
-        alloc,
-        tiles,
-        Term::Unary(UnaryForm::Slide(size, step), of_tile),
-    )
+    let of_tile = Term::unary(alloc, UnaryForm::Slide(size, step), Term::Variable(0))?;
+    joined(alloc, tiles, of_tile)
 }

@@ -7,8 +7,6 @@ mod applying;
 mod building;
 pub mod rule;
 mod sides;
-#[cfg(test)]
-mod tests;
 
 pub use applying::apply;
 pub use rule::Rule;

@@ -1,7 +1,7 @@
 // The rules.
 
 /// A rule, with its number where it has one. In each, n is the length of the array xs.
-#[derive(Clone, Copy, Debug, PartialEq, Eq)]
+#[derive(Clone, Copy, PartialEq, Eq)]
 pub enum Rule {
     /// `map(\x. f, xs)` becomes `join(map(\r. map(\x. f, r), split(k, xs)))`: k is positive and divides n.
     SplitMap(u32),

@@ -146,3 +146,14 @@ impl Regroup for Xor {
 pub fn regroups<R: Regroup>()
     ensures { IsRegroup (Operators.combine R.operator) (Operators.neutral R.operator) }
 {}
+
+/// Each type's operator is the one of its name.
+pub fn operators_are_named()
+    ensures add { ⟦<Add as Regroup>⟧.operator ≡ reducer.Add }
+    ensures mul { ⟦<Mul as Regroup>⟧.operator ≡ reducer.Mul }
+    ensures min { ⟦<Min as Regroup>⟧.operator ≡ reducer.Min }
+    ensures max { ⟦<Max as Regroup>⟧.operator ≡ reducer.Max }
+    ensures and { ⟦<And as Regroup>⟧.operator ≡ reducer.And }
+    ensures or { ⟦<Or as Regroup>⟧.operator ≡ reducer.Or }
+    ensures xor { ⟦<Xor as Regroup>⟧.operator ≡ reducer.Xor }
+{}

@@ -5,6 +5,7 @@ pub mod Maps
 pub mod Finding
 pub mod Bounds
 pub mod Steps
+pub mod Sums
 pub mod Limits
 pub mod Caps
 pub mod Signs

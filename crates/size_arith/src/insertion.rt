@@ -4,7 +4,7 @@ ghost use Rattle.std.specs.Prelude.{◌≡◌, ℕ, ℤ, ◌+◌, ◌*◌, ◌�
 ghost use Rattle.size_arith.specs.Polynomial.{place, put, added, times, is_zero, add_powers, total, degree, greatest, AllSmall, AllLow, AllWide};
 ghost use Rattle.size_arith.specs.Code.{place_of, put_there};
 
-use crate::numbers::{is_none, product_of, sum_of};
+use crate::numbers::{is_zero, product_of, sum_of};
 use crate::poly::Monomial;
 use std::alloc::AllocError;
 use std::cmp::Ordering;
@@ -79,7 +79,7 @@ fn put_at(
     let found = find(monomials, &powers);
     if found.here {
         let sum = sum_of(coefficient, monomials[found.index].coefficient);
-        if is_none(sum) {
+        if is_zero(sum) {
             monomials.remove(found.index);
         } else {
             monomials[found.index] = Monomial {
@@ -87,7 +87,7 @@ fn put_at(
                 powers,
             };
         }
-    } else if !is_none(coefficient) {
+    } else if !is_zero(coefficient) {
         monomials.insert(
             found.index,
             Monomial {

@@ -10,6 +10,3 @@ mod shown;
 
 pub use names::{Name, Names, Sizes};
 pub use poly::{Monomial, Poly, PolyNo, operations_are_exact, shifts_are_exact};
-
-#[cfg(test)]
-mod tests;

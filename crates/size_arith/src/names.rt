@@ -9,7 +9,7 @@ use std::marker::Model;
 /// A declared size: `multiple` times its base name, from `from` to `to`.
 ///
 /// The size `N multiple d` stands for `d` times a base name, so the base name ranges from `from / d` to `to / d`.
-#[derive(Clone, Copy, Debug, PartialEq, Eq)]
+#[derive(Clone, Copy, PartialEq, Eq)]
 pub struct Name {
     pub multiple: u32,
     pub from: u32,
@@ -19,7 +19,7 @@ pub struct Name {
 /// The declared sizes in order, at most 8.
 ///
 /// In each, `multiple`, `from` and `to` are 1 to 1,048,576, `from` and `to` are multiples of `multiple`, and `to` isn't below `from`.
-#[derive(Debug, Drop)]
+#[derive(Drop)]
 pub struct Names {
     names: Vec<Name>,
 }
@@ -76,7 +76,7 @@ impl Names {
 }
 
 /// The value of each base name, in the order of the names: a size is its name's `multiple` times this.
-#[derive(Debug, Drop)]
+#[derive(Drop)]
 pub struct Sizes {
     bases: Vec<u32>,
 }

@@ -29,7 +29,7 @@ pub fn scaled(coefficient: i128, product: u128) -> i128
     coefficient * (product as i128)
 }
 
-pub fn is_none(a: i128) -> bool
+pub fn is_zero(a: i128) -> bool
     ensures { result ≡ is_zero a }
 {
     a == 0

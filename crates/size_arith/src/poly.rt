@@ -17,7 +17,7 @@ use std::marker::Model;
 use thiserror::Error;
 
 /// A whole number times a product of powers of the base names.
-#[derive(Clone, Copy, Debug, PartialEq, Eq)]
+#[derive(Clone, Copy, PartialEq, Eq)]
 pub struct Monomial {
     pub coefficient: i128,
     pub powers: [u8; 8],
@@ -26,7 +26,7 @@ pub struct Monomial {
 /// A polynomial over the base names: a sum of monomials, no two with the same powers and none with coefficient 0.
 ///
 /// It has at most 32 monomials, degree at most 4, and coefficients from -4,294,967,296 to 4,294,967,296.
-#[derive(Debug, Drop)]
+#[derive(Drop)]
 pub struct Poly {
     monomials: Vec<Monomial>,
 }
@@ -145,7 +145,8 @@ fn sum_of(
     requires by { unsigned_abs by ≤ 1 }
     requires first { Polynomial.IsPoly first.now }
     requires second { Polynomial.IsPoly second.now }
-    ensures sum { IfOk result (λ sum. sum.items ≡ Polynomial.added (Polynomial.number by) second.now first.now) }
+    ensures sum { IfOk result (λ sum. sum.items
+        ≡ Polynomial.added (Polynomial.number by) second.now first.now) }
     ensures canonical { IfOk result (λ sum. Polynomial.IsCanonical sum.items) }
     ensures wide { IfOk result (λ sum. Polynomial.AllWide 8 sum.items) }
 {
@@ -161,7 +162,8 @@ fn product_of(
 ) -> Result<Vec<Monomial>, AllocError>
     requires first { Polynomial.IsPoly first.now }
     requires second { Polynomial.IsPoly second.now }
-    ensures product { IfOk result (λ product. product.items ≡ Polynomial.times first.now second.now) }
+    ensures product { IfOk result (λ product. product.items
+        ≡ Polynomial.times first.now second.now) }
     ensures canonical { IfOk result (λ product. Polynomial.IsCanonical product.items) }
     ensures wide { IfOk result (λ product. Polynomial.AllWide 8 product.items) }
 {
@@ -185,7 +187,8 @@ impl Poly {
         requires degree { Polynomial.total monomial.powers ≤ 4 }
         requires coefficient { unsigned_abs monomial.coefficient ≤ 4294967296 }
         ensures made { IfOk result (λ p. p ≡ Polynomial.of_monomial monomial) }
-        ensures exact { IfOk result (λ p. (ys : List ℕ) → Polynomial.value_at ys p ≡ Polynomial.monomial_at ys monomial) }
+        ensures exact { IfOk result (λ p. (ys : List ℕ) → Polynomial.value_at ys p
+            ≡ Polynomial.monomial_at ys monomial) }
     {
         let mut monomials = Vec::new(alloc);
         if monomial.coefficient != 0 {
@@ -246,8 +249,10 @@ impl Poly {
         divisor: &Monomial,
     ) -> Result<Option<Poly>, AllocError>
         ensures divides { IfOk result (λ q. IsSome q ↔ Polynomial.AllDivide divisor.now self.now) }
-        ensures quotient { IfOk result (λ q. IfSome q (λ r. r ≡ Polynomial.quotient divisor.now self.now)) }
-        ensures product { IfOk result (λ q. IfSome q (λ r. Polynomial.added divisor.now r [] ≡ self.now)) }
+        ensures quotient { IfOk result (λ q. IfSome q
+            (λ r. r ≡ Polynomial.quotient divisor.now self.now)) }
+        ensures product { IfOk result (λ q. IfSome q
+            (λ r. Polynomial.added divisor.now r [] ≡ self.now)) }
     {
         if !all_divide(divisor, &self.monomials) {
             return Ok(None);
@@ -261,7 +266,8 @@ impl Poly {
         ensures same { IsTrue result ↔ (self.now ≡ other.now) }
         ensures test { result ≡ Decisions.is_same self.now other.now }
         ensures map { IsTrue result
-            ↔ ((ms : List ℕ) → Polynomial.coefficient self.now ms ≡ Polynomial.coefficient other.now ms) }
+            ↔ ((ms : List ℕ) → Polynomial.coefficient self.now ms
+            ≡ Polynomial.coefficient other.now ms) }
     {
         are_same(&self.monomials, &other.monomials)
     }
@@ -299,7 +305,8 @@ impl Poly {
     /// The sum of the positive monomials at the greatest sizes.
     pub fn largest(&self, names: &Names) -> u128
         ensures sum { result ≡ Shown.largest names.now self.now }
-        ensures sound { (ys : List ℕ) → Ranges.Admissible names.now ys → Polynomial.value_at ys self.now ≤ℤ pos result }
+        ensures sound { (ys : List ℕ) → Ranges.Admissible names.now ys
+            → Polynomial.value_at ys self.now ≤ℤ pos result }
     {
         largest_of(&self.monomials, names.as_slice())
     }
@@ -308,15 +315,28 @@ impl Poly {
 /// Sums, differences and products are those of the values at all sizes, and sums and differences those of the maps; each of them is sorted, with no two monomials alike and no coefficient 0.
 pub fn operations_are_exact()
     ensures sum { (p q : List Monomial) (ys : List ℕ)
-        → Polynomial.value_at ys (Polynomial.plus p q) ≡ Polynomial.value_at ys p +ℤ Polynomial.value_at ys q }
+        → Polynomial.value_at ys (Polynomial.plus p q)
+        ≡ Polynomial.value_at ys p +ℤ Polynomial.value_at ys q }
     ensures difference { (p q : List Monomial) (ys : List ℕ)
-        → Polynomial.value_at ys (Polynomial.minus p q) ≡ Polynomial.value_at ys p -ℤ Polynomial.value_at ys q }
+        → Polynomial.value_at ys (Polynomial.minus p q)
+        ≡ Polynomial.value_at ys p -ℤ Polynomial.value_at ys q }
     ensures product { (p q : List Monomial) (ys : List ℕ)
-        → Polynomial.value_at ys (Polynomial.times p q) ≡ Polynomial.value_at ys p *ℤ Polynomial.value_at ys q }
-    ensures sum_is_one_map { (p q : List Monomial) → Polynomial.IsCanonical p → Polynomial.IsCanonical (Polynomial.plus p q) }
-    ensures difference_is_one_map { (p q : List Monomial) → Polynomial.IsCanonical p → Polynomial.IsCanonical (Polynomial.minus p q) }
-    ensures product_is_one_map { (p q : List Monomial) → Polynomial.IsCanonical (Polynomial.times p q) }
-    ensures one_list_for_each_map { (p q : List Monomial) → Polynomial.IsCanonical p → Polynomial.IsCanonical q
+        → Polynomial.value_at ys (Polynomial.times p q)
+        ≡ Polynomial.value_at ys p *ℤ Polynomial.value_at ys q }
+    ensures sum_of_maps { (p q : List Monomial) (ms : List ℕ) → Polynomial.AllWide 8 q
+        → Polynomial.coefficient (Polynomial.plus p q) ms
+        ≡ Polynomial.coefficient p ms +ℤ Polynomial.coefficient q ms }
+    ensures difference_of_maps { (p q : List Monomial) (ms : List ℕ) → Polynomial.AllWide 8 q
+        → Polynomial.coefficient (Polynomial.minus p q) ms
+        ≡ Polynomial.coefficient p ms -ℤ Polynomial.coefficient q ms }
+    ensures sum_is_one_map { (p q : List Monomial) → Polynomial.IsCanonical p
+        → Polynomial.IsCanonical (Polynomial.plus p q) }
+    ensures difference_is_one_map { (p q : List Monomial) → Polynomial.IsCanonical p
+        → Polynomial.IsCanonical (Polynomial.minus p q) }
+    ensures product_is_one_map { (p q : List Monomial)
+        → Polynomial.IsCanonical (Polynomial.times p q) }
+    ensures one_list_for_each_map { (p q : List Monomial) → Polynomial.IsCanonical p
+        → Polynomial.IsCanonical q
         → ((ms : List ℕ) → Polynomial.coefficient p ms ≡ Polynomial.coefficient q ms) → p ≡ q }
 {}
 

@@ -192,7 +192,8 @@ fn never_negative(
     requires index { index ≤ length leasts.now }
     requires left { left ≤ 4 }
     ensures { IsTrue result
-        ↔ AllExtended (λ js. pos 0 ≤ℤ shifted leasts.now (number (neg_ℤ (pos k)) ∷ monomials.now) js)
+        ↔ AllExtended
+        (λ js. pos 0 ≤ℤ shifted leasts.now (number (neg_ℤ (pos k)) ∷ monomials.now) js)
         (take index powers) (length leasts.now - index) left }
 {
     if index == leasts.len() {

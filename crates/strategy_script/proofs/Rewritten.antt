@@ -8,7 +8,7 @@ use Rattle.rewriting.specs.declared.refused.Condition.{Condition}
 use Rattle.rewriting.specs.Answers.{Answer, Becomes, NoShape, NoSide}
 use Rattle.rewriting.specs.Around.{Around, IsAround, around_at}
 use Rattle.rewriting.specs.Keeps.{KeepsIn}
-use Rattle.rewriting.proofs.Places.{places_have_contexts, rewrites_keep_the_whole}
+use Rattle.rewriting.specs.Laws.{PlacesHaveContexts, RewritesKeepTheWhole}
 use Rattle.strategy_script.specs.declared.script.Step.{Step}
 use Rattle.strategy_script.specs.declared.faults.Why.TheVariants.{NoPlace, Shape, Side}
 use Rattle.strategy_script.specs.declared.faults.Fault.{Fault}
@@ -17,12 +17,12 @@ use Rattle.strategy_script.specs.RuleAnswers.{answer}
 use Rattle.strategy_script.specs.Steps.{found, answered, rewritten}
 
 -- what keeps the node's type and value at a place keeps the whole's, in every program
-pub rewrite_keeps : (a b : Around) (t r s u : Tree) (place : List ℕ) → node_at t place ≡ Some r → around_at a t place ≡ Some b → with_at t place s ≡ Some u → KeepsIn b r s → KeepsIn a t u
-rewrite_keeps a b t r s u place here around put k d h =
-    let c = places_have_contexts d a t r place h here in
+pub rewrite_keeps : PlacesHaveContexts → RewritesKeepTheWhole → (a b : Around) (t r s u : Tree) (place : List ℕ) → node_at t place ≡ Some r → around_at a t place ≡ Some b → with_at t place s ≡ Some u → KeepsIn b r s → KeepsIn a t u
+rewrite_keeps contexts whole a b t r s u place here around put k d h =
+    let c = contexts d a t r place h here in
     let same : Some c.0 ≡ Some b = sym c.1 ∙ around in
     let equal : c.0 ≡ b = cc in
-    rewrites_keep_the_whole d a b t r s u place h here around put (k d (subst (λ z. IsAround d z r) equal c.2))
+    whole d a b t r s u place h here around put (k d (subst (λ z. IsAround d z r) equal c.2))
 
 -- the call's answer is the rule's
 pub becomes : (a : Answer) (u : Tree) → a ≡ Becomes u → answered a ≡ Ok u

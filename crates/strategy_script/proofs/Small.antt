@@ -5,12 +5,11 @@ use Rattle.lift_tree.specs.declared.typed.Typed.{Typed}
 use Rattle.lift_tree.specs.Programs.{program_of}
 use Rattle.lift_tree.specs.Typing.{declared_by, HasOutput}
 use Rattle.lift_tree.specs.Tree.{Tree, Variable, Number, Input, Unary, Binary, Select, Let, Map, Fold, nodes, height, tree_of}
-use Rattle.lift_tree.specs.Annotations.{annotation_of, type_in, IsTyped}
+use Rattle.lift_tree.specs.Annotations.{AnnotatedIsTyped, annotation_of, type_in, IsTyped}
 use Rattle.lift_tree.specs.Renumbering.{AllBelow, IsRenumberable}
 use Rattle.lift_tree.specs.Places.{child_at, node_at}
-use Rattle.lift_tree.proofs.Annotated.{annotated_is_typed}
-use Rattle.pattern_types.specs.Belonging.{Belongs}
-use Rattle.pattern_types.proofs.Reached.{outputs_belong}
+use Rattle.lift_tree.specs.Belonging.{Belongs}
+use Rattle.pattern_types.specs.Judgement.{OutputsBelong}
 use Rattle.strategy_script.specs.Laws.{FewNodesAreReady}
 
 -- a term's variables are below the number, and its height at most that one
@@ -108,12 +107,12 @@ height_nodes (Let t u) = omega (arith, height_nodes t, height_nodes u)
 height_nodes (Map k t u) = omega (arith, height_nodes t, height_nodes u)
 height_nodes (Fold k t u v) = omega (arith, height_nodes t, height_nodes u, height_nodes v)
 
-has_output : (t : Typed) → IsTyped t → HasOutput (program_of t.program) (tree_of t.term) (type_in (annotation_of t.types))
-has_output t h = record { declared = h.declared; typed = annotated_is_typed (declared_by (program_of t.program)) [] (tree_of t.term) (annotation_of t.types) h.nodes; output = h.output }
+has_output : AnnotatedIsTyped → (t : Typed) → IsTyped t → HasOutput (program_of t.program) (tree_of t.term) (type_in (annotation_of t.types))
+has_output annotated t h = record { declared = h.declared; typed = annotated (declared_by (program_of t.program)) [] (tree_of t.term) (annotation_of t.types) h.nodes; output = h.output }
 
 -- so a script may be run from a typed term with no more nodes than a program may have
-pub few_nodes_are_ready : FewNodesAreReady
-few_nodes_are_ready t proper typed few =
-    let belongs = (outputs_belong t.program (tree_of t.term) _ (has_output t typed)).0 in
+pub few_nodes_are_ready : AnnotatedIsTyped → OutputsBelong → FewNodesAreReady
+few_nodes_are_ready annotated belong t proper typed few =
+    let belongs = (belong (program_of t.program) (tree_of t.term) _ (has_output annotated t typed)).0 in
     let low : height (tree_of t.term) ≤ 4096 = omega (arith, height_nodes (tree_of t.term)) in
     record { proper = proper; typed = typed; small = low_renumberable _ _ (tree_of t.term) belongs low }

@@ -2,21 +2,21 @@
 use Rattle.std.proofs.Common.{◌≡◌, ℕ, ◌≤◌, [], refl, sym, ap, ◌∙◌, subst, arith, length}
 use Rattle.std.specs.Prelude.{Result, Ok, Err, Bool, true, false, if◌then◌else◌, nat_lt, map}
 use Rattle.std.proofs.lemmas.Bool.{ltb-false}
+use Rattle.std.proofs.lemmas.List.{length-map}
 use Rattle.size_arith.specs.Ranges.{AreNames}
 use Rattle.lift_tree.specs.declared.program.Program.{Program}
 use Rattle.lift_tree.specs.declared.term.Term.{Term}
 use Rattle.lift_tree.specs.declared.typed.Typed.{Typed}
-use Rattle.lift_tree.specs.Programs.{PlainProgram, program_of}
+use Rattle.lift_tree.specs.Programs.{PlainProgram, input_of, program_of}
+use Rattle.lift_tree.specs.Types.{PlainTy}
 use Rattle.lift_tree.specs.WorkedOut.{range_of}
 use Rattle.lift_tree.specs.Typing.{declared_by, HasOutput}
 use Rattle.lift_tree.specs.Tree.{Tree, nodes, height, tree_of}
-use Rattle.lift_tree.specs.Annotations.{Annotation, annotation_of, type_in, IsTyped}
+use Rattle.lift_tree.specs.Annotations.{AnnotatedIsTyped, Annotation, annotation_of, type_in, IsTyped}
 use Rattle.lift_tree.specs.Renumbering.{IsRenumberable}
-use Rattle.lift_tree.proofs.Annotated.{annotated_is_typed}
-use Rattle.pattern_types.specs.Belonging.{InputsAreNamed, IsProper, IsTermOf}
+use Rattle.lift_tree.specs.Belonging.{IsProper, IsTermOf}
 use Rattle.pattern_types.specs.declared.refusal.TypeRefusal.{TypeRefusal}
 use Rattle.pattern_types.specs.Judged.{and_then, counted, program_judged}
-use Rattle.pattern_types.proofs.Reached.{outputs_belong}
 use Rattle.rewriting.specs.Around.{IsAround}
 use Rattle.rewriting.specs.Keeps.{Keeps, KeepsIn}
 use Rattle.strategy_script.specs.declared.script.Step.{Step}
@@ -28,14 +28,8 @@ use Rattle.strategy_script.specs.Steps.{State, state_of, around_whole, IsAfter, 
 use Rattle.strategy_script.proofs.Small.{low_renumberable}
 
 -- ---- a program's copy
--- what makes a program proper is plain
-abbrev PlainIsProper : PlainProgram → Type 0
-PlainIsProper p = (length p.sizes ≤ 8) × AreNames (map range_of p.sizes) × InputsAreNamed (length p.sizes) p.inputs
-
-pub proper_same : (p q : Program) → program_of q ≡ program_of p → IsProper p → IsProper q
-proper_same p q e h =
-    let same = subst PlainIsProper (sym e) (h.few, h.sizes, h.inputs) in
-    record { few = same.0; sizes = same.1; inputs = same.2 }
+pub proper_same : (p q : Program) → program_of q ≡ program_of p → IsProper (program_of p) → IsProper (program_of q)
+proper_same p q e h = subst IsProper (sym e) h
 
 -- ---- the whole term
 -- what stands around it
@@ -43,17 +37,18 @@ whole_around : (s : Typed) → IsTyped s → IsAround (declared_by (program_of s
 whole_around s h = record { declared = h.declared; names = refl; binders = tt; nodes = h.nodes }
 
 -- what keeps the term's type has an output's
-pub rewritten_has_output : (s : Typed) (u : Tree) → IsTyped s → KeepsIn (whole s) (tree_of s.term) u → HasOutput (program_of s.program) u (type_in (annotation_of s.types))
-rewritten_has_output s u h k =
+pub rewritten_has_output : AnnotatedIsTyped → (s : Typed) (u : Tree) → IsTyped s → KeepsIn (whole s) (tree_of s.term) u → HasOutput (program_of s.program) u (type_in (annotation_of s.types))
+rewritten_has_output annotated s u h k =
     let d = declared_by (program_of s.program) in
-    record { declared = h.declared; typed = (k d (whole_around s h)).typed _ (annotated_is_typed d [] (tree_of s.term) (annotation_of s.types) h.nodes); output = h.output }
+    let typed = annotated d [] (tree_of s.term) (annotation_of s.types) h.nodes in
+    record { declared = h.declared; typed = (k d (whole_around s h)).typed (type_in (annotation_of s.types)) typed; output = h.output }
 
--- the same of a copy of the program
-pub copy_has_output : (s : Typed) (q : Program) (u : Tree) → program_of q ≡ program_of s.program → IsTyped s → KeepsIn (whole s) (tree_of s.term) u → HasOutput (program_of q) u (type_in (annotation_of s.types))
-copy_has_output s q u e h k = subst (λ (p : PlainProgram). HasOutput p u (type_in (annotation_of s.types))) (sym e) (rewritten_has_output s u h k)
+-- ---- the same of a copy of the program
+pub output_of_same : (p q : Program) (u : Tree) (a : PlainTy) → program_of q ≡ program_of p → HasOutput (program_of p) u a → HasOutput (program_of q) u a
+output_of_same p q u a e h = subst (λ (r : PlainProgram). HasOutput r u a) (sym e) h
 
-pub is_term_of : (s : Typed) (q : Program) (u : Tree) → program_of q ≡ program_of s.program → IsTyped s → KeepsIn (whole s) (tree_of s.term) u → IsTermOf q u
-is_term_of s q u e h k = (outputs_belong q u _ (copy_has_output s q u e h k)).0
+pub term_of_same : (p q : Program) (u : Tree) → program_of q ≡ program_of p → IsTermOf (program_of p) u → IsTermOf (program_of q) u
+term_of_same p q u e h = subst (λ (r : PlainProgram). IsTermOf r u) (sym e) h
 
 -- ---- one step
 abbrev unless_more : Bool → StepLimit → ℕ → Result (Unit {0}) Fault
@@ -107,9 +102,9 @@ is_after s t q u e pe te h ht k =
     let d = declared_by (program_of s.program) in
     record { program = ap program_of pe ∙ e; typed = ht; keeps = subst (λ (z : Term). Keeps d [] (tree_of s.term) (tree_of z)) (sym te) (k d (whole_around s h)) }
 
-pub is_ready : (s t : Typed) (q : Program) (u : Term) → program_of q ≡ program_of s.program → t.program ≡ q → t.term ≡ u → IsReady s → IsTyped t → limited (tree_of u) ≡ Ok tt → KeepsIn (whole s) (tree_of s.term) (tree_of u) → IsReady t
+pub is_ready : (s t : Typed) (q : Program) (u : Term) → program_of q ≡ program_of s.program → t.program ≡ q → t.term ≡ u → IsReady s → IsTyped t → limited (tree_of u) ≡ Ok tt → IsTermOf (program_of s.program) (tree_of u) → IsReady t
 is_ready s t q u e pe te h ht l k = record {
-  proper = subst IsProper (sym pe) (proper_same s.program q e h.proper);
+  proper = subst (λ (r : Program). IsProper (program_of r)) (sym pe) (proper_same s.program q e h.proper);
   typed = ht;
-  small = subst (λ (z : Term). IsRenumberable (tree_of z)) (sym te) (low_renumberable (length q.sizes.items) (length q.inputs.items) (tree_of u) (is_term_of s q (tree_of u) e h.typed k) (limited_low (tree_of u) l));
+  small = subst (λ (z : Term). IsRenumberable (tree_of z)) (sym te) (low_renumberable _ _ (tree_of u) k (limited_low (tree_of u) l));
 }

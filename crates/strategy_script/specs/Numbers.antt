@@ -37,7 +37,8 @@ parts_behind (Some text) = slice_split is_dot text.now
 -- the numbers that the words write, each of which writes one
 abbrev pub numbers_of : List (List ℕ) → Option (List ℕ)
 numbers_of [] = Some []
-numbers_of (word ∷ words) = option_and_then (λ n. option_map (λ ns. n ∷ ns) (numbers_of words)) (number_of word)
+numbers_of (word ∷ words) =
+    option_and_then (λ n. option_map (λ ns. n ∷ ns) (numbers_of words)) (number_of word)
 
 -- the place that a word writes: a dot, or child numbers with dots between
 abbrev pub place_of : List ℕ → Option (List ℕ)

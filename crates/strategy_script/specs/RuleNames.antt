@@ -1,50 +1,91 @@
 -- The rules' names in scripts.
-use Rattle.std.specs.Prelude.{List, [], ◌∷◌, Option, bytes_eq, codes, find, ℕ}
-use Rattle.strategy_script.specs.declared.rule.PlainRule.{PlainRule}
-use Rattle.strategy_script.specs.declared.rule.PlainRule.TheVariants.{FuseMap, FuseFold, JoinSplit, SplitJoin, TransposeTranspose, MapJoin, MapSplit, MapTranspose, PadMap, MapPad, LetInline, Copy, ReduceFold, ToGlobal, ToWorkGroup, ToLocal, ToSequential, FoldSequential, Local, Private, LocalCopy, PrivateCopy}
-use Rattle.strategy_script.specs.declared.rule.NumberedRule.{NumberedRule}
-use Rattle.strategy_script.specs.declared.rule.NumberedRule.TheVariants.{SplitMap, SplitReduce, StrideReduce, TileSlide}
+use Rattle.std.specs.Prelude.{ℕ, List, [], ◌∷◌, Option, bytes_eq, codes, find}
+use Rattle.rules_algebra.specs.declared.rule.Rule as algebra_rules
+use Rattle.rules_algebra.specs.declared.rule.Rule.TheVariants as algebra
+use Rattle.rules_lower.specs.declared.rule.Rule as lower_rules
+use Rattle.rules_lower.specs.declared.rule.Rule.TheVariants as lower
+use Rattle.rules_split.specs.declared.rule.Rule as split_rules
+use Rattle.rules_split.specs.declared.rule.Rule.TheVariants as split
+use Rattle.strategy_script.specs.declared.rule.Rule.{Rule}
+use Rattle.strategy_script.specs.declared.rule.Rule.TheVariants.{Algebra, Split, Lower}
 
-abbrev pub plain_name : PlainRule → List ℕ
-plain_name FuseMap = codes "fuse-map"
-plain_name FuseFold = codes "fuse-fold"
-plain_name JoinSplit = codes "join-split"
-plain_name SplitJoin = codes "split-join"
-plain_name TransposeTranspose = codes "transpose-transpose"
-plain_name MapJoin = codes "map-join"
-plain_name MapSplit = codes "map-split"
-plain_name MapTranspose = codes "map-transpose"
-plain_name PadMap = codes "pad-map"
-plain_name MapPad = codes "map-pad"
-plain_name LetInline = codes "let-inline"
-plain_name Copy = codes "copy"
-plain_name ReduceFold = codes "reduce-fold"
-plain_name ToGlobal = codes "to-glb"
-plain_name ToWorkGroup = codes "to-wrg"
-plain_name ToLocal = codes "to-lcl"
-plain_name ToSequential = codes "to-seq"
-plain_name FoldSequential = codes "fold-seq"
-plain_name Local = codes "local"
-plain_name Private = codes "private"
-plain_name LocalCopy = codes "local-copy"
-plain_name PrivateCopy = codes "private-copy"
+abbrev pub algebra_name : algebra_rules.Rule → List ℕ
+algebra_name algebra.FuseMap = codes "fuse-map"
+algebra_name algebra.FuseFold = codes "fuse-fold"
+algebra_name algebra.JoinSplit = codes "join-split"
+algebra_name algebra.SplitJoin = codes "split-join"
+algebra_name algebra.TransposeTranspose = codes "transpose-transpose"
+algebra_name algebra.MapJoin = codes "map-join"
+algebra_name algebra.MapSplit = codes "map-split"
+algebra_name algebra.MapTranspose = codes "map-transpose"
+algebra_name algebra.PadMap = codes "pad-map"
+algebra_name algebra.MapPad = codes "map-pad"
+algebra_name algebra.LetInline = codes "let-inline"
+algebra_name algebra.Copy = codes "copy"
 
-abbrev pub plain_rules : List PlainRule
-plain_rules = FuseMap ∷ FuseFold ∷ JoinSplit ∷ SplitJoin ∷ TransposeTranspose ∷ MapJoin ∷ MapSplit ∷ MapTranspose ∷ PadMap ∷ MapPad ∷ LetInline ∷ Copy ∷ ReduceFold ∷ ToGlobal ∷ ToWorkGroup ∷ ToLocal ∷ ToSequential ∷ FoldSequential ∷ Local ∷ Private ∷ LocalCopy ∷ PrivateCopy ∷ []
+abbrev pub split_name : split_rules.Rule → List ℕ
+split_name (split.SplitMap n) = codes "split-map"
+split_name (split.SplitReduce n) = codes "split-reduce"
+split_name (split.StrideReduce n) = codes "stride-reduce"
+split_name (split.TileSlide n) = codes "tile-slide"
+split_name split.ReduceFold = codes "reduce-fold"
 
--- the rule of this name
-unfoldable pub plain_named : List ℕ → Option PlainRule
-plain_named bytes = find (λ rule. bytes_eq (plain_name rule) bytes) plain_rules
+abbrev pub lower_name : lower_rules.Rule → List ℕ
+lower_name lower.ToGlobal = codes "to-glb"
+lower_name lower.ToWorkGroup = codes "to-wrg"
+lower_name lower.ToLocal = codes "to-lcl"
+lower_name lower.ToSequential = codes "to-seq"
+lower_name lower.FoldSequential = codes "fold-seq"
+lower_name lower.Local = codes "local"
+lower_name lower.Private = codes "private"
+lower_name lower.LocalCopy = codes "local-copy"
+lower_name lower.PrivateCopy = codes "private-copy"
 
-abbrev pub numbered_name : NumberedRule → List ℕ
-numbered_name SplitMap = codes "split-map"
-numbered_name SplitReduce = codes "split-reduce"
-numbered_name StrideReduce = codes "stride-reduce"
-numbered_name TileSlide = codes "tile-slide"
+abbrev pub rule_name : Rule → List ℕ
+rule_name (Algebra rule) = algebra_name rule
+rule_name (Split rule) = split_name rule
+rule_name (Lower rule) = lower_name rule
 
-abbrev pub numbered_rules : List NumberedRule
-numbered_rules = SplitMap ∷ SplitReduce ∷ StrideReduce ∷ TileSlide ∷ []
+-- the rules without a number
+abbrev pub plain_rules : List Rule
+plain_rules =
+    Algebra algebra.FuseMap ∷
+    Algebra algebra.FuseFold ∷
+    Algebra algebra.JoinSplit ∷
+    Algebra algebra.SplitJoin ∷
+    Algebra algebra.TransposeTranspose ∷
+    Algebra algebra.MapJoin ∷
+    Algebra algebra.MapSplit ∷
+    Algebra algebra.MapTranspose ∷
+    Algebra algebra.PadMap ∷
+    Algebra algebra.MapPad ∷
+    Algebra algebra.LetInline ∷
+    Algebra algebra.Copy ∷
+    Split split.ReduceFold ∷
+    Lower lower.ToGlobal ∷
+    Lower lower.ToWorkGroup ∷
+    Lower lower.ToLocal ∷
+    Lower lower.ToSequential ∷
+    Lower lower.FoldSequential ∷
+    Lower lower.Local ∷
+    Lower lower.Private ∷
+    Lower lower.LocalCopy ∷
+    Lower lower.PrivateCopy ∷
+    []
 
--- the rule of this name
-unfoldable pub numbered_named : List ℕ → Option NumberedRule
-numbered_named bytes = find (λ rule. bytes_eq (numbered_name rule) bytes) numbered_rules
+-- the rule of this name, among those without a number
+unfoldable pub plain_named : List ℕ → Option Rule
+plain_named bytes = find (λ rule. bytes_eq (rule_name rule) bytes) plain_rules
+
+-- the rules with a number, with this one
+abbrev pub numbered_rules : ℕ → List Rule
+numbered_rules n =
+    Split (split.SplitMap n) ∷
+    Split (split.SplitReduce n) ∷
+    Split (split.StrideReduce n) ∷
+    Split (split.TileSlide n) ∷
+    []
+
+-- the rule of this name, among those with a number, with this one
+unfoldable pub numbered_named : List ℕ → ℕ → Option Rule
+numbered_named bytes n = find (λ rule. bytes_eq (rule_name rule) bytes) (numbered_rules n)

@@ -2,10 +2,7 @@
 use Rattle.std.specs.Prelude.{◌≡◌, ◌+◌, ◌<◌, ℕ, List, [], Bool, ◌||◌, if◌then◌else◌, length, bytes_eq, codes, Option, Some, None, is_some, option_map, option_and_then}
 use Rattle.std.specs.List.{prefix_len, filter_map}
 use Rattle.std.specs.Str.Lines.{lines}
-use Rattle.strategy_script.specs.declared.rule.PlainRule.{PlainRule}
-use Rattle.strategy_script.specs.declared.rule.NumberedRule.{NumberedRule}
 use Rattle.strategy_script.specs.declared.rule.Rule.{Rule}
-use Rattle.strategy_script.specs.declared.rule.Rule.TheVariants.{Plain, Numbered}
 use Rattle.strategy_script.specs.declared.script.Step.{Step}
 use Rattle.strategy_script.specs.declared.script.ScriptLimit.TheVariants.{Steps}
 use Rattle.strategy_script.specs.declared.script.ScriptNo.{ScriptNo}
@@ -18,16 +15,16 @@ use Rattle.strategy_script.specs.RuleNames.{plain_named, numbered_named}
 abbrev pub ended : List ℕ → Rule → Option Rule
 ended behind rule = if bytes_eq (first_word behind) [] then Some rule else None
 
-abbrev pub plain_rule : PlainRule → List ℕ → Option Rule
-plain_rule rule behind = ended behind (Plain rule)
+-- the rule of this name with the number behind it
+abbrev pub numbered_rule : List ℕ → List ℕ → Option Rule
+numbered_rule name behind =
+    option_and_then (λ n. option_and_then (ended (behind_word behind)) (numbered_named name n))
+    (number_of (first_word behind))
 
--- the rule with the number behind its name
-abbrev pub numbered_rule : NumberedRule → List ℕ → Option Rule
-numbered_rule rule behind = option_and_then (λ n. ended (behind_word behind) (Numbered rule n)) (number_of (first_word behind))
-
-abbrev pub rule_named : List ℕ → List ℕ → Option PlainRule → Option Rule
-rule_named name behind (Some rule) = plain_rule rule behind
-rule_named name behind None = option_and_then (λ rule. numbered_rule rule behind) (numbered_named name)
+-- a rule without a number, or else one with a number
+abbrev pub rule_named : List ℕ → List ℕ → Option Rule → Option Rule
+rule_named name behind (Some rule) = ended behind rule
+rule_named name behind None = numbered_rule name behind
 
 -- the rule that the words name, with its number where it has one
 abbrev pub rule_of : List ℕ → Option Rule
@@ -35,11 +32,15 @@ rule_of text = rule_named (first_word text) (behind_word text) (plain_named (fir
 
 -- the step of a place and a rule
 abbrev pub step_behind : List ℕ → Option Step
-step_behind text = option_and_then (λ place. option_map (λ rule. record { place = place; rule = rule }) (rule_of (behind_word text))) (place_of (first_word text))
+step_behind text =
+    option_and_then (λ place. option_map (λ rule. record { place = place; rule = rule })
+    (rule_of (behind_word text)))
+    (place_of (first_word text))
 
 -- the step that a line is
 abbrev pub step_of : List ℕ → Option Step
-step_of line = if bytes_eq (first_word line) (codes "at") then step_behind (behind_word line) else None
+step_of line =
+    if bytes_eq (first_word line) (codes "at") then step_behind (behind_word line) else None
 
 -- the line is a step, or none
 abbrev pub is_line : List ℕ → Bool

@@ -1,5 +1,5 @@
 -- The terms of a script.
-use Rattle.std.specs.Prelude.{◌≡◌, ℕ, ◌+◌, List, [], ◌∷◌, Option, Some, None, Result, Ok, Err, if◌then◌else◌, nat_lt, map}
+use Rattle.std.specs.Prelude.{◌≡◌, ℕ, ◌+◌, List, [], ◌∷◌, ◌++◌, Option, Some, None, Result, Ok, Err, if◌then◌else◌, nat_lt, map}
 use Rattle.lift_tree.specs.declared.typed.Typed.{Typed}
 use Rattle.lift_tree.specs.Tree.{Tree, nodes, height, tree_of}
 use Rattle.lift_tree.specs.Places.{node_at, with_at}
@@ -10,7 +10,7 @@ use Rattle.lift_tree.specs.Typing.{declared_by}
 use Rattle.lift_tree.specs.Renumbering.{IsRenumberable}
 use Rattle.pattern_types.specs.declared.refusal.TypeRefusal.{TypeRefusal}
 use Rattle.pattern_types.specs.declared.refusal.TypeRefusal.TheVariants as refusal
-use Rattle.pattern_types.specs.Belonging.{IsProper}
+use Rattle.lift_tree.specs.Belonging.{IsProper}
 use Rattle.pattern_types.specs.Judged.{and_then, counted, program_judged}
 use Rattle.rewriting.specs.Around.{Around, around_at}
 use Rattle.rewriting.specs.Answers.{Answer, Becomes, NoShape, NoSide}
@@ -49,7 +49,8 @@ at_most most which n = if nat_lt most n then Err (Passes which n) else Ok tt
 
 -- the nodes, then the height; counts stand still at 2^64 - 1
 abbrev pub limited : Tree → Result (Unit {0}) Fault
-limited t = and_then (at_most 4096 Nodes (counted (nodes t))) (λ _. at_most 256 Depth (counted (height t)))
+limited t =
+    and_then (at_most 4096 Nodes (counted (nodes t))) (λ _. at_most 256 Depth (counted (height t)))
 
 -- ---- one step
 -- a term and the types of its nodes
@@ -79,7 +80,9 @@ with_types t (Err e) = Err (type_fault e)
 
 -- the term after a step, with its types: its nodes, its height and the limits on types are judged in this order
 abbrev pub stepped : PlainProgram → Step → State → Result State Fault
-stepped p step s = and_then (rewritten step (around_whole p s) s.tree) (λ t. and_then (limited t) (λ _. with_types t (program_judged p t)))
+stepped p step s =
+    and_then (rewritten step (around_whole p s) s.tree)
+    (λ t. and_then (limited t) (λ _. with_types t (program_judged p t)))
 
 -- ---- a whole script
 -- the refusal of the step of this number
@@ -103,14 +106,20 @@ terms_from p (step ∷ steps) k s =
 abbrev pub terms_of : PlainProgram → List Step → State → Result (List State) StepNo
 terms_of p steps s = terms_from p steps 0 s
 
+-- this is the last of them
+pub record IsLastTerm (p : PlainProgram) (steps : List Step) (s last : State) : Type 0 where
+  pub front : List State
+  pub made : terms_of p steps s ≡ Ok (front ++ last ∷ [])
+
 -- a typed term of the same program, with the source's type and value
 pub record IsAfter (source t : Typed) : Type 0 where
   pub program : program_of t.program ≡ program_of source.program
   pub typed : IsTyped t
-  pub keeps : Keeps (declared_by (program_of source.program)) [] (tree_of source.term) (tree_of t.term)
+  pub keeps : Keeps (declared_by (program_of source.program)) [] (tree_of source.term)
+      (tree_of t.term)
 
 -- a step may be made of it
 pub record IsReady (t : Typed) : Type 0 where
-  pub proper : IsProper t.program
+  pub proper : IsProper (program_of t.program)
   pub typed : IsTyped t
   pub small : IsRenumberable (tree_of t.term)

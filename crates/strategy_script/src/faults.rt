@@ -10,7 +10,7 @@ use rewriting::Condition;
 use std::alloc::{AllocError, AllocFailed};
 
 /// Why a rule isn't applied at a step's place.
-#[derive(Clone, Copy, Debug, PartialEq, Eq)]
+#[derive(Clone, Copy, PartialEq, Eq)]
 pub enum Why {
     /// The term has no such place.
     NoPlace,
@@ -21,7 +21,7 @@ pub enum Why {
 }
 
 /// A limit on the term after a step.
-#[derive(Clone, Copy, Debug, PartialEq, Eq)]
+#[derive(Clone, Copy, PartialEq, Eq)]
 pub enum StepLimit {
     /// At most 4096 nodes.
     Nodes,
@@ -32,7 +32,7 @@ pub enum StepLimit {
 }
 
 /// Why a script isn't run to its end.
-#[derive(Clone, Copy, Debug, PartialEq, Eq)]
+#[derive(Clone, Copy, PartialEq, Eq)]
 pub enum StepNo {
     /// The rule of this step, counted from 1, isn't applied.
     Inapplicable {
@@ -50,7 +50,7 @@ pub enum StepNo {
 }
 
 /// Why a step isn't made.
-#[derive(Clone, Copy, Debug, PartialEq, Eq)]
+#[derive(Clone, Copy)]
 pub enum Fault {
     /// The rule isn't applied.
     Stops(Why),

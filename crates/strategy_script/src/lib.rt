@@ -11,15 +11,11 @@ mod places;
 pub mod read;
 pub mod rule;
 pub mod run;
-#[cfg(test)]
-mod run_tests;
 pub mod script;
 mod steps;
-#[cfg(test)]
-mod tests;
 
 pub use faults::{StepLimit, StepNo, Why};
 pub use read::read_script;
-pub use rule::{NumberedRule, PlainRule, Rule};
-pub use run::run_script;
+pub use rule::Rule;
+pub use run::{last_term, run_script};
 pub use script::{Script, ScriptLimit, ScriptNo, Step};

@@ -61,7 +61,8 @@ fn split_part(text: &[u8]) -> (&[u8], Option<&[u8]>)
 
 // The numbers that stand between dots.
 fn numbers_of(alloc: Global, text: &[u8]) -> Result<Option<Vec<u32>>, AllocError>
-    ensures { IfOk result (λ found. option_map (λ v. v.items) found ≡ numbers_of (slice_split is_dot text.now)) }
+    ensures { IfOk result
+        (λ found. option_map (λ v. v.items) found ≡ numbers_of (slice_split is_dot text.now)) }
 {
     let mut numbers = Vec::new(alloc);
     let mut rest = text;

@@ -2,7 +2,6 @@
 
 ghost use Rattle.std.specs.Prelude.{◌≡◌, ◌∷◌, IfOk, OnOk, map, option_map};
 ghost use Rattle.lift_tree.specs.Annotations.{annotation_of};
-ghost use Rattle.lift_tree.specs.Places.{child_at};
 ghost use Rattle.lift_tree.specs.Tree.{tree_of};
 ghost use Rattle.lift_tree.specs.Types.{ty_of};
 ghost use Rattle.rewriting.specs.Around.{around_at, around_child, child_binders, child_types, context_of, element_of};
@@ -12,30 +11,6 @@ use lift_tree::term::Term;
 use lift_tree::ty::Ty;
 use lift_tree::typed::{Context, NodeTypes};
 use std::alloc::{AllocError, Global};
-
-// The child of this number.
-fn child(term: &Term, number: u32) -> Option<&Term>
-    ensures { option_map (λ t. tree_of t.now) result ≡ child_at (tree_of term.now) number }
-{
-    match term {
-        Term::Variable(_) | Term::Number(_) | Term::Input(_) => None,
-        Term::Unary(_, a) => match number {
-            0 => Some(a),
-            _ => None,
-        },
-        Term::Binary(_, a, b) | Term::Let(a, b) | Term::Map(_, a, b) => match number {
-            0 => Some(a),
-            1 => Some(b),
-            _ => None,
-        },
-        Term::Select(a, b, c) | Term::Fold(_, a, b, c) => match number {
-            0 => Some(a),
-            1 => Some(b),
-            2 => Some(c),
-            _ => None,
-        },
-    }
-}
 
 // The types of the child of this number, and of all nodes below it.
 fn child_types(types: NodeTypes, number: u32) -> Option<NodeTypes>
@@ -87,7 +62,8 @@ fn put_binders(
     number: u32,
     types: &NodeTypes,
 ) -> Result<(), AllocError>
-    ensures { OnOk result (map ty_of binders.new.items ≡ child_binders (tree_of term.now) number (annotation_of types.now) (map ty_of binders.old.items)) }
+    ensures { OnOk result (map ty_of binders.new.items ≡ child_binders (tree_of term.now) number
+        (annotation_of types.now) (map ty_of binders.old.items)) }
 {
     match term {
         Term::Let(_, _) => match types {
@@ -129,7 +105,8 @@ fn around_child(
     term: &Term,
     number: u32,
 ) -> Result<Option<Context>, AllocError>
-    ensures { IfOk result (λ c. option_map context_of c ≡ around_child (context_of context) (tree_of term.now) number) }
+    ensures { IfOk result (λ c. option_map context_of c
+        ≡ around_child (context_of context) (tree_of term.now) number) }
 {
     let Context {
         names,
@@ -154,7 +131,8 @@ pub fn context_at(
     term: &Term,
     place: &Place,
 ) -> Result<Option<Context>, AllocError>
-    ensures { IfOk result (λ c. option_map context_of c ≡ around_at (context_of context) (tree_of term.now) place.now) }
+    ensures { IfOk result (λ c. option_map context_of c
+        ≡ around_at (context_of context) (tree_of term.now) place.now) }
 {
     around_below(alloc, context, term, place.numbers())
 }
@@ -165,12 +143,13 @@ fn around_below(
     term: &Term,
     numbers: &[u32],
 ) -> Result<Option<Context>, AllocError>
-    ensures { IfOk result (λ c. option_map context_of c ≡ around_at (context_of context) (tree_of term.now) numbers.now) }
+    ensures { IfOk result (λ c. option_map context_of c
+        ≡ around_at (context_of context) (tree_of term.now) numbers.now) }
 {
     let Some((first, rest)) = numbers.split_first() else {
         return Ok(Some(context));
     };
-    let Some(below) = child(term, *first) else {
+    let Some(below) = term.child(*first) else {
         return Ok(None);
     };
     match around_child(alloc, context, term, *first)? {

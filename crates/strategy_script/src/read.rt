@@ -1,41 +1,33 @@
 //! The text of a script.
 
 ghost use Rattle.std.specs.Prelude.{◌≡◌, ◌≤◌, IfOk, IfErr, length};
-ghost use Rattle.strategy_script.specs.ScriptText.{IsScript, RefusesScript, numbered_rule, plain_rule, rule_of, step_behind, step_of};
+ghost use Rattle.strategy_script.specs.ScriptText.{IsScript, RefusesScript, ended, numbered_rule, rule_of, step_behind, step_of};
 
 use crate::lines::{is_no_step, split_line, split_word};
 use crate::numbers::{number_of, place_of};
-use crate::rule::{NumberedRule, PlainRule, Rule};
+use crate::rule::Rule;
 use crate::script::{Script, ScriptLimit, ScriptNo, Step};
 use std::alloc::{AllocError, Global};
 
 /// The most steps that a script may have.
 pub const STEP_LIMIT: u64 = 256;
 
-// The rule without a number, where nothing follows its name.
-fn plain_rule(rule: PlainRule, behind: &[u8]) -> Option<Rule>
-    ensures { result ≡ plain_rule rule behind.now }
+// The rule, where no word follows.
+fn ended(rule: Rule, behind: &[u8]) -> Option<Rule>
+    ensures { result ≡ ended behind.now rule }
 {
     let (end, _) = split_word(behind);
-    if end.is_empty() {
-        Some(Rule::Plain(rule))
-    } else {
-        None
-    }
+    if end.is_empty() { Some(rule) } else { None }
 }
 
-// The rule with its number, where nothing follows that.
-fn numbered_rule(rule: NumberedRule, behind: &[u8]) -> Option<Rule>
-    ensures { result ≡ numbered_rule rule behind.now }
+// The rule of this name with the number behind it.
+fn numbered_rule(name: &[u8], behind: &[u8]) -> Option<Rule>
+    ensures { result ≡ numbered_rule name.now behind.now }
 {
     let (word, rest) = split_word(behind);
     let number = number_of(word)?;
-    let (end, _) = split_word(rest);
-    if end.is_empty() {
-        Some(Rule::Numbered(rule, number))
-    } else {
-        None
-    }
+    let rule = Rule::numbered(name, number)?;
+    ended(rule, rest)
 }
 
 // The rule that the words of a line's rest name.
@@ -43,10 +35,10 @@ fn rule_of(text: &[u8]) -> Option<Rule>
     ensures { result ≡ rule_of text.now }
 {
     let (name, behind) = split_word(text);
-    if let Some(rule) = PlainRule::from_name(name) {
-        return plain_rule(rule, behind);
+    match Rule::plain(name) {
+        Some(rule) => ended(rule, behind),
+        None => numbered_rule(name, behind),
     }
-    numbered_rule(NumberedRule::from_name(name)?, behind)
 }
 
 // The step whose place and rule are the words of a line's rest.

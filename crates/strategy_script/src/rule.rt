@@ -1,141 +1,126 @@
 // The rules by their names.
 
 ghost use Rattle.std.specs.Prelude.{◌≡◌};
-ghost use Rattle.strategy_script.specs.RuleNames.{numbered_name, numbered_named, plain_name, plain_named};
+ghost use Rattle.strategy_script.specs.RuleNames.{algebra_name, lower_name, numbered_named, plain_named, rule_name, split_name};
 
-/// A rule that a script names without a number.
-#[derive(Clone, Copy, Debug, PartialEq, Eq)]
-pub enum PlainRule {
-    FuseMap,
-    FuseFold,
-    JoinSplit,
-    SplitJoin,
-    TransposeTranspose,
-    MapJoin,
-    MapSplit,
-    MapTranspose,
-    PadMap,
-    MapPad,
-    LetInline,
-    Copy,
-    ReduceFold,
-    ToGlobal,
-    ToWorkGroup,
-    ToLocal,
-    ToSequential,
-    FoldSequential,
-    Local,
-    Private,
-    LocalCopy,
-    PrivateCopy,
-}
-
-/// A rule that a script names with a number.
-#[derive(Clone, Copy, Debug, PartialEq, Eq)]
-pub enum NumberedRule {
-    SplitMap,
-    SplitReduce,
-    StrideReduce,
-    TileSlide,
-}
+use rules_algebra::Rule as Algebra;
+use rules_lower::Rule as Lower;
+use rules_split::Rule as Split;
 
 /// A rule, with its number where it has one.
-#[derive(Clone, Copy, Debug, PartialEq, Eq)]
+#[derive(Clone, Copy, PartialEq, Eq)]
 pub enum Rule {
-    Plain(PlainRule),
-    Numbered(NumberedRule, u32),
+    /// One that rests on the patterns' algebra alone.
+    Algebra(Algebra),
+    /// One that cuts an array into pieces, or makes a reduction a fold.
+    Split(Split),
+    /// One that says how a term is run.
+    Lower(Lower),
 }
 
-const PLAIN: [PlainRule; 22] = [
-    PlainRule::FuseMap,
-    PlainRule::FuseFold,
-    PlainRule::JoinSplit,
-    PlainRule::SplitJoin,
-    PlainRule::TransposeTranspose,
-    PlainRule::MapJoin,
-    PlainRule::MapSplit,
-    PlainRule::MapTranspose,
-    PlainRule::PadMap,
-    PlainRule::MapPad,
-    PlainRule::LetInline,
-    PlainRule::Copy,
-    PlainRule::ReduceFold,
-    PlainRule::ToGlobal,
-    PlainRule::ToWorkGroup,
-    PlainRule::ToLocal,
-    PlainRule::ToSequential,
-    PlainRule::FoldSequential,
-    PlainRule::Local,
-    PlainRule::Private,
-    PlainRule::LocalCopy,
-    PlainRule::PrivateCopy,
+const PLAIN: [Rule; 22] = [
+    Rule::Algebra(Algebra::FuseMap),
+    Rule::Algebra(Algebra::FuseFold),
+    Rule::Algebra(Algebra::JoinSplit),
+    Rule::Algebra(Algebra::SplitJoin),
+    Rule::Algebra(Algebra::TransposeTranspose),
+    Rule::Algebra(Algebra::MapJoin),
+    Rule::Algebra(Algebra::MapSplit),
+    Rule::Algebra(Algebra::MapTranspose),
+    Rule::Algebra(Algebra::PadMap),
+    Rule::Algebra(Algebra::MapPad),
+    Rule::Algebra(Algebra::LetInline),
+    Rule::Algebra(Algebra::Copy),
+    Rule::Split(Split::ReduceFold),
+    Rule::Lower(Lower::ToGlobal),
+    Rule::Lower(Lower::ToWorkGroup),
+    Rule::Lower(Lower::ToLocal),
+    Rule::Lower(Lower::ToSequential),
+    Rule::Lower(Lower::FoldSequential),
+    Rule::Lower(Lower::Local),
+    Rule::Lower(Lower::Private),
+    Rule::Lower(Lower::LocalCopy),
+    Rule::Lower(Lower::PrivateCopy),
 ];
 
-const NUMBERED: [NumberedRule; 4] = [
-    NumberedRule::SplitMap,
-    NumberedRule::SplitReduce,
-    NumberedRule::StrideReduce,
-    NumberedRule::TileSlide,
-];
+fn algebra_name(rule: Algebra) -> &'static [u8]
+    ensures { result.now ≡ algebra_name rule }
+{
+    match rule {
+        Algebra::FuseMap => b"fuse-map",
+        Algebra::FuseFold => b"fuse-fold",
+        Algebra::JoinSplit => b"join-split",
+        Algebra::SplitJoin => b"split-join",
+        Algebra::TransposeTranspose => b"transpose-transpose",
+        Algebra::MapJoin => b"map-join",
+        Algebra::MapSplit => b"map-split",
+        Algebra::MapTranspose => b"map-transpose",
+        Algebra::PadMap => b"pad-map",
+        Algebra::MapPad => b"map-pad",
+        Algebra::LetInline => b"let-inline",
+        Algebra::Copy => b"copy",
+    }
+}
 
-impl PlainRule {
+fn split_name(rule: Split) -> &'static [u8]
+    ensures { result.now ≡ split_name rule }
+{
+    match rule {
+        Split::SplitMap(_) => b"split-map",
+        Split::SplitReduce(_) => b"split-reduce",
+        Split::StrideReduce(_) => b"stride-reduce",
+        Split::TileSlide(_) => b"tile-slide",
+        Split::ReduceFold => b"reduce-fold",
+    }
+}
+
+fn lower_name(rule: Lower) -> &'static [u8]
+    ensures { result.now ≡ lower_name rule }
+{
+    match rule {
+        Lower::ToGlobal => b"to-glb",
+        Lower::ToWorkGroup => b"to-wrg",
+        Lower::ToLocal => b"to-lcl",
+        Lower::ToSequential => b"to-seq",
+        Lower::FoldSequential => b"fold-seq",
+        Lower::Local => b"local",
+        Lower::Private => b"private",
+        Lower::LocalCopy => b"local-copy",
+        Lower::PrivateCopy => b"private-copy",
+    }
+}
+
+impl Rule {
     /// The rule's name in a script.
     pub fn name(self) -> &'static [u8]
-        ensures { result.now ≡ plain_name self }
+        ensures { result.now ≡ rule_name self }
     {
         match self {
-            PlainRule::FuseMap => b"fuse-map",
-            PlainRule::FuseFold => b"fuse-fold",
-            PlainRule::JoinSplit => b"join-split",
-            PlainRule::SplitJoin => b"split-join",
-            PlainRule::TransposeTranspose => b"transpose-transpose",
-            PlainRule::MapJoin => b"map-join",
-            PlainRule::MapSplit => b"map-split",
-            PlainRule::MapTranspose => b"map-transpose",
-            PlainRule::PadMap => b"pad-map",
-            PlainRule::MapPad => b"map-pad",
-            PlainRule::LetInline => b"let-inline",
-            PlainRule::Copy => b"copy",
-            PlainRule::ReduceFold => b"reduce-fold",
-            PlainRule::ToGlobal => b"to-glb",
-            PlainRule::ToWorkGroup => b"to-wrg",
-            PlainRule::ToLocal => b"to-lcl",
-            PlainRule::ToSequential => b"to-seq",
-            PlainRule::FoldSequential => b"fold-seq",
-            PlainRule::Local => b"local",
-            PlainRule::Private => b"private",
-            PlainRule::LocalCopy => b"local-copy",
-            PlainRule::PrivateCopy => b"private-copy",
+            Rule::Algebra(rule) => algebra_name(rule),
+            Rule::Split(rule) => split_name(rule),
+            Rule::Lower(rule) => lower_name(rule),
         }
     }
 
-    /// The rule of this name.
+    /// The rule of this name that has no number.
     #[tactic(auto, unfolding(crate::specs::RuleNames::plain_named))]
-    pub fn from_name(name: &[u8]) -> Option<PlainRule>
+    pub fn plain(name: &[u8]) -> Option<Rule>
         ensures { result ≡ plain_named name.now }
     {
         PLAIN.iter().copied().find(|rule| *rule.name() == *name)
     }
-}
 
-impl NumberedRule {
-    /// The rule's name in a script.
-    pub fn name(self) -> &'static [u8]
-        ensures { result.now ≡ numbered_name self }
-    {
-        match self {
-            NumberedRule::SplitMap => b"split-map",
-            NumberedRule::SplitReduce => b"split-reduce",
-            NumberedRule::StrideReduce => b"stride-reduce",
-            NumberedRule::TileSlide => b"tile-slide",
-        }
-    }
-
-    /// The rule of this name.
+    /// The rule of this name that has a number, with this one.
     #[tactic(auto, unfolding(crate::specs::RuleNames::numbered_named))]
-    pub fn from_name(name: &[u8]) -> Option<NumberedRule>
-        ensures { result ≡ numbered_named name.now }
+    pub fn numbered(name: &[u8], number: u32) -> Option<Rule>
+        ensures { result ≡ numbered_named name.now number }
     {
-        NUMBERED.iter().copied().find(|rule| *rule.name() == *name)
+        let rules = [
+            Rule::Split(Split::SplitMap(number)),
+            Rule::Split(Split::SplitReduce(number)),
+            Rule::Split(Split::StrideReduce(number)),
+            Rule::Split(Split::TileSlide(number)),
+        ];
+        rules.iter().copied().find(|rule| *rule.name() == *name)
     }
 }

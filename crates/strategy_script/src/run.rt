@@ -1,56 +1,49 @@
 //! Running a script.
 
-ghost use Rattle.std.specs.Prelude.{◌≡◌, ◌≢◌, ◌≤◌, ◌+◌, ◌∷◌, Ok, Err, IfOk, IfErr, OnOk, length, map};
+ghost use Rattle.std.specs.Prelude.{◌≡◌, ◌≢◌, Ok, Err, IfOk, IfErr, map};
 ghost use Rattle.lift_tree.specs.Lists.{Every};
 ghost use Rattle.lift_tree.specs.Programs.{program_of};
-ghost use Rattle.strategy_script.specs.Steps.{IsAfter, IsReady, state_of, terms_from, terms_of};
+ghost use Rattle.lift_tree.specs.declared.typed.Typed.{Typed};
+ghost use Rattle.strategy_script.specs.Steps.{IsAfter, IsLastTerm, IsReady, at_step};
+ghost use Rattle.strategy_script.specs.Steps.{state_of, stepped, terms_of};
 ghost use Rattle.strategy_script.specs.declared.faults.StepNo.TheVariants as no;
 
 use crate::faults::StepNo;
 use crate::script::{Script, Step};
 use crate::steps::stepped;
 use lift_tree::typed::Typed;
-use std::alloc::{AllocError, Global};
-use std::collections::VecDeque;
+use rewriting::laws::keeping_goes_on;
+use std::alloc::Global;
 
-// The term before the others.
-fn put_first(terms: &mut VecDeque<Typed>, first: Typed) -> Result<(), AllocError>
-    ensures { OnOk result (terms.new.items ≡ first ∷ terms.old.items) }
+// The term after the step of this number.
+fn term_after(alloc: Global, typed: &Typed, step: &Step, number: u64) -> Result<Typed, StepNo>
+    requires { IsReady typed.now }
+    ensures made { IfOk result (λ t. at_step number
+        (stepped (program_of typed.now.program) step.now (state_of typed.now)) ≡ Ok (state_of t)) }
+    ensures after { IfOk result
+        (λ t. (source : Typed) → IsAfter source typed.now → IsAfter source t) }
+    ensures ready { IfOk result (λ t. IsReady t) }
+    ensures refused { IfErr result (λ e. e ≢ no.Memory → at_step number
+        (stepped (program_of typed.now.program) step.now (state_of typed.now)) ≡ Err e) }
 {
-    terms.push_front(first)?;
-    Ok(())
+    keeping_goes_on();
+    match stepped(alloc, typed, step) {
+        Ok(next) => Ok(next),
+        Err(fault) => Err(fault.at(number)),
+    }
 }
 
-// The term, which stands behind so many steps, and the terms after the further ones.
-#[tactic(auto, using(crate::proofs::Listed::goes_on, crate::proofs::Listed::stops_later, crate::proofs::Listed::stops_here, crate::proofs::Listed::all_after, crate::proofs::Listed::keeps_itself))]
-fn run_from(
-    alloc: Global,
-    typed: Typed,
-    steps: &[Step],
-    made: u64,
-) -> Result<VecDeque<Typed>, StepNo>
-    requires ready { IsReady typed }
-    requires room { made + length steps.now ≤ u64.MAX }
-    ensures terms { IfOk result (λ terms. terms_from (program_of typed.program) steps.now made (state_of typed) ≡ Ok (map state_of terms.items)) }
-    ensures each { IfOk result (λ terms. Every (IsAfter typed) terms.items) }
-    ensures refused { IfErr result (λ e. e ≢ no.Memory → terms_from (program_of typed.program) steps.now made (state_of typed) ≡ Err e) }
+// The same of a term that isn't wanted any longer.
+fn term_in_place(alloc: Global, typed: Typed, step: &Step, number: u64) -> Result<Typed, StepNo>
+    requires { IsReady typed }
+    ensures made { IfOk result (λ t. at_step number
+        (stepped (program_of typed.program) step.now (state_of typed)) ≡ Ok (state_of t)) }
+    ensures after { IfOk result (λ t. (source : Typed) → IsAfter source typed → IsAfter source t) }
+    ensures ready { IfOk result (λ t. IsReady t) }
+    ensures refused { IfErr result (λ e. e ≢ no.Memory → at_step number
+        (stepped (program_of typed.program) step.now (state_of typed)) ≡ Err e) }
 {
-    match steps {
-        [] => {
-            let mut terms = VecDeque::new(alloc);
-            put_first(&mut terms, typed)?;
-            Ok(terms)
-        }
-        [step, rest @ ..] => {
-            let next = match stepped(alloc, &typed, step) {
-                Ok(next) => next,
-                Err(fault) => return Err(fault.at(made + 1)),
-            };
-            let mut terms = run_from(alloc, next, rest, made + 1)?;
-            put_first(&mut terms, typed)?;
-            Ok(terms)
-        }
-    }
+    term_after(alloc, &typed, step, number)
 }
 
 /// The terms of a script: the source, then the term after each step. Each is typed, in the source's program, and has the source's type and value at all admissible sizes and inputs.
@@ -58,11 +51,47 @@ fn run_from(
 /// A step rewrites the node at its place by its rule. Then the term's nodes (at most 4096), its height (at most 256) and the limits on types are judged in this order. `Inapplicable` and `Limit` come exactly at the first step that isn't made, each step before it made; a term that a rule makes is never ill-typed. Want of memory may come at any point.
 ///
 /// The source is typed, as [`type_of`](pattern_types::type_of) has it, and its variables' numbers and its height are below 2^31.
+#[tactic(auto, using(crate::proofs::Listed::begin_terms, crate::proofs::Listed::all_terms, crate::proofs::Listed::each_term))]
 pub fn run_script(alloc: Global, source: Typed, script: &Script) -> Result<Vec<Typed>, StepNo>
     requires ready { IsReady source }
-    ensures terms { IfOk result (λ terms. terms_of (program_of source.program) script.now (state_of source) ≡ Ok (map state_of terms.items)) }
+    ensures terms { IfOk result (λ terms.
+        terms_of (program_of source.program) script.now (state_of source)
+        ≡ Ok (map state_of terms.items)) }
     ensures each { IfOk result (λ terms. Every (IsAfter source) terms.items) }
-    ensures refused { IfErr result (λ e. e ≢ no.Memory → terms_of (program_of source.program) script.now (state_of source) ≡ Err e) }
+    ensures refused { IfErr result (λ e. e ≢ no.Memory
+        → terms_of (program_of source.program) script.now (state_of source) ≡ Err e) }
 {
-    Ok(Vec::from(run_from(alloc, source, script.steps(), 0)?))
+    let mut terms = Vec::new(alloc);
+    let mut current = source;
+    let mut made = 0u64;
+    let mut rest = script.steps();
+    'steps: while let Some((step, further)) = rest.split_first() {
+        made += 1;
+        let next = term_after(alloc, &current, step, made)?;
+        terms.push(current)?;
+        current = next;
+        rest = further;
+    }
+    terms.push(current)?;
+    Ok(terms)
+}
+
+/// The last of the terms that [`run_script`] gives, with the same refusals. It holds two terms at a time.
+pub fn last_term(alloc: Global, source: Typed, script: &Script) -> Result<Typed, StepNo>
+    requires ready { IsReady source }
+    ensures last { IfOk result (λ t. IsLastTerm (program_of source.program) script.now
+        (state_of source) (state_of t)) }
+    ensures after { IfOk result (λ t. IsAfter source t) }
+    ensures refused { IfErr result (λ e. e ≢ no.Memory
+        → terms_of (program_of source.program) script.now (state_of source) ≡ Err e) }
+{
+    let mut current = source;
+    let mut made = 0u64;
+    let mut rest = script.steps();
+    'steps: while let Some((step, further)) = rest.split_first() {
+        made += 1;
+        current = term_in_place(alloc, current, step, made)?;
+        rest = further;
+    }
+    Ok(current)
 }

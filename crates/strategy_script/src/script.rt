@@ -9,14 +9,14 @@ use std::alloc::{AllocError, AllocFailed};
 use std::marker::Model;
 
 /// A step: the rule that rewrites the term at a place.
-#[derive(Debug, Drop)]
+#[derive(Drop)]
 pub struct Step {
     pub place: Place,
     pub rule: Rule,
 }
 
 /// A script. Contracts see the list of its steps.
-#[derive(Debug, Drop)]
+#[derive(Drop)]
 pub struct Script {
     steps: Vec<Step>,
 }
@@ -47,14 +47,14 @@ impl Script {
 }
 
 /// A limit on scripts.
-#[derive(Clone, Copy, Debug, PartialEq, Eq)]
+#[derive(Clone, Copy, PartialEq, Eq)]
 pub enum ScriptLimit {
     /// At most 256 steps.
     Steps,
 }
 
 /// Why a text gives no script.
-#[derive(Clone, Copy, Debug, PartialEq, Eq)]
+#[derive(Clone, Copy, PartialEq, Eq)]
 pub enum ScriptNo {
     /// This line, counted from 1, is the first that is neither a step nor none.
     Syntax { line: u64 },

@@ -1,14 +1,22 @@
 // One step of a script.
 
-ghost use Rattle.std.specs.Prelude.{◌≡◌, ◌≢◌, Ok, Err, IfOk, IfErr, OnOk};
+ghost use Rattle.std.specs.Prelude.{◌≡◌, ◌≢◌, Ok, Err, Some, None, IfOk, IfErr, OnOk};
+ghost use Rattle.lift_tree.specs.Annotations.{annotation_of, type_in};
+ghost use Rattle.lift_tree.specs.Places.{node_at, with_at};
 ghost use Rattle.lift_tree.specs.Programs.{program_of};
 ghost use Rattle.lift_tree.specs.Renumbering.{IsRenumberable};
 ghost use Rattle.lift_tree.specs.Tree.{tree_of};
-ghost use Rattle.rewriting.specs.Around.{context_of};
+ghost use Rattle.lift_tree.specs.Typing.{HasOutput};
+ghost use Rattle.lift_tree.specs.declared.term.Term.{Term};
+ghost use Rattle.lift_tree.specs.Belonging.{IsProper, IsTermOf};
+ghost use Rattle.rewriting.specs.Answers.{Answer, IsRefusal};
+ghost use Rattle.rewriting.specs.Around.{around_at, context_of};
 ghost use Rattle.rewriting.specs.Keeps.{KeepsIn};
 ghost use Rattle.strategy_script.specs.RuleAnswers.{answer};
-ghost use Rattle.strategy_script.specs.Steps.{IsAfter, IsReady, answered, at_most, limited, rewritten, state_of, stepped, whole};
+ghost use Rattle.strategy_script.specs.Steps.{IsAfter, IsReady, answered, at_most, limited};
+ghost use Rattle.strategy_script.specs.Steps.{rewritten, state_of, stepped, whole};
 ghost use Rattle.strategy_script.specs.declared.faults.Fault.TheVariants as fault;
+ghost use Rattle.strategy_script.specs.declared.faults.Why.TheVariants as whys;
 
 use crate::apply::apply;
 use crate::context::around_whole;
@@ -16,12 +24,15 @@ use crate::faults::{Fault, StepLimit, Why};
 use crate::places::context_at;
 use crate::rule::Rule;
 use crate::script::Step;
-use lift_tree::place::{at, replaced};
+use lift_tree::laws::typed_nodes_type_the_term;
+use lift_tree::place::{Place, at, replaced};
 use lift_tree::term::Term;
 use lift_tree::typed::{Context, Typed};
+use pattern_types::laws::outputs_belong;
 use pattern_types::{TypeRefusal, type_of};
 use rewriting::Refused;
-use std::alloc::Global;
+use rewriting::laws::{places_have_contexts, rewrites_keep_the_whole};
+use std::alloc::{AllocError, Global};
 
 /// The most nodes that a term may have after a step.
 pub const NODE_LIMIT: u128 = 4096;
@@ -29,44 +40,90 @@ pub const NODE_LIMIT: u128 = 4096;
 /// The greatest height that a term may have after a step.
 pub const DEPTH_LIMIT: u128 = 256;
 
+// What a rule's refusal says of the step.
+#[tactic(auto, using(crate::proofs::Rewritten::no_shape, crate::proofs::Rewritten::no_side))]
+fn fault_of(refused: Refused) -> Fault
+    ensures { (a : Answer) (t : Term) → IsRefusal a t refused → result ≢ fault.Memory
+        → answered a ≡ Err result }
+{
+    match refused {
+        Refused::Shape(_) => Fault::Stops(Why::Shape),
+        Refused::Side(condition, _) => Fault::Stops(Why::Side(condition)),
+        Refused::Memory => Fault::Memory,
+    }
+}
+
 // What the rule makes of the node, in the context of its place.
-#[tactic(auto, using(crate::proofs::Rewritten::becomes, crate::proofs::Rewritten::no_shape, crate::proofs::Rewritten::no_side))]
+#[tactic(auto, using(crate::proofs::Rewritten::becomes))]
 fn applied(alloc: Global, rule: Rule, node: &Term, around: &Context) -> Result<Term, Fault>
     requires { IsRenumberable (tree_of node.now) }
-    ensures ok { IfOk result (λ u. answered (answer rule (context_of around.now) (tree_of node.now)) ≡ Ok (tree_of u)) }
-    ensures keeps { IfOk result (λ u. KeepsIn (context_of around.now) (tree_of node.now) (tree_of u)) }
-    ensures refused { IfErr result (λ e. e ≢ fault.Memory → answered (answer rule (context_of around.now) (tree_of node.now)) ≡ Err e) }
+    ensures ok { IfOk result (λ u.
+        answered (answer rule (context_of around.now) (tree_of node.now)) ≡ Ok (tree_of u)) }
+    ensures keeps { IfOk result (λ u.
+        KeepsIn (context_of around.now) (tree_of node.now) (tree_of u)) }
+    ensures refused { IfErr result (λ e. e ≢ fault.Memory
+        → answered (answer rule (context_of around.now) (tree_of node.now)) ≡ Err e) }
 {
     let node = node.copy(alloc)?;
     match apply(alloc, rule, node, around) {
         Ok(new) => Ok(new),
-        Err(Refused::Shape(_)) => Err(Fault::Stops(Why::Shape)),
-        Err(Refused::Side(condition, _)) => Err(Fault::Stops(Why::Side(condition))),
-        Err(Refused::Memory) => Err(Fault::Memory),
+        Err(refused) => Err(fault_of(refused)),
     }
 }
 
-// The term after a step, before its limits and types are judged.
-#[tactic(auto, using(crate::proofs::Small::node_renumberable, crate::proofs::Rewritten::no_node, crate::proofs::Rewritten::nothing_around, crate::proofs::Rewritten::rewrites, crate::proofs::Rewritten::stops, crate::proofs::Rewritten::rewrite_keeps))]
-fn rewritten(alloc: Global, typed: &Typed, step: &Step) -> Result<Term, Fault>
-    requires { IsReady typed.now }
-    ensures ok { IfOk result (λ t. rewritten step.now (whole typed.now) (tree_of typed.now.term) ≡ Ok (tree_of t)) }
-    ensures keeps { IfOk result (λ t. KeepsIn (whole typed.now) (tree_of typed.now.term) (tree_of t)) }
-    ensures refused { IfErr result (λ e. e ≢ fault.Memory → rewritten step.now (whole typed.now) (tree_of typed.now.term) ≡ Err e) }
+// What stands around the node at the place.
+fn around_node(alloc: Global, typed: &Typed, place: &Place) -> Result<Context, Fault>
+    requires { IsProper (program_of typed.now.program) }
+    ensures found { IfOk result (λ c.
+        around_at (whole typed.now) (tree_of typed.now.term) place.now ≡ Some (context_of c)) }
+    ensures none { IfErr result (λ e. e ≢ fault.Memory → (e ≡ fault.Stops whys.NoPlace)
+        × (around_at (whole typed.now) (tree_of typed.now.term) place.now ≡ None)) }
 {
-    let Some(node) = at(&typed.term, &step.place) else {
-        return Err(Fault::Stops(Why::NoPlace));
-    };
     let context = around_whole(alloc, typed)?;
-    let Some(around) = context_at(alloc, context, &typed.term, &step.place)? else {
-        return Err(Fault::Stops(Why::NoPlace));
-    };
-    let new = applied(alloc, step.rule, node, &around)?;
-    let term = typed.term.copy(alloc)?;
-    match replaced(term, &step.place, new) {
+    match context_at(alloc, context, &typed.term, place)? {
+        Some(around) => Ok(around),
+        None => Err(Fault::Stops(Why::NoPlace)),
+    }
+}
+
+// A copy of the term, with another node at the place.
+fn copy_with(alloc: Global, term: &Term, place: &Place, new: Term) -> Result<Term, AllocError>
+    requires { node_at (tree_of term.now) place.now ≢ None }
+    ensures { IfOk result (λ t.
+        with_at (tree_of term.now) place.now (tree_of new) ≡ Some (tree_of t)) }
+{
+    let term = term.copy(alloc)?;
+    match replaced(term, place, new) {
         Ok(term) => Ok(term),
         Err(_) => unreachable!(),
     }
+}
+
+// The term after a step, before its limits and types are judged. It has an output's type, and names what the program declares.
+#[tactic(auto, using(crate::proofs::Rewritten::no_node, crate::proofs::Rewritten::nothing_around, crate::proofs::Rewritten::rewrites, crate::proofs::Rewritten::stops))]
+fn rewritten(alloc: Global, typed: &Typed, step: &Step) -> Result<Term, Fault>
+    requires { IsReady typed.now }
+    ensures ok { IfOk result (λ t.
+        rewritten step.now (whole typed.now) (tree_of typed.now.term) ≡ Ok (tree_of t)) }
+    ensures keeps { IfOk result (λ t.
+        KeepsIn (whole typed.now) (tree_of typed.now.term) (tree_of t)) }
+    ensures output { IfOk result (λ t. HasOutput (program_of typed.now.program) (tree_of t)
+        (type_in (annotation_of typed.now.types))) }
+    ensures belongs { IfOk result (λ t. IsTermOf (program_of typed.now.program) (tree_of t)) }
+    ensures refused { IfErr result (λ e. e ≢ fault.Memory
+        → rewritten step.now (whole typed.now) (tree_of typed.now.term) ≡ Err e) }
+{
+    typed_nodes_type_the_term();
+    outputs_belong();
+    places_have_contexts();
+    rewrites_keep_the_whole();
+    let Some(node) = at(&typed.term, &step.place) else {
+        return Err(Fault::Stops(Why::NoPlace));
+    };
+    let around = around_node(alloc, typed, &step.place)?;
+    let new = applied(alloc, step.rule, node, &around)?;
+    let term = copy_with(alloc, &typed.term, &step.place, new)?;
+    Ok(term)
 }
 
 fn check_at_most(most: u128, which: StepLimit, count: u128) -> Result<(), Fault>
@@ -89,13 +146,15 @@ fn check_limits(term: &Term) -> Result<(), Fault>
 }
 
 /// The term after a step, with its types. Its nodes, its height and the limits on types are judged in this order.
-#[tactic(auto, using(crate::proofs::Stepping::steps_to, crate::proofs::Stepping::not_rewritten, crate::proofs::Stepping::not_limited, crate::proofs::Stepping::not_typed, crate::proofs::Stepping::is_after, crate::proofs::Stepping::is_ready, crate::proofs::Stepping::proper_same, crate::proofs::Stepping::is_term_of, crate::proofs::Stepping::copy_has_output))]
+#[tactic(auto, using(crate::proofs::Stepping::steps_to, crate::proofs::Stepping::not_rewritten, crate::proofs::Stepping::not_limited, crate::proofs::Stepping::not_typed, crate::proofs::Stepping::is_after, crate::proofs::Stepping::is_ready, crate::proofs::Stepping::proper_same, crate::proofs::Stepping::term_of_same, crate::proofs::Stepping::output_of_same))]
 pub fn stepped(alloc: Global, typed: &Typed, step: &Step) -> Result<Typed, Fault>
     requires { IsReady typed.now }
-    ensures state { IfOk result (λ t. stepped (program_of typed.now.program) step.now (state_of typed.now) ≡ Ok (state_of t)) }
+    ensures state { IfOk result (λ t.
+        stepped (program_of typed.now.program) step.now (state_of typed.now) ≡ Ok (state_of t)) }
     ensures after { IfOk result (λ t. IsAfter typed.now t) }
     ensures ready { IfOk result (λ t. IsReady t) }
-    ensures refused { IfErr result (λ e. e ≢ fault.Memory → stepped (program_of typed.now.program) step.now (state_of typed.now) ≡ Err e) }
+    ensures refused { IfErr result (λ e. e ≢ fault.Memory
+        → stepped (program_of typed.now.program) step.now (state_of typed.now) ≡ Err e) }
 {
     let term = rewritten(alloc, typed, step)?;
     check_limits(&term)?;

@@ -24,7 +24,8 @@ unary_start sizes First = codes "first("
 unary_start sizes Second = codes "second("
 unary_start sizes Join = codes "join("
 unary_start sizes Transpose = codes "transpose("
-unary_start sizes (Split fs) = codes "split(" ++ product_text (coefficient fs) (starred sizes 0 fs) ++ codes ", "
+unary_start sizes (Split fs) =
+    codes "split(" ++ product_text (coefficient fs) (starred sizes 0 fs) ++ codes ", "
 unary_start sizes (Slide s t) = codes "slide(" ++ two_numbers s t
 unary_start sizes (Pad l r) = codes "pad(" ++ two_numbers l r
 unary_start sizes ToLocal = codes "toLocal("
@@ -59,10 +60,15 @@ text_at p k (Binary f t u) =
     if is_reduce f
     then binary_start f ++ text_at p k u ++ codes ", " ++ text_at p k t ++ codes ")"
     else binary_start f ++ text_at p k t ++ codes ", " ++ text_at p k u ++ codes ")"
-text_at p k (Select t u v) = codes "select(" ++ text_at p k t ++ codes ", " ++ text_at p k u ++ codes ", " ++ text_at p k v ++ codes ")"
+text_at p k (Select t u v) =
+    codes "select(" ++ text_at p k t ++ codes ", " ++ text_at p k u ++ codes ", " ++ text_at p k v
+    ++ codes ")"
 text_at p k (Let v b) = let_start k ++ text_at p k v ++ codes " in " ++ text_at p (k + 1) b
-text_at p k (Map h xs b) = map_start h k ++ text_at p (k + 1) b ++ codes ", " ++ text_at p k xs ++ codes ")"
-text_at p k (Fold h xs s b) = fold_start h k ++ text_at p (k + 1 + 1) b ++ codes ", " ++ text_at p k s ++ codes ", " ++ text_at p k xs ++ codes ")"
+text_at p k (Map h xs b) =
+    map_start h k ++ text_at p (k + 1) b ++ codes ", " ++ text_at p k xs ++ codes ")"
+text_at p k (Fold h xs s b) =
+    fold_start h k ++ text_at p (k + 1 + 1) b ++ codes ", " ++ text_at p k s ++ codes ", "
+    ++ text_at p k xs ++ codes ")"
 
 -- a term's text
 abbrev pub text_of : PlainProgram → Tree → List ℕ

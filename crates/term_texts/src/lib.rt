@@ -2,8 +2,6 @@
 #![tactic(auto)]
 
 mod names;
-#[cfg(test)]
-mod tests;
 mod text;
 
 pub use text::term_text;

@@ -1,6 +1,6 @@
 // Names in a term's text.
 
-ghost use Rattle.std.specs.Prelude.{◌≡◌, ◌+◌, ◌∷◌, ◌++◌, IfOk, OnOk, decimal, map};
+ghost use Rattle.std.specs.Prelude.{◌≡◌, ◌≤◌, ◌+◌, ◌∷◌, ◌++◌, OnOk, decimal, length, map};
 ghost use Rattle.lift_tree.specs.Programs.{input_of};
 ghost use Rattle.term_texts.specs.Names.{binary_start, coefficient, copies, fold_name, input_name, is_reduce, map_name, operator_name, product_text, reducer_name, starred};
 
@@ -136,7 +136,8 @@ fn push_copies(
     size: u64,
     factors: &[Factor],
 ) -> Result<(), AllocError>
-    ensures { OnOk result (text.new.items ≡ text.old.items ++ copies (42 ∷ name.now) size factors.now) }
+    ensures { OnOk result (text.new.items
+        ≡ text.old.items ++ copies (42 ∷ name.now) size factors.now) }
 {
     let Some((first, rest)) = factors.split_first() else {
         return Ok(());
@@ -161,24 +162,15 @@ fn push_starred(
     number: u64,
     factors: &[Factor],
 ) -> Result<(), AllocError>
-    ensures { OnOk result (text.new.items ≡ text.old.items ++ starred sizes.now number factors.now) }
+    requires { number + length sizes.now ≤ u64.MAX }
+    ensures { OnOk result (text.new.items
+        ≡ text.old.items ++ starred sizes.now number factors.now) }
 {
     let Some((first, rest)) = sizes.split_first() else {
         return Ok(());
     };
-    let next = one_more(number)?;
     push_copies(text, first.name.bytes(), number, factors)?;
-    push_starred(text, rest, next, factors)
-}
-
-/// One more; no memory holds more than 2^64 - 1 of anything.
-pub fn one_more(number: u64) -> Result<u64, AllocError>
-    ensures { IfOk result (λ next. next ≡ number + 1) }
-{
-    match number.checked_add(1) {
-        Some(next) => Ok(next),
-        None => Err(AllocError),
-    }
+    push_starred(text, rest, number + 1, factors)
 }
 
 // The product behind the text.
@@ -188,7 +180,8 @@ pub fn push_product(
     sizes: &[Size],
     factors: &[Factor],
 ) -> Result<(), AllocError>
-    ensures { OnOk result (text.new.items ≡ text.old.items ++ product_text (coefficient factors.now) (starred sizes.now 0 factors.now)) }
+    ensures { OnOk result (text.new.items ≡ text.old.items
+        ++ product_text (coefficient factors.now) (starred sizes.now 0 factors.now)) }
 {
     let mut names = Vec::new(alloc);
     push_starred(&mut names, sizes, 0, factors)?;

@@ -1,13 +1,12 @@
 // Terms as texts.
 
-ghost use Rattle.std.specs.Prelude.{◌≡◌, ◌+◌, ◌++◌, IfOk, OnOk};
+ghost use Rattle.std.specs.Prelude.{◌≡◌, ◌+◌, ◌++◌, IfErr, IfOk, OnOk, codes};
 ghost use Rattle.lift_tree.specs.Tree.{tree_of};
 ghost use Rattle.lift_tree.specs.Programs.{program_of};
 ghost use Rattle.term_texts.specs.TermText.{binder_text, fold_binders, fold_start, let_start, map_start, text_at, text_of, two_numbers, unary_end, unary_start};
 
 use crate::names::{
-    fold_name, input_name, is_reduce, map_name, one_more, push_binary_start, push_number,
-    push_product,
+    fold_name, input_name, is_reduce, map_name, push_binary_start, push_number, push_product,
 };
 use lift_tree::program::Program;
 use lift_tree::term::{FoldKind, MapKind, Term, UnaryForm};
@@ -17,7 +16,8 @@ use std::alloc::{AllocError, Global};
 ///
 /// Each variable has its binder in the term, and each input and size that the term names is the program's. The product of each split's numbers is at most 4,294,967,296; the text's stands still at 2^64 - 1.
 pub fn term_text(alloc: Global, term: &Term, program: &Program) -> Result<Vec<u8>, AllocError>
-    ensures { IfOk result (λ text. text.items ≡ text_of (program_of program.now) (tree_of term.now)) }
+    ensures { IfOk result (λ text. text.items
+        ≡ text_of (program_of program.now) (tree_of term.now)) }
 {
     let mut text = Vec::new(alloc);
     push_term(alloc, &mut text, program, 0, term)?;
@@ -38,7 +38,8 @@ fn push_unary_start(
     program: &Program,
     form: &UnaryForm,
 ) -> Result<(), AllocError>
-    ensures { OnOk result (text.new.items ≡ text.old.items ++ unary_start (program_of program.now).sizes form.now) }
+    ensures { OnOk result (text.new.items
+        ≡ text.old.items ++ unary_start (program_of program.now).sizes form.now) }
 {
     match form {
         UnaryForm::Div(_) => text.extend_from_slice(b"div("),
@@ -54,18 +55,18 @@ fn push_unary_start(
         }
         UnaryForm::Slide(size, step) => {
             text.extend_from_slice(b"slide(")?;
-            push_two(text, *size, *step)
+            push_numbers(text, *size, *step)
         }
         UnaryForm::Pad(before, behind) => {
             text.extend_from_slice(b"pad(")?;
-            push_two(text, *before, *behind)
+            push_numbers(text, *before, *behind)
         }
         UnaryForm::ToLocal => text.extend_from_slice(b"toLocal("),
         UnaryForm::ToPrivate => text.extend_from_slice(b"toPrivate("),
     }
 }
 
-fn push_two(text: &mut Vec<u8>, first: u32, second: u32) -> Result<(), AllocError>
+fn push_numbers(text: &mut Vec<u8>, first: u32, second: u32) -> Result<(), AllocError>
     ensures { OnOk result (text.new.items ≡ text.old.items ++ two_numbers first second) }
 {
     push_number(text, u64::from(first))?;
@@ -131,8 +132,20 @@ fn push_fold_binders(text: &mut Vec<u8>, depth: u64, element: u64) -> Result<(),
     push_binder(text, element)
 }
 
+// One binder more. No memory holds a term with 2^64 of them one in another.
+fn one_more(depth: u64) -> Result<u64, AllocError>
+    ensures ok { IfOk result (λ inside. inside ≡ depth + 1) }
+    ensures refused { IfErr result (λ e. depth ≡ u64.MAX) }
+{
+    match depth.checked_add(1) {
+        Some(inside) => Ok(inside),
+        None => Err(AllocError),
+    }
+}
+
 // The term behind the text, with so many binders around it.
-#[tactic(auto, using(crate::proofs::Appended::three_behind, crate::proofs::Appended::four_behind, crate::proofs::Appended::five_behind, crate::proofs::Appended::seven_behind))]
+#[tactic(auto, using(crate::proofs::Appended::three_behind, crate::proofs::Appended::four_behind))]
+#[cycle(terms)]
 fn push_term(
     alloc: Global,
     text: &mut Vec<u8>,
@@ -140,7 +153,8 @@ fn push_term(
     depth: u64,
     term: &Term,
 ) -> Result<(), AllocError>
-    ensures { OnOk result (text.new.items ≡ text.old.items ++ text_at (program_of program.now) depth (tree_of term.now)) }
+    ensures { OnOk result (text.new.items
+        ≡ text.old.items ++ text_at (program_of program.now) depth (tree_of term.now)) }
 {
     match term {
         Term::Variable(number) => push_binder(text, depth.saturating_sub(u64::from(*number) + 1)),
@@ -154,25 +168,15 @@ fn push_term(
         Term::Binary(form, a, b) => {
             push_binary_start(text, *form)?;
             if is_reduce(*form) {
-                push_term(alloc, text, program, depth, b)?;
-                text.extend_from_slice(b", ")?;
-                push_term(alloc, text, program, depth, a)?;
-                text.extend_from_slice(b")")
+                push_two(alloc, text, program, depth, b, a)
             } else {
-                push_term(alloc, text, program, depth, a)?;
-                text.extend_from_slice(b", ")?;
-                push_term(alloc, text, program, depth, b)?;
-                text.extend_from_slice(b")")
+                push_two(alloc, text, program, depth, a, b)
             }
         }
         Term::Select(a, b, c) => {
             text.extend_from_slice(b"select(")?;
-            push_term(alloc, text, program, depth, a)?;
-            text.extend_from_slice(b", ")?;
-            push_term(alloc, text, program, depth, b)?;
-            text.extend_from_slice(b", ")?;
-            push_term(alloc, text, program, depth, c)?;
-            text.extend_from_slice(b")")
+            push_first(alloc, text, program, depth, a)?;
+            push_two(alloc, text, program, depth, b, c)
         }
         Term::Let(value, body) => {
             let inside = one_more(depth)?;
@@ -184,21 +188,65 @@ fn push_term(
         Term::Map(kind, array, body) => {
             let inside = one_more(depth)?;
             push_map_start(text, *kind, depth)?;
-            push_term(alloc, text, program, inside, body)?;
-            text.extend_from_slice(b", ")?;
-            push_term(alloc, text, program, depth, array)?;
-            text.extend_from_slice(b")")
+            push_first(alloc, text, program, inside, body)?;
+            push_last(alloc, text, program, depth, array)
         }
         Term::Fold(kind, array, start, body) => {
             let element = one_more(depth)?;
             let inside = one_more(element)?;
             push_fold_start(text, *kind, depth, element)?;
-            push_term(alloc, text, program, inside, body)?;
-            text.extend_from_slice(b", ")?;
-            push_term(alloc, text, program, depth, start)?;
-            text.extend_from_slice(b", ")?;
-            push_term(alloc, text, program, depth, array)?;
-            text.extend_from_slice(b")")
+            push_first(alloc, text, program, inside, body)?;
+            push_two(alloc, text, program, depth, start, array)
         }
     }
+}
+
+// A term with others behind it.
+#[cycle(terms)]
+fn push_first(
+    alloc: Global,
+    text: &mut Vec<u8>,
+    program: &Program,
+    depth: u64,
+    term: &Term,
+) -> Result<(), AllocError>
+    ensures { OnOk result (text.new.items ≡ text.old.items
+        ++ (text_at (program_of program.now) depth (tree_of term.now) ++ codes ", ")) }
+{
+    push_term(alloc, text, program, depth, term)?;
+    text.extend_from_slice(b", ")
+}
+
+// The last of a function's terms.
+#[cycle(terms)]
+fn push_last(
+    alloc: Global,
+    text: &mut Vec<u8>,
+    program: &Program,
+    depth: u64,
+    term: &Term,
+) -> Result<(), AllocError>
+    ensures { OnOk result (text.new.items ≡ text.old.items
+        ++ (text_at (program_of program.now) depth (tree_of term.now) ++ codes ")")) }
+{
+    push_term(alloc, text, program, depth, term)?;
+    text.extend_from_slice(b")")
+}
+
+// The last two of a function's terms.
+#[cycle(terms)]
+fn push_two(
+    alloc: Global,
+    text: &mut Vec<u8>,
+    program: &Program,
+    depth: u64,
+    first: &Term,
+    last: &Term,
+) -> Result<(), AllocError>
+    ensures { OnOk result (text.new.items ≡ text.old.items
+        ++ (text_at (program_of program.now) depth (tree_of first.now) ++ codes ", "
+        ++ text_at (program_of program.now) depth (tree_of last.now) ++ codes ")")) }
+{
+    push_first(alloc, text, program, depth, first)?;
+    push_last(alloc, text, program, depth, last)
 }

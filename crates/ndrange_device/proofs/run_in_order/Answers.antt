@@ -34,6 +34,6 @@ returns c =
     let k = kernel_of c.args.kernel in
     let l = c.args.launch in
     let b = c.args.cells in
-    ends_in_order k l b c.loop-machine.machine c.loop-machine.events _ c.requires.admissible.whole c.requires.safe c.loop-machine.invariant
+    ends_in_order k l b c.loop-machine.machine c.loop-machine.events _ c.requires.may_start.whole c.requires.safe c.loop-machine.invariant
     (λ es stands. (c.finished.ensures.ended k l b es stands).0 c.loop-machine-test.false)
-    (λ es stands. c.outputs.ensures k l b es stands)
+    (λ es stands. c.outputs-outs.ensures k l b es stands)

@@ -1,10 +1,32 @@
-use Rattle.std.proofs.Common.{rules, ◌≡◌, ◌∙◌, ap, sym, subst, take, ◌+◌, suc, ◌++◌, ◌∷◌, [], arith, ◌<◌, ◌≤◌}
+use Rattle.std.proofs.Common.{◌≡◌, ◌∙◌, ap, sym, subst, take, drop, true, ◌+◌, suc, ◌++◌, ◌∷◌, [], arith, ◌<◌, ◌≤◌}
 use Rattle.std.proofs.lemmas.List.{take_more}
 use Rattle.kernel_tree.specs.Code.{End, Loops}
+use Rattle.kernel_tree.specs.Grammar.{are_statements}
+use Rattle.kernel_printer.proofs.Blocks.{statement_at, body_of}
 use Rattle.kernel_tree.specs.Tree.{formula_of, start_of, stride_of, before, code_then}
-use Rattle.kernel_tree.proofs.Rows.{before-Loop, code_then-append}
-use Rattle.kernel_printer.specs.Bytes.{write_code, write_loop, write_end}
+use Rattle.kernel_printer.specs.Bytes.{write_code, write_loop}
 use Rattle.kernel_printer.proofs.text.+printing.Goals as goal
+
+pub print_block-print_statement-requires : goal.print_block-print_statement-requires
+print_block-print_statement-requires t c =
+    let block = c.args.block.now in
+    let i = c.loop-statement.statement-index in
+    let h = c.requires.of_kernel in
+    (omega (arith, c.decreases, c.requires.deep), (c.requires.deep, (code_then (drop (suc i) block) End, (h.0, statement_at h.0 c.args.loops block i c.statement-item.result c.loop-statement-test.true c.statement-item.is h.1))))
+
+pub print_statement-print_block-requires : goal.print_statement-print_block-requires
+print_statement-print_block-requires t c =
+    let l = c.args.loops in
+    let q = c.in-Loop in
+    let h = c.requires.of_kernel in
+    let k = h.1.0 in
+    let whole : before c.args.statement.now h.0 ≡ Loops (start_of q._start) (formula_of q.bound) (stride_of q._stride) (code_then q.body.items End) h.0 =
+    ap (λ z. before z h.0) q.is ∙ c.blocks-in-Loop.ensures.loops q._start q.bound q._stride q.body h.0 in
+    let body = body_of k l (start_of q._start) (formula_of q.bound) (stride_of q._stride) (code_then q.body.items End) h.0 (subst (λ z. are_statements k l z ≡ true) whole h.1.1) in
+    let deeper : suc l ≡ l + 1 = omega arith in
+    let less : l < 1024 = body.0 in
+    let deep : l + 1 ≤ 1024 = omega (arith, less) in
+    (omega (arith, c.decreases, less), (deep, (k, subst (λ z. are_statements k (l + 1) (code_then z End) ≡ true) (sym c.deref.ensures.value) (subst (λ m. are_statements k m (code_then q.body.items End) ≡ true) deeper body.1))))
 
 pub print_block-loop-statement-preserved : goal.print_block-loop-statement-preserved
 print_block-loop-statement-preserved t c = λ after.
@@ -12,7 +34,7 @@ print_block-loop-statement-preserved t c = λ after.
     let i = c.loop-statement.statement-index in
     let s = c.statement-item.result in
     ap (λ ys. write_code c.args.loops c.args.text.now.items (code_then ys after)) (take_more block i s c.loop-statement-test.true ∙ ap (λ x. take i block ++ x ∷ []) (sym c.statement-item.is))
-    ∙ ap (write_code c.args.loops c.args.text.now.items) (code_then-append (take i block) (s ∷ []) after)
+    ∙ ap (write_code c.args.loops c.args.text.now.items) (c.blocks-2.ensures.behind (take i block) (s ∷ []) after)
     ∙ c.loop-statement.invariant (before s after)
     ∙ c.in_ok-print_statement.ensures after
 
@@ -31,5 +53,5 @@ print_statement-returns-in_ok-print_end-in-Loop t c = λ after.
     ∙ c.in_ok-print_block-in-Loop.ensures End
     ∙ sym c.in_ok-print_end-in-Loop.ensures in
     ap (λ z. write_code l old (before z after)) q.is
-    ∙ ap (write_code l old) (before-Loop q._start q.bound q._stride q.body after)
+    ∙ ap (write_code l old) (c.blocks-in-Loop.ensures.loops q._start q.bound q._stride q.body after)
     ∙ ap (λ z. write_code l z after) inner

@@ -1,7 +1,6 @@
-use Rattle.std.proofs.Common.{◌≡◌, ◌∙◌, ap, sym, subst, ◌-◌, ◌++◌}
+use Rattle.std.proofs.Common.{◌∙◌, ap, sym, ◌-◌, ◌++◌}
 use Rattle.std.specs.Prelude.{codes}
 use Rattle.kernel_tree.specs.Code.{End}
-use Rattle.kernel_tree.specs.Kernels.{kernel_of}
 use Rattle.kernel_tree.specs.Tree.{code_then}
 use Rattle.kernel_printer.specs.Bytes.{write_code, write_inputs, write_outputs, write_sizes, write_variables}
 use Rattle.kernel_printer.proofs.text.print_kernel.Goals as goal

@@ -3,7 +3,7 @@ use Rattle.std.proofs.lemmas.List.{append-nil}
 use Rattle.std.proofs.lemmas.Bool.{eqb-true}
 use Rattle.kernel_tree.specs.Pieces.{ArePieces}
 use Rattle.kernel_reader.specs.Views.{bytes_of}
-use Rattle.kernel_reader.specs.Numbers.{no_bytes}
+use Rattle.kernel_spelling.specs.Numbers.{no_bytes}
 use Rattle.kernel_reader.proofs.pieces.pieces.Goals as goal
 
 pub returns-then-is_empty : goal.returns-then-is_empty

@@ -2,22 +2,24 @@ use Rattle.std.proofs.Common.{◌∙◌, ap, sym, subst, map, take, length, arit
 use Rattle.std.specs.List.{sum_by}
 use Rattle.std.proofs.lemmas.List.{take-map}
 use Rattle.kernel_tree.specs.Pieces.{joined}
+use Rattle.kernel_tree.specs.KernelText.{IsKernelText}
 use Rattle.kernel_reader.specs.Views.{bytes_of}
-use Rattle.kernel_reader.proofs.Found.{lengths, whole_length, from_nothing, stops_at, not_read, reading_of, one_kernel, text_is, has_text}
+use Rattle.kernel_reader.proofs.Found.{lengths, whole_length, from_nothing, stops_at, not_read, reading_of}
 use Rattle.kernel_reader.proofs.read.read_kernel.Goals as goal
 
 pub offset_of-requires-clause-fits : goal.offset_of-requires-clause-fits
 offset_of-requires-clause-fits c =
-    let w = whole_length c.args.bytes.now c.in_ok-pieces.pieces.items c.in_ok-pieces.ensures in
+    let ps = c.in_ok-pieces.pieces.items in
+    let w = whole_length c.args.bytes.now ps (c.one_cut.ensures.whole c.args.bytes.now (map bytes_of ps) c.in_ok-pieces.ensures) in
     let same = ap (λ z. sum_by (λ p. length (bytes_of p)) z) c.deref-in-Err-Refused.ensures.value in
     let short : length c.args.bytes.now < 2 ^ 64 = first_of (search rules, omega arith) in
     subst (λ n. n < 2 ^ 64) (sym (same ∙ w)) short
 
 pub returns-in-Err-Refused-clause-only : goal.returns-in-Err-Refused-clause-only
-returns-in-Err-Refused-clause-only c = λ k h. not_read h.1 _ c.in-Err-Refused.taken c.in-Err-Refused.field-0-is (c.in-Err-Refused.ensures.only h.1 (reading_of c.args.bytes.now k _ _ c.in_ok-pieces.pieces.items c.first.ensures c.deref.ensures.value c.in_ok-pieces.ensures h))
+returns-in-Err-Refused-clause-only c = λ k h. not_read h.1 _ c.in-Err-Refused.taken c.in-Err-Refused.field-0-is (c.in-Err-Refused.ensures.only h.1 (reading_of c.one_cut.ensures.one c.args.bytes.now k _ _ c.in_ok-pieces.pieces.items c.first.ensures c.deref.ensures.value c.in_ok-pieces.ensures h))
 
 pub returns-in-Err-Refused-clause-back : goal.returns-in-Err-Refused-clause-back
-returns-in-Err-Refused-clause-back c = λ k t e. returns-in-Err-Refused-clause-only c k (has_text c.args.bytes.now k t e)
+returns-in-Err-Refused-clause-back c = λ k t e. returns-in-Err-Refused-clause-only c k (subst (λ z. IsKernelText z k) (sym e) (c.one_text.ensures.taken k t))
 
 pub returns-in-Err-Refused-clause-refused : goal.returns-in-Err-Refused-clause-refused
 returns-in-Err-Refused-clause-refused c =
@@ -43,10 +45,10 @@ returns-clause-found c =
     (map bytes_of ps, _, c.in_ok-pieces.ensures, from_nothing _ _ _ ps c.first.ensures c.deref.ensures.value c.in-Ok.ensures.found, c.in_ok-kernel_from.ensures)
 
 pub returns-clause-only : goal.returns-clause-only
-returns-clause-only c = λ k h. one_kernel _ h.1 _ k (c.in-Ok.ensures.only h.1 (reading_of c.args.bytes.now k _ _ c.in_ok-pieces.pieces.items c.first.ensures c.deref.ensures.value c.in_ok-pieces.ensures h)) c.in_ok-kernel_from.ensures h.4
+returns-clause-only c = λ k h. c.one_kernel.ensures c.args.bytes.now _ k (returns-clause-found c) h
 
 pub returns-clause-one : goal.returns-clause-one
-returns-clause-one c = text_is c.args.bytes.now _ (returns-clause-found c)
+returns-clause-one c = (c.one_text.ensures.only c.args.bytes.now _ (returns-clause-found c)).1
 
 pub returns-clause-back : goal.returns-clause-back
-returns-clause-back c = λ k t e. returns-clause-only c k (has_text c.args.bytes.now k t e)
+returns-clause-back c = λ k t e. returns-clause-only c k (subst (λ z. IsKernelText z k) (sym e) (c.one_text.ensures.taken k t))

@@ -1,4 +1,4 @@
-use Rattle.std.proofs.Common.{ap, ◌∙◌, refl, sym}
+use Rattle.std.proofs.Common.{ap, ◌∙◌, refl}
 use Rattle.kernel_tree.specs.Pieces.{joined}
 use Rattle.kernel_spelling.specs.Spelling.{spelled}
 use Rattle.kernel_spelling.proofs.Spelled.{all_of}

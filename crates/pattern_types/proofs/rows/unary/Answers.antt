@@ -1,6 +1,6 @@
 use Rattle.std.proofs.Common.{length, subst}
 use Rattle.lift_tree.specs.declared.term.UnaryForm.{UnaryForm}
-use Rattle.pattern_types.specs.Belonging.{FormIsNamed}
+use Rattle.lift_tree.specs.Belonging.{FormIsNamed}
 use Rattle.pattern_types.proofs.Named.{named_any}
 use Rattle.pattern_types.proofs.rows.unary.Goals as goal
 

@@ -11,12 +11,12 @@ sum_of-sum-requires-clause-second c =
     let g : SFits w128 c.index.result.now.coefficient = search rules in
     simp to_z-of_z (omega arith)
 
-pub returns-else-is_none : goal.returns-else-is_none
-returns-else-is_none c =
+pub returns-else-is_zero : goal.returns-else-is_zero
+returns-else-is_zero c =
     let f : SFits w128 c.args.coefficient = c.ranges.coefficient in
     let g : SFits w128 c.index.result.now.coefficient = search rules in
     let k : SFits w128 c.sum_of-sum.result = search rules in
     let e = simp to_z-of_z at c.sum_of-sum.ensures in
-    let n = simp to_z-of_z at c.is_none.ensures in
+    let n = simp to_z-of_z at c.is_zero.ensures in
     simp to_z-of_z
-    (set_put _ _ _ c.deref.result.now c.args.monomials.now.items c.find-found.result.index c.find-found.result.here c.index.result.now c.deref.ensures.value (c.find-found.ensures.puts c.args.coefficient) c.if-found.true (c.find-found.ensures.there c.if-found.true) c.index.ensures e (sym c.if-is_none.false ∙ n))
+    (set_put _ _ _ c.deref.result.now c.args.monomials.now.items c.find-found.result.index c.find-found.result.here c.index.result.now c.deref.ensures.value (c.find-found.ensures.puts c.args.coefficient) c.if-found.true (c.find-found.ensures.there c.if-found.true) c.index.ensures e (sym c.if-is_zero.false ∙ n))

@@ -17,5 +17,5 @@ returns c =
     let outs : rows_of c.cells.inside.outs.items ≡ c.args.cells.outs = ap (λ v. v.outs) c.cells.view_is in
     let rest : c.cells.inside.rest ≡ c.args.cells.rest = ap (λ v. v.rest) c.cells.view_is in
     let room : length c.lay.new.lines.items ≤ vec_capacity c.in_ok-loops.loops = search rules in
-    begun (kernel_of c.args.kernel) c.args.launch c.args.cells _ c.requires.admissible.whole c.requires.one_item ins outs text (ap (λ v. v.sizes) c.launch.view_is) refl c.in_ok-loops.ensures.items room
+    begun (kernel_of c.args.kernel) c.args.launch c.args.cells _ c.requires.may_start.whole c.requires.one_item ins outs text (ap (λ v. v.sizes) c.launch.view_is) refl c.in_ok-loops.ensures.items room
     (c.in_ok-vars.ensures.items_if_clones_equal (λ y e. e) ∙ ap (replicate c.args.kernel.variables) rest)

@@ -1,0 +1,5 @@
+pub mod Conflicts
+pub mod Fencing
+pub mod Needed
+pub mod Separates
+pub mod Code

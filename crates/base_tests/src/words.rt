@@ -1,0 +1,182 @@
+use command_line::{Request, WordsNo, read_words};
+use std::alloc::{AllocError, Global};
+
+fn strings(alloc: Global, words: &[&str]) -> Result<Vec<String>, AllocError> {
+    let mut all = Vec::new(alloc);
+    for word in words {
+        all.push(String::from_str(alloc, word)?)?;
+    }
+    Ok(all)
+}
+
+// Memory is ample.
+fn read(alloc: Global, words: &[&str]) -> Result<Request, WordsNo> {
+    let words = strings(alloc, words)?;
+    read_words(alloc, words.as_slice())
+}
+
+fn is_refused(rt: &HostRuntime, words: &[&str]) -> bool {
+    matches!(read(rt.alloc(), words), Err(WordsNo::Refused))
+}
+
+fn is_pair(first: &String, second: &String, files: &[&str]) -> bool {
+    match files {
+        [a, b] => first.as_str() == *a && second.as_str() == *b,
+        _ => false,
+    }
+}
+
+// The request is the command of this name, with these files.
+fn is_request(request: &Request, name: &str, files: &[&str]) -> bool {
+    match request {
+        Request::Compile { program, script } => {
+            name == "compile" && is_pair(program, script, files)
+        }
+        Request::Steps { program, script } => name == "steps" && is_pair(program, script, files),
+        Request::Eval { program, launch } => name == "eval" && is_pair(program, launch, files),
+        Request::Run {
+            program,
+            script,
+            launch,
+        } => match files {
+            [first, rest @ ..] => {
+                name == "run" && program.as_str() == *first && is_pair(script, launch, rest)
+            }
+            _ => false,
+        },
+    }
+}
+
+fn asks(rt: &HostRuntime, words: &[&str], name: &str, files: &[&str]) -> bool {
+    match read(rt.alloc(), words) {
+        Ok(request) => is_request(&request, name, files),
+        Err(_) => false,
+    }
+}
+
+#[test]
+fn reads_each_command(rt: HostRuntime) {
+    let two = ["dot.lift", "tiles.script"].as_slice();
+    let three = ["dot.lift", "tiles.script", "one.json"].as_slice();
+    assert!(rt;
+        asks(
+            &rt,
+            ["compile", "dot.lift", "tiles.script"].as_slice(),
+            "compile",
+            two
+        )
+    );
+    assert!(rt;
+        asks(
+            &rt,
+            ["steps", "dot.lift", "tiles.script"].as_slice(),
+            "steps",
+            two
+        )
+    );
+    assert!(rt;
+        asks(
+            &rt,
+            ["eval", "dot.lift", "tiles.script"].as_slice(),
+            "eval",
+            two
+        )
+    );
+    assert!(rt;
+        asks(
+            &rt,
+            ["run", "dot.lift", "tiles.script", "one.json"].as_slice(),
+            "run",
+            three
+        )
+    );
+}
+
+#[test]
+fn takes_any_plain_file_name(rt: HostRuntime) {
+    // An empty name, one with spaces, one that is a command, one beyond ASCII.
+    assert!(rt;
+        asks(
+            &rt,
+            ["compile", "", "a b"].as_slice(),
+            "compile",
+            ["", "a b"].as_slice()
+        )
+    );
+    assert!(rt;
+        asks(
+            &rt,
+            ["eval", "run", "größe"].as_slice(),
+            "eval",
+            ["run", "größe"].as_slice()
+        )
+    );
+}
+
+#[test]
+fn takes_a_hyphen_as_clap_does(rt: HostRuntime) {
+    // A lone hyphen is a value, and after `--` every word is.
+    assert!(rt;
+        asks(
+            &rt,
+            ["steps", "-", "s"].as_slice(),
+            "steps",
+            ["-", "s"].as_slice()
+        )
+    );
+    assert!(rt;
+        asks(
+            &rt,
+            ["compile", "--", "-p", "--script"].as_slice(),
+            "compile",
+            ["-p", "--script"].as_slice()
+        )
+    );
+}
+
+#[test]
+fn refuses_too_few_words(rt: HostRuntime) {
+    assert!(rt; is_refused(&rt, [].as_slice()));
+    assert!(rt; is_refused(&rt, ["compile"].as_slice()));
+    assert!(rt; is_refused(&rt, ["compile", "p"].as_slice()));
+    assert!(rt; is_refused(&rt, ["run", "p", "s"].as_slice()));
+    assert!(rt; is_refused(&rt, ["eval", "p"].as_slice()));
+    assert!(rt; is_refused(&rt, ["steps", "p"].as_slice()));
+}
+
+#[test]
+fn refuses_too_many_words(rt: HostRuntime) {
+    assert!(rt; is_refused(&rt, ["compile", "p", "s", "l"].as_slice()));
+    assert!(rt; is_refused(&rt, ["run", "p", "s", "l", "x"].as_slice()));
+    assert!(rt; is_refused(&rt, ["eval", "p", "l", "x"].as_slice()));
+    assert!(rt; is_refused(&rt, ["steps", "p", "s", ""].as_slice()));
+}
+
+#[test]
+fn refuses_other_commands(rt: HostRuntime) {
+    assert!(rt; is_refused(&rt, [""].as_slice()));
+    assert!(rt; is_refused(&rt, ["lift", "compile", "p", "s"].as_slice()));
+    assert!(rt; is_refused(&rt, ["comp", "p", "s"].as_slice()));
+    assert!(rt; is_refused(&rt, ["Compile", "p", "s"].as_slice()));
+    assert!(rt; is_refused(&rt, ["program", "compile", "s"].as_slice()));
+}
+
+#[test]
+fn refuses_flags(rt: HostRuntime) {
+    assert!(rt; is_refused(&rt, ["compile", "-p", "s"].as_slice()));
+    assert!(rt; is_refused(&rt, ["compile", "p", "--script=s"].as_slice()));
+    assert!(rt; is_refused(&rt, ["--compile", "p", "s"].as_slice()));
+    assert!(rt; is_refused(&rt, ["run", "p", "s", "l", "--trace"].as_slice()));
+}
+
+#[test]
+fn has_no_help_and_no_version(rt: HostRuntime) {
+    assert!(rt; is_refused(&rt, ["--help"].as_slice()));
+    assert!(rt; is_refused(&rt, ["-h"].as_slice()));
+    assert!(rt; is_refused(&rt, ["help"].as_slice()));
+    assert!(rt; is_refused(&rt, ["help", "compile"].as_slice()));
+    assert!(rt; is_refused(&rt, ["--version"].as_slice()));
+    assert!(rt; is_refused(&rt, ["-V"].as_slice()));
+    assert!(rt; is_refused(&rt, ["compile", "--help"].as_slice()));
+    assert!(rt; is_refused(&rt, ["compile", "p", "s", "--version"].as_slice()));
+}

@@ -1,0 +1,18 @@
+//! Laws of the stages.
+ghost use Rattle.compilation.specs.Started.{StagesEndOnce};
+
+use launch_file::laws::{files_are_not_refused, files_give_one_thing};
+use lift_reader::program::programs_may_be_typed;
+use lift_reader::token::one_list_of_tokens;
+use pattern_types::laws::judged_inputs_are_proper;
+
+/// The stages come to one end: to what they make, or to one cause for which one of them stops.
+pub fn one_end()
+    ensures { StagesEndOnce }
+{
+    one_list_of_tokens();
+    programs_may_be_typed();
+    judged_inputs_are_proper();
+    files_are_not_refused();
+    files_give_one_thing();
+}

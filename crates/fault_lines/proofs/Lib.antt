@@ -1,0 +1,2 @@
+pub mod LaunchLine
+pub mod Taken

@@ -1,0 +1,49 @@
+-- Why a call ends without a result: its status and its line.
+use Rattle.std.specs.Prelude.{ℕ, List, [], ◌∷◌, codes}
+use Rattle.lift_tree.specs.Programs.{PlainProgram}
+use Rattle.launch_file.specs.Line as launches
+use Rattle.launch_file.specs.declared.refusal.LaunchNo.{LaunchNo}
+use Rattle.launch_file.specs.declared.refusal.LaunchNo.TheVariants as no
+use Rattle.fault_lines.specs.declared.refusal.Refusal.{Refusal}
+use Rattle.fault_lines.specs.Refusal as refusals
+use Rattle.fault_lines.specs.Lines.{line_of_texts}
+use Rattle.fault_lines.specs.Refusal.{limit_line, memory_line}
+
+pub data Failure : Type 0 where
+  -- the words are no command
+  Words : Failure
+  -- the file of this name couldn't be read
+  Read : List ℕ → Failure
+  -- a file has more bytes than it may have; so many were counted
+  TooLong : (count : ℕ) → Failure
+  -- the output couldn't be written
+  Write : Failure
+  -- the program and the script have no kernel
+  Source : Refusal → Failure
+  -- the launch file is none for this program, for this cause
+  Launch : PlainProgram → LaunchNo → Failure
+  -- memory ran out
+  Memory : Failure
+
+-- want of memory may come while a launch file is read
+abbrev pub launch_status : LaunchNo → ℕ
+launch_status no.Memory = 13
+launch_status _ = 12
+
+abbrev pub status_of : Failure → ℕ
+status_of Words = 2
+status_of (Read name) = 3
+status_of (TooLong count) = 10
+status_of Write = 4
+status_of (Source why) = refusals.status_of why
+status_of (Launch p why) = launch_status why
+status_of Memory = 13
+
+abbrev pub line_of : Failure → List ℕ
+line_of Words = line_of_texts (codes "lift: words" ∷ [])
+line_of (Read name) = line_of_texts (codes "lift: read " ∷ name ∷ [])
+line_of (TooLong count) = limit_line (codes "bytes") count
+line_of Write = line_of_texts (codes "lift: write" ∷ [])
+line_of (Source why) = refusals.line_of why
+line_of (Launch p why) = launches.line_of p why
+line_of Memory = memory_line

@@ -1,0 +1,5 @@
+pub mod Failure
+pub mod Lines
+pub mod Names
+pub mod Refusal
+pub mod Shown

@@ -1,0 +1,44 @@
+-- The names of limits and rules, as they are written.
+use Rattle.std.specs.Prelude.{ℕ, List, codes}
+use Rattle.lift_reader.specs.declared.refusal.Quantity.{Quantity}
+use Rattle.lift_reader.specs.declared.refusal.Quantity.TheVariants as counted
+use Rattle.pattern_types.specs.declared.refusal.Rule.{Rule}
+use Rattle.pattern_types.specs.declared.refusal.Rule.TheVariants as rules
+use Rattle.pattern_types.specs.declared.refusal.TypeLimit.{TypeLimit}
+use Rattle.pattern_types.specs.declared.refusal.TypeLimit.TheVariants as limits
+use Rattle.strategy_script.specs.declared.faults.StepLimit.{StepLimit}
+use Rattle.strategy_script.specs.declared.faults.StepLimit.TheVariants as after
+
+abbrev pub quantity_name : Quantity → List ℕ
+quantity_name counted.Sizes = codes "sizes"
+quantity_name counted.Inputs = codes "inputs"
+quantity_name counted.Nodes = codes "nodes"
+
+abbrev pub type_limit_name : TypeLimit → List ℕ
+type_limit_name limits.Arrays = codes "arrays"
+type_limit_name limits.Components = codes "components"
+type_limit_name limits.Terms = codes "terms"
+type_limit_name limits.Degree = codes "degree"
+type_limit_name limits.Coefficient = codes "coefficient"
+type_limit_name limits.Scalars = codes "scalars"
+
+abbrev pub step_limit_name : StepLimit → List ℕ
+step_limit_name after.Nodes = codes "nodes"
+step_limit_name after.Depth = codes "depth"
+step_limit_name (after.Types which) = type_limit_name which
+
+abbrev pub rule_name : Rule → List ℕ
+rule_name rules.Operator = codes "operator"
+rule_name rules.Pair = codes "pair"
+rule_name rules.Project = codes "project"
+rule_name rules.Map = codes "map"
+rule_name rules.Reduce = codes "reduce"
+rule_name rules.Fold = codes "fold"
+rule_name rules.Zip = codes "zip"
+rule_name rules.Split = codes "split"
+rule_name rules.Join = codes "join"
+rule_name rules.Transpose = codes "transpose"
+rule_name rules.Slide = codes "slide"
+rule_name rules.Pad = codes "pad"
+rule_name rules.Output = codes "output"
+rule_name rules.Length = codes "length"

@@ -1,0 +1,68 @@
+-- Why a program and a script have no kernel: the status, and the line.
+use Rattle.std.specs.Prelude.{ℕ, List, [], ◌∷◌, codes, decimal}
+use Rattle.lift_reader.specs.declared.refusal.ReadRefusal.TheVariants as readings
+use Rattle.pattern_types.specs.declared.refusal.Rule.{Rule}
+use Rattle.pattern_types.specs.declared.refusal.Spot.{Spot}
+use Rattle.pattern_types.specs.declared.refusal.Spot.TheVariants as spots
+use Rattle.pattern_types.specs.declared.refusal.TypeRefusal.TheVariants as typings
+use Rattle.fault_lines.specs.Lines.{line_of_texts, place_text}
+use Rattle.fault_lines.specs.Names.{quantity_name, rule_name, step_limit_name, type_limit_name}
+use Rattle.rewriting.specs.Conditions.{condition_name}
+use Rattle.strategy_script.specs.declared.faults.StepNo.TheVariants as stops
+use Rattle.strategy_script.specs.declared.faults.Why.{Why}
+use Rattle.strategy_script.specs.declared.faults.Why.TheVariants as whys
+use Rattle.strategy_script.specs.declared.script.ScriptNo.TheVariants as scripts
+use Rattle.fault_lines.specs.declared.refusal.NestRefusal.TheVariants as nests
+use Rattle.fault_lines.specs.declared.refusal.Refusal.{Refusal}
+use Rattle.fault_lines.specs.declared.refusal.Refusal.TheVariants.{Program, Typing, Script, Step, Nest, Memory}
+
+abbrev pub status_of : Refusal → ℕ
+status_of (Program (readings.Syntax token offset)) = 6
+status_of (Program (readings.Limit which count)) = 10
+status_of (Program readings.Memory) = 13
+status_of (Typing (typings.IllTyped spot rule)) = 7
+status_of (Typing (typings.Limit which spot count)) = 10
+status_of (Typing typings.Memory) = 13
+status_of (Script (scripts.Syntax line)) = 8
+status_of (Script (scripts.Limit which count)) = 10
+status_of (Script scripts.Memory) = 13
+status_of (Step (stops.Inapplicable step why)) = 9
+status_of (Step (stops.Limit which step count)) = 10
+status_of (Step stops.Memory) = 13
+status_of (Nest why) = 11
+status_of Memory = 13
+
+-- ---- lines
+
+abbrev pub limit_line : (name : List ℕ) → (count : ℕ) → List ℕ
+limit_line name count = line_of_texts (codes "lift: limit " ∷ name ∷ codes ": " ∷ decimal count ∷ [])
+
+abbrev pub type_line : Rule → Spot → List ℕ
+type_line rule (spots.Input number) = line_of_texts (codes "lift: type: " ∷ rule_name rule ∷ codes " at input " ∷ decimal number ∷ [])
+type_line rule (spots.Node place) = line_of_texts (codes "lift: type: " ∷ rule_name rule ∷ codes " at " ∷ place_text place ∷ [])
+
+-- why the rule of a step, counted from 1, isn't applied
+abbrev pub step_line : (step : ℕ) → Why → List ℕ
+step_line step whys.NoPlace = line_of_texts (codes "lift: step " ∷ decimal step ∷ codes ": no place" ∷ [])
+step_line step whys.Shape = line_of_texts (codes "lift: step " ∷ decimal step ∷ codes ": shape" ∷ [])
+step_line step (whys.Side condition) = line_of_texts (codes "lift: step " ∷ decimal step ∷ codes ": side " ∷ condition_name condition ∷ [])
+
+abbrev pub memory_line : List ℕ
+memory_line = line_of_texts (codes "lift: memory" ∷ [])
+
+abbrev pub line_of : Refusal → List ℕ
+line_of (Program (readings.Syntax token offset)) = line_of_texts (codes "lift: program: token " ∷ decimal token ∷ codes ", byte " ∷ decimal offset ∷ [])
+line_of (Program (readings.Limit which count)) = limit_line (quantity_name which) count
+line_of (Program readings.Memory) = memory_line
+line_of (Typing (typings.IllTyped spot rule)) = type_line rule spot
+line_of (Typing (typings.Limit which spot count)) = limit_line (type_limit_name which) count
+line_of (Typing typings.Memory) = memory_line
+line_of (Script (scripts.Syntax number)) = line_of_texts (codes "lift: script: line " ∷ decimal number ∷ [])
+line_of (Script (scripts.Limit which count)) = limit_line (codes "steps") count
+line_of (Script scripts.Memory) = memory_line
+line_of (Step (stops.Inapplicable step why)) = step_line step why
+line_of (Step (stops.Limit which step count)) = limit_line (step_limit_name which) count
+line_of (Step stops.Memory) = memory_line
+line_of (Nest (nests.Undecided place)) = line_of_texts (codes "lift: nest: N1 at " ∷ place_text place ∷ [])
+line_of (Nest nests.Unprinted) = line_of_texts (codes "lift: nest: N0 at ." ∷ [])
+line_of Memory = memory_line

@@ -1,0 +1,74 @@
+//! The names of limits and rules, as they are written.
+ghost use Rattle.std.specs.Prelude.{◌≡◌};
+ghost use Rattle.rewriting.specs.Conditions.{condition_name};
+ghost use Rattle.fault_lines.specs.Names.{
+  quantity_name,
+  rule_name,
+  step_limit_name,
+  type_limit_name,
+};
+
+use lift_reader::refusal::Quantity;
+use pattern_types::{Rule, TypeLimit};
+use rewriting::Condition;
+use strategy_script::StepLimit;
+
+pub fn quantity_name(which: Quantity) -> &'static [u8]
+    ensures { result.now ≡ quantity_name which }
+{
+    match which {
+        Quantity::Sizes => b"sizes".as_slice(),
+        Quantity::Inputs => b"inputs".as_slice(),
+        Quantity::Nodes => b"nodes".as_slice(),
+    }
+}
+
+pub fn type_limit_name(which: TypeLimit) -> &'static [u8]
+    ensures { result.now ≡ type_limit_name which }
+{
+    match which {
+        TypeLimit::Arrays => b"arrays".as_slice(),
+        TypeLimit::Components => b"components".as_slice(),
+        TypeLimit::Terms => b"terms".as_slice(),
+        TypeLimit::Degree => b"degree".as_slice(),
+        TypeLimit::Coefficient => b"coefficient".as_slice(),
+        TypeLimit::Scalars => b"scalars".as_slice(),
+    }
+}
+
+pub fn condition_name(condition: Condition) -> &'static [u8]
+    ensures { result.now ≡ condition_name condition }
+{
+    condition.name().as_bytes()
+}
+
+pub fn step_limit_name(which: StepLimit) -> &'static [u8]
+    ensures { result.now ≡ step_limit_name which }
+{
+    match which {
+        StepLimit::Nodes => b"nodes".as_slice(),
+        StepLimit::Depth => b"depth".as_slice(),
+        StepLimit::Types(which) => type_limit_name(which),
+    }
+}
+
+pub fn rule_name(rule: Rule) -> &'static [u8]
+    ensures { result.now ≡ rule_name rule }
+{
+    match rule {
+        Rule::Operator => b"operator".as_slice(),
+        Rule::Pair => b"pair".as_slice(),
+        Rule::Project => b"project".as_slice(),
+        Rule::Map => b"map".as_slice(),
+        Rule::Reduce => b"reduce".as_slice(),
+        Rule::Fold => b"fold".as_slice(),
+        Rule::Zip => b"zip".as_slice(),
+        Rule::Split => b"split".as_slice(),
+        Rule::Join => b"join".as_slice(),
+        Rule::Transpose => b"transpose".as_slice(),
+        Rule::Slide => b"slide".as_slice(),
+        Rule::Pad => b"pad".as_slice(),
+        Rule::Output => b"output".as_slice(),
+        Rule::Length => b"length".as_slice(),
+    }
+}

@@ -1,0 +1,304 @@
+// Launch files of programs, and the lines that tell of them.
+
+ghost use Rattle.std.specs.Prelude.{IfSome};
+ghost use Rattle.lift_tree.specs.Limits.{HasProperInputs};
+ghost use Rattle.lift_tree.specs.Programs.{program_of};
+
+use kernel_tree::launches::Schedule;
+use launch_file::file::{Ask, LaunchFile, read_launch};
+use launch_file::line::{Detail, Line};
+use launch_file::result::result_text;
+use lift_reader::program::read_program;
+use lift_tree::program::Program;
+use lift_tree::typed::Typed;
+use lift_tree::value::Val;
+use pattern_types::type_of;
+use std::alloc::{AllocError, Global};
+use std::test::Fail;
+
+const TASK: Ask = Ask::Run { task: true };
+
+const GROUPS: Ask = Ask::Run { task: false };
+
+const NUMBERS: &str = "size N from 1 to 1000; input xs: [u32; N]; output xs";
+
+const TABLES: &str =
+    "size N multiple 2 from 2 to 8; size M from 1 to 3; input xs: [u32; N]; input ps: [[(u32, u32); 2]; N - 1]; output xs";
+
+fn typed(alloc: Global, text: &str) -> Option<Typed>
+    ensures { IfSome result (λ t. HasProperInputs (program_of t.program)) }
+{
+    let Ok(program) = read_program(alloc, text.as_bytes()) else {
+        return None;
+    };
+    let Ok(body) = program.body.copy(alloc) else {
+        return None;
+    };
+    type_of(alloc, program, body).ok()
+}
+
+fn push_detail(alloc: Global, text: &mut Vec<u8>, detail: Detail<'_>) -> Result<(), AllocError> {
+    match detail {
+        Detail::Nothing => Ok(()),
+        Detail::Name(name) => text.extend_from_slice(name),
+        Detail::Number(number) => {
+            text.extend_from_slice(format!(in alloc; "{number}")?.as_str().as_bytes())
+        }
+    }
+}
+
+fn line_bytes(alloc: Global, line: &Line<'_>) -> Result<Vec<u8>, AllocError> {
+    let mut text = Vec::from_slice(alloc, line.head)?;
+    push_detail(alloc, &mut text, line.first)?;
+    text.extend_from_slice(line.between)?;
+    push_detail(alloc, &mut text, line.second)?;
+    Ok(text)
+}
+
+fn schedule_text(alloc: Global, schedule: &Schedule) -> Result<String, AllocError> {
+    match schedule {
+        Schedule::Numbers(numbers) => format!(in alloc; "{numbers:?}"),
+        Schedule::Seed(seed) => format!(in alloc; "seed {seed}"),
+    }
+}
+
+fn head_text(alloc: Global, file: &LaunchFile) -> Result<String, AllocError> {
+    let global = file.launch.global;
+    let local = file.launch.local;
+    let sizes = file.launch.sizes.as_slice();
+    let bases = file.sizes.as_slice();
+    let schedule = schedule_text(alloc, &file.schedule)?;
+    format!(in alloc; "{global} {local} {sizes:?} {bases:?} {schedule} ")
+}
+
+// What a launch file gives, the inputs as result lines.
+fn file_bytes(alloc: Global, file: &LaunchFile) -> Result<Vec<u8>, AllocError> {
+    let mut text = Vec::from_slice(alloc, head_text(alloc, file)?.as_str().as_bytes())?;
+    for input in &file.inputs {
+        text.extend_from_slice(&result_text(alloc, input, None)?)?;
+    }
+    Ok(text)
+}
+
+// What a launch text gives for the program, or the line that refuses it.
+fn answer(alloc: Global, program: &Program, ask: Ask, text: &str) -> Result<Vec<u8>, AllocError>
+    requires { HasProperInputs (program_of program.now) }
+{
+    match read_launch(alloc, text.as_bytes(), program, ask) {
+        Ok(file) => file_bytes(alloc, &file),
+        Err(no) => line_bytes(alloc, &no.line(program)),
+    }
+}
+
+fn gives(alloc: Global, program: &str, ask: Ask, text: &str, wanted: &str) -> bool {
+    let Some(typed) = typed(alloc, program) else {
+        return false;
+    };
+    match answer(alloc, &typed.program, ask, text) {
+        Ok(given) => given.as_slice() == wanted.as_bytes(),
+        Err(_) => false,
+    }
+}
+
+const ANSWERS: &[(Ask, &str, &str)] = &[
+    (
+        TASK,
+        "{\"global\":1,\"local\":1,\"sizes\":{\"N\":3},\"inputs\":{\"xs\":[1,2,4294967295]}}",
+        "1 1 [3] [3] [] {\"value\":[1,2,4294967295]}\n",
+    ),
+    (
+        TASK,
+        "{\"global\":1,\"local\":1,\"sizes\":{\"N\":0},\"inputs\":{\"xs\":[]}}",
+        "lift: launch: size N is 0",
+    ),
+    (
+        TASK,
+        "{\"global\":1,\"local\":1,\"sizes\":{\"N\":1001},\"inputs\":{\"xs\":[1]}}",
+        "lift: launch: size N is 1001",
+    ),
+    (
+        TASK,
+        "{\"global\":2,\"local\":1,\"sizes\":{\"N\":1},\"inputs\":{\"xs\":[7]}}",
+        "lift: launch: global 2 for one item",
+    ),
+    (
+        GROUPS,
+        "{\"global\":6,\"local\":4,\"sizes\":{\"N\":5},\"inputs\":{\"xs\":[1,2,3,4,5]}}",
+        "lift: launch: global 6, local 4",
+    ),
+    (
+        TASK,
+        "{\"global\":1,\"local\":1,\"sizes\":{\"N\":3},\"inputs\":{\"xs\":[1,2]}}",
+        "lift: launch: shape xs",
+    ),
+    (
+        TASK,
+        "{\"global\":1,\"local\":1,\"sizes\":{\"N\":3},\"inputs\":{\"xs\":[1,4294967296,3]}}",
+        "lift: launch: shape xs",
+    ),
+    (
+        TASK,
+        "{\"global\":1,\"local\":1,\"sizes\":{\"N\":3},\"inputs\":{\"xs\":[1,2,3]}",
+        "lift: launch: not json",
+    ),
+    (
+        TASK,
+        "{\"global\":1,\"sizes\":{\"N\":3},\"inputs\":{\"xs\":[1,2,3]}}",
+        "lift: launch: missing local",
+    ),
+    (
+        Ask::Eval,
+        "{\"global\":-1,\"schedule\":7,\"sizes\":{\"N\":1},\"inputs\":{\"xs\":[7],\"ys\":8}}",
+        "1 1 [1] [1] [] {\"value\":[7]}\n",
+    ),
+    (
+        GROUPS,
+        "{\"global\":4,\"local\":2,\"schedule\":{\"seed\":7},\"sizes\":{\"N\":1},\"inputs\":{\"xs\":[7]}}",
+        "4 2 [1] [1] seed 7 {\"value\":[7]}\n",
+    ),
+    (
+        GROUPS,
+        "{\"global\":4,\"local\":2,\"schedule\":[3,2],\"sizes\":{\"N\":1},\"inputs\":{\"xs\":[7]}}",
+        "4 2 [1] [1] [3, 2] {\"value\":[7]}\n",
+    ),
+    (
+        GROUPS,
+        "{\"global\":512,\"local\":256,\"sizes\":{\"N\":1},\"inputs\":{\"xs\":[7]}}",
+        "512 256 [1] [1] [] {\"value\":[7]}\n",
+    ),
+];
+
+#[test]
+fn launch_files_are_read_or_refused(rt: HostRuntime) -> Result<(), Fail> {
+    for (ask, text, wanted) in ANSWERS {
+        assert!(rt; gives(rt.alloc(), NUMBERS, *ask, text, wanted));
+    }
+    Ok(())
+}
+
+// Each text fails at two checks, of which the first is told, or at one alone.
+const FIRST_FAILURES: &[(Ask, &str, &str)] = &[
+    (TASK, "[]", "lift: launch: not json"),
+    (
+        TASK,
+        "{\"global\":-1,\"local\":2.0}",
+        "lift: launch: missing global",
+    ),
+    (
+        TASK,
+        "{\"global\":2,\"local\":1e0,\"inputs\":[]}",
+        "lift: launch: missing local",
+    ),
+    (
+        TASK,
+        "{\"global\":2,\"local\":3,\"sizes\":[],\"inputs\":[]}",
+        "lift: launch: missing sizes",
+    ),
+    (
+        TASK,
+        "{\"global\":2,\"local\":3,\"sizes\":{},\"schedule\":7}",
+        "lift: launch: missing inputs",
+    ),
+    (
+        TASK,
+        "{\"global\":2,\"local\":3,\"sizes\":{},\"inputs\":{},\"schedule\":null}",
+        "lift: launch: missing schedule",
+    ),
+    (
+        TASK,
+        "{\"global\":2,\"local\":3,\"sizes\":{},\"inputs\":{},\"schedule\":[4294967296]}",
+        "lift: launch: missing schedule",
+    ),
+    (
+        TASK,
+        "{\"global\":2,\"local\":3,\"sizes\":{\"M\":0},\"inputs\":{},\"schedule\":{\"seed\":7}}",
+        "lift: launch: missing sizes.N",
+    ),
+    (
+        TASK,
+        "{\"global\":2,\"local\":3,\"sizes\":{\"N\":3},\"inputs\":{}}",
+        "lift: launch: size N is 3",
+    ),
+    (
+        TASK,
+        "{\"global\":2,\"local\":3,\"sizes\":{\"N\":4,\"M\":18446744073709551615},\"inputs\":{}}",
+        "lift: launch: size M is 18446744073709551615",
+    ),
+    (
+        TASK,
+        "{\"global\":514,\"local\":257,\"sizes\":{\"N\":4,\"M\":1},\"inputs\":{}}",
+        "lift: launch: global 514, local 257",
+    ),
+    (
+        GROUPS,
+        "{\"global\":65537,\"local\":1,\"sizes\":{\"N\":4,\"M\":1},\"inputs\":{}}",
+        "lift: launch: global 65537, local 1",
+    ),
+    (
+        TASK,
+        "{\"global\":4,\"local\":2,\"sizes\":{\"N\":4,\"M\":1},\"inputs\":{}}",
+        "lift: launch: global 4 for one item",
+    ),
+    (
+        GROUPS,
+        "{\"global\":4,\"local\":2,\"sizes\":{\"N\":4,\"M\":1},\"inputs\":{\"ps\":7}}",
+        "lift: launch: missing inputs.xs",
+    ),
+    (
+        Ask::Eval,
+        "{\"sizes\":{\"N\":2,\"M\":1},\"inputs\":{\"xs\":null}}",
+        "lift: launch: shape xs",
+    ),
+    (
+        Ask::Eval,
+        "{\"sizes\":{\"N\":2,\"M\":1},\"inputs\":{\"xs\":[1,2]}}",
+        "lift: launch: missing inputs.ps",
+    ),
+    (
+        Ask::Eval,
+        "{\"sizes\":{\"N\":2,\"M\":1},\"inputs\":{\"xs\":[1,2],\"ps\":[[[1,2],[3,4,5]]]}}",
+        "lift: launch: shape ps",
+    ),
+];
+
+#[test]
+fn the_first_check_that_fails_is_told(rt: HostRuntime) -> Result<(), Fail> {
+    for (ask, text, wanted) in FIRST_FAILURES {
+        assert!(rt; gives(rt.alloc(), TABLES, *ask, text, wanted));
+    }
+    Ok(())
+}
+
+#[test]
+fn tables_of_pairs_are_read(rt: HostRuntime) -> Result<(), Fail> {
+    let text =
+        "{\"sizes\":{\"N\":4,\"M\":3},\"inputs\":{\"xs\":[0,4,0,7],\"ps\":[[[1,2],[3,4]],[[5,6],[7,8]],[[9,0],[4294967295,1]]]}}";
+    let wanted =
+        "1 1 [4, 3] [2, 3] [] {\"value\":[0,4,0,7]}\n{\"value\":[[[1,2],[3,4]],[[5,6],[7,8]],[[9,0],[4294967295,1]]]}\n";
+    assert!(rt; gives(rt.alloc(), TABLES, Ask::Eval, text, wanted));
+    Ok(())
+}
+
+fn pair(alloc: Global, left: u32, right: u32) -> Result<Val, AllocError> {
+    let left = Box::new(alloc, Val::Number(left))?;
+    Ok(Val::Pair(left, Box::new(alloc, Val::Number(right))?))
+}
+
+fn is_written(
+    alloc: Global,
+    members: Vec<Val>,
+    counts: Option<(u64, u64)>,
+    wanted: &str,
+) -> Result<bool, AllocError> {
+    Ok(result_text(alloc, &Val::List(members), counts)?.as_slice() == wanted.as_bytes())
+}
+
+#[test]
+fn counts_stand_behind_the_value(rt: HostRuntime) -> Result<(), Fail> {
+    let alloc = rt.alloc();
+    let members = vec![in alloc; pair(alloc, 7, 12)?]?;
+    let line = "{\"value\":[[7,12]],\"events\":23,\"releases\":0}\n";
+    assert!(rt; is_written(alloc, members, Some((23, 0)), line)?);
+    assert!(rt; is_written(alloc, Vec::new(alloc), None, "{\"value\":[]}\n")?);
+    Ok(())
+}

@@ -1,0 +1,11 @@
+//! Tests of the readers, the types and the values of programs.
+#![tactic(auto)]
+
+#[cfg(test)]
+mod launch_files;
+#[cfg(test)]
+mod program_text;
+#[cfg(test)]
+mod types;
+#[cfg(test)]
+mod values;

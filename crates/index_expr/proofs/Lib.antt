@@ -1,0 +1,3 @@
+pub mod Words
+pub mod LengthValues
+pub mod Counts

@@ -1,0 +1,209 @@
+// The parameters of a kernel's text: what their forms give way to.
+
+ghost use Rattle.std.specs.Prelude.{◌≡◌, ◌+◌, ◌<◌, ◌^◌, true};
+ghost use Rattle.kernel_tree.specs.KernelText as text;
+ghost use Rattle.kernel_spelling.specs.Kinds.{kind_of};
+ghost use Rattle.kernel_spelling.specs.Rows.{row, head_row, is_next, new_input_row, new_output_row, new_size_row, new_variable_row};
+ghost use Rattle.kernel_reader.specs.Views.{Gave, part_of};
+ghost use Rattle.kernel_reader.specs.Noted.{notes_of};
+
+use crate::form::{
+    CLOSE, COMMA, CONST, Debts, Form, GLOBAL, LINE, Mark, SEMICOLON, SPACE, STAR, UINT,
+};
+use crate::made::Made;
+use kernel_spelling::Kind;
+use readings::{Owed, give};
+use std::alloc::AllocError;
+
+/// Whether a new name has the next number.
+fn is_next(k: u32, count: u32) -> bool
+    ensures is { result ≡ is_next k count }
+    ensures fits { result ≡ true → count + 1 < 2 ^ 32 }
+{
+    k == count && count < u32::MAX
+}
+
+impl<'a> Made<'a> {
+    fn give_input(&self, piece: &'a [u8], owed: &mut Debts<'a>) -> Result<bool, AllocError>
+        ensures { let n = notes_of self.now in
+            let p = piece.entry.now in
+            Gave result owed.old.items owed.new.items (new_input_row n (kind_of p)) }
+    {
+        match Kind::of(piece) {
+            Kind::Input(k) => {
+                if !is_next(k, self.inputs) {
+                    return Ok(false);
+                }
+                let declared = Owed::Mark(Mark::DeclareInput(self.inputs + 1));
+                let comma = Owed::Token(COMMA);
+                give(owed, &[declared, comma, SPACE, Owed::Form(Form::Parameter)])
+            }
+            _ => Ok(false),
+        }
+    }
+
+    fn give_output(&self, piece: &'a [u8], owed: &mut Debts<'a>) -> Result<bool, AllocError>
+        ensures { let n = notes_of self.now in
+            let p = piece.entry.now in
+            Gave result owed.old.items owed.new.items (new_output_row n (kind_of p)) }
+    {
+        match Kind::of(piece) {
+            Kind::Output(k) => {
+                if !is_next(k, self.outputs) {
+                    return Ok(false);
+                }
+                let declared = Owed::Mark(Mark::DeclareOutput(self.outputs + 1));
+                give(owed, &[declared, Owed::Form(Form::AfterOutput)])
+            }
+            _ => Ok(false),
+        }
+    }
+
+    fn give_size(&self, piece: &'a [u8], owed: &mut Debts<'a>) -> Result<bool, AllocError>
+        ensures { let n = notes_of self.now in
+            let p = piece.entry.now in
+            Gave result owed.old.items owed.new.items (new_size_row n (kind_of p)) }
+    {
+        match Kind::of(piece) {
+            Kind::Size(k) => {
+                if !is_next(k, self.sizes) {
+                    return Ok(false);
+                }
+                let declared = Owed::Mark(Mark::DeclareSize(self.sizes + 1));
+                give(owed, &[declared, Owed::Form(Form::AfterSize)])
+            }
+            _ => Ok(false),
+        }
+    }
+
+    pub fn give_variable(&self, piece: &'a [u8], owed: &mut Debts<'a>) -> Result<bool, AllocError>
+        ensures { let n = notes_of self.now in
+            let p = piece.entry.now in
+            Gave result owed.old.items owed.new.items (new_variable_row n (kind_of p)) }
+    {
+        match Kind::of(piece) {
+            Kind::Variable(k) => {
+                if !is_next(k, self.variables) {
+                    return Ok(false);
+                }
+                let declared = Owed::Mark(Mark::DeclareVariable(self.variables + 1));
+                let indent = Owed::Form(Form::Indent(1));
+                give(
+                    owed,
+                    &[declared, SEMICOLON, LINE, indent, Owed::Form(Form::Body)],
+                )
+            }
+            _ => Ok(false),
+        }
+    }
+
+    fn give_parameter(&self, piece: &'a [u8], owed: &mut Debts<'a>) -> Result<bool, AllocError>
+        ensures { let n = notes_of self.now in
+            let p = piece.entry.now in
+            Gave result owed.old.items owed.new.items (row n text.Parameter p) }
+    {
+        if piece == GLOBAL {
+            return give(owed, &[SPACE, Owed::Form(Form::Pointer)]);
+        }
+        Ok(false)
+    }
+
+    fn give_pointer(&self, piece: &'a [u8], owed: &mut Debts<'a>) -> Result<bool, AllocError>
+        ensures { let n = notes_of self.now in
+            let p = piece.entry.now in
+            Gave result owed.old.items owed.new.items (row n text.Pointer p) }
+    {
+        if piece == CONST {
+            let uint = Owed::Token(UINT);
+            return give(
+                owed,
+                &[SPACE, uint, SPACE, STAR, Owed::Form(Form::NewInput)],
+            );
+        }
+        if piece == UINT {
+            return give(owed, &[SPACE, STAR, Owed::Form(Form::NewOutput)]);
+        }
+        Ok(false)
+    }
+
+    fn give_after_output(&self, piece: &'a [u8], owed: &mut Debts<'a>) -> Result<bool, AllocError>
+        ensures { let n = notes_of self.now in
+            let p = piece.entry.now in
+            Gave result owed.old.items owed.new.items (row n text.AfterOutput p) }
+    {
+        if piece == CLOSE {
+            return Ok(true);
+        }
+        if piece == COMMA {
+            return give(owed, &[SPACE, Owed::Form(Form::OutputOrSize)]);
+        }
+        Ok(false)
+    }
+
+    fn give_output_or_size(&self, piece: &'a [u8], owed: &mut Debts<'a>) -> Result<bool, AllocError>
+        ensures { let n = notes_of self.now in
+            let p = piece.entry.now in
+            Gave result owed.old.items owed.new.items (row n text.OutputOrSize p) }
+    {
+        let uint = Owed::Token(UINT);
+        if piece == GLOBAL {
+            return give(
+                owed,
+                &[SPACE, uint, SPACE, STAR, Owed::Form(Form::NewOutput)],
+            );
+        }
+        if piece == CONST {
+            return give(owed, &[SPACE, uint, SPACE, Owed::Form(Form::NewSize)]);
+        }
+        Ok(false)
+    }
+
+    fn give_after_size(&self, piece: &'a [u8], owed: &mut Debts<'a>) -> Result<bool, AllocError>
+        ensures { let n = notes_of self.now in
+            let p = piece.entry.now in
+            Gave result owed.old.items owed.new.items (row n text.AfterSize p) }
+    {
+        if piece == CLOSE {
+            return Ok(true);
+        }
+        if piece == COMMA {
+            let size = Owed::Form(Form::NewSize);
+            return give(
+                owed,
+                &[
+                    SPACE,
+                    Owed::Token(CONST),
+                    SPACE,
+                    Owed::Token(UINT),
+                    SPACE,
+                    size,
+                ],
+            );
+        }
+        Ok(false)
+    }
+
+    /// The alternatives of the forms before the body.
+    pub fn give_head(
+        &self,
+        form: Form,
+        piece: &'a [u8],
+        owed: &mut Debts<'a>,
+    ) -> Result<bool, AllocError>
+        ensures { let n = notes_of self.now in
+            let p = piece.entry.now in
+            Gave result owed.old.items owed.new.items (head_row n (part_of form) p) }
+    {
+        match form {
+            Form::Parameter => self.give_parameter(piece, owed),
+            Form::Pointer => self.give_pointer(piece, owed),
+            Form::NewInput => self.give_input(piece, owed),
+            Form::NewOutput => self.give_output(piece, owed),
+            Form::AfterOutput => self.give_after_output(piece, owed),
+            Form::OutputOrSize => self.give_output_or_size(piece, owed),
+            Form::NewSize => self.give_size(piece, owed),
+            Form::AfterSize => self.give_after_size(piece, owed),
+            _ => Ok(false),
+        }
+    }
+}

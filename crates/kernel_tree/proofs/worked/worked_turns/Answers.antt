@@ -1,0 +1,14 @@
+use Rattle.kernel_tree.proofs.WorkedKernels as worked
+use Rattle.kernel_tree.proofs.worked.worked_turns.Goals as goal
+
+pub returns-clause-first_variable : goal.returns-clause-first_variable
+returns-clause-first_variable c = worked.first_variable
+
+pub returns-clause-second_variable : goal.returns-clause-second_variable
+returns-clause-second_variable c = worked.second_variable
+
+pub returns-clause-same_turns : goal.returns-clause-same_turns
+returns-clause-same_turns c = worked.same_turns
+
+pub returns-clause-other_turns : goal.returns-clause-other_turns
+returns-clause-other_turns c = worked.other_turns

@@ -1,0 +1,196 @@
+// Alternatives of terms.
+
+ghost use Rattle.std.specs.Prelude.{◌≡◌, ◌<◌, Some};
+ghost use Rattle.readings.specs.Given.{Gave};
+ghost use Rattle.lift_reader.specs.Forms.{items};
+ghost use Rattle.lift_reader.specs.Grammar.{behind_fold, behind_let, behind_map};
+ghost use Rattle.lift_reader.specs.Rows.{compound, operator_row, special, split_row};
+ghost use Rattle.lift_reader.specs.Shown.{lexeme};
+
+use crate::alternatives::{BACKSLASH, CLOSE, COMMA, DOT, EQUALS, OPEN, UNBIND, give};
+use crate::grammar::{
+    Action, Debts, Division, Double, Nonterminal, Triple, Window, binary_of, reducer_of, unary_of,
+};
+use crate::token::Kind;
+use crate::word::Word;
+use readings::Owed;
+use std::alloc::AllocError;
+
+/// What follows the name that a `let` binds.
+pub fn give_let<'a>(depth: u32, name: &'a [u8], owed: &mut Debts<'a>) -> Result<bool, AllocError>
+    ensures { Gave items result owed.old.items owed.new.items (Some (behind_let depth name.now)) }
+{
+    let below = Owed::Form(Nonterminal::Term(depth));
+    let word = Owed::Token(Kind::Word(Word::In));
+    let bind = Owed::Mark(Action::Bind(name));
+    let made = Owed::Mark(Action::Make2(Double::Let));
+    give(owed, &[EQUALS, below, word, bind, below, UNBIND, made])
+}
+
+/// What follows the name that a `map` binds.
+pub fn give_map<'a>(depth: u32, name: &'a [u8], owed: &mut Debts<'a>) -> Result<bool, AllocError>
+    ensures { Gave items result owed.old.items owed.new.items (Some (behind_map depth name.now)) }
+{
+    let below = Owed::Form(Nonterminal::Term(depth));
+    let bind = Owed::Mark(Action::Bind(name));
+    let made = Owed::Mark(Action::Make2(Double::Map));
+    give(owed, &[DOT, bind, below, UNBIND, COMMA, below, CLOSE, made])
+}
+
+/// What follows the two names that a `fold` binds.
+pub fn give_fold<'a>(
+    depth: u32,
+    first: &'a [u8],
+    second: &'a [u8],
+    owed: &mut Debts<'a>,
+) -> Result<bool, AllocError>
+    ensures { Gave items result owed.old.items owed.new.items
+        (Some (behind_fold depth first.now second.now)) }
+{
+    let below = Owed::Form(Nonterminal::Term(depth));
+    let outer = Owed::Mark(Action::Bind(first));
+    let inner = Owed::Mark(Action::Bind(second));
+    let made = Owed::Mark(Action::Make3(Triple::Fold));
+    give(
+        owed,
+        &[
+            DOT, outer, inner, below, UNBIND, UNBIND, COMMA, below, COMMA, below, CLOSE, made,
+        ],
+    )
+}
+
+pub fn give_split_rest<'a>(
+    depth: u32,
+    token: Kind<'a>,
+    owed: &mut Debts<'a>,
+) -> Result<bool, AllocError>
+    ensures { Gave items result owed.old.items owed.new.items
+        (split_row depth (lexeme token.entry)) }
+{
+    match token {
+        Kind::Symbol(symbol) => {
+            if symbol == b'*' {
+                let factor = Owed::Form(Nonterminal::LengthFactor(1));
+                give(owed, &[factor, Owed::Form(Nonterminal::SplitRest(depth))])
+            } else if symbol == b',' {
+                let array = Owed::Form(Nonterminal::Term(depth));
+                give(owed, &[array, CLOSE, Owed::Mark(Action::Split)])
+            } else {
+                Ok(false)
+            }
+        }
+        _ => Ok(false),
+    }
+}
+
+pub fn give_operator<'a>(
+    depth: u32,
+    token: Kind<'a>,
+    owed: &mut Debts<'a>,
+) -> Result<bool, AllocError>
+    ensures { Gave items result owed.old.items owed.new.items
+        (operator_row depth (lexeme token.entry)) }
+{
+    match token {
+        Kind::Word(word) => match reducer_of(word) {
+            Some(reducer) => {
+                let below = Owed::Form(Nonterminal::Term(depth));
+                let made = Owed::Mark(Action::Make2(Double::Reduce(reducer)));
+                give(owed, &[COMMA, below, COMMA, below, CLOSE, made])
+            }
+            None => Ok(false),
+        },
+        _ => Ok(false),
+    }
+}
+
+fn give_select(depth: u32, owed: &mut Debts<'_>) -> Result<bool, AllocError>
+    requires { depth < 256 }
+    ensures { Gave items result owed.old.items owed.new.items (special depth Word.Select) }
+{
+    let below = Owed::Form(Nonterminal::Term(depth + 1));
+    let made = Owed::Mark(Action::Make3(Triple::Select));
+    give(
+        owed,
+        &[OPEN, below, COMMA, below, COMMA, below, CLOSE, made],
+    )
+}
+
+fn give_split(depth: u32, owed: &mut Debts<'_>) -> Result<bool, AllocError>
+    requires { depth < 256 }
+    ensures { Gave items result owed.old.items owed.new.items (special depth Word.Split) }
+{
+    let product = Owed::Mark(Action::BeginProduct);
+    let factor = Owed::Form(Nonterminal::LengthFactor(1));
+    let rest = Owed::Form(Nonterminal::SplitRest(depth + 1));
+    give(owed, &[OPEN, product, factor, rest])
+}
+
+/// What follows a word that no term like another begins with.
+fn give_special(depth: u32, word: Word, owed: &mut Debts<'_>) -> Result<bool, AllocError>
+    requires { depth < 256 }
+    ensures { Gave items result owed.old.items owed.new.items (special depth word) }
+{
+    let below = depth + 1;
+    let term = Owed::Form(Nonterminal::Term(below));
+    match word {
+        Word::Div => give(
+            owed,
+            &[
+                OPEN,
+                term,
+                COMMA,
+                Owed::Form(Nonterminal::Divisor(Division::Div)),
+            ],
+        ),
+        Word::Rem => give(
+            owed,
+            &[
+                OPEN,
+                term,
+                COMMA,
+                Owed::Form(Nonterminal::Divisor(Division::Rem)),
+            ],
+        ),
+        Word::Select => give_select(depth, owed),
+        Word::Let => give(owed, &[Owed::Form(Nonterminal::LetName(below))]),
+        Word::Map => give(
+            owed,
+            &[OPEN, BACKSLASH, Owed::Form(Nonterminal::MapName(below))],
+        ),
+        Word::Reduce => give(
+            owed,
+            &[OPEN, Owed::Form(Nonterminal::ReduceOperator(below))],
+        ),
+        Word::Fold => give(
+            owed,
+            &[OPEN, BACKSLASH, Owed::Form(Nonterminal::FoldName(below))],
+        ),
+        Word::Split => give_split(depth, owed),
+        Word::Slide => give(
+            owed,
+            &[OPEN, Owed::Form(Nonterminal::First(Window::Slide, below))],
+        ),
+        Word::Pad => give(
+            owed,
+            &[OPEN, Owed::Form(Nonterminal::First(Window::Pad, below))],
+        ),
+        _ => Ok(false),
+    }
+}
+
+/// What follows a word that begins a term.
+pub fn give_compound(depth: u32, word: Word, owed: &mut Debts<'_>) -> Result<bool, AllocError>
+    requires { depth < 256 }
+    ensures { Gave items result owed.old.items owed.new.items (compound depth word) }
+{
+    let below = Owed::Form(Nonterminal::Term(depth + 1));
+    if let Some(form) = binary_of(word) {
+        let made = Owed::Mark(Action::Make2(Double::Binary(form)));
+        return give(owed, &[OPEN, below, COMMA, below, CLOSE, made]);
+    }
+    if let Some(form) = unary_of(word) {
+        return give(owed, &[OPEN, below, CLOSE, Owed::Mark(Action::Make1(form))]);
+    }
+    give_special(depth, word, owed)
+}

@@ -1,0 +1,231 @@
+-- Why calls end as they do: each cause excludes the others, and what is well formed.
+use Rattle.std.proofs.Common.{◌≡◌, ◌≢◌, ◌⊎◌, ◌∙◌, ◌<◌, ◌≤◌, ℕ, List, [], ◌∷◌, ap, ap₂, sym, subst, length, inl, inr, refl, arith, Option, Some}
+use Rattle.std.specs.Prelude.{IfSome}
+use Rattle.std.proofs.lemmas.Option.{same_Some}
+use Rattle.command_line.specs.Requests.{Asks, CommandLine, IsTaken, compile, eval, run, steps}
+use Rattle.lift_tree.specs.Programs.{PlainProgram}
+use Rattle.lift_reader.specs.declared.refusal.ReadRefusal.TheVariants as readings
+use Rattle.pattern_types.specs.declared.refusal.TypeRefusal.TheVariants as typings
+use Rattle.strategy_script.specs.declared.faults.StepNo.TheVariants as stops
+use Rattle.strategy_script.specs.declared.script.ScriptNo.TheVariants as scripts
+use Rattle.launch_file.specs.declared.refusal.LaunchNo.{LaunchNo}
+use Rattle.launch_file.specs.declared.refusal.LaunchNo.TheVariants as no
+use Rattle.fault_lines.specs.Failure.{Failure, Launch, Read, Source, TooLong, launch_status, line_of, status_of}
+use Rattle.fault_lines.specs.Refusal as sources
+use Rattle.fault_lines.specs.declared.refusal.Refusal.{Refusal}
+use Rattle.fault_lines.specs.declared.refusal.Refusal.TheVariants as told_of
+use Rattle.compilation.specs.Started.{StagesEndOnce}
+use Rattle.lift_tool.specs.Files.{AllTold, AreTexts, File, HasText, IsUnread, NoneRose, StopsAtFile, Told}
+use Rattle.lift_tool.specs.Outcome.{Answers, IsAccepted, OnTexts, StopsAtText, StopsFor, WordsCause}
+use Rattle.lift_tool.specs.Request.{files_of}
+
+-- ---- texts
+
+texts_cause : StagesEndOnce → (request : CommandLine) (texts : List (List ℕ)) (f g : Failure) → StopsAtText request texts f → StopsAtText request texts g → f ≡ g
+texts_cause law (compile p s) texts f g h k = (law.kernel _ _).cause f g h k
+texts_cause law (run p s l) texts f g h k = (law.run _ _ _).cause f g h k
+texts_cause law (steps p s) texts f g h k = (law.steps _ _).cause f g h k
+texts_cause law (eval p l) texts f g h k = (law.value _ _).cause f g h k
+
+texts_accepted : StagesEndOnce → (request : CommandLine) (texts : List (List ℕ)) (f : Failure) → IsAccepted request texts → StopsAtText request texts f → ⊥
+texts_accepted law (compile p s) texts f ok h = (law.kernel _ _).none f ok h
+texts_accepted law (run p s l) texts f ok h = (law.run _ _ _).none f ok h
+texts_accepted law (steps p s) texts f ok h = (law.steps _ _).none f ok h
+texts_accepted law (eval p l) texts f ok h = (law.value _ _).none f ok h
+
+-- what was written was accepted
+answer_accepted : (request : CommandLine) (texts : List (List ℕ)) (text : List ℕ) → Answers request texts text → IsAccepted request texts
+answer_accepted (compile p s) texts text h = let c = h.compiled in (h.source, c.read.is, c.read.within, (_, c.form))
+answer_accepted (run p s l) texts text h = let c = h.compiled in (h.source, c.read.is, c.read.within, (h.given, (_, c.form, h.launch_file)))
+answer_accepted (steps p s) texts text h = (h.source, h.read.is, h.read.within, (h.terms, h.made))
+answer_accepted (eval p l) texts text h = (h.source, h.read.is, h.read.within, (h.given, h.started))
+
+-- ---- files
+
+is_text : (o : Option (List ℕ)) (text t : List ℕ) → o ≡ Some t → IfSome o (λ u. text ≡ u) → text ≡ t
+is_text o text t is h = subst (λ w. IfSome w (λ u. text ≡ u)) is h
+
+is_long : (o : Option (List ℕ)) (limit : ℕ) (t : List ℕ) → o ≡ Some t → IfSome o (λ u. limit < length u) → limit < length t
+is_long o limit t is h = subst (λ w. IfSome w (λ u. limit < length u)) is h
+
+file_read : (told : Told) (rose : List ℕ → Type 0) (file : File) (text t : List ℕ) (f : Failure) → told file.0 ≡ Some t → ¬ rose file.0 → HasText told file text → IsUnread told rose file f → ⊥
+file_read told rose file text t (Read name) is well has h = well h.1
+file_read told rose file text t (TooLong count) is well has h =
+    let same = ap length (is_text (told file.0) text t is has.0) in let long = is_long (told file.0) file.1 t is h.1 in let fits = has.1 in omega (arith, same, long, fits)
+file_read told rose file text t _ is well has h = h
+
+file_cause : (told : Told) (rose : List ℕ → Type 0) (file : File) (f g : Failure) → ¬ rose file.0 → IsUnread told rose file f → IsUnread told rose file g → f ≡ g
+file_cause told rose file (Read n) g well h k = absurd (well h.1)
+file_cause told rose file (TooLong a) (Read n) well h k = absurd (well k.1)
+file_cause told rose file (TooLong a) (TooLong b) well h k = ap TooLong (h.0 ∙ sym k.0)
+file_cause told rose file (TooLong a) _ well h k = absurd k
+file_cause told rose file _ g well h k = absurd h
+
+files_cause : (told : Told) (rose : List ℕ → Type 0) (files : List File) (f g : Failure) → AllTold told files → NoneRose rose files → StopsAtFile told rose files f → StopsAtFile told rose files g → f ≡ g
+files_cause told rose [] f g is well h k = absurd h
+files_cause told rose (file ∷ files) f g is well (inl h) (inl k) = file_cause told rose file f g well.0 h k
+files_cause told rose (file ∷ files) f g is well (inl h) (inr k) = absurd (file_read told rose file k.0 is.0.0 f is.0.1 well.0 k.1 h)
+files_cause told rose (file ∷ files) f g is well (inr h) (inl k) = absurd (file_read told rose file h.0 is.0.0 g is.0.1 well.0 h.1 k)
+files_cause told rose (file ∷ files) f g is well (inr h) (inr k) = files_cause told rose files f g is.1 well.1 h.2 k.2
+
+files_read : (told : Told) (rose : List ℕ → Type 0) (files : List File) (texts : List (List ℕ)) (f : Failure) → AllTold told files → NoneRose rose files → AreTexts told files texts → StopsAtFile told rose files f → ⊥
+files_read told rose [] texts f is well are h = h
+files_read told rose (file ∷ files) [] f is well are h = are
+files_read told rose (file ∷ files) (text ∷ texts) f is well are (inl h) = file_read told rose file text is.0.0 f is.0.1 well.0 are.0 h
+files_read told rose (file ∷ files) (text ∷ texts) f is well are (inr h) = files_read told rose files texts f is.1 well.1 are.1 h.2
+
+-- told files have one list of texts
+same_texts : (told : Told) (files : List File) (texts others : List (List ℕ)) → AllTold told files → AreTexts told files texts → AreTexts told files others → others ≡ texts
+same_texts told [] [] [] is are too = refl
+same_texts told [] (t ∷ ts) others is are too = absurd are
+same_texts told [] [] (u ∷ us) is are too = absurd too
+same_texts told (file ∷ files) [] others is are too = absurd are
+same_texts told (file ∷ files) (t ∷ ts) [] is are too = absurd too
+same_texts told (file ∷ files) (t ∷ ts) (u ∷ us) is are too =
+    ap₂ (λ x xs. x ∷ xs) (is_text (told file.0) u is.0.0 is.0.1 too.0.0 ∙ sym (is_text (told file.0) t is.0.0 is.0.1 are.0.0)) (same_texts told files ts us is.1 are.1 too.1)
+
+-- ---- requests
+
+request_cause : StagesEndOnce → (told : Told) (rose : List ℕ → Type 0) (request : CommandLine) (f g : Failure) → AllTold told (files_of request) → NoneRose rose (files_of request)
+    → StopsFor told rose request f → StopsFor told rose request g → f ≡ g
+request_cause law told rose request f g is well (inl h) (inl k) = files_cause told rose (files_of request) f g is well h k
+request_cause law told rose request f g is well (inl h) (inr (texts, are, k)) = absurd (files_read told rose (files_of request) texts f is well are h)
+request_cause law told rose request f g is well (inr (texts, are, h)) (inl k) = absurd (files_read told rose (files_of request) texts g is well are k)
+request_cause law told rose request f g is well (inr (texts, are, h)) (inr (others, too, k)) =
+    texts_cause law request texts f g h (subst (λ us. StopsAtText request us g) (same_texts told (files_of request) texts others is are too) k)
+
+request_accepted : StagesEndOnce → (told : Told) (rose : List ℕ → Type 0) (request : CommandLine) (texts : List (List ℕ)) (f : Failure) → AllTold told (files_of request) → NoneRose rose (files_of request)
+    → AreTexts told (files_of request) texts → IsAccepted request texts → StopsFor told rose request f → ⊥
+request_accepted law told rose request texts f is well are ok (inl h) = files_read told rose (files_of request) texts f is well are h
+request_accepted law told rose request texts f is well are ok (inr (others, too, h)) =
+    texts_accepted law request texts f ok (subst (λ us. StopsAtText request us f) (same_texts told (files_of request) texts others is are too) h)
+
+-- ---- words
+
+-- the words ask for one request
+pub one_request : (words : List (List ℕ)) (request other : CommandLine) → Asks words request → Asks words other → other ≡ request
+one_request words request other asks too = same_Some _ _ (sym too.says ∙ asks.says)
+
+-- why words that ask for a request have no result is why the request has none
+cause_of : (told : Told) (rose : List ℕ → Type 0) (words : List (List ℕ)) (request : CommandLine) (f : Failure) → Asks words request → WordsCause told rose words f
+    → (status_of f ≡ 13) ⊎ StopsFor told rose request f
+cause_of told rose words request f asks (inl memory) = inl memory
+cause_of told rose words request f asks (inr (inl (is, none))) = absurd (none asks.taken)
+cause_of told rose words request f asks (inr (inr (other, too, h))) = inr (subst (λ q. StopsFor told rose q f) (one_request words request other asks too) h)
+
+-- words that the command refuses have their status, or that of want of memory
+pub words_refused : (told : Told) (rose : List ℕ → Type 0) (words : List (List ℕ)) (f : Failure) → WordsCause told rose words f → ¬ IsTaken words → (status_of f ≡ 2) ⊎ (status_of f ≡ 13)
+words_refused told rose words f (inl memory) refused = inr memory
+words_refused told rose words f (inr (inl (is, none))) refused = inl (ap status_of is)
+words_refused told rose words f (inr (inr (request, asks, h))) refused = absurd (refused asks.taken)
+
+-- the causes of a program, a script and a launch file have statuses of their own
+source_status : (r : Refusal) → 6 ≤ sources.status_of r
+source_status (told_of.Program (readings.Syntax token offset)) = omega arith
+source_status (told_of.Program (readings.Limit which count)) = omega arith
+source_status (told_of.Program readings.Memory) = omega arith
+source_status (told_of.Typing (typings.IllTyped spot rule)) = omega arith
+source_status (told_of.Typing (typings.Limit which spot count)) = omega arith
+source_status (told_of.Typing typings.Memory) = omega arith
+source_status (told_of.Script (scripts.Syntax line)) = omega arith
+source_status (told_of.Script (scripts.Limit which count)) = omega arith
+source_status (told_of.Script scripts.Memory) = omega arith
+source_status (told_of.Step (stops.Inapplicable step why)) = omega arith
+source_status (told_of.Step (stops.Limit which step count)) = omega arith
+source_status (told_of.Step stops.Memory) = omega arith
+source_status (told_of.Nest why) = omega arith
+source_status told_of.Memory = omega arith
+
+launch_refused : (why : LaunchNo) → 6 ≤ launch_status why
+launch_refused no.NotJson = omega arith
+launch_refused (no.Missing key) = omega arith
+launch_refused (no.Size size given) = omega arith
+launch_refused (no.Local global local) = omega arith
+launch_refused (no.NotTask global) = omega arith
+launch_refused (no.Shape input) = omega arith
+launch_refused no.Memory = omega arith
+
+-- a failed read has the status 3, and the causes behind the reads have 6 and above
+abbrev IsOfRequest : Failure → Type 0
+IsOfRequest f = (status_of f ≡ 3) ⊎ (6 ≤ status_of f)
+
+source_is : (f : Failure) (r : Refusal) → f ≡ Source r → IsOfRequest f
+source_is f r e = inr (subst (λ (x : Failure). 6 ≤ status_of x) (sym e) (source_status r))
+
+launch_is : (f : Failure) (p : PlainProgram) (why : LaunchNo) → f ≡ Launch p why → IsOfRequest f
+launch_is f p why e = inr (subst (λ (x : Failure). 6 ≤ status_of x) (sym e) (launch_refused why))
+
+text_status : (request : CommandLine) (texts : List (List ℕ)) (f : Failure) → StopsAtText request texts f → IsOfRequest f
+text_status (compile p s) texts f (inl (why, h, e)) = source_is f _ e
+text_status (compile p s) texts f (inr (q, read, (why, h, e))) = source_is f why e
+text_status (steps p s) texts f (inl (why, h, e)) = source_is f _ e
+text_status (steps p s) texts f (inr (q, read, (why, h, e))) = source_is f why e
+text_status (run p s l) texts f (inl (why, h, e)) = source_is f _ e
+text_status (run p s l) texts f (inr (q, read, inl (why, h, e))) = source_is f why e
+text_status (run p s l) texts f (inr (q, read, inr (form, is, (why, h, e)))) = launch_is f q why e
+text_status (eval p l) texts f (inl (why, h, e)) = source_is f _ e
+text_status (eval p l) texts f (inr (q, read, inl (why, h, e))) = source_is f why e
+text_status (eval p l) texts f (inr (q, read, inr (types, is, (why, h, e)))) = launch_is f q why e
+
+unread_status : (told : Told) (rose : List ℕ → Type 0) (file : File) (f : Failure) → IsUnread told rose file f → IsOfRequest f
+unread_status told rose file (Read name) h = inl refl
+unread_status told rose file (TooLong count) h = inr (omega arith)
+unread_status told rose file _ h = absurd h
+
+file_status : (told : Told) (rose : List ℕ → Type 0) (files : List File) (f : Failure) → StopsAtFile told rose files f → IsOfRequest f
+file_status told rose [] f h = absurd h
+file_status told rose (file ∷ files) f (inl h) = unread_status told rose file f h
+file_status told rose (file ∷ files) f (inr h) = file_status told rose files f h.2
+
+words_status : (told : Told) (rose : List ℕ → Type 0) (words : List (List ℕ)) (f : Failure) → WordsCause told rose words f → (status_of f ≡ 2) ⊎ IsOfRequest f
+words_status told rose words f (inl memory) = inr (inr (omega (arith, memory)))
+words_status told rose words f (inr (inl (is, none))) = inl (ap status_of is)
+words_status told rose words f (inr (inr (request, asks, inl h))) = inr (file_status told rose (files_of request) f h)
+words_status told rose words f (inr (inr (request, asks, inr (texts, are, h)))) = inr (text_status request texts f h)
+
+not_2 : (n : ℕ) → (n ≡ 3) ⊎ (6 ≤ n) → n ≢ 2
+not_2 n (inl three) e = omega (arith, three, e)
+not_2 n (inr more) e = omega (arith, more, e)
+
+-- the status of words that the command takes isn't that of those that it refuses
+pub words_taken : (told : Told) (rose : List ℕ → Type 0) (words : List (List ℕ)) (f : Failure) → WordsCause told rose words f → IsTaken words → status_of f ≢ 2
+words_taken told rose words f (inl memory) taken e = omega (arith, memory, e)
+words_taken told rose words f (inr (inl (is, none))) taken e = none taken
+words_taken told rose words f (inr (inr (request, asks, inl h))) taken e = not_2 (status_of f) (file_status told rose (files_of request) f h) e
+words_taken told rose words f (inr (inr (request, asks, inr (texts, are, h)))) taken e = not_2 (status_of f) (text_status request texts f h) e
+
+not_done_or_written : (n : ℕ) → (n ≡ 2) ⊎ ((n ≡ 3) ⊎ (6 ≤ n)) → (n ≢ 0) × (n ≢ 4)
+not_done_or_written n (inl two) = (λ e. omega (arith, two, e), λ e. omega (arith, two, e))
+not_done_or_written n (inr (inl three)) = (λ e. omega (arith, three, e), λ e. omega (arith, three, e))
+not_done_or_written n (inr (inr more)) = (λ e. omega (arith, more, e), λ e. omega (arith, more, e))
+
+-- a call that fails before it writes has another status than one that is done, or one whose write failed
+pub words_fail_before : (told : Told) (rose : List ℕ → Type 0) (words : List (List ℕ)) (f : Failure) → WordsCause told rose words f → (status_of f ≢ 0) × (status_of f ≢ 4)
+words_fail_before told rose words f h = not_done_or_written (status_of f) (words_status told rose words f h)
+
+-- words for told files that are well formed are refused for want of memory alone
+pub words_stand : StagesEndOnce → (told : Told) (rose : List ℕ → Type 0) (words : List (List ℕ)) (request : CommandLine) (texts : List (List ℕ)) (f : Failure)
+    → Asks words request → AllTold told (files_of request) → AreTexts told (files_of request) texts → IsAccepted request texts → NoneRose rose (files_of request)
+    → WordsCause told rose words f → status_of f ≡ 13
+words_stand law told rose words request texts f asks is are ok well h = elim (cause_of told rose words request f asks h) as (λ _. status_of f ≡ 13) [
+  | inl memory ↦ memory
+  | inr stops ↦ absurd (request_accepted law told rose request texts f is well are ok stops)
+]
+
+-- where told files stop for a cause, the status and the line are that cause's
+pub words_cause : StagesEndOnce → (told : Told) (rose : List ℕ → Type 0) (words : List (List ℕ)) (request : CommandLine) (f g : Failure) (status : ℕ) (Line : List ℕ → Type 0)
+    → Asks words request → AllTold told (files_of request) → NoneRose rose (files_of request) → WordsCause told rose words f → StopsFor told rose request g
+    → status ≡ status_of f → Line (line_of f) → (status ≡ 13) ⊎ ((status ≡ status_of g) × Line (line_of g))
+words_cause law told rose words request f g status Line asks is well h k e line =
+    elim (cause_of told rose words request f asks h) as (λ _. (status ≡ 13) ⊎ ((status ≡ status_of g) × Line (line_of g))) [
+      | inl memory ↦ inl (e ∙ memory)
+      | inr stops ↦ (let same = request_cause law told rose request f g is well stops k in inr (e ∙ ap status_of same, subst (λ x. Line (line_of x)) same line))
+    ]
+
+-- words that were answered stop for no cause
+pub words_answered : StagesEndOnce → (told : Told) (rose : List ℕ → Type 0) (words : List (List ℕ)) (request : CommandLine) (text : List ℕ) (g : Failure)
+    → Asks words request → AllTold told (files_of request) → NoneRose rose (files_of request) → OnTexts told words (λ request texts. Answers request texts text) → StopsFor told rose request g → ⊥
+words_answered law told rose words request text g asks is well (other, too, (texts, are, h)) k =
+    let same = one_request words request other asks too in
+    let mine : AreTexts told (files_of request) texts × Answers request texts text = subst (λ q. AreTexts told (files_of q) texts × Answers q texts text) same (are, h) in
+    request_accepted law told rose request texts g is well mine.0 (answer_accepted request texts text mine.1) k

@@ -1,5 +1,0 @@
-use Rattle.std.proofs.Common.{length}
-use Rattle.lift_tool.proofs.lines.+write_dotted.Given as goal
-
-abbrev pub decreases-write_dotted : goal.decreases-write_dotted
-decreases-write_dotted g l = length l.numbers.now

@@ -1,0 +1,121 @@
+-- Which nests of maps, folds and copies can be printed: eleven rules, each broken at single nodes.
+use Rattle.std.specs.Prelude.{◌≡◌, ◌↔◌, ℕ, Bool, true, false, not, ◌&&◌, ◌||◌, List, [], ◌∷◌, ◌++◌, map, Option, Some, None, if◌then◌else◌}
+use Rattle.lift_tree.specs.Tree.{Tree, Variable, Number, Input, Unary, Binary, Select, Let, Map, Fold}
+use Rattle.lift_tree.specs.Types.{PlainTy}
+use Rattle.lift_tree.specs.Annotations.{Annotation, Leaf, One, Two, Three, type_in}
+use Rattle.lift_tree.specs.Lists.{Every}
+use Rattle.lowered_tree.specs.declared.around.Around.{Around}
+use Rattle.lowered_tree.specs.declared.rule.NestRule.{NestRule}
+use Rattle.lowered_tree.specs.declared.rule.NestRule.TheVariants.{N1, N2, N3, N4, N5, N6, N7, N8, N9, N10, N11}
+use Rattle.lowered_tree.specs.Elements.{is_element, hangs_on_sizes}
+use Rattle.lowered_tree.specs.Kinds.{is_global, is_over_groups, is_local, is_sequential, is_parallel}
+use Rattle.lowered_tree.specs.Forms.{is_map_of, is_undecided, is_lowered_map, is_lowered_fold, is_local_copy, is_private_copy, copies_local_map, is_let_of_element, is_let_of_array, is_read_alone, is_placed}
+use Rattle.lowered_tree.specs.Around.{at_root, operand, under_form, argument, let_body, map_body, fold_body}
+
+-- ---- nodes
+
+-- a node of a term: its place, what is around it, the term there, and the types of its nodes
+pub record Site : Type 0 where
+  pub place : List ℕ
+  pub around : Around
+  pub tree : Tree
+  pub types : Annotation
+
+-- the place of a site in its parent's parent
+abbrev pub in_child : ℕ → Site → Site
+in_child i x = record x { place = i ∷ x.place }
+
+abbrev pub under : ℕ → List Site → List Site
+under i = map (in_child i)
+
+-- a term's nodes in preorder
+abbrev pub sites : Around → Tree → Annotation → List Site
+sites s (Unary f t) (One a n) =
+    record { place = []; around = s; tree = Unary f t; types = One a n }
+    ∷ under 0 (sites (under_form s f a) t n)
+sites s (Binary f t u) (Two a n m) =
+    record { place = []; around = s; tree = Binary f t u; types = Two a n m }
+    ∷ (under 0 (sites (operand s a) t n) ++ under 1 (sites (operand s a) u m))
+sites s (Select t u v) (Three a n m k) =
+    record { place = []; around = s; tree = Select t u v; types = Three a n m k }
+    ∷ (under 0 (sites (operand s a) t n) ++ (under 1 (sites (operand s a) u m) ++ under 2 (sites (operand s a) v k)))
+sites s (Let v b) (Two a n m) =
+    record { place = []; around = s; tree = Let v b; types = Two a n m }
+    ∷ (under 0 (sites (argument s (is_element (type_in n)) a) v n) ++ under 1 (sites (let_body s (is_element (type_in n)) a) b m))
+sites s (Map h xs b) (Two a n m) =
+    record { place = []; around = s; tree = Map h xs b; types = Two a n m }
+    ∷ (under 0 (sites (argument s false a) xs n) ++ under 1 (sites (map_body s h a) b m))
+sites s (Fold h xs z b) (Three a n m k) =
+    record { place = []; around = s; tree = Fold h xs z b; types = Three a n m k }
+    ∷ (under 0 (sites (argument s false a) xs n) ++ (under 1 (sites (operand s a) z m) ++ under 2 (sites (fold_body s a) b k)))
+sites s t n = record { place = []; around = s; tree = t; types = n } ∷ []
+
+-- the node itself, without those below it
+abbrev pub site_at : Around → Tree → Annotation → Site
+site_at s t n = record { place = []; around = s; tree = t; types = n }
+
+abbrev pub root_site : Tree → Annotation → Site
+root_site t n = site_at (at_root t) t n
+
+-- ---- rules
+
+-- the rule is broken at a node t whose types are n, with this around it
+abbrev pub breaks : NestRule → Around → Tree → Annotation → Bool
+breaks N1 s t n = is_undecided t
+breaks N2 s t n = is_map_of is_local t && not s.is_next_to_group
+breaks N3 s t n = (is_map_of is_global t || is_map_of is_over_groups t) && s.in_parallel
+breaks N4 s t n =
+    (s.in_group && not s.in_local)
+    && (is_map_of is_sequential t || is_lowered_fold t || (s.is_written && is_element (type_in n)) || is_let_of_element t n)
+breaks N5 s t n = is_local_copy t && (not s.in_group || s.in_local || not (copies_local_map t))
+breaks N6 s t n = is_local_copy t && hangs_on_sizes (type_in n)
+breaks N7 s t n =
+    (s.in_argument && (is_lowered_map t || is_lowered_fold t || is_let_of_element t n))
+    || ((s.in_element || is_element (type_in n)) && is_let_of_array t n)
+breaks N8 s t n = is_private_copy t && (not s.in_item || hangs_on_sizes (type_in n))
+breaks N9 s t n = is_map_of is_parallel t && s.in_serial
+breaks N10 s t n = (s.is_written && not (is_element (type_in n))) && is_read_alone t
+breaks N11 s t n = (s.is_written && not (is_element (type_in n))) && is_placed t
+
+abbrev pub broken_at : NestRule → Site → Bool
+broken_at r x = breaks r x.around x.tree x.types
+
+-- ---- the legal nest
+
+-- no rule is broken at the node
+abbrev pub IsUnbroken : Site → Type 0
+IsUnbroken x = (r : NestRule) → broken_at r x ≡ false
+
+-- no rule is broken at any node
+abbrev pub IsLegalNest : Tree → Annotation → Type 0
+IsLegalNest t n = Every IsUnbroken (sites (at_root t) t n)
+
+-- ---- the first broken rule
+
+abbrev pub rules : List NestRule
+rules = N1 ∷ N2 ∷ N3 ∷ N4 ∷ N5 ∷ N6 ∷ N7 ∷ N8 ∷ N9 ∷ N10 ∷ N11 ∷ []
+
+-- the first of these rules that is broken at the node
+abbrev pub lowest : List NestRule → Site → Option NestRule
+lowest [] x = None
+lowest (r ∷ rs) x = if broken_at r x then Some r else lowest rs x
+
+abbrev pub first_of : Option (List ℕ × NestRule) → Option (List ℕ × NestRule) → Option (List ℕ × NestRule)
+first_of (Some x) y = Some x
+first_of None y = y
+
+abbrev pub at_place : List ℕ → Option NestRule → Option (List ℕ × NestRule)
+at_place p (Some r) = Some (p, r)
+at_place p None = None
+
+-- of these nodes the first at which a rule is broken, and the lowest such rule
+abbrev pub first_broken : List Site → Option (List ℕ × NestRule)
+first_broken [] = None
+first_broken (x ∷ xs) = first_of (at_place x.place (lowest rules x)) (first_broken xs)
+
+abbrev pub nest_fault : Tree → Annotation → Option (List ℕ × NestRule)
+nest_fault t n = first_broken (sites (at_root t) t n)
+
+-- where there is none the nest is legal, and else it isn't
+abbrev pub LegalWithoutFault : Type 0
+LegalWithoutFault = (t : Tree) (n : Annotation) → (nest_fault t n ≡ None) ↔ IsLegalNest t n

@@ -1,0 +1,31 @@
+-- A node as code holds it, and its children.
+use Rattle.std.specs.Prelude.{ℕ, ◌+◌, List, [], ◌++◌}
+use Rattle.lift_tree.specs.Tree.{nodes, tree_of}
+use Rattle.lift_tree.specs.Annotations.{annotation_of}
+use Rattle.lowered_tree.specs.declared.node.Node.{Node}
+use Rattle.lowered_tree.specs.declared.node.Children.{Children}
+use Rattle.lowered_tree.specs.declared.node.Children.TheVariants.{Leaf, One, Two, Three}
+use Rattle.lowered_tree.specs.Nest.{Site, sites, site_at, under}
+
+-- the node's term, as it is
+abbrev pub own_site : Node → Site
+own_site n = site_at n.around (tree_of n.term.now) (annotation_of n.types.now)
+
+-- the node and all below it, in preorder
+abbrev pub sites_of : Node → List Site
+sites_of n = sites n.around (tree_of n.term.now) (annotation_of n.types.now)
+
+abbrev pub sites_among : Children → List Site
+sites_among Leaf = []
+sites_among (One a) = under 0 (sites_of a)
+sites_among (Two a b) = under 0 (sites_of a) ++ under 1 (sites_of b)
+sites_among (Three a b c) = under 0 (sites_of a) ++ (under 1 (sites_of b) ++ under 2 (sites_of c))
+
+abbrev pub nodes_of : Node → ℕ
+nodes_of n = nodes (tree_of n.term.now)
+
+abbrev pub nodes_among : Children → ℕ
+nodes_among Leaf = 0
+nodes_among (One a) = nodes_of a
+nodes_among (Two a b) = nodes_of a + nodes_of b
+nodes_among (Three a b c) = nodes_of a + nodes_of b + nodes_of c

@@ -1,0 +1,8 @@
+//! Laws of the definitions, each carried by a function that does nothing.
+
+ghost use Rattle.lowered_tree.specs.Nest.{LegalWithoutFault};
+
+/// No rule of the nest is broken first exactly where none is broken at any node.
+pub fn legal_without_fault()
+    ensures { LegalWithoutFault }
+{}

@@ -1,0 +1,61 @@
+//! Lowered terms, and those whose nest is legal.
+
+ghost use Rattle.std.specs.Prelude.{◌≡◌, None};
+ghost use Rattle.lift_tree.specs.Tree.{tree_of};
+ghost use Rattle.lift_tree.specs.Annotations.{annotation_of};
+ghost use Rattle.lowered_tree.specs.Kinds.{is_task};
+ghost use Rattle.lowered_tree.specs.Nest.{nest_fault, root_site};
+ghost use Rattle.lowered_tree.specs.Nodes.{own_site};
+ghost use Rattle.lowered_tree.specs.Spaces.{spaces_of};
+
+use crate::around::{AddressSpace, Around, is_task};
+use crate::node::Node;
+use lift_tree::term::Term;
+use lift_tree::ty::Ty;
+use lift_tree::typed::NodeTypes;
+use size_arith::Names;
+
+/// A term with the type of each node, and what it may name: the ranges of the sizes, and the inputs' types in order.
+#[derive(Drop)]
+pub struct Lowered {
+    pub names: Names,
+    pub inputs: Vec<Ty>,
+    pub term: Term,
+    pub types: NodeTypes,
+}
+
+impl Lowered {
+    /// Whether one work-item runs it: it has no parallel map.
+    pub fn is_task(&self) -> bool
+        ensures { result ≡ is_task (tree_of self.now.term) }
+    {
+        is_task(&self.term)
+    }
+
+    /// The root.
+    pub fn root(&self) -> Node<'_>
+        ensures { own_site result ≡ root_site (tree_of self.now.term) (annotation_of self.now.types) }
+    {
+        Node {
+            around: Around::root(&self.term),
+            term: &self.term,
+            types: &self.types,
+        }
+    }
+}
+
+/// A lowered term whose nest is legal.
+#[derive(Drop)]
+pub struct Mapped {
+    pub lowered: Lowered,
+    ghost legal: { nest_fault (tree_of lowered.term) (annotation_of lowered.types) ≡ None },
+}
+
+/// A legal term, with the address space of each computing node: of each lowered map, sequential fold and element term in writing position.
+#[derive(Drop)]
+pub struct Spaced {
+    pub mapped: Mapped,
+    /// The spaces in preorder of the nodes.
+    pub spaces: Vec<AddressSpace>,
+    ghost given: { spaces.items ≡ spaces_of (tree_of mapped.lowered.term) (annotation_of mapped.lowered.types) },
+}

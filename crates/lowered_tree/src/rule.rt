@@ -1,0 +1,45 @@
+//! The rules of the nest.
+
+/// A rule that each node of a printed term keeps. What breaks it is told with each.
+#[derive(Clone, Copy, PartialEq, Eq)]
+pub enum NestRule {
+    /// A plain map, reduce or fold.
+    N1,
+    /// A map over a group's items with no map over groups around it, or with a further body of a map or fold between.
+    N2,
+    /// A map over all items or over groups, inside a parallel map's body.
+    N3,
+    /// In a group's body and outside its items': a sequential map or fold, an element that is stored, or a let of an element.
+    N4,
+    /// A local copy outside a group's body, or in an item's, or of anything but a map over a group's items.
+    N5,
+    /// A local copy whose type has a length that names a size.
+    N6,
+    /// In an argument, a map or fold that isn't copied, or a let of an element; in an element term, a let of anything but an element.
+    N7,
+    /// A private copy outside a work-item's body, or whose type has a length that names a size.
+    N8,
+    /// A parallel map in the body of a sequential map or of a let of an element.
+    N9,
+    /// In writing position, and no element: zip, slide, pad, first or second.
+    N10,
+    /// In writing position, and no element: a variable, an input or a copy.
+    N11,
+}
+
+impl NestRule {
+    /// All rules, the lowest first.
+    pub const ALL: [NestRule; 11] = [
+        NestRule::N1,
+        NestRule::N2,
+        NestRule::N3,
+        NestRule::N4,
+        NestRule::N5,
+        NestRule::N6,
+        NestRule::N7,
+        NestRule::N8,
+        NestRule::N9,
+        NestRule::N10,
+        NestRule::N11,
+    ];
+}

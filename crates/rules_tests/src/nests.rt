@@ -1,0 +1,152 @@
+// Nests that are legal or not, and the address spaces of legal ones.
+
+use crate::running::last;
+use address_spaces::spaces;
+use lowered_tree::around::AddressSpace;
+use lowered_tree::lowered::{Lowered, Mapped};
+use lowered_tree::rule::NestRule;
+use size_arith::Names;
+use std::alloc::Global;
+use std::test::Fail;
+use thread_mapping::{NestNo, judge};
+
+const ADDED: &str = "size N from 1 to 1000; input xs: [u32; N]; output map(\\x. add(x, 1), xs)";
+
+const COPIED: &str = "input xs: [u32; 4]; output map(\\x. x, xs)";
+
+const ROWS: &str = "input xs: [[u32; 4]; 4]; output map(\\r. map(\\x. x, r), xs)";
+
+const HALVES: &str =
+    "size N from 1 to 64; input xs: [u32; 2*N]; output join(map(\\r. map(\\x. x, r), split(N, xs)))";
+
+const WINDOWS: &str =
+    "size N multiple 2 from 2 to 4096; input xs: [u32; N]; output join(map(\\w. reduce(add, 0, w), slide(3, 1, pad(1, 1, xs))))";
+
+const SUM: &str = "input xs: [u32; 4]; output reduce(add, 5, xs)";
+
+const TILED: &str =
+    "at 0.0 tile-slide 2\nat 0 map-join\nat 0.0 fuse-map\nat 0.0.1 let-inline\nat 0.0.1.0.0 local-copy\nat 0.0.1.1 reduce-fold\nat 0.0.1.1 fold-seq\nat 0.0.1 to-lcl\nat 0.0 to-wrg";
+
+const SUMMED: &str =
+    "at . split-reduce 2\nat . reduce-fold\nat 0.0.1 reduce-fold\nat 0.0.1 fold-seq\nat 0.0 to-seq\nat 0 private\nat . fold-seq";
+
+// A program, a script, and the first node at which a rule is broken: its place in digits, and the rule.
+const BROKEN: [(&str, &str, &str, NestRule); 11] = [
+    (ADDED, "", "", NestRule::N1),
+    (ADDED, "at . to-lcl", "", NestRule::N2),
+    (ROWS, "at 1 to-glb\nat . to-glb", "1", NestRule::N3),
+    (ROWS, "at 1 to-seq\nat . to-wrg", "1", NestRule::N4),
+    (COPIED, "at 0 local-copy\nat . to-seq", "0", NestRule::N5),
+    (
+        HALVES,
+        "at 0.1.0 local-copy\nat 0.1 to-lcl\nat 0 to-wrg",
+        "010",
+        NestRule::N6,
+    ),
+    (
+        "input xs: [u32; 4]; output map(\\x. x, map(\\x. x, xs))",
+        "at 0 to-seq\nat . to-seq",
+        "0",
+        NestRule::N7,
+    ),
+    (COPIED, "at 0 private-copy\nat . to-glb", "0", NestRule::N8),
+    (ROWS, "at 1 to-glb\nat . to-seq", "1", NestRule::N9),
+    (
+        "input xs: [u32; 5]; output slide(3, 1, map(\\x. x, xs))",
+        "at 0 to-seq",
+        "",
+        NestRule::N10,
+    ),
+    ("input xs: [u32; 5]; output xs", "", "", NestRule::N11),
+];
+
+// A program, a script, and the spaces of its last term's computing nodes in preorder: global, local or private.
+const LEGAL: [(&str, &str, &str); 6] = [
+    (ADDED, "at . to-seq", "gg"),
+    (ADDED, "at . to-glb", "gg"),
+    (COPIED, "at 0 private-copy\nat . to-seq", "gppg"),
+    (ROWS, "at 1 to-seq\nat . to-glb", "ggg"),
+    (SUM, SUMMED, "gpp"),
+    (WINDOWS, TILED, "ggllg"),
+];
+
+// The script's last term; none where the program or the script is refused.
+fn lowered(alloc: Global, program: &str, script: &str) -> Result<Option<Lowered>, Fail> {
+    match last(alloc, program.as_bytes(), script.as_bytes())? {
+        Some(Ok(typed)) => Ok(Some(Lowered {
+            names: Names::new(alloc),
+            inputs: Vec::new(alloc),
+            term: typed.term,
+            types: typed.types,
+        })),
+        _ => Ok(None),
+    }
+}
+
+// What is judged of it.
+fn judged(
+    alloc: Global,
+    program: &str,
+    script: &str,
+) -> Result<Option<Result<Mapped, NestNo>>, Fail> {
+    match lowered(alloc, program, script)? {
+        Some(lowered) => Ok(Some(judge(alloc, lowered))),
+        None => Ok(None),
+    }
+}
+
+fn is_place(numbers: &[u32], digits: &str) -> bool {
+    numbers.iter().map(|n| *n).eq(digits.bytes().map(|digit| (digit as u32).wrapping_sub(48)))
+}
+
+fn is_broken(
+    alloc: Global,
+    program: &str,
+    script: &str,
+    digits: &str,
+    want: NestRule,
+) -> Result<bool, Fail> {
+    match judged(alloc, program, script)? {
+        Some(Err(NestNo::Nest { place, rule })) => {
+            Ok(is_place(place.numbers(), digits) && rule == want)
+        }
+        _ => Ok(false),
+    }
+}
+
+fn letter(space: &AddressSpace) -> u8 {
+    match space {
+        AddressSpace::Global => b'g',
+        AddressSpace::Local => b'l',
+        AddressSpace::Private => b'p',
+    }
+}
+
+fn has_spaces(alloc: Global, program: &str, script: &str, want: &str) -> Result<bool, Fail> {
+    match judged(alloc, program, script)? {
+        Some(Ok(mapped)) => {
+            let spaced = spaces(alloc, mapped)?;
+            Ok(spaced.spaces.iter().map(letter).eq(want.bytes()))
+        }
+        _ => Ok(false),
+    }
+}
+
+#[test]
+fn the_first_broken_rule_is_told(rt: HostRuntime) -> Result<(), Fail> {
+    for (program, script, digits, rule) in BROKEN {
+        assert!(rt;
+            is_broken(rt.alloc(), program, script, digits, rule)?,
+            "{script}"
+        );
+    }
+    Ok(())
+}
+
+#[test]
+fn computing_nodes_have_their_spaces(rt: HostRuntime) -> Result<(), Fail> {
+    for (program, script, want) in LEGAL {
+        assert!(rt; has_spaces(rt.alloc(), program, script, want)?, "{script}");
+    }
+    Ok(())
+}

@@ -1,0 +1,93 @@
+//! The rules of the nest, each at one node.
+
+ghost use Rattle.std.specs.Prelude.{◌≡◌};
+ghost use Rattle.lift_tree.specs.Annotations.{annotation_of};
+ghost use Rattle.lowered_tree.specs.Nest.{broken_at, lowest};
+ghost use Rattle.lowered_tree.specs.Nodes.{own_site};
+ghost use Rattle.lowered_tree.specs.declared.rule.NestRule.TheVariants.{N4, N5, N7};
+ghost use Rattle.thread_mapping.specs.Found.{writes_array};
+
+use lowered_tree::around::is_element;
+use lowered_tree::forms::{
+    copies_local_map, hangs_on_sizes, is_global_map, is_group_map, is_let_of_array,
+    is_let_of_element, is_local_copy, is_local_map, is_lowered_fold, is_lowered_map,
+    is_parallel_map, is_placed, is_private_copy, is_read_alone, is_sequential_map, is_undecided,
+};
+use lowered_tree::node::Node;
+use lowered_tree::rule::NestRule;
+
+// In a group's body and outside its items': work that no item would do alone.
+fn has_work_of_a_group(node: Node<'_>) -> bool
+    ensures { result ≡ broken_at N4 (own_site node.entry) }
+{
+    node.around.in_group
+        && !node.around.in_local
+        && (is_sequential_map(node.term)
+            || is_lowered_fold(node.term)
+            || node.around.is_written && is_element(node.ty())
+            || is_let_of_element(node.term, node.types))
+}
+
+// A local copy that no group's items make.
+fn is_misplaced_copy(node: Node<'_>) -> bool
+    ensures { result ≡ broken_at N5 (own_site node.entry) }
+{
+    is_local_copy(node.term)
+        && (!node.around.in_group || node.around.in_local || !copies_local_map(node.term))
+}
+
+// Work in an argument that isn't copied, or an array that is let in an element term.
+fn has_work_in_an_argument(node: Node<'_>) -> bool
+    ensures { result ≡ broken_at N7 (own_site node.entry) }
+{
+    let is_work = is_lowered_map(node.term)
+        || is_lowered_fold(node.term)
+        || is_let_of_element(node.term, node.types);
+    let is_element = node.around.in_element || is_element(node.ty());
+    node.around.in_argument && is_work || is_element && is_let_of_array(node.term, node.types)
+}
+
+// An array is written here.
+fn writes_array(node: Node<'_>) -> bool
+    ensures { result ≡ writes_array node.entry.around (annotation_of node.entry.types.now) }
+{
+    node.around.is_written && !is_element(node.ty())
+}
+
+/// Whether the rule is broken at this node.
+pub fn breaks(rule: NestRule, node: Node<'_>) -> bool
+    ensures { result ≡ broken_at rule (own_site node.entry) }
+{
+    match rule {
+        NestRule::N1 => is_undecided(node.term),
+        NestRule::N2 => is_local_map(node.term) && !node.around.is_next_to_group,
+        NestRule::N3 => (is_global_map(node.term) || is_group_map(node.term))
+            && node.around.in_parallel,
+        NestRule::N4 => has_work_of_a_group(node),
+        NestRule::N5 => is_misplaced_copy(node),
+        NestRule::N6 => is_local_copy(node.term) && hangs_on_sizes(node.ty()),
+        NestRule::N7 => has_work_in_an_argument(node),
+        NestRule::N8 => {
+            is_private_copy(node.term) && (!node.around.in_item || hangs_on_sizes(node.ty()))
+        }
+        NestRule::N9 => is_parallel_map(node.term) && node.around.in_serial,
+        NestRule::N10 => writes_array(node) && is_read_alone(node.term),
+        NestRule::N11 => writes_array(node) && is_placed(node.term),
+    }
+}
+
+/// The first of these rules that is broken at this node.
+pub fn lowest(rules: &[NestRule], node: Node<'_>) -> Option<NestRule>
+    ensures { result ≡ lowest rules.now (own_site node.entry) }
+{
+    match rules {
+        [] => None,
+        [first, rest @ ..] => {
+            if breaks(*first, node) {
+                Some(*first)
+            } else {
+                lowest(rest, node)
+            }
+        }
+    }
+}

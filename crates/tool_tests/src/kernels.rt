@@ -1,0 +1,114 @@
+//! Kernels, and their runs.
+use crate::call::{COMPILE, Call, FIRST, KERNEL, RESULT, RUN};
+use std::alloc::{AllocError, Global};
+use std::test::Fail;
+
+#[test]
+fn one_map_is_compiled_and_run(rt: HostRuntime) -> Result<(), Fail> {
+    assert!(rt; KERNEL.len() == 180);
+    assert!(rt; FIRST.ends(rt.alloc(), &COMPILE, 0, KERNEL, "")?);
+    assert!(rt; FIRST.ends(rt.alloc(), &RUN, 0, RESULT, "")?);
+    let one = Call {
+        launch: "{\"global\":1,\"local\":1,\"sizes\":{\"N\":1},\"inputs\":{\"xs\":[7]}}",
+        ..FIRST
+    };
+    let line = "{\"value\":[8],\"events\":4,\"releases\":0}\n";
+    assert!(rt; one.ends(rt.alloc(), &RUN, 0, line, "")?);
+    Ok(())
+}
+
+// A program, and the number that its kernel adds.
+const ADDENDS: [(&str, &str); 2] = [
+    (
+        "size M from 2 to 2; input q: [u32; M]; output map(\\x. add(x, 0), q)",
+        "0u",
+    ),
+    (
+        "size N from 1 to 1048576; input xs: [u32; N]; output map(\\x. add(x, 4294967295), xs)",
+        "4294967295u",
+    ),
+];
+
+fn adds(alloc: Global, program: &str, addend: &str) -> Result<bool, AllocError> {
+    let kernel = format!(in alloc;
+        "__kernel void lift(__global const uint *a0, __global uint *o0, const uint s0)\n{{\n  uint v0;\n  for (uint i0 = 0u; i0 < s0; i0 += 1u) {{\n    v0 = a0[i0];\n    o0[i0] = (v0 + {addend});\n  }}\n}}\n"
+    )?;
+    Call { program, ..FIRST }.ends(alloc, &COMPILE, 0, kernel.as_str(), "")
+}
+
+#[test]
+fn kernels_add_their_numbers(rt: HostRuntime) -> Result<(), Fail> {
+    for (program, addend) in ADDENDS {
+        assert!(rt; adds(rt.alloc(), program, addend)?);
+    }
+    Ok(())
+}
+
+// Other writings of the first program.
+const PROGRAMS: [&str; 4] = [
+    "size N from 1 to 1000;input xs:[u32;N];output map(\\x.add(x,1),xs)# no more",
+    "# a map\r\nsize N from 3 to 3;\tinput xs: [u32; N]; output map(\\xs. add(xs, 1), xs)\n",
+    "size N from 1 to 1048576; input xs: [u32; N]; output map(\\N. add(N, 1), xs)",
+    "size N from 1 to 3; input xs: [u32; N]; output map(\\a2345678901234567890123456789012. add(a2345678901234567890123456789012, 1), xs)",
+];
+
+// Scripts that leave the first program's map sequential: of the last, the copy is fused and its let put in.
+const SCRIPTS: [&str; 3] = [
+    "# first\n \t\n  at\t.  to-seq \r\n#\r\n",
+    "at . to-seq\n",
+    "at 0 copy\nat . fuse-map\nat 1 let-inline\nat . to-seq",
+];
+
+// Other writings of the first launch file. One work-item has one enabled event, so each schedule takes it.
+const LAUNCHES: [&str; 4] = [
+    " {\"inputs\":{\"ys\":0,\"xs\":[1,2,4294967295]},\"name\":null,\"sizes\":{\"N\":3,\"M\":[]},\"local\":1,\"global\":1} ",
+    "{\"global\":2,\"global\":1,\"local\":1,\"sizes\":{\"\\u004e\":3},\"inputs\":{\"xs\":[1,2,4294967295]}}",
+    "{\"global\":1,\"local\":1,\"sizes\":{\"N\":3},\"inputs\":{\"xs\":[1,2,4294967295]},\"schedule\":[3,2,1,0]}",
+    "{\"global\":1,\"local\":1,\"sizes\":{\"N\":3},\"inputs\":{\"xs\":[1,2,4294967295]},\"schedule\":{\"seed\":7}}",
+];
+
+fn run_alike(alloc: Global, calls: &[Call<'_>]) -> Result<bool, AllocError> {
+    for call in calls {
+        if !call.ends(alloc, &RUN, 0, RESULT, "")? {
+            return Ok(false);
+        }
+    }
+    Ok(true)
+}
+
+#[test]
+fn other_writings_run_alike(rt: HostRuntime) -> Result<(), Fail> {
+    assert!(rt;
+        run_alike(
+            rt.alloc(),
+            &PROGRAMS.map(|program| Call { program, ..FIRST })
+        )?
+    );
+    assert!(rt; run_alike(rt.alloc(), &SCRIPTS.map(|script| Call { script, ..FIRST }))?);
+    assert!(rt; run_alike(rt.alloc(), &LAUNCHES.map(|launch| Call { launch, ..FIRST }))?);
+    let compiled = Call {
+        script: SCRIPTS[2],
+        ..FIRST
+    };
+    assert!(rt; compiled.ends(rt.alloc(), &COMPILE, 0, KERNEL, "")?);
+    Ok(())
+}
+
+#[test]
+fn a_thousand_numbers_have_3001_events(rt: HostRuntime) -> Result<(), Fail> {
+    let begin = "{\"global\":1,\"local\":1,\"sizes\":{\"N\":1000},\"inputs\":{\"xs\":[0";
+    let mut launch = String::from_str(rt.alloc(), begin)?;
+    let mut line = String::from_str(rt.alloc(), "{\"value\":[1")?;
+    for _ in 0..999 {
+        launch.push_str(",0")?;
+        line.push_str(",1")?;
+    }
+    launch.push_str("]}}")?;
+    line.push_str("],\"events\":3001,\"releases\":0}\n")?;
+    let thousand = Call {
+        launch: launch.as_str(),
+        ..FIRST
+    };
+    assert!(rt; thousand.ends(rt.alloc(), &RUN, 0, line.as_str(), "")?);
+    Ok(())
+}

@@ -1,0 +1,17 @@
+//! Tests of the command, whole calls of it on files and sinks in memory.
+#![tactic(auto)]
+
+#[cfg(test)]
+mod call;
+#[cfg(test)]
+mod kernels;
+#[cfg(test)]
+mod limits;
+#[cfg(test)]
+mod outside;
+#[cfg(test)]
+mod refusals;
+#[cfg(test)]
+mod terms;
+#[cfg(test)]
+mod values;

@@ -1,0 +1,116 @@
+#!/usr/bin/env python3
+"""Runs the built program on an input for each refusal of docs/REFUSALS.md, and compares status and line.
+
+    examples/refusals.py [PROGRAM]      PROGRAM is ./lift where none is given
+"""
+import json
+import os
+import subprocess
+import sys
+import tempfile
+
+TOP = os.path.dirname(os.path.dirname(os.path.abspath(__file__)))
+PROGRAM = os.path.abspath(sys.argv[1]) if len(sys.argv) > 1 else f"{TOP}/lift"
+ADDED = "size N from 1 to 1000; input xs: [u32; N]; output map(\\x. add(x, 1), xs)"
+ARRAY = "size N from 1 to 1000; input xs: [u32; N]; output "
+LAUNCH = {"global": 1, "local": 1, "sizes": {"N": 3}, "inputs": {"xs": [1, 2, 3]}}
+
+
+def launch(**changes):
+    made = {**LAUNCH, **changes}
+    return json.dumps({key: it for key, it in made.items() if it is not None})
+
+
+def declarations(form, count):
+    return "".join(form.format(n) for n in range(count))
+
+
+
+# a tree of 2^levels variables: 2^(levels + 1) - 1 nodes
+def tree(levels):
+    return "x" if levels == 0 else f"add({tree(levels - 1)}, {tree(levels - 1)})"
+
+
+# (program, script or None, launch file or None, status, line): without a script it is an evaluation
+ROWS = [
+    ("output map(", None, None, 6, "lift: program: token 4, byte 11"),
+    ("size N from 1 to 10; input xs: [u32; N]; output ys", None, None, 6, "lift: program: token 18, byte 48"),
+    (declarations("size N{} from 1 to 2; ", 9) + "input xs: [u32; 1]; output xs", None, None, 10, "lift: limit sizes: 9"),
+    (declarations("input x{}: [u32; 1]; ", 9) + "output x0", None, None, 10, "lift: limit inputs: 9"),
+    (ARRAY + f"map(\\x. add({tree(11)}, x), xs)", None, None, 10, "lift: limit nodes: 4099"),
+    (ARRAY + "add(xs, 1)", None, None, 7, "lift: type: operator at ."),
+    (ARRAY + "map(\\x. pair(x, xs), xs)", None, None, 7, "lift: type: pair at 1"),
+    (ARRAY + "map(\\x. first(x), xs)", None, None, 7, "lift: type: project at 1"),
+    (ARRAY + "map(\\x. x, 1)", None, None, 7, "lift: type: map at ."),
+    (ARRAY + "reduce(add, xs, xs)", None, None, 7, "lift: type: reduce at ."),
+    (ARRAY + "fold(\\a x. xs, 0, xs)", None, None, 7, "lift: type: fold at ."),
+    (ARRAY + "zip(xs, pad(1, 0, xs))", None, None, 7, "lift: type: zip at ."),
+    (ARRAY + "split(4, xs)", None, None, 7, "lift: type: split at ."),
+    (ARRAY + "join(xs)", None, None, 7, "lift: type: join at ."),
+    (ARRAY + "transpose(xs)", None, None, 7, "lift: type: transpose at ."),
+    (ARRAY + "slide(3, 1, xs)", None, None, 7, "lift: type: slide at ."),
+    (ARRAY + "pad(1, 1, 1)", None, None, 7, "lift: type: pad at ."),
+    ("size N from 1 to 9; input xs: [u32; N - 1]; output xs", None, None, 7, "lift: type: length at input 0"),
+    ("output 1", None, None, 7, "lift: type: output at ."),
+    ("input xs: [[[[[u32; 1]; 1]; 1]; 1]; 1]; output xs", None, None, 10, "lift: limit arrays: 5"),
+    ("input xs: [(u32, (u32, (u32, (u32, u32)))); 1]; output xs", None, None, 10, "lift: limit components: 5"),
+    ("size N from 1 to 2; input xs: [u32; N*N*N*N*N]; output xs", None, None, 10, "lift: limit degree: 5"),
+    ("input xs: [u32; 2*4294967295*0]; output xs", None, None, 10, "lift: limit coefficient: 8589934590"),
+    ("size M from 1 to 65536; size N from 1 to 32768; input xs: [[u32; M]; N]; output xs", None, None, 10, "lift: limit scalars: 2147483648"),
+    (ADDED, "at . to-seq\nat . to-sequence", None, 8, "lift: script: line 2"),
+    (ADDED, "at 0 copy\n" * 257, None, 10, "lift: limit steps: 257"),
+    (ADDED, "at 7 copy", None, 9, "lift: step 1: no place"),
+    (ADDED, "at . join-split", None, 9, "lift: step 1: shape"),
+    (ADDED, "at . split-map 0", None, 9, "lift: step 1: side positive"),
+    (ADDED, "at . split-map 4", None, 9, "lift: step 1: side divides"),
+    (ADDED, "at 1 copy", None, 9, "lift: step 1: side array"),
+    ("input xs: [u32; 4]; output slide(3, 1, xs)", "at . tile-slide 4", None, 9, "lift: step 1: side length"),
+    ("input xs: [[u32; 2]; 6]; output split(3, join(xs))", "at . split-join", None, 9, "lift: step 1: side same"),
+    ("input xs: [u32; 4]; output map(\\r. map(\\x. reduce(add, x, r), r), split(2, xs))", "at . map-split", None, 9, "lift: step 1: side mentions"),
+    (ADDED, "at 0 copy\n" * 255, None, 10, "lift: limit depth: 257"),
+    (ADDED, "", None, 11, "lift: nest: N1 at ."),
+    (ADDED, "at . to-glb", None, 11, "lift: nest: N0 at ."),
+    (ADDED, "at . to-seq", launch()[:-1], 12, "lift: launch: not json"),
+    (ADDED, "at . to-seq", launch(local=None), 12, "lift: launch: missing local"),
+    (ADDED, "at . to-seq", launch(sizes={}), 12, "lift: launch: missing sizes.N"),
+    (ADDED, "at . to-seq", launch(inputs={}), 12, "lift: launch: missing inputs.xs"),
+    (ADDED, "at . to-seq", launch(sizes={"N": 0}), 12, "lift: launch: size N is 0"),
+    (ADDED, "at . to-seq", launch(**{"global": 6, "local": 4}), 12, "lift: launch: global 6, local 4"),
+    (ADDED, "at . to-seq", launch(**{"global": 2}), 12, "lift: launch: global 2 for one item"),
+    (ADDED, "at . to-seq", launch(inputs={"xs": [1, 2]}), 12, "lift: launch: shape xs"),
+    ("#" * 65537, None, None, 10, "lift: limit bytes: 65537"),
+]
+
+
+def answer(folder, program, script, launch_text):
+    names = {"program.lift": program, "script.txt": script, "launch.json": launch_text}
+    for name, text in names.items():
+        with open(f"{folder}/{name}", "w") as file:
+            file.write(text or "")
+    if script is None:
+        words = ["eval", "program.lift", "launch.json"]
+    elif launch_text is None:
+        words = ["compile", "program.lift", "script.txt"]
+    else:
+        words = ["run", "program.lift", "script.txt", "launch.json"]
+    return subprocess.run([PROGRAM, *words], cwd=folder, capture_output=True, text=True)
+
+
+def main():
+    failed = 0
+    with tempfile.TemporaryDirectory() as folder:
+        for program, script, launch_text, status, line in ROWS:
+            ran = answer(folder, program, script, launch_text)
+            if (ran.returncode, ran.stderr, ran.stdout) != (status, line + "\n", ""):
+                failed += 1
+                print(f"{line!r} wanted with status {status}: status {ran.returncode}, {ran.stderr!r}")
+        ran = subprocess.run([PROGRAM, "compile", "p"], cwd=folder, capture_output=True, text=True)
+        failed += (ran.returncode, ran.stderr) != (2, "lift: words\n")
+        ran = subprocess.run([PROGRAM, "compile", "none", "none"], cwd=folder, capture_output=True, text=True)
+        failed += (ran.returncode, ran.stderr) != (3, "lift: read none\n")
+    print(f"{len(ROWS) + 2 - failed} passed, {failed} failed")
+    return 1 if failed else 0
+
+
+if __name__ == "__main__":
+    sys.exit(main())
