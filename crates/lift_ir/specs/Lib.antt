@@ -1,0 +1,11 @@
+pub mod Types
+pub mod Layouts
+pub mod Terms
+pub mod Scalars
+pub mod Sources
+pub mod AtLaunch
+pub mod Lowering
+pub mod Lowerable
+pub mod Loads
+pub mod Forms
+pub mod Owner

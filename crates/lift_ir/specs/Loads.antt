@@ -1,0 +1,69 @@
+-- Which scalars are in private variables, and that those which element terms name are.
+use Rattle.std.specs.Prelude.{◌≡◌, ◌<◌, ◌^◌, ℕ, Bool, true, false, List, [], ◌∷◌}
+use Rattle.lift_ir.specs.Types.{Ty, IsPosition, size, IsShort}
+use Rattle.lift_ir.specs.Terms.{LoadSet, Skip, Take, Each, Term, Literal, Bound, Apply, ApplyNumber, Select, Both, Project, Reshape, LetArray, LetElement, Map, Fold, Store, Copy, push}
+use Rattle.lift_ir.specs.Scalars.{by_side}
+
+abbrev pub covers : LoadSet → List Bool → Bool
+covers Skip cs = false
+covers Take cs = true
+covers (Each a b) [] = false
+covers (Each a b) (false ∷ cs) = covers a cs
+covers (Each a b) (true ∷ cs) = covers b cs
+
+abbrev pub all : List Bool → Bool
+all cs = true
+
+abbrev pub none : List Bool → Bool
+none cs = false
+
+-- a component of an element term hangs on variables alone
+abbrev pub IsHeld : {A : Type 0} → (ℕ → List Bool → Bool) → Term A → List Bool → Type 0
+IsHeld h (Literal c) cs = Unit {0}
+IsHeld h (Bound v) cs = h v cs ≡ true
+IsHeld h (Apply o a b) cs = IsHeld h a [] × IsHeld h b []
+IsHeld h (ApplyNumber o n a) cs = IsHeld h a []
+IsHeld h (Select c a b) cs = IsHeld h c [] × IsHeld h a [] × IsHeld h b []
+IsHeld h (Both zips a b) [] = Unit {0}
+IsHeld h (Both zips a b) (false ∷ cs) = IsHeld h a cs
+IsHeld h (Both zips a b) (true ∷ cs) = IsHeld h b cs
+IsHeld h (Project s a) cs = IsHeld h a (s ∷ cs)
+IsHeld h (LetElement ty v b) cs = IsHeld (push all h) b cs
+IsHeld h _ cs = ⊥
+
+abbrev pub AllHeld : {A : Type 0} → (ℕ → List Bool → Bool) → Ty → Term A → Type 0
+AllHeld h ty t = (cs : List Bool) → IsPosition ty cs [] → IsHeld h t cs
+
+-- and so do the lets in it
+abbrev pub AreLetsHeld : {A : Type 0} → (ℕ → List Bool → Bool) → Term A → Type 0
+AreLetsHeld h (Literal c) = Unit {0}
+AreLetsHeld h (Bound v) = Unit {0}
+AreLetsHeld h (Apply o a b) = AreLetsHeld h a × AreLetsHeld h b
+AreLetsHeld h (ApplyNumber o n a) = AreLetsHeld h a
+AreLetsHeld h (Select c a b) = AreLetsHeld h c × AreLetsHeld h a × AreLetsHeld h b
+AreLetsHeld h (Both zips a b) = AreLetsHeld h a × AreLetsHeld h b
+AreLetsHeld h (Project s a) = AreLetsHeld h a
+AreLetsHeld h (LetElement ty v b) = AllHeld h ty v × AreLetsHeld h v × AreLetsHeld (push all h) b
+AreLetsHeld h _ = ⊥
+
+-- which scalars of an argument are in variables
+abbrev pub held_scalars : {A : Type 0} → (ℕ → List Bool → Bool) → Term A → List Bool → Bool
+held_scalars h (Bound v) = h v
+held_scalars h (Both zips a b) = by_side false (held_scalars h a) (held_scalars h b)
+held_scalars h (Project s a) = λ cs. held_scalars h a (s ∷ cs)
+held_scalars h (LetArray v b) = held_scalars (push (held_scalars h v) h) b
+held_scalars h _ = none
+
+-- what is loaded is what the bodies name
+abbrev pub LoadsSuffice : {A : Type 0} → (ℕ → List Bool → Bool) → Term A → Type 0
+LoadsSuffice h (Both zips a b) = LoadsSuffice h a × LoadsSuffice h b
+LoadsSuffice h (Project s a) = LoadsSuffice h a
+LoadsSuffice h (Reshape l a) = LoadsSuffice h a
+LoadsSuffice h (LetArray v b) = LoadsSuffice h v × LoadsSuffice (push (held_scalars h v) h) b
+LoadsSuffice h (LetElement ty v b) = AllHeld h ty v × AreLetsHeld h v × LoadsSuffice (push all h) b
+LoadsSuffice h (Map k n loads xs b) = LoadsSuffice h xs × LoadsSuffice (push (covers loads) h) b
+LoadsSuffice h (Fold n loads ty xs s b) =
+    LoadsSuffice h xs × AllHeld h ty s × AreLetsHeld h s × AllHeld (push (covers loads) (push all h)) ty b × AreLetsHeld (push (covers loads) (push all h)) b
+LoadsSuffice h (Store ty a) = AllHeld h ty a × AreLetsHeld h a
+LoadsSuffice h (Copy space ty a) = (size ty < 2 ^ 31) × IsShort ty × LoadsSuffice h a
+LoadsSuffice h _ = Unit {0}

@@ -1,0 +1,2 @@
+//! The intermediate representation between typed terms of the source and kernels, after Lift IR (CGO 2017): terms with views and address spaces, their values by position, and what they are lowered from.
+#![tactic(auto)]
