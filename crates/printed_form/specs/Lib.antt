@@ -1,0 +1,15 @@
+pub mod Headline
+pub mod FromHistories
+pub mod Counts
+pub mod Marks
+pub mod Expressions
+pub mod Form
+pub mod Runs
+pub mod Whole
+pub mod Views
+pub mod Means
+pub mod Printer
+pub mod PrinterLaw
+pub mod Alike
+pub mod Theorem
+pub mod Programs

@@ -1,0 +1,142 @@
+-- What one item does, whatever the others do to cells that it does not look at.
+use Rattle.std.specs.Prelude.{◌≡◌, ℕ, ◌<◌, ◌≤◌, Bool, List, [], length, Option, Some, ◌⊎◌, slice_index}
+use Rattle.kernel_tree.specs.Formula.{Formula, value}
+use Rattle.kernel_tree.specs.Code.{Array, Input, Output, Local, Private, Code}
+use Rattle.kernel_tree.specs.Launch.{ids_of}
+use Rattle.kernel_tree.specs.Item.{Frame, item}
+use Rattle.kernel_tree.specs.Device.{Device, Cell, cell_at, Memory}
+use Rattle.kernel_tree.specs.Deeds.{Deed, Goes, Every, written}
+use Rattle.kernel_tree.specs.Independent.{Owners, MayRead, IsAllowed, Agrees, write_count}
+use Rattle.lift_ir.specs.Types.{Ty, IsPosition}
+use Rattle.lift_ir.specs.Scalars.{Scalars}
+use Rattle.printed_form.specs.Marks.{Mark, Nowhere, Register, Spot, Marks}
+
+-- an item of a stretch: whose the cells are, and how many local arrays were filled before
+pub record Setting : Type 0 where
+  pub device : Device
+  pub item : ℕ
+  pub owners : Owners
+  pub locals : ℕ
+
+-- what it knows: memory where it may read, its variables, and how many variables and private arrays are in use
+pub record Known : Type 0 where
+  pub memory : Memory
+  pub vars : List ℕ
+  pub count : ℕ
+  pub arrays : ℕ
+
+-- variables below n are as they were
+pub record Kept (n : ℕ) (vars later : List ℕ) : Type 0 where
+  pub long : length later ≡ length vars
+  pub same : (v : ℕ) → v < n → slice_index later v ≡ slice_index vars v
+
+-- an array that is filled already: an input, or one numbered below
+abbrev pub IsFilled : (locals privates : ℕ) → Array → Type 0
+IsFilled l a (Input n) = Unit {0}
+IsFilled l a (Output n) = ⊥
+IsFilled l a (Local n) = n < l
+IsFilled l a (Private n) = n < a
+
+-- an array that is still to be filled
+abbrev pub IsOpen : (locals privates : ℕ) → Array → Type 0
+IsOpen l a (Input n) = ⊥
+IsOpen l a (Output n) = Unit {0}
+IsOpen l a (Local n) = l ≤ n
+IsOpen l a (Private n) = a ≤ n
+
+-- a private array from a on, below b
+abbrev pub IsBetween : (a b : ℕ) → Array → Type 0
+IsBetween a b (Private n) = (a ≤ n) × (n < b)
+IsBetween a b _ = ⊥
+
+abbrev pub Scratch : (a b : ℕ) → Cell → Type 0
+Scratch a b c = IsBetween a b c.array
+
+module _ (st : Setting) where
+  abbrev pub spot_cell : Array → ℕ → Cell
+  spot_cell b i = cell_at st.device.launch st.item b i
+
+  abbrev pub mark_cell : Mark → Cell
+  mark_cell (Spot b i) = spot_cell b i
+  mark_cell (Register v) = spot_cell (Input 0) 0
+  mark_cell Nowhere = spot_cell (Input 0) 0
+
+  pub record Later (x y : Known) : Type 0 where
+    pub more : x.count ≤ y.count
+    pub more_arrays : x.arrays ≤ y.arrays
+    pub kept : Kept x.count x.vars y.vars
+    pub same : (c : Cell) → IsFilled st.locals x.arrays c.array → y.memory c ≡ x.memory c
+
+  -- a cell that may be read, and holds v
+  pub record Readable (x : Known) (b : Array) (i v : ℕ) : Type 0 where
+    pub within : i < st.device.lengths b
+    pub may : MayRead st.owners st.item (spot_cell b i)
+    pub filled : IsFilled st.locals x.arrays b
+    pub holds : x.memory (spot_cell b i) ≡ v
+
+  abbrev pub HoldsAt : Known → Mark → ℕ → Type 0
+  HoldsAt x Nowhere v = ⊥
+  HoldsAt x (Register r) v = (r < x.count) × (slice_index x.vars r ≡ v)
+  HoldsAt x (Spot b i) v = Readable x b i v
+
+  -- what stands for a value of a type has its scalars
+  abbrev pub Holds : Known → Ty → Marks → Scalars → Type 0
+  Holds x ty e s = (cs : List Bool) (q : List ℕ) → IsPosition ty cs q → HoldsAt x (e cs q) (s cs q)
+
+  abbrev pub AllHold : Known → (ℕ → Ty) → (ℕ → Marks) → (ℕ → Scalars) → Type 0
+  AllHold x g env sems = (v : ℕ) → Holds x (g v) (env v) (sems v)
+
+  -- expressions have an element's scalars, now and as long as the variables in use are kept
+  abbrev pub Values : List ℕ → Known → Ty → (List Bool → Option Formula) → Scalars → Type 0
+  Values ts x ty f s = (cs : List Bool) (e : Formula) → IsPosition ty cs [] → f cs ≡ Some e → (later : List ℕ) → Kept x.count x.vars later → value (ids_of st.device.launch st.item) ts later e ≡ Some (s cs [])
+
+  -- a cell that the item is to write
+  abbrev pub DueAt : ℕ → Mark → Type 0
+  DueAt a (Spot b i) = (i < st.device.lengths b) × (st.owners (spot_cell b i) ≡ Some st.item) × IsOpen st.locals a b
+  DueAt a _ = ⊥
+
+  -- where a value of a type goes, private arrays below a being in use: each scalar has a cell of its own
+  pub record Due (a : ℕ) (ty : Ty) (w : Marks) : Type 0 where
+    pub at : (cs : List Bool) (q : List ℕ) → IsPosition ty cs q → DueAt a (w cs q)
+    pub choices : (cs ds : List Bool) (q p : List ℕ) → IsPosition ty cs q → IsPosition ty ds p → mark_cell (w cs q) ≡ mark_cell (w ds p) → cs ≡ ds
+    pub places : (cs ds : List Bool) (q p : List ℕ) → IsPosition ty cs q → IsPosition ty ds p → mark_cell (w cs q) ≡ mark_cell (w ds p) → q ≡ p
+
+  -- the cells of a value, and what they are to hold
+  abbrev pub Targets : Ty → Marks → Scalars → Cell → ℕ → Type 0
+  Targets ty w s c v = (cs : List Bool) × (q : List ℕ) × IsPosition ty cs q × (c ≡ mark_cell (w cs q)) × (v ≡ s cs q)
+
+-- deeds that write each target once, with its value, and besides scratch cells alone
+pub record Wrote (S : Cell → Type 0) (T : Cell → ℕ → Type 0) (m : Memory) (ds : List Deed) : Type 0 where
+  pub once : (c : Cell) (v : ℕ) → T c v → write_count c ds ≡ 1
+  pub holds : (c : Cell) (v : ℕ) → T c v → written ds m c ≡ v
+  pub quiet : (c : Cell) → (S c → ⊥) → ((v : ℕ) → T c v → ⊥) → write_count c ds ≡ 0
+
+abbrev pub nothing : Cell → Type 0
+nothing c = ⊥
+
+abbrev pub no_target : Cell → ℕ → Type 0
+no_target c v = ⊥
+
+abbrev pub known_after : Known → List Deed → List ℕ → (count arrays : ℕ) → Known
+known_after x ds vars n a = record { memory = written ds x.memory; vars = vars; count = n; arrays = a }
+
+-- the item goes through the code up to the rest, in whatever memory agrees with what it knows
+pub record Ran (st : Setting) (x : Known) (fs : List Frame) (code rest : Code) (n a : ℕ) (S : Cell → Type 0) (T : Cell → ℕ → Type 0) (G : Known → Type 0) : Type 0 where
+  pub after : List ℕ
+  pub deeds : List Deed
+  pub goes : (m : Memory) → Agrees st.owners st.item x.memory m → Goes st.device st.item (item code fs x.vars) m deeds (item rest fs after)
+  pub later : Later st x (known_after x deeds after n a)
+  pub allowed : Every (IsAllowed st.owners st.item) deeds
+  pub wrote : Wrote S T x.memory deeds
+  pub good : G (known_after x deeds after n a)
+
+-- targets and scratch cells of two stretches one after another
+pub record Apart (S1 : Cell → Type 0) (T1 : Cell → ℕ → Type 0) (S2 : Cell → Type 0) (T2 : Cell → ℕ → Type 0) (S : Cell → Type 0) (T : Cell → ℕ → Type 0) : Type 0 where
+  pub targets : (c : Cell) (v u : ℕ) → T1 c v → T2 c u → ⊥
+  pub first_kept : (c : Cell) (v : ℕ) → T1 c v → S2 c → ⊥
+  pub second_free : (c : Cell) (v : ℕ) → T2 c v → S1 c → ⊥
+  pub scratch_first : (c : Cell) → S1 c → S c
+  pub scratch_second : (c : Cell) → S2 c → S c
+  pub target_first : (c : Cell) (v : ℕ) → T1 c v → T c v
+  pub target_second : (c : Cell) (v : ℕ) → T2 c v → T c v
+  pub parts : (c : Cell) (v : ℕ) → T c v → T1 c v ⊎ T2 c v

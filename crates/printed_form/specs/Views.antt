@@ -1,0 +1,77 @@
+-- Views: what stands for scalars, their indices expressions.
+use Rattle.std.specs.Prelude.{ℕ, ◌+◌, Bool, true, false, List, ◌∷◌, Option, Some, None}
+use Rattle.scalar_ops.specs.declared.op.Op.TheVariants.{Add, Sub, Mul, Min, Max, Div, Rem}
+use Rattle.kernel_tree.specs.Formula.{Formula, Number, Variable, Binary}
+use Rattle.kernel_tree.specs.Code.{Array}
+use Rattle.lift_ir.specs.Types.{Shape, Ty, Scalar, PairOf, ArrayOf, width, component}
+use Rattle.lift_ir.specs.Layouts.{Layout, Split, Join, Transpose, Slide, Pad}
+use Rattle.lift_ir.specs.Terms.{LoadSet, Skip, Take, Each}
+use Rattle.lift_ir.specs.Scalars.{by_side}
+use Rattle.printed_form.specs.Counts.{load_count}
+
+-- what stands for a scalar, its index an expression
+pub data Sign : Type 0 where
+  Blank : Sign
+  Held : (var : ℕ) → Sign
+  Read : (array : Array) → (index : Formula) → Sign
+
+-- what stands for a value, and where a value goes, by pair choices and index expressions
+abbrev pub View : Type 0
+View = List Bool → List Formula → Sign
+
+-- the expression of what a variable holds
+abbrev pub held_sign : Sign → Option Formula
+held_sign (Held v) = Some (Variable v)
+held_sign _ = None
+
+-- an element in private variables, the first of which is this
+abbrev pub held_view : Ty → ℕ → View
+held_view Scalar n = λ cs is. Held n
+held_view (PairOf a b) n = by_side (λ is. Blank) (held_view a n) (held_view b (n + width a))
+held_view (ArrayOf m t) n = λ cs is. Blank
+
+-- what stands for an element, once these of its scalars are loaded
+abbrev pub loaded_view : LoadSet → View → ℕ → View
+loaded_view Skip x n = x
+loaded_view Take x n = λ cs is. Held n
+loaded_view (Each a b) x n = by_side (λ is. Blank) (loaded_view a (λ cs. x (false ∷ cs)) n) (loaded_view b (λ cs. x (true ∷ cs)) (n + load_count a))
+
+-- the element at an index of whatever is by position
+abbrev pub view_at : Formula → View → View
+view_at i x = λ cs is. x cs (i ∷ is)
+
+-- lengths are spelled so
+module _ {A : Type 0} (spell : A → Formula) where
+  -- the indices in the operand of indices in the result
+  abbrev pub operand_indices : Layout A → List Formula → List Formula
+  operand_indices (Split m) (i ∷ j ∷ p) = Binary Add (Binary Mul i (spell m)) j ∷ p
+  operand_indices (Join m) (i ∷ p) = Binary Div i (spell m) ∷ Binary Rem i (spell m) ∷ p
+  operand_indices Transpose (i ∷ j ∷ p) = j ∷ i ∷ p
+  operand_indices (Slide s t) (i ∷ j ∷ p) = Binary Add (Binary Mul i (Number t)) j ∷ p
+  operand_indices (Pad l r n) (i ∷ p) = Binary Min (Binary Sub (Binary Max i (Number l)) (Number l)) (Binary Sub (spell n) (Number 1)) ∷ p
+  operand_indices _ p = p
+
+  -- the indices in the result of indices in the operand, for join, split and transpose
+  abbrev pub result_indices : Layout A → List Formula → List Formula
+  result_indices (Split m) p = operand_indices (Join m) p
+  result_indices (Join m) p = operand_indices (Split m) p
+  result_indices Transpose p = operand_indices Transpose p
+  result_indices _ p = p
+
+  -- the number in row-major order below an index so far
+  abbrev pub index_from : Formula → Shape A → List Formula → Formula
+  index_from i (ArrayOf m t) (j ∷ q) = index_from (Binary Add (Binary Mul i (spell m)) j) t q
+  index_from i _ _ = i
+
+  -- the number of a scalar in row-major order: the index alone for an array of one dimension
+  abbrev pub index_in : Shape A → List Formula → Formula
+  index_in (ArrayOf n t) (i ∷ q) = index_from i t q
+  index_in _ _ = Number 0
+
+  -- a value laid in arrays, one a component, the first of which is this
+  abbrev pub placed_view : (ℕ → Array) → ℕ → Shape A → View
+  placed_view form first shape = λ cs is. Read (form (first + component shape cs)) (index_in shape is)
+
+-- the same of literal lengths
+abbrev pub laid_view : (ℕ → Array) → ℕ → Ty → View
+laid_view form first ty = placed_view Number form first ty
