@@ -1,0 +1,10 @@
+pub mod Positions
+pub mod Numbers
+pub mod Nested
+pub mod Meaning
+pub mod Lists
+pub mod AtLaunch
+pub mod Lowering
+pub mod Named
+pub mod Typed
+pub mod LoweredTerms
