@@ -8,3 +8,4 @@ pub mod Lowering
 pub mod Named
 pub mod Typed
 pub mod LoweredTerms
+pub mod Owner

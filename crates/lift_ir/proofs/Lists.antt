@@ -1,6 +1,6 @@
 -- A value's lists hold its scalars in row-major order.
 use Rattle.std.proofs.Common.{◌≡◌, ℕ, zero, suc, ◌+◌, ◌-◌, ◌*◌, ◌<◌, ◌≤◌, Bool, true, false, List, [], ◌∷◌, ◌++◌, length, get_or, refl, sym, ap, ◌∙◌, ⊎_elim, arith, length-append}
-use Rattle.std.specs.Prelude.{map}
+use Rattle.std.specs.Prelude.{map, replicate}
 use Rattle.std.proofs.lemmas.Bool.{cases_lt}
 use Rattle.std.proofs.Math.ListN.{get_or-append}
 use Rattle.std.proofs.Math.Seq.{get_or-append_right}
@@ -171,3 +171,18 @@ are_lists t v s f h a i lt =
     (p.0, unflat t i, p.1, p.2, p.3, ap (λ xs. get_or xs i 0) same ∙ ap (λ j. get_or (list_of v (map side_of p.0)) j 0) (sym p.3) ∙ list_at t v s p.0 (unflat t i) f p.1 h))
     (λ ge. absurd (no_row (lists_of t v) a i (let z = choices_long t in let y = length-map (λ cs. list_of v (map side_of cs)) (choices_of t) in omega arith) lt))
     (cases_lt a (width t))
+
+rows_of_length : {A : Type 0} (f : A → List ℕ) (xs : List A) (d : A) (n : ℕ) → ((i : ℕ) → i < length xs → length (f (get_or xs i d)) ≡ n) → map length (map f xs) ≡ replicate (length xs) n
+rows_of_length f [] d n h = refl
+rows_of_length f (x ∷ xs) d n h = ap (λ k. k ∷ map length (map f xs)) (h 0 (omega arith)) ∙ ap (λ ks. n ∷ ks) (rows_of_length f xs d n (λ i lt. h (suc i) (omega arith)))
+
+-- each list is as long as a component
+pub lists_long : (t : Ty) (v : Value) (s : Scalars) → IsFlat t → HasScalars t v s → map length (lists_of t v) ≡ replicate (width t) (size t)
+lists_long t v s f h = rows_of_length (λ cs. list_of v (map side_of cs)) (choices_of t) [] (size t) long ∙ ap (λ k. replicate k (size t)) (choices_long t)
+  where
+    long : (i : ℕ) → i < length (choices_of t) → length (list_of v (map side_of (get_or (choices_of t) i []))) ≡ size t
+    long i lt =
+        let w = choices_long t in
+        let c = leads_at t i (omega arith) in
+        let k = choice_at t c.0 c.1 in
+        ap (λ j. length (list_of v (map side_of (get_or (choices_of t) j [])))) (sym c.2) ∙ ap (λ cs. length (list_of v (map side_of cs))) k.1 ∙ list_long t v s c.0 f c.1 h

@@ -47,7 +47,7 @@ operand_in num _ t u cs q a w = absurd (assumption)
 row_in : (i m n : ℕ) → n / m * m ≡ n → 0 < m → i < n → i / m < n / m
 row_in i m n e a h = (div-lt_iff_lt-mul {k = m} {x = i} {y = n / m} a).1 (omega arith)
 
-join_in : (i j m n : ℕ) → i < n → j < m → i * m + j < n * m
+pub join_in : (i j m n : ℕ) → i < n → j < m → i * m + j < n * m
 join_in i j m n a b = let h = mul-le-mul_right {m = suc i} {n = n} m a in omega arith
 
 small : (i j m : ℕ) → j < m → i + j / m ≡ i

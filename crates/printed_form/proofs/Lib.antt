@@ -1,0 +1,16 @@
+pub mod OneProof
+pub mod FromHistories
+pub mod Laid
+pub mod Runs
+pub mod Elements
+pub mod Cells
+pub mod Loops
+pub mod Folds
+pub mod Writes
+pub mod Whole
+pub mod Theorem
+pub mod Indices
+pub mod Printer
+pub mod Alike
+pub mod SameRuns
+pub mod Lengths

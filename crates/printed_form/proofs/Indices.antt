@@ -1,0 +1,215 @@
+-- Index expressions have the values of the positions: no sum or product in them wraps.
+use Rattle.std.proofs.Common.{◌≡◌, ℕ, suc, ◌+◌, ◌*◌, ◌-◌, ◌/◌, ◌%◌, ◌<◌, ◌≤◌, ◌^◌, Bool, true, false, List, [], ◌∷◌, ◌++◌, Some, None, refl, sym, ap, ◌∙◌, subst, arith}
+use Rattle.std.specs.Prelude.{min, max, if◌then◌else◌, ◌==◌, ◌&&◌}
+use Rattle.std.proofs.lemmas.Bool.{ne_eqb}
+use Rattle.std.proofs.Math.Nat.{mod-eq_of_lt, mul-le-mul_right, mul-le-mul_left, mod-lt}
+use Rattle.scalar_ops.specs.declared.op.Op.{Op}
+use Rattle.scalar_ops.specs.declared.op.Op.TheVariants.{Add, Sub, Mul, Min, Max, Div, Rem}
+use Rattle.scalar_ops.specs.Operators.{apply_op}
+use Rattle.kernel_tree.specs.Formula.{Number, Formula, Binary, divides, operate}
+use Rattle.kernel_tree.specs.Code.{Array}
+use Rattle.kernel_tree.specs.Launch.{Launch}
+use Rattle.lift_ir.specs.Types.{Ty, Scalar, PairOf, ArrayOf, IsPosition, IsFlat, IsShort, width, component, size, flat, Shape, measured}
+use Rattle.lift_ir.specs.Layouts.{HasWordStep, Layout, Split, Join, Transpose, Slide, Pad, operand_position, Reshapes, result_position, IsInvertible}
+use Rattle.printed_form.specs.Marks.{laid_in}
+use Rattle.printed_form.specs.Views.{operand_indices, result_indices, laid_view, index_from, index_in, placed_view}
+use Rattle.printed_form.specs.Means.{IsSpelled, Means, AllMean, HasCells}
+use Rattle.lift_ir.proofs.Positions.{operand_in}
+use Rattle.lift_ir.proofs.Numbers.{flat_below}
+
+module _ (l : Launch) {A : Type 0} (num : A → ℕ) (spell : A → Formula) (spelled : (n : A) → num n < 2 ^ 31 → IsSpelled l (spell n) (num n)) where
+  means_number : (ts : List ℕ) (n : ℕ) → n < 2 ^ 32 → Means l ts (Number n) n
+  means_number ts n lt = record { fits = lt; always = λ k vs. refl }
+
+  pub means_spell : (ts : List ℕ) (n : A) → num n < 2 ^ 31 → Means l ts (spell n) (num n)
+  means_spell ts n lt = record { fits = omega arith; always = λ k vs. (spelled n lt).1 k ts vs }
+
+  means_op : (ts : List ℕ) (o : Op) (f h : Formula) (x y z : ℕ) → divides o ≡ false → Means l ts f x → Means l ts h y → apply_op o x y ≡ z → z < 2 ^ 32 → Means l ts (Binary o f h) z
+  means_op ts o f h x y z d a b e lt = record { fits = lt; always = λ k vs. rw (a.always k vs, b.always k vs, d) (ap Some e) }
+
+  operate_by : (o : Op) (u n : ℕ) → 0 < n → operate o u n ≡ Some (apply_op o u n)
+  operate_by o u n h = let e : (n == 0) ≡ false = ne_eqb n 0 (λ q. absurd (omega arith)) in rw e (go (divides o))
+    where
+      go : (b : Bool) → (if b && false then None else Some (apply_op o u n)) ≡ Some (apply_op o u n)
+      go true = refl
+      go false = refl
+
+  means_by : (ts : List ℕ) (o : Op) (f h : Formula) (x y z : ℕ) → 0 < y → Means l ts f x → Means l ts h y → apply_op o x y ≡ z → z < 2 ^ 32 → Means l ts (Binary o f h) z
+  means_by ts o f h x y z pos a b e lt = record { fits = lt; always = λ k vs. rw (a.always k vs, b.always k vs) (operate_by o x y pos ∙ ap Some e) }
+
+  -- a step of an index: i * m + j
+  means_step : (ts : List ℕ) (f g h : Formula) (i j m n : ℕ) → Means l ts f i → Means l ts g m → Means l ts h j → i * m + j < n → n ≤ 2 ^ 32 → Means l ts (Binary Add (Binary Mul f g) h) (i * m + j)
+  means_step ts f g h i j m n a c b lt fn =
+      means_op ts Add (Binary Mul f g) h (i * m) j (i * m + j) refl (means_op ts Mul f g i m (i * m) refl a c (mod-eq_of_lt (omega arith)) (omega arith)) b (mod-eq_of_lt (omega arith)) (omega arith)
+
+  less : (x y : ℕ) → y ≤ x → x < 2 ^ 32 → (x + (2 ^ 32 - y)) % 2 ^ 32 ≡ x - y
+  less x y le fx = omega arith
+
+  means_pad : (ts : List ℕ) (f : Formula) (i a b : ℕ) (k : A) → Means l ts f i → 0 < num k → i < a + num k + b → a + num k + b < 2 ^ 31 → Means l ts (Binary Min (Binary Sub (Binary Max f (Number a)) (Number a)) (Binary Sub (spell k) (Number 1))) (min (max i a - a) (num k - 1))
+  means_pad ts f i a b k h pos lt small =
+      let n = num k in
+      let s = means_number ts a (omega arith) in
+      let x = means_op ts Max f (Number a) i a (max i a) refl h s refl (omega arith) in
+      let y = means_op ts Sub (Binary Max f (Number a)) (Number a) (max i a) a (max i a - a) refl x s (less (max i a) a (omega arith) (omega arith)) (omega arith) in
+      let z = means_op ts Sub (spell k) (Number 1) n 1 (n - 1) refl (means_spell ts k (omega arith)) (means_number ts 1 (omega arith)) (less n 1 (omega arith) (omega arith)) (omega arith) in
+      means_op ts Min (Binary Sub (Binary Max f (Number a)) (Number a)) (Binary Sub (spell k) (Number 1)) (max i a - a) (n - 1) (min (max i a - a) (n - 1)) refl y z refl (omega arith)
+
+  means_parts : (ts : List ℕ) (f : Formula) (i : ℕ) (z : A) → Means l ts f i → 0 < num z → num z < 2 ^ 31 → Means l ts (Binary Div f (spell z)) (i / num z) × Means l ts (Binary Rem f (spell z)) (i % num z)
+  means_parts ts f i z a pos lt =
+      let m = num z in
+      let s = means_spell ts z lt in
+      let b = a.fits in
+      let c = mod-lt i pos in
+      (means_by ts Div f (spell z) i m (i / m) pos a s refl (omega arith), means_by ts Rem f (spell z) i m (i % m) pos a s refl (omega arith))
+
+  -- a position through a layout
+  pub operand_means : (ts : List ℕ) (y : Layout A) (t u : Ty) (cs : List Bool) (is : List Formula) (q : List ℕ) → HasWordStep y → Reshapes num y t u → IsShort t → IsShort u → IsPosition u cs q → AllMean l ts is q → AllMean l ts (operand_indices spell y is) (operand_position num y q)
+  operand_means ts (Split m) (ArrayOf n t) u cs is q sp a sh su w g = go is q (subst (λ z. IsPosition z cs q) a.2 w) (subst IsShort a.2 su) g
+    where
+      go : (is : List Formula) (q : List ℕ) → IsPosition (ArrayOf (n / num m) (ArrayOf (num m) t)) cs q → IsShort (ArrayOf (n / num m) (ArrayOf (num m) t)) → AllMean l ts is q → AllMean l ts (operand_indices spell (Split m) is) (operand_position num (Split m) q)
+      go is [] w s g = absurd w
+      go is (i ∷ []) w s g = absurd w.1
+      go [] (i ∷ j ∷ q) w s g = absurd g
+      go (f ∷ []) (i ∷ j ∷ q) w s g = absurd g.1
+      go (f ∷ h ∷ fs) (i ∷ j ∷ q) w s g =
+          let b = operand_in num (Split m) (ArrayOf n t) (ArrayOf (n / num m) (ArrayOf (num m) t)) cs (i ∷ j ∷ q) (a.0, a.1, refl) w in
+          (means_step ts f (spell m) h i j (num m) n g.0 (means_spell ts m s.1.0) g.1.0 b.0 (let z = sh.0 in omega arith), g.1.1)
+  operand_means ts (Join m) (ArrayOf n (ArrayOf k t)) u cs is q sp a sh su w g = go is q (subst (λ z. IsPosition z cs q) a.2 w) g
+    where
+      go : (is : List Formula) (q : List ℕ) → IsPosition (ArrayOf (n * num m) t) cs q → AllMean l ts is q → AllMean l ts (operand_indices spell (Join m) is) (operand_position num (Join m) q)
+      go is [] w g = absurd w
+      go [] (i ∷ q) w g = absurd g
+      go (f ∷ fs) (i ∷ q) w g = let p = means_parts ts f i m g.0 a.0 (let e = a.1 in let z = sh.1.0 in omega arith) in (p.0, (p.1, g.1))
+  operand_means ts Transpose (ArrayOf n (ArrayOf m t)) u cs is q sp a sh su w g = go is q (subst (λ z. IsPosition z cs q) a.1 w) g
+    where
+      go : (is : List Formula) (q : List ℕ) → IsPosition (ArrayOf m (ArrayOf n t)) cs q → AllMean l ts is q → AllMean l ts (operand_indices spell Transpose is) (operand_position num Transpose q)
+      go is [] w g = absurd w
+      go is (i ∷ []) w g = absurd w.1
+      go [] (i ∷ j ∷ q) w g = absurd g
+      go (f ∷ []) (i ∷ j ∷ q) w g = absurd g.1
+      go (f ∷ h ∷ fs) (i ∷ j ∷ q) w g = (g.1.0, (g.0, g.1.1))
+  operand_means ts (Slide s k) (ArrayOf n t) u cs is q sp a sh su w g = go is q (subst (λ z. IsPosition z cs q) a.3 w) g
+    where
+      go : (is : List Formula) (q : List ℕ) → IsPosition (ArrayOf ((n - s) / k + 1) (ArrayOf s t)) cs q → AllMean l ts is q → AllMean l ts (operand_indices spell (Slide s k) is) (operand_position num (Slide s k) q)
+      go is [] w g = absurd w
+      go is (i ∷ []) w g = absurd w.1
+      go [] (i ∷ j ∷ q) w g = absurd g
+      go (f ∷ []) (i ∷ j ∷ q) w g = absurd g.1
+      go (f ∷ h ∷ fs) (i ∷ j ∷ q) w g =
+          let b = operand_in num (Slide s k) (ArrayOf n t) (ArrayOf ((n - s) / k + 1) (ArrayOf s t)) cs (i ∷ j ∷ q) (a.0, a.1, a.2, refl) w in
+          (means_step ts f (Number k) h i j k n g.0 (means_number ts k (omega (arith, sp))) g.1.0 b.0 (let z = sh.0 in omega arith), g.1.1)
+  operand_means ts (Pad x y k) (ArrayOf n t) u cs is q sp a sh su w g = go is q (subst (λ z. IsPosition z cs q) (a.2 ∙ ap (λ z. ArrayOf (x + z + y) t) (sym a.1)) w) (subst IsShort (a.2 ∙ ap (λ z. ArrayOf (x + z + y) t) (sym a.1)) su) g
+    where
+      go : (is : List Formula) (q : List ℕ) → IsPosition (ArrayOf (x + num k + y) t) cs q → IsShort (ArrayOf (x + num k + y) t) → AllMean l ts is q → AllMean l ts (operand_indices spell (Pad x y k) is) (operand_position num (Pad x y k) q)
+      go is [] w s g = absurd w
+      go [] (i ∷ q) w s g = absurd g
+      go (f ∷ fs) (i ∷ q) w s g = (means_pad ts f i x y k g.0 (let p = a.0 in let e = a.1 in omega arith) w.0 s.0, g.1)
+  operand_means ts _ t u cs is q sp a sh su w g = absurd (assumption)
+
+  -- and back, in writing
+  pub result_means : (ts : List ℕ) (y : Layout A) (t u : Ty) (cs : List Bool) (is : List Formula) (q : List ℕ) → IsInvertible y → Reshapes num y t u → IsShort t → IsShort u → IsPosition t cs q → AllMean l ts is q → AllMean l ts (result_indices spell y is) (result_position num y q)
+  result_means ts (Split m) (ArrayOf n t) u cs is [] z a sh su w g = absurd w
+  result_means ts (Split m) (ArrayOf n t) u cs [] (i ∷ q) z a sh su w g = absurd g
+  result_means ts (Split m) (ArrayOf n t) u cs (f ∷ fs) (i ∷ q) z a sh su w g =
+      let s = subst IsShort a.2 su in
+      let p = means_parts ts f i m g.0 a.0 s.1.0 in
+      (p.0, (p.1, g.1))
+  result_means ts (Join m) (ArrayOf n (ArrayOf k t)) u cs is [] z a sh su w g = absurd w
+  result_means ts (Join m) (ArrayOf n (ArrayOf k t)) u cs is (i ∷ []) z a sh su w g = absurd w.1
+  result_means ts (Join m) (ArrayOf n (ArrayOf k t)) u cs [] (i ∷ j ∷ q) z a sh su w g = absurd g
+  result_means ts (Join m) (ArrayOf n (ArrayOf k t)) u cs (f ∷ []) (i ∷ j ∷ q) z a sh su w g = absurd g.1
+  result_means ts (Join m) (ArrayOf n (ArrayOf k t)) u cs (f ∷ h ∷ fs) (i ∷ j ∷ q) z a sh su w g =
+      let s = subst IsShort a.2 su in
+      let e = a.1 in
+      let more = mul-le-mul_right {m = suc i} {n = n} (num m) w.0 in
+      let lt : i * num m + j < n * num m = (let b = w.1.0 in omega arith) in
+      (means_step ts f (spell m) h i j (num m) (n * num m) g.0 (means_spell ts m (let c = sh.1.0 in omega arith)) g.1.0 lt (let c = s.0 in omega arith), g.1.1)
+  result_means ts Transpose (ArrayOf n (ArrayOf m t)) u cs is [] z a sh su w g = absurd w
+  result_means ts Transpose (ArrayOf n (ArrayOf m t)) u cs is (i ∷ []) z a sh su w g = absurd w.1
+  result_means ts Transpose (ArrayOf n (ArrayOf m t)) u cs [] (i ∷ j ∷ q) z a sh su w g = absurd g
+  result_means ts Transpose (ArrayOf n (ArrayOf m t)) u cs (f ∷ []) (i ∷ j ∷ q) z a sh su w g = absurd g.1
+  result_means ts Transpose (ArrayOf n (ArrayOf m t)) u cs (f ∷ h ∷ fs) (i ∷ j ∷ q) z a sh su w g = (g.1.0, (g.0, g.1.1))
+  result_means ts (Slide s k) t u cs is q z a sh su w g = absurd z
+  result_means ts (Pad x y k) t u cs is q z a sh su w g = absurd z
+  result_means ts _ t u cs is q z a sh su w g = absurd (assumption)
+
+  -- the number of a scalar
+
+  abbrev flat_from : ℕ → Ty → List ℕ → ℕ
+  flat_from i (ArrayOf m t) (j ∷ q) = flat_from (i * m + j) t q
+  flat_from i _ _ = i
+
+  regroup : (i m j s f : ℕ) → (i * m + j) * s + f ≡ i * (m * s) + (j * s + f)
+  regroup i m j s f = let e : (i * m + j) * s ≡ i * (m * s) + j * s = grind arith in omega arith
+
+  flat_long : (i : ℕ) (t : Ty) (cs : List Bool) (q : List ℕ) → IsFlat t → IsPosition t cs q → flat_from i t q ≡ i * size t + flat t q
+  flat_long i Scalar cs q f w = omega arith
+  flat_long i (PairOf a b) cs q f w = omega arith
+  flat_long i (ArrayOf m t) cs [] f w = absurd w
+  flat_long i (ArrayOf m t) cs (j ∷ q) f w = flat_long (i * m + j) t cs q f w.1 ∙ regroup i m j (size t) (flat t q)
+
+  size_pos : (t : Ty) (cs : List Bool) (q : List ℕ) → IsFlat t → IsPosition t cs q → 1 ≤ size t
+  size_pos t cs q f w = let a = flat_below t cs q f w in omega arith
+
+  from_means : (ts : List ℕ) (f : Formula) (i n : ℕ) (t : Ty) (cs : List Bool) (is : List Formula) (q : List ℕ) → IsFlat t → IsShort t → IsPosition t cs q → Means l ts f i → flat_from i t q < n → n ≤ 2 ^ 32 → AllMean l ts is q → Means l ts (index_from Number f t is) (flat_from i t q)
+  from_means ts f i n Scalar cs is q e sh w a lt fn g = a
+  from_means ts f i n (PairOf x y) cs is q e sh w a lt fn g = a
+  from_means ts f i n (ArrayOf m t) cs is [] e sh w a lt fn g = absurd w
+  from_means ts f i n (ArrayOf m t) cs [] (j ∷ q) e sh w a lt fn g = absurd g
+  from_means ts f i n (ArrayOf m t) cs (h ∷ fs) (j ∷ q) e sh w a lt fn g =
+      let k = i * m + j in
+      let long = flat_long k t cs q e w.1 in
+      let more = mul-le-mul_left {m = 1} {n = size t} k (size_pos t cs q e w.1) in
+      from_means ts (Binary Add (Binary Mul f (Number m)) h) k n t cs fs q e sh.1 w.1 (means_step ts f (Number m) h i j m n a (means_number ts m (omega (arith, sh.0))) g.0 (omega arith) fn) lt fn g.1
+
+  flat_means : (ts : List ℕ) (t : Ty) (cs : List Bool) (is : List Formula) (q : List ℕ) → IsFlat t → IsShort t → size t < 2 ^ 31 → IsPosition t cs q → AllMean l ts is q → Means l ts (index_in Number t is) (flat t q)
+  flat_means ts Scalar cs is q e sh small w g = record { fits = omega arith; always = λ k vs. refl }
+  flat_means ts (PairOf a b) cs is q e sh small w g = record { fits = omega arith; always = λ k vs. refl }
+  flat_means ts (ArrayOf n t) cs is [] e sh small w g = absurd w
+  flat_means ts (ArrayOf n t) cs [] (i ∷ q) e sh small w g = absurd g
+  flat_means ts (ArrayOf n t) cs (f ∷ fs) (i ∷ q) e sh small w g =
+      let long = flat_long i t cs q e w.1 in
+      let below = flat_below (ArrayOf n t) cs (i ∷ q) e w in
+      subst (Means l ts (index_in Number (ArrayOf n t) (f ∷ fs))) long (from_means ts f i (2 ^ 32) t cs fs q e sh.1 w.1 g.0 (omega arith) (omega arith) g.1)
+
+  -- a value laid in arrays has its cells
+  pub laid_cells : (ts : List ℕ) (form : ℕ → Array) (first : ℕ) (t : Ty) → IsFlat t → IsShort t → size t < 2 ^ 31 → HasCells l ts t (laid_view form first t) (laid_in form first t)
+  laid_cells ts form first t e sh small us cs is q w g = (refl, flat_means (ts ++ us) t cs is q e sh small w g)
+
+  -- the same over shapes
+
+  width_same : (t : Shape A) → width (measured num t) ≡ width t
+  width_same Scalar = refl
+  width_same (PairOf a b) = let x = width_same a in let y = width_same b in omega arith
+  width_same (ArrayOf n t) = width_same t
+
+  component_same : (t : Shape A) (cs : List Bool) → component (measured num t) cs ≡ component t cs
+  component_same Scalar cs = refl
+  component_same (PairOf a b) [] = refl
+  component_same (PairOf a b) (false ∷ cs) = component_same a cs
+  component_same (PairOf a b) (true ∷ cs) = let x = width_same a in let y = component_same b cs in omega arith
+  component_same (ArrayOf n t) cs = component_same t cs
+
+  shape_from_means : (ts : List ℕ) (f : Formula) (i n : ℕ) (t : Shape A) (cs : List Bool) (is : List Formula) (q : List ℕ) → IsFlat (measured num t) → IsShort (measured num t) → IsPosition (measured num t) cs q → Means l ts f i → flat_from i (measured num t) q < n → n ≤ 2 ^ 32 → AllMean l ts is q → Means l ts (index_from spell f t is) (flat_from i (measured num t) q)
+  shape_from_means ts f i n Scalar cs is q e sh w a lt fn g = a
+  shape_from_means ts f i n (PairOf x y) cs is q e sh w a lt fn g = a
+  shape_from_means ts f i n (ArrayOf m t) cs is [] e sh w a lt fn g = absurd w
+  shape_from_means ts f i n (ArrayOf m t) cs [] (j ∷ q) e sh w a lt fn g = absurd g
+  shape_from_means ts f i n (ArrayOf m t) cs (h ∷ fs) (j ∷ q) e sh w a lt fn g =
+      let k = i * num m + j in
+      let long = flat_long k (measured num t) cs q e w.1 in
+      let more = mul-le-mul_left {m = 1} {n = size (measured num t)} k (size_pos (measured num t) cs q e w.1) in
+      shape_from_means ts (Binary Add (Binary Mul f (spell m)) h) k n t cs fs q e sh.1 w.1 (means_step ts f (spell m) h i j (num m) n a (means_spell ts m sh.0) g.0 (omega arith) fn) lt fn g.1
+
+  shape_flat_means : (ts : List ℕ) (t : Shape A) (cs : List Bool) (is : List Formula) (q : List ℕ) → IsFlat (measured num t) → IsShort (measured num t) → size (measured num t) < 2 ^ 31 → IsPosition (measured num t) cs q → AllMean l ts is q → Means l ts (index_in spell t is) (flat (measured num t) q)
+  shape_flat_means ts Scalar cs is q e sh small w g = record { fits = omega arith; always = λ k vs. refl }
+  shape_flat_means ts (PairOf a b) cs is q e sh small w g = record { fits = omega arith; always = λ k vs. refl }
+  shape_flat_means ts (ArrayOf n t) cs is [] e sh small w g = absurd w
+  shape_flat_means ts (ArrayOf n t) cs [] (i ∷ q) e sh small w g = absurd g
+  shape_flat_means ts (ArrayOf n t) cs (f ∷ fs) (i ∷ q) e sh small w g =
+      let long = flat_long i (measured num t) cs q e w.1 in
+      let below = flat_below (measured num (ArrayOf n t)) cs (i ∷ q) e w in
+      subst (Means l ts (index_in spell (ArrayOf n t) (f ∷ fs))) long (shape_from_means ts f i (2 ^ 32) t cs fs q e sh.1 w.1 g.0 (omega arith) (omega arith) g.1)
+
+  pub placed_cells : (ts : List ℕ) (form : ℕ → Array) (first : ℕ) (t : Shape A) → IsFlat (measured num t) → IsShort (measured num t) → size (measured num t) < 2 ^ 31 → HasCells l ts (measured num t) (placed_view spell form first t) (laid_in form first (measured num t))
+  placed_cells ts form first t e sh small us cs is q w g = (ap (λ c. form (first + c)) (sym (component_same t cs)), shape_flat_means (ts ++ us) t cs is q e sh small w g)
