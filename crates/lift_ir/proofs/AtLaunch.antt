@@ -1,6 +1,5 @@
 -- What the typing relation says of lengths holds of their values.
 use Rattle.std.proofs.Common.{◌≡◌, ℕ, ◌+◌, ◌-◌, ◌*◌, ◌/◌, ◌<◌, ◌≤◌, List, length, refl, sym, ap, ◌∙◌, subst, arith, ℤ, pos, negsuc, ◌+ℤ◌, ◌*ℤ◌, ◌≤ℤ◌}
-use Rattle.std.specs.Prelude.{nat_abs}
 use Rattle.std.proofs.lemmas.Int.{ints}
 use Rattle.std.proofs.Math.Nat.{mul-div_cancel_left}
 use Rattle.size_arith.specs.declared.poly.Monomial.{Monomial}
@@ -17,12 +16,12 @@ use Rattle.lift_tree.specs.Typing.{Declared, UnaryRow, constant, IsAdmissible}
 use Rattle.lift_tree.proofs.Sizes.{number_at, value-of_monomial, value-constant, value-quotient, product_value}
 use Rattle.lift_ir.specs.Types.{ArrayOf}
 use Rattle.lift_ir.specs.Layouts.{Split, Transpose, Slide, Reshapes}
-use Rattle.lift_ir.specs.AtLaunch.{length_at, ty_at, layout_of}
+use Rattle.lift_ir.specs.AtLaunch.{natural, inner_of, length_at, ty_at, layout_of}
 
 -- a length that is shown at least 1
-abs_is : (z : ℤ) → pos 0 ≤ℤ z → pos (nat_abs z) ≡ z
-abs_is (pos n) h = refl
-abs_is (negsuc n) h = absurd (omega (arith, ints))
+natural_is : (z : ℤ) → pos 0 ≤ℤ z → pos (natural z) ≡ z
+natural_is (pos n) h = refl
+natural_is (negsuc n) h = absurd (omega (arith, ints))
 
 pos_same : (m n : ℕ) → pos m ≡ pos n → m ≡ n
 pos_same m n e = cc
@@ -37,12 +36,12 @@ module _ (d : Declared) (w : World) (ok : IsAdmissible d w) (few : length d.name
   long : (n : List Monomial) → ShownAtLeast 1 d.names n → (pos (at n) ≡ value_at w.bases n) × (0 < at n)
   long n s =
       let a = shown 1 n s in
-      let e = abs_is (value_at w.bases n) (omega (arith, ints)) in
+      let e = natural_is (value_at w.bases n) (omega (arith, ints)) in
       (e, omega (arith, ints))
 
   -- a form's row at a launch: through b's own equation
   abbrev Of : (b a : PlainTy) → UnaryForm → Type 0
-  Of b a f = Reshapes (length_at w.bases) (layout_of d.names f b) (ty_at w.bases b) (ty_at w.bases a)
+  Of b a f = Reshapes (length_at w.bases) (layout_of f a b) (ty_at w.bases b) (ty_at w.bases a)
 
   quotient_is : (n q : List Monomial) (m : Monomial) (k : ℕ) → monomial_at w.bases m ≡ pos k → value_at w.bases n ≡ monomial_at w.bases m *ℤ value_at w.bases q → pos (at n) ≡ value_at w.bases n → pos (at q) ≡ value_at w.bases q → at n ≡ k * at q
   quotient_is n q m k e f en eq = pos_same (at n) (k * at q) (en ∙ f ∙ ap (λ z. z *ℤ value_at w.bases q) e ∙ ap (λ z. pos k *ℤ z) (sym eq) ∙ pos_times k (at q))
@@ -61,14 +60,14 @@ module _ (d : Declared) (w : World) (ok : IsAdmissible d w) (few : length d.name
       let whole : at n ≡ at size * at q = quotient_is n q m (at size) e (value-quotient w.bases m n r.3) (long n child.0).0 (long q formed.0).0 in
       let divided : at n / at size ≡ at q = ap (λ z. z / at size) whole ∙ mul-div_cancel_left (at q) es.1 in
       let back : at n / at size * at size ≡ at n = ap (λ z. z * at size) divided ∙ (let y : at q * at size ≡ at size * at q = grind arith in y) ∙ sym whole in
-      subst (λ z. Reshapes (length_at w.bases) (Split size) (ty_at w.bases z) (ty_at w.bases a)) (sym r.2)
-      (es.1, back, ap (ty_at w.bases) r.4 ∙ ap (λ z. ArrayOf z (ArrayOf (at size) (ty_at w.bases x))) (sym divided))
+      subst (λ z. Reshapes (length_at w.bases) (Split (inner_of z)) (ty_at w.bases b) (ty_at w.bases a)) (sym r.4)
+      (subst (λ z. Reshapes (length_at w.bases) (Split size) (ty_at w.bases z) (ty_at w.bases a)) (sym r.2) (es.1, back, ap (ty_at w.bases) r.4 ∙ ap (λ z. ArrayOf z (ArrayOf (at size) (ty_at w.bases x))) (sym divided)))
 
   -- a split's length is its product of numbers and sizes
   pub split_size : (fs : List Factor) → at (of_monomial (product_of d.names fs)) ≡ product_at w.sizes fs
   split_size fs =
       let e : monomial_at w.bases (product_of d.names fs) ≡ pos (product_at w.sizes fs) = product_value d.names w.bases ok.bases few fs ∙ ap (λ ss. pos (product_at ss fs)) (sym ok.sizes) in
-      ap nat_abs (value-of_monomial w.bases (product_of d.names fs) ∙ e)
+      ap natural (value-of_monomial w.bases (product_of d.names fs) ∙ e)
 
   pub join_reshapes : (b a : PlainTy) → IsFormed d.names b → UnaryRow d.names unary.Join b a → Of b a unary.Join
   join_reshapes b a fb r =
@@ -79,7 +78,7 @@ module _ (d : Declared) (w : World) (ok : IsAdmissible d w) (few : length d.name
       let em = long m child.1.0 in
       let en = long n child.0 in
       let product : value_at w.bases (times n m) ≡ pos (at n * at m) = value-times w.bases n m ∙ ap (λ z. z *ℤ value_at w.bases m) (sym en.0) ∙ ap (λ z. pos (at n) *ℤ z) (sym em.0) ∙ pos_times (at n) (at m) in
-      subst (λ z. Reshapes (length_at w.bases) (layout_of d.names unary.Join z) (ty_at w.bases z) (ty_at w.bases a)) (sym r.3) (em.1, refl, ap (ty_at w.bases) r.4 ∙ ap (λ z. ArrayOf (nat_abs z) (ty_at w.bases x)) product)
+      subst (λ z. Reshapes (length_at w.bases) (layout_of unary.Join a z) (ty_at w.bases z) (ty_at w.bases a)) (sym r.3) (em.1, refl, ap (ty_at w.bases) r.4 ∙ ap (λ z. ArrayOf (natural z) (ty_at w.bases x)) product)
 
   pub transpose_reshapes : (b a : PlainTy) → IsFormed d.names b → UnaryRow d.names unary.Transpose b a → Of b a unary.Transpose
   transpose_reshapes b a fb r =
@@ -106,12 +105,12 @@ module _ (d : Declared) (w : World) (ok : IsAdmissible d w) (few : length d.name
       let sum = value-plus w.bases q (constant 1) in
       let one = value-constant w.bases 1 in
       let qn : pos 0 ≤ℤ value_at w.bases q = (let z = total.0 in let y = total.1 in omega (arith, ints)) in
-      let eq = abs_is (value_at w.bases q) qn in
+      let eq = natural_is (value_at w.bases q) qn in
       let whole : at n - s ≡ t * at q = pos_same (at n - s) (t * at q) (er ∙ f ∙ ap (λ z. pos t *ℤ z) (sym eq) ∙ pos_times t (at q)) in
       let divided : (at n - s) / t ≡ at q = ap (λ z. z / t) whole ∙ mul-div_cancel_left (at q) r.3 in
       let back : (at n - s) / t * t ≡ at n - s = ap (λ z. z * t) divided ∙ (let y : at q * t ≡ t * at q = grind arith in y) ∙ sym whole in
       let count : at (plus q (constant 1)) ≡ (at n - s) / t + 1 = pos_same _ _ (total.0 ∙ sum ∙ ap (λ z. value_at w.bases q +ℤ z) one ∙ ap (λ z. z +ℤ pos 1) (sym eq) ∙ ap (λ z. pos (z + 1)) (sym divided)) in
-      let inner : at (constant s) ≡ s = ap nat_abs size in
+      let inner : at (constant s) ≡ s = ap natural size in
       subst (λ z. Reshapes (length_at w.bases) (Slide s t) (ty_at w.bases z) (ty_at w.bases a)) (sym r.2)
       (r.3, within, back, ap (ty_at w.bases) r.6 ∙ ap (λ z. ArrayOf z (ArrayOf (at (constant s)) X)) count ∙ ap (λ z. ArrayOf ((at n - s) / t + 1) (ArrayOf z X)) inner)
 
@@ -126,4 +125,4 @@ module _ (d : Declared) (w : World) (ok : IsAdmissible d w) (few : length d.name
       let before = value-constant w.bases l in
       let after = value-constant w.bases k in
       let total : value_at w.bases (plus (plus (constant l) n) (constant k)) ≡ pos (l + at n + k) = (let z = en.0 in omega (arith, ints)) in
-      subst (λ z. Reshapes (length_at w.bases) (layout_of d.names (unary.Pad l k) z) (ty_at w.bases z) (ty_at w.bases a)) (sym r.2) (en.1, refl, ap (ty_at w.bases) r.3 ∙ ap (λ z. ArrayOf (nat_abs z) (ty_at w.bases x)) total)
+      subst (λ z. Reshapes (length_at w.bases) (layout_of (unary.Pad l k) a z) (ty_at w.bases z) (ty_at w.bases a)) (sym r.2) (en.1, refl, ap (ty_at w.bases) r.3 ∙ ap (λ z. ArrayOf (natural z) (ty_at w.bases x)) total)

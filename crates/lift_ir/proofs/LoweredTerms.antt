@@ -1,9 +1,8 @@
 -- Two typed terms as they are lowered; the laws' premises hold of them.
 use Rattle.std.proofs.Common.{◌≡◌, ℕ, ◌<◌, ◌^◌, List, [], Some, refl, sym, ap, subst, arith}
-use Rattle.std.specs.Prelude.{slice_get, nat_abs}
+use Rattle.std.specs.Prelude.{slice_get}
 use Rattle.scalar_ops.specs.declared.op.Op.TheVariants.{Add}
 use Rattle.scalar_ops.specs.declared.op.Reducer.TheVariants as reducer
-use Rattle.size_arith.specs.declared.names.Name.{Name}
 use Rattle.size_arith.specs.declared.poly.Monomial.{Monomial}
 use Rattle.lift_tree.specs.declared.term.Operator.TheVariants as operator
 use Rattle.lift_tree.specs.declared.term.UnaryForm.TheVariants as unary
@@ -18,7 +17,7 @@ use Rattle.lift_tree.specs.Annotations.{Annotation, Leaf, One, Two, Three, Annot
 use Rattle.lift_tree.proofs.Sizes.{value-constant}
 use Rattle.lift_ir.specs.Types.{Scalar, ArrayOf}
 use Rattle.lift_ir.specs.Terms.{Take, PrivateMemory, Global, Sequential, Literal, Bound, Source, Apply, Map, Fold, Store, Copy}
-use Rattle.lift_ir.specs.AtLaunch.{length_at}
+use Rattle.lift_ir.specs.AtLaunch.{natural, length_at}
 use Rattle.lift_ir.specs.Lowering.{Written, lower}
 use Rattle.lift_ir.specs.Lowerable.{IsLowerable, IsStaged}
 
@@ -35,8 +34,8 @@ increments = tree.Map map_kind.Global (tree.Input 0) (sum (tree.Variable 0) (tre
 abbrev increments_types : List Monomial → Annotation
 increments_types n = Two (types.ArrayOf types.U32 n) (Leaf (types.ArrayOf types.U32 n)) (Two types.U32 scalar scalar)
 
-increments_lowered : (names : List Name) (n : List Monomial) → lower names Written increments (increments_types n) ≡ Map Global n Take (Source 0) (Store Scalar (Apply Add (Bound 0) (Literal 1)))
-increments_lowered names n = refl
+increments_lowered : (n : List Monomial) → lower Written increments (increments_types n) ≡ Map Global n Take (Source 0) (Store Scalar (Apply Add (Bound 0) (Literal 1)))
+increments_lowered n = refl
 
 increments_are_typed : (d : Declared) (n : List Monomial) → slice_get d.inputs 0 ≡ Some (types.ArrayOf types.U32 n) → Annotates d [] increments (increments_types n)
 increments_are_typed d n e = (types.U32, n, e, refl, (refl, (omega arith, refl), (refl, refl, refl)), refl)
@@ -60,8 +59,8 @@ sums k = tree.Fold k kept (tree.Number 0) (sum (tree.Variable 1) (tree.Variable 
 abbrev sums_types : Annotation
 sums_types = Three (types.ArrayOf types.U32 (constant 1)) (One (types.ArrayOf types.U32 five) (increments_types five)) scalar (Two types.U32 scalar scalar)
 
-sums_lowered : (names : List Name) (k : FoldKind) → lower names Written (sums k) sums_types ≡ Fold five Take Scalar (Copy PrivateMemory (ArrayOf 5 Scalar) (Map Sequential five Take (Source 0) (Store Scalar (Apply Add (Bound 0) (Literal 1))))) (Literal 0) (Apply Add (Bound 1) (Bound 0))
-sums_lowered names k = refl
+sums_lowered : (k : FoldKind) → lower Written (sums k) sums_types ≡ Fold five Take Scalar (Copy PrivateMemory (ArrayOf 5 Scalar) (Map Sequential five Take (Source 0) (Store Scalar (Apply Add (Bound 0) (Literal 1))))) (Literal 0) (Apply Add (Bound 1) (Bound 0))
+sums_lowered k = refl
 
 sums_are_typed : (d : Declared) (k : FoldKind) → slice_get d.inputs 0 ≡ Some (types.ArrayOf types.U32 five) → Annotates d [] (sums k) sums_types
 sums_are_typed d k e = (types.U32, five, (increments_are_typed d five e, refl), refl, (omega arith, refl), tt, (refl, refl, (refl, refl, refl)), refl, refl)
@@ -71,6 +70,6 @@ sums_are_staged k = ((tt, omega arith, (omega arith, tt), (tt, (tt, tt))), tt, (
 
 sums_are_legal : (ys : List ℕ) (k : FoldKind) → IsLowerable ys Written (sums k) sums_types
 sums_are_legal ys k =
-    let e : length_at ys five ≡ 5 = ap nat_abs (value-constant ys 5) in
+    let e : length_at ys five ≡ 5 = ap natural (value-constant ys 5) in
     let low : length_at ys five < 2 ^ 31 = subst (λ z. z < 2 ^ 31) (sym e) (omega arith) in
     (low, ((low, tt), (low, tt), (tt, ap (λ z. ArrayOf z Scalar) e), increments_are_legal ys five low), tt, (tt, tt, tt))

@@ -1,5 +1,5 @@
 -- A typed term's lowered term has its value, and its type at each admissible launch.
-use Rattle.std.proofs.Common.{◌≡◌, ℕ, zero, suc, ◌+◌, ◌<◌, ◌≤◌, Bool, true, false, List, [], ◌∷◌, length, Some, refl, sym, inl, inr, arith, pos, ◌≤ℤ◌}
+use Rattle.std.proofs.Common.{◌≡◌, ℕ, zero, suc, ◌+◌, ◌<◌, ◌≤◌, Bool, true, false, List, [], ◌∷◌, length, Some, refl, sym, ap, ◌∙◌, inl, inr, arith, pos, ◌≤ℤ◌}
 use Rattle.std.specs.Prelude.{slice_get, if◌then◌else◌, nat_eq}
 use Rattle.size_arith.specs.declared.poly.Monomial.{Monomial}
 use Rattle.size_arith.specs.Polynomial.{value_at}
@@ -19,6 +19,7 @@ use Rattle.lift_ir.specs.Sources.{Lowers}
 use Rattle.lift_ir.specs.AtLaunch.{length_at, ty_at}
 use Rattle.lift_ir.specs.Lowering.{Place, Written, Argument, Element, element_ty, is_element, Lowered, placed, all_scalars, reached, merged, named, operand_place, value_place, body_place, lower_let, placed_element, lower}
 use Rattle.lift_ir.specs.Lowerable.{IsLowerable}
+use Rattle.lift_ir.specs.AtLaunch.{inner_of}
 use Rattle.lift_ir.proofs.AtLaunch.{split_size}
 
 there_is : (g : List PlainTy) (v : ℕ) (a : PlainTy) → slice_get g v ≡ Some a → v < length g
@@ -53,7 +54,7 @@ module _ (d : Declared) (w : World) (ok : IsAdmissible d w) (few : length d.name
       go false = h
 
   -- the lowered term is the source's
-  pub lowers_is : (t : Tree) (p : Place) (g : List PlainTy) (a : Annotation) (n : ℕ) → length g ≡ n → Annotates d g t a → IsLowerable w.bases p t a → Is n t (lower d.names p t a)
+  pub lowers_is : (t : Tree) (p : Place) (g : List PlainTy) (a : Annotation) (n : ℕ) → length g ≡ n → Annotates d g t a → IsLowerable w.bases p t a → Is n t (lower p t a)
   lowers_is (tree.Variable v) p g (Leaf a) n e h l = lowers_put p a n _ _ (refl, let z = there_is g v a h in omega arith)
   lowers_is (tree.Number c) p g (Leaf a) n e h l = lowers_put p a n _ _ refl
   lowers_is (tree.Input i) p g (Leaf a) n e h l = (refl, there_is d.inputs i a h)
@@ -63,7 +64,7 @@ module _ (d : Declared) (w : World) (ok : IsAdmissible d w) (few : length d.name
   lowers_is (tree.Unary unary.Second t) p g (One a x) n e h l = lowers_put p a n _ _ (t, refl, lowers_is t (operand_place unary.Second p) g x n e h.0 l.3)
   lowers_is (tree.Unary unary.Join t) p g (One a x) n e h l = (t, refl, lowers_is t p g x n e h.0 l.3)
   lowers_is (tree.Unary unary.Transpose t) p g (One a x) n e h l = (t, refl, lowers_is t p g x n e h.0 l.3)
-  lowers_is (tree.Unary (unary.Split fs) t) p g (One a x) n e h l = (t, (fs, refl, sym (split_size d w ok few shown fs)), lowers_is t p g x n e h.0 l.3)
+  lowers_is (tree.Unary (unary.Split fs) t) p g (One a x) n e h l = (t, (fs, refl, sym (ap (λ z. length_at w.bases (inner_of z)) h.1.4 ∙ split_size d w ok few shown fs)), lowers_is t p g x n e h.0 l.3)
   lowers_is (tree.Unary (unary.Slide s k) t) p g (One a x) n e h l = (t, refl, lowers_is t p g x n e h.0 l.3)
   lowers_is (tree.Unary (unary.Pad s k) t) p g (One a x) n e h l = (t, refl, lowers_is t p g x n e h.0 l.3)
   lowers_is (tree.Unary unary.ToLocal t) p g (One a x) n e h l = (t, refl, lowers_is t Written g x n e h.0 l.3)

@@ -1,6 +1,6 @@
 -- A typed term's lowered term has its type at each admissible launch.
 use Rattle.std.proofs.Common.{◌≡◌, ℕ, zero, suc, ◌≤◌, Bool, true, false, List, [], ◌∷◌, length, Some, refl, sym, ap, ◌∙◌, subst, pos, ◌≤ℤ◌}
-use Rattle.std.specs.Prelude.{slice_get, if◌then◌else◌, nat_abs}
+use Rattle.std.specs.Prelude.{slice_get, if◌then◌else◌}
 use Rattle.size_arith.specs.declared.poly.Monomial.{Monomial}
 use Rattle.size_arith.specs.Polynomial.{value_at}
 use Rattle.size_arith.specs.Shown.{ShownAtLeast}
@@ -24,7 +24,7 @@ use Rattle.kernel_tree.specs.Formula.{divides}
 use Rattle.size_arith.proofs.Soundness.{shown_at_least}
 use Rattle.lift_ir.specs.Types.{Ty, PairOf, ArrayOf, IsElement, IsFlat}
 use Rattle.lift_ir.specs.Terms.{LoadsScalars, Term, HasType, push}
-use Rattle.lift_ir.specs.AtLaunch.{length_at, ty_at, outer_of, types_at}
+use Rattle.lift_ir.specs.AtLaunch.{natural, length_at, ty_at, outer_of, types_at}
 use Rattle.lift_ir.specs.Lowering.{Place, Written, Argument, Element, element_ty, is_element, element_of, Lowered, placed, named, operand_place, value_place, body_place, lower_let, placed_element, lower}
 use Rattle.lift_ir.specs.Lowerable.{SuitsPlace, IsLowerable}
 use Rattle.lift_ir.proofs.AtLaunch.{split_reshapes, join_reshapes, transpose_reshapes, slide_reshapes, pad_reshapes}
@@ -118,18 +118,18 @@ module _ (d : Declared) (w : World) (ok : IsAdmissible d w) (few : length d.name
   length_is : (b x : PlainTy) (l : List Monomial) → b ≡ types.ArrayOf x l → num l ≡ num (outer_of b)
   length_is b x l e = subst (λ z. num l ≡ num (outer_of z)) (sym e) refl
 
-  pub has_is : (t : Tree) (p : Place) (g : List PlainTy) (a : Annotation) → Every (IsFormed d.names) g → Annotates d g t a → IsLowerable w.bases p t a → Is g (lower d.names p t a) (ty (type_in a))
+  pub has_is : (t : Tree) (p : Place) (g : List PlainTy) (a : Annotation) → Every (IsFormed d.names) g → Annotates d g t a → IsLowerable w.bases p t a → Is g (lower p t a) (ty (type_in a))
   has_is (tree.Variable v) p g (Leaf a) all h l = has_put g p a _ l (typed_at w.bases g v a h)
   has_is (tree.Number c) p g (Leaf a) all h l = has_put g p a _ (in_place p a (subst types.IsElement (sym h.1) tt)) (ap ty h.1)
   has_is (tree.Input i) p g (Leaf a) all h l = sourced i a h
   has_is (tree.Unary (unary.Div m) t) p g (One a x) all h l =
-      has_put g p a _ (in_place p a (subst types.IsElement (sym h.1.2) tt)) (ap ty h.1.2, h.1.0, subst (λ z. Is g (lower d.names Element t x) (ty z)) h.1.1 (has_is t Element g x all h.0 l.3))
+      has_put g p a _ (in_place p a (subst types.IsElement (sym h.1.2) tt)) (ap ty h.1.2, h.1.0, subst (λ z. Is g (lower Element t x) (ty z)) h.1.1 (has_is t Element g x all h.0 l.3))
   has_is (tree.Unary (unary.Rem m) t) p g (One a x) all h l =
-      has_put g p a _ (in_place p a (subst types.IsElement (sym h.1.2) tt)) (ap ty h.1.2, h.1.0, subst (λ z. Is g (lower d.names Element t x) (ty z)) h.1.1 (has_is t Element g x all h.0 l.3))
+      has_put g p a _ (in_place p a (subst types.IsElement (sym h.1.2) tt)) (ap ty h.1.2, h.1.0, subst (λ z. Is g (lower Element t x) (ty z)) h.1.1 (has_is t Element g x all h.0 l.3))
   has_is (tree.Unary unary.First t) p g (One a x) all h l =
-      has_put g p a _ l.2 (ty h.1.0, subst (λ z. Is g (lower d.names (operand_place unary.First p) t x) (ty z)) h.1.1 (has_is t (operand_place unary.First p) g x all h.0 l.3))
+      has_put g p a _ l.2 (ty h.1.0, subst (λ z. Is g (lower (operand_place unary.First p) t x) (ty z)) h.1.1 (has_is t (operand_place unary.First p) g x all h.0 l.3))
   has_is (tree.Unary unary.Second t) p g (One a x) all h l =
-      has_put g p a _ l.2 (ty h.1.0, subst (λ z. Is g (lower d.names (operand_place unary.Second p) t x) (ty z)) h.1.1 (has_is t (operand_place unary.Second p) g x all h.0 l.3))
+      has_put g p a _ l.2 (ty h.1.0, subst (λ z. Is g (lower (operand_place unary.Second p) t x) (ty z)) h.1.1 (has_is t (operand_place unary.Second p) g x all h.0 l.3))
   has_is (tree.Unary unary.Join t) p g (One a x) all h l =
       (ty (type_in x), has_is t p g x all h.0 l.3, join_reshapes d w ok few shown (type_in x) a (formed_in g t x all h.0) h.1, l.1, l.0, tt)
   has_is (tree.Unary unary.Transpose t) p g (One a x) all h l =
@@ -141,12 +141,12 @@ module _ (d : Declared) (w : World) (ok : IsAdmissible d w) (few : length d.name
   has_is (tree.Unary (unary.Pad s k) t) p g (One a x) all h l =
       (ty (type_in x), has_is t p g x all h.0 l.3, pad_reshapes d w ok few shown s k (type_in x) a (formed_in g t x all h.0) h.1, l.1, l.0, tt)
   has_is (tree.Unary unary.ToLocal t) p g (One a x) all h l =
-      (l.2.1, l.2.0, subst (λ z. Is g (lower d.names Written t x) (ty z)) h.1 (has_is t Written g x all h.0 l.3))
+      (l.2.1, l.2.0, subst (λ z. Is g (lower Written t x) (ty z)) h.1 (has_is t Written g x all h.0 l.3))
   has_is (tree.Unary unary.ToPrivate t) p g (One a x) all h l =
-      (l.2.1, l.2.0, subst (λ z. Is g (lower d.names Written t x) (ty z)) h.1 (has_is t Written g x all h.0 l.3))
+      (l.2.1, l.2.0, subst (λ z. Is g (lower Written t x) (ty z)) h.1 (has_is t Written g x all h.0 l.3))
   has_is (tree.Binary (binary.Operator o) t u) p g (Two a x y) all h l =
       has_put g p a _ (in_place p a (subst types.IsElement (sym h.2.2) tt))
-      (ap ty h.2.2, no_division o, subst (λ z. Is g (lower d.names Element t x) (ty z)) h.2.0 (has_is t Element g x all h.0 l.1), subst (λ z. Is g (lower d.names Element u y) (ty z)) h.2.1 (has_is u Element g y all h.1 l.2))
+      (ap ty h.2.2, no_division o, subst (λ z. Is g (lower Element t x) (ty z)) h.2.0 (has_is t Element g x all h.0 l.1), subst (λ z. Is g (lower Element u y) (ty z)) h.2.1 (has_is u Element g y all h.1 l.2))
   has_is (tree.Binary binary.Pair t u) p g (Two a x y) all h l =
       let i = h.2.0 in
       let j = h.2.1 in
@@ -157,19 +157,19 @@ module _ (d : Declared) (w : World) (ok : IsAdmissible d w) (few : length d.name
       at_launch c k = subst IsElement (sym (element_same w.bases c k)) (element_is c k)
   has_is (tree.Binary binary.Zip t u) p g (Two a x y) all h l =
       let r = h.2 in
-      (num r.2, ty r.0, ty r.1, ap ty r.5, subst (λ z. Is g (lower d.names Argument t x) (ty z)) r.3 (has_is t Argument g x all h.0 l.1), subst (λ z. Is g (lower d.names Argument u y) (ty z)) r.4 (has_is u Argument g y all h.1 l.2))
+      (num r.2, ty r.0, ty r.1, ap ty r.5, subst (λ z. Is g (lower Argument t x) (ty z)) r.3 (has_is t Argument g x all h.0 l.1), subst (λ z. Is g (lower Argument u y) (ty z)) r.4 (has_is u Argument g y all h.1 l.2))
   has_is (tree.Binary (binary.Reduce r) t u) p g (Two a x y) all h l = absurd l.0
   has_is (tree.Select t u v) p g (Three a x y z) all h l =
       has_put g p a _ (in_place p a (subst types.IsElement (sym h.6) tt)) (
         ap ty h.6,
-        subst (λ s. Is g (lower d.names Element t x) (ty s)) h.3 (has_is t Element g x all h.0 l.0),
-        subst (λ s. Is g (lower d.names Element u y) (ty s)) h.4 (has_is u Element g y all h.1 l.1),
-        subst (λ s. Is g (lower d.names Element v z) (ty s)) h.5 (has_is v Element g z all h.2 l.2),
+        subst (λ s. Is g (lower Element t x) (ty s)) h.3 (has_is t Element g x all h.0 l.0),
+        subst (λ s. Is g (lower Element u y) (ty s)) h.4 (has_is u Element g y all h.1 l.1),
+        subst (λ s. Is g (lower Element v z) (ty s)) h.5 (has_is v Element g z all h.2 l.2),
       )
   has_is (tree.Let v b) p g (Two a x y) all h l =
       let f = formed_in g v x all h.0 in
       let body = has_is b (body_place p a) (type_in x ∷ g) y (f, all) h.1 l.1 in
-      has_put_element g p a _ (has_let g (type_in x) _ _ (ty a) (has_is v (value_place x) g x all h.0 l.0) (subst (λ z. Is (type_in x ∷ g) (lower d.names (body_place p a) b y) (ty z)) (sym h.2) body))
+      has_put_element g p a _ (has_let g (type_in x) _ _ (ty a) (has_is v (value_place x) g x all h.0 l.0) (subst (λ z. Is (type_in x ∷ g) (lower (body_place p a) b y) (ty z)) (sym h.2) body))
   has_is (tree.Map k xs b) p g (Two a x y) all h l =
       let e = h.3 in
       let f = subst (IsFormed d.names) e (formed_in g xs x all h.2) in
@@ -178,7 +178,7 @@ module _ (d : Declared) (w : World) (ok : IsAdmissible d w) (few : length d.name
         ty (type_in y),
         l.0,
         suits_body (type_in x) h.0 h.1 b e,
-        subst (λ z. Is g (lower d.names Argument xs x) z) (outer_is (type_in x) h.0 h.1 e) (has_is xs Argument g x all h.2 l.1),
+        subst (λ z. Is g (lower Argument xs x) z) (outer_is (type_in x) h.0 h.1 e) (has_is xs Argument g x all h.2 l.1),
         body,
         ap ty h.5 ∙ ap (λ z. ArrayOf z (ty (type_in y))) (length_is (type_in x) h.0 h.1 e),
       )
@@ -189,15 +189,15 @@ module _ (d : Declared) (w : World) (ok : IsAdmissible d w) (few : length d.name
       let f = subst (IsFormed d.names) e (formed_in g xs x all h.2) in
       let start = has_is s Element g y all h.4 l.2 in
       let body = has_is b Element (h.0 ∷ type_in y ∷ g) z (f.1, (formed_in g s y all h.4, all)) h.6 l.3 in
-      let typed = subst (λ t. Is (h.0 ∷ type_in y ∷ g) (lower d.names Element b z) (ty t)) h.7 body in
-      let one : num (constant 1) ≡ 1 = ap nat_abs (value-constant w.bases 1) in (
+      let typed = subst (λ t. Is (h.0 ∷ type_in y ∷ g) (lower Element b z) (ty t)) h.7 body in
+      let one : num (constant 1) ≡ 1 = ap natural (value-constant w.bases 1) in (
         ty h.0,
         l.0,
         suits_body (type_in x) h.0 h.1 b e,
         element_is (type_in y) i,
-        subst (λ t. Is g (lower d.names Argument xs x) t) (outer_is (type_in x) h.0 h.1 e) (has_is xs Argument g x all h.2 l.1),
-        subst (λ t. Is g (lower d.names Element s y) t) same start,
-        subst (λ t. HasType num src (push (ty h.0) (push t (types_at w.bases g))) (lower d.names Element b z) t) same typed,
+        subst (λ t. Is g (lower Argument xs x) t) (outer_is (type_in x) h.0 h.1 e) (has_is xs Argument g x all h.2 l.1),
+        subst (λ t. Is g (lower Element s y) t) same start,
+        subst (λ t. HasType num src (push (ty h.0) (push t (types_at w.bases g))) (lower Element b z) t) same typed,
         ap ty h.8 ∙ ap (λ t. ArrayOf t (ty (type_in y))) one ∙ ap (ArrayOf 1) same,
       )
   has_is _ p g _ all h l = absurd h

@@ -1,9 +1,7 @@
 -- Types and layouts of the source, whose lengths are polynomials, and at one launch.
-use Rattle.std.specs.Prelude.{ℕ, List, [], ◌∷◌, nat_abs}
+use Rattle.std.specs.Prelude.{ℕ, List, [], ◌∷◌, ℤ, pos, negsuc, ◌^◌}
 use Rattle.size_arith.specs.declared.poly.Monomial.{Monomial}
-use Rattle.size_arith.specs.declared.names.Name.{Name}
-use Rattle.size_arith.specs.Polynomial.{value_at, of_monomial}
-use Rattle.lift_tree.specs.WorkedOut.{product_of}
+use Rattle.size_arith.specs.Polynomial.{value_at}
 use Rattle.lift_tree.specs.declared.term.UnaryForm.{UnaryForm}
 use Rattle.lift_tree.specs.declared.term.UnaryForm.TheVariants as unary
 use Rattle.lift_tree.specs.Types as types
@@ -12,9 +10,14 @@ use Rattle.lift_ir.specs.Types.{Shape, Ty, Scalar, PairOf, ArrayOf}
 use Rattle.lift_ir.specs.Layouts.{Layout, Split, Join, Transpose, Slide, Pad}
 use Rattle.lift_ir.specs.Terms.{push, no_type}
 
+-- a whole number as a length; one below zero is too long to be any
+abbrev pub natural : ℤ → ℕ
+natural (pos n) = n
+natural (negsuc n) = 2 ^ 32
+
 -- a length where the base names have these values
 abbrev pub length_at : List ℕ → List Monomial → ℕ
-length_at ys n = nat_abs (value_at ys n)
+length_at ys n = natural (value_at ys n)
 
 -- a type of the source
 abbrev pub shape_of : PlainTy → Shape (List Monomial)
@@ -37,13 +40,13 @@ abbrev pub outer_of : PlainTy → List Monomial
 outer_of (types.ArrayOf a n) = n
 outer_of _ = []
 
--- the layout of a form over an operand of this type, its lengths polynomials; a default for forms that are no layouts
-abbrev pub layout_of : List Name → UnaryForm → PlainTy → Layout (List Monomial)
-layout_of names (unary.Split fs) b = Split (of_monomial (product_of names fs))
-layout_of names unary.Join b = Join (inner_of b)
-layout_of names (unary.Slide s t) b = Slide s t
-layout_of names (unary.Pad l r) b = Pad l r (outer_of b)
-layout_of names _ b = Transpose
+-- the layout of a form of type a over an operand of type b, its lengths polynomials; a default for forms that are no layouts
+abbrev pub layout_of : UnaryForm → (a b : PlainTy) → Layout (List Monomial)
+layout_of (unary.Split fs) a b = Split (inner_of a)
+layout_of unary.Join a b = Join (inner_of b)
+layout_of (unary.Slide s t) a b = Slide s t
+layout_of (unary.Pad l r) a b = Pad l r (outer_of b)
+layout_of _ a b = Transpose
 
 -- the binders' types at a launch
 abbrev pub types_at : (bases : List ℕ) → List PlainTy → ℕ → Ty

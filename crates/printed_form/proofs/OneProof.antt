@@ -8,7 +8,7 @@ use Rattle.kernel_tree.specs.Launch.{Launch, Cells}
 use Rattle.kernel_tree.specs.Item.{Wants, Ends, Waits, Moves, Reads, Writes, Fails}
 use Rattle.kernel_tree.specs.Device.{Device, State, after}
 use Rattle.kernel_tree.specs.Faults.{NoFailure, NoDivergence}
-use Rattle.printed_form.specs.Headline.{EveryRunKeeps}
+use Rattle.printed_form.specs.Headline.{EveryRunLeaves, EveryRunKeeps}
 
 abbrev ends : Wants → Bool
 ends Ends = true
@@ -44,3 +44,6 @@ no_divergence_once d s (e ∷ es) = let rest = no_divergence_once d (after d s e
 
 pub keeps_once : (k : Kernel) (l : Launch) (c : Cells) (owner : ℕ → ℕ → ℕ) (wanted : List (List ℕ)) → IsProp (EveryRunKeeps k l c owner wanted)
 keeps_once k l c owner wanted = Prim.hlevel (ends_once, no_failure_once, no_divergence_once, props)
+
+pub leaves_once : (k : Kernel) (l : Launch) (c : Cells) (wanted : List (List ℕ)) → IsProp (EveryRunLeaves k l c wanted)
+leaves_once k l c wanted = Prim.hlevel (ends_once, no_failure_once, no_divergence_once, props)

@@ -357,24 +357,26 @@ module _ {A : Type 0} (num : A → ℕ) (l : Launch) (src : ℕ → Ty) (ins : �
     keeps : (es : List Event) → IsRun d s es → KeepsHeadline k l c (λ a i. owner_of i) lists s es
     unfolding deeds_of ends_of
     keeps es r = record {
-      shape = shape;
-      faultless = all.every.faultless es r;
-      bounded = within_bound k l c s es h.whole start r (all.every.faultless es r).no_failure;
-      at_most_once = λ a i.
-          let x = all.every.count es r (is_write (output_cell a i)) in
-          let y = all.counted (owner_of i) (in_range i) (output_cell a i) refl in
-          let z = few_writes (owner_of i) a i (in_range i) refl in
-          omega arith;
+      leaves = record {
+        shape = shape;
+        faultless = all.every.faultless es r;
+        bounded = within_bound k l c s es h.whole start r (all.every.faultless es r).no_failure;
+        at_most_once = λ a i.
+            let x = all.every.count es r (is_write (output_cell a i)) in
+            let y = all.counted (owner_of i) (in_range i) (output_cell a i) refl in
+            let z = few_writes (owner_of i) a i (in_range i) refl in
+            omega arith;
+        ended = λ stuck. subst (AllEnded d) (sym (all.every.ends es r stuck)) (λ j lt. ap (next (ids_of l j)) (all.ended j lt) ∙ independent.ended j lt);
+        once = λ stuck a i lt.
+            all.every.end_count es r stuck (is_write (output_cell a i)) ∙ all.counted (owner_of i) (in_range i) (output_cell a i) refl
+            ∙ ((one_item (owner_of i)).wrote (in_range i)).once (output_cell a i) (slice_index (row lists a) i) (listed_mine a i lt);
+        left = λ stuck a i lt.
+            ap (λ z. z.memory (output_cell a i)) (all.every.ends es r stuck) ∙ all.owned (owner_of i) (in_range i) (output_cell a i) refl
+            ∙ ((one_item (owner_of i)).wrote (in_range i)).holds (output_cell a i) (slice_index (row lists a) i) (listed_mine a i lt);
+      };
       by_owner = λ x among a i w.
           let parts = and_parts x.writes (same_cell x.cell (output_cell a i)) w in
           owner_is a i x.item x.cell (same_cell-true x.cell (output_cell a i) parts.1) ((all.proper x (all.every.among es r x among)).writes parts.0);
-      ended = λ stuck. subst (AllEnded d) (sym (all.every.ends es r stuck)) (λ j lt. ap (next (ids_of l j)) (all.ended j lt) ∙ independent.ended j lt);
-      once = λ stuck a i lt.
-          all.every.end_count es r stuck (is_write (output_cell a i)) ∙ all.counted (owner_of i) (in_range i) (output_cell a i) refl
-          ∙ ((one_item (owner_of i)).wrote (in_range i)).once (output_cell a i) (slice_index (row lists a) i) (listed_mine a i lt);
-      left = λ stuck a i lt.
-          ap (λ z. z.memory (output_cell a i)) (all.every.ends es r stuck) ∙ all.owned (owner_of i) (in_range i) (output_cell a i) refl
-          ∙ ((one_item (owner_of i)).wrote (in_range i)).holds (output_cell a i) (slice_index (row lists a) i) (listed_mine a i lt);
     }
 
 pub every_run_keeps : {A : Type 0} (num : A → ℕ) (l : Launch) (src : ℕ → Ty) (ins : ℕ → Marks) (sources : ℕ → Scalars) (t : Term A) (ty : Ty) (k : Kernel) (c : Cells) (lists : List (List ℕ)) → IsPrinted l num src ins sources t ty k c → map length lists ≡ map length c.outs → AreLists ty (scalars_of num sources no_scalars t) lists

@@ -1,7 +1,8 @@
 -- A kernel printed for a whole program's typed term.
-use Rattle.std.specs.Prelude.{◌≡◌, ℕ, zero, suc, ◌+◌, Bool, List, [], ◌∷◌, length, map}
+use Rattle.std.specs.Prelude.{◌≡◌, ℕ, zero, suc, ◌+◌, ◌<◌, ◌^◌, ◌⊎◌, Bool, true, List, [], ◌∷◌, length, map}
 use Rattle.size_arith.specs.declared.poly.Monomial.{Monomial}
-use Rattle.size_arith.specs.Ranges.{Admissible, sizes_at}
+use Rattle.size_arith.specs.Ranges.{sizes_at}
+use Rattle.lift_tree.specs.Lists.{Every}
 use Rattle.lift_tree.specs.Tree.{Tree}
 use Rattle.lift_tree.specs.Types.{PlainTy, IsOutput}
 use Rattle.lift_tree.specs.Typing.{Declared, IsDeclared, IsAdmissible}
@@ -11,11 +12,13 @@ use Rattle.lift_tree.specs.Launches.{IsAdmissibleLaunch, buffers_of, lists_of}
 use Rattle.kernel_tree.specs.Formula.{Formula}
 use Rattle.kernel_tree.specs.Code.{Kernel}
 use Rattle.kernel_tree.specs.Launch.{Launch, Cells, MayStart}
-use Rattle.lift_ir.specs.Types.{Shape, ArrayOf, Scalar, width, unflat}
+use Rattle.lift_ir.specs.Types.{Shape, ArrayOf, Scalar, width, unflat, IsPlaced}
 use Rattle.lift_ir.specs.Terms.{LocalMemory, PrivateMemory}
 use Rattle.lift_ir.specs.AtLaunch.{length_at, ty_at, shape_of}
 use Rattle.lift_ir.specs.Lowering.{Written, Lowered, lower}
-use Rattle.lift_ir.specs.Lowerable.{IsLowerable}
+use Rattle.lift_ir.specs.Lowerable.{IsLowerable, IsStaged}
+use Rattle.lift_ir.specs.Forms.{Stands, StandsOverLaunch}
+use Rattle.printed_form.specs.Means.{IsSpelled}
 use Rattle.lift_ir.specs.Owner.{owner}
 use Rattle.printed_form.specs.Headline.{EveryRunKeeps}
 use Rattle.printed_form.specs.Counts.{variable_count, copy_lengths}
@@ -40,19 +43,18 @@ buffer_count [] = 0
 buffer_count (a ∷ tys) = width (shape_of a) + buffer_count tys
 
 -- a typed term, whose root is written, in the intermediate representation
-abbrev pub lowered_root : Declared → Tree → Annotation → Lowered
-lowered_root d t a = lower d.names Written t a
+abbrev pub lowered_root : Tree → Annotation → Lowered
+lowered_root t a = lower Written t a
 
--- The kernel is printed for the typed term: it has a parameter for each component of each input, then of the output, then for each size; private variables and arrays as the term needs them; and at each admissible launch its code is printed for the term.
-pub record Prints (d : Declared) (is_task : Bool) (t : Tree) (a : Annotation) (k : Kernel) : Type 0 where
+-- The kernel is printed for the typed term at a launch, where the base names have these values: it has a parameter for each component of each input, then of the output, then for each size; private variables and arrays as the term needs them; and its code is printed for the term.
+pub record Prints (d : Declared) (bases : List ℕ) (t : Tree) (a : Annotation) (l : Launch) (k : Kernel) : Type 0 where
   pub inputs : k.inputs ≡ buffer_count d.inputs
   pub outputs : k.outputs ≡ width (shape_of (type_in a))
   pub sizes : k.sizes ≡ length d.names
-  pub locals : k.locals ≡ copy_lengths LocalMemory (lowered_root d t a)
-  pub privates : k.privates ≡ copy_lengths PrivateMemory (lowered_root d t a)
-  pub variables : k.variables ≡ variable_count (lowered_root d t a)
-  pub code : (bases : List ℕ) (l : Launch) → IsAdmissibleLaunch d.names is_task bases l.global l.local → l.sizes ≡ sizes_at d.names bases
-      → IsCode l (input_marks (length_at bases) (first_buffer d.inputs) (input_shape d.inputs)) (length_at bases) (lowered_root d t a) (ty_at bases (type_in a)) k.code
+  pub locals : k.locals ≡ copy_lengths LocalMemory (lowered_root t a)
+  pub privates : k.privates ≡ copy_lengths PrivateMemory (lowered_root t a)
+  pub variables : k.variables ≡ variable_count (lowered_root t a)
+  pub code : IsCode l (input_marks (length_at bases) (first_buffer d.inputs) (input_shape d.inputs)) (length_at bases) (lowered_root t a) (ty_at bases (type_in a)) k.code
 
 -- the kernel that the printer makes of a typed term, where lengths are spelled so
 abbrev pub printed_kernel : (List Monomial → Formula) → Declared → Tree → Annotation → Kernel
@@ -60,35 +62,61 @@ printed_kernel spell d t a = record {
   inputs = buffer_count d.inputs;
   outputs = width (shape_of (type_in a));
   sizes = length d.names;
-  locals = copy_lengths LocalMemory (lowered_root d t a);
-  privates = copy_lengths PrivateMemory (lowered_root d t a);
-  variables = variable_count (lowered_root d t a);
-  code = kernel_code spell (first_buffer d.inputs) (input_shape d.inputs) (lowered_root d t a) (shape_of (type_in a));
+  locals = copy_lengths LocalMemory (lowered_root t a);
+  privates = copy_lengths PrivateMemory (lowered_root t a);
+  variables = variable_count (lowered_root t a);
+  code = kernel_code spell (first_buffer d.inputs) (input_shape d.inputs) (lowered_root t a) (shape_of (type_in a));
 }
 
 -- whose a cell of the output is: the owner of its scalar
-abbrev pub cell_owner : Declared → Tree → Annotation → (bases : List ℕ) → Launch → (array index : ℕ) → ℕ
-cell_owner d t a bases l array index = owner (length_at bases) l (lowered_root d t a) (unflat (ty_at bases (type_in a)) index)
+abbrev pub cell_owner : (bases : List ℕ) → Launch → Tree → Annotation → (array index : ℕ) → ℕ
+cell_owner bases l t a array index = owner (length_at bases) l (lowered_root t a) (unflat (ty_at bases (type_in a)) index)
 
--- at all admissible sizes the typed term can be lowered
-abbrev pub IsAlwaysLowerable : Declared → Tree → Annotation → Type 0
-IsAlwaysLowerable d t a = (bases : List ℕ) → Admissible d.names bases → IsLowerable bases Written t a
+-- the launch has these sizes, and one work-item where the term is a task
+pub record IsLaunchOf (d : Declared) (is_task : Bool) (bases : List ℕ) (l : Launch) : Type 0 where
+  pub admissible : IsAdmissibleLaunch d.names is_task bases l.global l.local
+  pub sizes : l.sizes ≡ sizes_at d.names bases
 
--- a launch and cells at which the term may be run: the sizes and inputs are admissible, the buffers hold the inputs, and the output's are as long as the value's lists
-pub record Admits (d : Declared) (is_task : Bool) (t : Tree) (a : Annotation) (w : World) (l : Launch) (c : Cells) : Type 0 where
-  pub world : IsAdmissible d w
-  pub launch : IsAdmissibleLaunch d.names is_task w.bases l.global l.local
-  pub sizes : l.sizes ≡ w.sizes
+-- the buffers hold the inputs, and the output's are as long as the value's lists
+pub record AreBuffersOf (d : Declared) (w : World) (t : Tree) (a : Annotation) (c : Cells) : Type 0 where
   pub inputs : c.ins ≡ buffers_of d.inputs w.inputs
   pub outputs : map length c.outs ≡ map length (lists_of (type_in a) (meaning w [] t))
 
--- at every admissible launch every run of a kernel that is printed for a typed term keeps what the kernel owes, with the source value
+-- a typed term of a program, which can be lowered where the base names have these values
+pub record IsLowerableProgram (d : Declared) (bases : List ℕ) (t : Tree) (a : Annotation) : Type 0 where
+  pub declared : IsDeclared d
+  pub nodes : Annotates d [] t a
+  pub output : IsOutput (type_in a)
+  pub lowerable : IsLowerable bases Written t a
+
+-- every run of a kernel that is printed for a typed term keeps what the kernel owes, with the source value
 abbrev pub PrintedProgramsKeep : Type 0
 PrintedProgramsKeep =
-    (d : Declared) (is_task : Bool) (t : Tree) (a : Annotation) (k : Kernel) → IsDeclared d → Annotates d [] t a → IsOutput (type_in a) → IsAlwaysLowerable d t a → Prints d is_task t a k
-    → (w : World) (l : Launch) (c : Cells) → Admits d is_task t a w l c → EveryRunKeeps k l c (cell_owner d t a w.bases l) (lists_of (type_in a) (meaning w [] t))
+    (d : Declared) (is_task : Bool) (w : World) (t : Tree) (a : Annotation) (l : Launch) (k : Kernel) (c : Cells)
+    → IsLowerableProgram d w.bases t a → IsAdmissible d w → IsLaunchOf d is_task w.bases l → AreBuffersOf d w t a c → Prints d w.bases t a l k
+    → EveryRunKeeps k l c (cell_owner w.bases l t a) (lists_of (type_in a) (meaning w [] t))
 
 -- and it may be started there
 abbrev pub PrintedProgramsStart : Type 0
 PrintedProgramsStart =
-    (d : Declared) (is_task : Bool) (t : Tree) (a : Annotation) (k : Kernel) → Prints d is_task t a k → (w : World) (l : Launch) (c : Cells) → Admits d is_task t a w l c → MayStart k l c
+    (d : Declared) (is_task : Bool) (w : World) (t : Tree) (a : Annotation) (l : Launch) (k : Kernel) (c : Cells)
+    → IsLowerableProgram d w.bases t a → IsAdmissible d w → IsLaunchOf d is_task w.bases l → AreBuffersOf d w t a c → Prints d w.bases t a l k → MayStart k l c
+
+-- lengths are spelled with their values at the launch
+abbrev pub IsSpelling : (List Monomial → Formula) → (bases : List ℕ) → Launch → Type 0
+IsSpelling spell bases l = (n : List Monomial) → length_at bases n < 2 ^ 31 → IsSpelled l (spell n) (length_at bases n)
+
+-- a term that one work-item runs, where there is but one, or a map over the launch
+abbrev pub StandsAt : Launch → Lowered → Type 0
+StandsAt l t = ((l.global ≡ 1) × Stands true t) ⊎ StandsOverLaunch t
+
+-- what lies in buffers has lengths and sizes below 2^31
+abbrev pub FitsBuffers : Declared → (bases : List ℕ) → Annotation → Type 0
+FitsBuffers d bases a = Every (λ b. IsPlaced (length_at bases) (shape_of b)) (type_in a ∷ d.inputs)
+
+-- what the printer makes of a typed term is printed for it, at each admissible launch
+abbrev pub ProgramsArePrinted : Type 0
+ProgramsArePrinted =
+    (d : Declared) (is_task : Bool) (w : World) (t : Tree) (a : Annotation) (l : Launch) (spell : List Monomial → Formula)
+    → IsLowerableProgram d w.bases t a → IsAdmissible d w → IsLaunchOf d is_task w.bases l → IsStaged Written t a → StandsAt l (lowered_root t a) → FitsBuffers d w.bases a → IsSpelling spell w.bases l
+    → Prints d w.bases t a l (printed_kernel spell d t a)
