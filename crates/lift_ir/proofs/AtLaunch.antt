@@ -29,22 +29,22 @@ pos_same m n e = cc
 pos_times : (m n : ℕ) → pos m *ℤ pos n ≡ pos (m * n)
 pos_times m n = refl
 
-module _ (d : Declared) (w : World) (ok : IsAdmissible d w) (few : length d.names ≤ 8) (shown : (k : ℕ) (p : List Monomial) → ShownAtLeast k d.names p → pos k ≤ℤ value_at w.bases p) where
+module _ (d : Declared) (bases : List ℕ) (shown : (k : ℕ) (p : List Monomial) → ShownAtLeast k d.names p → pos k ≤ℤ value_at bases p) where
   abbrev at : List Monomial → ℕ
-  at n = length_at w.bases n
+  at n = length_at bases n
 
-  long : (n : List Monomial) → ShownAtLeast 1 d.names n → (pos (at n) ≡ value_at w.bases n) × (0 < at n)
+  long : (n : List Monomial) → ShownAtLeast 1 d.names n → (pos (at n) ≡ value_at bases n) × (0 < at n)
   long n s =
       let a = shown 1 n s in
-      let e = natural_is (value_at w.bases n) (omega (arith, ints)) in
+      let e = natural_is (value_at bases n) (omega (arith, ints)) in
       (e, omega (arith, ints))
 
   -- a form's row at a launch: through b's own equation
   abbrev Of : (b a : PlainTy) → UnaryForm → Type 0
-  Of b a f = Reshapes (length_at w.bases) (layout_of f a b) (ty_at w.bases b) (ty_at w.bases a)
+  Of b a f = Reshapes (length_at bases) (layout_of f a b) (ty_at bases b) (ty_at bases a)
 
-  quotient_is : (n q : List Monomial) (m : Monomial) (k : ℕ) → monomial_at w.bases m ≡ pos k → value_at w.bases n ≡ monomial_at w.bases m *ℤ value_at w.bases q → pos (at n) ≡ value_at w.bases n → pos (at q) ≡ value_at w.bases q → at n ≡ k * at q
-  quotient_is n q m k e f en eq = pos_same (at n) (k * at q) (en ∙ f ∙ ap (λ z. z *ℤ value_at w.bases q) e ∙ ap (λ z. pos k *ℤ z) (sym eq) ∙ pos_times k (at q))
+  quotient_is : (n q : List Monomial) (m : Monomial) (k : ℕ) → monomial_at bases m ≡ pos k → value_at bases n ≡ monomial_at bases m *ℤ value_at bases q → pos (at n) ≡ value_at bases n → pos (at q) ≡ value_at bases q → at n ≡ k * at q
+  quotient_is n q m k e f en eq = pos_same (at n) (k * at q) (en ∙ f ∙ ap (λ z. z *ℤ value_at bases q) e ∙ ap (λ z. pos k *ℤ z) (sym eq) ∙ pos_times k (at q))
 
   pub split_reshapes : (fs : List Factor) (b a : PlainTy) → IsFormed d.names b → UnaryRow d.names (unary.Split fs) b a → Of b a (unary.Split fs)
   split_reshapes fs b a fb r =
@@ -56,18 +56,12 @@ module _ (d : Declared) (w : World) (ok : IsAdmissible d w) (few : length d.name
       let formed = subst (IsFormed d.names) r.4 r.5 in
       let child = subst (IsFormed d.names) r.2 fb in
       let es = long size formed.1.0 in
-      let e : monomial_at w.bases m ≡ pos (at size) = sym (value-of_monomial w.bases m) ∙ sym es.0 in
-      let whole : at n ≡ at size * at q = quotient_is n q m (at size) e (value-quotient w.bases m n r.3) (long n child.0).0 (long q formed.0).0 in
+      let e : monomial_at bases m ≡ pos (at size) = sym (value-of_monomial bases m) ∙ sym es.0 in
+      let whole : at n ≡ at size * at q = quotient_is n q m (at size) e (value-quotient bases m n r.3) (long n child.0).0 (long q formed.0).0 in
       let divided : at n / at size ≡ at q = ap (λ z. z / at size) whole ∙ mul-div_cancel_left (at q) es.1 in
       let back : at n / at size * at size ≡ at n = ap (λ z. z * at size) divided ∙ (let y : at q * at size ≡ at size * at q = grind arith in y) ∙ sym whole in
-      subst (λ z. Reshapes (length_at w.bases) (Split (inner_of z)) (ty_at w.bases b) (ty_at w.bases a)) (sym r.4)
-      (subst (λ z. Reshapes (length_at w.bases) (Split size) (ty_at w.bases z) (ty_at w.bases a)) (sym r.2) (es.1, back, ap (ty_at w.bases) r.4 ∙ ap (λ z. ArrayOf z (ArrayOf (at size) (ty_at w.bases x))) (sym divided)))
-
-  -- a split's length is its product of numbers and sizes
-  pub split_size : (fs : List Factor) → at (of_monomial (product_of d.names fs)) ≡ product_at w.sizes fs
-  split_size fs =
-      let e : monomial_at w.bases (product_of d.names fs) ≡ pos (product_at w.sizes fs) = product_value d.names w.bases ok.bases few fs ∙ ap (λ ss. pos (product_at ss fs)) (sym ok.sizes) in
-      ap natural (value-of_monomial w.bases (product_of d.names fs) ∙ e)
+      subst (λ z. Reshapes (length_at bases) (Split (inner_of z)) (ty_at bases b) (ty_at bases a)) (sym r.4)
+      (subst (λ z. Reshapes (length_at bases) (Split size) (ty_at bases z) (ty_at bases a)) (sym r.2) (es.1, back, ap (ty_at bases) r.4 ∙ ap (λ z. ArrayOf z (ArrayOf (at size) (ty_at bases x))) (sym divided)))
 
   pub join_reshapes : (b a : PlainTy) → IsFormed d.names b → UnaryRow d.names unary.Join b a → Of b a unary.Join
   join_reshapes b a fb r =
@@ -77,13 +71,13 @@ module _ (d : Declared) (w : World) (ok : IsAdmissible d w) (few : length d.name
       let child = subst (IsFormed d.names) r.3 fb in
       let em = long m child.1.0 in
       let en = long n child.0 in
-      let product : value_at w.bases (times n m) ≡ pos (at n * at m) = value-times w.bases n m ∙ ap (λ z. z *ℤ value_at w.bases m) (sym en.0) ∙ ap (λ z. pos (at n) *ℤ z) (sym em.0) ∙ pos_times (at n) (at m) in
-      subst (λ z. Reshapes (length_at w.bases) (layout_of unary.Join a z) (ty_at w.bases z) (ty_at w.bases a)) (sym r.3) (em.1, refl, ap (ty_at w.bases) r.4 ∙ ap (λ z. ArrayOf (natural z) (ty_at w.bases x)) product)
+      let product : value_at bases (times n m) ≡ pos (at n * at m) = value-times bases n m ∙ ap (λ z. z *ℤ value_at bases m) (sym en.0) ∙ ap (λ z. pos (at n) *ℤ z) (sym em.0) ∙ pos_times (at n) (at m) in
+      subst (λ z. Reshapes (length_at bases) (layout_of unary.Join a z) (ty_at bases z) (ty_at bases a)) (sym r.3) (em.1, refl, ap (ty_at bases) r.4 ∙ ap (λ z. ArrayOf (natural z) (ty_at bases x)) product)
 
   pub transpose_reshapes : (b a : PlainTy) → IsFormed d.names b → UnaryRow d.names unary.Transpose b a → Of b a unary.Transpose
   transpose_reshapes b a fb r =
       let child = subst (IsFormed d.names) r.3 fb in
-      subst (λ z. Reshapes (length_at w.bases) Transpose (ty_at w.bases z) (ty_at w.bases a)) (sym r.3) ((long r.2 child.0).1, ap (ty_at w.bases) r.4)
+      subst (λ z. Reshapes (length_at bases) Transpose (ty_at bases z) (ty_at bases a)) (sym r.3) ((long r.2 child.0).1, ap (ty_at bases) r.4)
 
   pub slide_reshapes : (s t : ℕ) (b a : PlainTy) → IsFormed d.names b → UnaryRow d.names (unary.Slide s t) b a → Of b a (unary.Slide s t)
   slide_reshapes s t b a fb r =
@@ -94,25 +88,25 @@ module _ (d : Declared) (w : World) (ok : IsAdmissible d w) (few : length d.name
       let child = subst (IsFormed d.names) r.2 fb in
       let formed = subst (IsFormed d.names) r.6 r.7 in
       let en = long n child.0 in
-      let X = ty_at w.bases x in
+      let X = ty_at bases x in
       let least = shown 0 rest r.4 in
-      let less = value-minus w.bases n (constant s) in
-      let size = value-constant w.bases s in
+      let less = value-minus bases n (constant s) in
+      let size = value-constant bases s in
       let within : s ≤ at n = (let z = en.0 in omega (arith, ints)) in
-      let er : pos (at n - s) ≡ value_at w.bases rest = (let z = en.0 in omega (arith, ints)) in
-      let f = value-quotient w.bases (number (pos t)) rest r.5 ∙ ap (λ z. z *ℤ value_at w.bases q) (number_at w.bases (pos t)) in
+      let er : pos (at n - s) ≡ value_at bases rest = (let z = en.0 in omega (arith, ints)) in
+      let f = value-quotient bases (number (pos t)) rest r.5 ∙ ap (λ z. z *ℤ value_at bases q) (number_at bases (pos t)) in
       let total = long (plus q (constant 1)) formed.0 in
-      let sum = value-plus w.bases q (constant 1) in
-      let one = value-constant w.bases 1 in
-      let qn : pos 0 ≤ℤ value_at w.bases q = (let z = total.0 in let y = total.1 in omega (arith, ints)) in
-      let eq = natural_is (value_at w.bases q) qn in
+      let sum = value-plus bases q (constant 1) in
+      let one = value-constant bases 1 in
+      let qn : pos 0 ≤ℤ value_at bases q = (let z = total.0 in let y = total.1 in omega (arith, ints)) in
+      let eq = natural_is (value_at bases q) qn in
       let whole : at n - s ≡ t * at q = pos_same (at n - s) (t * at q) (er ∙ f ∙ ap (λ z. pos t *ℤ z) (sym eq) ∙ pos_times t (at q)) in
       let divided : (at n - s) / t ≡ at q = ap (λ z. z / t) whole ∙ mul-div_cancel_left (at q) r.3 in
       let back : (at n - s) / t * t ≡ at n - s = ap (λ z. z * t) divided ∙ (let y : at q * t ≡ t * at q = grind arith in y) ∙ sym whole in
-      let count : at (plus q (constant 1)) ≡ (at n - s) / t + 1 = pos_same _ _ (total.0 ∙ sum ∙ ap (λ z. value_at w.bases q +ℤ z) one ∙ ap (λ z. z +ℤ pos 1) (sym eq) ∙ ap (λ z. pos (z + 1)) (sym divided)) in
+      let count : at (plus q (constant 1)) ≡ (at n - s) / t + 1 = pos_same _ _ (total.0 ∙ sum ∙ ap (λ z. value_at bases q +ℤ z) one ∙ ap (λ z. z +ℤ pos 1) (sym eq) ∙ ap (λ z. pos (z + 1)) (sym divided)) in
       let inner : at (constant s) ≡ s = ap natural size in
-      subst (λ z. Reshapes (length_at w.bases) (Slide s t) (ty_at w.bases z) (ty_at w.bases a)) (sym r.2)
-      (r.3, within, back, ap (ty_at w.bases) r.6 ∙ ap (λ z. ArrayOf z (ArrayOf (at (constant s)) X)) count ∙ ap (λ z. ArrayOf ((at n - s) / t + 1) (ArrayOf z X)) inner)
+      subst (λ z. Reshapes (length_at bases) (Slide s t) (ty_at bases z) (ty_at bases a)) (sym r.2)
+      (r.3, within, back, ap (ty_at bases) r.6 ∙ ap (λ z. ArrayOf z (ArrayOf (at (constant s)) X)) count ∙ ap (λ z. ArrayOf ((at n - s) / t + 1) (ArrayOf z X)) inner)
 
   pub pad_reshapes : (l k : ℕ) (b a : PlainTy) → IsFormed d.names b → UnaryRow d.names (unary.Pad l k) b a → Of b a (unary.Pad l k)
   pad_reshapes l k b a fb r =
@@ -120,9 +114,16 @@ module _ (d : Declared) (w : World) (ok : IsAdmissible d w) (few : length d.name
       let n = r.1 in
       let child = subst (IsFormed d.names) r.2 fb in
       let en = long n child.0 in
-      let one = value-plus w.bases (plus (constant l) n) (constant k) in
-      let two = value-plus w.bases (constant l) n in
-      let before = value-constant w.bases l in
-      let after = value-constant w.bases k in
-      let total : value_at w.bases (plus (plus (constant l) n) (constant k)) ≡ pos (l + at n + k) = (let z = en.0 in omega (arith, ints)) in
-      subst (λ z. Reshapes (length_at w.bases) (layout_of (unary.Pad l k) a z) (ty_at w.bases z) (ty_at w.bases a)) (sym r.2) (en.1, refl, ap (ty_at w.bases) r.3 ∙ ap (λ z. ArrayOf (natural z) (ty_at w.bases x)) total)
+      let one = value-plus bases (plus (constant l) n) (constant k) in
+      let two = value-plus bases (constant l) n in
+      let before = value-constant bases l in
+      let after = value-constant bases k in
+      let total : value_at bases (plus (plus (constant l) n) (constant k)) ≡ pos (l + at n + k) = (let z = en.0 in omega (arith, ints)) in
+      subst (λ z. Reshapes (length_at bases) (layout_of (unary.Pad l k) a z) (ty_at bases z) (ty_at bases a)) (sym r.2) (en.1, refl, ap (ty_at bases) r.3 ∙ ap (λ z. ArrayOf (natural z) (ty_at bases x)) total)
+
+module _ (d : Declared) (w : World) (ok : IsAdmissible d w) (few : length d.names ≤ 8) where
+  -- a split's length is its product of numbers and sizes
+  pub split_size : (fs : List Factor) → length_at w.bases (of_monomial (product_of d.names fs)) ≡ product_at w.sizes fs
+  split_size fs =
+      let e : monomial_at w.bases (product_of d.names fs) ≡ pos (product_at w.sizes fs) = product_value d.names w.bases ok.bases few fs ∙ ap (λ ss. pos (product_at ss fs)) (sym ok.sizes) in
+      ap natural (value-of_monomial w.bases (product_of d.names fs) ∙ e)

@@ -9,3 +9,4 @@ pub mod Named
 pub mod Typed
 pub mod LoweredTerms
 pub mod Owner
+pub mod Values

@@ -186,3 +186,17 @@ lists_long t v s f h = rows_of_length (λ cs. list_of v (map side_of cs)) (choic
         let c = leads_at t i (omega arith) in
         let k = choice_at t c.0 c.1 in
         ap (λ j. length (list_of v (map side_of (get_or (choices_of t) j [])))) (sym c.2) ∙ ap (λ cs. length (list_of v (map side_of cs))) k.1 ∙ list_long t v s c.0 f c.1 h
+
+pub lists_count : (t : Ty) (v : Value) → length (lists_of t v) ≡ width t
+lists_count t v = length-map (λ cs. list_of v (map side_of cs)) (choices_of t) ∙ choices_long t
+
+-- a scalar stands at its number in its component's list
+pub list_holds : (t : Ty) (v : Value) (s : Scalars) (cs : List Bool) (q : List ℕ) → IsFlat t → IsPosition t cs q → HasScalars t v s → (flat t q < length (get_or (lists_of t v) (component t cs) [])) × (get_or (get_or (lists_of t v) (component t cs) []) (flat t q) 0 ≡ s cs q)
+list_holds t v s cs q f w h =
+    let l = leads t cs q w in
+    let k = choice_at t cs l in
+    let here : get_or (lists_of t v) (component t cs) [] ≡ list_of v (map side_of cs) =
+    at-map (λ cs. list_of v (map side_of cs)) (choices_of t) (component t cs) [] [] (let z = k.0 in let y = choices_long t in omega arith) ∙ ap (λ cs. list_of v (map side_of cs)) k.1 in
+    let long = ap length here ∙ list_long t v s cs f l h in
+    let below = flat_below t cs q f w in
+    (omega arith, ap (λ xs. get_or xs (flat t q) 0) here ∙ list_at t v s cs q f w h)

@@ -27,7 +27,7 @@ there_is [] v a e = absurd (cc)
 there_is (b ∷ g) zero a e = omega arith
 there_is (b ∷ g) (suc v) a e = let h = there_is g v a e in omega arith
 
-module _ (d : Declared) (w : World) (ok : IsAdmissible d w) (few : length d.names ≤ 8) (shown : (k : ℕ) (p : List Monomial) → ShownAtLeast k d.names p → pos k ≤ℤ value_at w.bases p) where
+module _ (d : Declared) (w : World) (ok : IsAdmissible d w) (few : length d.names ≤ 8) where
   abbrev num : List Monomial → ℕ
   num = length_at w.bases
 
@@ -64,7 +64,7 @@ module _ (d : Declared) (w : World) (ok : IsAdmissible d w) (few : length d.name
   lowers_is (tree.Unary unary.Second t) p g (One a x) n e h l = lowers_put p a n _ _ (t, refl, lowers_is t (operand_place unary.Second p) g x n e h.0 l.3)
   lowers_is (tree.Unary unary.Join t) p g (One a x) n e h l = (t, refl, lowers_is t p g x n e h.0 l.3)
   lowers_is (tree.Unary unary.Transpose t) p g (One a x) n e h l = (t, refl, lowers_is t p g x n e h.0 l.3)
-  lowers_is (tree.Unary (unary.Split fs) t) p g (One a x) n e h l = (t, (fs, refl, sym (ap (λ z. length_at w.bases (inner_of z)) h.1.4 ∙ split_size d w ok few shown fs)), lowers_is t p g x n e h.0 l.3)
+  lowers_is (tree.Unary (unary.Split fs) t) p g (One a x) n e h l = (t, (fs, refl, sym (ap (λ z. length_at w.bases (inner_of z)) h.1.4 ∙ split_size d w ok few fs)), lowers_is t p g x n e h.0 l.3)
   lowers_is (tree.Unary (unary.Slide s k) t) p g (One a x) n e h l = (t, refl, lowers_is t p g x n e h.0 l.3)
   lowers_is (tree.Unary (unary.Pad s k) t) p g (One a x) n e h l = (t, refl, lowers_is t p g x n e h.0 l.3)
   lowers_is (tree.Unary unary.ToLocal t) p g (One a x) n e h l = (t, refl, lowers_is t Written g x n e h.0 l.3)

@@ -68,18 +68,18 @@ typed_at ys [] v a e = absurd (cc)
 typed_at ys (b ∷ g) zero a e = let d : b ≡ a = cc in ap (ty_at ys) (sym d)
 typed_at ys (b ∷ g) (suc v) a e = typed_at ys g v a e
 
-module _ (d : Declared) (w : World) (ok : IsAdmissible d w) (few : length d.names ≤ 8) (shown : (k : ℕ) (p : List Monomial) → ShownAtLeast k d.names p → pos k ≤ℤ value_at w.bases p) (proper : Every (IsFormed d.names) d.inputs) (src : ℕ → Ty) (sourced : (i : ℕ) (a : PlainTy) → slice_get d.inputs i ≡ Some a → ty_at w.bases a ≡ src i) where
+module _ (d : Declared) (bases : List ℕ) (shown : (k : ℕ) (p : List Monomial) → ShownAtLeast k d.names p → pos k ≤ℤ value_at bases p) (proper : Every (IsFormed d.names) d.inputs) (src : ℕ → Ty) (sourced : (i : ℕ) (a : PlainTy) → slice_get d.inputs i ≡ Some a → ty_at bases a ≡ src i) where
   abbrev num : List Monomial → ℕ
-  num = length_at w.bases
+  num = length_at bases
 
   abbrev ty : PlainTy → Ty
-  ty = ty_at w.bases
+  ty = ty_at bases
 
   abbrev Is : List PlainTy → Lowered → Ty → Type 0
-  Is g x t = HasType num src (types_at w.bases g) x t
+  Is g x t = HasType num src (types_at bases g) x t
 
   has_put : (g : List PlainTy) (p : Place) (a : PlainTy) (x : Lowered) → SuitsPlace p a → Is g x (ty a) → Is g (placed p a x) (ty a)
-  has_put g Written a x i h = (element_same w.bases a i, element_is a i, h)
+  has_put g Written a x i h = (element_same bases a i, element_is a i, h)
   has_put g Argument a x i h = h
   has_put g Element a x i h = h
 
@@ -101,8 +101,8 @@ module _ (d : Declared) (w : World) (ok : IsAdmissible d w) (few : length d.name
       go : (x : Bool) → is_element c ≡ x → Is g (if x then Term.LetElement (element_ty c) v b else Term.LetArray v b) t
       go true e =
           let i = told c e in
-          let s = element_same w.bases c i in
-          (element_is c i, subst (λ z. Is g v z) s h, subst (λ z. HasType num src (push z (types_at w.bases g)) b t) s k)
+          let s = element_same bases c i in
+          (element_is c i, subst (λ z. Is g v z) s h, subst (λ z. HasType num src (push z (types_at bases g)) b t) s k)
       go false e = (ty c, h, k)
 
   formed_in : (g : List PlainTy) (t : Tree) (a : Annotation) → Every (IsFormed d.names) g → Annotates d g t a → IsFormed d.names (type_in a)
@@ -110,7 +110,7 @@ module _ (d : Declared) (w : World) (ok : IsAdmissible d w) (few : length d.name
 
   -- the element of an array, and the names in a body over it
   suits_body : (b x : PlainTy) (l : List Monomial) (t : Tree) → b ≡ types.ArrayOf x l → LoadsScalars (named 0 (element_of b) [] t) (ty x)
-  suits_body b x l t e = subst (λ z. LoadsScalars (named 0 (element_of z) [] t) (ty x)) (sym e) (suits_named w.bases 0 x [] t)
+  suits_body b x l t e = subst (λ z. LoadsScalars (named 0 (element_of z) [] t) (ty x)) (sym e) (suits_named bases 0 x [] t)
 
   outer_is : (b x : PlainTy) (l : List Monomial) → b ≡ types.ArrayOf x l → ty b ≡ ArrayOf (num (outer_of b)) (ty x)
   outer_is b x l e = subst (λ z. ty z ≡ ArrayOf (num (outer_of z)) (ty x)) (sym e) refl
@@ -118,8 +118,8 @@ module _ (d : Declared) (w : World) (ok : IsAdmissible d w) (few : length d.name
   length_is : (b x : PlainTy) (l : List Monomial) → b ≡ types.ArrayOf x l → num l ≡ num (outer_of b)
   length_is b x l e = subst (λ z. num l ≡ num (outer_of z)) (sym e) refl
 
-  pub has_is : (t : Tree) (p : Place) (g : List PlainTy) (a : Annotation) → Every (IsFormed d.names) g → Annotates d g t a → IsLowerable w.bases p t a → Is g (lower p t a) (ty (type_in a))
-  has_is (tree.Variable v) p g (Leaf a) all h l = has_put g p a _ l (typed_at w.bases g v a h)
+  pub has_is : (t : Tree) (p : Place) (g : List PlainTy) (a : Annotation) → Every (IsFormed d.names) g → Annotates d g t a → IsLowerable bases p t a → Is g (lower p t a) (ty (type_in a))
+  has_is (tree.Variable v) p g (Leaf a) all h l = has_put g p a _ l (typed_at bases g v a h)
   has_is (tree.Number c) p g (Leaf a) all h l = has_put g p a _ (in_place p a (subst types.IsElement (sym h.1) tt)) (ap ty h.1)
   has_is (tree.Input i) p g (Leaf a) all h l = sourced i a h
   has_is (tree.Unary (unary.Div m) t) p g (One a x) all h l =
@@ -131,15 +131,15 @@ module _ (d : Declared) (w : World) (ok : IsAdmissible d w) (few : length d.name
   has_is (tree.Unary unary.Second t) p g (One a x) all h l =
       has_put g p a _ l.2 (ty h.1.0, subst (λ z. Is g (lower (operand_place unary.Second p) t x) (ty z)) h.1.1 (has_is t (operand_place unary.Second p) g x all h.0 l.3))
   has_is (tree.Unary unary.Join t) p g (One a x) all h l =
-      (ty (type_in x), has_is t p g x all h.0 l.3, join_reshapes d w ok few shown (type_in x) a (formed_in g t x all h.0) h.1, l.1, l.0, tt)
+      (ty (type_in x), has_is t p g x all h.0 l.3, join_reshapes d bases shown (type_in x) a (formed_in g t x all h.0) h.1, l.1, l.0, tt)
   has_is (tree.Unary unary.Transpose t) p g (One a x) all h l =
-      (ty (type_in x), has_is t p g x all h.0 l.3, transpose_reshapes d w ok few shown (type_in x) a (formed_in g t x all h.0) h.1, l.1, l.0, tt)
+      (ty (type_in x), has_is t p g x all h.0 l.3, transpose_reshapes d bases shown (type_in x) a (formed_in g t x all h.0) h.1, l.1, l.0, tt)
   has_is (tree.Unary (unary.Split fs) t) p g (One a x) all h l =
-      (ty (type_in x), has_is t p g x all h.0 l.3, split_reshapes d w ok few shown fs (type_in x) a (formed_in g t x all h.0) h.1, l.1, l.0, tt)
+      (ty (type_in x), has_is t p g x all h.0 l.3, split_reshapes d bases shown fs (type_in x) a (formed_in g t x all h.0) h.1, l.1, l.0, tt)
   has_is (tree.Unary (unary.Slide s k) t) p g (One a x) all h l =
-      (ty (type_in x), has_is t p g x all h.0 l.3, slide_reshapes d w ok few shown s k (type_in x) a (formed_in g t x all h.0) h.1, l.1, l.0, l.2)
+      (ty (type_in x), has_is t p g x all h.0 l.3, slide_reshapes d bases shown s k (type_in x) a (formed_in g t x all h.0) h.1, l.1, l.0, l.2)
   has_is (tree.Unary (unary.Pad s k) t) p g (One a x) all h l =
-      (ty (type_in x), has_is t p g x all h.0 l.3, pad_reshapes d w ok few shown s k (type_in x) a (formed_in g t x all h.0) h.1, l.1, l.0, tt)
+      (ty (type_in x), has_is t p g x all h.0 l.3, pad_reshapes d bases shown s k (type_in x) a (formed_in g t x all h.0) h.1, l.1, l.0, tt)
   has_is (tree.Unary unary.ToLocal t) p g (One a x) all h l =
       (l.2.1, l.2.0, subst (λ z. Is g (lower Written t x) (ty z)) h.1 (has_is t Written g x all h.0 l.3))
   has_is (tree.Unary unary.ToPrivate t) p g (One a x) all h l =
@@ -154,7 +154,7 @@ module _ (d : Declared) (w : World) (ok : IsAdmissible d w) (few : length d.name
       (ty (type_in x), ty (type_in y), ap ty h.2.2, at_launch (type_in x) i, at_launch (type_in y) j, has_is t Element g x all h.0 l.1, has_is u Element g y all h.1 l.2)
     where
       at_launch : (c : PlainTy) → types.IsElement c → IsElement (ty c)
-      at_launch c k = subst IsElement (sym (element_same w.bases c k)) (element_is c k)
+      at_launch c k = subst IsElement (sym (element_same bases c k)) (element_is c k)
   has_is (tree.Binary binary.Zip t u) p g (Two a x y) all h l =
       let r = h.2 in
       (num r.2, ty r.0, ty r.1, ap ty r.5, subst (λ z. Is g (lower Argument t x) (ty z)) r.3 (has_is t Argument g x all h.0 l.1), subst (λ z. Is g (lower Argument u y) (ty z)) r.4 (has_is u Argument g y all h.1 l.2))
@@ -185,29 +185,29 @@ module _ (d : Declared) (w : World) (ok : IsAdmissible d w) (few : length d.name
   has_is (tree.Fold k xs s b) p g (Three a x y z) all h l =
       let e = h.3 in
       let i = h.5 in
-      let same = element_same w.bases (type_in y) i in
+      let same = element_same bases (type_in y) i in
       let f = subst (IsFormed d.names) e (formed_in g xs x all h.2) in
       let start = has_is s Element g y all h.4 l.2 in
       let body = has_is b Element (h.0 ∷ type_in y ∷ g) z (f.1, (formed_in g s y all h.4, all)) h.6 l.3 in
       let typed = subst (λ t. Is (h.0 ∷ type_in y ∷ g) (lower Element b z) (ty t)) h.7 body in
-      let one : num (constant 1) ≡ 1 = ap natural (value-constant w.bases 1) in (
+      let one : num (constant 1) ≡ 1 = ap natural (value-constant bases 1) in (
         ty h.0,
         l.0,
         suits_body (type_in x) h.0 h.1 b e,
         element_is (type_in y) i,
         subst (λ t. Is g (lower Argument xs x) t) (outer_is (type_in x) h.0 h.1 e) (has_is xs Argument g x all h.2 l.1),
         subst (λ t. Is g (lower Element s y) t) same start,
-        subst (λ t. HasType num src (push (ty h.0) (push t (types_at w.bases g))) (lower Element b z) t) same typed,
+        subst (λ t. HasType num src (push (ty h.0) (push t (types_at bases g))) (lower Element b z) t) same typed,
         ap ty h.8 ∙ ap (λ t. ArrayOf t (ty (type_in y))) one ∙ ap (ArrayOf 1) same,
       )
   has_is _ p g _ all h l = absurd h
 
-flat_at : (ys : List ℕ) (a : PlainTy) → types.HoldsElements a → IsFlat (ty_at ys a)
+pub flat_at : (ys : List ℕ) (a : PlainTy) → types.HoldsElements a → IsFlat (ty_at ys a)
 flat_at ys types.U32 h = tt
 flat_at ys (types.PairOf a b) h = (subst IsElement (sym (element_same ys a h.0)) (element_is a h.0), subst IsElement (sym (element_same ys b h.1)) (element_is b h.1))
 flat_at ys (types.ArrayOf a n) h = flat_at ys a h
 
-output_flat : (ys : List ℕ) (a : PlainTy) → types.IsOutput a → IsFlat (ty_at ys a)
+pub output_flat : (ys : List ℕ) (a : PlainTy) → types.IsOutput a → IsFlat (ty_at ys a)
 output_flat ys types.U32 h = absurd h
 output_flat ys (types.PairOf a b) h = absurd h
 output_flat ys (types.ArrayOf a n) h = flat_at ys a h

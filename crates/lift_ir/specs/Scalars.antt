@@ -2,7 +2,7 @@
 use Rattle.std.specs.Prelude.{◌≡◌, ℕ, zero, suc, ◌<◌, Bool, true, false, List, [], ◌∷◌, length, map, get_or, slice_index}
 use Rattle.scalar_ops.specs.Operators.{apply_op, choose}
 use Rattle.kernel_tree.specs.Device.{row}
-use Rattle.lift_tree.specs.Values.{Value, Word, array, list_of}
+use Rattle.lift_tree.specs.Values.{Value, Word, array, list_of, members, word, first, second}
 use Rattle.lift_tree.specs.Values as value
 use Rattle.lift_ir.specs.Types.{Ty, Scalar, PairOf, ArrayOf, IsPosition, choices_of, component, flat}
 use Rattle.lift_ir.specs.Layouts.{operand_position}
@@ -64,6 +64,17 @@ abbrev pub HasScalars : Ty → Value → Scalars → Type 0
 HasScalars Scalar v s = v ≡ Word (s [] [])
 HasScalars (PairOf a b) v s = (x y : Value) × (v ≡ value.Both x y) × HasScalars a x (λ cs. s (false ∷ cs)) × HasScalars b y (λ cs. s (true ∷ cs))
 HasScalars (ArrayOf n t) v s = (xs : List Value) × (v ≡ array xs) × (length xs ≡ n) × ((i : ℕ) → i < n → HasScalars t (get_or xs i (Word 0)) (at_index i s))
+
+-- an array of these elements
+abbrev pub array_of : (ℕ → Scalars) → Scalars
+array_of f cs [] = 0
+array_of f cs (i ∷ q) = f i cs q
+
+-- the scalars of a value of this type on nested lists; 0 elsewhere
+abbrev pub scalars_in : Ty → Value → Scalars
+scalars_in Scalar v = λ cs q. word v
+scalars_in (PairOf a b) v = by_side (λ q. 0) (scalars_in a (first v)) (scalars_in b (second v))
+scalars_in (ArrayOf n t) v = array_of (λ i. scalars_in t (get_or (members v) i (Word 0)))
 
 abbrev pub side_of : Bool → value.Side
 side_of false = value.Left

@@ -14,3 +14,5 @@ pub mod Printer
 pub mod Alike
 pub mod SameRuns
 pub mod Lengths
+pub mod Printed
+pub mod Programs

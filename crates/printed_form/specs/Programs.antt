@@ -117,6 +117,6 @@ FitsBuffers d bases a = Every (λ b. IsPlaced (length_at bases) (shape_of b)) (t
 -- what the printer makes of a typed term is printed for it, at each admissible launch
 abbrev pub ProgramsArePrinted : Type 0
 ProgramsArePrinted =
-    (d : Declared) (is_task : Bool) (w : World) (t : Tree) (a : Annotation) (l : Launch) (spell : List Monomial → Formula)
-    → IsLowerableProgram d w.bases t a → IsAdmissible d w → IsLaunchOf d is_task w.bases l → IsStaged Written t a → StandsAt l (lowered_root t a) → FitsBuffers d w.bases a → IsSpelling spell w.bases l
-    → Prints d w.bases t a l (printed_kernel spell d t a)
+    (d : Declared) (is_task : Bool) (bases : List ℕ) (t : Tree) (a : Annotation) (l : Launch) (spell : List Monomial → Formula)
+    → IsLowerableProgram d bases t a → IsLaunchOf d is_task bases l → IsStaged Written t a → StandsAt l (lowered_root t a) → FitsBuffers d bases a → IsSpelling spell bases l
+    → Prints d bases t a l (printed_kernel spell d t a)

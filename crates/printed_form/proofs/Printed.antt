@@ -1,0 +1,34 @@
+-- The printer's code for a whole term is one that is printed for it.
+use Rattle.std.proofs.Common.{◌≡◌, ℕ, zero, suc, [], ◌∷◌, refl, inl, inr, ⊎_elim, arith}
+use Rattle.kernel_tree.specs.Formula.{Number}
+use Rattle.kernel_tree.specs.Code.{Input, Output, End}
+use Rattle.kernel_tree.specs.Launch.{Launch}
+use Rattle.lift_ir.specs.Terms.{no_type}
+use Rattle.printed_form.specs.Whole.{no_marks, output_marks}
+use Rattle.lift_ir.specs.Loads.{none}
+use Rattle.printed_form.specs.Means.{AllShow}
+use Rattle.printed_form.specs.Views.{placed_view}
+use Rattle.printed_form.specs.Printer.{no_view, input_views, input_marks, kernel_code}
+use Rattle.lift_ir.specs.Types.{Shape, Scalar, PairOf, ArrayOf, measured}
+use Rattle.printed_form.specs.PrinterLaw.{PrinterPrints}
+use Rattle.printed_form.proofs.Indices.{placed_cells}
+use Rattle.printed_form.proofs.Printer.{cells_show, HeldIn, written_is, over_launch_is}
+
+nothing_shown : (l : Launch) → AllShow l [] no_type no_view no_marks
+nothing_shown l v us cs is [] w g = absurd w
+nothing_shown l v us cs is (i ∷ q) w g = let z = w.0 in absurd (omega arith)
+
+nothing_held : (l : Launch) → HeldIn l no_type no_marks (λ v. none)
+nothing_held l v cs w h = absurd w
+
+pub code_is : (A : Type 0) → PrinterPrints A
+code_is A l num spell spelled first src t ty kind ok nm out inputs =
+    let shown = λ (v : ℕ). cells_show l [] (measured num (src v)) _ _ (let p = inputs v in placed_cells l num spell spelled [] Input (first v) (src v) p.flat p.short p.small) in
+    let place = placed_cells l num spell spelled [] Output 0 ty out.flat out.short out.small in
+    ⊎_elim
+    (λ k. inl (
+      k.0,
+      written_is l num spell spelled (λ v. measured num (src v)) (input_marks num first src) (input_views spell first src) t [] 0 no_type no_view no_marks (λ v. none) 0 0 (measured num ty) (placed_view spell Output 0 ty) (output_marks (measured num ty)) End refl ok nm k.1 (nothing_shown l) shown (nothing_held l) place,
+    ))
+    (λ k. inr (over_launch_is l num spell spelled (λ v. measured num (src v)) (input_marks num first src) (input_views spell first src) t no_type no_view no_marks (λ v. none) 0 0 (measured num ty) (placed_view spell Output 0 ty) (output_marks (measured num ty)) End ok nm k (nothing_shown l) shown (nothing_held l) place))
+    kind

@@ -1,0 +1,248 @@
+-- Kernels printed for a program's typed term: they keep what they owe, they may be started, and the printer's kernel is one.
+use Rattle.std.proofs.Common.{◌≡◌, ℕ, zero, suc, ◌+◌, ◌*◌, ◌/◌, ◌%◌, ◌-◌, ◌<◌, ◌≤◌, ◌^◌, Bool, true, false, List, [], ◌∷◌, ◌++◌, length, get_or, Option, Some, None, refl, sym, ap, ◌∙◌, subst, pos, ◌≤ℤ◌, ⊎_elim, arith, length-append}
+use Rattle.std.specs.Prelude.{map, slice_get, slice_index}
+use Rattle.std.proofs.lemmas.Bool.{cases_lt}
+use Rattle.std.proofs.Math.ListN.{get_or-append}
+use Rattle.std.proofs.Math.Seq.{get_or-append_right}
+use Rattle.size_arith.specs.declared.names.Name.{Name}
+use Rattle.size_arith.specs.declared.poly.Monomial.{Monomial}
+use Rattle.size_arith.specs.Polynomial.{value_at}
+use Rattle.size_arith.specs.Ranges.{Admissible, sizes_at}
+use Rattle.size_arith.specs.Shown.{ShownAtLeast}
+use Rattle.size_arith.proofs.Soundness.{shown_at_least}
+use Rattle.lift_tree.specs.Lists.{Every}
+use Rattle.lift_tree.specs.Tree.{Tree}
+use Rattle.lift_tree.specs.Types as types
+use Rattle.lift_tree.specs.Types.{PlainTy, IsInput, HaveTypes}
+use Rattle.lift_tree.specs.Typing.{Declared, IsDeclared, IsAdmissible}
+use Rattle.lift_tree.specs.Values.{Value, Word, array, nth}
+use Rattle.lift_tree.specs.Annotations.{Annotation, type_in}
+use Rattle.lift_tree.specs.Meaning.{World, meaning}
+use Rattle.lift_tree.specs.Launches as launches
+use Rattle.lift_tree.specs.Launches.{IsAdmissibleLaunch, buffers_of}
+use Rattle.lift_tree.proofs.Members.{length-map}
+use Rattle.kernel_tree.specs.Code.{Kernel}
+use Rattle.kernel_tree.specs.Launch.{Launch, Cells, IsWhole, MayStart}
+use Rattle.kernel_tree.specs.Device.{row}
+use Rattle.lift_ir.specs.Types.{Shape, Ty, Scalar, PairOf, ArrayOf, IsPosition, IsFlat, IsPlaced, component, flat, width, measured}
+use Rattle.lift_ir.specs.Terms.{HasType, no_type}
+use Rattle.lift_ir.specs.Scalars.{Scalars, HasScalars, scalars_in, scalars_of, no_scalars, lists_of}
+use Rattle.lift_ir.specs.AtLaunch.{length_at, ty_at, shape_of}
+use Rattle.lift_ir.specs.Lowering.{Written, lower}
+use Rattle.lift_ir.proofs.Lists.{lists_long, lists_count, list_holds}
+use Rattle.lift_ir.proofs.Lowering.{lowers_is}
+use Rattle.lift_ir.proofs.Meaning.{means}
+use Rattle.lift_ir.proofs.Named.{names_suffice}
+use Rattle.lift_ir.proofs.Numbers.{component_below}
+use Rattle.lift_ir.proofs.Typed.{has_is, output_flat}
+use Rattle.lift_ir.proofs.Values.{shape_is, has_scalars, same_lists}
+use Rattle.printed_form.specs.Headline.{EveryRunKeeps}
+use Rattle.printed_form.specs.Whole.{IsCode, IsGiven}
+use Rattle.printed_form.specs.Printer.{input_marks, kernel_code}
+use Rattle.printed_form.specs.Programs.{input_shape, first_buffer, buffer_count, lowered_root, Prints, cell_owner, IsLaunchOf, AreBuffersOf, IsLowerableProgram, PrintedProgramsKeep, PrintedProgramsStart, ProgramsArePrinted}
+use Rattle.printed_form.proofs.Printed.{code_is}
+use Rattle.printed_form.proofs.Theorem.{printed_kernels_keep}
+
+width_is : (ys : List ℕ) (a : PlainTy) → width (ty_at ys a) ≡ width (shape_of a)
+width_is ys types.U32 = refl
+width_is ys (types.PairOf a b) = let x = width_is ys a in let y = width_is ys b in omega arith
+width_is ys (types.ArrayOf a n) = width_is ys a
+
+-- a declared input has the shape of its type
+shape_at : (tys : List PlainTy) (i : ℕ) (a : PlainTy) → slice_get tys i ≡ Some a → input_shape tys i ≡ shape_of a
+shape_at [] i a e = absurd (cc)
+shape_at (b ∷ tys) zero a e = ap shape_of (same b a e)
+  where
+    same : (b a : PlainTy) → Some b ≡ Some a → b ≡ a
+    same b a e = cc
+shape_at (b ∷ tys) (suc i) a e = shape_at tys i a e
+
+-- an input that is declared, or none
+pub data Which (tys : List PlainTy) (i : ℕ) : Type 0 where
+  Declared' : (a : PlainTy) → slice_get tys i ≡ Some a → Which tys i
+  Absent : length tys ≤ i → input_shape tys i ≡ ArrayOf [] Scalar → Which tys i
+
+which : (tys : List PlainTy) (i : ℕ) → Which tys i
+which [] i = Absent (omega arith) refl
+which (a ∷ tys) zero = Declared' a refl
+which (a ∷ tys) (suc i) = go (which tys i)
+  where
+    go : Which tys i → Which (a ∷ tys) (suc i)
+    go (Declared' b e) = Declared' b e
+    go (Absent le e) = Absent (omega arith) e
+
+at_some : (P : PlainTy → Type 0) (tys : List PlainTy) (i : ℕ) (a : PlainTy) → Every P tys → slice_get tys i ≡ Some a → P a
+at_some P [] i a h e = absurd (cc)
+at_some P (b ∷ tys) zero a h e = subst P (same b a e) h.0
+  where
+    same : (b a : PlainTy) → Some b ≡ Some a → b ≡ a
+    same b a e = cc
+at_some P (b ∷ tys) (suc i) a h e = at_some P tys i a h.1 e
+
+-- buffers
+
+no_word : (xs : List Value) → Word 0 ≡ array xs → ⊥
+no_word [] e = cc
+no_word (x ∷ xs) e = cc
+
+input_is_array : (ys : List ℕ) (a : PlainTy) → IsInput a → types.HasType ys a (Word 0) → ⊥
+input_is_array ys types.U32 i h = i
+input_is_array ys (types.PairOf a b) i h = i
+input_is_array ys (types.ArrayOf a n) i h = no_word h.0 h.1
+
+lists_length : (ys : List ℕ) (a : PlainTy) (v : Value) → length (launches.lists_of a v) ≡ width (shape_of a)
+lists_length ys a v = ap length (same_lists ys a v) ∙ lists_count (ty_at ys a) v ∙ width_is ys a
+
+-- an input's buffers are its value's lists
+row_is : (ys : List ℕ) (tys : List PlainTy) (vs : List Value) (i : ℕ) (a : PlainTy) (c : ℕ) → Every IsInput tys → HaveTypes ys tys vs → slice_get tys i ≡ Some a → c < width (shape_of a) → row (buffers_of tys vs) (first_buffer tys i + c) ≡ row (launches.lists_of a (nth vs i)) c
+row_is ys [] vs i a c all h e lt = absurd (cc)
+row_is ys (b ∷ tys) [] i a c all h e lt = absurd (input_is_array ys b all.0 (h 0 b refl))
+row_is ys (b ∷ tys) (v ∷ vs) zero a c all h e lt =
+    let s = same b a e in
+    let n = lists_length ys b v in
+    ap (λ k. get_or (launches.lists_of b v ++ buffers_of tys vs) k []) (let z : 0 + c ≡ c = omega arith in z)
+    ∙ get_or-append (launches.lists_of b v) (buffers_of tys vs) [] c (subst (λ k. c < k) (sym (n ∙ ap (λ z. width (shape_of z)) s)) lt)
+    ∙ ap (λ z. get_or (launches.lists_of z v) c []) s
+  where
+    same : (b a : PlainTy) → Some b ≡ Some a → b ≡ a
+    same b a e = cc
+row_is ys (b ∷ tys) (v ∷ vs) (suc i) a c all h e lt =
+    let n = lists_length ys b v in
+    get_or-append_right (launches.lists_of b v) (buffers_of tys vs) (width (shape_of b) + first_buffer tys i + c) [] (omega arith)
+    ∙ ap (λ k. get_or (buffers_of tys vs) k []) (let z : width (shape_of b) + first_buffer tys i + c - length (launches.lists_of b v) ≡ first_buffer tys i + c = omega arith in z)
+    ∙ row_is ys tys vs i a c all.1 (λ n x y. h (suc n) x y) e lt
+
+buffers_count : (ys : List ℕ) (tys : List PlainTy) (vs : List Value) → Every IsInput tys → HaveTypes ys tys vs → length (buffers_of tys vs) ≡ buffer_count tys
+buffers_count ys [] vs all h = refl
+buffers_count ys (b ∷ tys) [] all h = absurd (input_is_array ys b all.0 (h 0 b refl))
+buffers_count ys (b ∷ tys) (v ∷ vs) all h =
+    let x = length-append (launches.lists_of b v) (buffers_of tys vs) in
+    let y = lists_length ys b v in
+    let z = buffers_count ys tys vs all.1 (λ n x y. h (suc n) x y) in
+    omega arith
+
+-- launches
+
+whole : (l : Launch) (is_task : Bool) (names : List Name) (bases : List ℕ) → IsAdmissibleLaunch names is_task bases l.global l.local → IsWhole l
+whole l is_task names bases h = let a = h.local_least in let b = h.divides in record { positive = omega arith; divides = parts l.global l.local b (omega arith) }
+  where
+    parts : (g n : ℕ) → g % n ≡ 0 → 0 < n → g ≡ g / n * n
+    parts g n e h = omega arith
+
+sizes_count : (names : List Name) (ys : List ℕ) → Admissible names ys → length (sizes_at names ys) ≡ length names
+sizes_count [] ys h = refl
+sizes_count (n ∷ names) [] h = absurd h
+sizes_count (n ∷ names) (y ∷ ys) h = let e = sizes_count names ys h.1 in omega arith
+
+-- lengths that are shown at least a number are so
+shown : (d : Declared) (is_task : Bool) (bases : List ℕ) (l : Launch) → IsDeclared d → IsLaunchOf d is_task bases l → (j : ℕ) (p : List Monomial) → ShownAtLeast j d.names p → pos j ≤ℤ value_at bases p
+shown d is_task bases l declared launch j p s = shown_at_least d.names bases declared.names launch.admissible.sizes j p s
+
+abbrev sources_at : Declared → List ℕ → ℕ → Ty
+sources_at d bases v = measured (length_at bases) (input_shape d.inputs v)
+
+source_is : (d : Declared) (bases : List ℕ) (i : ℕ) (a : PlainTy) → slice_get d.inputs i ≡ Some a → sources_at d bases i ≡ ty_at bases a
+source_is d bases i a e = ap (measured (length_at bases)) (shape_at d.inputs i a e) ∙ shape_is bases a
+
+module _ (d : Declared) (w : World) (declared : IsDeclared d) (ok : IsAdmissible d w) (c : Cells) (held : c.ins ≡ buffers_of d.inputs w.inputs) where
+  abbrev source : ℕ → Scalars
+  source v = scalars_in (sources_at d w.bases v) (nth w.inputs v)
+
+  pub input_has : (v : ℕ) → v < length d.inputs → HasScalars (sources_at d w.bases v) (nth w.inputs v) (source v)
+  input_has v lt = go (which d.inputs v)
+    where
+      go : Which d.inputs v → HasScalars (sources_at d w.bases v) (nth w.inputs v) (source v)
+      go (Declared' a e) = subst (λ z. HasScalars z (nth w.inputs v) (scalars_in z (nth w.inputs v))) (sym (source_is d w.bases v a e)) (has_scalars w.bases a (nth w.inputs v) (ok.inputs v a e))
+      go (Absent le e) = absurd (omega arith)
+
+  abbrev Given : ℕ → Ty → Type 0
+  Given v ty = (cs : List Bool) (q : List ℕ) → IsPosition ty cs q
+      → (flat ty q < length (row c.ins (first_buffer d.inputs v + component ty cs))) × (slice_index (row c.ins (first_buffer d.inputs v + component ty cs)) (flat ty q) ≡ scalars_in ty (nth w.inputs v) cs q)
+
+  given_typed : (v : ℕ) (a : PlainTy) → slice_get d.inputs v ≡ Some a → Given v (ty_at w.bases a)
+  given_typed v a e cs q p =
+      let ty = ty_at w.bases a in
+      let u = nth w.inputs v in
+      let i = at_some IsInput d.inputs v a declared.arrays e in
+      let below : component ty cs < width (shape_of a) = subst (λ k. component ty cs < k) (width_is w.bases a) (component_below ty cs q p) in
+      let here : row c.ins (first_buffer d.inputs v + component ty cs) ≡ row (lists_of ty u) (component ty cs) =
+      ap (λ z. row z (first_buffer d.inputs v + component ty cs)) held ∙ row_is w.bases d.inputs w.inputs v a (component ty cs) declared.arrays ok.inputs e below
+      ∙ ap (λ z. row z (component ty cs)) (same_lists w.bases a u) in
+      let h = list_holds ty u (scalars_in ty u) cs q (output_flat w.bases a i) p (has_scalars w.bases a u (ok.inputs v a e)) in
+      (subst (λ z. flat ty q < length z) (sym here) h.0, ap (λ z. slice_index z (flat ty q)) here ∙ h.1)
+
+  pub input_given : (v : ℕ) → Given v (sources_at d w.bases v)
+  input_given v = go (which d.inputs v)
+    where
+      go : Which d.inputs v → Given v (sources_at d w.bases v)
+      go (Declared' a e) = subst (Given v) (sym (source_is d w.bases v a e)) (given_typed v a e)
+      go (Absent le e) = subst (Given v) (sym (ap (measured (length_at w.bases)) e)) none
+        where
+          none : Given v (ArrayOf 0 Scalar)
+          none cs [] p = absurd p
+          none cs (i ∷ q) p = let z = p.0 in absurd (omega arith)
+
+pub printed_programs_keep : PrintedProgramsKeep
+printed_programs_keep d is_task w t a l k c program ok launch buffers printed =
+    let num = length_at w.bases in
+    let ty = ty_at w.bases (type_in a) in
+    let src = sources_at d w.bases in
+    let sources = source d w program.declared ok c buffers.inputs in
+    let low = lowered_root t a in
+    let flat_type = output_flat w.bases (type_in a) program.output in
+    let lowers = lowers_is d w ok program.declared.few t Written [] a 0 refl program.nodes program.lowerable in
+    let has = has_is d w.bases (shown d is_task w.bases l program.declared launch) program.declared.inputs src (λ i b e. sym (source_is d w.bases i b e)) t Written [] a tt program.nodes program.lowerable in
+    let given = input_has d w program.declared ok c buffers.inputs in
+    let v = meaning w [] t in
+    let h = means num w src sources (length d.inputs) given low 0 t no_type [] no_scalars ty lowers has (λ i lt. absurd (omega arith)) in
+    let same = same_lists w.bases (type_in a) v in
+    subst (EveryRunKeeps k l c (cell_owner w.bases l t a)) (sym same)
+    (printed_kernels_keep (List Monomial) num l w t (length d.inputs) src (input_marks num (first_buffer d.inputs) (input_shape d.inputs)) sources low ty k c lowers given
+    (record {
+      whole = whole l is_task d.names w.bases launch.admissible;
+      some = let z = launch.admissible.global_least in omega arith;
+      few = let z = launch.admissible.global_most in omega arith;
+      typed = has;
+      flat_type = flat_type;
+      code = printed.code;
+      variables = printed.variables;
+      privates = printed.privates;
+      outputs = buffers.outputs ∙ ap (map length) same ∙ lists_long ty v (scalars_of num sources no_scalars low) flat_type h;
+      inputs = input_given d w program.declared ok c buffers.inputs;
+    }))
+
+pub printed_programs_start : PrintedProgramsStart
+printed_programs_start d is_task w t a l k c program ok launch buffers printed = record {
+  whole = whole l is_task d.names w.bases launch.admissible;
+  small_groups = launch.admissible.local_most;
+  few_items = launch.admissible.global_most;
+  sizes = ap length launch.sizes ∙ sizes_count d.names w.bases launch.admissible.sizes ∙ sym printed.sizes;
+  ins = ap length buffers.inputs ∙ buffers_count w.bases d.inputs w.inputs program.declared.arrays ok.inputs ∙ sym printed.inputs;
+  outs = sym (length-map length c.outs) ∙ ap length buffers.outputs ∙ length-map length (launches.lists_of (type_in a) (meaning w [] t)) ∙ lists_length w.bases (type_in a) (meaning w [] t) ∙ sym printed.outputs;
+}
+
+pub programs_are_printed : ProgramsArePrinted
+programs_are_printed d is_task bases t a l spell program launch staged stands placed spelled =
+    let num = length_at bases in
+    let low = lowered_root t a in
+    let src = sources_at d bases in
+    let same = shape_is bases (type_in a) in
+    let has = has_is d bases (shown d is_task bases l program.declared launch) program.declared.inputs src (λ i b e. sym (source_is d bases i b e)) t Written [] a tt program.nodes program.lowerable in
+    record {
+      inputs = refl;
+      outputs = refl;
+      sizes = refl;
+      locals = refl;
+      privates = refl;
+      variables = refl;
+      code =
+          subst (λ z. IsCode l (input_marks num (first_buffer d.inputs) (input_shape d.inputs)) num low z (kernel_code spell (first_buffer d.inputs) (input_shape d.inputs) low (shape_of (type_in a)))) same
+          (code_is (List Monomial) l num spell spelled (first_buffer d.inputs) (input_shape d.inputs) low (shape_of (type_in a)) stands (subst (λ z. HasType num src no_type low z) (sym same) has) (names_suffice d bases t a program.nodes program.lowerable staged) placed.0 (inputs_placed bases d.inputs placed.1));
+    }
+  where
+    inputs_placed : (bases : List ℕ) (tys : List PlainTy) → Every (λ b. IsPlaced (length_at bases) (shape_of b)) tys → (v : ℕ) → IsPlaced (length_at bases) (input_shape tys v)
+    inputs_placed bases tys all v = go (which tys v)
+      where
+        go : Which tys v → IsPlaced (length_at bases) (input_shape tys v)
+        go (Declared' b e) = subst (IsPlaced (length_at bases)) (sym (shape_at tys v b e)) (at_some (λ b. IsPlaced (length_at bases) (shape_of b)) tys v b all e)
+        go (Absent le e) = subst (IsPlaced (length_at bases)) (sym e) (record { flat = tt; short = (omega arith, tt); small = omega arith })
