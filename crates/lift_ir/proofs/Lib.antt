@@ -10,3 +10,4 @@ pub mod Typed
 pub mod LoweredTerms
 pub mod Owner
 pub mod Values
+pub mod Served

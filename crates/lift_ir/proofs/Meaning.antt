@@ -17,7 +17,7 @@ use Rattle.lift_ir.specs.Sources.{IsLayout, Lowers}
 use Rattle.lift_ir.proofs.Nested.{at-map, members_of, is_as, split_is, slide_is, join_is, transpose_is, pad_is}
 
 module _ {A : Type 0} (num : A → ℕ) (w : World) where
-  laid_is : (vs : List Value) (l : Layout A) (x y : Tree) (t u : Ty) (s : Scalars) → IsLayout num w x l y → Reshapes num l t u → HasScalars t (meaning w vs y) s → HasScalars u (meaning w vs x) (λ cs q. s cs (operand_position num l q))
+  pub laid_is : (vs : List Value) (l : Layout A) (x y : Tree) (t u : Ty) (s : Scalars) → IsLayout num w x l y → Reshapes num l t u → HasScalars t (meaning w vs y) s → HasScalars u (meaning w vs x) (λ cs q. s cs (operand_position num l q))
   laid_is vs (Split m) x y (ArrayOf n t) u s i r h =
       let v = meaning w vs y in
       subst (λ z. HasScalars u (meaning w vs z) (λ cs q. s cs (operand_position num (Split m) q))) (sym i.1)

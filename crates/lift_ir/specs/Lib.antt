@@ -9,3 +9,4 @@ pub mod Lowerable
 pub mod Loads
 pub mod Forms
 pub mod Owner
+pub mod Promises

@@ -21,9 +21,9 @@ use Rattle.lift_tree.specs.Meaning.{World, meaning}
 use Rattle.lift_tree.specs.Launches as launches
 use Rattle.lift_tree.specs.Launches.{IsAdmissibleLaunch, buffers_of}
 use Rattle.lift_tree.proofs.Members.{length-map}
-use Rattle.kernel_tree.specs.Code.{Kernel}
+use Rattle.kernel_tree.specs.Code.{Array, Input, Output, Local, Private, Kernel}
 use Rattle.kernel_tree.specs.Launch.{Launch, Cells, IsWhole, MayStart}
-use Rattle.kernel_tree.specs.Device.{row}
+use Rattle.kernel_tree.specs.Device.{row, length_in}
 use Rattle.lift_ir.specs.Types.{Shape, Ty, Scalar, PairOf, ArrayOf, IsPosition, IsFlat, IsPlaced, component, flat, width, measured}
 use Rattle.lift_ir.specs.Terms.{HasType, no_type}
 use Rattle.lift_ir.specs.Scalars.{Scalars, HasScalars, scalars_in, scalars_of, no_scalars, lists_of}
@@ -39,8 +39,9 @@ use Rattle.lift_ir.proofs.Values.{shape_is, has_scalars, same_lists}
 use Rattle.printed_form.specs.Headline.{EveryRunKeeps}
 use Rattle.printed_form.specs.Whole.{IsCode, IsGiven}
 use Rattle.printed_form.specs.Printer.{input_marks, kernel_code}
-use Rattle.printed_form.specs.Programs.{input_shape, first_buffer, buffer_count, lowered_root, Prints, cell_owner, IsLaunchOf, AreBuffersOf, IsLowerableProgram, PrintedProgramsKeep, PrintedProgramsStart, ProgramsArePrinted}
+use Rattle.printed_form.specs.Programs.{input_shape, first_buffer, buffer_count, lowered_root, Prints, cell_owner, IsLaunchOf, AreBuffersOf, IsLowerableProgram, PrintedProgramsKeep, PrintedProgramsStart, ProgramsArePrinted, PrintedProgramsGoAlike}
 use Rattle.printed_form.proofs.Printed.{code_is}
+use Rattle.printed_form.proofs.SameRuns.{printed_kernels_are_alike}
 use Rattle.printed_form.proofs.Theorem.{printed_kernels_keep}
 
 width_is : (ys : List ℕ) (a : PlainTy) → width (ty_at ys a) ≡ width (shape_of a)
@@ -246,3 +247,14 @@ programs_are_printed d is_task bases t a l spell program launch staged stands pl
         go : Which tys v → IsPlaced (length_at bases) (input_shape tys v)
         go (Declared' b e) = subst (IsPlaced (length_at bases)) (sym (shape_at tys v b e)) (at_some (λ b. IsPlaced (length_at bases) (shape_of b)) tys v b all e)
         go (Absent le e) = subst (IsPlaced (length_at bases)) (sym e) (record { flat = tt; short = (omega arith, tt); small = omega arith })
+
+pub printed_programs_go_alike : PrintedProgramsGoAlike
+printed_programs_go_alike d is_task bases t a l k m c s r es launch one two begin run =
+    printed_kernels_are_alike (List Monomial) (length_at bases) l (input_marks (length_at bases) (first_buffer d.inputs) (input_shape d.inputs)) (lowered_root t a) (ty_at bases (type_in a)) k m c s r es
+    (whole l is_task d.names bases launch.admissible) one.code two.code lengths begin run
+  where
+    lengths : (b : Array) → length_in k c b ≡ length_in m c b
+    lengths (Input n) = refl
+    lengths (Output n) = refl
+    lengths (Local n) = ap (λ ns. slice_index ns n) (one.locals ∙ sym two.locals)
+    lengths (Private n) = ap (λ ns. slice_index ns n) (one.privates ∙ sym two.privates)

@@ -12,6 +12,9 @@ use Rattle.lift_tree.specs.Launches.{IsAdmissibleLaunch, buffers_of, lists_of}
 use Rattle.kernel_tree.specs.Formula.{Formula}
 use Rattle.kernel_tree.specs.Code.{Kernel}
 use Rattle.kernel_tree.specs.Launch.{Launch, Cells, MayStart}
+use Rattle.kernel_tree.specs.declared.events.Event.{Event}
+use Rattle.kernel_tree.specs.Device.{State, device_of, IsRun}
+use Rattle.printed_form.specs.Alike.{BeginAlike, SameRun}
 use Rattle.lift_ir.specs.Types.{Shape, ArrayOf, Scalar, width, unflat, IsPlaced}
 use Rattle.lift_ir.specs.Terms.{LocalMemory, PrivateMemory}
 use Rattle.lift_ir.specs.AtLaunch.{length_at, ty_at, shape_of}
@@ -120,3 +123,9 @@ ProgramsArePrinted =
     (d : Declared) (is_task : Bool) (bases : List ℕ) (t : Tree) (a : Annotation) (l : Launch) (spell : List Monomial → Formula)
     → IsLowerableProgram d bases t a → IsLaunchOf d is_task bases l → IsStaged Written t a → StandsAt l (lowered_root t a) → FitsBuffers d bases a → IsSpelling spell bases l
     → Prints d bases t a l (printed_kernel spell d t a)
+
+-- any two kernels that are printed for one typed term run alike from the same variables and memory: the same events can come, with the same accesses
+abbrev pub PrintedProgramsGoAlike : Type 0
+PrintedProgramsGoAlike =
+    (d : Declared) (is_task : Bool) (bases : List ℕ) (t : Tree) (a : Annotation) (l : Launch) (k m : Kernel) (c : Cells) (s r : State) (es : List Event)
+    → IsLaunchOf d is_task bases l → Prints d bases t a l k → Prints d bases t a l m → BeginAlike l k m s r → IsRun (device_of k l c) s es → SameRun (device_of k l c) (device_of m l c) s r es
