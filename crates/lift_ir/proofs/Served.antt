@@ -1,5 +1,5 @@
 -- The laws, from their lemmas.
-use Rattle.std.proofs.Common.{◌≡◌, ℕ, zero, suc, ◌<◌, List, [], length, refl, arith, pos, ◌≤ℤ◌}
+use Rattle.std.proofs.Common.{ℕ, List, [], refl, arith, pos, ◌≤ℤ◌}
 use Rattle.size_arith.specs.declared.poly.Monomial.{Monomial}
 use Rattle.size_arith.specs.Polynomial.{value_at}
 use Rattle.size_arith.specs.Ranges.{Admissible}

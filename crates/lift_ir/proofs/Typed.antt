@@ -1,5 +1,5 @@
 -- A typed term's lowered term has its type at each admissible launch.
-use Rattle.std.proofs.Common.{◌≡◌, ℕ, zero, suc, ◌≤◌, Bool, true, false, List, [], ◌∷◌, length, Some, refl, sym, ap, ◌∙◌, subst, pos, ◌≤ℤ◌}
+use Rattle.std.proofs.Common.{◌≡◌, ℕ, zero, suc, Bool, true, false, List, [], ◌∷◌, Some, refl, sym, ap, ◌∙◌, subst, pos, ◌≤ℤ◌}
 use Rattle.std.specs.Prelude.{slice_get, if◌then◌else◌}
 use Rattle.size_arith.specs.declared.poly.Monomial.{Monomial}
 use Rattle.size_arith.specs.Polynomial.{value_at}
@@ -14,21 +14,20 @@ use Rattle.lift_tree.specs.Tree as tree
 use Rattle.lift_tree.specs.Tree.{Tree}
 use Rattle.lift_tree.specs.Types as types
 use Rattle.lift_tree.specs.Types.{PlainTy, IsFormed}
-use Rattle.lift_tree.specs.Meaning.{World, scalar_op}
-use Rattle.lift_tree.specs.Typing.{Declared, IsAdmissible, constant}
+use Rattle.lift_tree.specs.Meaning.{scalar_op}
+use Rattle.lift_tree.specs.Typing.{Declared, constant}
 use Rattle.lift_tree.specs.Annotations.{Annotation, Leaf, One, Two, Three, type_in, Annotates}
 use Rattle.lift_tree.proofs.Formed.{formed}
 use Rattle.lift_tree.proofs.Annotated.{annotated_is_typed}
 use Rattle.lift_tree.proofs.Sizes.{value-constant}
 use Rattle.kernel_tree.specs.Formula.{divides}
-use Rattle.size_arith.proofs.Soundness.{shown_at_least}
 use Rattle.lift_ir.specs.Types.{Ty, PairOf, ArrayOf, IsElement, IsFlat}
 use Rattle.lift_ir.specs.Terms.{LoadsScalars, Term, HasType, push}
 use Rattle.lift_ir.specs.AtLaunch.{natural, length_at, ty_at, outer_of, types_at}
 use Rattle.lift_ir.specs.Lowering.{Place, Written, Argument, Element, element_ty, is_element, element_of, Lowered, placed, named, operand_place, value_place, body_place, lower_let, placed_element, lower}
 use Rattle.lift_ir.specs.Lowerable.{SuitsPlace, IsLowerable}
 use Rattle.lift_ir.proofs.AtLaunch.{split_reshapes, join_reshapes, transpose_reshapes, slide_reshapes, pad_reshapes}
-use Rattle.lift_ir.proofs.Lowering.{suits_named, lowers_is}
+use Rattle.lift_ir.proofs.Lowering.{suits_named}
 
 no_division : (o : Operator) → divides (scalar_op o) ≡ false
 no_division (operator.Regrouping reducer.Add) = refl

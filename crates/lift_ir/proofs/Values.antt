@@ -1,9 +1,8 @@
 -- Values of types have their scalars, and their lists are those of their components.
-use Rattle.std.proofs.Common.{◌≡◌, ℕ, zero, suc, ◌+◌, ◌-◌, ◌<◌, ◌≤◌, Bool, true, false, List, [], ◌∷◌, ◌++◌, length, get_or, refl, sym, ap, ◌∙◌, subst, pos, arith}
-use Rattle.std.specs.Prelude.{map, slice_index}
+use Rattle.std.proofs.Common.{◌≡◌, ℕ, zero, suc, ◌<◌, Bool, true, false, List, [], ◌∷◌, ◌++◌, length, get_or, refl, sym, ap, ◌∙◌, subst, arith}
+use Rattle.std.specs.Prelude.{map}
 use Rattle.std.proofs.lemmas.List.{map-append}
 use Rattle.std.proofs.lemmas.Simd.{map-map}
-use Rattle.kernel_tree.specs.Device.{row}
 use Rattle.lift_tree.specs.Types as types
 use Rattle.lift_tree.specs.Types.{PlainTy}
 use Rattle.lift_tree.specs.Lists.{Every}
@@ -12,11 +11,9 @@ use Rattle.lift_tree.specs.Values as value
 use Rattle.lift_tree.specs.Limits.{components}
 use Rattle.lift_tree.specs.Launches as launches
 use Rattle.lift_tree.proofs.Members.{members-array}
-use Rattle.lift_ir.specs.Types.{Ty, Scalar, PairOf, ArrayOf, choices_of, component, flat, width, measured, IsPosition, IsElement, IsFlat}
-use Rattle.lift_ir.specs.Scalars.{Scalars, HasScalars, scalars_in, side_of, lists_of}
+use Rattle.lift_ir.specs.Types.{PairOf, ArrayOf, choices_of, measured}
+use Rattle.lift_ir.specs.Scalars.{HasScalars, scalars_in, side_of, lists_of}
 use Rattle.lift_ir.specs.AtLaunch.{natural, length_at, ty_at, shape_of}
-use Rattle.lift_ir.specs.Lowering.{element_ty}
-use Rattle.lift_ir.proofs.Lists.{list_holds, lists_count}
 
 -- a type of the source, and its shape at a launch
 pub shape_is : (ys : List ℕ) (a : PlainTy) → measured (length_at ys) (shape_of a) ≡ ty_at ys a

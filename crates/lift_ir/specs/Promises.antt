@@ -1,5 +1,5 @@
 -- What holds of terms and their values.
-use Rattle.std.specs.Prelude.{◌≡◌, ℕ, ◌<◌, Bool, List, [], Some, length, map, slice_get, slice_index}
+use Rattle.std.specs.Prelude.{◌≡◌, ℕ, ◌<◌, Bool, List, [], Some, length, slice_get, slice_index}
 use Rattle.size_arith.specs.declared.poly.Monomial.{Monomial}
 use Rattle.size_arith.specs.Ranges.{Admissible}
 use Rattle.lift_tree.specs.Tree.{Tree}

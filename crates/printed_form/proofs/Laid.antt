@@ -1,9 +1,8 @@
 -- Values laid in arrays: each scalar has a cell of its own.
-use Rattle.std.proofs.Common.{◌≡◌, ℕ, suc, ◌+◌, ◌*◌, ◌/◌, ◌%◌, ◌<◌, ◌≤◌, Bool, true, false, List, [], ◌∷◌, Some, refl, sym, ap, ◌∙◌, arith}
-use Rattle.std.proofs.Math.Nat.{mul-le-mul_right}
+use Rattle.std.proofs.Common.{◌≡◌, ℕ, ◌+◌, ◌<◌, ◌≤◌, Some, ap, arith}
 use Rattle.kernel_tree.specs.Code.{Array, Output, Private}
 use Rattle.kernel_tree.specs.Device.{Cell}
-use Rattle.lift_ir.specs.Types.{Ty, Scalar, PairOf, ArrayOf, IsPosition, IsFlat, width, component, size, flat}
+use Rattle.lift_ir.specs.Types.{Ty, IsFlat, width, component, size, flat}
 use Rattle.printed_form.specs.Marks.{laid_in}
 use Rattle.printed_form.specs.Runs.{Setting, spot_cell, IsOpen, Due}
 use Rattle.lift_ir.proofs.Numbers.{component_below, flat_below, component_same, flat_same}

@@ -1,5 +1,5 @@
 -- The private arrays of a term are as long as their values, where a kernel has them by their lengths.
-use Rattle.std.proofs.Common.{◌≡◌, ℕ, zero, suc, ◌+◌, ◌-◌, ◌<◌, ◌≤◌, List, [], ◌∷◌, ◌++◌, length, get_or, refl, sym, ap, ◌∙◌, subst, arith, length-append}
+use Rattle.std.proofs.Common.{◌≡◌, ℕ, zero, suc, ◌+◌, ◌-◌, ◌<◌, List, [], ◌∷◌, ◌++◌, length, get_or, refl, sym, ap, ◌∙◌, arith, length-append}
 use Rattle.std.specs.Prelude.{map, replicate, slice_index}
 use Rattle.std.proofs.lemmas.List.{length-replicate, get_or-replicate}
 use Rattle.std.proofs.Math.ListN.{get_or-append}
@@ -7,7 +7,7 @@ use Rattle.std.proofs.Math.Seq.{get_or-append_right}
 use Rattle.lift_tree.proofs.Members.{length-map}
 use Rattle.kernel_tree.specs.Code.{Array, Private}
 use Rattle.kernel_tree.specs.Device.{row}
-use Rattle.lift_ir.specs.Types.{Ty, width, size}
+use Rattle.lift_ir.specs.Types.{width, size}
 use Rattle.lift_ir.specs.Terms.{LocalMemory, PrivateMemory, Term, Literal, Bound, Source, Apply, ApplyNumber, Select, Both, Project, Reshape, LetArray, LetElement, Map, Fold, Store, Copy}
 use Rattle.printed_form.specs.Counts.{private_count, copy_lengths}
 use Rattle.printed_form.specs.Form.{Declares}

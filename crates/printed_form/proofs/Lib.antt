@@ -16,3 +16,5 @@ pub mod SameRuns
 pub mod Lengths
 pub mod Printed
 pub mod Programs
+pub mod WorkedKernels
+pub mod Increments

@@ -1,6 +1,5 @@
 -- The printer's code for a whole term is one that is printed for it.
-use Rattle.std.proofs.Common.{◌≡◌, ℕ, zero, suc, [], ◌∷◌, refl, inl, inr, ⊎_elim, arith}
-use Rattle.kernel_tree.specs.Formula.{Number}
+use Rattle.std.proofs.Common.{ℕ, [], ◌∷◌, refl, inl, inr, ⊎_elim, arith}
 use Rattle.kernel_tree.specs.Code.{Input, Output, End}
 use Rattle.kernel_tree.specs.Launch.{Launch}
 use Rattle.lift_ir.specs.Terms.{no_type}
@@ -8,8 +7,8 @@ use Rattle.printed_form.specs.Whole.{no_marks, output_marks}
 use Rattle.lift_ir.specs.Loads.{none}
 use Rattle.printed_form.specs.Means.{AllShow}
 use Rattle.printed_form.specs.Views.{placed_view}
-use Rattle.printed_form.specs.Printer.{no_view, input_views, input_marks, kernel_code}
-use Rattle.lift_ir.specs.Types.{Shape, Scalar, PairOf, ArrayOf, measured}
+use Rattle.printed_form.specs.Printer.{no_view, input_views, input_marks}
+use Rattle.lift_ir.specs.Types.{measured}
 use Rattle.printed_form.specs.PrinterLaw.{PrinterPrints}
 use Rattle.printed_form.proofs.Indices.{placed_cells}
 use Rattle.printed_form.proofs.Printer.{cells_show, HeldIn, written_is, over_launch_is}

@@ -1,7 +1,6 @@
 -- Kernels printed for a program's typed term: they keep what they owe, they may be started, and the printer's kernel is one.
-use Rattle.std.proofs.Common.{◌≡◌, ℕ, zero, suc, ◌+◌, ◌*◌, ◌/◌, ◌%◌, ◌-◌, ◌<◌, ◌≤◌, ◌^◌, Bool, true, false, List, [], ◌∷◌, ◌++◌, length, get_or, Option, Some, None, refl, sym, ap, ◌∙◌, subst, pos, ◌≤ℤ◌, ⊎_elim, arith, length-append}
+use Rattle.std.proofs.Common.{◌≡◌, ℕ, zero, suc, ◌+◌, ◌*◌, ◌/◌, ◌%◌, ◌-◌, ◌<◌, ◌≤◌, Bool, List, [], ◌∷◌, ◌++◌, length, get_or, Some, refl, sym, ap, ◌∙◌, subst, pos, ◌≤ℤ◌, arith, length-append}
 use Rattle.std.specs.Prelude.{map, slice_get, slice_index}
-use Rattle.std.proofs.lemmas.Bool.{cases_lt}
 use Rattle.std.proofs.Math.ListN.{get_or-append}
 use Rattle.std.proofs.Math.Seq.{get_or-append_right}
 use Rattle.size_arith.specs.declared.names.Name.{Name}
@@ -11,24 +10,23 @@ use Rattle.size_arith.specs.Ranges.{Admissible, sizes_at}
 use Rattle.size_arith.specs.Shown.{ShownAtLeast}
 use Rattle.size_arith.proofs.Soundness.{shown_at_least}
 use Rattle.lift_tree.specs.Lists.{Every}
-use Rattle.lift_tree.specs.Tree.{Tree}
 use Rattle.lift_tree.specs.Types as types
 use Rattle.lift_tree.specs.Types.{PlainTy, IsInput, HaveTypes}
 use Rattle.lift_tree.specs.Typing.{Declared, IsDeclared, IsAdmissible}
 use Rattle.lift_tree.specs.Values.{Value, Word, array, nth}
-use Rattle.lift_tree.specs.Annotations.{Annotation, type_in}
+use Rattle.lift_tree.specs.Annotations.{type_in}
 use Rattle.lift_tree.specs.Meaning.{World, meaning}
 use Rattle.lift_tree.specs.Launches as launches
 use Rattle.lift_tree.specs.Launches.{IsAdmissibleLaunch, buffers_of}
 use Rattle.lift_tree.proofs.Members.{length-map}
-use Rattle.kernel_tree.specs.Code.{Array, Input, Output, Local, Private, Kernel}
-use Rattle.kernel_tree.specs.Launch.{Launch, Cells, IsWhole, MayStart}
+use Rattle.kernel_tree.specs.Code.{Array, Input, Output, Local, Private}
+use Rattle.kernel_tree.specs.Launch.{Launch, Cells, IsWhole}
 use Rattle.kernel_tree.specs.Device.{row, length_in}
-use Rattle.lift_ir.specs.Types.{Shape, Ty, Scalar, PairOf, ArrayOf, IsPosition, IsFlat, IsPlaced, component, flat, width, measured}
+use Rattle.lift_ir.specs.Types.{Ty, Scalar, ArrayOf, IsPosition, IsPlaced, component, flat, width, measured}
 use Rattle.lift_ir.specs.Terms.{HasType, no_type}
 use Rattle.lift_ir.specs.Scalars.{Scalars, HasScalars, scalars_in, scalars_of, no_scalars, lists_of}
 use Rattle.lift_ir.specs.AtLaunch.{length_at, ty_at, shape_of}
-use Rattle.lift_ir.specs.Lowering.{Written, lower}
+use Rattle.lift_ir.specs.Lowering.{Written}
 use Rattle.lift_ir.proofs.Lists.{lists_long, lists_count, list_holds}
 use Rattle.lift_ir.proofs.Lowering.{lowers_is}
 use Rattle.lift_ir.proofs.Meaning.{means}
@@ -37,9 +35,9 @@ use Rattle.lift_ir.proofs.Numbers.{component_below}
 use Rattle.lift_ir.proofs.Typed.{has_is, output_flat}
 use Rattle.lift_ir.proofs.Values.{shape_is, has_scalars, same_lists}
 use Rattle.printed_form.specs.Headline.{EveryRunKeeps}
-use Rattle.printed_form.specs.Whole.{IsCode, IsGiven}
+use Rattle.printed_form.specs.Whole.{IsCode}
 use Rattle.printed_form.specs.Printer.{input_marks, kernel_code}
-use Rattle.printed_form.specs.Programs.{input_shape, first_buffer, buffer_count, lowered_root, Prints, cell_owner, IsLaunchOf, AreBuffersOf, IsLowerableProgram, PrintedProgramsKeep, PrintedProgramsStart, ProgramsArePrinted, PrintedProgramsGoAlike}
+use Rattle.printed_form.specs.Programs.{input_shape, first_buffer, buffer_count, lowered_root, cell_owner, IsLaunchOf, PrintedProgramsKeep, PrintedProgramsStart, ProgramsArePrinted, PrintedProgramsGoAlike}
 use Rattle.printed_form.proofs.Printed.{code_is}
 use Rattle.printed_form.proofs.SameRuns.{printed_kernels_are_alike}
 use Rattle.printed_form.proofs.Theorem.{printed_kernels_keep}

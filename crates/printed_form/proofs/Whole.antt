@@ -1,8 +1,8 @@
 -- Every run of a printed kernel keeps the headline.
-use Rattle.std.proofs.Common.{◌≡◌, ℕ, zero, suc, ◌+◌, ◌-◌, ◌*◌, ◌/◌, ◌%◌, ◌<◌, ◌≤◌, ◌^◌, Bool, true, false, List, [], ◌∷◌, ◌++◌, length, Option, Some, None, refl, sym, ap, ◌∙◌, subst, ⊎_elim, inl, arith}
+use Rattle.std.proofs.Common.{◌≡◌, ℕ, ◌+◌, ◌-◌, ◌*◌, ◌/◌, ◌%◌, ◌<◌, ◌≤◌, ◌^◌, Bool, List, [], ◌∷◌, ◌++◌, length, Option, Some, None, refl, sym, ap, ◌∙◌, subst, ⊎_elim, inl, arith}
 use Rattle.std.specs.Prelude.{map, slice_index}
 use Rattle.std.proofs.lemmas.Bool.{cases_lt, and_parts}
-use Rattle.std.proofs.Math.Nat.{mod-lt, div-lt_iff_lt-mul, mul-div_cancel}
+use Rattle.std.proofs.Math.Nat.{mul-div_cancel}
 use Rattle.kernel_tree.specs.declared.events.Event.{Event}
 use Rattle.kernel_tree.specs.Formula.{Formula, bound_value}
 use Rattle.kernel_tree.specs.Code.{Array, Input, Output, Local, Private, Code, End, Kernel}
@@ -17,7 +17,7 @@ use Rattle.kernel_tree.proofs.Confluence.{same_cell-true}
 use Rattle.kernel_tree.proofs.Independent.{as_allowed}
 use Rattle.kernel_tree.proofs.Stride.{turns_of, turn_below, turn_past, turn_owner, owner_turn, owner_has}
 use Rattle.printed_form.specs.Headline.{output_cell, KeepsHeadline, EveryRunKeeps}
-use Rattle.lift_ir.specs.Types.{Ty, Scalar, PairOf, ArrayOf, IsPosition, IsElement, IsFlat, width, size, component, flat, unflat}
+use Rattle.lift_ir.specs.Types.{Ty, ArrayOf, IsPosition, width, size, component, flat, unflat}
 use Rattle.lift_ir.specs.Terms.{LoadSet, Global, Term, LetArray, Reshape, Map, push, HasType, no_type}
 use Rattle.lift_ir.specs.Layouts.{Layout, operand_position, Reshapes, result_position, IsInvertible}
 use Rattle.lift_ir.specs.Scalars.{Scalars, at_index, mapped, scalars_of, no_scalars, AreLists}
@@ -27,7 +27,7 @@ use Rattle.printed_form.specs.Form.{argument_marks, Declares}
 use Rattle.printed_form.specs.Runs.{Setting, Known, Scratch, spot_cell, mark_cell, HoldsAt, AllHold, DueAt, Due, Wrote, known_after, Ran}
 use Rattle.lift_ir.specs.Owner.{owner}
 use Rattle.printed_form.specs.Whole.{IsOverLaunch, no_marks, output_marks, IsGiven, IsPrinted}
-use Rattle.lift_ir.proofs.Positions.{quotient, remainder, operand_in, result_in, result_operand, element_position}
+use Rattle.lift_ir.proofs.Positions.{operand_in, result_in, result_operand}
 use Rattle.printed_form.proofs.Runs.{all_hold_later, ran_on}
 use Rattle.printed_form.proofs.Elements.{all_hold_push}
 use Rattle.printed_form.proofs.Loops.{Rows, due_unscratched}

@@ -13,3 +13,4 @@ pub mod PrinterLaw
 pub mod Alike
 pub mod Theorem
 pub mod Programs
+pub mod Worked

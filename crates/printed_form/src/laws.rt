@@ -10,6 +10,7 @@ ghost use Rattle.printed_form.specs.Headline.{EveryRunKeeps};
 ghost use Rattle.printed_form.specs.Theorem.{PrintedKernelsKeep};
 ghost use Rattle.printed_form.specs.Alike.{PrintedKernelsAreAlike};
 ghost use Rattle.printed_form.specs.PrinterLaw.{PrinterPrints};
+ghost use Rattle.printed_form.specs.Worked.{SumsKeep, SwapsKeep, IncrementsKeep};
 ghost use Rattle.printed_form.specs.Programs.{PrintedProgramsKeep, PrintedProgramsStart, ProgramsArePrinted, PrintedProgramsGoAlike};
 
 /// The headline from one run of each start: where it goes by these histories and leaves what is wanted, and the histories write each output cell once and by its owner, every run keeps the headline.
@@ -50,4 +51,11 @@ pub fn programs_are_printed()
 /// Any two kernels that are printed for a program's typed term run alike.
 pub fn printed_programs_go_alike()
     ensures { PrintedProgramsGoAlike }
+{}
+
+/// Worked kernels: one with a private array, one whose accumulator has two components, and a map over the launch at every launch.
+pub fn worked_kernels_keep()
+    ensures sums { SumsKeep }
+    ensures swaps { SwapsKeep }
+    ensures increments { IncrementsKeep }
 {}
