@@ -10,23 +10,30 @@ use Rattle.size_arith.specs.Ranges.{Admissible, sizes_at}
 use Rattle.size_arith.specs.Shown.{ShownAtLeast}
 use Rattle.size_arith.proofs.Soundness.{shown_at_least}
 use Rattle.lift_tree.specs.Lists.{Every}
+use Rattle.lift_tree.specs.Tree.{Tree}
 use Rattle.lift_tree.specs.Types as types
 use Rattle.lift_tree.specs.Types.{PlainTy, IsInput, HaveTypes}
 use Rattle.lift_tree.specs.Typing.{Declared, IsDeclared, IsAdmissible}
 use Rattle.lift_tree.specs.Values.{Value, Word, array, nth}
-use Rattle.lift_tree.specs.Annotations.{type_in}
+use Rattle.lift_tree.specs.Annotations.{Annotation, type_in}
 use Rattle.lift_tree.specs.Meaning.{World, meaning}
 use Rattle.lift_tree.specs.Launches as launches
 use Rattle.lift_tree.specs.Launches.{IsAdmissibleLaunch, buffers_of}
 use Rattle.lift_tree.proofs.Members.{length-map}
-use Rattle.kernel_tree.specs.Code.{Array, Input, Output, Local, Private}
+use Rattle.kernel_tree.specs.Code.{Array, Input, Output, Local, Private, Kernel}
 use Rattle.kernel_tree.specs.Launch.{Launch, Cells, IsWhole}
-use Rattle.kernel_tree.specs.Device.{row, length_in}
-use Rattle.lift_ir.specs.Types.{Ty, Scalar, ArrayOf, IsPosition, IsPlaced, component, flat, width, measured}
+use Rattle.kernel_tree.specs.Device.{State, IsStart, row, length_in, device_of}
+use Rattle.kernel_tree.specs.Item.{Item, item}
+use Rattle.kernel_tree.specs.Histories.{history}
+use Rattle.kernel_tree.specs.Alike.{Enacts, GoesAlike}
+use Rattle.kernel_tree.proofs.Alike.{goes_alike}
+use Rattle.lift_ir.specs.Types.{Ty, Scalar, ArrayOf, IsPosition, IsPlaced, component, flat, width, measured, IsFlat}
 use Rattle.lift_ir.specs.Terms.{HasType, no_type}
 use Rattle.lift_ir.specs.Scalars.{Scalars, HasScalars, scalars_in, scalars_of, no_scalars, lists_of}
 use Rattle.lift_ir.specs.AtLaunch.{length_at, ty_at, shape_of}
-use Rattle.lift_ir.specs.Lowering.{Written}
+use Rattle.lift_ir.specs.Lowering.{Written, Lowered}
+use Rattle.lift_ir.specs.Sources.{Lowers}
+use Rattle.std.proofs.Math.Path.{fun_ext}
 use Rattle.lift_ir.proofs.Lists.{lists_long, lists_count, list_holds}
 use Rattle.lift_ir.proofs.Lowering.{lowers_is}
 use Rattle.lift_ir.proofs.Meaning.{means}
@@ -35,11 +42,13 @@ use Rattle.lift_ir.proofs.Numbers.{component_below}
 use Rattle.lift_ir.proofs.Typed.{has_is, output_flat}
 use Rattle.lift_ir.proofs.Values.{shape_is, has_scalars, same_lists}
 use Rattle.printed_form.specs.Headline.{EveryRunKeeps}
-use Rattle.printed_form.specs.Whole.{IsCode}
+use Rattle.printed_form.specs.Whole.{IsCode, IsPrinted}
 use Rattle.printed_form.specs.Printer.{input_marks, kernel_code}
-use Rattle.printed_form.specs.Programs.{input_shape, first_buffer, buffer_count, lowered_root, cell_owner, IsLaunchOf, PrintedProgramsKeep, PrintedProgramsStart, ProgramsArePrinted, PrintedProgramsGoAlike}
+use Rattle.printed_form.specs.Programs.{input_shape, first_buffer, buffer_count, lowered_root, cell_owner, IsLaunchOf, SameContents, PrintedProgramsKeep, PrintedProgramsStart, ProgramsArePrinted, PrintedProgramsGoAlike, Prints, AreBuffersOf, IsLowerableProgram}
 use Rattle.printed_form.proofs.Printed.{code_is}
-use Rattle.printed_form.proofs.SameRuns.{printed_kernels_are_alike}
+use Rattle.printed_form.specs.Alike.{AlikeItems, AlikeStates}
+use Rattle.printed_form.proofs.Whole.{completed}
+use Rattle.printed_form.proofs.SameRuns.{codes_alike, same_runs, completes_alike}
 use Rattle.printed_form.proofs.Theorem.{printed_kernels_keep}
 
 width_is : (ys : List ℕ) (a : PlainTy) → width (ty_at ys a) ≡ width (shape_of a)
@@ -181,34 +190,88 @@ module _ (d : Declared) (w : World) (declared : IsDeclared d) (ok : IsAdmissible
           none cs [] p = absurd p
           none cs (i ∷ q) p = let z = p.0 in absurd (omega arith)
 
+-- a program's printed kernel is one for its term in the intermediate representation
+module _ (d : Declared) (is_task : Bool) (w : World) (t : Tree) (a : Annotation) (l : Launch) (c : Cells) (program : IsLowerableProgram d w.bases t a) (ok : IsAdmissible d w) (launch : IsLaunchOf d is_task w.bases l) (buffers : AreBuffersOf d w t a c) where
+  abbrev num : List Monomial → ℕ
+  num = length_at w.bases
+
+  abbrev result : Ty
+  result = ty_at w.bases (type_in a)
+
+  abbrev src : ℕ → Ty
+  src = sources_at d w.bases
+
+  abbrev sources : ℕ → Scalars
+  sources = source d w program.declared ok c buffers.inputs
+
+  abbrev low : Lowered
+  low = lowered_root t a
+
+  lowers : Lowers num w 0 (length d.inputs) t low
+  lowers = lowers_is d w ok program.declared.few t Written [] a 0 refl program.nodes program.lowerable
+
+  has : HasType num src no_type low result
+  has = has_is d w.bases (shown d is_task w.bases l program.declared launch) program.declared.inputs src (λ i b e. sym (source_is d w.bases i b e)) t Written [] a tt program.nodes program.lowerable
+
+  flat_type : IsFlat result
+  flat_type = output_flat w.bases (type_in a) program.output
+
+  given : (v : ℕ) → v < length d.inputs → HasScalars (src v) (nth w.inputs v) (sources v)
+  given = input_has d w program.declared ok c buffers.inputs
+
+  -- the source value has the term's scalars
+  valued : HasScalars result (meaning w [] t) (scalars_of num sources no_scalars low)
+  valued = means num w src sources (length d.inputs) given low 0 t no_type [] no_scalars result lowers has (λ i lt. absurd (omega arith))
+
+  is_printed : (k : Kernel) → Prints d w.bases t a l k → IsPrinted l num src (input_marks num (first_buffer d.inputs) (input_shape d.inputs)) sources low result k c
+  is_printed k printed = record {
+    whole = whole l is_task d.names w.bases launch.admissible;
+    some = let z = launch.admissible.global_least in omega arith;
+    few = let z = launch.admissible.global_most in omega arith;
+    typed = has;
+    flat_type = flat_type;
+    code = printed.code;
+    variables = printed.variables;
+    privates = printed.privates;
+    outputs = buffers.outputs ∙ ap (map length) (same_lists w.bases (type_in a) (meaning w [] t)) ∙ lists_long result (meaning w [] t) (scalars_of num sources no_scalars low) flat_type valued;
+    inputs = input_given d w program.declared ok c buffers.inputs;
+  }
+
+  keeps : (k : Kernel) → Prints d w.bases t a l k → EveryRunKeeps k l c (cell_owner w.bases l t a) (launches.lists_of (type_in a) (meaning w [] t))
+  keeps k printed =
+      subst (EveryRunKeeps k l c (cell_owner w.bases l t a)) (sym (same_lists w.bases (type_in a) (meaning w [] t)))
+      (printed_kernels_keep (List Monomial) num l w t (length d.inputs) src (input_marks num (first_buffer d.inputs) (input_shape d.inputs)) sources low result k c lowers given (is_printed k printed))
+
+  module _ (k m : Kernel) (one : Prints d w.bases t a l k) (two : Prints d w.bases t a l m) (s r : State) (start : IsStart k l c s) (begin : IsStart m l c r) (same : SameContents l s r) where
+    lengths : (b : Array) → length_in k c b ≡ length_in m c b
+    lengths (Input n) = refl
+    lengths (Output n) = refl
+    lengths (Local n) = ap (λ ns. slice_index ns n) (one.locals ∙ sym two.locals)
+    lengths (Private n) = ap (λ ns. slice_index ns n) (one.privates ∙ sym two.privates)
+
+    states : AlikeStates l s r
+    states = record {
+      items = λ j lt.
+          let vars : start.vars j ≡ begin.vars j = sym (ap Item.vars (start.items j lt)) ∙ same.variables j lt ∙ ap Item.vars (begin.items j lt) in
+          subst (λ z. AlikeItems l z (r.items j)) (sym (start.items j lt)) (subst (λ z. AlikeItems l (item k.code [] (start.vars j)) z) (sym (begin.items j lt)) (record { code = codes_alike num l (input_marks num (first_buffer d.inputs) (input_shape d.inputs)) low result k.code m.code one.code two.code; frames = tt; vars = vars }));
+      memory = same.memory;
+      epochs = λ g f. start.epochs g f ∙ sym (begin.epochs g f);
+    }
+
+    go_alike : GoesAlike (device_of k l c) s (device_of m l c) r
+    go_alike =
+        let whole_launch = whole l is_task d.names w.bases launch.admissible in
+        let full = completed num l src (input_marks num (first_buffer d.inputs) (input_shape d.inputs)) sources low result k c (is_printed k one) s start in
+        let told : Enacts (device_of k l c) s (history (device_of k l c) s full.0) = record { events = full.0; completes = full.1; acts = λ j lt. refl } in
+        let again : Enacts (device_of m l c) r (history (device_of k l c) s full.0) = record {
+          events = full.0;
+          completes = completes_alike (device_of k l c) (length_in m c) lengths whole_launch s r full.0 states full.1;
+          acts = λ j lt. sym ((same_runs (device_of k l c) (length_in m c) lengths whole_launch s r full.0 states full.1.is_run).histories j lt);
+        } in
+        goes_alike l whole_launch (length_in k c) (length_in m c) s r (history (device_of k l c) s full.0) (fun_ext (λ g. fun_ext (λ f. states.epochs g f))) told again
+
 pub printed_programs_keep : PrintedProgramsKeep
-printed_programs_keep d is_task w t a l k c program ok launch buffers printed =
-    let num = length_at w.bases in
-    let ty = ty_at w.bases (type_in a) in
-    let src = sources_at d w.bases in
-    let sources = source d w program.declared ok c buffers.inputs in
-    let low = lowered_root t a in
-    let flat_type = output_flat w.bases (type_in a) program.output in
-    let lowers = lowers_is d w ok program.declared.few t Written [] a 0 refl program.nodes program.lowerable in
-    let has = has_is d w.bases (shown d is_task w.bases l program.declared launch) program.declared.inputs src (λ i b e. sym (source_is d w.bases i b e)) t Written [] a tt program.nodes program.lowerable in
-    let given = input_has d w program.declared ok c buffers.inputs in
-    let v = meaning w [] t in
-    let h = means num w src sources (length d.inputs) given low 0 t no_type [] no_scalars ty lowers has (λ i lt. absurd (omega arith)) in
-    let same = same_lists w.bases (type_in a) v in
-    subst (EveryRunKeeps k l c (cell_owner w.bases l t a)) (sym same)
-    (printed_kernels_keep (List Monomial) num l w t (length d.inputs) src (input_marks num (first_buffer d.inputs) (input_shape d.inputs)) sources low ty k c lowers given
-    (record {
-      whole = whole l is_task d.names w.bases launch.admissible;
-      some = let z = launch.admissible.global_least in omega arith;
-      few = let z = launch.admissible.global_most in omega arith;
-      typed = has;
-      flat_type = flat_type;
-      code = printed.code;
-      variables = printed.variables;
-      privates = printed.privates;
-      outputs = buffers.outputs ∙ ap (map length) same ∙ lists_long ty v (scalars_of num sources no_scalars low) flat_type h;
-      inputs = input_given d w program.declared ok c buffers.inputs;
-    }))
+printed_programs_keep d is_task w t a l k c program ok launch buffers printed = keeps d is_task w t a l c program ok launch buffers k printed
 
 pub printed_programs_start : PrintedProgramsStart
 printed_programs_start d is_task w t a l k c program ok launch buffers printed = record {
@@ -247,12 +310,4 @@ programs_are_printed d is_task bases t a l spell program launch staged stands pl
         go (Absent le e) = subst (IsPlaced (length_at bases)) (sym e) (record { flat = tt; short = (omega arith, tt); small = omega arith })
 
 pub printed_programs_go_alike : PrintedProgramsGoAlike
-printed_programs_go_alike d is_task bases t a l k m c s r es launch one two begin run =
-    printed_kernels_are_alike (List Monomial) (length_at bases) l (input_marks (length_at bases) (first_buffer d.inputs) (input_shape d.inputs)) (lowered_root t a) (ty_at bases (type_in a)) k m c s r es
-    (whole l is_task d.names bases launch.admissible) one.code two.code lengths begin run
-  where
-    lengths : (b : Array) → length_in k c b ≡ length_in m c b
-    lengths (Input n) = refl
-    lengths (Output n) = refl
-    lengths (Local n) = ap (λ ns. slice_index ns n) (one.locals ∙ sym two.locals)
-    lengths (Private n) = ap (λ ns. slice_index ns n) (one.privates ∙ sym two.privates)
+printed_programs_go_alike d is_task w t a l k m c s r program ok launch buffers one two start begin same = go_alike d is_task w t a l c program ok launch buffers k m one two s r start begin same

@@ -10,8 +10,11 @@ use Rattle.kernel_tree.specs.Formula.{value, bound_value}
 use Rattle.kernel_tree.specs.Code.{Array, Code, End, Assigns, Loads, Stores, Loops, start_value, stride_value}
 use Rattle.kernel_tree.specs.Launch.{Launch, IsWhole, item_count, ids_of, group_of, first_item}
 use Rattle.kernel_tree.specs.Item.{Frame, Item, item, loop_variables, Wants, Ends, Waits, Moves, Reads, Writes, Fails, with_value, tested, next_turn, next_at, next}
-use Rattle.kernel_tree.specs.Device.{Device, State, Memory, Fence, device_of, length_in, cell_at, fence_of, wants, CanStep, StandTogether, Enabled, moves, taken, stored, memory_after, has_flag, releases, after, IsRun}
-use Rattle.kernel_tree.specs.Faults.{Access, accessed, accesses_of, accesses, failure, failure_of}
+use Rattle.kernel_tree.specs.Device.{Device, State, Memory, Fence, device_of, length_in, cell_at, fence_of, wants, CanStep, StandTogether, Enabled, moves, taken, stored, memory_after, has_flag, releases, after, run, IsRun}
+use Rattle.kernel_tree.specs.Faults.{Access, Among, IsRace, accessed, accesses_of, accesses, failure, failure_of}
+use Rattle.kernel_tree.specs.Deeds.{Got, Gave}
+use Rattle.kernel_tree.specs.Histories.{Did, act_of, acts_of, history}
+use Rattle.kernel_tree.specs.EveryRun.{Completes}
 use Rattle.kernel_tree.proofs.Grouping.{first_of_group, first_in_launch}
 use Rattle.lift_ir.specs.Types.{Ty}
 use Rattle.lift_ir.specs.Terms.{Global, Term, Reshape, LetArray, Map}
@@ -154,6 +157,21 @@ module _ (l : Launch) where
       ap (at b n) (e (fence_of (cell_at l k b n))) ∙ ap (λ z. at z n (q (fence_of (cell_at l k z n)))) a.0 ∙ ap (λ j. at c j (q (fence_of (cell_at l k c j)))) a.1
   access_alike k _ _ p q a e = absurd a
 
+  act_alike : (k : ℕ) (w v : Wants) → AlikeWants l w v → act_of l k w ≡ act_of l k v
+  act_alike k Ends Ends a = refl
+  act_alike k (Moves x) (Moves y) a = refl
+  act_alike k (Fails f) (Fails g) a = refl
+  act_alike k (Reads b n f) (Reads c i g) a = ap (λ z. Did (Got (cell_at l k z n))) a.0 ∙ ap (λ j. Did (Got (cell_at l k c j))) a.1
+  act_alike k (Writes b n x y) (Writes c i z u) a = ap (λ q. Did (Gave (cell_at l k q n) x)) a.0 ∙ ap (λ j. Did (Gave (cell_at l k c j) x)) a.1 ∙ ap (λ q. Did (Gave (cell_at l k c i) q)) a.2
+  act_alike k _ _ a = absurd a
+
+  ends_alike : (w v : Wants) → AlikeWants l w v → w ≡ Ends → v ≡ Ends
+  ends_alike w v a e = end_of v (subst (λ z. AlikeWants l z v) e a)
+    where
+      end_of : (v : Wants) → AlikeWants l Ends v → v ≡ Ends
+      end_of Ends a = refl
+      end_of _ a = absurd a
+
 module _ (d : Device) (lengths : Array → ℕ) (same : (a : Array) → d.lengths a ≡ lengths a) (whole : IsWhole d.launch) where
   other : Device
   other = record { launch = d.launch; lengths = lengths }
@@ -211,17 +229,34 @@ module _ (d : Device) (lengths : Array → ℕ) (same : (a : Array) → d.length
   failures_alike s t (Step k) en a = failure_alike (wants d s k) (wants other t k) (wants_alike s t a k en.0)
   failures_alike s t (Release g) en a = refl
 
+  acts_alike : (s t : State) (e : Event) (j : ℕ) → j < item_count d.launch → AlikeStates d.launch s t → acts_of d s e j ≡ acts_of other t e j
+  unfolding other
+  acts_alike s t e j lt a = ap (λ x. if moves d.launch e j then x ∷ [] else []) (act_alike d.launch j (wants d s j) (wants other t j) (wants_alike s t a j lt))
+
   pub same_runs : (s t : State) (es : List Event) → AlikeStates d.launch s t → IsRun d s es → SameRun d (record { launch = d.launch; lengths = lengths }) s t es
   unfolding other
-  same_runs s t [] a r = record { is_run = tt; accesses = refl; no_failure = λ h. tt; ends = a }
+  same_runs s t [] a r = record { is_run = tt; accesses = refl; histories = λ j lt. refl; no_failure = λ h. tt; ends = a }
   same_runs s t (e ∷ es) a r =
       let b = after_alike s t e r.0 a in
       let h = same_runs (after d s e) (after other t e) es b r.1 in
       record {
         is_run = (enabled_alike s t e a r.0, h.is_run);
         accesses = ap (λ x. x ++ accesses d (after d s e) es) (accesses_alike s t e r.0 a) ∙ ap (λ x. accesses_of other t e ++ x) h.accesses;
+        histories = λ j lt. ap (λ x. x ++ history d (after d s e) es j) (acts_alike s t e j lt a) ∙ ap (λ x. acts_of other t e j ++ x) (h.histories j lt);
         no_failure = λ f. (sym (failures_alike s t e r.0 a) ∙ f.0, h.no_failure f.1);
         ends = h.ends;
+      }
+
+  -- what completes one completes the other, with the same histories
+  pub completes_alike : (s t : State) (es : List Event) → AlikeStates d.launch s t → Completes d s es → Completes (record { launch = d.launch; lengths = lengths }) t es
+  unfolding other
+  completes_alike s t es a c =
+      let h = same_runs s t es a c.is_run in
+      record {
+        is_run = h.is_run;
+        no_failure = h.no_failure c.no_failure;
+        no_race = subst (λ xs. (x y : Access) → Among x xs → Among y xs → IsRace x y → ⊥) h.accesses c.no_race;
+        ended = λ j lt. ends_alike d.launch _ _ (wants_alike (run d s es) (run other t es) h.ends j lt) (c.ended j lt);
       }
 
 -- the codes of one term

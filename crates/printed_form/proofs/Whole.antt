@@ -12,6 +12,7 @@ use Rattle.kernel_tree.specs.Device.{Device, Cell, same_cell, Memory, State, dev
 use Rattle.kernel_tree.specs.Deeds.{Deed, Goes, Every}
 use Rattle.kernel_tree.specs.Independent.{is_write, Owners, IsAllowed, Agrees, Independent, one_by_one, write_count, AsAllowed}
 use Rattle.kernel_tree.specs.Rounds.{variable_at, Counts}
+use Rattle.kernel_tree.specs.EveryRun.{Completes}
 use Rattle.kernel_tree.proofs.Bound.{within_bound}
 use Rattle.kernel_tree.proofs.Confluence.{same_cell-true}
 use Rattle.kernel_tree.proofs.Independent.{as_allowed}
@@ -321,6 +322,10 @@ module _ {A : Type 0} (num : A → ℕ) (l : Launch) (src : ℕ → Ty) (ins : �
   all : AsAllowed d s owners deeds_of ends_of the_run
   unfolding the_run
   all = as_allowed d s owners deeds_of ends_of independent h.whole
+
+  -- the items one after another run to their ends
+  pub completed : (es : List Event) × Completes d s es
+  completed = (the_run, all.completes)
 
   -- an output's cell is written once, or it is none of the value's
   few_writes : (j a i : ℕ) → j < l.global → owner_of i ≡ j → write_count (output_cell a i) (deeds_of j) ≤ 1

@@ -7,6 +7,7 @@ use Rattle.kernel_tree.specs.Launch.{Launch, Cells, IsWhole, item_count, ids_of}
 use Rattle.kernel_tree.specs.Item.{Frame, Item, item, loop_variables, Wants, Ends, Moves, Reads, Writes, Fails}
 use Rattle.kernel_tree.specs.Device.{Device, State, Fence, device_of, length_in, run, IsRun}
 use Rattle.kernel_tree.specs.Faults.{accesses, NoFailure}
+use Rattle.kernel_tree.specs.Histories.{history}
 use Rattle.lift_ir.specs.Types.{Ty}
 use Rattle.lift_ir.specs.Terms.{Term}
 use Rattle.printed_form.specs.Marks.{Marks}
@@ -51,10 +52,11 @@ module _ (l : Launch) where
     pub memory : s.memory ≡ t.memory
     pub epochs : (g : ℕ) (f : Fence) → s.epochs g f ≡ t.epochs g f
 
--- the same run, on a device with the same launch whose arrays are as long: the same events can come, with the same accesses and failures
+-- the same run, on a device with the same launch whose arrays are as long: the same events can come, with the same accesses, deeds and failures
 pub record SameRun (d e : Device) (s t : State) (es : List Event) : Type 0 where
   pub is_run : IsRun e t es
   pub accesses : accesses d s es ≡ accesses e t es
+  pub histories : (j : ℕ) → j < item_count d.launch → history d s es j ≡ history e t es j
   pub no_failure : NoFailure d s es → NoFailure e t es
   pub ends : AlikeStates d.launch (run d s es) (run e t es)
 

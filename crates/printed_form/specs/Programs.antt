@@ -11,10 +11,9 @@ use Rattle.lift_tree.specs.Meaning.{World, meaning}
 use Rattle.lift_tree.specs.Launches.{IsAdmissibleLaunch, buffers_of, lists_of}
 use Rattle.kernel_tree.specs.Formula.{Formula}
 use Rattle.kernel_tree.specs.Code.{Kernel}
-use Rattle.kernel_tree.specs.Launch.{Launch, Cells, MayStart}
-use Rattle.kernel_tree.specs.declared.events.Event.{Event}
-use Rattle.kernel_tree.specs.Device.{State, device_of, IsRun}
-use Rattle.printed_form.specs.Alike.{BeginAlike, SameRun}
+use Rattle.kernel_tree.specs.Launch.{Launch, Cells, MayStart, item_count}
+use Rattle.kernel_tree.specs.Device.{State, device_of, IsStart}
+use Rattle.kernel_tree.specs.Alike.{GoesAlike}
 use Rattle.lift_ir.specs.Types.{Shape, ArrayOf, Scalar, width, unflat, IsPlaced}
 use Rattle.lift_ir.specs.Terms.{LocalMemory, PrivateMemory}
 use Rattle.lift_ir.specs.AtLaunch.{length_at, ty_at, shape_of}
@@ -124,8 +123,14 @@ ProgramsArePrinted =
     → IsLowerableProgram d bases t a → IsLaunchOf d is_task bases l → IsStaged Written t a → StandsAt l (lowered_root t a) → FitsBuffers d bases a → IsSpelling spell bases l
     → Prints d bases t a l (printed_kernel spell d t a)
 
--- any two kernels that are printed for one typed term run alike from the same variables and memory: the same events can come, with the same accesses
+-- states that hold the same contents: the items' variables, and memory
+pub record SameContents (l : Launch) (s r : State) : Type 0 where
+  pub variables : (j : ℕ) → j < item_count l → (s.items j).vars ≡ (r.items j).vars
+  pub memory : s.memory ≡ r.memory
+
+-- any two kernels that are printed for one typed term go alike at one launch and from the same contents: the same events can come, with the same accesses, and each schedule makes the same run of both
 abbrev pub PrintedProgramsGoAlike : Type 0
 PrintedProgramsGoAlike =
-    (d : Declared) (is_task : Bool) (bases : List ℕ) (t : Tree) (a : Annotation) (l : Launch) (k m : Kernel) (c : Cells) (s r : State) (es : List Event)
-    → IsLaunchOf d is_task bases l → Prints d bases t a l k → Prints d bases t a l m → BeginAlike l k m s r → IsRun (device_of k l c) s es → SameRun (device_of k l c) (device_of m l c) s r es
+    (d : Declared) (is_task : Bool) (w : World) (t : Tree) (a : Annotation) (l : Launch) (k m : Kernel) (c : Cells) (s r : State)
+    → IsLowerableProgram d w.bases t a → IsAdmissible d w → IsLaunchOf d is_task w.bases l → AreBuffersOf d w t a c → Prints d w.bases t a l k → Prints d w.bases t a l m
+    → IsStart k l c s → IsStart m l c r → SameContents l s r → GoesAlike (device_of k l c) s (device_of m l c) r
