@@ -26,7 +26,7 @@ is_end (Fails f) e = absurd (true≢false (sym e))
 end_is : (w : Wants) (p : Ends ≡ w) → p ≡ sym (is_end w (ap ends (sym p)))
 end_is w p = path_j (λ (v : Wants) (q : Ends ≡ v). q ≡ sym (is_end v (ap ends (sym q)))) refl p
 
-ends_once : (w : Wants) → IsProp (w ≡ Ends)
+pub ends_once : (w : Wants) → IsProp (w ≡ Ends)
 ends_once Ends p q = end_is Ends p ∙ sym (end_is Ends q)
 ends_once (Waits a b x) p q = absurd (true≢false (sym (ap ends p)))
 ends_once (Moves x) p q = absurd (true≢false (sym (ap ends p)))
@@ -34,11 +34,11 @@ ends_once (Reads a n f) p q = absurd (true≢false (sym (ap ends p)))
 ends_once (Writes a n v x) p q = absurd (true≢false (sym (ap ends p)))
 ends_once (Fails f) p q = absurd (true≢false (sym (ap ends p)))
 
-no_failure_once : (d : Device) (s : State) (es : List Event) → IsProp (NoFailure d s es)
+pub no_failure_once : (d : Device) (s : State) (es : List Event) → IsProp (NoFailure d s es)
 no_failure_once d s [] = Prim.hlevel props
 no_failure_once d s (e ∷ es) = let rest = no_failure_once d (after d s e) es in Prim.hlevel (rest, props)
 
-no_divergence_once : (d : Device) (s : State) (es : List Event) → IsProp (NoDivergence d s es)
+pub no_divergence_once : (d : Device) (s : State) (es : List Event) → IsProp (NoDivergence d s es)
 no_divergence_once d s [] = Prim.hlevel props
 no_divergence_once d s (e ∷ es) = let rest = no_divergence_once d (after d s e) es in Prim.hlevel (rest, props)
 
