@@ -7,7 +7,7 @@ pub mod AtLaunch
 pub mod Lowering
 pub mod Named
 pub mod Typed
-pub mod LoweredTerms
+pub mod WorkedTerms
 pub mod Owner
 pub mod Values
 pub mod Served

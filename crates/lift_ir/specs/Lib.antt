@@ -10,3 +10,4 @@ pub mod Loads
 pub mod Forms
 pub mod Owner
 pub mod Promises
+pub mod Worked
