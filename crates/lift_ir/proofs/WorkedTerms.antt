@@ -1,5 +1,5 @@
 -- Worked terms are lowered as is told, and the laws' premises hold of them.
-use Rattle.std.proofs.Common.{◌≡◌, ℕ, ◌<◌, ◌^◌, List, [], Some, refl, sym, ap, subst, arith}
+use Rattle.std.proofs.Common.{◌≡◌, ◌<◌, ◌^◌, refl, sym, ap, subst, arith}
 use Rattle.lift_tree.proofs.Sizes.{value-constant}
 use Rattle.lift_ir.specs.Types.{Scalar, ArrayOf}
 use Rattle.lift_ir.specs.AtLaunch.{natural, length_at}
