@@ -1,0 +1,320 @@
+/* Runs a program's kernel on an OpenCL device, and compares with the program's value.
+ *
+ *     host PROGRAM SCRIPT LAUNCH
+ *
+ * Prints the value. Exit status 0: the device gave the value that `lift eval` gives; 1: another; 2: it didn't come so
+ * far. The environment's LIFT names the program `lift` (./lift where it isn't set); the device is the first one there.
+ * docs/HOST.md explains each step. POSIX and OpenCL 1.2. */
+#include <CL/cl.h>
+#include <ctype.h>
+#include <stdarg.h>
+#include <stdio.h>
+#include <stdlib.h>
+#include <string.h>
+#include <sys/wait.h>
+#include <unistd.h>
+
+/* A program has at most 8 sizes, 8 inputs, 32 bytes a name, and 4 components a type. */
+enum { NAMES = 8, NAME_BYTES = 33, BUFFERS = (NAMES + 1) * 4 };
+static const cl_uint UNWRITTEN = 0xDEADBEEF;
+
+static _Noreturn void fail(const char *format, ...) {
+  va_list list;
+  va_start(list, format);
+  fputs("host: ", stderr);
+  vfprintf(stderr, format, list);
+  fputc('\n', stderr);
+  va_end(list);
+  exit(2);
+}
+
+static void check(cl_int status, const char *call) {
+  if (status != CL_SUCCESS) fail("%s: OpenCL error %d", call, (int)status);
+}
+
+static void *memory(size_t count, size_t bytes) {
+  void *made = calloc(count ? count : 1, bytes);
+  if (!made) fail("memory");
+  return made;
+}
+
+/* ---- files, and what `lift` writes ---- */
+
+static char *read_all(FILE *file) {
+  size_t room = 4096, length = 0, taken;
+  char *text = memory(room, 1);
+  while ((taken = fread(text + length, 1, room - 1 - length, file)) > 0) {
+    length += taken;
+    if (length == room - 1) {
+      text = realloc(text, room *= 2);
+      if (!text) fail("memory");
+    }
+  }
+  text[length] = 0;
+  return text;
+}
+
+static char *text_of(const char *path) {
+  FILE *file = fopen(path, "rb");
+  if (!file) fail("can't read %s", path);
+  char *text = read_all(file);
+  fclose(file);
+  return text;
+}
+
+/* Runs `lift COMMAND FIRST SECOND`; where it refuses, its line stands on standard error. */
+static char *lift(const char *command, const char *first, const char *second) {
+  const char *program = getenv("LIFT") ? getenv("LIFT") : "./lift";
+  int ends[2], status;
+  if (pipe(ends) != 0) fail("pipe");
+  pid_t child = fork();
+  if (child < 0) fail("fork");
+  if (child == 0) {
+    dup2(ends[1], STDOUT_FILENO);
+    close(ends[0]);
+    close(ends[1]);
+    execlp(program, program, command, first, second, (char *)NULL);
+    fprintf(stderr, "host: can't run %s\n", program);
+    _exit(127);
+  }
+  close(ends[1]);
+  FILE *out = fdopen(ends[0], "rb");
+  if (!out) fail("pipe");
+  char *text = read_all(out);
+  fclose(out);
+  if (waitpid(child, &status, 0) != child || !WIFEXITED(status)) fail("lift %s was ended", command);
+  if (WEXITSTATUS(status) != 0) fail("lift %s ended with status %d", command, WEXITSTATUS(status));
+  return text;
+}
+
+static int count_of(const char *text, const char *part) {
+  int count = 0;
+  for (; (text = strstr(text, part)) != NULL; text += strlen(part)) count++;
+  return count;
+}
+
+/* ---- the program's declarations ---- */
+
+typedef struct {
+  int sizes, inputs;
+  char size[NAMES][NAME_BYTES], input[NAMES][NAME_BYTES];
+  int components[NAMES]; /* of each input: as many as its type names u32 */
+} Declarations;
+
+/* The next name or number behind `at`, past comments; false at the end. */
+static int next_word(const char **at, char word[NAME_BYTES]) {
+  int length = 0;
+  while (**at && !isalnum((unsigned char)**at)) *at += **at == '#' ? strcspn(*at, "\n") : 1;
+  for (; isalnum((unsigned char)**at) || **at == '_'; (*at)++)
+    if (length < NAME_BYTES - 1) word[length++] = **at;
+  word[length] = 0;
+  return length > 0;
+}
+
+/* `size`, `input`, `output` and `u32` are reserved words, so they stand for nothing else. */
+static Declarations declarations(const char *program) {
+  Declarations made = {0};
+  char word[NAME_BYTES];
+  while (next_word(&program, word) && strcmp(word, "output") != 0) {
+    if (strcmp(word, "size") == 0) next_word(&program, made.size[made.sizes++]);
+    if (strcmp(word, "input") == 0) next_word(&program, made.input[made.inputs++]);
+    if (strcmp(word, "u32") == 0) made.components[made.inputs - 1]++;
+  }
+  return made;
+}
+
+/* ---- JSON that `lift` has read, so that it is well formed ---- */
+
+static const char *past(const char *at, const char *bytes) { return at + strspn(at, bytes); }
+
+static const char *string_end(const char *at) {
+  for (at++; *at != '"'; at++)
+    if (*at == '\\') at++;
+  return at + 1;
+}
+
+static const char *value_end(const char *at) {
+  int depth = 0;
+  do {
+    at = past(at, " \t\r\n,:");
+    if (*at == '"') at = string_end(at);
+    else if (*at == '[' || *at == '{') depth++, at++;
+    else if (*at == ']' || *at == '}') depth--, at++;
+    else at += strcspn(at, "[]{},: \t\r\n\"");
+  } while (depth > 0);
+  return at;
+}
+
+/* The value at a key, the last one where there are several; NULL where there is none. Keys stand without escapes. */
+static const char *member(const char *object, const char *key) {
+  const char *found = NULL;
+  const char *at = past(past(object, " \t\r\n") + 1, " \t\r\n");
+  while (*at == '"') {
+    const char *name = at + 1;
+    at = string_end(at);
+    size_t length = (size_t)(at - 1 - name);
+    at = past(at, " \t\r\n:");
+    if (length == strlen(key) && memcmp(name, key, length) == 0) found = at;
+    at = past(value_end(at), " \t\r\n,");
+  }
+  return found;
+}
+
+/* The numbers of a value, from left to right: row-major, the parts of a pair together. */
+static cl_uint *numbers(const char *value, size_t *count) {
+  const char *end = value_end(value);
+  cl_uint *made = memory((size_t)(end - value), sizeof *made);
+  for (*count = 0; value < end; value = past(value, "0123456789")) {
+    while (value < end && !isdigit((unsigned char)*value)) value++;
+    if (value < end) made[(*count)++] = (cl_uint)strtoul(value, NULL, 10);
+  }
+  return made;
+}
+
+static size_t work_items(const char *launch, const char *key) {
+  const char *at = member(launch, key);
+  const char *end = at ? past(at, "0123456789") : NULL;
+  if (!at || end == at || !strchr(" \t\r\n,}", *end))
+    fail("the launch file has no number of work-items at the key %s: `lift eval` needs none, a kernel does", key);
+  return (size_t)strtoull(at, NULL, 10);
+}
+
+/* ---- buffers ---- */
+
+typedef struct {
+  cl_context context;
+  cl_kernel kernel;
+  cl_uint parameters;
+  cl_mem buffer[BUFFERS]; /* the first parameters, in order */
+} Host;
+
+static void add_buffer(Host *host, cl_mem_flags access, cl_uint *cells, size_t length) {
+  cl_int status;
+  cl_mem *it = &host->buffer[host->parameters];
+  *it = clCreateBuffer(host->context, access | CL_MEM_COPY_HOST_PTR, length * sizeof *cells, cells, &status);
+  check(status, "clCreateBuffer");
+  check(clSetKernelArg(host->kernel, host->parameters++, sizeof *it, it), "clSetKernelArg");
+}
+
+/* One buffer for each component: number k of the value is cell k / components of buffer k % components. */
+static void add_input(Host *host, const char *value, int components) {
+  size_t count;
+  cl_uint *flat = numbers(value, &count), *cells = memory(count, sizeof *cells);
+  size_t length = count / (size_t)components;
+  for (int k = 0; k < components; k++) {
+    for (size_t cell = 0; cell < length; cell++) cells[cell] = flat[cell * (size_t)components + (size_t)k];
+    add_buffer(host, CL_MEM_READ_ONLY, cells, length);
+  }
+  free(flat);
+  free(cells);
+}
+
+/* Prints a result line with other numbers in it. */
+static void print_line(const char *line, const cl_uint *flat) {
+  while (*line) {
+    if (isdigit((unsigned char)*line)) {
+      printf("%lu", (unsigned long)*flat++);
+      line = past(line, "0123456789");
+    } else {
+      putchar(*line++);
+    }
+  }
+}
+
+/* ---- OpenCL ---- */
+
+static cl_device_id first_device(void) {
+  cl_platform_id platforms[16];
+  cl_uint count = 0;
+  cl_device_id device;
+  char name[256] = "";
+  if (clGetPlatformIDs(16, platforms, &count) != CL_SUCCESS) count = 0;
+  for (cl_uint k = 0; k < count && k < 16; k++)
+    if (clGetDeviceIDs(platforms[k], CL_DEVICE_TYPE_ALL, 1, &device, NULL) == CL_SUCCESS) {
+      check(clGetDeviceInfo(device, CL_DEVICE_NAME, sizeof name - 1, name, NULL), "clGetDeviceInfo");
+      fprintf(stderr, "host: %s\n", name);
+      return device;
+    }
+  fail("no OpenCL device");
+}
+
+static cl_program built(cl_context context, cl_device_id device, const char *text) {
+  cl_int status;
+  cl_program program = clCreateProgramWithSource(context, 1, &text, NULL, &status);
+  check(status, "clCreateProgramWithSource");
+  status = clBuildProgram(program, 1, &device, "", NULL, NULL);
+  if (status == CL_BUILD_PROGRAM_FAILURE) {
+    char log[16384] = "";
+    clGetProgramBuildInfo(program, device, CL_PROGRAM_BUILD_LOG, sizeof log - 1, log, NULL);
+    fail("the device's compiler refuses the kernel:\n%s", log);
+  }
+  check(status, "clBuildProgram");
+  return program;
+}
+
+int main(int count, char **words) {
+  if (count != 4) fail("the words are PROGRAM SCRIPT LAUNCH");
+  /* `eval` refuses a program or a launch file that is none, so both are well formed below. */
+  char *expected_line = lift("eval", words[1], words[3]);
+  char *text = lift("compile", words[1], words[2]);
+  char *program_text = text_of(words[1]), *launch = text_of(words[3]);
+  Declarations declared = declarations(program_text);
+  size_t global = work_items(launch, "global"), local = work_items(launch, "local");
+  if (local < 1 || local > 256 || global < 1 || global > 65536 || global % local != 0)
+    fail("global %zu, local %zu: local is 1 to 256, global 1 to 65536, and local divides global", global, local);
+  if (global != 1 && !strstr(text, "get_")) fail("global %zu: this kernel is for one work-item", global);
+
+  cl_int status;
+  Host host = {0};
+  cl_device_id device = first_device();
+  host.context = clCreateContext(NULL, 1, &device, NULL, NULL, &status);
+  check(status, "clCreateContext");
+  cl_command_queue queue = clCreateCommandQueue(host.context, device, 0, &status);
+  check(status, "clCreateCommandQueue");
+  cl_program program = built(host.context, device, text);
+  host.kernel = clCreateKernel(program, "lift", &status);
+  check(status, "clCreateKernel");
+
+  /* Inputs, then outputs, then sizes. What stands in an output at the start doesn't matter. */
+  for (int k = 0; k < declared.inputs; k++)
+    add_input(&host, member(member(launch, "inputs"), declared.input[k]), declared.components[k]);
+  size_t cells_in_all;
+  cl_uint *expected = numbers(member(expected_line, "value"), &cells_in_all);
+  cl_uint *found = memory(cells_in_all, sizeof *found);
+  cl_uint components = (cl_uint)count_of(text, "__global uint *"), first = host.parameters;
+  size_t length = cells_in_all / components;
+  cl_uint *cells = memory(length, sizeof *cells);
+  for (size_t cell = 0; cell < length; cell++) cells[cell] = UNWRITTEN;
+  for (cl_uint k = 0; k < components; k++) add_buffer(&host, CL_MEM_WRITE_ONLY, cells, length);
+  cl_uint parameter = host.parameters;
+  for (int k = 0; k < declared.sizes; k++) {
+    cl_uint size = (cl_uint)strtoul(member(member(launch, "sizes"), declared.size[k]), NULL, 10);
+    check(clSetKernelArg(host.kernel, parameter++, sizeof size, &size), "clSetKernelArg");
+  }
+
+  check(clEnqueueNDRangeKernel(queue, host.kernel, 1, NULL, &global, &local, 0, NULL, NULL), "clEnqueueNDRangeKernel");
+  for (cl_uint k = 0; k < components; k++) {
+    check(clEnqueueReadBuffer(queue, host.buffer[first + k], CL_TRUE, 0, length * sizeof *cells, cells, 0, NULL, NULL),
+          "clEnqueueReadBuffer");
+    for (size_t cell = 0; cell < length; cell++) found[cell * components + k] = cells[cell];
+  }
+
+  print_line(expected_line, found);
+  fflush(stdout);
+  int equal = memcmp(found, expected, cells_in_all * sizeof *found) == 0;
+  if (!equal) fprintf(stderr, "host: lift eval gives %s", expected_line);
+
+  for (cl_uint k = 0; k < host.parameters; k++) clReleaseMemObject(host.buffer[k]);
+  clReleaseKernel(host.kernel);
+  clReleaseProgram(program);
+  clReleaseCommandQueue(queue);
+  clReleaseContext(host.context);
+  free(cells);
+  free(found);
+  free(expected);
+  free(launch);
+  free(program_text);
+  free(text);
+  free(expected_line);
+  return equal ? 0 : 1;
+}

@@ -1,0 +1,144 @@
+#!/usr/bin/env python3
+"""Runs a program's kernel on an OpenCL device, and compares with the program's value.
+
+    host.py PROGRAM SCRIPT LAUNCH
+
+Prints the value. Exit status 0: the device gave the value that `lift eval` gives; 1: another; 2: it didn't come so far.
+The environment's LIFT names the program `lift` (./lift where it isn't set), PYOPENCL_CTX the device. docs/HOST.md
+explains each step.
+"""
+import json
+import os
+import re
+import subprocess
+import sys
+
+import numpy
+import pyopencl
+
+LIFT = os.environ.get("LIFT", "./lift")
+UNWRITTEN = 0xDEADBEEF
+
+
+def fail(message):
+    print(f"host: {message}", file=sys.stderr)
+    sys.exit(2)
+
+
+def lift(*words):
+    """What `lift` writes; where it refuses, its line stands on standard error."""
+    ran = subprocess.run([LIFT, *words], stdout=subprocess.PIPE, text=True)
+    if ran.returncode != 0:
+        fail(f"lift {words[0]} ended with status {ran.returncode}")
+    return ran.stdout
+
+
+def text_of(path):
+    with open(path, "rb") as file:
+        return file.read().decode("latin-1")
+
+
+def declarations(program):
+    """The names of the sizes, and name and count of components of each input, in order of declaration.
+
+    `size`, `input`, `output` and `u32` are reserved words, so they stand for nothing else. A type has as many
+    components as it names `u32`.
+    """
+    words = re.findall(r"\w+", re.sub(r"#.*", "", program))
+    sizes, inputs = [], []
+    for word, following in zip(words, words[1:]):
+        if word == "output":
+            break
+        if word == "size":
+            sizes.append(following)
+        elif word == "input":
+            inputs.append([following, 0])
+        elif word == "u32":
+            inputs[-1][1] += 1
+    return sizes, inputs
+
+
+def numbers(value):
+    """The numbers of a value, as its JSON text has them from left to right: row-major, the parts of a pair together."""
+    return [it for part in value for it in numbers(part)] if isinstance(value, list) else [value]
+
+
+def buffers_of(value, components):
+    """The contents of a value's buffers, one for each component of its type."""
+    flat = numpy.array(numbers(value), dtype=numpy.uint32)
+    return [numpy.ascontiguousarray(flat[k::components]) for k in range(components)]
+
+
+def value_of(buffers, like):
+    """The value that stands in the buffers, nested as `like` is."""
+    flat = iter(numpy.stack(buffers, axis=1).ravel().tolist())
+
+    def nested(part):
+        return [nested(it) for it in part] if isinstance(part, list) else next(flat)
+
+    return nested(like)
+
+
+def work_items(launch, kernel):
+    """The global and the local size, where they are admissible."""
+    for key in ("global", "local"):
+        if type(launch.get(key)) is not int:
+            fail(f"the launch file has no number of work-items at the key {key}: `lift eval` needs none, a kernel does")
+    total, group = launch["global"], launch["local"]
+    if not (1 <= group <= 256 and 1 <= total <= 65536 and total % group == 0):
+        fail(f"global {total}, local {group}: local is 1 to 256, global 1 to 65536, and local divides global")
+    if total != 1 and "get_" not in kernel:
+        fail(f"global {total}: this kernel is for one work-item")
+    return total, group
+
+
+def device_context():
+    try:
+        return pyopencl.create_some_context(interactive=False)
+    except pyopencl.Error:
+        fail("no OpenCL device")
+
+
+def main():
+    if len(sys.argv) != 4:
+        fail("the words are PROGRAM SCRIPT LAUNCH")
+    program, script, launch_path = sys.argv[1:]
+    # `eval` refuses a program or a launch file that is none, so both are well formed below.
+    expected_line = lift("eval", program, launch_path)
+    expected = json.loads(expected_line)["value"]
+    kernel_text = lift("compile", program, script)
+    sizes, inputs = declarations(text_of(program))
+    launch = json.loads(text_of(launch_path))
+    total, group = work_items(launch, kernel_text)
+
+    context = device_context()
+    queue = pyopencl.CommandQueue(context)
+    print(f"host: {queue.device.name.strip()}", file=sys.stderr)
+    kernel = pyopencl.Program(context, kernel_text).build().lift
+
+    def buffer(access, contents):
+        return pyopencl.Buffer(context, access | pyopencl.mem_flags.COPY_HOST_PTR, hostbuf=contents)
+
+    # Inputs, then outputs, then sizes. What stands in an output at the start doesn't matter.
+    ins = [cells for name, components in inputs for cells in buffers_of(launch["inputs"][name], components)]
+    outs = buffers_of(expected, kernel_text.count("__global uint *"))
+    for cells in outs:
+        cells.fill(UNWRITTEN)
+    in_buffers = [buffer(pyopencl.mem_flags.READ_ONLY, cells) for cells in ins]
+    out_buffers = [buffer(pyopencl.mem_flags.WRITE_ONLY, cells) for cells in outs]
+    kernel(queue, (total,), (group,), *in_buffers, *out_buffers, *(numpy.uint32(launch["sizes"][name]) for name in sizes))
+    for cells, it in zip(outs, out_buffers):
+        pyopencl.enqueue_copy(queue, cells, it)
+
+    line = json.dumps({"value": value_of(outs, expected)}, separators=(",", ":")) + "\n"
+    print(line, end="")
+    if line != expected_line:
+        print(f"host: lift eval gives {expected_line}", end="", file=sys.stderr)
+        sys.exit(1)
+
+
+if __name__ == "__main__":
+    try:
+        main()
+    except pyopencl.Error as error:
+        fail(error)
