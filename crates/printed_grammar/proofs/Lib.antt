@@ -1,0 +1,5 @@
+pub mod Expressions
+pub mod Views
+pub mod Codes
+pub mod Terms
+pub mod Kernels
