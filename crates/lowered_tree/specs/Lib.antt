@@ -5,3 +5,4 @@ pub mod Forms
 pub mod Nest
 pub mod Nodes
 pub mod Spaces
+pub mod Printed
