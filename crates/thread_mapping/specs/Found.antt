@@ -1,5 +1,5 @@
 -- What judging a nest finds.
-use Rattle.std.specs.Prelude.{◌≡◌, ℕ, Bool, not, ◌&&◌, List, [], ◌∷◌, Option, Some, None}
+use Rattle.std.specs.Prelude.{◌≡◌, ℕ, Bool, not, ◌&&◌, List, ◌∷◌, Option, Some, None}
 use Rattle.lift_tree.specs.Tree.{Tree}
 use Rattle.lift_tree.specs.Annotations.{Annotation, type_in}
 use Rattle.lowered_tree.specs.declared.around.Around.{Around}
