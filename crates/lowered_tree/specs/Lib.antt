@@ -6,3 +6,4 @@ pub mod Nest
 pub mod Nodes
 pub mod Spaces
 pub mod Printed
+pub mod Inputs
