@@ -44,7 +44,7 @@ fn input_type(alloc: Global, program: &Program, number: u32) -> Result<Ty, Alloc
 /// The types of the inputs, in their order.
 pub fn input_types(alloc: Global, program: &Program) -> Result<Vec<Ty>, AllocError>
     requires typed { HasTypedInputs (program_of program.now) }
-    requires few { length program.now.inputs.items < 2 ^ 32 }
+    requires few { length (program_of program.now).inputs < 2 ^ 32 }
     ensures { IfOk result (λ types. map ty_of types.items ≡ (declared_by (program_of program.now)).inputs) }
 {
     let mut types = Vec::new(alloc);

@@ -19,7 +19,7 @@ use std::alloc::{AllocError, Global};
 /// The program is proper and its inputs have types within the limits, as those of each typed program have.
 pub fn lowered(alloc: Global, typed: &Typed) -> Result<Lowered, AllocError>
     requires typed { HasTypedInputs (program_of typed.now.program) }
-    requires few { length typed.now.program.inputs.items < 2 ^ 32 }
+    requires few { length (program_of typed.now.program).inputs < 2 ^ 32 }
     ensures names { IfOk result (λ l. l.names ≡ (declared_by (program_of typed.now.program)).names) }
     ensures inputs { IfOk result (λ l. map ty_of l.inputs.items ≡ (declared_by (program_of typed.now.program)).inputs) }
     ensures term { IfOk result (λ l. tree_of l.term ≡ tree_of typed.now.term) }
