@@ -16,6 +16,7 @@ pub enum AllocLimit {
 }
 
 /// Why a term has no buffers.
+#[derive(Drop)]
 pub enum AllocNo {
     /// The first limit that is passed, and what is counted, which stands still at 2^64 - 1.
     Limit { which: AllocLimit, count: u64 },

@@ -1,13 +1,11 @@
 -- Legal nests are those without a first broken rule.
-use Rattle.std.proofs.Common.{◌≡◌, ◌↔◌, ℕ, Bool, true, false, List, [], ◌∷◌, ◌++◌, Option, Some, None, refl, sym, ap, ◌∙◌, subst}
+use Rattle.std.proofs.Common.{◌≡◌, ℕ, Bool, true, false, List, [], ◌∷◌, Option, Some, None, refl, ap}
 use Rattle.std.specs.Prelude.{if◌then◌else◌}
-use Rattle.lift_tree.specs.Tree.{Tree}
-use Rattle.lift_tree.specs.Annotations.{Annotation}
 use Rattle.lift_tree.specs.Lists.{Every}
 use Rattle.lowered_tree.specs.declared.rule.NestRule.{NestRule}
 use Rattle.lowered_tree.specs.declared.rule.NestRule.TheVariants.{N1, N2, N3, N4, N5, N6, N7, N8, N9, N10, N11}
 use Rattle.lowered_tree.specs.Around.{at_root}
-use Rattle.lowered_tree.specs.Nest.{Site, sites, broken_at, IsUnbroken, IsLegalNest, rules, lowest, first_of, at_place, first_broken, nest_fault, LegalWithoutFault}
+use Rattle.lowered_tree.specs.Nest.{Site, sites, broken_at, IsUnbroken, rules, lowest, first_of, at_place, first_broken, LegalWithoutFault}
 
 -- ---- one node
 

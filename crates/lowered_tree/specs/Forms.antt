@@ -4,8 +4,8 @@ use Rattle.lift_tree.specs.declared.term.UnaryForm.TheVariants as unary
 use Rattle.lift_tree.specs.declared.term.BinaryForm.TheVariants as binary
 use Rattle.lift_tree.specs.declared.term.MapKind.{MapKind}
 use Rattle.lift_tree.specs.declared.term.FoldKind.TheVariants as fold_kind
-use Rattle.lift_tree.specs.Tree.{Tree, Variable, Number, Input, Unary, Binary, Select, Let, Map, Fold}
-use Rattle.lift_tree.specs.Annotations.{Annotation, Leaf, One, Two, Three, type_in}
+use Rattle.lift_tree.specs.Tree.{Tree, Variable, Input, Unary, Binary, Let, Map, Fold}
+use Rattle.lift_tree.specs.Annotations.{Annotation, Two, type_in}
 use Rattle.lowered_tree.specs.Elements.{is_element}
 use Rattle.lowered_tree.specs.Kinds.{is_plain, is_local}
 

@@ -5,3 +5,5 @@ pub mod Forms
 pub mod Nest
 pub mod Nodes
 pub mod Spaces
+pub mod Printed
+pub mod Inputs

@@ -1,5 +1,5 @@
 -- In which memory each computing node's value goes.
-use Rattle.std.specs.Prelude.{Bool, true, false, ◌&&◌, ◌||◌, List, [], ◌∷◌, if◌then◌else◌}
+use Rattle.std.specs.Prelude.{Bool, ◌&&◌, ◌||◌, List, [], ◌∷◌, if◌then◌else◌}
 use Rattle.lift_tree.specs.Tree.{Tree}
 use Rattle.lift_tree.specs.Annotations.{Annotation, type_in}
 use Rattle.lowered_tree.specs.declared.around.Around.{Around}

@@ -4,8 +4,11 @@
 #![tactic(auto)]
 
 pub mod around;
+mod copies;
 pub mod forms;
+mod inputs;
 pub mod laws;
 pub mod lowered;
 pub mod node;
 pub mod rule;
+pub mod typed;

@@ -6,8 +6,6 @@ mod limits;
 #[cfg(test)]
 mod names;
 #[cfg(test)]
-mod nests;
-#[cfg(test)]
 mod refusals;
 #[cfg(test)]
 mod rules;

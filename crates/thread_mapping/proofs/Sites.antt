@@ -1,12 +1,8 @@
 -- The first broken rule of a node from those of its children.
-use Rattle.std.proofs.Common.{◌≡◌, ℕ, List, [], ◌∷◌, ◌++◌, Option, Some, None, refl, sym, ap, ◌∙◌}
+use Rattle.std.proofs.Common.{◌≡◌, ℕ, List, [], ◌∷◌, ◌++◌, Option, Some, None, refl, ap, ◌∙◌}
 use Rattle.std.specs.Prelude.{if◌then◌else◌}
-use Rattle.lift_tree.specs.Tree.{Tree}
-use Rattle.lift_tree.specs.Annotations.{Annotation, Leaf, One, Two, Three}
-use Rattle.lift_tree.specs.Tree as tree
-use Rattle.lowered_tree.specs.declared.around.Around.{Around}
 use Rattle.lowered_tree.specs.declared.rule.NestRule.{NestRule}
-use Rattle.lowered_tree.specs.Nest.{Site, sites, under, in_child, broken_at, rules, lowest, first_of, at_place, first_broken}
+use Rattle.lowered_tree.specs.Nest.{Site, under, in_child, broken_at, rules, lowest, first_of, at_place, first_broken}
 use Rattle.thread_mapping.specs.Found.{from_child}
 
 first_of_three : (a b c : Option (List ℕ × NestRule)) → first_of a (first_of b c) ≡ first_of (first_of a b) c

@@ -1,5 +1,5 @@
 -- What judging a nest finds.
-use Rattle.std.specs.Prelude.{◌≡◌, ℕ, Bool, not, ◌&&◌, List, [], ◌∷◌, Option, Some, None}
+use Rattle.std.specs.Prelude.{◌≡◌, ℕ, Bool, not, ◌&&◌, List, ◌∷◌, Option, Some, None}
 use Rattle.lift_tree.specs.Tree.{Tree}
 use Rattle.lift_tree.specs.Annotations.{Annotation, type_in}
 use Rattle.lowered_tree.specs.declared.around.Around.{Around}
@@ -27,3 +27,8 @@ from_child i None = None
 abbrev pub Refuses : NestNo → Tree → Annotation → Type 0
 Refuses (Nest place rule) t n = nest_fault t n ≡ Some (place, rule)
 Refuses Memory t n = Unit {0}
+
+-- a place in the child of this number, seen from the parent
+abbrev pub place_in_child : ℕ → Option (List ℕ) → Option (List ℕ)
+place_in_child i (Some p) = Some (i ∷ p)
+place_in_child i None = None

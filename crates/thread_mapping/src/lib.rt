@@ -2,6 +2,8 @@
 #![tactic(auto)]
 
 mod judging;
+mod printed;
 mod rules;
 
 pub use judging::{NestNo, judge};
+pub use printed::first_unprinted;

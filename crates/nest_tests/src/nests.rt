@@ -1,14 +1,13 @@
 // Nests that are legal or not, and the address spaces of legal ones.
 
-use crate::running::last;
+use crate::lowering::lowered_last;
 use address_spaces::spaces;
 use lowered_tree::around::AddressSpace;
-use lowered_tree::lowered::{Lowered, Mapped};
+use lowered_tree::lowered::Mapped;
 use lowered_tree::rule::NestRule;
-use size_arith::Names;
 use std::alloc::Global;
 use std::test::Fail;
-use thread_mapping::{NestNo, judge};
+use thread_mapping::{NestNo, first_unprinted, judge};
 
 const ADDED: &str = "size N from 1 to 1000; input xs: [u32; N]; output map(\\x. add(x, 1), xs)";
 
@@ -60,6 +59,16 @@ const BROKEN: [(&str, &str, &str, NestRule); 11] = [
     ("input xs: [u32; 5]; output xs", "", "", NestRule::N11),
 ];
 
+// A program, a script, and the place in digits of the first node of the last term that isn't printed so far; none where each is.
+const UNPRINTED: [(&str, &str, Option<&str>); 6] = [
+    (ADDED, "at . to-seq", None),
+    (COPIED, "at 0 private-copy\nat . to-seq", None),
+    (SUM, SUMMED, None),
+    (ADDED, "at . to-glb", Some("")),
+    (ROWS, "at 1 to-glb\nat . to-seq", Some("1")),
+    (WINDOWS, TILED, Some("00")),
+];
+
 // A program, a script, and the spaces of its last term's computing nodes in preorder: global, local or private.
 const LEGAL: [(&str, &str, &str); 6] = [
     (ADDED, "at . to-seq", "gg"),
@@ -70,26 +79,13 @@ const LEGAL: [(&str, &str, &str); 6] = [
     (WINDOWS, TILED, "ggllg"),
 ];
 
-// The script's last term; none where the program or the script is refused.
-fn lowered(alloc: Global, program: &str, script: &str) -> Result<Option<Lowered>, Fail> {
-    match last(alloc, program.as_bytes(), script.as_bytes())? {
-        Some(Ok(typed)) => Ok(Some(Lowered {
-            names: Names::new(alloc),
-            inputs: Vec::new(alloc),
-            term: typed.term,
-            types: typed.types,
-        })),
-        _ => Ok(None),
-    }
-}
-
 // What is judged of it.
 fn judged(
     alloc: Global,
     program: &str,
     script: &str,
 ) -> Result<Option<Result<Mapped, NestNo>>, Fail> {
-    match lowered(alloc, program, script)? {
+    match lowered_last(alloc, program, script)? {
         Some(lowered) => Ok(Some(judge(alloc, lowered))),
         None => Ok(None),
     }
@@ -147,6 +143,33 @@ fn the_first_broken_rule_is_told(rt: HostRuntime) -> Result<(), Fail> {
 fn computing_nodes_have_their_spaces(rt: HostRuntime) -> Result<(), Fail> {
     for (program, script, want) in LEGAL {
         assert!(rt; has_spaces(rt.alloc(), program, script, want)?, "{script}");
+    }
+    Ok(())
+}
+
+fn is_unprinted_at(
+    alloc: Global,
+    program: &str,
+    script: &str,
+    want: Option<&str>,
+) -> Result<bool, Fail> {
+    let Some(lowered) = lowered_last(alloc, program, script)? else {
+        return Ok(false);
+    };
+    match (first_unprinted(alloc, &lowered)?, want) {
+        (None, None) => Ok(true),
+        (Some(place), Some(digits)) => Ok(is_place(place.numbers(), digits)),
+        _ => Ok(false),
+    }
+}
+
+#[test]
+fn the_first_node_that_is_not_printed_is_told(rt: HostRuntime) -> Result<(), Fail> {
+    for (program, script, want) in UNPRINTED {
+        assert!(rt;
+            is_unprinted_at(rt.alloc(), program, script, want)?,
+            "{script}"
+        );
     }
     Ok(())
 }

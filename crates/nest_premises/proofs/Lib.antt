@@ -1,0 +1,9 @@
+pub mod Rules
+pub mod Fits
+pub mod Few
+pub mod Staged
+pub mod Lowerable
+pub mod Stands
+pub mod Launches
+pub mod Limited
+pub mod Whole

@@ -1,0 +1,210 @@
+-- Rules of the nest, at each node of a term.
+use Rattle.std.proofs.Common.{◌≡◌, ℕ, Bool, true, false, List, [], ◌∷◌, ◌++◌, refl, sym, subst}
+use Rattle.std.specs.Prelude.{not, ◌&&◌, ◌||◌, if◌then◌else◌}
+use Rattle.lift_tree.specs.Tree as tree
+use Rattle.lift_tree.specs.Tree.{Tree}
+use Rattle.lift_tree.specs.Types as types
+use Rattle.lift_tree.specs.Types.{PlainTy, is_array}
+use Rattle.lift_tree.specs.Lists.{Every}
+use Rattle.lift_tree.specs.Annotations.{Annotation, Leaf, One, Two, Three, type_in}
+use Rattle.lift_ir.specs.Lowerable.{HoldsNoScalar}
+use Rattle.lift_ir.specs.Lowering as ir
+use Rattle.lowered_tree.specs.declared.around.Around.{Around}
+use Rattle.lowered_tree.specs.Elements.{is_element}
+use Rattle.lowered_tree.specs.Around.{operand, under_form, argument, let_body, map_body, fold_body}
+use Rattle.lowered_tree.specs.Nest.{Site, sites, site_at, under, in_child, IsUnbroken}
+
+-- ---- Booleans
+
+pub or_left : (x y : Bool) → x ≡ true → (x || y) ≡ true
+or_left true y e = refl
+or_left false y e = absurd (cc)
+
+pub or_right : (x y : Bool) → y ≡ true → (x || y) ≡ true
+or_right true y e = refl
+or_right false y e = e
+
+pub not_left : (x y : Bool) → (x || y) ≡ false → x ≡ false
+not_left true y e = absurd (cc)
+not_left false y e = refl
+
+pub not_right : (x y : Bool) → (x || y) ≡ false → y ≡ false
+not_right true y e = absurd (cc)
+not_right false y e = e
+
+-- what a rule asks besides isn't so
+pub spared : (x y : Bool) → (x && y) ≡ false → x ≡ true → y ≡ false
+spared true y e h = e
+spared false y e h = absurd (cc)
+
+pub negated : (x : Bool) → not x ≡ false → x ≡ true
+negated true e = refl
+negated false e = absurd (cc)
+
+pub denied : (x : Bool) → x ≡ false → not x ≡ true
+denied true e = absurd (cc)
+denied false e = refl
+
+pub both : (x y : Bool) → x ≡ true → y ≡ true → (x && y) ≡ true
+both true y e h = h
+both false y e h = absurd (cc)
+
+pub and_left : (x y : Bool) → (x && y) ≡ true → x ≡ true
+and_left true y e = refl
+and_left false y e = absurd (cc)
+
+pub and_right : (x y : Bool) → (x && y) ≡ true → y ≡ true
+and_right true y e = e
+and_right false y e = absurd (cc)
+
+pub true_is_not_false : {A : Type 0} (x : Bool) → x ≡ true → x ≡ false → A
+true_is_not_false true e h = absurd (cc)
+true_is_not_false false e h = absurd (cc)
+
+-- ---- types
+
+pub told_element : (a : PlainTy) → types.IsElement a → is_element a ≡ true
+told_element types.U32 h = refl
+told_element (types.PairOf a b) h = go (is_element a) (is_element b) (told_element a h.0) (told_element b h.1)
+  where
+    go : (x y : Bool) → x ≡ true → y ≡ true → (x && y) ≡ true
+    go true y e k = k
+    go false y e k = absurd (cc)
+told_element (types.ArrayOf a n) h = absurd h
+
+pub no_array : (a : PlainTy) → is_element a ≡ true → is_array a ≡ false
+no_array types.U32 e = refl
+no_array (types.PairOf a b) e = refl
+no_array (types.ArrayOf a n) e = absurd (cc)
+
+pub no_element : (a : PlainTy) → is_array a ≡ true → is_element a ≡ false
+no_element types.U32 e = absurd (cc)
+no_element (types.PairOf a b) e = absurd (cc)
+no_element (types.ArrayOf a n) e = refl
+
+pub holds_none : (a : PlainTy) → is_array a ≡ true → HoldsNoScalar a
+holds_none types.U32 e = absurd (cc)
+holds_none (types.PairOf a b) e = absurd (cc)
+holds_none (types.ArrayOf a n) e = tt
+
+-- a pair with a part that is no element is no element
+pub left_part : (a b : PlainTy) → is_element a ≡ false → is_element (types.PairOf a b) ≡ false
+left_part a b e = go (is_element a) e
+  where
+    go : (x : Bool) → x ≡ false → (x && is_element b) ≡ false
+    go true h = absurd (cc)
+    go false h = refl
+
+pub right_part : (a b : PlainTy) → is_element b ≡ false → is_element (types.PairOf a b) ≡ false
+right_part a b e = go (is_element a)
+  where
+    go : (x : Bool) → (x && is_element b) ≡ false
+    go true = e
+    go false = refl
+
+-- of a node's type, told by an equation
+module _ {A : Type 0} (a b : PlainTy) (e : a ≡ b) where
+  pub clash_array : is_array b ≡ true → is_array a ≡ false → A
+  clash_array h k = true_is_not_false (is_array a) (subst (λ z. is_array z ≡ true) (sym e) h) k
+
+  pub clash_element : is_element b ≡ true → is_element a ≡ false → A
+  clash_element h k = true_is_not_false (is_element a) (subst (λ z. is_element z ≡ true) (sym e) h) k
+
+pub moved : (p : PlainTy → Bool) (v : Bool) (a b : PlainTy) → a ≡ b → p b ≡ v → p a ≡ v
+moved p v a b e h = subst (λ z. p z ≡ v) (sym e) h
+
+-- the intermediate representation's test of element types
+pub in_ir : (a : PlainTy) → ir.is_element a ≡ is_element a
+in_ir types.U32 = refl
+in_ir (types.PairOf a b) = go (ir.is_element a) (ir.is_element b) (is_element a) (is_element b) (in_ir a) (in_ir b)
+  where
+    go : (x y z w : Bool) → x ≡ z → y ≡ w → (if x then y else false) ≡ (z && w)
+    go true y true w e h = h
+    go false y false w e h = refl
+    go true y false w e h = absurd (cc)
+    go false y true w e h = absurd (cc)
+in_ir (types.ArrayOf a n) = refl
+
+pub told_ir : (v : Bool) (a : PlainTy) → is_element a ≡ v → ir.is_element a ≡ v
+told_ir v a e = subst (λ z. z ≡ v) (sym (in_ir a)) e
+
+pub from_ir : (v : Bool) (a : PlainTy) → ir.is_element a ≡ v → is_element a ≡ v
+from_ir v a e = subst (λ z. z ≡ v) (in_ir a) e
+
+-- ---- nodes
+
+-- no rule is broken at a node, nor at any below
+abbrev pub IsUnbrokenAt : Around → Tree → Annotation → Type 0
+IsUnbrokenAt s t n = IsUnbroken (site_at s t n)
+
+abbrev pub AllUnbroken : Around → Tree → Annotation → Type 0
+AllUnbroken s (tree.Unary f t) (One a n) = IsUnbrokenAt s (tree.Unary f t) (One a n) × AllUnbroken (under_form s f a) t n
+AllUnbroken s (tree.Binary f t u) (Two a n m) = IsUnbrokenAt s (tree.Binary f t u) (Two a n m) × AllUnbroken (operand s a) t n × AllUnbroken (operand s a) u m
+AllUnbroken s (tree.Select t u w) (Three a n m l) =
+    IsUnbrokenAt s (tree.Select t u w) (Three a n m l) × AllUnbroken (operand s a) t n × AllUnbroken (operand s a) u m × AllUnbroken (operand s a) w l
+AllUnbroken s (tree.Let v b) (Two a n m) =
+    IsUnbrokenAt s (tree.Let v b) (Two a n m) × AllUnbroken (argument s (is_element (type_in n)) a) v n × AllUnbroken (let_body s (is_element (type_in n)) a) b m
+AllUnbroken s (tree.Map k xs b) (Two a n m) =
+    IsUnbrokenAt s (tree.Map k xs b) (Two a n m) × AllUnbroken (argument s false a) xs n × AllUnbroken (map_body s k a) b m
+AllUnbroken s (tree.Fold k xs z b) (Three a n m l) =
+    IsUnbrokenAt s (tree.Fold k xs z b) (Three a n m l) × AllUnbroken (argument s false a) xs n × AllUnbroken (operand s a) z m × AllUnbroken (fold_body s a) b l
+AllUnbroken s t n = IsUnbrokenAt s t n
+
+module _ {A : Type 0} (P : A → Type 0) where
+  pub front : (xs ys : List A) → Every P (xs ++ ys) → Every P xs
+  front [] ys h = tt
+  front (x ∷ xs) ys h = (h.0, front xs ys h.1)
+
+  pub behind : (xs ys : List A) → Every P (xs ++ ys) → Every P ys
+  behind [] ys h = h
+  behind (x ∷ xs) ys h = behind xs ys h.1
+
+-- of what doesn't look at places
+pub above : (P : Site → Type 0) → ((i : ℕ) (x : Site) → P (in_child i x) → P x) → (i : ℕ) (xs : List Site) → Every P (under i xs) → Every P xs
+above P f i [] h = tt
+above P f i (x ∷ xs) h = (f i x h.0, above P f i xs h.1)
+
+unmoved : (i : ℕ) (x : Site) → IsUnbroken (in_child i x) → IsUnbroken x
+unmoved i x h r = h r
+
+ones : (xs : List Site) → Every IsUnbroken (under 0 xs) → Every IsUnbroken xs
+ones xs h = above IsUnbroken unmoved 0 xs h
+
+twos : (xs ys : List Site) → Every IsUnbroken (under 0 xs ++ under 1 ys) → Every IsUnbroken xs × Every IsUnbroken ys
+twos xs ys h = (ones xs (front IsUnbroken (under 0 xs) (under 1 ys) h), above IsUnbroken unmoved 1 ys (behind IsUnbroken (under 0 xs) (under 1 ys) h))
+
+threes : (xs ys zs : List Site) → Every IsUnbroken (under 0 xs ++ (under 1 ys ++ under 2 zs)) → Every IsUnbroken xs × Every IsUnbroken ys × Every IsUnbroken zs
+threes xs ys zs h =
+    let r = behind IsUnbroken (under 0 xs) (under 1 ys ++ under 2 zs) h in
+    (ones xs (front IsUnbroken (under 0 xs) (under 1 ys ++ under 2 zs) h), above IsUnbroken unmoved 1 ys (front IsUnbroken (under 1 ys) (under 2 zs) r), above IsUnbroken unmoved 2 zs (behind IsUnbroken (under 1 ys) (under 2 zs) r))
+
+pub all_unbroken : (s : Around) (t : Tree) (n : Annotation) → Every IsUnbroken (sites s t n) → AllUnbroken s t n
+all_unbroken s (tree.Unary f t) (One a n) h = (h.0, all_unbroken _ t n (ones (sites _ t n) h.1))
+all_unbroken s (tree.Binary f t u) (Two a n m) h = let r = twos (sites _ t n) (sites _ u m) h.1 in (h.0, all_unbroken _ t n r.0, all_unbroken _ u m r.1)
+all_unbroken s (tree.Select t u w) (Three a n m l) h =
+    let r = threes (sites _ t n) (sites _ u m) (sites _ w l) h.1 in (h.0, all_unbroken _ t n r.0, all_unbroken _ u m r.1, all_unbroken _ w l r.2)
+all_unbroken s (tree.Let v b) (Two a n m) h = let r = twos (sites _ v n) (sites _ b m) h.1 in (h.0, all_unbroken _ v n r.0, all_unbroken _ b m r.1)
+all_unbroken s (tree.Map k xs b) (Two a n m) h = let r = twos (sites _ xs n) (sites _ b m) h.1 in (h.0, all_unbroken _ xs n r.0, all_unbroken _ b m r.1)
+all_unbroken s (tree.Fold k xs z b) (Three a n m l) h =
+    let r = threes (sites _ xs n) (sites _ z m) (sites _ b l) h.1 in (h.0, all_unbroken _ xs n r.0, all_unbroken _ z m r.1, all_unbroken _ b l r.2)
+all_unbroken s (tree.Variable v) n h = h.0
+all_unbroken s (tree.Number c) n h = h.0
+all_unbroken s (tree.Input i) n h = h.0
+all_unbroken s (tree.Unary f t) (Leaf a) h = h.0
+all_unbroken s (tree.Unary f t) (Two a n m) h = h.0
+all_unbroken s (tree.Unary f t) (Three a n m l) h = h.0
+all_unbroken s (tree.Binary f t u) (Leaf a) h = h.0
+all_unbroken s (tree.Binary f t u) (One a n) h = h.0
+all_unbroken s (tree.Binary f t u) (Three a n m l) h = h.0
+all_unbroken s (tree.Select t u w) (Leaf a) h = h.0
+all_unbroken s (tree.Select t u w) (One a n) h = h.0
+all_unbroken s (tree.Select t u w) (Two a n m) h = h.0
+all_unbroken s (tree.Let v b) (Leaf a) h = h.0
+all_unbroken s (tree.Let v b) (One a n) h = h.0
+all_unbroken s (tree.Let v b) (Three a n m l) h = h.0
+all_unbroken s (tree.Map k xs b) (Leaf a) h = h.0
+all_unbroken s (tree.Map k xs b) (One a n) h = h.0
+all_unbroken s (tree.Map k xs b) (Three a n m l) h = h.0
+all_unbroken s (tree.Fold k xs z b) (Leaf a) h = h.0
+all_unbroken s (tree.Fold k xs z b) (One a n) h = h.0
+all_unbroken s (tree.Fold k xs z b) (Two a n m) h = h.0

@@ -1,0 +1,127 @@
+-- What a term without a broken rule is lowered to, for one work-item, has the forms of their places.
+use Rattle.std.proofs.Common.{◌≡◌, Bool, true, false, List, ◌∷◌, refl, inl, inr}
+use Rattle.std.specs.Prelude.{not, ◌&&◌, ◌||◌, if◌then◌else◌}
+use Rattle.lift_tree.specs.declared.term.UnaryForm.TheVariants as unary
+use Rattle.lift_tree.specs.declared.term.BinaryForm.TheVariants as binary
+use Rattle.lift_tree.specs.declared.term.MapKind.TheVariants as map_kind
+use Rattle.lift_tree.specs.Tree as tree
+use Rattle.lift_tree.specs.Tree.{Tree}
+use Rattle.lift_tree.specs.Types as types
+use Rattle.lift_tree.specs.Types.{PlainTy}
+use Rattle.lift_tree.specs.Typing.{Declared}
+use Rattle.lift_tree.specs.Annotations.{Annotation, Leaf, One, Two, Three, type_in, Annotates}
+use Rattle.lift_ir.specs.Terms as low
+use Rattle.lift_ir.specs.Forms.{Stands}
+use Rattle.lift_ir.specs.Lowering as ir
+use Rattle.lift_ir.specs.Lowering.{Written, Argument, Element, element_ty, placed_element, lower_let, lower}
+use Rattle.lift_ir.specs.Lowerable.{IsStaged}
+use Rattle.lowered_tree.specs.declared.around.Around.{Around}
+use Rattle.lowered_tree.specs.declared.rule.NestRule.TheVariants.{N5, N10}
+use Rattle.lowered_tree.specs.Elements.{is_element}
+use Rattle.lowered_tree.specs.Forms.{shows_local_map}
+use Rattle.lowered_tree.specs.Kinds.{is_task}
+use Rattle.nest_premises.proofs.Rules.{AllUnbroken, moved, and_left, and_right, negated, not_right, from_ir, true_is_not_false}
+use Rattle.nest_premises.proofs.Staged.{passes, refused}
+
+body_staged : (v b : Tree) (a : PlainTy) (n m : Annotation) → IsStaged Written (tree.Let v b) (Two a n m) → ir.is_element a ≡ false → IsStaged Written b m
+body_staged v b a n m (inl o) e = true_is_not_false (ir.is_element a) o.0 e
+body_staged v b a n m (inr (inl o)) e = o.3
+body_staged v b a n m (inr (inr o)) e = o.3
+
+value_staged : (v b : Tree) (a : PlainTy) (n m : Annotation) → IsStaged Written (tree.Let v b) (Two a n m) → ir.is_element a ≡ false → ir.is_element (type_in n) ≡ false → IsStaged Argument v n
+value_staged v b a n m (inl o) e i = true_is_not_false (ir.is_element a) o.0 e
+value_staged v b a n m (inr (inl o)) e i = true_is_not_false (ir.is_element (type_in n)) o.1 i
+value_staged v b a n m (inr (inr o)) e i = o.2
+
+-- a map over a group's items is parallel
+shows_no_task : {A : Type 0} (t : Tree) → shows_local_map t ≡ true → is_task t ≡ true → A
+shows_no_task (tree.Unary unary.Join t) e z = shows_no_task t e z
+shows_no_task (tree.Unary unary.Transpose t) e z = shows_no_task t e z
+shows_no_task (tree.Unary (unary.Split fs) t) e z = shows_no_task t e z
+shows_no_task (tree.Let v b) e z = shows_no_task b e (and_right (is_task v) (is_task b) z)
+shows_no_task (tree.Map map_kind.Local xs b) e z = absurd (cc)
+shows_no_task (tree.Map map_kind.Plain xs b) e z = absurd (cc)
+shows_no_task (tree.Map map_kind.Global xs b) e z = absurd (cc)
+shows_no_task (tree.Map map_kind.WorkGroup xs b) e z = absurd (cc)
+shows_no_task (tree.Map map_kind.Sequential xs b) e z = absurd (cc)
+shows_no_task (tree.Variable v) e z = absurd (cc)
+shows_no_task (tree.Number v) e z = absurd (cc)
+shows_no_task (tree.Input v) e z = absurd (cc)
+shows_no_task (tree.Unary (unary.Div j) t) e z = absurd (cc)
+shows_no_task (tree.Unary (unary.Rem j) t) e z = absurd (cc)
+shows_no_task (tree.Unary unary.First t) e z = absurd (cc)
+shows_no_task (tree.Unary unary.Second t) e z = absurd (cc)
+shows_no_task (tree.Unary (unary.Slide j l) t) e z = absurd (cc)
+shows_no_task (tree.Unary (unary.Pad j l) t) e z = absurd (cc)
+shows_no_task (tree.Unary unary.ToLocal t) e z = absurd (cc)
+shows_no_task (tree.Unary unary.ToPrivate t) e z = absurd (cc)
+shows_no_task (tree.Binary f t u) e z = absurd (cc)
+shows_no_task (tree.Select t u x) e z = absurd (cc)
+shows_no_task (tree.Fold j t u x) e z = absurd (cc)
+
+module _ (d : Declared) where
+  let_written : (v b : Tree) (a : PlainTy) (n m : Annotation) → (ir.is_element a ≡ false → Stands true (lower Written b m)) → (ir.is_element a ≡ false → ir.is_element (type_in n) ≡ false → Stands false (lower Argument v n)) → Stands true (lower Written (tree.Let v b) (Two a n m))
+  let_written v b a n m f k = go (ir.is_element a) (ir.is_element (type_in n)) f k
+    where
+      go : (x y : Bool) → (x ≡ false → Stands true (lower Written b m)) → (x ≡ false → y ≡ false → Stands false (lower Argument v n))
+          → Stands true (let whole = if y then low.LetElement (element_ty (type_in n)) (lower (if y then Element else Argument) v n) (lower (if x then Element else Written) b m) else low.LetArray (lower (if y then Element else Argument) v n) (lower (if x then Element else Written) b m) in if x then low.Store (element_ty a) whole else whole)
+      go true y f k = tt
+      go false true f k = f refl
+      go false false f k = (k refl refl, f refl)
+
+  let_argued : (v b : Tree) (a : PlainTy) (n m : Annotation) → ir.is_element (type_in n) ≡ false → Stands false (lower Argument b m) → Stands false (lower Argument v n) → Stands false (lower Argument (tree.Let v b) (Two a n m))
+  let_argued v b a n m e f k = go (ir.is_element a) (ir.is_element (type_in n)) e
+    where
+      go : (x y : Bool) → y ≡ false
+          → Stands false (let whole = if y then low.LetElement (element_ty (type_in n)) (lower (if y then Element else Argument) v n) (lower Argument b m) else low.LetArray (lower (if y then Element else Argument) v n) (lower Argument b m) in if x then whole else whole)
+      go x true e = absurd (cc)
+      go true false e = (k, f)
+      go false false e = (k, f)
+
+  mutual
+    pub argument_stands : (s : Around) (g : List PlainTy) (t : Tree) (n : Annotation) → Annotates d g t n → AllUnbroken s t n → IsStaged Argument t n → is_task t ≡ true → Stands false (lower Argument t n)
+    argument_stands s g (tree.Variable v) (Leaf a) y h o z = tt
+    argument_stands s g (tree.Input i) (Leaf a) y h o z = tt
+    argument_stands s g (tree.Unary unary.First t) (One a n) y h o z = argument_stands _ g t n y.0 h.1 o z
+    argument_stands s g (tree.Unary unary.Second t) (One a n) y h o z = argument_stands _ g t n y.0 h.1 o z
+    argument_stands s g (tree.Unary unary.Join t) (One a n) y h o z = argument_stands _ g t n y.0 h.1 o z
+    argument_stands s g (tree.Unary unary.Transpose t) (One a n) y h o z = argument_stands _ g t n y.0 h.1 o z
+    argument_stands s g (tree.Unary (unary.Split fs) t) (One a n) y h o z = argument_stands _ g t n y.0 h.1 o z
+    argument_stands s g (tree.Unary (unary.Slide j l) t) (One a n) y h o z = argument_stands _ g t n y.0 h.1 o z
+    argument_stands s g (tree.Unary (unary.Pad j l) t) (One a n) y h o z = argument_stands _ g t n y.0 h.1 o z
+    argument_stands s g (tree.Unary unary.ToLocal t) (One a n) y h o z = shows_no_task t (negated (shows_local_map t) (not_right (not s.in_group || s.in_local) (not (shows_local_map t)) (h.0 N5))) z
+    argument_stands s g (tree.Unary unary.ToPrivate t) (One a n) y h o z = written_stands _ g t n y.0 h.1 o.3 z refl
+    argument_stands s g (tree.Binary binary.Zip t u) (Two a n m) y h o z =
+        (argument_stands _ g t n y.0 h.1 o.0 (and_left (is_task t) (is_task u) z), argument_stands _ g u m y.1 h.2 o.1 (and_right (is_task t) (is_task u) z))
+    argument_stands s g (tree.Let v b) (Two a n m) y h o z =
+        let_argued v b a n m o.0 (argument_stands _ (type_in n ∷ g) b m y.1 h.2 o.2 (and_right (is_task v) (is_task b) z)) (argument_stands _ g v n y.0 h.1 o.1 (and_left (is_task v) (is_task b) z))
+    argument_stands s g _ _ y h o z = absurd o
+
+    pub written_stands : (s : Around) (g : List PlainTy) (t : Tree) (n : Annotation) → Annotates d g t n → AllUnbroken s t n → IsStaged Written t n → is_task t ≡ true → s.is_written ≡ true → Stands true (lower Written t n)
+    written_stands s g (tree.Variable v) (Leaf a) y h o z w = tt
+    written_stands s g (tree.Number v) (Leaf a) y h o z w = tt
+    written_stands s g (tree.Unary (unary.Div j) t) (One a n) y h o z w = tt
+    written_stands s g (tree.Unary (unary.Rem j) t) (One a n) y h o z w = tt
+    written_stands s g (tree.Unary unary.First t) (One a n) y h o z w = tt
+    written_stands s g (tree.Unary unary.Second t) (One a n) y h o z w = tt
+    written_stands s g (tree.Unary unary.Join t) (One a n) y h o z w = (tt, written_stands _ g t n y.0 h.1 o z (passes s.is_written (is_element a) w (moved is_element false a (types.ArrayOf _ _) y.1.4 refl)))
+    written_stands s g (tree.Unary unary.Transpose t) (One a n) y h o z w = (tt, written_stands _ g t n y.0 h.1 o z (passes s.is_written (is_element a) w (moved is_element false a (types.ArrayOf _ _) y.1.4 refl)))
+    written_stands s g (tree.Unary (unary.Split fs) t) (One a n) y h o z w = (tt, written_stands _ g t n y.0 h.1 o z (passes s.is_written (is_element a) w (moved is_element false a (types.ArrayOf _ _) y.1.4 refl)))
+    written_stands s g (tree.Unary (unary.Slide j l) t) (One a n) y h o z w = refused s.is_written (is_element a) (h.0 N10) w (moved is_element false a (types.ArrayOf _ _) y.1.6 refl)
+    written_stands s g (tree.Unary (unary.Pad j l) t) (One a n) y h o z w = refused s.is_written (is_element a) (h.0 N10) w (moved is_element false a (types.ArrayOf _ _) y.1.3 refl)
+    written_stands s g (tree.Binary (binary.Operator q) t u) (Two a n m) y h o z w = tt
+    written_stands s g (tree.Binary binary.Pair t u) (Two a n m) y h o z w = tt
+    written_stands s g (tree.Select t u x) (Three a n m l) y h o z w = tt
+    written_stands s g (tree.Let v b) (Two a n m) y h o z w =
+        let_written v b a n m
+        (λ e. written_stands _ (type_in n ∷ g) b m y.1 h.2 (body_staged v b a n m o e) (and_right (is_task v) (is_task b) z) (passes s.is_written (is_element a) w (from_ir false a e)))
+        (λ e i. argument_stands _ g v n y.0 h.1 (value_staged v b a n m o e i) (and_left (is_task v) (is_task b) z))
+    written_stands s g (tree.Map map_kind.Plain xs b) (Two a n m) y h o z w =
+        (argument_stands _ g xs n y.2 h.1 o.0 (and_left (is_task xs) (is_task b) z), written_stands _ (y.0 ∷ g) b m y.4 h.2 o.1 (and_right (is_task xs) (is_task b) z) refl)
+    written_stands s g (tree.Map map_kind.Sequential xs b) (Two a n m) y h o z w =
+        (argument_stands _ g xs n y.2 h.1 o.0 (and_left (is_task xs) (is_task b) z), written_stands _ (y.0 ∷ g) b m y.4 h.2 o.1 (and_right (is_task xs) (is_task b) z) refl)
+    written_stands s g (tree.Map map_kind.Global xs b) (Two a n m) y h o z w = absurd (cc)
+    written_stands s g (tree.Map map_kind.WorkGroup xs b) (Two a n m) y h o z w = absurd (cc)
+    written_stands s g (tree.Map map_kind.Local xs b) (Two a n m) y h o z w = absurd (cc)
+    written_stands s g (tree.Fold j xs x b) (Three a n m l) y h o z w = argument_stands _ g xs n y.2 h.1 o.0 (and_left (is_task xs) (is_task x) (and_left (is_task xs && is_task x) (is_task b) z))
+    written_stands s g _ _ y h o z w = absurd o

@@ -1,0 +1,229 @@
+-- Legal terms can be printed.
+use Rattle.std.proofs.Common.{◌≡◌, ℕ, ◌/◌, ◌<◌, ◌^◌, Bool, true, false, List, [], ◌∷◌, ◌++◌, Option, Some, None, refl, sym, subst, inl, inr, arith, map}
+use Rattle.std.specs.Prelude.{◌&&◌, if◌then◌else◌}
+use Rattle.std.proofs.Math.Nat.{mul-div-le, mod-eq-sub-mul-div}
+use Rattle.size_arith.specs.declared.names.Name.{Name}
+use Rattle.size_arith.specs.Ranges.{AreNames, IsName, IsAdmissible, Admissible, leasts}
+use Rattle.lift_tree.specs.declared.term.UnaryForm.{UnaryForm}
+use Rattle.lift_tree.specs.declared.term.UnaryForm.TheVariants as unary
+use Rattle.lift_tree.specs.declared.term.MapKind.TheVariants as map_kind
+use Rattle.lift_tree.specs.Tree as tree
+use Rattle.lift_tree.specs.Tree.{Tree}
+use Rattle.lift_tree.specs.Types as types
+use Rattle.lift_tree.specs.Types.{PlainTy, is_array, IsInput, IsOutput}
+use Rattle.lift_tree.specs.Lists.{Every}
+use Rattle.lift_tree.specs.InputTypes as input_type
+use Rattle.lift_tree.specs.InputTypes.{Written}
+use Rattle.lift_tree.specs.Limits.{InputFits, HasFewScalars}
+use Rattle.lift_tree.specs.Programs.{PlainInput, PlainProgram}
+use Rattle.lift_tree.specs.WorkedOut.{worked_out, range_of}
+use Rattle.lift_tree.specs.Typing.{Declared, declared_by}
+use Rattle.lift_tree.specs.Annotations.{Annotation, Leaf, One, Two, Three, type_in, Annotates}
+use Rattle.kernel_tree.specs.Launch.{Launch}
+use Rattle.lift_ir.specs.Types.{IsFlat, IsShort, IsPlaced, size}
+use Rattle.lift_ir.specs.AtLaunch.{length_at, shape_of}
+use Rattle.lift_ir.specs.Lowering as ir
+use Rattle.lift_ir.specs.Lowerable.{IsStaged}
+use Rattle.lift_ir.proofs.Typed.{output_flat}
+use Rattle.lift_ir.proofs.Values.{shape_is}
+use Rattle.printed_form.specs.Programs.{IsLaunchOf, lowered_root, StandsAt}
+use Rattle.lowered_tree.specs.declared.around.Around.{Around}
+use Rattle.lowered_tree.specs.Around.{at_root}
+use Rattle.lowered_tree.specs.Elements.{is_element}
+use Rattle.lowered_tree.specs.Kinds.{is_parallel, is_task}
+use Rattle.lowered_tree.specs.Nest.{Site, sites, under, in_child}
+use Rattle.lowered_tree.specs.Printed.{is_unprinted_at, first_place}
+use Rattle.nest_premises.specs.Legal.{FormCopiesArrays, CopiesArrays, shows_global_map, IsLegalTerm}
+use Rattle.nest_premises.specs.Printable.{IsPrintable}
+use Rattle.nest_premises.specs.Laws.{TasksArePrintable, LaunchesArePrintable, AcceptedTermsArePrintable}
+use Rattle.nest_premises.proofs.Fits.{Fits, has_no_groups}
+use Rattle.nest_premises.proofs.Rules.{AllUnbroken, all_unbroken, front, behind, above, not_left, negated, denied}
+use Rattle.nest_premises.proofs.Staged.{written}
+use Rattle.nest_premises.proofs.Lowerable.{written_lowerable}
+use Rattle.nest_premises.proofs.Stands.{written_stands}
+use Rattle.nest_premises.proofs.Launches.{Over, two, three, without_groups, over_of, groupless, over_launch}
+use Rattle.nest_premises.proofs.Limited.{IsFew, few_all, short, small, fits_in}
+
+-- ---- each node is printed
+
+abbrev IsPrinted : Site → Type 0
+IsPrinted x = is_unprinted_at x ≡ false
+
+not_here : (b : Bool) (p : List ℕ) (o : Option (List ℕ)) → (if b then Some p else o) ≡ None → (b ≡ false) × (o ≡ None)
+not_here true p o e = absurd (cc)
+not_here false p o e = (refl, e)
+
+all_printed : (xs : List Site) → first_place xs ≡ None → Every IsPrinted xs
+all_printed [] e = tt
+all_printed (x ∷ xs) e = let r = not_here (is_unprinted_at x) x.place (first_place xs) e in (r.0, all_printed xs r.1)
+
+unmoved : (i : ℕ) (x : Site) → IsPrinted (in_child i x) → IsPrinted x
+unmoved i x h = h
+
+ones : (xs : List Site) → Every IsPrinted (under 0 xs) → Every IsPrinted xs
+ones xs h = above IsPrinted unmoved 0 xs h
+
+twos : (xs ys : List Site) → Every IsPrinted (under 0 xs ++ under 1 ys) → Every IsPrinted xs × Every IsPrinted ys
+twos xs ys h = (ones xs (front IsPrinted (under 0 xs) (under 1 ys) h), above IsPrinted unmoved 1 ys (behind IsPrinted (under 0 xs) (under 1 ys) h))
+
+threes : (xs ys zs : List Site) → Every IsPrinted (under 0 xs ++ (under 1 ys ++ under 2 zs)) → Every IsPrinted xs × Every IsPrinted ys × Every IsPrinted zs
+threes xs ys zs h =
+    let r = behind IsPrinted (under 0 xs) (under 1 ys ++ under 2 zs) h in
+    (ones xs (front IsPrinted (under 0 xs) (under 1 ys ++ under 2 zs) h), above IsPrinted unmoved 1 ys (front IsPrinted (under 1 ys) (under 2 zs) r), above IsPrinted unmoved 2 zs (behind IsPrinted (under 1 ys) (under 2 zs) r))
+
+form_copies : (s : Around) (f : UnaryForm) (t : Tree) (a : PlainTy) (n : Annotation) → IsPrinted (record { place = []; around = s; tree = tree.Unary f t; types = One a n }) → FormCopiesArrays f a
+form_copies s (unary.Div j) t a n h = tt
+form_copies s (unary.Rem j) t a n h = tt
+form_copies s unary.First t a n h = tt
+form_copies s unary.Second t a n h = tt
+form_copies s unary.Join t a n h = tt
+form_copies s unary.Transpose t a n h = tt
+form_copies s (unary.Split fs) t a n h = tt
+form_copies s (unary.Slide j l) t a n h = tt
+form_copies s (unary.Pad j l) t a n h = tt
+form_copies s unary.ToLocal t a n h = negated (is_array a) h
+form_copies s unary.ToPrivate t a n h = negated (is_array a) h
+
+module _ (d : Declared) where
+  printed_in : (s : Around) (g : List PlainTy) (t : Tree) (n : Annotation) → Annotates d g t n → Every IsPrinted (sites s t n) → CopiesArrays t n × (is_task t ≡ true)
+  printed_in s g (tree.Variable v) (Leaf a) y h = (tt, refl)
+  printed_in s g (tree.Number v) (Leaf a) y h = (tt, refl)
+  printed_in s g (tree.Input v) (Leaf a) y h = (tt, refl)
+  printed_in s g (tree.Unary f t) (One a n) y h = let r = printed_in _ g t n y.0 (ones (sites _ t n) h.1) in ((form_copies s f t a n h.0, r.0), r.1)
+  printed_in s g (tree.Binary f t u) (Two a n m) y h =
+      let o = twos (sites _ t n) (sites _ u m) h.1 in
+      let r = printed_in _ g t n y.0 o.0 in
+      let q = printed_in _ g u m y.1 o.1 in
+      ((r.0, q.0), two _ _ r.1 q.1)
+  printed_in s g (tree.Select t u x) (Three a n m l) y h =
+      let o = threes (sites _ t n) (sites _ u m) (sites _ x l) h.1 in
+      let r = printed_in _ g t n y.0 o.0 in
+      let q = printed_in _ g u m y.1 o.1 in
+      let p = printed_in _ g x l y.2 o.2 in
+      ((r.0, q.0, p.0), three _ _ _ r.1 q.1 p.1)
+  printed_in s g (tree.Let v b) (Two a n m) y h =
+      let o = twos (sites _ v n) (sites _ b m) h.1 in
+      let r = printed_in _ g v n y.0 o.0 in
+      let q = printed_in _ (type_in n ∷ g) b m y.1 o.1 in
+      ((r.0, q.0), two _ _ r.1 q.1)
+  printed_in s g (tree.Map j xs b) (Two a n m) y h =
+      let o = twos (sites _ xs n) (sites _ b m) h.1 in
+      let r = printed_in _ g xs n y.2 o.0 in
+      let q = printed_in _ (y.0 ∷ g) b m y.4 o.1 in
+      ((r.0, q.0), three _ _ _ (denied (is_parallel j) (not_left (is_parallel j) false h.0)) r.1 q.1)
+  printed_in s g (tree.Fold j xs x b) (Three a n m l) y h =
+      let o = threes (sites _ xs n) (sites _ x m) (sites _ b l) h.1 in
+      let r = printed_in _ g xs n y.2 o.0 in
+      let q = printed_in _ g x m y.4 o.1 in
+      let p = printed_in _ (y.0 ∷ type_in m ∷ g) b l y.6 o.2 in
+      ((r.0, q.0, p.0), three _ _ _ r.1 q.1 p.1)
+  printed_in s g _ _ y h = absurd y
+
+-- ---- the least sizes are admissible
+
+least_admissible : (n : Name) → IsName n → IsAdmissible n (n.from / n.multiple)
+least_admissible n h =
+    let a = mod-eq-sub-mul-div n.from n.multiple in
+    let b = mul-div-le n.from n.multiple in
+    let c = h.from_divides in
+    let o = h.ordered in
+    (omega (arith, a, b, c), omega (arith, b, o))
+
+leasts_admissible : (names : List Name) → AreNames names → Admissible names (leasts names)
+leasts_admissible [] h = tt
+leasts_admissible (n ∷ names) h = (least_admissible n h.0, leasts_admissible names h.1)
+
+-- ---- inputs
+
+few_scalars : (names : List Name) (ty : Written) → InputFits names ty → HasFewScalars names (worked_out names ty)
+few_scalars names input_type.Number h = tt
+few_scalars names (input_type.Pair a b) h = (few_scalars names a h.0, few_scalars names b h.1)
+few_scalars names (input_type.Array a parts) h = h.2.scalars
+
+all_few : (names : List Name) (is : List PlainInput) → Every (λ (i : PlainInput). InputFits names i.ty) is → Every (HasFewScalars names) (map (λ (i : PlainInput). worked_out names i.ty) is)
+all_few names [] h = tt
+all_few names (i ∷ is) h = (few_scalars names i.ty h.0, all_few names is h.1)
+
+-- ---- a legal term
+
+no_element : (a : PlainTy) → IsOutput a → is_element a ≡ false
+no_element types.U32 h = absurd h
+no_element (types.PairOf a b) h = absurd h
+no_element (types.ArrayOf a n) h = refl
+
+behind_false : (x y : Bool) → y ≡ false → (x && y) ≡ false
+behind_false true y h = h
+behind_false false y h = refl
+
+-- a map over all items is parallel
+over_no_task : (t : Tree) (n : Annotation) → Over t n → is_task t ≡ false
+over_no_task (tree.Unary unary.Join t) (One a n) e = over_no_task t n e
+over_no_task (tree.Unary unary.Transpose t) (One a n) e = over_no_task t n e
+over_no_task (tree.Unary (unary.Split fs) t) (One a n) e = over_no_task t n e
+over_no_task (tree.Let v b) (Two a n m) e = behind_false (is_task v) (is_task b) (over_no_task b m e)
+over_no_task (tree.Map map_kind.Global xs b) (Two a n m) e = refl
+over_no_task _ _ e = absurd e
+
+module _ (p : PlainProgram) (t : Tree) (n : Annotation) (r : IsLegalTerm p t n) (copies : CopiesArrays t n) where
+  abbrev d : Declared
+  d = declared_by p
+
+  unbroken : AllUnbroken (at_root t) t n
+  unbroken = all_unbroken (at_root t) t n r.legal
+
+  scalars : Every (HasFewScalars d.names) d.inputs
+  scalars = all_few (map range_of p.sizes) p.inputs r.within.inputs
+
+  limited : (bases : List ℕ) (ok : Admissible d.names bases) → Fits bases t n × IsFew d r.declared scalars bases ok (type_in n)
+  limited bases ok = fits_in d r.declared scalars bases ok [] t n tt tt r.nodes r.within.nodes r.steps
+
+  -- at the least sizes, and so at all
+  staged : has_no_groups t ≡ true → IsStaged ir.Written t n
+  staged z =
+      written d r.declared.arrays (leasts d.names) (is_element (type_in n)) (at_root t) [] t n r.nodes unbroken copies (limited (leasts d.names) (leasts_admissible d.names r.declared.names)).0 refl z refl refl
+
+  placed : (bases : List ℕ) (ok : Admissible d.names bases) (a : PlainTy) → IsOutput a → IsFew d r.declared scalars bases ok a → IsPlaced (length_at bases) (shape_of a)
+  placed bases ok a o h =
+      let e = sym (shape_is bases a) in
+      record {
+        flat = subst IsFlat e (output_flat bases a o);
+        short = subst IsShort e (short d r.declared scalars bases ok a h);
+        small = subst (λ z. size z < 2 ^ 31) e (small d r.declared scalars bases ok a h);
+      }
+
+  all_placed : (bases : List ℕ) (ok : Admissible d.names bases) (tys : List PlainTy) → Every IsInput tys → Every (IsFew d r.declared scalars bases ok) tys → Every (λ b. IsPlaced (length_at bases) (shape_of b)) tys
+  all_placed bases ok [] o h = tt
+  all_placed bases ok (a ∷ tys) o h = (placed bases ok a o.0 h.0, all_placed bases ok tys o.1 h.1)
+
+  -- what is staged can be printed, where its lowered term has the forms of their places
+  printable : IsStaged ir.Written t n → ((bases : List ℕ) (l : Launch) → IsLaunchOf d (is_task t) bases l → StandsAt l (lowered_root t n)) → IsPrintable d t n
+  printable o stands =
+      record {
+        staged = o;
+        lowerable = λ bases ok. record { declared = r.declared; nodes = r.nodes; output = r.output; lowerable = written_lowerable d bases (at_root t) [] t n r.nodes unbroken (limited bases ok).0 o refl };
+        fits = λ bases ok. (placed bases ok (type_in n) r.output (limited bases ok).1, all_placed bases ok d.inputs r.declared.arrays (few_all d r.declared scalars bases ok d.inputs r.declared.inputs scalars));
+        stands = stands;
+      }
+
+  task : is_task t ≡ true → IsPrintable d t n
+  task z =
+      let o = staged (without_groups t z) in
+      printable o (λ bases l k. inl (k.admissible.alone z, written_stands d (at_root t) [] t n r.nodes unbroken o z refl))
+
+  launch : shows_global_map t ≡ true → IsPrintable d t n
+  launch e =
+      let over = over_of d [] t n r.nodes e in
+      let z = over_no_task t n over in
+      let o = staged (groupless d (at_root t) [] t n r.nodes unbroken z refl over) in
+      printable o (λ bases l k. inr (over_launch d (at_root t) [] t n r.nodes unbroken o z refl (no_element (type_in n) r.output) over))
+
+pub tasks_are_printable : TasksArePrintable
+tasks_are_printable p t n r copies z = task p t n r copies z
+
+pub launches_are_printable : LaunchesArePrintable
+launches_are_printable p t n r copies e = launch p t n r copies e
+
+pub accepted_terms_are_printable : AcceptedTermsArePrintable
+accepted_terms_are_printable p t n r e =
+    let h = printed_in (declared_by p) (at_root t) [] t n r.nodes (all_printed (sites (at_root t) t n) e) in
+    task p t n r h.0 h.1

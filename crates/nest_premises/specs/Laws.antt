@@ -1,0 +1,22 @@
+-- Legal terms can be printed.
+use Rattle.std.specs.Prelude.{◌≡◌, true, None}
+use Rattle.lift_tree.specs.Tree.{Tree}
+use Rattle.lift_tree.specs.Typing.{declared_by}
+use Rattle.lift_tree.specs.Programs.{PlainProgram}
+use Rattle.lift_tree.specs.Annotations.{Annotation}
+use Rattle.lowered_tree.specs.Kinds.{is_task}
+use Rattle.lowered_tree.specs.Printed.{first_unprinted}
+use Rattle.nest_premises.specs.Legal.{CopiesArrays, IsLegalTerm, shows_global_map}
+use Rattle.nest_premises.specs.Printable.{IsPrintable}
+
+-- a legal term without parallel maps
+abbrev pub TasksArePrintable : Type 0
+TasksArePrintable = (p : PlainProgram) (t : Tree) (n : Annotation) → IsLegalTerm p t n → CopiesArrays t n → is_task t ≡ true → IsPrintable (declared_by p) t n
+
+-- a legal term with a map over all work-items on top
+abbrev pub LaunchesArePrintable : Type 0
+LaunchesArePrintable = (p : PlainProgram) (t : Tree) (n : Annotation) → IsLegalTerm p t n → CopiesArrays t n → shows_global_map t ≡ true → IsPrintable (declared_by p) t n
+
+-- a legal term each node of which is printed so far
+abbrev pub AcceptedTermsArePrintable : Type 0
+AcceptedTermsArePrintable = (p : PlainProgram) (t : Tree) (n : Annotation) → IsLegalTerm p t n → first_unprinted t n ≡ None → IsPrintable (declared_by p) t n

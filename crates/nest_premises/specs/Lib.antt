@@ -1,0 +1,3 @@
+pub mod Legal
+pub mod Printable
+pub mod Laws

@@ -1,0 +1,18 @@
+-- What the printer asks of a typed term.
+use Rattle.std.specs.Prelude.{ℕ, List}
+use Rattle.size_arith.specs.Ranges.{Admissible}
+use Rattle.lift_tree.specs.Tree.{Tree}
+use Rattle.lift_tree.specs.Typing.{Declared}
+use Rattle.lift_tree.specs.Annotations.{Annotation}
+use Rattle.kernel_tree.specs.Launch.{Launch}
+use Rattle.lift_ir.specs.Lowering.{Written}
+use Rattle.lift_ir.specs.Lowerable.{IsStaged}
+use Rattle.lowered_tree.specs.Kinds.{is_task}
+use Rattle.printed_form.specs.Programs.{FitsBuffers, IsLaunchOf, IsLowerableProgram, lowered_root, StandsAt}
+
+-- it can be lowered, and what it is lowered to can be printed, at every admissible launch
+pub record IsPrintable (d : Declared) (t : Tree) (n : Annotation) : Type 0 where
+  pub staged : IsStaged Written t n
+  pub lowerable : (bases : List ℕ) → Admissible d.names bases → IsLowerableProgram d bases t n
+  pub fits : (bases : List ℕ) → Admissible d.names bases → FitsBuffers d bases n
+  pub stands : (bases : List ℕ) (l : Launch) → IsLaunchOf d (is_task t) bases l → StandsAt l (lowered_root t n)

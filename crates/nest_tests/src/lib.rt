@@ -1,0 +1,9 @@
+//! Tests of nests: programs and scripts as texts, and whether the last term is legal, printed so far and within its limits, and which memory it takes.
+#![tactic(auto)]
+
+#[cfg(test)]
+mod buffers;
+#[cfg(test)]
+mod lowering;
+#[cfg(test)]
+mod nests;
