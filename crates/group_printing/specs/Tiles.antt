@@ -190,3 +190,15 @@ AlignedTilesKeep = Needed (tile_touches false) 2 no_barriers
 abbrev pub ExchangedTilesKeep : Type 0
 ExchangedTilesKeep = Needed (tile_touches true) 2 two_barriers
     × ((l : Launch) (tiles : ℕ) (xs out : List ℕ) (rest : ℕ) → AreTiles l tiles xs out → EveryRunKeeps (tile_kernel true two_barriers) l (tile_cells xs out rest) (tile_owner l) (added true xs ∷ []))
+
+-- two groups of two items, and 1, 2, 3 and 4
+abbrev pub two_groups : Launch
+two_groups = record { global = 4; local = 2; sizes = 4 ∷ [] }
+
+-- whatever the outputs and other memory hold, every run without barriers leaves 2, 3, 4 and 5
+abbrev pub FourKeep : Type 0
+FourKeep = (a b c d rest : ℕ) → EveryRunKeeps (tile_kernel false no_barriers) two_groups (tile_cells (1 ∷ 2 ∷ 3 ∷ 4 ∷ []) (a ∷ b ∷ c ∷ d ∷ []) rest) (tile_owner two_groups) ((2 ∷ 3 ∷ 4 ∷ 5 ∷ []) ∷ [])
+
+-- and every run with two barriers, where each item reads its neighbour's number, 3, 2, 5 and 4
+abbrev pub FourExchangedKeep : Type 0
+FourExchangedKeep = (a b c d rest : ℕ) → EveryRunKeeps (tile_kernel true two_barriers) two_groups (tile_cells (1 ∷ 2 ∷ 3 ∷ 4 ∷ []) (a ∷ b ∷ c ∷ d ∷ []) rest) (tile_owner two_groups) ((3 ∷ 2 ∷ 5 ∷ 4 ∷ []) ∷ [])

@@ -10,7 +10,7 @@ ghost use Rattle.barrier_placement.specs.Separates.{Separates};
 ghost use Rattle.printed_form.specs.Headline.{EveryRunKeeps};
 ghost use Rattle.group_phases.specs.Outcome.{SomeRunLeaves};
 ghost use Rattle.group_printing.specs.Printed.{PhasesKeep, PhasesServe, NeededBarriersKeep};
-ghost use Rattle.group_printing.specs.Tiles.{tile_touches, open_end, wrong_flag, TilesKeep, TilesServe, AlignedTilesKeep, ExchangedTilesKeep};
+ghost use Rattle.group_printing.specs.Tiles.{tile_touches, open_end, wrong_flag, TilesKeep, TilesServe, AlignedTilesKeep, ExchangedTilesKeep, FourKeep, FourExchangedKeep};
 
 /// The headline from one run of each start, put together of items alone in turn and releases: where each output cell is its owner's at all times, and is written and left as is wanted, every run keeps the headline.
 pub fn one_run_keeps()
@@ -32,6 +32,8 @@ pub fn tiles_keep()
     ensures serve { TilesServe }
     ensures aligned { AlignedTilesKeep }
     ensures exchanged { ExchangedTilesKeep }
+    ensures four { FourKeep }
+    ensures four_exchanged { FourExchangedKeep }
     ensures open_end { Separates (tile_touches true) Local 2 open_end → ⊥ }
     ensures wrong_flag { Separates (tile_touches true) Local 2 wrong_flag → ⊥ }
 {}

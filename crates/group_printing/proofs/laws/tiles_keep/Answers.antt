@@ -1,4 +1,4 @@
-use Rattle.group_printing.proofs.TileRuns.{tiles_keep, tiles_serve, aligned_keep, exchanged_keep}
+use Rattle.group_printing.proofs.TileRuns.{tiles_keep, tiles_serve, aligned_keep, exchanged_keep, four_keep, four_exchanged_keep}
 use Rattle.group_printing.proofs.TileBarriers.{open_end_fails, wrong_flag_fails}
 use Rattle.group_printing.proofs.laws.tiles_keep.Goals as goal
 
@@ -13,6 +13,12 @@ returns-clause-aligned c = aligned_keep
 
 pub returns-clause-exchanged : goal.returns-clause-exchanged
 returns-clause-exchanged c = exchanged_keep
+
+pub returns-clause-four : goal.returns-clause-four
+returns-clause-four c = four_keep
+
+pub returns-clause-four_exchanged : goal.returns-clause-four_exchanged
+returns-clause-four_exchanged c = four_exchanged_keep
 
 pub returns-clause-open_end : goal.returns-clause-open_end
 returns-clause-open_end c = open_end_fails
