@@ -1,0 +1,5 @@
+use Rattle.std.proofs.Common.{refl}
+use Rattle.group_terms.proofs.laws.trial.Goals as goal
+
+pub returns : goal.returns
+returns c = λ n t s f. refl

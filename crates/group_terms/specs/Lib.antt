@@ -1,0 +1,5 @@
+pub mod Named
+pub mod Origins
+pub mod Forms
+pub mod Uses
+pub mod Stages
