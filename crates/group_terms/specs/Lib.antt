@@ -3,3 +3,4 @@ pub mod Origins
 pub mod Forms
 pub mod Uses
 pub mod Stages
+pub mod Body

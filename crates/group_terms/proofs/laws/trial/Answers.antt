@@ -1,4 +1,6 @@
 use Rattle.std.proofs.Common.{refl}
+use Rattle.group_terms.proofs.Named.{body_typed, element_loads}
+use Rattle.group_terms.specs.Body.{phase_list}
 use Rattle.group_terms.proofs.laws.trial.Goals as goal
 
 pub returns : goal.returns
