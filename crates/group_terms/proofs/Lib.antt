@@ -1,2 +1,4 @@
 pub mod Lists
 pub mod Named
+pub mod Seen
+pub mod Sight

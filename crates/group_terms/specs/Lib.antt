@@ -4,3 +4,4 @@ pub mod Forms
 pub mod Uses
 pub mod Stages
 pub mod Body
+pub mod Whole

@@ -1,5 +1,5 @@
 use Rattle.std.proofs.Common.{refl}
-use Rattle.group_terms.proofs.Named.{body_typed, element_loads}
+use Rattle.group_terms.proofs.Sight.{sees, works}
 use Rattle.group_terms.specs.Body.{phase_list}
 use Rattle.group_terms.proofs.laws.trial.Goals as goal
 
