@@ -116,6 +116,6 @@ module _ {A : Type 0} (num : A → ℕ) (ins : ℕ → Marks) (src : ℕ → Ty)
         let two = written_chain b (bind s v h.0) ty h.2 d outer path direct f.1 (subst (λ z. FirstIs z d) sum first) in
         join_chains s.locals (s.locals + local_count v) (next (s.locals + (local_count v + local_count b)) d) (argument_stages s v h.0 h.1) (written_stages (bind s v h.0) b ty h.2 d outer path direct) one.0 one.1 two.0 (two.1 ∙ ap (λ z. next z d) (sym sum))
     written_chain (Map Local n loads xs b) s ty h d outer path direct f first =
-        let one = argument_chain xs s (ArrayOf (num n) h.0) h.4 f in
+        let one = argument_chain xs s (ArrayOf (num n) h.0) h.4 f.0 in
         join_chains s.locals (s.locals + local_count xs) (next (s.locals + local_count xs) d) (argument_stages s xs (ArrayOf (num n) h.0) h.4) (stages.stage_of num ins src sources s (num n) loads xs b h.0 h.1 d outer path direct ∷ []) one.0 one.1 (refl, first, tt) refl
     written_chain _ s ty h d outer path direct f first = absurd (assumption)

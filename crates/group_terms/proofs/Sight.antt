@@ -65,7 +65,7 @@ module _ {A : Type 0} (num : A → ℕ) (long : Array → ℕ) (items : ℕ) (fe
   written_stages = stages.written_stages num b.ins b.src b.sources
 
   abbrev marks_of : ((turn var : ℕ) → Marks) → ℕ → Term A → (turn : ℕ) → Marks
-  marks_of = stages.marks_of num b.ins b.src b.sources
+  marks_of = stages.marks_of num b.ins
 
   abbrev bind : Scope → Term A → Ty → Scope
   bind = stages.bind num b.ins b.src b.sources
@@ -258,7 +258,7 @@ module _ {A : Type 0} (num : A → ℕ) (long : Array → ℕ) (items : ℕ) (fe
         let ss = argument_stages s xs (ArrayOf (num n) h.0) h.4 in
         let t = stages.stage_of num b.ins b.src b.sources s (num n) loads xs body h.0 h.1 d outer path direct in
         let r = q + length ss in
-        let one = sees xs s (ArrayOf (num n) h.0) h.4 q f scoped (each_left (λ r t. stage_at b.stages r ≡ t) q ss (t ∷ []) is) private.0 local (omega arith) low in
+        let one = sees xs s (ArrayOf (num n) h.0) h.4 q f.0 scoped (each_left (λ r t. stage_at b.stages r ≡ t) q ss (t ∷ []) is) private.0 local (omega arith) low in
         let sum = long_append ss (t ∷ []) in
         let here : stage_at b.stages r ≡ t = (each_right (λ r t. stage_at b.stages r ≡ t) q ss (t ∷ []) is).0 in
         let this = this_stage q r n s loads xs body h.0 h.1 d outer path direct h.2 h.3 h.5 (omega arith) scoped one.1 (subst (λ z. IsAimed (destination_type b.result d) z outer path direct) h.6 aimed) fit (λ e. let z = ends e in omega arith) private.1 room low in

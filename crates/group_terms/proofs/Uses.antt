@@ -165,5 +165,5 @@ module _ {A : Type 0} (num : A → ℕ) (ins : ℕ → Marks) (src : ℕ → Ty)
         both (argument_stages s v h.0 h.1) (written_stages (bind s v h.0) b ty h.2 d outer path direct) (argument_uses s.origins s.locals v) (written_uses (bind s v h.0).origins (s.locals + local_count v) b d direct) (argument_uses_are v s h.0 h.1 f.0) (written_uses_are b (bind s v h.0) ty h.2 d outer path direct f.1)
     written_uses_are (Map Local n loads xs b) s ty h d outer path direct f =
         let t = stages.stage_of num ins src sources s (num n) loads xs b h.0 h.1 d outer path direct in
-        both (argument_stages s xs (ArrayOf (num n) h.0) h.4) (t ∷ []) (argument_uses s.origins s.locals xs) (uses_in t ∷ []) (argument_uses_are xs s (ArrayOf (num n) h.0) h.4 f) refl
+        both (argument_stages s xs (ArrayOf (num n) h.0) h.4) (t ∷ []) (argument_uses s.origins s.locals xs) (uses_in t ∷ []) (argument_uses_are xs s (ArrayOf (num n) h.0) h.4 f.0) refl
     written_uses_are _ s ty h d outer path direct f = absurd (assumption)

@@ -1,13 +1,14 @@
 -- Which terms can stand in a map over work-groups.
 use Rattle.std.specs.Prelude.{Bool, true, false}
 use Rattle.lift_ir.specs.Layouts.{IsInvertible}
+use Rattle.lift_ir.specs.Forms.{Stands}
 use Rattle.lift_ir.specs.Terms.{WorkGroup, Local, LocalMemory, Term, Bound, Source, Both, Project, Reshape, LetArray, Map, Copy}
 
 -- for the items of a group together, outside local maps: a local map seen through layouts and lets (true), or an argument (false), whose copies to local memory are such
 abbrev pub StandsInGroup : {A : Type 0} → (written : Bool) → Term A → Type 0
 StandsInGroup true (Reshape y t) = IsInvertible y × StandsInGroup true t
 StandsInGroup true (LetArray v b) = StandsInGroup false v × StandsInGroup true b
-StandsInGroup true (Map Local n loads xs b) = StandsInGroup false xs
+StandsInGroup true (Map Local n loads xs b) = StandsInGroup false xs × Stands true b
 StandsInGroup true _ = ⊥
 StandsInGroup false (Bound v) = Unit {0}
 StandsInGroup false (Source a) = Unit {0}

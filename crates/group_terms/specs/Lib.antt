@@ -4,4 +4,5 @@ pub mod Forms
 pub mod Uses
 pub mod Stages
 pub mod Body
+pub mod Form
 pub mod Whole

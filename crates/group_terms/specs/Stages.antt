@@ -40,7 +40,7 @@ pub record Scope : Type 0 where
 abbrev pub later : {A : Type 0} → Scope → Term A → Scope
 later s t = record { env = s.env; sems = s.sems; types = s.types; origins = s.origins; variables = s.variables + variable_count t; privates = s.privates + private_count t; locals = s.locals + local_count t }
 
-module _ {A : Type 0} (num : A → ℕ) (ins : ℕ → Marks) (src : ℕ → Ty) (sources : ℕ → Scalars) where
+module _ {A : Type 0} (num : A → ℕ) (ins : ℕ → Marks) where
   -- what stands for an argument at a turn, whose first local array is this
   abbrev pub marks_of : ((turn var : ℕ) → Marks) → ℕ → Term A → (turn : ℕ) → Marks
   marks_of env k (Bound v) i = env i v
@@ -52,10 +52,11 @@ module _ {A : Type 0} (num : A → ℕ) (ins : ℕ → Marks) (src : ℕ → Ty)
   marks_of env k (Copy space ty a) i = laid_in LocalArray (k + local_count a) ty
   marks_of env k _ i = λ cs q. Nowhere
 
+module _ {A : Type 0} (num : A → ℕ) (ins : ℕ → Marks) (src : ℕ → Ty) (sources : ℕ → Scalars) where
   -- in the body of a let
   abbrev pub bind : Scope → Term A → Ty → Scope
   bind s v u = record {
-    env = λ i. push (marks_of s.env s.locals v i) (s.env i);
+    env = λ i. push (marks_of num ins s.env s.locals v i) (s.env i);
     sems = λ i. push (scalars_of num sources (s.sems i) v) (s.sems i);
     types = push u s.types;
     origins = push (origin_of s.origins s.locals v) s.origins;
@@ -80,7 +81,7 @@ module _ {A : Type 0} (num : A → ℕ) (ins : ℕ → Marks) (src : ℕ → Ty)
     };
     env = s.env;
     sems = s.sems;
-    marks = marks_of s.env s.locals xs;
+    marks = marks_of num ins s.env s.locals xs;
     scalars = λ i. scalars_of num sources (s.sems i) xs;
     destination = d;
     outer = outer;

@@ -86,8 +86,21 @@ group_uses (LetArray v b) = group_uses b
 group_uses (Map k n loads xs b) = body_uses b
 group_uses _ = []
 
+-- how many local maps a term outside local maps has: each is a phase
+abbrev pub phases_in : {A : Type 0} → Term A → ℕ
+phases_in (Both zips a b) = phases_in a + phases_in b
+phases_in (Project s a) = phases_in a
+phases_in (Reshape l a) = phases_in a
+phases_in (LetArray v b) = phases_in v + phases_in b
+phases_in (Map kind n loads xs b) = phases_in xs + 1
+phases_in (Copy space ty a) = phases_in a
+phases_in _ = 0
+
 abbrev pub phase_count : {A : Type 0} → Term A → ℕ
-phase_count t = length (group_uses t)
+phase_count (Reshape l t) = phase_count t
+phase_count (LetArray v b) = phase_count b
+phase_count (Map kind n loads xs b) = phases_in b
+phase_count _ = 0
 
 abbrev pub group_touches : {A : Type 0} → Term A → List Touch
 group_touches t = numbered 0 (group_uses t)

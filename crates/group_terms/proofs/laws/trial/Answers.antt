@@ -1,5 +1,6 @@
 use Rattle.std.proofs.Common.{refl}
 use Rattle.group_terms.proofs.Sight.{sees, works}
+use Rattle.group_terms.specs.Form.{IsOverGroups}
 use Rattle.group_terms.proofs.Phased.{phased}
 use Rattle.group_terms.proofs.Counters.{written_chain}
 use Rattle.group_terms.proofs.Uses.{written_uses_are, all_local}
