@@ -5,3 +5,5 @@ pub mod Sight
 pub mod Counters
 pub mod Uses
 pub mod Phased
+pub mod Form
+pub mod Copies

@@ -1,5 +1,7 @@
 use Rattle.std.proofs.Common.{refl}
 use Rattle.group_terms.proofs.Sight.{sees, works}
+use Rattle.group_terms.proofs.Form.{are_phases}
+use Rattle.group_terms.proofs.Copies.{declares_locals}
 use Rattle.group_terms.specs.Form.{IsOverGroups}
 use Rattle.group_terms.proofs.Phased.{phased}
 use Rattle.group_terms.proofs.Counters.{written_chain}
