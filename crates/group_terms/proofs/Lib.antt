@@ -7,3 +7,6 @@ pub mod Uses
 pub mod Phased
 pub mod Form
 pub mod Copies
+pub mod Outputs
+pub mod Whole
+pub mod Theorem

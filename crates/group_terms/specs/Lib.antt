@@ -6,3 +6,4 @@ pub mod Stages
 pub mod Body
 pub mod Form
 pub mod Whole
+pub mod Theorem

@@ -1,12 +1,13 @@
 // Laws of maps over work-groups, each carried by a function that does nothing.
 
-ghost use Rattle.std.specs.Prelude.{◌≡◌, ℕ};
-ghost use Rattle.group_terms.specs.Uses.{phase_count};
-ghost use Rattle.group_terms.specs.Stages.{stage_at, Stage};
-ghost use Rattle.group_terms.specs.Forms.{StandsOverGroups};
-ghost use Rattle.lift_ir.specs.Terms.{Term, Literal};
+ghost use Rattle.size_arith.specs.declared.poly.Monomial.{Monomial};
+ghost use Rattle.std.specs.Prelude.{List};
+ghost use Rattle.group_terms.specs.Theorem.{NeededKeepApart, NeededGroupsKeep, SeparatedGroupsKeep, SeparatedGroupsServe};
 
-/// Trial.
-pub fn trial()
-    ensures { (n : ℕ) (t : Term ℕ) (s : Stage ℕ) → StandsOverGroups t → phase_count {A = ℕ} (Literal n) ≡ 0 }
+/// At every launch, on all inputs, every run of a kernel that is printed for a map over work-groups with the needed barriers keeps what it owes: the source value's lists, each cell by its owner. With any barriers that keep conflicting phases apart it leaves the term's scalars, and its barriers serve.
+pub fn printed_groups_keep()
+    ensures needed { NeededGroupsKeep (List Monomial) }
+    ensures separated { SeparatedGroupsKeep (List Monomial) }
+    ensures serve { SeparatedGroupsServe (List Monomial) }
+    ensures apart { NeededKeepApart (List Monomial) }
 {}
