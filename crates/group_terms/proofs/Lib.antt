@@ -10,3 +10,5 @@ pub mod Copies
 pub mod Outputs
 pub mod Whole
 pub mod Theorem
+pub mod Needed
+pub mod Worked

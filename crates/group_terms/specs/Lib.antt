@@ -7,3 +7,4 @@ pub mod Body
 pub mod Form
 pub mod Whole
 pub mod Theorem
+pub mod Worked

@@ -2,6 +2,7 @@
 
 ghost use Rattle.size_arith.specs.declared.poly.Monomial.{Monomial};
 ghost use Rattle.std.specs.Prelude.{List};
+ghost use Rattle.group_terms.specs.Worked.{AddedTilesKeep, SummedTilesKeep, SixKeep};
 ghost use Rattle.group_terms.specs.Theorem.{NeededKeepApart, NeededGroupsKeep, SeparatedGroupsKeep, SeparatedGroupsServe};
 
 /// At every launch, on all inputs, every run of a kernel that is printed for a map over work-groups with the needed barriers keeps what it owes: the source value's lists, each cell by its owner. With any barriers that keep conflicting phases apart it leaves the term's scalars, and its barriers serve.
@@ -10,4 +11,11 @@ pub fn printed_groups_keep()
     ensures separated { SeparatedGroupsKeep (List Monomial) }
     ensures serve { SeparatedGroupsServe (List Monomial) }
     ensures apart { NeededKeepApart (List Monomial) }
+{}
+
+/// Worked terms by way of local memory, at every launch: where each item reads what it copied, no barrier is needed; where it reads its neighbours', one is needed between the phases and one that closes the body.
+pub fn worked_groups_keep()
+    ensures added { AddedTilesKeep }
+    ensures summed { SummedTilesKeep }
+    ensures six { SixKeep }
 {}
