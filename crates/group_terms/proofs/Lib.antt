@@ -12,3 +12,4 @@ pub mod Whole
 pub mod Theorem
 pub mod Needed
 pub mod Worked
+pub mod Programs

@@ -7,4 +7,5 @@ pub mod Body
 pub mod Form
 pub mod Whole
 pub mod Theorem
+pub mod Programs
 pub mod Worked

@@ -3,6 +3,7 @@
 ghost use Rattle.size_arith.specs.declared.poly.Monomial.{Monomial};
 ghost use Rattle.std.specs.Prelude.{List};
 ghost use Rattle.group_terms.specs.Worked.{AddedTilesKeep, SummedTilesKeep, SixKeep};
+ghost use Rattle.group_terms.specs.Programs.{PrintedGroupProgramsKeep, PrintedGroupProgramsServe};
 ghost use Rattle.group_terms.specs.Theorem.{NeededKeepApart, NeededGroupsKeep, SeparatedGroupsKeep, SeparatedGroupsServe};
 
 /// At every launch, on all inputs, every run of a kernel that is printed for a map over work-groups with the needed barriers keeps what it owes: the source value's lists, each cell by its owner. With any barriers that keep conflicting phases apart it leaves the term's scalars, and its barriers serve.
@@ -11,6 +12,12 @@ pub fn printed_groups_keep()
     ensures separated { SeparatedGroupsKeep (List Monomial) }
     ensures serve { SeparatedGroupsServe (List Monomial) }
     ensures apart { NeededKeepApart (List Monomial) }
+{}
+
+/// At every admissible launch, on all inputs, every run of a kernel that is printed for a program's typed term, a map over work-groups, with the needed barriers keeps what the kernel owes: the source value's lists, each cell by its owner. And its barriers serve.
+pub fn printed_group_programs_keep()
+    ensures keep { PrintedGroupProgramsKeep }
+    ensures serve { PrintedGroupProgramsServe }
 {}
 
 /// Worked terms by way of local memory, at every launch: where each item reads what it copied, no barrier is needed; where it reads its neighbours', one is needed between the phases and one that closes the body.
