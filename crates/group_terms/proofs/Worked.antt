@@ -1,6 +1,6 @@
 -- Worked terms.
 use Rattle.std.proofs.Common.{◌≡◌, ℕ, zero, suc, ◌+◌, ◌-◌, ◌*◌, ◌/◌, ◌%◌, ◌<◌, ◌≤◌, ◌^◌, List, [], ◌∷◌, length, Some, None, Bool, true, false, refl, sym, ap, ◌∙◌, subst, inl, inr, arith}
-use Rattle.std.specs.Prelude.{slice_index, min, max, map}
+use Rattle.std.specs.Prelude.{slice_index, min, max, map, All}
 use Rattle.std.proofs.Math.Nat.{mod-eq_of_lt, le-max_right, max-le}
 use Rattle.std.proofs.lemmas.List.{length-map, get_or-map}
 use Rattle.scalar_ops.specs.declared.op.Op.TheVariants.{Add, Sub, Mul, Div, Min, Max}
@@ -19,13 +19,13 @@ use Rattle.printed_form.specs.Marks.{Mark, Spot}
 use Rattle.printed_form.specs.Headline.{EveryRunKeeps}
 use Rattle.printed_form.specs.Whole.{IsGiven, no_marks, output_marks}
 use Rattle.group_printing.specs.Tiles.{tile_index, copy_turn, add_turn, phase_code, tile_body, tile_kernel, tile_cells, AreTiles, added, tile_touches, no_barriers, two_barriers}
-use Rattle.group_printing.proofs.TileBarriers.{aligned_need, exchanged_need}
+use Rattle.group_printing.proofs.TileBarriers.{exchanged_need}
 use Rattle.group_terms.specs.Uses.{phase_count, group_touches}
 use Rattle.group_terms.specs.Form.{IsOverGroups}
 use Rattle.group_terms.specs.Theorem.{IsPrintedOverGroups}
 use Rattle.group_terms.specs.Worked as worked
-use Rattle.group_terms.specs.Worked.{itself, numbers, input_types, input_marks, input_scalars, first_index, fill, added_tile, added_tiles, AddedTilesKeep, summed_tile, padded_tiles, summed_tiles, tile_place, padded_place, in_window, sum_turn, sum_store, sum_loop, window_turn, windows, sums_body, sums_kernel, AreSums, SummedTilesKeep, SixKeep}
-use Rattle.group_terms.proofs.Needed.{needed_again}
+use Rattle.group_terms.specs.Worked.{itself, numbers, input_types, input_marks, input_scalars, use_of, added_tile, added_tiles, AddedTilesKeep, summed_tile, padded_tiles, summed_tiles, tile_place, padded_place, in_window, sum_turn, sum_store, sum_loop, window_turn, windows, sums_body, sums_kernel, AreSums, SummedTilesKeep, SixKeep, half_named_tiles, UnnamedCopiesAreUnused}
+use Rattle.group_terms.proofs.Needed.{needed_again, aligned_need_none}
 use Rattle.group_terms.proofs.Theorem.{needed_keep_apart, separated_groups_keep}
 
 none : {P : Type 0} → (cs : List Bool) (p : List ℕ) → IsPosition (ArrayOf 0 Scalar) cs p → P
@@ -118,7 +118,13 @@ module _ (l : Launch) (tiles : ℕ) (xs out : List ℕ) (rest : ℕ) (h : AreTil
   added_listed (suc a) i lt = absurd (omega arith)
 
 added_needed : (tiles : ℕ) → Needed (group_touches (added_tiles tiles)) (phase_count (added_tiles tiles)) no_barriers
-added_needed tiles = needed_again (fill 0 true true 0) (fill 0 false true 1) 2 no_barriers aligned_need
+added_needed tiles = aligned_need_none (group_touches (added_tiles tiles)) 2 all
+  where
+    all : All (λ x. x.aligned ≡ true) (group_touches (added_tiles tiles))
+    all zero d lt = refl
+    all (suc zero) d lt = refl
+    all (suc (suc zero)) d lt = refl
+    all (suc (suc (suc i))) d lt = absurd (omega arith)
 
 pub added_tiles_keep : AddedTilesKeep
 added_tiles_keep = record {
@@ -130,6 +136,16 @@ added_tiles_keep = record {
       separated_groups_keep ℕ itself l (input_types (tiles * 2)) (input_marks (tiles * 2)) (input_scalars xs) no_barriers (added_tiles tiles) (numbers (tiles * 2)) (tile_kernel false no_barriers) (tile_cells xs out rest) (added false xs ∷ []) p
       (needed_keep_apart ℕ (added_tiles tiles) no_barriers p.stands (added_needed tiles)) (ap (λ z. z ∷ []) (length-map xs (λ x. (x + 1) % 2 ^ 32) ∙ h.long ∙ sym h.out_long)) (added_listed l tiles xs out rest h);
 }
+
+pub unnamed_copies_are_unused : UnnamedCopiesAreUnused
+unnamed_copies_are_unused = record { touches = λ tiles. refl; needed = λ tiles. aligned_need_none (group_touches (half_named_tiles tiles)) 3 (all tiles) }
+  where
+    all : (tiles : ℕ) → All (λ x. x.aligned ≡ true) (group_touches (half_named_tiles tiles))
+    all tiles zero d lt = refl
+    all tiles (suc zero) d lt = refl
+    all tiles (suc (suc zero)) d lt = refl
+    all tiles (suc (suc (suc zero))) d lt = refl
+    all tiles (suc (suc (suc (suc i)))) d lt = absurd (omega arith)
 
 -- three are summed
 
@@ -217,7 +233,7 @@ module _ (l : Launch) (tiles : ℕ) (xs out : List ℕ) (rest : ℕ) (h : AreTil
   sums_listed sums a (suc b) i lt = absurd (omega arith)
 
 summed_needed : (tiles : ℕ) → Needed (group_touches (summed_tiles tiles)) (phase_count (summed_tiles tiles)) two_barriers
-summed_needed tiles = needed_again (fill 0 true true 0) (fill 0 false false 1) 2 two_barriers exchanged_need
+summed_needed tiles = needed_again (use_of 0 true true 0) (use_of 0 false false 1) 2 two_barriers exchanged_need
 
 pub summed_tiles_keep : SummedTilesKeep
 summed_tiles_keep = record {

@@ -1,8 +1,9 @@
 -- What holds of every kernel that is printed for a map over work-groups.
-use Rattle.std.specs.Prelude.{◌≡◌, ℕ, ◌<◌, ◌^◌, Bool, List, [], length, map, replicate}
+use Rattle.std.specs.Prelude.{◌≡◌, ℕ, ◌<◌, ◌^◌, Bool, true, List, All, Contains, [], length, map, replicate}
 use Rattle.kernel_tree.specs.Code.{Kernel}
 use Rattle.kernel_tree.specs.Device.{Cell}
 use Rattle.kernel_tree.specs.Launch.{Launch, Cells, IsWhole}
+use Rattle.barrier_placement.specs.declared.touches.Touch.{Touch}
 use Rattle.barrier_placement.specs.Conflicts as placed
 use Rattle.barrier_placement.specs.Fencing.{Fencing, Open}
 use Rattle.barrier_placement.specs.Needed.{Needed}
@@ -39,7 +40,7 @@ pub record IsPrintedOverGroups {A : Type 0} (l : Launch) (num : A → ℕ) (src 
   pub outputs : map length c.outs ≡ replicate (width ty) (size ty)
   pub inputs : (v : ℕ) (cs : List Bool) (p : List ℕ) → IsPosition (src v) cs p → IsGiven c (ins v cs p) (sources v cs p)
 
--- The barriers keep conflicting phases apart, and none stands before the first
+-- the barriers keep conflicting phases apart, and none stands before the first
 pub record IsKeptApart {A : Type 0} (t : Term A) (fence : ℕ → Fencing) : Type 0 where
   pub separates : Separates (group_touches t) placed.Local (phase_count t) fence
   pub opens : fence 0 ≡ Open
@@ -68,3 +69,11 @@ NeededGroupsKeep A =
 -- so these barriers keep conflicting phases apart
 abbrev pub NeededKeepApart : Type 0 → Type 0
 NeededKeepApart A = (t : Term A) (fence : ℕ → Fencing) → StandsOverGroups t → Needed (group_touches t) (phase_count t) fence → IsKeptApart t fence
+
+-- the needed barriers hang on which uses there are, however often and in whatever order they are told
+abbrev pub UsesTellBarriers : Type 0
+UsesTellBarriers = (xs ys : List Touch) (n : ℕ) (fence : ℕ → Fencing) → ((x : Touch) → Contains xs x → Contains ys x) → ((x : Touch) → Contains ys x → Contains xs x) → Needed xs n fence → Needed ys n fence
+
+-- and where all are aligned none is needed
+abbrev pub AlignedNeedNone : Type 0
+AlignedNeedNone = (touches : List Touch) (n : ℕ) → All (λ x. x.aligned ≡ true) touches → Needed touches n (λ q. Open)

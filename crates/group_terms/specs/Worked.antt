@@ -8,12 +8,13 @@ use Rattle.barrier_placement.specs.declared.touches.Touch.{Touch}
 use Rattle.barrier_placement.specs.Needed.{Needed}
 use Rattle.lift_ir.specs.Types.{Ty, Scalar, ArrayOf, unflat}
 use Rattle.lift_ir.specs.Layouts.{Split, Join, Slide, Pad}
-use Rattle.lift_ir.specs.Terms.{Skip, Take, WorkGroup, Local, LocalMemory, Term, Literal, Bound, Source, Apply, Reshape, Map, Fold, Store, Copy}
+use Rattle.lift_ir.specs.Terms.{Skip, Take, Each, WorkGroup, Local, LocalMemory, Term, Literal, Bound, Source, Apply, Both, Project, Reshape, Map, Fold, Store, Copy}
 use Rattle.lift_ir.specs.Scalars.{Scalars, scalars_of, no_scalars}
 use Rattle.lift_ir.specs.Owner.{owner}
 use Rattle.printed_form.specs.Marks.{Nowhere, Marks, laid_in}
 use Rattle.printed_form.specs.Headline.{EveryRunKeeps}
 use Rattle.group_printing.specs.Tiles.{tile_kernel, tile_cells, AreTiles, added, no_barriers, two_barriers}
+use Rattle.group_terms.specs.Body.{first_index}
 use Rattle.group_terms.specs.Uses.{phase_count, group_touches}
 
 -- lengths are numbers
@@ -32,16 +33,13 @@ abbrev pub input_marks : (n : ℕ) → ℕ → Marks
 input_marks n zero = laid_in Input 0 (numbers n)
 input_marks n (suc a) = λ cs p. Nowhere
 
-abbrev pub first_index : List ℕ → ℕ
-first_index [] = 0
-first_index (i ∷ p) = i
-
 abbrev pub input_scalars : List ℕ → ℕ → Scalars
 input_scalars xs zero = λ cs p. slice_index xs (first_index p)
 input_scalars xs (suc a) = λ cs p. 0
 
-abbrev pub fill : (local : ℕ) → (writes aligned : Bool) → (phase : ℕ) → Touch
-fill a w s q = record { phase = q; buffer = a; writes = w; aligned = s; local = true }
+-- a phase writes a local array, or reads it
+abbrev pub use_of : (array : ℕ) → (writes aligned : Bool) → (phase : ℕ) → Touch
+use_of a w s q = record { phase = q; buffer = a; writes = w; aligned = s; local = true }
 
 -- Tiles of two are copied, and one is added to each element: mapWrg(\t. mapLcl(\x. x + 1, toLocal(mapLcl(\x. x, t))), split(2, xs)), joined
 
@@ -54,13 +52,26 @@ added_tile = Map Local 2 Take (copy_of 2) (Store Scalar (Apply Add (Bound 0) (Li
 abbrev pub added_tiles : ℕ → Term ℕ
 added_tiles tiles = Reshape (Join 2) (Map WorkGroup tiles Skip (Reshape (Split 2) (Source 0)) added_tile)
 
--- each item reads what it copied, so no barrier is needed, and every run of the kernel without barriers keeps the headline, at every launch
+-- each item reads what it copied, so no barrier is needed; every run of the kernel without barriers keeps the headline, at every launch
 pub record AddedTilesKeep : Type 0 where
   pub phases : (tiles : ℕ) → phase_count (added_tiles tiles) ≡ 2
-  pub touches : (tiles : ℕ) → group_touches (added_tiles tiles) ≡ fill 0 true true 0 ∷ fill 0 false true 1 ∷ fill 0 false true 1 ∷ []
+  pub touches : (tiles : ℕ) → group_touches (added_tiles tiles) ≡ use_of 0 true true 0 ∷ use_of 0 false true 1 ∷ use_of 0 false true 1 ∷ []
   pub needed : (tiles : ℕ) → Needed (group_touches (added_tiles tiles)) (phase_count (added_tiles tiles)) no_barriers
   pub keeps : (l : Launch) (tiles : ℕ) (xs out : List ℕ) (rest : ℕ) → AreTiles l tiles xs out
       → EveryRunKeeps (tile_kernel false no_barriers) l (tile_cells xs out rest) (λ a i. owner itself l (added_tiles tiles) (unflat (numbers (tiles * 2)) i)) (added false xs ∷ [])
+
+-- Of a zip of two copies, the second under a layout, only the first is named: mapWrg(\t. mapLcl(\p. first(p), zip(toLocal(..), join(slide(1, 1, toLocal(..))))), split(2, xs)), joined
+
+abbrev pub half_named_tile : Term ℕ
+half_named_tile = Map Local 2 (Each Take Skip) (Both true (copy_of 2) (Reshape (Join 1) (Reshape (Slide 1 1) (copy_of 2)))) (Store Scalar (Project false (Bound 0)))
+
+abbrev pub half_named_tiles : ℕ → Term ℕ
+half_named_tiles tiles = Reshape (Join 2) (Map WorkGroup tiles Skip (Reshape (Split 2) (Source 0)) half_named_tile)
+
+-- so the last phase doesn't use the second copy, and no barrier is needed
+pub record UnnamedCopiesAreUnused : Type 0 where
+  pub touches : (tiles : ℕ) → group_touches (half_named_tiles tiles) ≡ use_of 0 true true 0 ∷ use_of 1 true true 1 ∷ use_of 0 false true 2 ∷ use_of 0 false true 2 ∷ []
+  pub needed : (tiles : ℕ) → Needed (group_touches (half_named_tiles tiles)) (phase_count (half_named_tiles tiles)) no_barriers
 
 -- A stencil by tiles: join(join(mapWrg(\t. mapLcl(\w. foldSeq(\a x. a + x, 0, w), slide(3, 1, toLocal(mapLcl(\x. x, t)))), slide(4, 2, pad(1, 1, xs)))))
 
@@ -115,7 +126,7 @@ pub record AreSums (tiles : ℕ) (xs sums : List ℕ) : Type 0 where
 -- each item reads its neighbours' elements, so both barriers are needed; every run with them keeps the headline, at every launch
 pub record SummedTilesKeep : Type 0 where
   pub phases : (tiles : ℕ) → phase_count (summed_tiles tiles) ≡ 2
-  pub touches : (tiles : ℕ) → group_touches (summed_tiles tiles) ≡ fill 0 true true 0 ∷ fill 0 false false 1 ∷ fill 0 false false 1 ∷ []
+  pub touches : (tiles : ℕ) → group_touches (summed_tiles tiles) ≡ use_of 0 true true 0 ∷ use_of 0 false false 1 ∷ use_of 0 false false 1 ∷ []
   pub needed : (tiles : ℕ) → Needed (group_touches (summed_tiles tiles)) (phase_count (summed_tiles tiles)) two_barriers
   pub keeps : (l : Launch) (tiles : ℕ) (xs out sums : List ℕ) (rest : ℕ) → AreTiles l tiles xs out → 0 < tiles → tiles < 2 ^ 29 → AreSums tiles xs sums
       → EveryRunKeeps sums_kernel l (tile_cells xs out rest) (λ a i. owner itself l (summed_tiles tiles) (unflat (numbers (tiles * 2 * 1)) i)) (sums ∷ [])

@@ -2,9 +2,9 @@
 
 ghost use Rattle.size_arith.specs.declared.poly.Monomial.{Monomial};
 ghost use Rattle.std.specs.Prelude.{List};
-ghost use Rattle.group_terms.specs.Worked.{AddedTilesKeep, SummedTilesKeep, SixKeep};
+ghost use Rattle.group_terms.specs.Worked.{AddedTilesKeep, SummedTilesKeep, SixKeep, UnnamedCopiesAreUnused};
 ghost use Rattle.group_terms.specs.Programs.{PrintedGroupProgramsKeep, PrintedGroupProgramsServe};
-ghost use Rattle.group_terms.specs.Theorem.{NeededKeepApart, NeededGroupsKeep, SeparatedGroupsKeep, SeparatedGroupsServe};
+ghost use Rattle.group_terms.specs.Theorem.{NeededKeepApart, NeededGroupsKeep, SeparatedGroupsKeep, SeparatedGroupsServe, UsesTellBarriers, AlignedNeedNone};
 
 /// At every launch, on all inputs, every run of a kernel that is printed for a map over work-groups with the needed barriers keeps what it owes: the source value's lists, each cell by its owner. With any barriers that keep conflicting phases apart it leaves the term's scalars, and its barriers serve.
 pub fn printed_groups_keep()
@@ -12,6 +12,12 @@ pub fn printed_groups_keep()
     ensures separated { SeparatedGroupsKeep (List Monomial) }
     ensures serve { SeparatedGroupsServe (List Monomial) }
     ensures apart { NeededKeepApart (List Monomial) }
+{}
+
+/// The needed barriers hang on which uses there are alone; where all are aligned none is needed.
+pub fn uses_tell_barriers()
+    ensures told { UsesTellBarriers }
+    ensures aligned { AlignedNeedNone }
 {}
 
 /// At every admissible launch, on all inputs, every run of a kernel that is printed for a program's typed term, a map over work-groups, with the needed barriers keeps what the kernel owes: the source value's lists, each cell by its owner. And its barriers serve.
@@ -25,4 +31,5 @@ pub fn worked_groups_keep()
     ensures added { AddedTilesKeep }
     ensures summed { SummedTilesKeep }
     ensures six { SixKeep }
+    ensures unnamed { UnnamedCopiesAreUnused }
 {}
