@@ -1,5 +1,5 @@
 -- Kernels printed for a program's typed term that is a map over work-groups keep what they owe, at every admissible launch.
-use Rattle.std.proofs.Common.{◌≡◌, ℕ, zero, suc, ◌*◌, ◌/◌, ◌%◌, ◌<◌, ◌≤◌, Bool, List, [], ◌∷◌, length, Some, refl, sym, ap, ◌∙◌, subst, pos, ◌≤ℤ◌, arith}
+use Rattle.std.proofs.Common.{◌≡◌, ℕ, zero, suc, ◌*◌, ◌/◌, ◌%◌, ◌<◌, Bool, List, [], ◌∷◌, length, Some, refl, sym, ap, ◌∙◌, subst, pos, ◌≤ℤ◌, arith}
 use Rattle.std.specs.Prelude.{map, slice_get}
 use Rattle.size_arith.specs.declared.names.Name.{Name}
 use Rattle.size_arith.specs.declared.poly.Monomial.{Monomial}
@@ -33,7 +33,7 @@ use Rattle.printed_form.specs.Printer.{input_marks}
 use Rattle.printed_form.specs.Programs.{input_shape, first_buffer, lowered_root, cell_owner, IsLaunchOf, AreBuffersOf}
 use Rattle.printed_form.proofs.Programs.{input_has, input_given}
 use Rattle.group_phases.specs.Outcome.{BarriersServeAll}
-use Rattle.group_terms.specs.Theorem.{IsPrintedOverGroups, IsKeptApart}
+use Rattle.group_terms.specs.Theorem.{IsPrintedOverGroups}
 use Rattle.group_terms.specs.Programs.{PrintsGroups, IsGroupProgram, PrintedGroupProgramsKeep, PrintedGroupProgramsServe}
 use Rattle.group_terms.proofs.Theorem.{needed_keep_apart, needed_groups_keep, separated_groups_serve}
 
