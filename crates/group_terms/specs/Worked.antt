@@ -15,6 +15,7 @@ use Rattle.printed_form.specs.Marks.{Nowhere, Marks, laid_in}
 use Rattle.printed_form.specs.Headline.{EveryRunKeeps}
 use Rattle.group_printing.specs.Tiles.{tile_kernel, tile_cells, AreTiles, added, no_barriers, two_barriers}
 use Rattle.group_terms.specs.Body.{first_index}
+use Rattle.group_terms.specs.Printer.{group_kernel_code}
 use Rattle.group_terms.specs.Uses.{phase_count, group_touches}
 
 -- lengths are numbers
@@ -43,27 +44,32 @@ use_of a w s q = record { phase = q; buffer = a; writes = w; aligned = s; local 
 
 -- Tiles of two are copied, and one is added to each element: mapWrg(\t. mapLcl(\x. x + 1, toLocal(mapLcl(\x. x, t))), split(2, xs)), joined
 
-abbrev pub copy_of : ℕ → Term ℕ
-copy_of n = Copy LocalMemory (numbers n) (Map Local n Take (Bound 0) (Store Scalar (Bound 0)))
+abbrev pub copy_over : {A : Type 0} → (len : A) → (cells : ℕ) → Term A
+copy_over n cells = Copy LocalMemory (numbers cells) (Map Local n Take (Bound 0) (Store Scalar (Bound 0)))
 
-abbrev pub added_tile : Term ℕ
-added_tile = Map Local 2 Take (copy_of 2) (Store Scalar (Apply Add (Bound 0) (Literal 1)))
+abbrev pub added_tiles_over : {A : Type 0} → (two tiles : A) → Term A
+added_tiles_over two tiles = Reshape (Join two) (Map WorkGroup tiles Skip (Reshape (Split two) (Source 0)) (Map Local two Take (copy_over two 2) (Store Scalar (Apply Add (Bound 0) (Literal 1)))))
 
 abbrev pub added_tiles : ℕ → Term ℕ
-added_tiles tiles = Reshape (Join 2) (Map WorkGroup tiles Skip (Reshape (Split 2) (Source 0)) added_tile)
+added_tiles tiles = added_tiles_over 2 tiles
+
+-- what the printer makes of them, where lengths are their spellings
+abbrev pub added_tiles_code : Code
+added_tiles_code = group_kernel_code (λ f. f) (λ v. 0) (λ v. ArrayOf (Size 0) Scalar) no_barriers (added_tiles_over (Number 2) (Binary Div (Size 0) (Number 2))) (ArrayOf (Size 0) Scalar)
 
 -- each item reads what it copied, so no barrier is needed; every run of the kernel without barriers keeps the headline, at every launch
 pub record AddedTilesKeep : Type 0 where
   pub phases : (tiles : ℕ) → phase_count (added_tiles tiles) ≡ 2
   pub touches : (tiles : ℕ) → group_touches (added_tiles tiles) ≡ use_of 0 true true 0 ∷ use_of 0 false true 1 ∷ use_of 0 false true 1 ∷ []
   pub needed : (tiles : ℕ) → Needed (group_touches (added_tiles tiles)) (phase_count (added_tiles tiles)) no_barriers
+  pub code : added_tiles_code ≡ (tile_kernel false no_barriers).code
   pub keeps : (l : Launch) (tiles : ℕ) (xs out : List ℕ) (rest : ℕ) → AreTiles l tiles xs out
       → EveryRunKeeps (tile_kernel false no_barriers) l (tile_cells xs out rest) (λ a i. owner itself l (added_tiles tiles) (unflat (numbers (tiles * 2)) i)) (added false xs ∷ [])
 
 -- Of a zip of two copies, the second under a layout, only the first is named: mapWrg(\t. mapLcl(\p. first(p), zip(toLocal(..), join(slide(1, 1, toLocal(..))))), split(2, xs)), joined
 
 abbrev pub half_named_tile : Term ℕ
-half_named_tile = Map Local 2 (Each Take Skip) (Both true (copy_of 2) (Reshape (Join 1) (Reshape (Slide 1 1) (copy_of 2)))) (Store Scalar (Project false (Bound 0)))
+half_named_tile = Map Local 2 (Each Take Skip) (Both true (copy_over 2 2) (Reshape (Join 1) (Reshape (Slide 1 1) (copy_over 2 2)))) (Store Scalar (Project false (Bound 0)))
 
 abbrev pub half_named_tiles : ℕ → Term ℕ
 half_named_tiles tiles = Reshape (Join 2) (Map WorkGroup tiles Skip (Reshape (Split 2) (Source 0)) half_named_tile)
@@ -76,7 +82,7 @@ pub record UnnamedCopiesAreUnused : Type 0 where
 -- A stencil by tiles: join(join(mapWrg(\t. mapLcl(\w. foldSeq(\a x. a + x, 0, w), slide(3, 1, toLocal(mapLcl(\x. x, t)))), slide(4, 2, pad(1, 1, xs)))))
 
 abbrev pub summed_tile : Term ℕ
-summed_tile = Map Local 2 Skip (Reshape (Slide 3 1) (copy_of 4)) (Fold 3 Take Scalar (Bound 0) (Literal 0) (Apply Add (Bound 1) (Bound 0)))
+summed_tile = Map Local 2 Skip (Reshape (Slide 3 1) (copy_over 4 4)) (Fold 3 Take Scalar (Bound 0) (Literal 0) (Apply Add (Bound 1) (Bound 0)))
 
 abbrev pub padded_tiles : ℕ → Term ℕ
 padded_tiles tiles = Reshape (Slide 4 2) (Reshape (Pad 1 1 (tiles * 2)) (Source 0))
