@@ -1,16 +1,16 @@
 -- What the printer prints for a map over work-groups is printed for it.
-use Rattle.std.proofs.Common.{◌≡◌, ℕ, zero, suc, ◌+◌, ◌<◌, ◌^◌, Bool, true, false, List, [], ◌∷◌, ◌++◌, length, Option, Some, refl, sym, ap, ◌∙◌, subst, arith}
+use Rattle.std.proofs.Common.{◌≡◌, ℕ, zero, suc, ◌+◌, ◌<◌, ◌^◌, Bool, true, false, List, [], ◌∷◌, Some, refl, sym, subst, arith}
 use Rattle.size_arith.specs.declared.poly.Monomial.{Monomial}
 use Rattle.lift_tree.specs.Lists.{Every}
 use Rattle.lift_tree.specs.Types.{PlainTy}
 use Rattle.lift_tree.specs.Annotations.{type_in}
 use Rattle.kernel_tree.specs.Formula.{Formula, LoopVariable}
-use Rattle.kernel_tree.specs.Code.{Input, Output, Local as LocalArray, Code, End, Loops}
+use Rattle.kernel_tree.specs.Code.{Input, Output, Local as LocalArray, Code, End}
 use Rattle.kernel_tree.specs.Launch.{Launch}
 use Rattle.barrier_placement.specs.Fencing.{Fencing, Open, Fenced}
-use Rattle.lift_ir.specs.Types.{Ty, Scalar, PairOf, ArrayOf, IsPosition, IsPlaced, measured}
+use Rattle.lift_ir.specs.Types.{Ty, PairOf, ArrayOf, IsPosition, IsPlaced, measured}
 use Rattle.lift_ir.specs.Layouts.{result_position}
-use Rattle.lift_ir.specs.Terms.{LoadSet, WorkGroup, Local, LocalMemory, Term, Bound, Source, Both, Project, Reshape, LetArray, Map, Copy, push, HasType, no_type}
+use Rattle.lift_ir.specs.Terms.{WorkGroup, Local, LocalMemory, Term, Bound, Source, Both, Project, Reshape, LetArray, Map, Copy, push, HasType, no_type}
 use Rattle.lift_ir.specs.Scalars.{at_index}
 use Rattle.lift_ir.specs.AtLaunch.{length_at, shape_of}
 use Rattle.lift_ir.specs.Loads.{covers, none, held_scalars, LoadsSuffice}
@@ -93,13 +93,14 @@ module _ (l : Launch) {A : Type 0} (num : A → ℕ) (spell : A → Formula) (sp
           let next = print_group_argument spell sins fence (push x views) (used_after u v) b rest in
           let p = argument_is v g views env h u ok.0 next ok.1 nm.0 sd.0 es gs r in
           let q = argument_is b (push ok.0 g) (push x views) (λ i. push (y i) (env i)) (push (held_scalars h v) h) (used_after u v) ty rest ok.2 nm.1 sd.1 (λ i il. all_push l (i ∷ []) ok.0 x (y i) g views (env i) (p.1 i il) (es i il)) gs
-              (λ i il. held_push l ok.0 (y i) (held_scalars h v) g (env i) h (λ cs w z. kept v g env h u.locals i ok.0 cs sd.0 ok.1 w z (r i il)) (r i il)) in
+          (λ i il. held_push l ok.0 (y i) (held_scalars h v) g (env i) h (λ cs w z. kept v g env h u.locals i ok.0 cs sd.0 ok.1 w z (r i il)) (r i il)) in
           ((next, p.0, q.0), q.1)
       argument_is (Copy LocalMemory t2 x) g views env h u ty rest ok nm sd es gs r =
           let first = u.locals + local_count x in
-          let c = λ (i : ℕ). laid_cells l num spell spelled (i ∷ []) LocalArray first t2 ok.1 nm.1 nm.0 in
-          (group_written_is x g views env h u t2 (laid_view LocalArray first t2) (λ i. laid_in LocalArray first t2) rest (subst (HasType num src g x) ok.0 ok.2) nm.2 sd es gs r (λ i il. c i),
-           λ i il. subst (λ z. Shows l (i ∷ []) z (laid_view LocalArray first t2) (laid_in LocalArray first t2)) (sym ok.0) (cells_show l (i ∷ []) t2 _ _ (c i)))
+          let c = λ (i : ℕ). laid_cells l num spell spelled (i ∷ []) LocalArray first t2 ok.1 nm.1 nm.0 in (
+            group_written_is x g views env h u t2 (laid_view LocalArray first t2) (λ i. laid_in LocalArray first t2) rest (subst (HasType num src g x) ok.0 ok.2) nm.2 sd es gs r (λ i il. c i),
+            λ i il. subst (λ z. Shows l (i ∷ []) z (laid_view LocalArray first t2) (laid_in LocalArray first t2)) (sym ok.0) (cells_show l (i ∷ []) t2 _ _ (c i)),
+          )
       argument_is _ g views env h u ty rest ok nm sd es gs r = absurd (assumption)
 
       group_written_is : (t : Term A) (g : ℕ → Ty) (views : ℕ → View) (env : (turn var : ℕ) → Marks) (h : ℕ → List Bool → Bool) (u : Used) (ty : Ty) (v : View) (w : ℕ → Marks) (rest : Code) → HasType num src g t ty → LoadsSuffice h t → StandsInGroup true t → AllShowing g views env → Inputs → AllHolding g env h → ((i : ℕ) → i < turns → HasCells l (i ∷ []) ty v (w i))
@@ -110,9 +111,12 @@ module _ (l : Launch) {A : Type 0} (num : A → ℕ) (spell : A → Formula) (sp
           let x = group_view spell sins fence views u.locals s in
           let y = marks_of num ins env u.locals s in
           let next = print_group_written spell sins fence (push x views) (used_after u s) b v rest in
-          let p = argument_is s g views env h u ok.0 next ok.1 nm.0 sd.0 es gs r in
-          (next, p.0, group_written_is b (push ok.0 g) (push x views) (λ i. push (y i) (env i)) (push (held_scalars h s) h) (used_after u s) ty v w rest ok.2 nm.1 sd.1 (λ i il. all_push l (i ∷ []) ok.0 x (y i) g views (env i) (p.1 i il) (es i il)) gs
-              (λ i il. held_push l ok.0 (y i) (held_scalars h s) g (env i) h (λ cs q z. kept s g env h u.locals i ok.0 cs sd.0 ok.1 q z (r i il)) (r i il)) cells)
+          let p = argument_is s g views env h u ok.0 next ok.1 nm.0 sd.0 es gs r in (
+            next,
+            p.0,
+            group_written_is b (push ok.0 g) (push x views) (λ i. push (y i) (env i)) (push (held_scalars h s) h) (used_after u s) ty v w rest ok.2 nm.1 sd.1 (λ i il. all_push l (i ∷ []) ok.0 x (y i) g views (env i) (p.1 i il) (es i il)) gs
+                (λ i il. held_push l ok.0 (y i) (held_scalars h s) g (env i) h (λ cs q z. kept s g env h u.locals i ok.0 cs sd.0 ok.1 q z (r i il)) (r i il)) cells,
+          )
       group_written_is (Map Local z0 loads xs b) g views env h u ty v w rest ok nm sd es gs r cells =
           let len = num z0 in
           let e = group_view spell sins fence views u.locals xs in

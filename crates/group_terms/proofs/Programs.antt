@@ -1,14 +1,10 @@
 -- Kernels printed for a program's typed term that is a map over work-groups keep what they owe, at every admissible launch.
-use Rattle.std.proofs.Common.{◌≡◌, ℕ, zero, suc, ◌*◌, ◌/◌, ◌%◌, ◌<◌, Bool, List, [], ◌∷◌, length, Some, refl, sym, ap, ◌∙◌, subst, pos, ◌≤ℤ◌, arith}
-use Rattle.std.specs.Prelude.{map, slice_get}
+use Rattle.std.proofs.Common.{◌≡◌, ℕ, ◌*◌, ◌/◌, ◌%◌, ◌<◌, Bool, List, [], length, refl, sym, ap, ◌∙◌, subst, arith}
+use Rattle.std.specs.Prelude.{map}
 use Rattle.size_arith.specs.declared.names.Name.{Name}
 use Rattle.size_arith.specs.declared.poly.Monomial.{Monomial}
-use Rattle.size_arith.specs.Polynomial.{value_at}
-use Rattle.size_arith.specs.Shown.{ShownAtLeast}
-use Rattle.size_arith.proofs.Soundness.{shown_at_least}
 use Rattle.lift_tree.specs.Tree.{Tree}
-use Rattle.lift_tree.specs.Types.{PlainTy}
-use Rattle.lift_tree.specs.Typing.{Declared, IsDeclared, IsAdmissible}
+use Rattle.lift_tree.specs.Typing.{Declared, IsAdmissible}
 use Rattle.lift_tree.specs.Values.{nth}
 use Rattle.lift_tree.specs.Annotations.{Annotation, type_in}
 use Rattle.lift_tree.specs.Meaning.{World, meaning}
@@ -20,14 +16,14 @@ use Rattle.kernel_tree.specs.Device.{Cell}
 use Rattle.lift_ir.specs.Types.{Ty, measured, IsFlat}
 use Rattle.lift_ir.specs.Terms.{HasType, no_type}
 use Rattle.lift_ir.specs.Scalars.{Scalars, HasScalars, scalars_in, scalars_of, no_scalars, lists_of}
-use Rattle.lift_ir.specs.AtLaunch.{length_at, ty_at, shape_of}
+use Rattle.lift_ir.specs.AtLaunch.{length_at, ty_at}
 use Rattle.lift_ir.specs.Lowering.{Written, Lowered}
 use Rattle.lift_ir.specs.Sources.{Lowers}
 use Rattle.lift_ir.proofs.Lists.{are_lists, lists_long}
 use Rattle.lift_ir.proofs.Lowering.{lowers_is}
 use Rattle.lift_ir.proofs.Meaning.{means}
-use Rattle.lift_ir.proofs.Typed.{has_is, output_flat}
-use Rattle.lift_ir.proofs.Values.{shape_is, same_lists}
+use Rattle.lift_ir.proofs.Typed.{output_flat}
+use Rattle.lift_ir.proofs.Values.{same_lists}
 use Rattle.printed_form.specs.Headline.{EveryRunKeeps}
 use Rattle.printed_form.specs.Printer.{input_marks}
 use Rattle.printed_form.specs.Programs.{input_shape, first_buffer, lowered_root, cell_owner, IsLaunchOf, AreBuffersOf}

@@ -1,9 +1,9 @@
 -- What is shown within loops, as in the printer's proof of the printed form.
-use Rattle.std.proofs.Common.{◌≡◌, ℕ, zero, suc, ◌+◌, ◌-◌, ◌<◌, ◌^◌, Bool, true, false, List, [], ◌∷◌, ◌++◌, length, Option, Some, refl, sym, ap, ◌∙◌, subst, arith, append_assoc, length-append}
+use Rattle.std.proofs.Common.{◌≡◌, ℕ, zero, suc, ◌+◌, ◌-◌, ◌<◌, ◌^◌, Bool, true, false, List, [], ◌∷◌, ◌++◌, length, Some, refl, sym, ap, ◌∙◌, subst, arith, append_assoc, length-append}
 use Rattle.std.specs.Prelude.{slice_index}
 use Rattle.std.proofs.Math.ListN.{get_or-append}
 use Rattle.std.proofs.Math.Seq.{get_or-append_right}
-use Rattle.kernel_tree.specs.Formula.{Formula, Number, Variable, LoopVariable, Binary}
+use Rattle.kernel_tree.specs.Formula.{Formula, Variable, LoopVariable}
 use Rattle.kernel_tree.specs.Code.{Array, Code, Loads}
 use Rattle.kernel_tree.specs.Launch.{Launch}
 use Rattle.lift_ir.specs.Types.{Ty, Scalar, PairOf, ArrayOf, IsPosition, IsShort}

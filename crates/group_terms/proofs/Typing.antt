@@ -1,5 +1,5 @@
 -- What a program's typed term is lowered to has its type at each admissible launch.
-use Rattle.std.proofs.Common.{◌≡◌, ℕ, zero, suc, Bool, List, [], ◌∷◌, Some, refl, sym, ap, ◌∙◌, pos, ◌≤ℤ◌}
+use Rattle.std.proofs.Common.{◌≡◌, ℕ, zero, suc, Bool, List, [], ◌∷◌, Some, sym, ap, ◌∙◌, pos, ◌≤ℤ◌}
 use Rattle.std.specs.Prelude.{slice_get}
 use Rattle.size_arith.specs.declared.poly.Monomial.{Monomial}
 use Rattle.size_arith.specs.Polynomial.{value_at}
@@ -10,7 +10,7 @@ use Rattle.lift_tree.specs.Types.{PlainTy}
 use Rattle.lift_tree.specs.Typing.{Declared, IsDeclared}
 use Rattle.lift_tree.specs.Annotations.{Annotation, type_in}
 use Rattle.kernel_tree.specs.Launch.{Launch}
-use Rattle.lift_ir.specs.Types.{Ty, measured}
+use Rattle.lift_ir.specs.Types.{measured}
 use Rattle.lift_ir.specs.Terms.{HasType, no_type}
 use Rattle.lift_ir.specs.AtLaunch.{length_at, ty_at, shape_of}
 use Rattle.lift_ir.specs.Lowering.{Written}
