@@ -16,3 +16,4 @@ pub mod Programs
 pub mod Shown
 pub mod Typing
 pub mod Printer
+pub mod Placed

@@ -21,7 +21,7 @@ some_phases (LetArray v b) f = let e = some_phases b f.1 in omega arith
 some_phases (Map Local n loads xs b) f = omega arith
 some_phases _ f = absurd (assumption)
 
-some_phase : {A : Type 0} (t : Term A) → StandsOverGroups t → 0 < phase_count t
+pub some_phase : {A : Type 0} (t : Term A) → StandsOverGroups t → 0 < phase_count t
 some_phase (Reshape y t) f = some_phase t f.1
 some_phase (LetArray v b) f = some_phase b f.1
 some_phase (Map WorkGroup n loads xs b) f = some_phases b f.1

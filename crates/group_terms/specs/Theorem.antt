@@ -5,6 +5,7 @@ use Rattle.kernel_tree.specs.Device.{Cell}
 use Rattle.kernel_tree.specs.Launch.{Launch, Cells, IsWhole}
 use Rattle.barrier_placement.specs.declared.touches.Touch.{Touch}
 use Rattle.barrier_placement.specs.Conflicts as placed
+use Rattle.barrier_placement.specs.Conflicts.{space_of}
 use Rattle.barrier_placement.specs.Fencing.{Fencing, Open}
 use Rattle.barrier_placement.specs.Needed.{Needed}
 use Rattle.barrier_placement.specs.Separates.{Separates}
@@ -44,6 +45,15 @@ pub record IsPrintedOverGroups {A : Type 0} (l : Launch) (num : A → ℕ) (src 
 pub record IsKeptApart {A : Type 0} (t : Term A) (fence : ℕ → Fencing) : Type 0 where
   pub separates : Separates (group_touches t) placed.Local (phase_count t) fence
   pub opens : fence 0 ≡ Open
+
+-- there is a phase, and each use is one of a phase and of a local array
+pub record CanBePlaced {A : Type 0} (t : Term A) : Type 0 where
+  pub some : 0 < phase_count t
+  pub within : All (λ x. x.phase < phase_count t) (group_touches t)
+  pub local : All (λ x. space_of x.local ≡ placed.Local) (group_touches t)
+
+abbrev pub GroupUsesCanBePlaced : Type 0 → Type 0
+GroupUsesCanBePlaced A = (t : Term A) → StandsOverGroups t → CanBePlaced t
 
 -- with such barriers, every run leaves lists that hold the term's scalars, each cell written by its owner
 abbrev pub SeparatedGroupsKeep : Type 0 → Type 0

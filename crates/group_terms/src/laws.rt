@@ -5,7 +5,7 @@ ghost use Rattle.std.specs.Prelude.{List};
 ghost use Rattle.group_terms.specs.Worked.{AddedTilesKeep, SummedTilesKeep, SixKeep, UnnamedCopiesAreUnused};
 ghost use Rattle.group_terms.specs.Printer.{GroupPrinterPrints, GroupProgramsArePrinted};
 ghost use Rattle.group_terms.specs.Programs.{PrintedGroupProgramsKeep, PrintedGroupProgramsServe};
-ghost use Rattle.group_terms.specs.Theorem.{NeededKeepApart, NeededGroupsKeep, SeparatedGroupsKeep, SeparatedGroupsServe, UsesTellBarriers, AlignedNeedNone};
+ghost use Rattle.group_terms.specs.Theorem.{NeededKeepApart, NeededGroupsKeep, SeparatedGroupsKeep, SeparatedGroupsServe, UsesTellBarriers, AlignedNeedNone, GroupUsesCanBePlaced};
 
 /// At every launch, on all inputs, every run of a kernel that is printed for a map over work-groups with the needed barriers keeps what it owes: the source value's lists, each cell by its owner. With any barriers that keep conflicting phases apart it leaves the term's scalars, and its barriers serve.
 pub fn printed_groups_keep()
@@ -15,8 +15,9 @@ pub fn printed_groups_keep()
     ensures apart { NeededKeepApart (List Monomial) }
 {}
 
-/// The needed barriers hang on which uses there are alone; where all are aligned none is needed.
+/// The uses of a term can be placed. The needed barriers hang on which uses there are alone; where all are aligned none is needed.
 pub fn uses_tell_barriers()
+    ensures placed { GroupUsesCanBePlaced (List Monomial) }
     ensures told { UsesTellBarriers }
     ensures aligned { AlignedNeedNone }
 {}
