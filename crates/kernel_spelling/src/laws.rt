@@ -4,7 +4,7 @@ ghost use Rattle.std.specs.Prelude.{◌≡◌, true, ℕ, List, []};
 ghost use Rattle.readings.specs.Readings.{Reads};
 ghost use Rattle.kernel_tree.specs.Code.{Kernel};
 ghost use Rattle.kernel_tree.specs.Grammar.{is_kernel};
-ghost use Rattle.kernel_tree.specs.KernelText.{Piece, Notes, IsKernelText, IsMade, kernels, start, nothing};
+ghost use Rattle.kernel_tree.specs.KernelText.{Piece, Notes, IsKernelText, all_of, kernels, start, nothing};
 ghost use Rattle.kernel_tree.specs.Pieces.{ArePieces, joined};
 ghost use Rattle.kernel_spelling.specs.Spelling.{HasText, text_of};
 
@@ -33,7 +33,7 @@ pub fn one_cut()
 /// What a whole reading notes is one kernel, of the grammar.
 pub fn whole_readings()
     ensures made { (ps : List Piece) (n : Notes) →
-        Reads kernels start nothing ps [] n → (k : Kernel) × IsMade n k }
-    ensures in_grammar { (ps : List Piece) (n : Notes) (k : Kernel) →
-        Reads kernels start nothing ps [] n → IsMade n k → is_kernel k ≡ true }
+        Reads kernels start nothing ps [] n → (k : Kernel) × (n ≡ all_of k) }
+    ensures in_grammar { (ps : List Piece) (k : Kernel) →
+        Reads kernels start nothing ps [] (all_of k) → is_kernel k ≡ true }
 {}
