@@ -30,7 +30,7 @@ is_called Rem = false
 is_called Lt = false
 is_called Eq = false
 
--- the sign of an operator that stands between its operands; the comparisons stand in a conditional alone
+-- the sign of an operator that stands between its operands
 abbrev pub spell_sign : Op → List Piece → List Piece
 spell_sign Add back = plus ∷ back
 spell_sign Sub back = minus ∷ back
@@ -44,8 +44,8 @@ spell_sign Shl back = less ∷ less ∷ back
 spell_sign Shr back = greater ∷ greater ∷ back
 spell_sign Min back = back
 spell_sign Max back = back
-spell_sign Lt back = back
-spell_sign Eq back = back
+spell_sign Lt back = less ∷ back
+spell_sign Eq back = equals ∷ equals ∷ back
 
 abbrev pub spell_comparison : Comparison → List Piece → List Piece
 spell_comparison Less back = less ∷ back
