@@ -1,10 +1,9 @@
 -- The text that is printed is the kernel's, and no other.
 use Rattle.std.proofs.Common.{◌≡◌, ℕ, suc, ◌-◌, ◌<◌, ◌^◌, List, Result, Ok, Err, refl, ap, sym, ◌∙◌, subst}
-use Rattle.std.specs.Prelude.{IfOk, Vec, true}
+use Rattle.std.specs.Prelude.{IfOk, Vec}
 use Rattle.std.specs.Global.{Global}
 use Rattle.kernel_tree.specs.declared.tree.Kernel as held
 use Rattle.kernel_tree.specs.Code.{Kernel}
-use Rattle.kernel_tree.specs.Grammar.{is_kernel}
 use Rattle.kernel_tree.specs.Kernels.{kernel_of}
 use Rattle.kernel_tree.specs.Pieces.{joined}
 use Rattle.kernel_tree.specs.KernelText.{IsKernelText}
@@ -36,6 +35,6 @@ pub related : {E : Type 0} (k : held.Kernel) (r : Result (Vec ℕ Global) E) →
 related k (Ok text) taken e s = subst (λ z. IsKernelText z (kernel_of k)) (sym (is_text k text.items e)) (taken (kernel_of k) (has_text k s))
 related k (Err e) taken h s = tt
 
-pub alone : {E : Type 0} (k : held.Kernel) (r : Result (Vec ℕ Global) E) → ((bytes : List ℕ) (k : Kernel) → IsKernelText bytes k → (is_kernel k ≡ true) × (bytes ≡ text_of k)) → IfOk r (λ text. text.items ≡ write_kernel (kernel_of k) (k.outputs - 1)) → IfOk r (λ text. (bytes : List ℕ) → IsKernelText bytes (kernel_of k) → bytes ≡ text.items)
+pub alone : {E : Type 0} (k : held.Kernel) (r : Result (Vec ℕ Global) E) → ((bytes : List ℕ) (k : Kernel) → IsKernelText bytes k → HasText k × (bytes ≡ text_of k)) → IfOk r (λ text. text.items ≡ write_kernel (kernel_of k) (k.outputs - 1)) → IfOk r (λ text. (bytes : List ℕ) → IsKernelText bytes (kernel_of k) → bytes ≡ text.items)
 alone k (Ok text) only e = λ bytes h. (only bytes (kernel_of k) h).1 ∙ sym (is_text k text.items e)
 alone k (Err e) only h = tt

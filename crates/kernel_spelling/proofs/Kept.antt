@@ -12,9 +12,9 @@ use Rattle.scalar_ops.specs.declared.op.Op.TheVariants.{Min, Max, Shl, Shr}
 use Rattle.kernel_tree.specs.Formula.{IdForm, GlobalId, GroupId, LocalId, GlobalSize, GroupCount, LocalSize, Comparison, Less, Equal, Formula, Number, Id, Binary, Choose}
 use Rattle.kernel_tree.specs.Code.{Array, Input, Output, Local, Private, Start, FromZero, Stride, ByOne, Code, End, Assigns, Loads, Stores, Loops, Syncs}
 use Rattle.kernel_tree.specs.Grammar.{deepest, height, is_constant, is_operator, names_declared, is_expression, is_readable, is_writable, are_statements, has_statement, are_lengths}
-use Rattle.kernel_tree.specs.KernelText.{Piece, Part, Parameter, Pointer, NewInput, NewOutput, AfterOutput, OutputOrSize, NewSize, AfterSize, Locals, NewLocal, LocalLength, Privates, Declared, PrivateLength, Variables, NewVariable, Statement, Next, Source, Fence, AfterLocal, Beginning, BeginningId, Step, StepId, Turn, Indent, Value, Opened, IdName, Rest, AfterLess, Note, Leaf, Both, Either, Stop, Assign, Load, Store, Loop, Sync, Notes, Item, texts, counted, stored, another_line, loop_head, loop_test, loop_body, cast, called, operated, compared, start_at, stride_by, noted, both_of, either_of, loop_of, array_name, id_name, space, line, comma, semicolon, star, equals, less, greater, plus, bar, question, colon, opens, closes, nought, index_begins, index_ends, block_begins, block_ends, global, local, const, uint, for, barrier, local_flag, global_flag, least, greatest, indent, variable, size, loop_variable, literal, zero_literal, one_literal, kernels, marked, Names, a_variable, a_loop_variable, a_size, IsSign, adds, subtracts, multiplies, divides, leaves, ands, ors, xors, IsCall, takes_least, takes_greatest, Gives, an_input, pointer_to_const, pointer, new_input, new_output, last_output, more_outputs, another_output, first_size, new_size, last_size, more_sizes, a_local, no_local, new_local, local_length, a_declaration, no_declaration, new_private, first_variable, private_length, another_variable, statements, new_variable, assign, store, loop, meet, load, value, another, end, end_of_loop, indented, fences_local, fences_global, local_alone, fences_both, turn, from_zero, from_id, from_this_id, by_one, by_count, by_this_count, number, named_value, call, open_value, an_id, both, this_id, sign, shift_right, equal, less_or_shift, shift_left, is_less}
+use Rattle.kernel_tree.specs.KernelText.{Piece, number_limit, Part, Parameter, Pointer, NewInput, NewOutput, AfterOutput, OutputOrSize, NewSize, AfterSize, Locals, NewLocal, LocalLength, Privates, Declared, PrivateLength, Variables, NewVariable, Statement, Next, Source, Fence, AfterLocal, Beginning, BeginningId, Step, StepId, Turn, Indent, Value, Opened, IdName, Rest, AfterLess, Note, Leaf, Both, Either, Stop, Assign, Load, Store, Loop, Sync, Notes, Item, texts, counted, stored, another_line, loop_head, loop_test, loop_body, cast, called, operated, compared, start_at, stride_by, noted, both_of, either_of, loop_of, array_name, id_name, space, line, comma, semicolon, star, equals, less, greater, plus, bar, question, colon, opens, closes, nought, index_begins, index_ends, block_begins, block_ends, global, local, const, uint, for, barrier, local_flag, global_flag, least, greatest, indent, variable, size, loop_variable, literal, zero_literal, one_literal, kernels, marked, Names, a_variable, a_loop_variable, a_size, IsSign, adds, subtracts, multiplies, divides, leaves, ands, ors, xors, IsCall, takes_least, takes_greatest, Gives, an_input, pointer_to_const, pointer, new_input, new_output, last_output, more_outputs, another_output, first_size, new_size, last_size, more_sizes, a_local, no_local, new_local, local_length, a_declaration, no_declaration, new_private, first_variable, private_length, another_variable, statements, new_variable, assign, store, loop, meet, load, value, another, end, end_of_loop, indented, fences_local, fences_global, local_alone, fences_both, turn, from_zero, from_id, from_this_id, by_one, by_count, by_this_count, number, named_value, call, open_value, an_id, both, this_id, sign, shift_right, equal, less_or_shift, shift_left, is_less}
 use Rattle.kernel_spelling.specs.Spelling.{is_called, spell_id, spell_sign, spell_comparison, spell, spell_start, spell_stride, loop_line, test_line, step_line, block_line, spell_code, spell_locals, spell_privates, spell_variables, spell_sizes, spell_outputs, spell_inputs, first_output}
-use Rattle.kernel_spelling.specs.Meaning.{FitsAt, IsValue, Tail, Operated, Compared, with_tail, spell_tail, TailFits, IsTail, IsId, IsCode, IsStatement, IsRound, AreVariables, ArePrivates, AreLocals, local_line, private_line, Means}
+use Rattle.kernel_spelling.specs.Meaning.{CountsFit, FitsAt, IsValue, Tail, Operated, Compared, with_tail, spell_tail, TailFits, IsTail, IsId, IsCode, IsStatement, IsRound, AreVariables, ArePrivates, AreLocals, local_line, private_line, Means}
 
 abbrev All : List Item → Notes → List Piece → Notes → List Piece → Type 0
 All o n ts n1 back = AllMean kernels Means o n ts n1 back
@@ -515,11 +515,45 @@ no_more x = omega arith
 abbrev with_variable : Notes → Notes
 with_variable n = record n { variables = suc n.variables }
 
-abbrev with_private : Notes → ℕ → Notes
+abbrev pub with_private : Notes → ℕ → Notes
 with_private n v = record n { privates = n.privates ++ v ∷ [] }
 
-abbrev with_local : Notes → ℕ → Notes
+abbrev pub with_local : Notes → ℕ → Notes
 with_local n v = record n { locals = n.locals ++ v ∷ [] }
+
+pub one_longer : (ns : List ℕ) (v : ℕ) → length (ns ++ v ∷ []) ≡ suc (length ns)
+one_longer ns v = let w = length-append ns (v ∷ []) in omega (arith, w)
+
+pub with_values : (n : Notes) (values : List Formula) (blocks : List Code) → CountsFit n → CountsFit (noted n values blocks)
+with_values n values blocks c = record { inputs = c.inputs; outputs = c.outputs; sizes = c.sizes; locals = c.locals; privates = c.privates; variables = c.variables }
+
+pub variables_fit : (n : Notes) → CountsFit n → suc n.variables < number_limit → CountsFit (with_variable n)
+variables_fit n fit one = record { inputs = fit.inputs; outputs = fit.outputs; sizes = fit.sizes; locals = fit.locals; privates = fit.privates; variables = one }
+
+pub privates_fit : (n : Notes) (v : ℕ) → CountsFit n → suc (length n.privates) < number_limit → CountsFit (with_private n v)
+privates_fit n v fit one = record { inputs = fit.inputs; outputs = fit.outputs; sizes = fit.sizes; locals = fit.locals; privates = subst (λ z. z < number_limit) (sym (one_longer n.privates v)) one; variables = fit.variables }
+
+pub locals_fit : (n : Notes) (v : ℕ) → CountsFit n → suc (length n.locals) < number_limit → CountsFit (with_local n v)
+locals_fit n v fit one = record { inputs = fit.inputs; outputs = fit.outputs; sizes = fit.sizes; locals = subst (λ z. z < number_limit) (sym (one_longer n.locals v)) one; privates = fit.privates; variables = fit.variables }
+
+-- one more parameter
+abbrev with_size : Notes → Notes
+with_size n = record n { sizes = suc n.sizes }
+
+abbrev with_output : Notes → Notes
+with_output n = record n { outputs = suc n.outputs }
+
+abbrev with_input : Notes → Notes
+with_input n = record n { inputs = suc n.inputs }
+
+sizes_fit : (n : Notes) → CountsFit n → suc n.sizes < number_limit → CountsFit (with_size n)
+sizes_fit n fit one = record { inputs = fit.inputs; outputs = fit.outputs; sizes = one; locals = fit.locals; privates = fit.privates; variables = fit.variables }
+
+outputs_fit : (n : Notes) → CountsFit n → suc n.outputs < number_limit → CountsFit (with_output n)
+outputs_fit n fit one = record { inputs = fit.inputs; outputs = one; sizes = fit.sizes; locals = fit.locals; privates = fit.privates; variables = fit.variables }
+
+inputs_fit : (n : Notes) → CountsFit n → suc n.inputs < number_limit → CountsFit (with_input n)
+inputs_fit n fit one = record { inputs = one; outputs = fit.outputs; sizes = fit.sizes; locals = fit.locals; privates = fit.privates; variables = fit.variables }
 
 kept_variable : (n : Notes) (t : Piece) (alt : List Item) → Gives n NewVariable t alt → (ts : List Piece) (n1 : Notes) (back : List Piece) → All alt n ts n1 back → Means n NewVariable (t ∷ ts) n1 back
 kept_variable n t alt (new_variable small) ts n1 back h =
@@ -535,6 +569,7 @@ kept_variable n t alt (new_variable small) ts n1 back h =
       code = b.code;
       fits = subst (λ (z : Notes). are_statements (counted z) 0 b.code ≡ true) e b.fits;
       some = b.some;
+      few = λ c. subst CountsFit e (b.few (variables_fit n c small));
       spelled = ap (λ z. indent 1 ∷ uint ∷ space ∷ variable n.variables ∷ z) (a.1 ∙ ap (λ z. semicolon ∷ line ∷ z) (i.1 ∙ b.spelled ∙ ap (λ z. spell_variables (suc n.variables) b.more (spell_code 0 b.code z)) i.2.3.1));
       noted = sym e ∙ b.noted ∙ ap (λ v. record n { variables = v; blocks = b.code ∷ n.blocks }) (let w : suc n.variables + b.more ≡ n.variables + suc b.more = omega arith in w);
     }
@@ -549,6 +584,7 @@ kept_variables n t alt another_variable ts n1 back h =
       code = b.code;
       fits = subst (λ (z : Notes). are_statements (counted z) 0 b.code ≡ true) e b.fits;
       some = b.some;
+      few = λ c. subst CountsFit e (b.few c);
       spelled = ap (λ z. indent 1 ∷ uint ∷ z) a.1 ∙ b.spelled ∙ ap (λ z. spell_variables n.variables b.more (spell_code 0 b.code z)) a.2.3.1;
       noted = sym e ∙ b.noted;
     }
@@ -560,6 +596,7 @@ kept_variables n t alt (statements g) ts n1 back h =
       code = c.code;
       fits = subst (λ (z : Notes). are_statements (counted z) 0 c.code ≡ true) (sym c.noted) c.fits;
       some = s.1;
+      few = λ fit. subst CountsFit (sym c.noted) (with_values n n.values (c.code ∷ n.blocks) fit);
       spelled = c.spelled;
       noted = c.noted ∙ ap (λ v. record n { variables = v; blocks = c.code ∷ n.blocks }) (no_more n.variables);
     }
@@ -572,6 +609,7 @@ no_privates first n ts n1 back b = record {
   code = b.code;
   fits = b.fits;
   some = b.some;
+  few = b.few;
   lengths = refl;
   spelled = b.spelled;
   noted = b.noted ∙ ap (λ (v : List ℕ). record n { privates = v; variables = n.variables + b.more; blocks = b.code ∷ n.blocks }) (sym (append-nil n.privates));
@@ -585,6 +623,7 @@ last_privates first other n ts us n1 n2 mid back b w e f = record {
   code = b.code;
   fits = subst (λ (z : Notes). are_statements (counted z) 0 b.code ≡ true) e b.fits;
   some = b.some;
+  few = λ c. subst CountsFit e (b.few c);
   lengths = b.lengths;
   spelled = w ∙ b.spelled ∙ ap (λ z. spell_privates (length n.privates) b.privates (spell_variables n.variables b.more (spell_code 0 b.code z))) f;
   noted = sym e ∙ b.noted;
@@ -593,7 +632,7 @@ last_privates first other n ts us n1 n2 mid back b w e f = record {
 kept_declared : (n : Notes) (t : Piece) (alt : List Item) → Gives n Declared t alt → (ts : List Piece) (n1 : Notes) (back : List Piece) → All alt n ts n1 back → Means n Declared (t ∷ ts) n1 back
 kept_declared n t alt (new_private small) ts n1 back h =
     let a = at_tokens (index_begins ∷ []) (Form PrivateLength ∷ []) n ts n1 back h in
-    last_privates (private_line n) (λ z. indent 1 ∷ uint ∷ space ∷ z) n a.0 (array_name (Private (length n.privates)) ∷ ts) n1 a.2.0 a.2.1 back a.2.2 (ap (λ z. indent 1 ∷ uint ∷ space ∷ array_name (Private (length n.privates)) ∷ z) a.1) a.2.3.0 a.2.3.1
+    last_privates (private_line n) (λ z. indent 1 ∷ uint ∷ space ∷ z) n a.0 (array_name (Private (length n.privates)) ∷ ts) n1 a.2.0 a.2.1 back (a.2.2 small) (ap (λ z. indent 1 ∷ uint ∷ space ∷ array_name (Private (length n.privates)) ∷ z) a.1) a.2.3.0 a.2.3.1
 kept_declared n t alt (first_variable g) ts n1 back h = no_privates (λ z. indent 1 ∷ uint ∷ space ∷ z) n (t ∷ ts) n1 back (kept_variable n t alt g ts n1 back h)
 
 kept_privates : (n : Notes) (t : Piece) (alt : List Item) → Gives n Privates t alt → (ts : List Piece) (n1 : Notes) (back : List Piece) → All alt n ts n1 back → Means n Privates (t ∷ ts) n1 back
@@ -602,14 +641,11 @@ kept_privates n t alt a_declaration ts n1 back h =
     last_privates (λ z. indent 1 ∷ uint ∷ space ∷ z) (λ z. indent 1 ∷ z) n a.0 (uint ∷ ts) n1 a.2.0 a.2.1 back a.2.2 (ap (λ z. indent 1 ∷ uint ∷ z) a.1) a.2.3.0 a.2.3.1
 kept_privates n t alt (no_declaration g) ts n1 back h = no_privates (λ z. indent 1 ∷ z) n (t ∷ ts) n1 back (kept_variables n t alt (statements g) ts n1 back h)
 
-pub one_longer : (ns : List ℕ) (v : ℕ) → length (ns ++ v ∷ []) ≡ suc (length ns)
-one_longer ns v = let w = length-append ns (v ∷ []) in omega (arith, w)
-
 positive_length : (v : ℕ) (ns : List ℕ) → 0 < v → v < 2 ^ 32 → are_lengths ns ≡ true → are_lengths (v ∷ ns) ≡ true
 positive_length v ns some small h = and_from (nat_lt 0 v) _ (lt-ltb 0 v some) (and_from (nat_lt v (2 ^ 32)) (are_lengths ns) (lt-ltb v (2 ^ 32) small) h)
 
 kept_private_length : (n : Notes) (t : Piece) (alt : List Item) → Gives n PrivateLength t alt → (ts : List Piece) (n1 : Notes) (back : List Piece) → All alt n ts n1 back → Means n PrivateLength (t ∷ ts) n1 back
-kept_private_length n t alt (private_length {v = v} some small) ts n1 back h =
+kept_private_length n t alt (private_length {v = v} some small) ts n1 back h = λ room.
     let n2 = with_private n v in
     let o : List Item = Token index_ends ∷ another_line Privates in
     let k : All o n2 ts n1 back = subst (λ z. All o z ts n1 back) (sym (same_Some _ _ h.1)) h.2 in
@@ -623,6 +659,7 @@ kept_private_length n t alt (private_length {v = v} some small) ts n1 back h =
       code = b.code;
       fits = subst (λ (z : Notes). are_statements (counted z) 0 b.code ≡ true) e b.fits;
       some = b.some;
+      few = λ c. subst CountsFit e (b.few (privates_fit n v c room));
       lengths = positive_length v b.privates some small b.lengths;
       spelled = ap (λ z. private_line n (decimal v ∷ z)) (a.1 ∙ ap (λ z. index_ends ∷ semicolon ∷ line ∷ z) (i.1 ∙ b.spelled ∙ ap (λ m. spell_privates m b.privates (spell_variables n.variables b.more (spell_code 0 b.code i.2.1))) (one_longer n.privates v) ∙ ap (λ z. spell_privates (suc (length n.privates)) b.privates (spell_variables n.variables b.more (spell_code 0 b.code z))) i.2.3.1));
       noted = sym e ∙ b.noted ∙ ap (λ (z : List ℕ). record n { privates = z; variables = n.variables + b.more; blocks = b.code ∷ n.blocks }) (append_assoc n.privates (v ∷ []) b.privates);
@@ -636,6 +673,7 @@ no_locals first n ts n1 back b = record {
   code = b.code;
   fits = b.fits;
   some = b.some;
+  few = b.few;
   local_lengths = refl;
   private_lengths = b.lengths;
   spelled = b.spelled;
@@ -650,6 +688,7 @@ last_locals first other n ts us n1 n2 mid back b w e f = record {
   code = b.code;
   fits = subst (λ (z : Notes). are_statements (counted z) 0 b.code ≡ true) e b.fits;
   some = b.some;
+  few = λ c. subst CountsFit e (b.few c);
   local_lengths = b.local_lengths;
   private_lengths = b.private_lengths;
   spelled = w ∙ b.spelled ∙ ap (λ z. spell_locals (length n.locals) b.locals (spell_privates (length n.privates) b.privates (spell_variables n.variables b.more (spell_code 0 b.code z)))) f;
@@ -665,10 +704,10 @@ kept_locals n t alt (no_local g) ts n1 back h = no_locals (λ z. indent 1 ∷ z)
 kept_new_local : (n : Notes) (t : Piece) (alt : List Item) → Gives n NewLocal t alt → (ts : List Piece) (n1 : Notes) (back : List Piece) → All alt n ts n1 back → Means n NewLocal (t ∷ ts) n1 back
 kept_new_local n t alt (new_local small) ts n1 back h =
     let a = at_tokens (index_begins ∷ []) (Form LocalLength ∷ []) n ts n1 back h in
-    last_locals (local_line n) (λ z. indent 1 ∷ local ∷ space ∷ uint ∷ space ∷ z) n a.0 (array_name (Local (length n.locals)) ∷ ts) n1 a.2.0 a.2.1 back a.2.2 (ap (λ z. indent 1 ∷ local ∷ space ∷ uint ∷ space ∷ array_name (Local (length n.locals)) ∷ z) a.1) a.2.3.0 a.2.3.1
+    last_locals (local_line n) (λ z. indent 1 ∷ local ∷ space ∷ uint ∷ space ∷ z) n a.0 (array_name (Local (length n.locals)) ∷ ts) n1 a.2.0 a.2.1 back (a.2.2 small) (ap (λ z. indent 1 ∷ local ∷ space ∷ uint ∷ space ∷ array_name (Local (length n.locals)) ∷ z) a.1) a.2.3.0 a.2.3.1
 
 kept_local_length : (n : Notes) (t : Piece) (alt : List Item) → Gives n LocalLength t alt → (ts : List Piece) (n1 : Notes) (back : List Piece) → All alt n ts n1 back → Means n LocalLength (t ∷ ts) n1 back
-kept_local_length n t alt (local_length {v = v} some small) ts n1 back h =
+kept_local_length n t alt (local_length {v = v} some small) ts n1 back h = λ room.
     let n2 = with_local n v in
     let o : List Item = Token index_ends ∷ another_line Locals in
     let k : All o n2 ts n1 back = subst (λ z. All o z ts n1 back) (sym (same_Some _ _ h.1)) h.2 in
@@ -684,6 +723,7 @@ kept_local_length n t alt (local_length {v = v} some small) ts n1 back h =
       code = b.code;
       fits = subst (λ (z : Notes). are_statements (counted z) 0 b.code ≡ true) e b.fits;
       some = b.some;
+      few = λ c. subst CountsFit e (b.few (locals_fit n v c room));
       local_lengths = positive_length v b.locals some small b.local_lengths;
       private_lengths = b.private_lengths;
       spelled = ap (λ z. local_line n (decimal v ∷ z)) (a.1 ∙ ap (λ z. index_ends ∷ semicolon ∷ line ∷ z) (i.1 ∙ b.spelled ∙ ap (λ m. spell_locals m b.locals (body i.2.1)) (one_longer n.locals v) ∙ ap (λ z. spell_locals (suc (length n.locals)) b.locals (body z)) i.2.3.1));
@@ -692,15 +732,6 @@ kept_local_length n t alt (local_length {v = v} some small) ts n1 back h =
 
 -- ---- parameters
 
-abbrev with_size : Notes → Notes
-with_size n = record n { sizes = suc n.sizes }
-
-abbrev with_output : Notes → Notes
-with_output n = record n { outputs = suc n.outputs }
-
-abbrev with_input : Notes → Notes
-with_input n = record n { inputs = suc n.inputs }
-
 kept_new_size : (n : Notes) (t : Piece) (alt : List Item) → Gives n NewSize t alt → (ts : List Piece) (n1 : Notes) (back : List Piece) → All alt n ts n1 back → Means n NewSize (t ∷ ts) n1 back
 kept_new_size n t alt (new_size small) ts n1 back h =
     let r : List Item = Form AfterSize ∷ [] in
@@ -708,6 +739,7 @@ kept_new_size n t alt (new_size small) ts n1 back h =
     let b = k.2 in
     record {
       sizes = suc b.sizes;
+      few = λ c. subst CountsFit k.3.0 (b.few (sizes_fit n c small));
       spelled = ap (λ z. comma ∷ space ∷ const ∷ space ∷ uint ∷ space ∷ size n.sizes ∷ z) (b.spelled ∙ ap (spell_sizes (suc n.sizes) b.sizes) k.3.1);
       noted = sym k.3.0 ∙ b.noted ∙ ap (λ v. record n { sizes = v }) (let w : suc n.sizes + b.sizes ≡ n.sizes + suc b.sizes = omega arith in w);
     }
@@ -715,6 +747,7 @@ kept_new_size n t alt (new_size small) ts n1 back h =
 kept_after_size : (n : Notes) (t : Piece) (alt : List Item) → Gives n AfterSize t alt → (ts : List Piece) (n1 : Notes) (back : List Piece) → All alt n ts n1 back → Means n AfterSize (t ∷ ts) n1 back
 kept_after_size n t alt last_size ts n1 back h = record {
   sizes = 0;
+  few = λ c. subst CountsFit h.0 c;
   spelled = ap (λ z. closes ∷ z) h.1;
   noted = sym h.0 ∙ ap (λ v. record n { sizes = v }) (no_more n.sizes);
 }
@@ -723,6 +756,7 @@ kept_after_size n t alt more_sizes ts n1 back h =
     let b = a.2.2 in
     record {
       sizes = b.sizes;
+      few = λ c. subst CountsFit a.2.3.0 (b.few c);
       spelled = ap (λ z. comma ∷ z) a.1 ∙ b.spelled ∙ ap (spell_sizes n.sizes b.sizes) a.2.3.1;
       noted = sym a.2.3.0 ∙ b.noted;
     }
@@ -735,6 +769,7 @@ kept_new_output n t alt (new_output small) ts n1 back h =
     record {
       outputs = b.outputs;
       sizes = b.sizes;
+      few = λ c. subst CountsFit k.3.0 (b.few (outputs_fit n c small));
       spelled = ap (λ z. array_name (Output n.outputs) ∷ z) (b.spelled ∙ ap (λ z. spell_outputs (suc n.outputs) b.outputs (spell_sizes n.sizes b.sizes z)) k.3.1);
       noted = sym k.3.0 ∙ b.noted ∙ ap (λ v. record n { outputs = v; sizes = n.sizes + b.sizes }) (let w : suc n.outputs + b.outputs ≡ n.outputs + suc b.outputs = omega arith in w);
     }
@@ -743,6 +778,7 @@ kept_after_output : (n : Notes) (t : Piece) (alt : List Item) → Gives n AfterO
 kept_after_output n t alt last_output ts n1 back h = record {
   outputs = 0;
   sizes = 0;
+  few = λ c. subst CountsFit h.0 c;
   spelled = ap (λ z. closes ∷ z) h.1;
   noted = sym h.0 ∙ ap (λ v. record n { outputs = v }) (no_more n.outputs) ∙ ap (λ v. record n { outputs = n.outputs + 0; sizes = v }) (no_more n.sizes);
 }
@@ -752,6 +788,7 @@ kept_after_output n t alt more_outputs ts n1 back h =
     record {
       outputs = b.outputs;
       sizes = b.sizes;
+      few = λ c. subst CountsFit a.2.3.0 (b.few c);
       spelled = ap (λ z. comma ∷ z) a.1 ∙ b.spelled ∙ ap (λ z. spell_outputs n.outputs b.outputs (spell_sizes n.sizes b.sizes z)) a.2.3.1;
       noted = sym a.2.3.0 ∙ b.noted;
     }
@@ -763,6 +800,7 @@ kept_output_or_size n t alt another_output ts n1 back h =
     record {
       outputs = suc b.outputs;
       sizes = b.sizes;
+      few = λ c. subst CountsFit a.2.3.0 (b.few c);
       spelled = ap (λ z. comma ∷ space ∷ global ∷ z) (a.1 ∙ ap (λ z. space ∷ uint ∷ space ∷ star ∷ z) (b.spelled ∙ ap (λ z. array_name (Output n.outputs) ∷ spell_outputs (suc n.outputs) b.outputs (spell_sizes n.sizes b.sizes z)) a.2.3.1));
       noted = sym a.2.3.0 ∙ b.noted;
     }
@@ -772,6 +810,7 @@ kept_output_or_size n t alt first_size ts n1 back h =
     record {
       outputs = 0;
       sizes = b.sizes;
+      few = λ c. subst CountsFit a.2.3.0 (b.few c);
       spelled = ap (λ z. comma ∷ space ∷ const ∷ z) a.1 ∙ b.spelled ∙ ap (spell_sizes n.sizes b.sizes) a.2.3.1;
       noted = sym a.2.3.0 ∙ b.noted ∙ ap (λ v. record n { outputs = v; sizes = n.sizes + b.sizes }) (no_more n.outputs);
     }
@@ -787,6 +826,7 @@ kept_parameter n t alt an_input ts n1 back h =
       inputs = b.inputs;
       outputs = b.outputs;
       sizes = b.sizes;
+      few = λ c. subst CountsFit a.2.3.0 (b.few c);
       spelled = ap (λ z. global ∷ z) a.1 ∙ b.spelled ∙ ap (parameters n b.inputs b.outputs b.sizes) a.2.3.1;
       noted = sym a.2.3.0 ∙ b.noted;
     }
@@ -799,6 +839,7 @@ kept_pointer n t alt pointer_to_const ts n1 back h =
       inputs = b.inputs;
       outputs = b.outputs;
       sizes = b.sizes;
+      few = λ c. subst CountsFit a.2.3.0 (b.few c);
       spelled = ap (λ z. global ∷ space ∷ const ∷ z) a.1 ∙ b.spelled ∙ ap (parameters n b.inputs b.outputs b.sizes) a.2.3.1;
       noted = sym a.2.3.0 ∙ b.noted;
     }
@@ -809,6 +850,7 @@ kept_pointer n t alt pointer ts n1 back h =
       inputs = 0;
       outputs = b.outputs;
       sizes = b.sizes;
+      few = λ c. subst CountsFit a.2.3.0 (b.few c);
       spelled = ap (λ z. global ∷ space ∷ uint ∷ z) (a.1 ∙ ap (λ z. space ∷ star ∷ z) (b.spelled ∙ ap (λ z. array_name (Output n.outputs) ∷ spell_outputs (suc n.outputs) b.outputs (spell_sizes n.sizes b.sizes z)) a.2.3.1));
       noted = sym a.2.3.0 ∙ b.noted ∙ ap (λ v. record n { inputs = v; outputs = n.outputs + suc b.outputs; sizes = n.sizes + b.sizes }) (no_more n.inputs);
     }
@@ -824,6 +866,7 @@ kept_new_input n t alt (new_input small) ts n1 back h =
       inputs = suc b.inputs;
       outputs = b.outputs;
       sizes = b.sizes;
+      few = λ c. subst CountsFit a.2.3.0 (b.few (inputs_fit n c small));
       spelled = ap (λ z. global ∷ space ∷ const ∷ space ∷ uint ∷ space ∷ star ∷ array_name (Input n.inputs) ∷ z) (a.1 ∙ ap (λ z. comma ∷ space ∷ z) (b.spelled ∙ ap (parameters n2 b.inputs b.outputs b.sizes) a.2.3.1));
       noted = sym a.2.3.0 ∙ b.noted ∙ ap (λ v. record n { inputs = v; outputs = n.outputs + suc b.outputs; sizes = n.sizes + b.sizes }) (let w : suc n.inputs + b.inputs ≡ n.inputs + suc b.inputs = omega arith in w);
     }

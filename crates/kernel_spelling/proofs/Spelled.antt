@@ -12,19 +12,8 @@ use Rattle.kernel_tree.specs.Code.{Array, Input, Output, Local, Private, Start, 
 use Rattle.kernel_tree.specs.Grammar.{deepest, height, is_constant, is_operator, names_declared, is_expression, is_readable, is_writable, are_statements, has_statement, are_lengths}
 use Rattle.kernel_tree.specs.KernelText.{Piece, Part, Parameter, Locals, Privates, Variables, Declared, Statement, Next, Source, Fence, Beginning, Step, AfterOutput, AfterSize, Turn, Indent, Value, Opened, Rest, Note, Both, Either, Assign, Load, Store, Loop, Sync, Notes, Item, texts, counted, all_of, stored, loop_head, loop_test, loop_body, operated, compared, noted, array_name, array_number, number_limit, space, line, semicolon, equals, less, plus, question, colon, comma, opens, closes, uint, index_begins, index_ends, block_begins, local, for, barrier, least, greatest, indent, variable, literal, kernels, marked, Names, a_variable, a_loop_variable, a_size, adds, subtracts, multiplies, divides, leaves, ands, ors, xors, takes_least, takes_greatest, Gives, an_input, pointer_to_const, pointer, new_input, new_output, last_output, more_outputs, another_output, first_size, new_size, last_size, more_sizes, a_local, no_local, new_local, local_length, a_declaration, no_declaration, new_private, first_variable, private_length, another_variable, statements, new_variable, assign, store, loop, meet, load, value, another, end, end_of_loop, indented, fences_local, fences_global, local_alone, fences_both, turn, from_zero, from_id, from_this_id, by_one, by_count, by_this_count, number, named_value, call, open_value, an_id, both, this_id, sign, shift_right, equal, less_or_shift, shift_left, is_less, start, nothing}
 use Rattle.kernel_spelling.specs.Spelling.{is_called, spell, spell_sign, spell_comparison, spell_id, spell_start, spell_stride, spell_flags, spell_code, loop_line, test_line, step_line, block_line, spell_locals, spell_privates, spell_variables, spell_sizes, spell_outputs, spell_inputs, first_output, spell_body, spelled_with, HasText}
-use Rattle.kernel_spelling.specs.Meaning.{FitsAt}
-use Rattle.kernel_spelling.proofs.Kept.{one_longer}
-
-pub record CountsFit (n : Notes) : Type 0 where
-  pub inputs : n.inputs < number_limit
-  pub outputs : n.outputs < number_limit
-  pub sizes : n.sizes < number_limit
-  pub locals : length n.locals < number_limit
-  pub privates : length n.privates < number_limit
-  pub variables : n.variables < number_limit
-
-pub with_values : (n : Notes) (values : List Formula) (blocks : List Code) → CountsFit n → CountsFit (noted n values blocks)
-with_values n values blocks c = record { inputs = c.inputs; outputs = c.outputs; sizes = c.sizes; locals = c.locals; privates = c.privates; variables = c.variables }
+use Rattle.kernel_spelling.specs.Meaning.{FitsAt, CountsFit}
+use Rattle.kernel_spelling.proofs.Kept.{one_longer, with_private, with_local, with_values, variables_fit, privates_fit, locals_fit}
 
 -- a form's alternative for the text, and its reading
 record Begins (f : Part) (o : List Item) (n : Notes) (ts : List Piece) (n2 : Notes) : Type 0 where
@@ -396,9 +385,6 @@ VariablesMade more c n n3 = n3 ≡ record n { variables = n.variables + more; bl
 no_variables : (c : Code) (n n3 : Notes) → VariablesMade 0 c n n3 → n3 ≡ noted n n.values (c ∷ n.blocks)
 no_variables c n n3 e = e ∙ ap (λ v. record n { variables = v; blocks = c ∷ n.blocks }) (no_more n.variables)
 
-variables_fit : (n : Notes) → CountsFit n → suc n.variables < number_limit → CountsFit (record n { variables = suc n.variables })
-variables_fit n fit one = record { inputs = fit.inputs; outputs = fit.outputs; sizes = fit.sizes; locals = fit.locals; privates = fit.privates; variables = one }
-
 read_variables : (more : ℕ) (c : Code) (n n3 : Notes) → VariablesMade more c n n3 → CountsFit n → n.variables + more < number_limit → are_statements (counted n3) 0 c ≡ true → has_statement c ≡ true → ReadsBody Variables n (spell_variables n.variables more (spell_code 0 c [])) n3
 read_variables zero c n n3 e fit small f s = as_form (Statement 0) Variables n _ n3 (λ p alternative g. statements g) (code_body c n n3 (no_variables c n n3 e) fit f s)
 read_variables (suc more) c n n3 e fit small f s =
@@ -424,12 +410,6 @@ length_parts v vs h =
     let q = and_parts (nat_lt v (2 ^ 32)) (are_lengths vs) p.1 in
     (ltb-true 0 v p.0, ltb-true v (2 ^ 32) q.0, q.1)
 
-abbrev with_private : Notes → ℕ → Notes
-with_private n v = record n { privates = n.privates ++ v ∷ [] }
-
-privates_fit : (n : Notes) (v : ℕ) → CountsFit n → suc (length n.privates) < number_limit → CountsFit (with_private n v)
-privates_fit n v fit one = record { inputs = fit.inputs; outputs = fit.outputs; sizes = fit.sizes; locals = fit.locals; privates = subst (λ z. z < number_limit) (sym (one_longer n.privates v)) one; variables = fit.variables }
-
 abbrev PrivatesMade : List ℕ → ℕ → Code → Notes → Notes → Type 0
 PrivatesMade vs more c n n3 = n3 ≡ record n { privates = n.privates ++ vs; variables = n.variables + more; blocks = c ∷ n.blocks }
 
@@ -446,12 +426,6 @@ read_privates (v ∷ vs) more c n n3 e fit h few small f s =
     let inner = read_body Privates n1 _ n3 (read_privates vs more c n1 n3 e1 (privates_fit n v fit one) p.2 fewer small f s) in
     let rest = subst (λ z. Reads kernels (Form (Indent 1) ∷ Form Privates ∷ []) n1 (spell_privates z vs (spell_variables n.variables more (spell_code 0 c []))) [] n3) longer inner in
     record { mid = _; behind_indent = refl; begins = record { piece = uint; alternative = _; behind = _; whole = refl; has = a_declaration; reads = takes (gives (new_private one) (takes (gives (private_length p.0 p.1) (notes refl (takes (takes (takes rest))))))) } }
-
-abbrev with_local : Notes → ℕ → Notes
-with_local n v = record n { locals = n.locals ++ v ∷ [] }
-
-locals_fit : (n : Notes) (v : ℕ) → CountsFit n → suc (length n.locals) < number_limit → CountsFit (with_local n v)
-locals_fit n v fit one = record { inputs = fit.inputs; outputs = fit.outputs; sizes = fit.sizes; locals = subst (λ z. z < number_limit) (sym (one_longer n.locals v)) one; privates = fit.privates; variables = fit.variables }
 
 abbrev LocalsMade : (ls ps : List ℕ) → ℕ → Code → Notes → Notes → Type 0
 LocalsMade ls ps more c n n3 = n3 ≡ record n { locals = n.locals ++ ls; privates = n.privates ++ ps; variables = n.variables + more; blocks = c ∷ n.blocks }

@@ -11,8 +11,9 @@ use Rattle.kernel_tree.specs.Grammar.{deepest, height, is_constant, is_operator,
 use Rattle.kernel_tree.specs.Pieces.{is_word, joined, ArePieces}
 use Rattle.kernel_tree.specs.KernelText.{Piece, Notes, counted, all_of as notes_of, number_limit, array_name, id_name, space, line, comma, semicolon, question, colon, closes, opens, bar, index_begins, index_ends, uint, global, local, const, for, barrier, local_flag, global_flag, least, greatest, nought, loop_variable, zero_literal, one_literal}
 use Rattle.kernel_spelling.specs.Spelling.{is_called, spell, spell_sign, spell_comparison, spell_id, spell_start, spell_stride, spell_flags, spell_end, spell_code, loop_line, test_line, step_line, block_line, spell_locals, spell_privates, spell_variables, spell_sizes, spell_outputs, spell_inputs, first_output, spell_body, spelled_with, spelled, HasText}
+use Rattle.kernel_spelling.specs.Meaning.{CountsFit}
 use Rattle.kernel_spelling.proofs.Cut.{Stand, NoWord, NoBlank, all_of, word, single, blanks, indented, a_name, a_literal, decimal_word, small_number}
-use Rattle.kernel_spelling.proofs.Spelled.{CountsFit, smaller, loops_small, array_small, writable_readable, loop_fits, length_parts}
+use Rattle.kernel_spelling.proofs.Spelled.{smaller, loops_small, array_small, writable_readable, loop_fits, length_parts}
 use Rattle.kernel_spelling.proofs.Whole.{kernel_fits}
 
 a_word : (w : Piece) (ps : List Piece) → all_of is_word w ≡ true → 0 < length w → NoWord ps → Stand ps → Stand (w ∷ ps)

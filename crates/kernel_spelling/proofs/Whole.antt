@@ -1,5 +1,5 @@
 -- What is read is a kernel, spelled.
-use Rattle.std.proofs.Common.{◌≡◌, ℕ, zero, suc, ◌+◌, List, [], ◌∷◌, ◌++◌, true, refl, ap, sym, ◌∙◌, subst, arith, length}
+use Rattle.std.proofs.Common.{◌≡◌, ℕ, zero, suc, ◌+◌, List, [], ◌∷◌, ◌++◌, true, refl, ap, sym, ◌∙◌, subst, arith, length, ◌<◌, lit<}
 use Rattle.std.specs.Prelude.{nat_lt, nat_le, ◌&&◌, ◌||◌, codes}
 use Rattle.std.proofs.lemmas.Bool.{and_from, and_parts, lt-ltb}
 use Rattle.readings.specs.Readings.{Form, Reads}
@@ -7,9 +7,9 @@ use Rattle.readings.specs.Meanings.{read_means}
 use Rattle.kernel_tree.specs.Formula.{Formula, Number, Variable, LoopVariable, Size, Id, Binary, Choose}
 use Rattle.kernel_tree.specs.Code.{Array, Input, Output, Local, Private, Code, End, Assigns, Loads, Stores, Loops, Syncs, Kernel}
 use Rattle.kernel_tree.specs.Grammar.{deepest, is_operator, is_constant, height, names_declared, is_expression, is_readable, is_writable, are_statements, has_statement, are_lengths, is_kernel}
-use Rattle.kernel_tree.specs.KernelText.{Piece, Notes, Item, texts, counted, all_of, line, block_begins, kernels, start, nothing, Indent, Locals, Parameter, space, opens, indent}
+use Rattle.kernel_tree.specs.KernelText.{Piece, Notes, number_limit, Item, texts, counted, all_of, line, block_begins, kernels, start, nothing, Indent, Locals, Parameter, space, opens, indent}
 use Rattle.kernel_spelling.specs.Spelling.{spell_code, spell_locals, spell_privates, spell_variables, spell_head, spell_inputs, first_output, spell_outputs, spell_sizes, spelled, spelled_with, HasText}
-use Rattle.kernel_spelling.specs.Meaning.{Means, AreParameters, AreLocals}
+use Rattle.kernel_spelling.specs.Meaning.{CountsFit, Means, AreParameters, AreLocals}
 use Rattle.kernel_spelling.proofs.Kept.{before, at_tokens, at_indent, kept}
 use Rattle.kernel_spelling.proofs.Spelled.{reads_kernel}
 
@@ -83,9 +83,13 @@ pub record IsWhole (ps : List Piece) (n : Notes) : Type 0 where
   pub privates : are_lengths n.privates ≡ true
   pub fits : are_statements (counted n) 0 code ≡ true
   pub some : has_statement code ≡ true
+  pub few : CountsFit n
   pub values : n.values ≡ []
   pub blocks : n.blocks ≡ code ∷ []
   pub spelled : ps ≡ parts n.inputs more n.sizes (body_parts n.locals n.privates n.variables code)
+
+none_fit : CountsFit nothing
+none_fit = let none : 0 < number_limit = lit< tt in record { inputs = none; outputs = none; sizes = none; locals = none; privates = none; variables = none }
 
 zero_plus : (x : ℕ) → 0 + x ≡ x
 zero_plus x = omega arith
@@ -118,6 +122,7 @@ assembled ps x y z w m2 n n1 n2 e1 p e2 e3 b e4 e5 =
       privates = subst (λ z. are_lengths z ≡ true) privates b.private_lengths;
       fits = subst (λ (q : Notes). are_statements (counted q) 0 b.code ≡ true) e4 b.fits;
       some = b.some;
+      few = subst CountsFit e4 (b.few (p.few none_fit));
       values = ap (λ (q : Notes). q.values) last;
       blocks = ap (λ (q : Notes). q.blocks) last;
       spelled = all ∙ ap (parts p.inputs p.outputs p.sizes) (body ∙ same_body) ∙ ap (λ v. parts v p.outputs p.sizes (body_parts n.locals n.privates n.variables b.code)) inputs ∙ ap (λ v. parts n.inputs p.outputs v (body_parts n.locals n.privates n.variables b.code)) sizes;
@@ -138,16 +143,25 @@ one_block c d e = cc (e)
 positive : (x : ℕ) → nat_lt 0 (suc x) ≡ true
 positive x = lt-ltb 0 (suc x) (omega arith)
 
--- a kernel that is made by a reading is in the grammar, and its pieces are its spelling
-pub made_whole : (ps : List Piece) (k : Kernel) → Reads kernels start nothing ps [] (all_of k) → (is_kernel k ≡ true) × (ps ≡ spelled k)
+-- a kernel that is made by a reading has a text, and its pieces are its spelling
+pub made_whole : (ps : List Piece) (k : Kernel) → Reads kernels start nothing ps [] (all_of k) → HasText k × (ps ≡ spelled k)
 made_whole ps k r =
     let h = whole ps (all_of k) r in
     let code : h.code ≡ k.code = sym (one_block k.code h.code h.blocks) in
     let fits : are_statements k 0 k.code ≡ true = sym (statements_same k 0 k.code) ∙ subst (λ c. are_statements (counted (all_of k)) 0 c ≡ true) code h.fits in
     let some : has_statement k.code ≡ true = subst (λ c. has_statement c ≡ true) code h.some in
     let inner = and_from (are_lengths k.privates) _ h.privates (and_from (has_statement k.code) (are_statements k 0 k.code) some fits) in
-    let outputs : nat_lt 0 k.outputs ≡ true = subst (λ z. nat_lt 0 z ≡ true) (sym h.outputs) (positive h.more) in (
-      and_from (nat_lt 0 k.outputs) _ outputs (and_from (are_lengths k.locals) _ h.locals inner),
+    let outputs : nat_lt 0 k.outputs ≡ true = subst (λ z. nat_lt 0 z ≡ true) (sym h.outputs) (positive h.more) in
+    let few = h.few in (
+      record {
+        in_grammar = and_from (nat_lt 0 k.outputs) _ outputs (and_from (are_lengths k.locals) _ h.locals inner);
+        inputs = few.inputs;
+        outputs = few.outputs;
+        sizes = few.sizes;
+        locals = few.locals;
+        privates = few.privates;
+        variables = few.variables;
+      },
       h.spelled ∙ ap (λ c. parts k.inputs h.more k.sizes (body_parts k.locals k.privates k.variables c)) code ∙ ap (spelled_with k) (sym h.outputs),
     )
 

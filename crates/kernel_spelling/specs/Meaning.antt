@@ -1,11 +1,20 @@
 -- What the forms of a kernel's text mean: what they note, and how that is spelled.
-use Rattle.std.specs.Prelude.{◌≡◌, ℕ, suc, ◌+◌, ◌≤◌, Bool, true, false, List, [], ◌∷◌, ◌++◌, Some, nat_lt, length}
+use Rattle.std.specs.Prelude.{◌≡◌, ℕ, suc, ◌+◌, ◌≤◌, ◌<◌, Bool, true, false, List, [], ◌∷◌, ◌++◌, Some, nat_lt, length}
 use Rattle.scalar_ops.specs.declared.op.Op.{Op}
 use Rattle.kernel_tree.specs.Formula.{IdForm, Comparison, Formula, Id, Binary, Choose}
 use Rattle.kernel_tree.specs.Code.{Local, Private, Output, Start, Stride, Code, Kernel}
 use Rattle.kernel_tree.specs.Grammar.{deepest, height, is_constant, is_operator, names_declared, are_statements, has_statement, are_lengths}
-use Rattle.kernel_tree.specs.KernelText.{Piece, Part, Parameter, Pointer, NewInput, NewOutput, AfterOutput, OutputOrSize, NewSize, AfterSize, Locals, NewLocal, LocalLength, Privates, Declared, PrivateLength, Variables, NewVariable, Statement, Next, Source, Fence, AfterLocal, Beginning, BeginningId, Step, StepId, Turn, Indent, Value, Opened, IdName, Rest, AfterLess, Notes, counted, noted, loop_of, array_name, id_name, space, comma, star, equals, less, question, colon, opens, closes, nought, index_begins, const, uint, global, local, barrier, local_flag, indent, variable, loop_variable}
+use Rattle.kernel_tree.specs.KernelText.{Piece, Part, Parameter, Pointer, NewInput, NewOutput, AfterOutput, OutputOrSize, NewSize, AfterSize, Locals, NewLocal, LocalLength, Privates, Declared, PrivateLength, Variables, NewVariable, Statement, Next, Source, Fence, AfterLocal, Beginning, BeginningId, Step, StepId, Turn, Indent, Value, Opened, IdName, Rest, AfterLess, Notes, number_limit, counted, noted, loop_of, array_name, id_name, space, comma, star, equals, less, question, colon, opens, closes, nought, index_begins, const, uint, global, local, barrier, local_flag, indent, variable, loop_variable}
 use Rattle.kernel_spelling.specs.Spelling.{is_called, spell_sign, spell_comparison, spell, spell_stride, loop_line, block_line, spell_code, spell_locals, spell_privates, spell_variables, spell_sizes, spell_outputs, spell_inputs, first_output}
+
+-- the names declared so far have numbers below 2 ^ 32
+pub record CountsFit (n : Notes) : Type 0 where
+  pub inputs : n.inputs < number_limit
+  pub outputs : n.outputs < number_limit
+  pub sizes : n.sizes < number_limit
+  pub locals : length n.locals < number_limit
+  pub privates : length n.privates < number_limit
+  pub variables : n.variables < number_limit
 
 -- ---- expressions
 
@@ -78,6 +87,7 @@ pub record AreVariables (first : List Piece → List Piece) (n : Notes) (ts : Li
   pub some : has_statement code ≡ true
   pub spelled : first ts ≡ spell_variables n.variables more (spell_code 0 code back)
   pub noted : n1 ≡ record n { variables = n.variables + more; blocks = code ∷ n.blocks }
+  pub few : CountsFit n → CountsFit n1
 
 pub record ArePrivates (first : List Piece → List Piece) (n : Notes) (ts : List Piece) (n1 : Notes) (back : List Piece) : Type 0 where
   pub privates : List ℕ
@@ -88,6 +98,7 @@ pub record ArePrivates (first : List Piece → List Piece) (n : Notes) (ts : Lis
   pub lengths : are_lengths privates ≡ true
   pub spelled : first ts ≡ spell_privates (length n.privates) privates (spell_variables n.variables more (spell_code 0 code back))
   pub noted : n1 ≡ record n { privates = n.privates ++ privates; variables = n.variables + more; blocks = code ∷ n.blocks }
+  pub few : CountsFit n → CountsFit n1
 
 pub record AreLocals (first : List Piece → List Piece) (n : Notes) (ts : List Piece) (n1 : Notes) (back : List Piece) : Type 0 where
   pub locals : List ℕ
@@ -100,6 +111,7 @@ pub record AreLocals (first : List Piece → List Piece) (n : Notes) (ts : List 
   pub private_lengths : are_lengths privates ≡ true
   pub spelled : first ts ≡ spell_locals (length n.locals) locals (spell_privates (length n.privates) privates (spell_variables n.variables more (spell_code 0 code back)))
   pub noted : n1 ≡ record n { locals = n.locals ++ locals; privates = n.privates ++ privates; variables = n.variables + more; blocks = code ∷ n.blocks }
+  pub few : CountsFit n → CountsFit n1
 
 -- ---- sizes, outputs and inputs, each behind what stands before it
 
@@ -107,12 +119,14 @@ pub record AreSizes (first : List Piece → List Piece) (n : Notes) (ts : List P
   pub sizes : ℕ
   pub spelled : first ts ≡ spell_sizes n.sizes sizes back
   pub noted : n1 ≡ record n { sizes = n.sizes + sizes }
+  pub few : CountsFit n → CountsFit n1
 
 pub record AreOutputs (first : List Piece → List Piece) (n : Notes) (ts : List Piece) (n1 : Notes) (back : List Piece) : Type 0 where
   pub outputs : ℕ
   pub sizes : ℕ
   pub spelled : first ts ≡ spell_outputs n.outputs outputs (spell_sizes n.sizes sizes back)
   pub noted : n1 ≡ record n { outputs = n.outputs + outputs; sizes = n.sizes + sizes }
+  pub few : CountsFit n → CountsFit n1
 
 -- an output, and what follows it
 pub record IsNewOutput (n : Notes) (ts : List Piece) (n1 : Notes) (back : List Piece) : Type 0 where
@@ -120,6 +134,7 @@ pub record IsNewOutput (n : Notes) (ts : List Piece) (n1 : Notes) (back : List P
   pub sizes : ℕ
   pub spelled : ts ≡ array_name (Output n.outputs) ∷ spell_outputs (suc n.outputs) outputs (spell_sizes n.sizes sizes back)
   pub noted : n1 ≡ record n { outputs = n.outputs + suc outputs; sizes = n.sizes + sizes }
+  pub few : CountsFit n → CountsFit n1
 
 pub record AreParameters (first : List Piece → List Piece) (n : Notes) (ts : List Piece) (n1 : Notes) (back : List Piece) : Type 0 where
   pub inputs : ℕ
@@ -127,6 +142,7 @@ pub record AreParameters (first : List Piece → List Piece) (n : Notes) (ts : L
   pub sizes : ℕ
   pub spelled : first ts ≡ spell_inputs n.inputs inputs (first_output n.outputs (spell_outputs (suc n.outputs) outputs (spell_sizes n.sizes sizes back)))
   pub noted : n1 ≡ record n { inputs = n.inputs + inputs; outputs = n.outputs + suc outputs; sizes = n.sizes + sizes }
+  pub few : CountsFit n → CountsFit n1
 
 -- ---- all forms
 
@@ -148,10 +164,10 @@ Means n NewSize ts n1 back = AreSizes (λ z. comma ∷ space ∷ const ∷ space
 Means n AfterSize ts n1 back = AreSizes (λ z. z) n ts n1 back
 Means n Locals ts n1 back = AreLocals (λ z. indent 1 ∷ z) n ts n1 back
 Means n NewLocal ts n1 back = AreLocals (λ z. indent 1 ∷ local ∷ space ∷ uint ∷ space ∷ z) n ts n1 back
-Means n LocalLength ts n1 back = AreLocals (local_line n) n ts n1 back
+Means n LocalLength ts n1 back = suc (length n.locals) < number_limit → AreLocals (local_line n) n ts n1 back
 Means n Privates ts n1 back = ArePrivates (λ z. indent 1 ∷ z) n ts n1 back
 Means n Declared ts n1 back = ArePrivates (λ z. indent 1 ∷ uint ∷ space ∷ z) n ts n1 back
-Means n PrivateLength ts n1 back = ArePrivates (private_line n) n ts n1 back
+Means n PrivateLength ts n1 back = suc (length n.privates) < number_limit → ArePrivates (private_line n) n ts n1 back
 Means n Variables ts n1 back = AreVariables (λ z. indent 1 ∷ z) n ts n1 back
 Means n NewVariable ts n1 back = AreVariables (λ z. indent 1 ∷ uint ∷ space ∷ z) n ts n1 back
 Means n (Statement l) ts n1 back = IsStatement (λ z. indent (suc l) ∷ z) n l ts n1 back
