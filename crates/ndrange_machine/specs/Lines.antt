@@ -31,6 +31,12 @@ depth (Stores a i e after) = depth after
 depth (Loops s b c body after) = max (suc (depth body)) (depth after)
 depth (Syncs on_local on_global after) = depth after
 
+-- in how many loops an item is past the line, which was in so many
+abbrev pub past_line : Line → (inside : ℕ) → ℕ
+past_line (Head s b c exit) inside = inside + 1
+past_line (Tail head) inside = inside - 1
+past_line _ inside = inside
+
 -- the line after a loop whose head is at line n
 abbrev pub exit_of : ℕ → Code → ℕ
 exit_of n body = suc (suc (n + size body))

@@ -1,5 +1,5 @@
 -- What a machine is and tells after an event.
-use Rattle.std.specs.Prelude.{◌≡◌, ℕ, List, [], ◌∷◌, ◌++◌, length, Some, option_map, slice_get, nat_le, nat_lt, ◌==◌, ◌&&◌, if◌then◌else◌}
+use Rattle.std.specs.Prelude.{◌≡◌, ℕ, Bool, true, false, Option, List, [], ◌∷◌, ◌++◌, length, Some, option_map, slice_get, nat_le, nat_lt, ◌==◌, ◌&&◌, if◌then◌else◌}
 use Rattle.kernel_tree.specs.declared.events.Event.{Event}
 use Rattle.kernel_tree.specs.declared.events.Seen.{Seen}
 use Rattle.kernel_tree.specs.Code.{Kernel}
@@ -10,6 +10,8 @@ use Rattle.kernel_tree.specs.Seen.{IsSeen}
 use Rattle.ndrange_machine.specs.declared.machine.Machine.{Machine}
 use Rattle.ndrange_machine.specs.declared.item.Change.{Change}
 use Rattle.ndrange_machine.specs.declared.item.Change.TheVariants.{Keeps}
+use Rattle.ndrange_machine.specs.declared.line.Line.{Line}
+use Rattle.ndrange_machine.specs.declared.line.Line.TheVariants.{Barrier}
 use Rattle.ndrange_machine.specs.declared.want.Want.{Want}
 use Rattle.ndrange_machine.specs.declared.want.Want.TheVariants.{Waits}
 use Rattle.ndrange_machine.specs.Changes.{changed}
@@ -33,6 +35,14 @@ Takes old e new seen = (k : Kernel) (l : Launch) (c : Cells) (es : List Event)
 -- this is what the j-th work-item wants
 abbrev pub Wants : Machine → (j : ℕ) → Want → Type 0
 Wants m j w = (it : ItemView) → slice_get m.items.items j ≡ Some it → w ≡ wanted m.lines.items (ids_of m.launch j) it
+
+abbrev pub is_barrier : Option Line → Bool
+is_barrier (Some (Barrier on_local on_global)) = true
+is_barrier _ = false
+
+-- whether the j-th work-item stands at a barrier
+abbrev pub IsAtBarrier : Machine → (j : ℕ) → Bool → Type 0
+IsAtBarrier m j b = (it : ItemView) → slice_get m.items.items j ≡ Some it → b ≡ is_barrier (slice_get m.lines.items it.line)
 
 -- the machine with one work-item changed, but for memory
 pub record Changes (m n : Machine) (j : ℕ) (c : Change) (line : ℕ) : Type 0 where

@@ -1,9 +1,9 @@
 //! The kernel's text, line by line.
 
-ghost use Rattle.std.specs.Prelude.{◌≡◌, ◌++◌, map, length, OnOk};
+ghost use Rattle.std.specs.Prelude.{◌≡◌, ◌+◌, ◌<◌, ◌^◌, ◌++◌, map, length, OnOk};
 ghost use Rattle.kernel_tree.specs.Code.{Code, End};
 ghost use Rattle.kernel_tree.specs.Tree.{before, code_then};
-ghost use Rattle.ndrange_machine.specs.Lines.{lines_at, depth};
+ghost use Rattle.ndrange_machine.specs.Lines.{lines_at, depth, past_line};
 ghost use Rattle.ndrange_machine.specs.Wants.{text_of, with_exit};
 
 use kernel_tree::tree::{Array, Expr, Start, Stmt, Stride};
@@ -81,17 +81,23 @@ fn lay_one(alloc: Global, lines: &mut Vec<Line>, statement: Stmt) -> Result<(), 
 pub fn depth_of(lines: &[Line]) -> usize
     ensures { (code : Code) → map text_of lines.now ≡ lines_at 0 code → result ≡ depth code }
 {
-    let mut open = 0usize;
+    let mut inside = 0usize;
     let mut most = 0usize;
     for line in lines {
-        match line {
-            Line::Head(..) => {
-                open += 1;
-                most = most.max(open);
-            }
-            Line::Tail(_) => open = open.saturating_sub(1),
-            _ => {}
-        }
+        inside = loops_past(line, inside);
+        most = most.max(inside);
     }
     most
+}
+
+// In how many loops a work-item is past the line.
+fn loops_past(line: &Line, inside: usize) -> usize
+    requires { inside + 1 < 2 ^ 64 }
+    ensures { result ≡ past_line (text_of line.now) inside }
+{
+    match line {
+        Line::Head(..) => inside + 1,
+        Line::Tail(_) => inside.saturating_sub(1),
+        _ => inside,
+    }
 }

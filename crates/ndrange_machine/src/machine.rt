@@ -5,6 +5,7 @@ ghost use Rattle.kernel_tree.specs.Code as code;
 ghost use Rattle.kernel_tree.specs.Launch as seen;
 ghost use Rattle.kernel_tree.specs.declared.events.Event as held_event;
 ghost use Rattle.kernel_tree.specs.declared.events.Event.TheVariants as event_form;
+ghost use Rattle.kernel_tree.specs.declared.events.Access.TheVariants as access;
 ghost use Rattle.kernel_tree.specs.Device.{device_of, AllEnded};
 ghost use Rattle.kernel_tree.specs.Kernels.{kernel_of};
 ghost use Rattle.kernel_tree.specs.Schedule.{AreEnabled};
@@ -36,7 +37,7 @@ pub struct Machine {
 
 impl Machine {
     ghost use Rattle.ndrange_machine.specs.Stands.{StandsFor, CountsEnabled, AreOutputs, state_after};
-    ghost use Rattle.ndrange_machine.specs.Takes.{Takes, Changes, Passes, Wants};
+    ghost use Rattle.ndrange_machine.specs.Takes.{Takes, Changes, Passes, Wants, IsAtBarrier};
 
     /// The machine at the start of the kernel's run. All its memory is taken here. So far it is for
     /// one work-item.
@@ -93,10 +94,7 @@ impl Machine {
             → AreEnabled (device_of kernel l c) (state_after kernel l c es) all
             → k < length all → slice_get all k ≡ Some result }
     {
-        match self.want(k) {
-            Want::Waits { .. } => Event::Release(k),
-            _ => Event::Step(k),
-        }
+        if self.is_at_barrier(k) { Event::Release(k) } else { Event::Step(k) }
     }
 
     /// Whether all work-items have ended.
@@ -140,6 +138,16 @@ impl Machine {
         outs
     }
 
+    // Whether the work-item of this number stands at a barrier.
+    fn is_at_barrier(&self, item: u32) -> bool
+        ensures { IsAtBarrier self.now item result }
+    {
+        match self.items.get(item as usize) {
+            Some(it) => matches!(self.lines.get(it.line()), Some(Line::Barrier { .. })),
+            None => false,
+        }
+    }
+
     // What the work-item of this number wants.
     fn want(&self, item: u32) -> Want
         ensures { Wants self.now item result }
@@ -175,7 +183,7 @@ impl Machine {
             → Takes self.old (event_form.Step item) self.new result }
     {
         let event = Event::Step(item);
-        let access = shared(array, index).map(Access::Read);
+        let access = read_of(array, index);
         let group = item / self.launch.local;
         match self.memory.read(array, group, item, index) {
             Some(word) => {
@@ -195,7 +203,7 @@ impl Machine {
             → Takes self.old (event_form.Step item) self.new result }
     {
         let event = Event::Step(item);
-        let access = shared(array, index).map(Access::Write);
+        let access = write_of(array, index);
         let group = item / self.launch.local;
         let there = self.memory.write(array, group, item, index, word);
         self.change(item, Change::Keeps, line);
@@ -262,6 +270,20 @@ fn shared(array: Array, index: u32) -> Option<Cell>
         Array::Private(_) => None,
         _ => Some(Cell { array, index }),
     }
+}
+
+// The read as it is seen.
+fn read_of(array: Array, index: u32) -> Option<Access>
+    ensures { result ≡ option_map access.Read (shared_cell (array_of array) index) }
+{
+    shared(array, index).map(Access::Read)
+}
+
+// The write as it is seen.
+fn write_of(array: Array, index: u32) -> Option<Access>
+    ensures { result ≡ option_map access.Write (shared_cell (array_of array) index) }
+{
+    shared(array, index).map(Access::Write)
 }
 
 // What is seen of an event that is no race.

@@ -39,7 +39,7 @@ impl Memory {
             result ≡ is_some (held self.old (record { array = a; home = home group item a; index = index })) }
         ensures outputs { length self.new.outs.items ≡ length self.old.outs.items }
         ensures cells { let a = array_of array in
-            let d = record { array = a; home = home group item a; index = index } in
+            let d : Cell = record { array = a; home = home group item a; index = index } in
             (c : Cell) → held self.new c
             ≡ (if same_cell c d && is_some (held self.old d) then Some word else held self.old c) }
     {
@@ -83,7 +83,10 @@ fn rows(alloc: Global, lengths: &[u32], word: u32) -> Result<Vec<Vec<u32>>, Allo
 fn read_at(homes: &[Vec<Vec<u32>>], home: u32, row: u32, index: u32) -> Option<u32>
     ensures { result ≡ cell_in (rows_at homes.now home) row index }
 {
-    read_in(homes.get(home as usize)?, row, index)
+    match homes.get(home as usize) {
+        Some(rows) => read_in(rows, row, index),
+        None => None,
+    }
 }
 
 fn write_at(homes: &mut [Vec<Vec<u32>>], home: u32, row: u32, index: u32, word: u32) -> bool

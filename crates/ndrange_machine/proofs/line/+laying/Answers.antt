@@ -1,0 +1,20 @@
+use Rattle.std.proofs.Common.{◌≡◌, ◌++◌, length, map, ◌∙◌, sym, ap, rules}
+use Rattle.kernel_tree.specs.Code.{End}
+use Rattle.kernel_tree.specs.Tree.{before}
+use Rattle.ndrange_machine.specs.Lines.{lines_at}
+use Rattle.ndrange_machine.specs.Wants.{text_of}
+use Rattle.ndrange_machine.proofs.Laying.{laid_on, laid_loop}
+use Rattle.ndrange_machine.proofs.line.+laying.Goals as goal
+
+pub lay-loop-statement-preserved : goal.lay-loop-statement-preserved
+lay-loop-statement-preserved t c =
+    laid_on c.args.lines.now.items c.loop-statement.lines.items c.lay_one.new.lines.items c.loop-statement.yielded c.in-Some.statement c.loop-statement.invariant c.in_ok-lay_one.ensures
+
+pub lay_one-returns-in_ok-push-in-Loop-2 : goal.lay_one-returns-in_ok-push-in-Loop-2
+lay_one-returns-in_ok-push-in-Loop-2 t c =
+    let before_it = c.args.lines.now in
+    let all = c.push-in-Loop-2.new.self in
+    let head : c.len-head.result ≡ length before_it.items = search rules in
+    let exit : c.len-exit.result ≡ length all.items = search rules in
+    laid_loop before_it.items c.push-in-Loop.new.self.items c.lay.new.lines.items all.items c.len-head.result c.len-exit.result c.in-Loop.start c.in-Loop.bound c.in-Loop.stride c.in-Loop.body c.index_mut.result.now c.set_exit.new.self head exit c.in_ok-push-in-Loop.ensures.items c.in_ok-lay-in-Loop.ensures c.in_ok-push-in-Loop-2.ensures.items c.index_mut.ensures.value c.set_exit.ensures
+    ∙ ap (λ s. map text_of before_it.items ++ lines_at (length before_it.items) (before s End)) (sym c.in-Loop.is)
