@@ -5,3 +5,4 @@ pub mod Next
 pub mod Places
 pub mod Rows
 pub mod Standing
+pub mod Stepping

@@ -33,8 +33,8 @@ Takes old e new seen = (k : Kernel) (l : Launch) (c : Cells) (es : List Event)
     → Took k l c es e new seen
 
 -- this is what the j-th work-item wants
-abbrev pub Wants : Machine → (j : ℕ) → Want → Type 0
-Wants m j w = (it : ItemView) → slice_get m.items.items j ≡ Some it → w ≡ wanted m.lines.items (ids_of m.launch j) it
+abbrev pub IsWanted : Machine → (j : ℕ) → Want → Type 0
+IsWanted m j w = (it : ItemView) → slice_get m.items.items j ≡ Some it → w ≡ wanted m.lines.items (ids_of m.launch j) it
 
 abbrev pub is_barrier : Option Line → Bool
 is_barrier (Some (Barrier on_local on_global)) = true

@@ -1,6 +1,6 @@
 //! The machine.
 
-ghost use Rattle.std.specs.Prelude.{◌≡◌, ◌↔◌, ◌+◌, ◌*◌, ◌^◌, ◌<◌, ℕ, List, [], length, map, slice_get, Some, None, option_map, replicate, IsTrue, IfOk};
+ghost use Rattle.std.specs.Prelude.{◌≡◌, ◌↔◌, ◌+◌, ◌*◌, ◌/◌, ◌^◌, ◌<◌, ℕ, List, [], length, map, slice_get, Some, None, option_map, replicate, IsTrue, IfOk};
 ghost use Rattle.kernel_tree.specs.Code as code;
 ghost use Rattle.kernel_tree.specs.Launch as seen;
 ghost use Rattle.kernel_tree.specs.declared.events.Event as held_event;
@@ -37,7 +37,7 @@ pub struct Machine {
 
 impl Machine {
     ghost use Rattle.ndrange_machine.specs.Stands.{StandsFor, CountsEnabled, AreOutputs, state_after};
-    ghost use Rattle.ndrange_machine.specs.Takes.{Takes, Changes, Passes, Wants, IsAtBarrier};
+    ghost use Rattle.ndrange_machine.specs.Takes.{Takes, Changes, Passes, IsWanted, IsAtBarrier};
 
     /// The machine at the start of the kernel's run. All its memory is taken here. So far it is for
     /// one work-item.
@@ -150,12 +150,19 @@ impl Machine {
 
     // What the work-item of this number wants.
     fn want(&self, item: u32) -> Want
-        ensures { Wants self.now item result }
+        ensures { IsWanted self.now item result }
     {
         match self.items.get(item as usize) {
             Some(it) => it.want(&self.lines, Ids::of_item(&self.launch, item), &self.launch.sizes),
             None => Want::Ends,
         }
+    }
+
+    // The group of a work-item.
+    fn group_of(&self, item: u32) -> u32
+        ensures { result ≡ item / self.now.launch.local }
+    {
+        item / self.launch.local
     }
 
     // Takes the next step of a work-item.
@@ -179,12 +186,12 @@ impl Machine {
 
     // Loads a cell's word into a private variable, and goes to the line.
     fn load(&mut self, item: u32, variable: u32, array: Array, index: u32, line: usize) -> Seen
-        ensures { Wants self.old item (want_form.Reads variable array index line)
+        ensures { IsWanted self.old item (want_form.Reads variable array index line)
             → Takes self.old (event_form.Step item) self.new result }
     {
         let event = Event::Step(item);
         let access = read_of(array, index);
-        let group = item / self.launch.local;
+        let group = self.group_of(item);
         match self.memory.read(array, group, item, index) {
             Some(word) => {
                 self.change(item, Change::Sets(variable, word), line);
@@ -199,12 +206,12 @@ impl Machine {
 
     // Stores the word in a cell, and goes to the line.
     fn store(&mut self, item: u32, array: Array, index: u32, word: u32, line: usize) -> Seen
-        ensures { Wants self.old item (want_form.Writes array index word line)
+        ensures { IsWanted self.old item (want_form.Writes array index word line)
             → Takes self.old (event_form.Step item) self.new result }
     {
         let event = Event::Step(item);
         let access = write_of(array, index);
-        let group = item / self.launch.local;
+        let group = self.group_of(item);
         let there = self.memory.write(array, group, item, index, word);
         self.change(item, Change::Keeps, line);
         let fault = if there { None } else { Some(FaultKind::OutOfRange) };
