@@ -252,7 +252,7 @@ pub local_is : (l : Launch) → IsWhole l → l.global ≡ 1 → l.local ≡ 1
 local_is l w one = divides_one (l.global / l.local) l.local w.positive (sym one ∙ w.divides)
 
 module _ (d : Device) (s : State) (one : d.launch.global ≡ 1) (alone : d.launch.local ≡ 1) where
-  only_group : (g : ℕ) → g < group_count d.launch → g ≡ 0
+  pub only_group : (g : ℕ) → g < group_count d.launch → g ≡ 0
   only_group g lt = let e : group_count d.launch ≡ 1 = ap (λ n. n / d.launch.local) one ∙ ap (λ n. 1 / n) alone in omega arith
 
   its_group : (j : ℕ) → group_of d.launch j ≡ j

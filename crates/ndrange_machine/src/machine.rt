@@ -171,7 +171,8 @@ impl Machine {
     {
         let event = Event::Step(item);
         match self.want(item) {
-            Want::Ends | Want::Waits { .. } => seen(event, None, None),
+            Want::Ends => seen(event, None, None),
+            Want::Waits { .. } => seen(event, None, None),
             Want::Fails(kind) => seen(event, None, Some(kind)),
             Want::Changes(change, line) => {
                 self.change(item, change, line);
@@ -214,8 +215,11 @@ impl Machine {
         let group = self.group_of(item);
         let there = self.memory.write(array, group, item, index, word);
         self.change(item, Change::Keeps, line);
-        let fault = if there { None } else { Some(FaultKind::OutOfRange) };
-        seen(event, access, fault)
+        if there {
+            seen(event, access, None)
+        } else {
+            seen(event, access, Some(FaultKind::OutOfRange))
+        }
     }
 
     // Takes the work-items of a group past their barrier.
