@@ -29,7 +29,7 @@ rows_are [] zero rows e h lt = absurd (omega arith)
 rows_are [] (suc count) rows e h lt = cc
 rows_are (r ∷ all) zero rows e h lt = absurd (omega arith)
 rows_are (r ∷ all) (suc count) rows e zero lt = cc
-rows_are (r ∷ all) (suc count) rows e (suc h) lt = rows_are all count rows cc h (omega arith)
+rows_are (r ∷ all) (suc count) rows e (suc h) lt = rows_are all count rows (cc) h (omega arith)
 
 words_are : (all : List Rows) (count w : ℕ) (ns : List ℕ) → map (λ r. rows_of r.items) all ≡ replicate count (map (λ n. replicate n w) ns) → (h a i x : ℕ) → cell_in (rows_at all h) a i ≡ Some x → w ≡ x
 words_are [] count w ns e h a i x q = let n : None ≡ Some x = sym (no_cell a i) ∙ q in cc
@@ -37,7 +37,7 @@ words_are (r ∷ all) zero w ns e h a i x q = cc
 words_are (r ∷ all) (suc count) w ns e zero a i x q =
     let same : rows_of r.items ≡ map (λ n. replicate n w) ns = cc in
     word_in_row ns w a i x (ap (λ z. slice_get (row z a) i) (sym same) ∙ sym (cell_is r.items a i) ∙ q)
-words_are (r ∷ all) (suc count) w ns e (suc h) a i x q = words_are all count w ns cc h a i x q
+words_are (r ∷ all) (suc count) w ns e (suc h) a i x q = words_are all count w ns (cc) h a i x q
 
 module _ (k : Kernel) (l : Launch) (c : Cells) (m : Machine) (ins : rows_of m.memory.ins.items ≡ c.ins) (outs : rows_of m.memory.outs.items ≡ c.outs)
     (locals : map (λ r. rows_of r.items) m.memory.locals.items ≡ replicate (group_count l) (map (λ n. replicate n c.rest) k.locals))

@@ -165,6 +165,13 @@ impl Machine {
         item / self.launch.local
     }
 
+    // How many work-items are in a group.
+    fn local_size(&self) -> u32
+        ensures { result ≡ self.now.launch.local }
+    {
+        self.launch.local
+    }
+
     // Takes the next step of a work-item.
     fn go(&mut self, item: u32) -> Seen
         ensures { Takes self.old (event_form.Step item) self.new result }
@@ -228,7 +235,7 @@ impl Machine {
             group * local + local < 2 ^ 32
             → Passes self.old self.new (group * local) (group * local + local) }
     {
-        let local = self.launch.local;
+        let local = self.local_size();
         let first = group.saturating_mul(local);
         for item in first..first.saturating_add(local) {
             self.pass(item);

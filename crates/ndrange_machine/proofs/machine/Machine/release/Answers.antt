@@ -1,4 +1,4 @@
-use Rattle.std.proofs.Common.{◌≡◌, ◌+◌, ◌*◌, ◌<◌, ◌^◌, ap, subst, sym, arith}
+use Rattle.std.proofs.Common.{◌≡◌, ◌+◌, ◌*◌, ◌<◌, ◌^◌, subst, sym, arith}
 use Rattle.ndrange_machine.specs.Takes.{Passes}
 use Rattle.ndrange_machine.proofs.Passing.{passes_none, passes_more}
 use Rattle.ndrange_machine.proofs.machine.Machine.release.Goals as goal
@@ -14,9 +14,9 @@ returns c =
     let m = c.args.self.now in
     let n = c.loop-item.self in
     let g = c.args.group in
-    subst (λ local. g * local + local < 2 ^ 32 → Passes m n (g * local) (g * local + local)) (ap (λ z. z.local) c.self.view_is)
+    subst (λ local. g * local + local < 2 ^ 32 → Passes m n (g * local) (g * local + local)) c.local_size-local.ensures
     (λ lt.
-    let local = c.self.inside.local in
+    let local = c.local_size-local.result in
     let first : c.saturating_mul-first.result ≡ g * local = omega arith in
     let end : c.loop-item.item ≡ g * local + local = omega arith in
     subst (λ a. Passes m n a (g * local + local)) first (subst (Passes m n c.saturating_mul-first.result) end c.loop-item.invariant))

@@ -17,5 +17,5 @@ returns-in-Release-clause-takes c =
     let g = c.in-Release.group in
     subst (λ e. Takes m e c.release.new.self c.seen.result) (sym c.in-Release.is)
     (λ k l d es st clean en.
-    as_seen k l d es (Release g) c.release.new.self c.seen.result None None None (c.seen.ensures ∙ ap (λ e. record { event = e; access = None; fault = None }) c.in-Release.is) refl
+    as_seen k l d es (Release g) c.release.new.self c.seen.result None None None c.seen.ensures refl
     (took_release k l d m es st clean g en c.release.new.self (c.release.ensures (small_group k l d m _ st.holds g en.0))))
