@@ -9,7 +9,7 @@ use Rattle.kernel_tree.specs.declared.events.FaultKind.TheVariants.{Race, OutOfR
 use Rattle.kernel_tree.specs.declared.events.Fault.{Fault}
 use Rattle.kernel_tree.specs.declared.events.Seen.{Seen}
 use Rattle.kernel_tree.specs.Code.{Kernel}
-use Rattle.kernel_tree.specs.Launch.{Launch, Cells, IsWhole}
+use Rattle.kernel_tree.specs.Launch.{Launch, Cells, group_of}
 use Rattle.kernel_tree.specs.Item.{Wants, Ends, Waits, Moves, Reads, Writes, Fails}
 use Rattle.kernel_tree.specs.Device.{Device, State, device_of, start_state, wants, Enabled, after, run, IsRun, IsStart, IsStuck}
 use Rattle.kernel_tree.specs.Bound.{bound}
@@ -29,14 +29,14 @@ use Rattle.ndrange_device.specs.Progress.{HasCome, refusal_of}
 use Rattle.ndrange_device.proofs.Counting.{length_push}
 
 -- after some events of the run under the schedule, none of them a fault
-pub record RunsAlong (schedule : Schedule) (k : Kernel) (l : Launch) (c : Cells) (m : Machine) (p : Progress) (steps enabled : ℕ) : Type 0 where
+pub record RunsAlong (schedule : Schedule) (k : Kernel) (l : Launch) (c : Cells) (m : Machine) (p : Progress) (steps many : ℕ) : Type 0 where
   pub events : List Event
   pub stands : StandsFor k l c m events
   pub faultless : IsFaultless (device_of k l c) (start_state k c) events
   pub follows : Follows schedule 0 (device_of k l c) (start_state k c) events
   pub come : HasCome schedule events p
   pub counted : steps ≡ length events
-  pub enabled : CountsEnabled (device_of k l c) (state_after k l c events) enabled
+  pub enabled : CountsEnabled (device_of k l c) (state_after k l c events) many
 
 among_place : (all : List Event) (i : ℕ) (e : Event) → slice_get all i ≡ Some e → Among e all
 among_place [] zero e h = cc
@@ -74,7 +74,7 @@ module _ (d : Device) where
   one_item_of s (Release g) a b x y = absurd x
   one_item_of s (Step j) a b x y = of_wants (wants d s j) x y
     where
-      of_wants : (w : Wants) → Among a (accessed d.launch j w (s.epochs _)) → Among b (accessed d.launch j w (s.epochs _)) → a.item ≡ b.item
+      of_wants : (w : Wants) → Among a (accessed d.launch j w (s.epochs (group_of d.launch j))) → Among b (accessed d.launch j w (s.epochs (group_of d.launch j))) → a.item ≡ b.item
       of_wants (Reads v n f) x2 y2 = ap (λ z. z.item) (⊎_elim (λ q. q) (λ z. absurd z) x2) ∙ sym (ap (λ z. z.item) (⊎_elim (λ q. q) (λ z. absurd z) y2))
       of_wants (Writes v n z u) x2 y2 = ap (λ z. z.item) (⊎_elim (λ q. q) (λ z. absurd z) x2) ∙ sym (ap (λ z. z.item) (⊎_elim (λ q. q) (λ z. absurd z) y2))
       of_wants Ends x2 y2 = absurd x2

@@ -8,7 +8,7 @@ ghost use Rattle.kernel_tree.specs.Schedule.{schedule_of, in_order};
 ghost use Rattle.ndrange_device.specs.Outcomes.{EndsUnder, Refuses};
 
 mod outcome;
-mod progress;
+pub mod progress;
 
 pub use outcome::{DeviceNo, Outcome};
 

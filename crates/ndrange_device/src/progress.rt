@@ -1,15 +1,17 @@
 //! How far a run along a schedule has come.
 
-ghost use Rattle.std.specs.Prelude.{◌≡◌, ◌+◌, ◌*◌, ◌%◌, ◌^◌, ◌∷◌, ◌++◌, List, [], length, slice_index};
+ghost use Rattle.std.specs.Prelude.{◌≡◌, ◌+◌, ◌*◌, ◌%◌, ◌^◌, ◌∷◌, ◌++◌, List, [], length, slice_index, if◌then◌else◌};
 ghost use Rattle.kernel_tree.specs.declared.events.Event as held_event;
 ghost use Rattle.kernel_tree.specs.Schedule.{schedule_of, number_at};
 ghost use Rattle.kernel_tree.specs.Schedule as order;
+ghost use Rattle.ndrange_device.specs.Outcomes.{is_release};
 
 use kernel_tree::events::Event;
 use kernel_tree::launches::Schedule;
 
 /// How many events and how many releases there were, both held at 2^64 - 1, and the state of a
 /// seed's generator.
+#[derive(Drop)]
 pub struct Progress {
     pub events: u64,
     pub releases: u64,
@@ -51,10 +53,17 @@ impl Progress {
             → HasCome schedule es self.old → HasCome schedule (es ++ event ∷ []) self.new }
     {
         self.events = self.events.saturating_add(1);
-        if let Event::Release(_) = event {
-            self.releases = self.releases.saturating_add(1);
-        }
+        self.releases = self.releases.saturating_add(releases_of(event));
         self.generator = generate(self.generator);
+    }
+}
+
+fn releases_of(event: Event) -> u64
+    ensures { result ≡ (if is_release event then 1 else 0) }
+{
+    match event {
+        Event::Step(_) => 0,
+        Event::Release(_) => 1,
     }
 }
 
