@@ -54,8 +54,8 @@ fn run_at_once(alloc: Global, kernel: Kernel, out: Vec<u32>) -> Result<Outcome, 
 }
 
 /// Whether the run ended so.
-pub fn leaves(result: &Result<Outcome, DeviceNo>, out: &[u32], events: u64, releases: u64) -> bool {
-    match result {
+pub fn leaves(ran: &Result<Outcome, DeviceNo>, out: &[u32], events: u64, releases: u64) -> bool {
+    match ran {
         Ok(outcome) => {
             outcome.outputs.len() == 1
                 && outcome.outputs[0].as_slice() == out
@@ -66,8 +66,8 @@ pub fn leaves(result: &Result<Outcome, DeviceNo>, out: &[u32], events: u64, rele
     }
 }
 
-fn faults(result: &Result<Outcome, DeviceNo>, kind: FaultKind, number: u64) -> bool {
-    match result {
+fn faults(ran: &Result<Outcome, DeviceNo>, kind: FaultKind, number: u64) -> bool {
+    match ran {
         Err(DeviceNo::Fault {
             kind: told,
             event,

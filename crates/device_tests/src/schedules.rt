@@ -6,12 +6,16 @@ use kernel_tree::events::Event;
 use kernel_tree::launches::Schedule;
 use ndrange_device::progress::Progress;
 use ndrange_device::{DeviceNo, Outcome};
-use std::alloc::Global;
+use std::alloc::{AllocError, Global};
 
 fn run_along(alloc: Global, schedule: &Schedule) -> Result<Outcome, DeviceNo> {
     let kernel = two_barriers(alloc)?;
-    let out = vec![in alloc; 0]?;
+    let out = one_cell(alloc)?;
     run(alloc, kernel, out, schedule)
+}
+
+fn one_cell(alloc: Global) -> Result<Vec<u32>, AllocError> {
+    Ok(vec![in alloc; 0]?)
 }
 
 // The schedule's numbers for the first events are these.
