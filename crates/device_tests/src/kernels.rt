@@ -17,9 +17,15 @@ pub fn two_barriers(alloc: Global) -> Result<Kernel, AllocError>
     let locals = vec![in alloc; 1]?;
     let body = vec![in alloc;
         Stmt::Store(Array::Local(0), Expr::Number(0), Expr::Number(5)),
-        Stmt::Barrier { on_local: true, on_global: false },
+        Stmt::Barrier {
+            on_local: true,
+            on_global: false
+        },
         Stmt::Load(0, Array::Local(0), Expr::Number(0)),
-        Stmt::Barrier { on_local: false, on_global: true },
+        Stmt::Barrier {
+            on_local: false,
+            on_global: true
+        },
         Stmt::Store(Array::Output(0), Expr::Number(0), Expr::Variable(0)),
     ]?;
     Ok(Kernel {
@@ -65,8 +71,15 @@ pub fn barriers_in_a_loop(alloc: Global) -> Result<Kernel, AllocError>
     ensures sizes { IfOk result (λ kernel. kernel.sizes ≡ 0) }
 {
     let inner = vec![in alloc;
-        Stmt::Barrier { on_local: true, on_global: false },
-        Stmt::Store(Array::Output(0), Expr::LoopVariable(0), Expr::Id(IdForm::GlobalSize)),
+        Stmt::Barrier {
+            on_local: true,
+            on_global: false
+        },
+        Stmt::Store(
+            Array::Output(0),
+            Expr::LoopVariable(0),
+            Expr::Id(IdForm::GlobalSize)
+        ),
     ]?;
     let body = vec![in alloc;
         Stmt::Loop(Start::LocalId, Expr::Number(2), Stride::LocalSize, inner),

@@ -2,7 +2,10 @@
 
 ghost use Rattle.std.specs.Prelude.{◌≡◌, ◌∷◌, [], IfOk};
 
-use crate::kernels::{barriers_in_a_loop, chosen, past_a_local_array, past_a_private_array, past_the_output, private_cells, quotient_by_zero, two_barriers};
+use crate::kernels::{
+    barriers_in_a_loop, chosen, past_a_local_array, past_a_private_array, past_the_output,
+    private_cells, quotient_by_zero, two_barriers,
+};
 use kernel_tree::events::FaultKind;
 use kernel_tree::launches::{Cells, Launch, Schedule};
 use kernel_tree::tree::Kernel;
@@ -68,12 +71,14 @@ pub fn leaves(ran: &Result<Outcome, DeviceNo>, out: &[u32], events: u64, release
 
 fn faults(ran: &Result<Outcome, DeviceNo>, kind: FaultKind, number: u64) -> bool {
     match ran {
-        Err(DeviceNo::Fault {
-            kind: told,
-            event,
-            item,
-            cell,
-        }) => *told == kind && *event == number && *item == 0 && cell.is_none(),
+        Err(
+            DeviceNo::Fault {
+                kind: told,
+                event,
+                item,
+                cell,
+            },
+        ) => *told == kind && *event == number && *item == 0 && cell.is_none(),
         _ => false,
     }
 }

@@ -86,9 +86,9 @@ module _ (d : Device) where
   faultless_on s es e h f = record {
     no_failure = no_failure-append d s es (e ∷ []) h.no_failure (f.0, tt);
     no_race = λ a b x y r. ⊎_elim
-    (λ p. ⊎_elim (λ q. h.no_race a b p q r) (λ q. f.1 (a, b, p, q, r)) (split b y))
-    (λ p. ⊎_elim (λ q. f.1 (b, a, q, p, other_way a b r)) (λ q. r.items (one_item_of (run d s es) e a b p q)) (split b y))
-    (split a x);
+        (λ p. ⊎_elim (λ q. h.no_race a b p q r) (λ q. f.1 (a, b, p, q, r)) (split b y))
+        (λ p. ⊎_elim (λ q. f.1 (b, a, q, p, other_way a b r)) (λ q. r.items (one_item_of (run d s es) e a b p q)) (split b y))
+        (split a x);
     no_divergence = no_divergence-append s es e h.no_divergence f.2;
   }
     where

@@ -10,14 +10,13 @@ ghost use Rattle.ndrange_device.specs.Outcomes.{EndsUnder, Refuses};
 mod outcome;
 pub mod progress;
 
-pub use outcome::{DeviceNo, Outcome};
-
 use count_tree::steps::Steps;
 use kernel_tree::launches;
 use kernel_tree::launches::{Cells, Schedule};
 use kernel_tree::tree::Kernel;
 use ndrange_machine::Machine;
 use outcome::refusal;
+pub use outcome::{DeviceNo, Outcome};
 use progress::Progress;
 use std::alloc::Global;
 use std::marker::Brand;

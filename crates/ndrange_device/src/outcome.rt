@@ -21,7 +21,12 @@ pub struct Outcome {
 pub enum DeviceNo {
     /// The event of this number, from 1, is a fault. It is a step of this work-item. A race has its
     /// cell. The number stays at 2^64 - 1 once there.
-    Fault { kind: FaultKind, event: u64, item: u32, cell: Option<Cell> },
+    Fault {
+        kind: FaultKind,
+        event: u64,
+        item: u32,
+        cell: Option<Cell>,
+    },
     /// Memory ran out.
     Memory,
 }

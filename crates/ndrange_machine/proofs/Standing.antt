@@ -188,13 +188,14 @@ module _ (k : Kernel) (l : Launch) (c : Cells) (m : Machine) (s : State) (h : Ho
       (λ e. absurd (let n : false ≡ true = e in let b : ⊥ = cc in b), λ all. absurd (goes_on k l c m s h i x got before (all i (in_launch k l c m s h i x got))))
 
   pub all_past : length seen ≤ i → ((j : ℕ) (it : ItemView) → j < i → slice_get m.items.items j ≡ Some it → length m.lines.items ≤ it.line) → IsTrue true ↔ AllEnded (device_of k l c) s
-  all_past le past =
-      (λ e j lt.
-      let it = its_item k l c m s h j lt in
-      let n = ap length same in
-      let count = h.count in
-      ended_there k l c m s h j it.0 it.1 (past j it.0 (omega arith) it.1),
-      λ all. refl)
+  all_past le past = (
+    λ e j lt.
+        let it = its_item k l c m s h j lt in
+        let n = ap length same in
+        let count = h.count in
+        ended_there k l c m s h j it.0 it.1 (past j it.0 (omega arith) it.1),
+    λ all. refl,
+  )
 
 -- an item steps, waits or has ended
 steps_or_not : (w : Wants) → CanStep w ⊎ (IsWaiting w ⊎ (w ≡ Ends))

@@ -173,9 +173,9 @@ module _ (k : Kernel) (l : Launch) (c : Cells) (m : Machine) (es : List Event) (
     whole = st.holds.whole;
     count = cs.count ∙ st.holds.count;
     items = λ i x e. ⊎_elim
-    (λ q. subst (λ z. HoldsItem z x (later.items i)) st.holds.text (subst (λ z. HoldsItem (map text_of m.lines.items) z (later.items i)) (sym q.1) (subst (λ z. HoldsItem (map text_of m.lines.items) (changed its.0 ch to) (later.items z)) (sym q.0) h)))
-    (λ q. subst (HoldsItem _ x) (sym (others_later i q.0)) (st.holds.items i x q.1))
-    (new_item n ch to cs i x e);
+        (λ q. subst (λ z. HoldsItem z x (later.items i)) st.holds.text (subst (λ z. HoldsItem (map text_of m.lines.items) z (later.items i)) (sym q.1) (subst (λ z. HoldsItem (map text_of m.lines.items) (changed its.0 ch to) (later.items z)) (sym q.0) h)))
+        (λ q. subst (HoldsItem _ x) (sym (others_later i q.0)) (st.holds.items i x q.1))
+        (new_item n ch to cs i x e);
     there = λ a h i lt. r.there a h i ∙ st.holds.there a h i lt;
     cells = r.cells;
     outs = r.outs ∙ st.holds.outs;

@@ -94,7 +94,11 @@ impl Machine {
             → AreEnabled (device_of kernel l c) (state_after kernel l c es) all
             → k < length all → slice_get all k ≡ Some result }
     {
-        if self.is_at_barrier(k) { Event::Release(k) } else { Event::Step(k) }
+        if self.is_at_barrier(k) {
+            Event::Release(k)
+        } else {
+            Event::Step(k)
+        }
     }
 
     /// Whether all work-items have ended.
@@ -153,7 +157,11 @@ impl Machine {
         ensures { IsWanted self.now item result }
     {
         match self.items.get(item as usize) {
-            Some(it) => it.want(&self.lines, Ids::of_item(&self.launch, item), &self.launch.sizes),
+            Some(it) => it.want(
+                &self.lines,
+                Ids::of_item(&self.launch, item),
+                &self.launch.sizes,
+            ),
             None => Want::Ends,
         }
     }

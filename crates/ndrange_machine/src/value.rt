@@ -49,7 +49,11 @@ pub fn bound_of(sizes: &[u32], bound: &Expr) -> Option<u32>
 fn operate(op: Op, x: u32, y: u32) -> Option<u32>
     ensures { result ≡ formula.operate op x y }
 {
-    if divides(op) && y == 0 { None } else { Some(apply(op, x, y)) }
+    if divides(op) && y == 0 {
+        None
+    } else {
+        Some(apply(op, x, y))
+    }
 }
 
 fn divides(op: Op) -> bool

@@ -19,7 +19,11 @@ pub enum Want {
     /// It has ended.
     Ends,
     /// It stands at a barrier.
-    Waits { on_local: bool, on_global: bool, next: usize },
+    Waits {
+        on_local: bool,
+        on_global: bool,
+        next: usize,
+    },
     /// It fails.
     Fails(FaultKind),
     /// It changes itself alone.
@@ -58,12 +62,16 @@ pub fn want_at(
             },
             None => Want::Fails(FaultKind::ZeroDivisor),
         },
-        Some(Line::Head(start, bound, _, exit)) => want_at_head(ids, sizes, *start, bound, at, *exit),
+        Some(Line::Head(start, bound, _, exit)) => want_at_head(
+            ids, sizes, *start, bound, at, *exit,
+        ),
         Some(Line::Tail(head)) => want_at_tail(lines, ids, sizes, *head, turns),
-        Some(Line::Barrier {
-            on_local,
-            on_global,
-        }) => Want::Waits {
+        Some(
+            Line::Barrier {
+                on_local,
+                on_global,
+            },
+        ) => Want::Waits {
             on_local: *on_local,
             on_global: *on_global,
             next: at + 1,
@@ -72,14 +80,7 @@ pub fn want_at(
 }
 
 // What an item wants at a loop's head, on the line `at`.
-fn want_at_head(
-    ids: Ids,
-    sizes: &[u32],
-    start: Start,
-    bound: &Expr,
-    at: usize,
-    exit: usize,
-) -> Want
+fn want_at_head(ids: Ids, sizes: &[u32], start: Start, bound: &Expr, at: usize, exit: usize) -> Want
     requires { at + 1 < 2 ^ 64 }
     ensures { result ≡ want_head (known ids sizes.now) (start_of start) (formula_of bound.now) at exit }
 {
