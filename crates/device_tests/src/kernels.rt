@@ -1,8 +1,6 @@
 //! Kernels of one output and no size, to be run.
 
 ghost use Rattle.std.specs.Prelude.{◌≡◌, IfOk};
-ghost use Rattle.kernel_tree.specs.Formula.{Binary, Number};
-ghost use Rattle.kernel_tree.specs.Tree.{formula_of};
 
 use kernel_tree::tree::{Array, Comparison, Expr, IdForm, Kernel, Start, Stmt, Stride};
 use scalar_ops::op::Op;
@@ -101,11 +99,23 @@ pub fn chosen(alloc: Global) -> Result<Kernel, AllocError>
     ensures outputs { IfOk result (λ kernel. kernel.outputs ≡ 1) }
     ensures sizes { IfOk result (λ kernel. kernel.sizes ≡ 0) }
 {
-    let below = Box::new(alloc, binary(alloc, Op::Sub, 1, 2)?)?;
-    let quotient = Box::new(alloc, binary(alloc, Op::Div, 1, 0)?)?;
-    let zero = Box::new(alloc, Expr::Number(0))?;
-    let one = Box::new(alloc, Expr::Number(1))?;
-    let value = Expr::Choose(Comparison::Less, zero, one, below, quotient);
+    let below = Expr::Binary(
+        Op::Sub,
+        Box::new(alloc, Expr::Number(1))?,
+        Box::new(alloc, Expr::Number(2))?,
+    );
+    let quotient = Expr::Binary(
+        Op::Div,
+        Box::new(alloc, Expr::Number(1))?,
+        Box::new(alloc, Expr::Number(0))?,
+    );
+    let value = Expr::Choose(
+        Comparison::Less,
+        Box::new(alloc, Expr::Number(0))?,
+        Box::new(alloc, Expr::Number(1))?,
+        Box::new(alloc, below)?,
+        Box::new(alloc, quotient)?,
+    );
     let body = vec![in alloc; Stmt::Store(Array::Output(0), Expr::Number(0), value)]?;
     Ok(Kernel {
         inputs: 0,
@@ -124,7 +134,11 @@ pub fn quotient_by_zero(alloc: Global) -> Result<Kernel, AllocError>
     ensures outputs { IfOk result (λ kernel. kernel.outputs ≡ 1) }
     ensures sizes { IfOk result (λ kernel. kernel.sizes ≡ 0) }
 {
-    let value = binary(alloc, Op::Div, 1, 0)?;
+    let value = Expr::Binary(
+        Op::Div,
+        Box::new(alloc, Expr::Number(1))?,
+        Box::new(alloc, Expr::Number(0))?,
+    );
     let body = vec![in alloc;
         Stmt::Store(Array::Output(0), Expr::Number(0), Expr::Number(3)),
         Stmt::Store(Array::Output(0), Expr::Number(9), value),
@@ -197,10 +211,4 @@ pub fn past_a_private_array(alloc: Global) -> Result<Kernel, AllocError>
         variables: 0,
         body,
     })
-}
-
-fn binary(alloc: Global, op: Op, a: u32, b: u32) -> Result<Expr, AllocError>
-    ensures { IfOk result (λ e. formula_of e ≡ Binary op (Number a) (Number b)) }
-{
-    Expr::binary(alloc, op, Expr::Number(a), Expr::Number(b))
 }

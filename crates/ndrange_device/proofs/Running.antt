@@ -1,5 +1,5 @@
 -- A run along a schedule, event by event.
-use Rattle.std.proofs.Common.{◌≡◌, ℕ, zero, suc, ◌+◌, ◌%◌, ◌<◌, ◌≤◌, ◌^◌, List, [], ◌∷◌, ◌++◌, length, Option, Some, None, refl, sym, ap, ◌∙◌, subst, ⊎_elim, inl, inr, arith, ◌⊎◌, length-append}
+use Rattle.std.proofs.Common.{◌≡◌, ℕ, zero, suc, ◌+◌, ◌%◌, ◌<◌, ◌≤◌, List, [], ◌∷◌, ◌++◌, length, Option, Some, None, refl, sym, ap, ◌∙◌, subst, ⊎_elim, inl, inr, arith, ◌⊎◌, length-append}
 use Rattle.std.specs.Prelude.{replicate, slice_get, option_map}
 use Rattle.std.proofs.lemmas.List.{length-replicate}
 use Rattle.kernel_tree.specs.declared.events.Event.{Event}
@@ -11,11 +11,11 @@ use Rattle.kernel_tree.specs.declared.events.Seen.{Seen}
 use Rattle.kernel_tree.specs.Code.{Kernel}
 use Rattle.kernel_tree.specs.Launch.{Launch, Cells, group_of}
 use Rattle.kernel_tree.specs.Item.{Wants, Ends, Waits, Moves, Reads, Writes, Fails}
-use Rattle.kernel_tree.specs.Device.{Device, State, device_of, start_state, wants, Enabled, after, run, IsRun, IsStart, IsStuck}
+use Rattle.kernel_tree.specs.Device.{Device, State, device_of, start_state, wants, Enabled, after, run, IsStart, IsStuck}
 use Rattle.kernel_tree.specs.Bound.{bound}
-use Rattle.kernel_tree.specs.Faults.{Access, Among, accessed, accesses_of, accesses, IsRace, RacesAfter, SomeDiverges, failure_of, FaultIs, NoFailure, NoRace, NoDivergence, IsFaultless}
-use Rattle.kernel_tree.specs.Schedule.{Schedule, number_at, choose_event, AreEnabled, Chooses, Follows, ScheduledRun}
-use Rattle.kernel_tree.specs.Seen.{IsSeen, seen_of, fault_of}
+use Rattle.kernel_tree.specs.Faults.{Access, Among, accessed, accesses_of, accesses, IsRace, SomeDiverges, FaultIs, NoDivergence, IsFaultless}
+use Rattle.kernel_tree.specs.Schedule.{Schedule, number_at, AreEnabled, Chooses, Follows, ScheduledRun}
+use Rattle.kernel_tree.specs.Seen.{seen_of, fault_of}
 use Rattle.kernel_tree.proofs.Bound.{within_bound}
 use Rattle.kernel_tree.proofs.EveryRun.{no_failure-append, accesses-append}
 use Rattle.ndrange_machine.specs.declared.machine.Machine.{Machine}

@@ -1,12 +1,12 @@
 -- The machine at the start of a run, and what it gives out at the end.
-use Rattle.std.proofs.Common.{◌≡◌, ℕ, ◌+◌, ◌<◌, ◌≤◌, zero, suc, List, [], ◌∷◌, length, Option, Some, None, Bool, true, false, refl, sym, ap, ◌∙◌, subst, arith, length-append}
+use Rattle.std.proofs.Common.{◌≡◌, ℕ, ◌<◌, zero, suc, List, [], ◌∷◌, length, Some, None, Bool, true, false, refl, sym, ap, ◌∙◌, subst, arith, length-append}
 use Rattle.std.specs.Global.{Global}
 use Rattle.std.specs.Prelude.{Vec, map, is_some, nat_lt, replicate, slice_get, slice_index, ◌==◌, if◌then◌else◌}
 use Rattle.std.proofs.lemmas.List.{append-nil, length-map, length-replicate}
 use Rattle.kernel_tree.specs.Code.{Array, Input, Output, Local, Private, Code, Kernel}
 use Rattle.kernel_tree.specs.Launch.{Launch, Cells, IsWhole, item_count, group_count}
 use Rattle.kernel_tree.specs.Item.{item}
-use Rattle.kernel_tree.specs.Device.{Cell, State, row, device_of, length_in, start_state, contents}
+use Rattle.kernel_tree.specs.Device.{Cell, State, row, length_in, contents}
 use Rattle.ndrange_machine.specs.declared.machine.Machine.{Machine}
 use Rattle.ndrange_machine.specs.Changes.{start_view}
 use Rattle.ndrange_machine.specs.ItemView.{ItemView}

@@ -1,10 +1,10 @@
 -- How a work-item's place in the lines moves.
-use Rattle.std.proofs.Common.{◌≡◌, ℕ, ◌+◌, ◌<◌, ◌≤◌, zero, suc, List, [], ◌∷◌, ◌++◌, length, drop, Some, refl, sym, ap, ◌∙◌, subst, arith, append_assoc, length-append, length-drop, add-zero}
+use Rattle.std.proofs.Common.{◌≡◌, ℕ, ◌+◌, ◌<◌, ◌≤◌, zero, suc, List, [], ◌∷◌, ◌++◌, length, drop, Some, refl, sym, ap, ◌∙◌, subst, arith, append_assoc, length-drop, add-zero}
 use Rattle.std.specs.Prelude.{slice_get}
 use Rattle.std.proofs.lemmas.List.{drop-drop, drop_at}
 use Rattle.kernel_tree.specs.Formula.{Formula}
 use Rattle.kernel_tree.specs.Code.{Start, Stride, Code, End, Loops}
-use Rattle.kernel_tree.specs.Item.{Frame, item, loop_variables}
+use Rattle.kernel_tree.specs.Item.{Frame, item}
 use Rattle.ndrange_machine.specs.Lines.{Line, Head, Tail, size, exit_of, lines_at, head_of, lines_after, AreLoops, IsAt}
 use Rattle.ndrange_machine.proofs.Laying.{length-lines_at}
 

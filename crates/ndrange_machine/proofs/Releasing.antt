@@ -1,14 +1,14 @@
 -- The machine after the release of a group.
-use Rattle.std.proofs.Common.{◌≡◌, ℕ, ◌+◌, ◌*◌, ◌/◌, ◌^◌, ◌<◌, ◌≤◌, suc, List, [], ◌∷◌, ◌++◌, length, Option, Some, None, Bool, true, false, refl, sym, ap, ◌∙◌, subst, ⊎_elim, inl, inr, arith, ◌⊎◌}
-use Rattle.std.specs.Prelude.{map, is_some, slice_get, option_map, nat_le, nat_lt, ◌==◌, ◌&&◌, if◌then◌else◌}
-use Rattle.std.proofs.lemmas.Bool.{cases_lt, lt-ltb, le-ltb, le-leb, ltb-true, leb-true, cases_Bool}
+use Rattle.std.proofs.Common.{◌≡◌, ℕ, ◌+◌, ◌*◌, ◌/◌, ◌^◌, ◌<◌, ◌≤◌, suc, List, length, Option, Some, None, Bool, true, false, refl, sym, ap, ◌∙◌, subst, ⊎_elim, arith}
+use Rattle.std.specs.Prelude.{map, is_some, slice_get, option_map, nat_le, nat_lt, ◌&&◌, if◌then◌else◌}
+use Rattle.std.proofs.lemmas.Bool.{cases_lt, lt-ltb, le-leb, ltb-true, leb-true, cases_Bool}
 use Rattle.std.proofs.lemmas.Bool.Decides.{eqb_tells}
 use Rattle.std.proofs.Math.Nat.{div-lt_iff_lt-mul}
 use Rattle.kernel_tree.specs.declared.events.Event.{Event}
 use Rattle.kernel_tree.specs.declared.events.Event.TheVariants.{Release}
 use Rattle.kernel_tree.specs.Code.{Kernel}
-use Rattle.kernel_tree.specs.Launch.{Launch, Cells, IsWhole, item_count, group_count, group_of, first_item, ids_of}
-use Rattle.kernel_tree.specs.Item.{Item, Wants, Ends, Waits, Moves, Reads, Writes, Fails}
+use Rattle.kernel_tree.specs.Launch.{Launch, Cells, IsWhole, group_count, group_of, first_item, ids_of}
+use Rattle.kernel_tree.specs.Item.{Item, Wants}
 use Rattle.kernel_tree.specs.Device.{Memory, State, device_of, start_state, wants, Enabled, taken, after}
 use Rattle.kernel_tree.specs.Faults.{accesses_of, failure_of, RacesAfter, IsFaultless}
 use Rattle.ndrange_machine.specs.declared.machine.Machine.{Machine}

@@ -28,7 +28,7 @@ use Rattle.ndrange_machine.specs.Lines.{Line}
 use Rattle.ndrange_machine.specs.Stands.{HoldsItem, Holds, CountsEnabled}
 use Rattle.ndrange_machine.specs.Takes.{is_barrier, IsAtBarrier}
 use Rattle.ndrange_machine.specs.Wants.{text_of, turn_after, want_if, want_in, want_last, want_back, last_of, wanted}
-use Rattle.ndrange_machine.proofs.Next.{IsNext, Stands, next_is}
+use Rattle.ndrange_machine.proofs.Next.{IsNext, next_is}
 use Rattle.ndrange_machine.proofs.Rows.{get_there, get_within, get_or_is}
 
 abbrev pub IsWaiting : Wants → Type 0

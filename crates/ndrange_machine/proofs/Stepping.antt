@@ -1,7 +1,7 @@
 -- The machine after a step of a work-item.
 use Rattle.std.proofs.Common.{◌≡◌, ◌≢◌, ℕ, ◌/◌, ◌<◌, List, [], ◌∷◌, ◌++◌, length, Option, Some, None, Bool, true, false, refl, sym, ap, ◌∙◌, subst, ⊎_elim, inl, inr, arith, ◌⊎◌, length-append, eq-eqb}
-use Rattle.std.specs.Prelude.{map, is_some, nat_lt, slice_get, slice_set, option_map, ◌==◌, ◌&&◌, if◌then◌else◌}
-use Rattle.std.proofs.lemmas.Bool.{eqb-true, ne_eqb}
+use Rattle.std.specs.Prelude.{map, is_some, nat_lt, slice_get, option_map, ◌&&◌, if◌then◌else◌}
+use Rattle.std.proofs.lemmas.Bool.{ne_eqb}
 use Rattle.std.proofs.lemmas.Bool.Decides.{eqb_tells}
 use Rattle.kernel_tree.specs.declared.events.Event.{Event}
 use Rattle.kernel_tree.specs.declared.events.Event.TheVariants.{Step, Release}
@@ -14,7 +14,7 @@ use Rattle.kernel_tree.specs.declared.events.FaultKind.TheVariants.{ZeroDivisor,
 use Rattle.kernel_tree.specs.declared.tree.Array as held_array
 use Rattle.kernel_tree.specs.Code.{Array, Input, Output, Local, Private, Kernel}
 use Rattle.kernel_tree.specs.Tree.{array_of}
-use Rattle.kernel_tree.specs.Launch.{Launch, Cells, item_count, group_of, ids_of}
+use Rattle.kernel_tree.specs.Launch.{Launch, Cells, group_of}
 use Rattle.kernel_tree.specs.Item.{Item, Wants, Ends, Waits, Moves, Reads, Writes, Fails}
 use Rattle.kernel_tree.specs.Device.{Cell, Device, State, device_of, start_state, length_in, home, cell_at, same_cell, write, wants, CanStep, Enabled, taken, stored, after, run, IsRun}
 use Rattle.kernel_tree.specs.Faults.{Access, accessed, accesses_of, accesses, Among, failure, failure_of, RacesAfter, SomeDiverges, NoFailure, IsFaultless}
@@ -28,14 +28,14 @@ use Rattle.ndrange_machine.specs.declared.want.Want.TheVariants as want
 use Rattle.ndrange_machine.specs.ItemView.{ItemView}
 use Rattle.ndrange_machine.specs.Changes.{changed}
 use Rattle.ndrange_machine.specs.Memory.{held, homes}
-use Rattle.ndrange_machine.specs.Wants.{text_of, wanted}
+use Rattle.ndrange_machine.specs.Wants.{text_of}
 use Rattle.ndrange_machine.specs.Stands.{HoldsItem, Holds, StandsFor, state_after}
 use Rattle.ndrange_machine.specs.Takes.{Took, IsWanted, Changes}
 use Rattle.kernel_tree.proofs.Confluence.{same_cell-true}
 use Rattle.kernel_tree.proofs.Grouping.{group_in_launch}
 use Rattle.ndrange_machine.proofs.Cells.{Puts}
 use Rattle.ndrange_machine.proofs.Next.{IsNext, IsOwnFault, Stands}
-use Rattle.ndrange_machine.proofs.Standing.{IsWaiting, here, its_item, in_launch, one_there, alone_there, no_divergence}
+use Rattle.ndrange_machine.proofs.Standing.{here, its_item, one_there, alone_there, no_divergence}
 
 -- the last event of a run, and the rest
 pub front_is : (es fs : List Event) (e f : Event) → es ++ e ∷ [] ≡ fs ++ f ∷ [] → es ≡ fs

@@ -1,4 +1,4 @@
-use Rattle.std.proofs.Common.{◌≡◌, ◌≤◌, ◌+◌, max, drop, length, ap, sym, ◌∙◌, arith}
+use Rattle.std.proofs.Common.{◌+◌, max, drop, ap, sym, ◌∙◌, arith}
 use Rattle.std.proofs.lemmas.List.{drop_all}
 use Rattle.std.specs.Prelude.{map}
 use Rattle.ndrange_machine.specs.Lines.{past_line}

@@ -1,7 +1,7 @@
-use Rattle.std.proofs.Common.{◌≡◌, ℕ, ◌<◌, length, Some, true, ◌∙◌, ap, sym}
+use Rattle.std.proofs.Common.{◌≡◌, ◌<◌, length, Some, ◌∙◌, ap, sym}
 use Rattle.std.specs.Prelude.{is_some, slice_index_or, ◌==◌, ◌&&◌, if◌then◌else◌}
 use Rattle.std.proofs.lemmas.List.{take_at}
-use Rattle.ndrange_machine.specs.Memory.{cell_in, rows_at}
+use Rattle.ndrange_machine.specs.Memory.{cell_in}
 use Rattle.ndrange_machine.proofs.Cells.{home_within, written, some_rows}
 use Rattle.ndrange_machine.proofs.Rows.{get_or_is}
 use Rattle.ndrange_machine.proofs.memory.write_at.Goals as goal

@@ -1,7 +1,4 @@
-use Rattle.std.proofs.Common.{◌≡◌, ℕ, ◌<◌, ◌≤◌, length, Some, ⊎_elim, sym, ap, ◌∙◌, refl, arith, true, false}
-use Rattle.std.specs.Prelude.{slice_get}
-use Rattle.ndrange_machine.specs.ItemView.{ItemView}
-use Rattle.ndrange_machine.proofs.Rows.{get_or_is}
+use Rattle.std.proofs.Common.{◌<◌, ◌≤◌, length, arith}
 use Rattle.ndrange_machine.proofs.Standing.{ended_item, all_past, one_before}
 use Rattle.ndrange_machine.proofs.machine.Machine.finished.Goals as goal
 

@@ -1,4 +1,4 @@
-use Rattle.std.proofs.Common.{◌∙◌, refl, sym, subst, Some, None}
+use Rattle.std.proofs.Common.{refl, subst, Some, None}
 use Rattle.ndrange_machine.specs.Takes.{IsWanted}
 use Rattle.ndrange_machine.proofs.Stepping.{as_seen, took_change, took_fault, never_ends, never_waits}
 use Rattle.ndrange_machine.proofs.machine.Machine.go.Goals as goal

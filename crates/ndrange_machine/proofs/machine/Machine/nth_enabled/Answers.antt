@@ -1,4 +1,4 @@
-use Rattle.std.proofs.Common.{true, false, sym, subst}
+use Rattle.std.proofs.Common.{true, false, subst}
 use Rattle.ndrange_machine.specs.Takes.{IsAtBarrier}
 use Rattle.ndrange_machine.proofs.Standing.{event_is}
 use Rattle.ndrange_machine.proofs.machine.Machine.nth_enabled.Goals as goal

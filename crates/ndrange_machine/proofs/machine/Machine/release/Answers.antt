@@ -1,4 +1,4 @@
-use Rattle.std.proofs.Common.{◌≡◌, ◌+◌, ◌*◌, ◌<◌, ◌^◌, subst, sym, arith}
+use Rattle.std.proofs.Common.{◌≡◌, ◌+◌, ◌*◌, ◌<◌, ◌^◌, subst, arith}
 use Rattle.ndrange_machine.specs.Takes.{Passes}
 use Rattle.ndrange_machine.proofs.Passing.{passes_none, passes_more}
 use Rattle.ndrange_machine.proofs.machine.Machine.release.Goals as goal

@@ -1,4 +1,4 @@
-use Rattle.std.proofs.Common.{◌≡◌, sym, subst, ap, ◌∙◌, refl, None}
+use Rattle.std.proofs.Common.{◌≡◌, sym, subst, ◌∙◌, refl, None}
 use Rattle.kernel_tree.specs.declared.events.Event.TheVariants.{Step, Release}
 use Rattle.ndrange_machine.specs.Takes.{Takes}
 use Rattle.ndrange_machine.proofs.Stepping.{as_seen}
