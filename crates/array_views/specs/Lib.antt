@@ -1,0 +1,5 @@
+pub mod Formulas
+pub mod Arrays
+pub mod Layouts
+pub mod Views
+pub mod Accesses
