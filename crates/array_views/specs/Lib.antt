@@ -3,3 +3,5 @@ pub mod Arrays
 pub mod Layouts
 pub mod Views
 pub mod Accesses
+pub mod Cells
+pub mod Promises
