@@ -53,7 +53,7 @@ module _ (k : Kernel) where
 
 pub lengths_are_bounds : LengthsAreBounds
 lengths_are_bounds names k p e few low =
-    bounds_kept k .higher (suc (3 + degree p + length p)) length_height (length_expression names p) (omega arith)
+    (bounds_kept k).higher (suc (3 + degree p + length p)) length_height (length_expression names p) (omega arith)
     (of_length k.sizes (Bounds k) (bounds_kept k) names (omega arith) p)
 
 -- a length's spelling has no variables

@@ -1,8 +1,8 @@
 -- A spelled index expression has its value on words.
-use Rattle.std.proofs.Common.{◌≡◌, ◌≢◌, ◌∙◌, ℕ, zero, suc, ℤ, pos, ◌+◌, ◌*◌, ◌%◌, ◌≤◌, ◌<◌, ◌^◌, Bool, true, false, Option, Some, None, List, [], ◌∷◌, refl, sym, ap, subst, arith}
+use Rattle.std.proofs.Common.{◌≡◌, ◌≢◌, ◌∙◌, ℕ, zero, suc, ℤ, pos, ◌+◌, ◌*◌, ◌%◌, ◌≤◌, ◌<◌, ◌^◌, Bool, true, false, Option, Some, None, List, [], ◌∷◌, refl, sym, ap, subst, ⊎_elim, arith}
 use Rattle.std.specs.Prelude.{slice_index, unsigned_abs, ◌==◌, ◌&&◌, if◌then◌else◌}
 use Rattle.std.proofs.Math.Nat.{mod-eq_of_lt}
-use Rattle.std.proofs.lemmas.Bool.{eqb-true}
+use Rattle.std.proofs.lemmas.Bool.{cases_Bool, eqb-true}
 use Rattle.std.proofs.lemmas.Int.{ints}
 use Rattle.scalar_ops.specs.declared.op.Op.{Op}
 use Rattle.scalar_ops.specs.Operators.{apply_op}
@@ -23,8 +23,7 @@ use Rattle.length_spelling.specs.Laws.{AreWords, IndicesAreSpelled, LengthsAreSp
 use Rattle.length_spelling.proofs.Bounds.{lengths_are_constant}
 
 nonzero : (n : ℕ) → n ≢ 0 → (n == 0) ≡ false
-nonzero zero h = absurd (h refl)
-nonzero (suc n) h = refl
+nonzero n h = ⊎_elim (λ t. absurd (h (eqb-true n 0 t))) (λ f. f) (cases_Bool (n == 0))
 
 operates : (o : Operation) (x y : ℕ) → (Divides o → y ≢ 0) → operate (operator_of o) x y ≡ Some (operate_words o x y)
 operates Sum x y h = refl

@@ -2,3 +2,6 @@
 #![tactic(auto)]
 
 pub mod laws;
+pub mod spelling;
+
+pub use spelling::{operator_of, spell_index, spell_length};
