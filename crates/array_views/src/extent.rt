@@ -76,6 +76,7 @@ impl Extent {
     }
 
     /// The number of the component that is chosen, from left to right.
+    #[tactic(auto, using(crate::proofs::Shapes::some_width))]
     pub fn component(&self, choices: &mut PairStack) -> u32
         requires { width (extent_of self.now) ≤ 2 ^ 32 }
         ensures value { result ≡ component (extent_of self.now) choices.old }

@@ -22,8 +22,8 @@ use crate::array::ArrayKind;
 use crate::extent::Extent;
 use crate::layout::Layout;
 use crate::load_set::LoadSet;
-use crate::node;
 use crate::node::Node;
+use crate::placed;
 use crate::stack::{IndexStack, PairStack};
 use index_expr::Index;
 use lift_tree::term::UnaryForm;
@@ -66,6 +66,7 @@ impl View {
         View::new(alloc, Node::Nothing)
     }
 
+    #[tactic(auto, using(crate::proofs::Shapes::width_spelled, crate::proofs::Shapes::placed_spelled))]
     /// A value in buffers of this kind, one a component, the first of which has this number. Its lengths are spelled over the sizes.
     pub fn placed(
         alloc: Global,
@@ -83,7 +84,7 @@ impl View {
         let extent = Extent::spelled(alloc, names, ty)?;
         View::new(
             alloc,
-            Node::Placed(node::Placed {
+            Node::Placed(placed::Placed {
                 kind,
                 first,
                 extent,
@@ -91,6 +92,7 @@ impl View {
         )
     }
 
+    #[tactic(auto, using(crate::proofs::Shapes::width_spelled, crate::proofs::Shapes::placed_spelled))]
     /// The same of a type whose lengths are numbers, as that of a copy to local or private memory.
     pub fn laid(alloc: Global, kind: ArrayKind, first: u32, ty: &Ty) -> Result<Self, AllocError>
         requires numbered { first + width (ty_at [] (ty_of ty.now)) ≤ 2 ^ 32 }
@@ -103,7 +105,7 @@ impl View {
         let extent = Extent::literal(alloc, ty)?;
         View::new(
             alloc,
-            Node::Placed(node::Placed {
+            Node::Placed(placed::Placed {
                 kind,
                 first,
                 extent,
@@ -112,6 +114,7 @@ impl View {
     }
 
     /// An element in private variables, one a component, the first of which has this number.
+    #[tactic(auto, using(crate::proofs::Shapes::some_width))]
     pub fn held(alloc: Global, ty: &Ty, first: u32) -> Result<Self, AllocError>
         requires { first + width (element_ty (ty_of ty.now)) ≤ 2 ^ 32 }
         ensures { IfOk result (λ v. view_in v ≡ printed.held_view (element_ty (ty_of ty.now)) first) }
@@ -128,7 +131,7 @@ impl View {
 
     /// An element, once these of its scalars are loaded into private variables, the first of which has this number.
     pub fn loaded(&self, alloc: Global, loads: &LoadSet, first: u32) -> Result<Self, AllocError>
-        requires { first + load_count (loads_of loads.now) ≤ 2 ^ 32 }
+        requires { first + load_count (loads_of loads.now) < 2 ^ 32 }
         ensures { IfOk result (λ v. view_in v
             ≡ printed.loaded_view (loads_of loads.now) (view_in self.now) first) }
     {
@@ -212,6 +215,7 @@ impl View {
     }
 
     /// What stands for the scalar at these pair choices and indices.
+    #[tactic(auto, using(crate::proofs::Signs::sign_is))]
     pub fn access(
         &self,
         alloc: Global,
