@@ -66,8 +66,8 @@ impl View {
         View::new(alloc, Node::Nothing)
     }
 
-    #[tactic(auto, using(crate::proofs::Shapes::width_spelled, crate::proofs::Shapes::placed_spelled))]
     /// A value in buffers of this kind, one a component, the first of which has this number. Its lengths are spelled over the sizes.
+    #[tactic(auto, using(crate::proofs::Shapes::width_spelled))]
     pub fn placed(
         alloc: Global,
         names: &Names,
@@ -92,8 +92,8 @@ impl View {
         )
     }
 
-    #[tactic(auto, using(crate::proofs::Shapes::width_spelled, crate::proofs::Shapes::placed_spelled))]
     /// The same of a type whose lengths are numbers, as that of a copy to local or private memory.
+    #[tactic(auto, using(crate::proofs::Shapes::width_spelled))]
     pub fn laid(alloc: Global, kind: ArrayKind, first: u32, ty: &Ty) -> Result<Self, AllocError>
         requires numbered { first + width (ty_at [] (ty_of ty.now)) ≤ 2 ^ 32 }
         requires short { IsShort (ty_at [] (ty_of ty.now)) }
