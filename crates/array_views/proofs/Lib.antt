@@ -3,3 +3,4 @@ pub mod Signs
 pub mod Exact
 pub mod Cells
 pub mod Loads
+pub mod Nodes

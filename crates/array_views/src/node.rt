@@ -42,7 +42,8 @@ impl Node {
         choices: &mut PairStack,
         indices: &mut IndexStack,
     ) -> Result<Access, AllocError>
-        ensures { IfOk result (λ a. access_of a ≡ access_at (plain_of self.now) choices.old (indices_in indices.old)) }
+        ensures { IfOk result (λ a. access_of a
+            ≡ access_at (plain_of self.now) choices.old (indices_in indices.old)) }
     {
         match self {
             Node::Nothing => Ok(Access::Nothing),
