@@ -1,13 +1,12 @@
 -- Views name the cells of positions, within their arrays.
-use Rattle.std.proofs.Common.{◌≡◌, ℕ, ◌+◌, ◌<◌, ℤ, pos, Bool, true, false, List, [], ◌∷◌, refl, sym, ap, ◌∙◌, subst, ⊎_elim, arith}
+use Rattle.std.proofs.Common.{◌≡◌, ℕ, ◌+◌, ◌<◌, Bool, true, false, List, [], ◌∷◌, refl, sym, ap, ◌∙◌, subst, ⊎_elim, arith}
 use Rattle.kernel_tree.specs.Code as code
 use Rattle.kernel_tree.specs.Code.{Array}
-use Rattle.lift_ir.specs.AtLaunch.{natural}
-use Rattle.lift_ir.specs.Types.{Shape, Ty, Scalar, PairOf, ArrayOf, measured, width, component, size, flat, unflat, IsPosition}
-use Rattle.lift_ir.specs.Layouts.{Layout, operand_position, result_position, IsInvertible}
+use Rattle.lift_ir.specs.Types.{Shape, Ty, Scalar, PairOf, ArrayOf, measured, width, component, flat, unflat, IsPosition}
+use Rattle.lift_ir.specs.Layouts.{operand_position, result_position}
 use Rattle.lift_ir.proofs.Positions.{operand_in, result_in, result_operand}
 use Rattle.lift_ir.proofs.Numbers.{component_below, flat_below, component_same, flat_same, position_at}
-use Rattle.printed_form.specs.Marks.{Mark, Nowhere, Register, Spot}
+use Rattle.printed_form.specs.Marks.{Mark, Spot}
 use Rattle.index_expr.specs.Expression.{Expression}
 use Rattle.array_views.specs.declared.array.ArrayKind.{ArrayKind}
 use Rattle.array_views.specs.declared.array.ArrayKind.TheVariants as kind
@@ -15,8 +14,8 @@ use Rattle.array_views.specs.Arrays.{array_with}
 use Rattle.array_views.specs.Layouts.{to_operand, to_result}
 use Rattle.array_views.specs.Views as view
 use Rattle.array_views.specs.Views.{PlainView}
-use Rattle.array_views.specs.Accesses.{PlainAccess, InCell, row_major, access_at}
-use Rattle.array_views.specs.Cells.{IsWithin, number_at, IsIndex, AreIndices, IsViewOf, marks_at, IsAccessTo, HasArrays, IsGoal, IsWholeGoal, IsCellOf}
+use Rattle.array_views.specs.Accesses.{access_at}
+use Rattle.array_views.specs.Cells.{IsWithin, number_at, AreIndices, IsViewOf, marks_at, IsAccessTo, HasArrays, IsGoal, IsWholeGoal, IsCellOf}
 use Rattle.array_views.proofs.Exact.{operand_exact, result_exact, row_major_exact}
 
 module _ {A : Type 0} (num : A → ℕ) where

@@ -1,12 +1,11 @@
 -- The values of indices through layouts and in row-major order: no operation in them wraps.
-use Rattle.std.proofs.Common.{◌≡◌, ◌≢◌, ℕ, suc, ℤ, pos, ◌+◌, ◌*◌, ◌-◌, ◌/◌, ◌%◌, ◌<◌, ◌≤◌, ◌^◌, ◌+ℤ◌, ◌-ℤ◌, ◌*ℤ◌, Bool, List, [], ◌∷◌, refl, sym, ap, ◌∙◌, subst, min, max, arith}
-use Rattle.std.specs.Prelude.{int_div, int_rem, unsigned_abs}
+use Rattle.std.proofs.Common.{◌≡◌, ℕ, ℤ, pos, ◌+◌, ◌*◌, ◌-◌, ◌/◌, ◌%◌, ◌<◌, ◌≤◌, ◌^◌, ◌-ℤ◌, Bool, List, [], ◌∷◌, refl, sym, ap, ◌∙◌, subst, min, max, arith}
+use Rattle.std.specs.Prelude.{unsigned_abs}
 use Rattle.std.specs.Int.{int_min, int_max}
 use Rattle.std.proofs.lemmas.Int.{ints, clamps}
-use Rattle.std.proofs.Math.Nat.{mod-lt, div-le_self, mod-le, mul-le-mul_left, mul-le-mul_right}
-use Rattle.lift_ir.specs.AtLaunch.{natural}
+use Rattle.std.proofs.Math.Nat.{div-le_self, mod-le, mul-le-mul_left}
 use Rattle.lift_ir.specs.Types.{Shape, Ty, Scalar, PairOf, ArrayOf, measured, size, flat, IsPosition, IsFlat, IsShort}
-use Rattle.lift_ir.specs.Layouts.{Layout, Split, Join, Transpose, Slide, Pad, operand_position, result_position, Reshapes, IsInvertible}
+use Rattle.lift_ir.specs.Layouts.{Layout, Split, Join, Transpose, Slide, Pad, operand_position, result_position, IsInvertible}
 use Rattle.lift_ir.proofs.Positions.{operand_in, join_in}
 use Rattle.lift_ir.proofs.Numbers.{flat_below}
 use Rattle.index_expr.specs.declared.operation.Operation.{Operation}
@@ -15,7 +14,7 @@ use Rattle.index_expr.specs.Expression.{Expression, Literal, Binary}
 use Rattle.index_expr.specs.Values.{exact, operate, Divides, WantsWords, IsWord}
 use Rattle.array_views.specs.Layouts.{flattened, parted, swapped, clamped, to_operand, to_result}
 use Rattle.array_views.specs.Accesses.{row_major, row_major_from}
-use Rattle.array_views.specs.Cells.{number_at, IsIndex, AreIndices, IsLength, HasLengths, KeepsLengths, Leads}
+use Rattle.array_views.specs.Cells.{number_at, IsIndex, AreIndices, HasLengths, Leads}
 
 word_of : (z : ℤ) (n : ℕ) → z ≡ pos n → n < 2 ^ 32 → IsWord z
 word_of z n e lt = subst IsWord (sym e) (omega (arith, ints), omega (arith, ints))

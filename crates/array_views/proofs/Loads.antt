@@ -1,9 +1,9 @@
 -- A pair whose sides are loaded.
-use Rattle.std.proofs.Common.{◌≡◌, ℕ, ◌+◌, Bool, true, false, List, ◌∷◌, Result, Ok, Err, IfOk, sym, ap, ◌∙◌}
+use Rattle.std.proofs.Common.{◌≡◌, ℕ, ◌+◌, true, false, ◌∷◌, Result, Ok, Err, IfOk, ap, ◌∙◌}
 use Rattle.lift_ir.specs.Terms.{LoadSet, Each}
 use Rattle.lift_ir.specs.Scalars.{by_side}
 use Rattle.printed_form.specs.Counts.{load_count}
-use Rattle.printed_form.specs.Views.{Sign, Blank, View, loaded_view}
+use Rattle.printed_form.specs.Views.{Blank, View, loaded_view}
 
 pub if_ok : {A E : Type 0} {P Q : A → Type 0} (r : Result A E) → ((v : A) → P v → Q v) → IfOk r P → IfOk r Q
 if_ok (Ok v) f h = f v h

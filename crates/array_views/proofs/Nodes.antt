@@ -1,5 +1,5 @@
 -- An index has the nodes of the formulas put into one another.
-use Rattle.std.proofs.Common.{◌≡◌, ℕ, ◌+◌, Bool, true, false, List, [], ◌∷◌, refl, ap, ◌∙◌}
+use Rattle.std.proofs.Common.{◌≡◌, Bool, true, false, List, [], ◌∷◌, refl, ap, ◌∙◌}
 use Rattle.std.specs.Prelude.{map}
 use Rattle.lift_ir.specs.Types.{Shape, Scalar, PairOf, ArrayOf}
 use Rattle.lift_ir.specs.Layouts.{Layout, Split, Join, Transpose, Slide, Pad}

@@ -1,14 +1,14 @@
 -- What a view says is what the printed form's says.
-use Rattle.std.proofs.Common.{◌≡◌, ℕ, ◌+◌, Bool, true, false, List, [], ◌∷◌, refl, ap, ◌∙◌}
+use Rattle.std.proofs.Common.{◌≡◌, ◌+◌, Bool, true, false, List, [], ◌∷◌, refl, ap, ◌∙◌}
 use Rattle.std.specs.Prelude.{map}
 use Rattle.lift_ir.specs.Types.{Shape, Scalar, PairOf, ArrayOf, component}
 use Rattle.lift_ir.specs.Layouts.{Layout, Split, Join, Transpose, Slide, Pad}
 use Rattle.printed_form.specs.Views.{Read, index_from, index_in, operand_indices, result_indices}
 use Rattle.index_expr.specs.declared.operation.Operation.TheVariants.{Sum, Product}
-use Rattle.index_expr.specs.Expression.{Expression, Literal, Binary}
+use Rattle.index_expr.specs.Expression.{Expression, Binary}
 use Rattle.length_spelling.specs.Formulas.{index_formula}
 use Rattle.array_views.specs.Arrays.{array_with}
-use Rattle.array_views.specs.Layouts.{flattened, parted, to_operand, to_result}
+use Rattle.array_views.specs.Layouts.{to_operand, to_result}
 use Rattle.array_views.specs.Views as view
 use Rattle.array_views.specs.Views.{PlainView, view_of}
 use Rattle.array_views.specs.Accesses.{sign_of, row_major, row_major_from, access_at}

@@ -1,11 +1,9 @@
 -- Arrays of a kind, and types whose lengths are index expressions.
-use Rattle.std.specs.Prelude.{ℕ, List}
-use Rattle.size_arith.specs.declared.names.Name.{Name}
-use Rattle.size_arith.specs.declared.poly.Monomial.{Monomial}
+use Rattle.std.specs.Prelude.{ℕ}
 use Rattle.kernel_tree.specs.Code as code
 use Rattle.kernel_tree.specs.Code.{Array}
 use Rattle.lift_ir.specs.Types.{Shape, Scalar, PairOf, ArrayOf}
-use Rattle.index_expr.specs.Expression.{Expression, Literal, expression_of}
+use Rattle.index_expr.specs.Expression.{Expression, expression_of}
 use Rattle.array_views.specs.declared.array.ArrayKind.{ArrayKind}
 use Rattle.array_views.specs.declared.array.ArrayKind.TheVariants as kind
 use Rattle.array_views.specs.declared.extent.Extent.{Extent}

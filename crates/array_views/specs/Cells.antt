@@ -1,9 +1,9 @@
 -- The cells of views by position, at a point.
-use Rattle.std.specs.Prelude.{◌≡◌, ℕ, ◌+◌, ◌<◌, ◌^◌, ◌⊎◌, ℤ, pos, Bool, true, false, List, [], ◌∷◌}
+use Rattle.std.specs.Prelude.{◌≡◌, ℕ, ◌+◌, ◌<◌, ◌⊎◌, pos, true, false, List, [], ◌∷◌}
 use Rattle.kernel_tree.specs.Code.{Array}
 use Rattle.lift_ir.specs.AtLaunch.{natural}
-use Rattle.lift_ir.specs.Types.{Shape, Ty, Scalar, PairOf, ArrayOf, measured, width, size, IsPosition, IsShort, IsPlaced}
-use Rattle.lift_ir.specs.Layouts.{Layout, Split, Join, Transpose, Slide, Pad, operand_position, result_position, Reshapes, IsInvertible, HasWordStep}
+use Rattle.lift_ir.specs.Types.{Shape, Ty, Scalar, PairOf, ArrayOf, measured, width, size, IsShort, IsPlaced}
+use Rattle.lift_ir.specs.Layouts.{Layout, Split, Join, Pad, operand_position, result_position, Reshapes, IsInvertible, HasWordStep}
 use Rattle.lift_ir.specs.Scalars.{by_side, at_index}
 use Rattle.printed_form.specs.Marks.{Mark, Nowhere, Register, Spot, Marks, laid_in}
 use Rattle.index_expr.specs.Expression.{Expression}

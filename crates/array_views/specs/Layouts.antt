@@ -1,6 +1,5 @@
 -- Layouts whose lengths are index expressions, on index expressions.
 use Rattle.std.specs.Prelude.{List, ◌∷◌}
-use Rattle.size_arith.specs.declared.names.Name.{Name}
 use Rattle.lift_ir.specs.Layouts as ir
 use Rattle.index_expr.specs.declared.operation.Operation.TheVariants.{Sum, Difference, Product, Quotient, Remainder, Least, Greatest}
 use Rattle.index_expr.specs.Expression.{Expression, Literal, Binary, expression_of}

@@ -1,9 +1,9 @@
 -- The nodes of the formulas put into one another, from the nodes of the indices.
-use Rattle.std.specs.Prelude.{◌≡◌, ℕ, ◌+◌, Bool, true, false, List, [], ◌∷◌, map}
+use Rattle.std.specs.Prelude.{◌≡◌, ℕ, ◌+◌, Bool, true, false, List, ◌∷◌, map}
 use Rattle.lift_ir.specs.Types.{Shape, ArrayOf}
 use Rattle.lift_ir.specs.Layouts.{Layout, Split, Join, Transpose, Slide, Pad}
 use Rattle.index_expr.specs.Expression.{Expression, nodes}
-use Rattle.array_views.specs.Views.{PlainView, Nothing, Variable, Placed, Both, Component, At, Reading, Writing}
+use Rattle.array_views.specs.Views.{PlainView, Placed, Both, Component, At, Reading, Writing}
 use Rattle.array_views.specs.Accesses as access
 use Rattle.array_views.specs.Accesses.{PlainAccess, access_at}
 

@@ -1,7 +1,5 @@
 -- Views, wherever they lie in memory.
-use Rattle.std.specs.Prelude.{ℕ, ◌+◌, Bool, true, false, List, ◌∷◌}
-use Rattle.lift_tree.specs.Types as types
-use Rattle.lift_tree.specs.Types.{PlainTy}
+use Rattle.std.specs.Prelude.{ℕ, Bool, ◌∷◌}
 use Rattle.lift_ir.specs.Types.{Shape}
 use Rattle.lift_ir.specs.Layouts.{Layout}
 use Rattle.lift_ir.specs.Terms as ir
