@@ -1,12 +1,11 @@
 -- The expression of a length within the limits has no literal that isn't a word.
-use Rattle.std.proofs.Common.{◌≡◌, ◌≢◌, ◌∙◌, ℕ, suc, ◌<◌, ◌≤◌, ◌^◌, Bool, true, false, List, [], ◌∷◌, length, refl, sym, ap, arith, eq-eqb}
+use Rattle.std.proofs.Common.{◌≡◌, ◌≢◌, ◌∙◌, ℕ, ◌<◌, ◌≤◌, ◌^◌, true, false, List, [], ◌∷◌, length, refl, sym, ap, arith, eq-eqb}
 use Rattle.std.specs.Prelude.{unsigned_abs, ◌==◌}
 use Rattle.std.proofs.Math.Nat.{mod-eq_of_lt}
 use Rattle.size_arith.specs.declared.names.Name.{Name}
 use Rattle.size_arith.specs.declared.poly.Monomial.{Monomial}
 use Rattle.size_arith.specs.Ranges.{AreNames}
 use Rattle.size_arith.specs.Polynomial.{AllSmall, greatest, IsPoly}
-use Rattle.index_expr.specs.declared.operation.Operation.{Operation}
 use Rattle.index_expr.specs.Expression.{Binary, Expression, Literal}
 use Rattle.index_expr.specs.Lengths.{length_expression}
 use Rattle.length_spelling.specs.Formulas.{in_words, spelled_length}

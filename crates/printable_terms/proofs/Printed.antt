@@ -1,10 +1,8 @@
 -- A printable term is printed for at each admissible launch.
-use Rattle.std.proofs.Common.{◌≡◌, ◌∙◌, ℕ, ℤ, pos, negsuc, ◌<◌, ◌^◌, List, [], Some, refl, sym, ap, subst, arith}
+use Rattle.std.proofs.Common.{◌≡◌, ℕ, ℤ, pos, negsuc, ◌<◌, ◌^◌, List, [], refl, arith}
 use Rattle.size_arith.specs.declared.names.Name.{Name}
-use Rattle.size_arith.specs.declared.poly.Monomial.{Monomial}
 use Rattle.size_arith.specs.Ranges.{AreNames, Admissible, sizes_at}
 use Rattle.size_arith.specs.Polynomial.{value_at}
-use Rattle.lift_tree.specs.Typing.{Declared}
 use Rattle.kernel_tree.specs.Formula.{sizes_alone}
 use Rattle.kernel_tree.specs.Launch.{Launch, ids_of}
 use Rattle.lift_ir.specs.AtLaunch.{natural, length_at}

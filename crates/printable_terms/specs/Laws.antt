@@ -1,6 +1,5 @@
 -- What a typed term is printed as.
 use Rattle.std.specs.Prelude.{ℕ, ◌≡◌, ◌≤◌, List, [], true}
-use Rattle.size_arith.specs.Ranges.{Admissible}
 use Rattle.lift_tree.specs.Tree.{Tree, height}
 use Rattle.lift_tree.specs.Types.{IsOutput}
 use Rattle.lift_tree.specs.Typing.{Declared}

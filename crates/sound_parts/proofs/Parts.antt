@@ -3,7 +3,6 @@ use Rattle.std.proofs.Common.{◌≡◌, ◌∙◌, ℕ, suc, ◌<◌, ◌≤◌
 use Rattle.std.specs.Prelude.{if◌then◌else◌, max}
 use Rattle.std.proofs.lemmas.Option.{slice_get_within}
 use Rattle.size_arith.specs.Ranges.{leasts}
-use Rattle.lift_tree.specs.declared.term.UnaryForm.{UnaryForm}
 use Rattle.lift_tree.specs.declared.term.UnaryForm.TheVariants as unary
 use Rattle.lift_tree.specs.declared.term.BinaryForm.TheVariants as binary
 use Rattle.lift_tree.specs.Lists.{Every}
@@ -17,12 +16,12 @@ use Rattle.lift_tree.specs.Annotations.{Annotates, Annotation, Leaf, One, Three,
 use Rattle.lift_ir.specs.Types as ir
 use Rattle.lift_ir.specs.Types.{IsShort, size, Ty}
 use Rattle.lift_ir.specs.Terms.{Copy, LetArray, LetElement, LocalMemory, PrivateMemory, Space, Store}
-use Rattle.lift_ir.specs.AtLaunch.{layout_of, shape_of, ty_at}
-use Rattle.lift_ir.specs.Lowering.{Argument, body_place, Element, element_ty, is_element, lower, lower_let, Lowered, Place, placed, placed_element, value_place, Written}
+use Rattle.lift_ir.specs.AtLaunch.{shape_of, ty_at}
+use Rattle.lift_ir.specs.Lowering.{Argument, body_place, Element, element_ty, is_element, lower, lower_let, Lowered, Place, placed_element, value_place, Written}
 use Rattle.lift_ir.specs.Lowerable.{IsElementTerm, IsLowerable, IsStaged}
-use Rattle.printed_grammar.specs.Sound.{AllLengths, dimensions, IsSound, IsSoundLayout}
-use Rattle.printable_terms.specs.Sound.{IsHeld, IsHeldType}
-use Rattle.sound_parts.specs.Words.{FormHasWords, FormsHaveWords}
+use Rattle.printed_grammar.specs.Sound.{AllLengths, dimensions, IsSound}
+use Rattle.printable_terms.specs.Sound.{IsHeld}
+use Rattle.sound_parts.specs.Words.{FormsHaveWords}
 use Rattle.sound_parts.proofs.Leasts.{has_a_cell}
 use Rattle.sound_parts.proofs.Types.{good_element, good_in, inner_held, IsGood, outer_held}
 

@@ -1,5 +1,5 @@
 -- Types within the limits: their lengths are within those of polynomials, and at least 1.
-use Rattle.std.proofs.Common.{◌≡◌, ◌∙◌, ℕ, zero, suc, ℤ, pos, negsuc, neg_ℤ, ◌+◌, ◌≤◌, ◌+ℤ◌, ◌*ℤ◌, ◌≤ℤ◌, List, [], ◌∷◌, Some, length, map, refl, sym, ap, subst, arith}
+use Rattle.std.proofs.Common.{◌≡◌, ◌∙◌, ℕ, zero, suc, pos, ◌≤◌, List, [], ◌∷◌, Some, map, refl, sym, ap, subst, arith}
 use Rattle.std.specs.Prelude.{slice_get, max}
 use Rattle.std.proofs.lemmas.Int.{ints}
 use Rattle.size_arith.specs.declared.names.Name.{Name}
@@ -21,7 +21,7 @@ use Rattle.lift_tree.specs.Tree.{Tree}
 use Rattle.lift_tree.specs.Types as types
 use Rattle.lift_tree.specs.Types.{PlainTy, IsFormed}
 use Rattle.lift_tree.specs.WorkedOut.{length_of, product_of, sum_of, with_part, worked_out}
-use Rattle.lift_tree.specs.Limits.{arrays, ArrayFits, InputFits, NodesFit, OuterFits, SumFits, UnaryFits}
+use Rattle.lift_tree.specs.Limits.{arrays, InputFits, NodesFit, OuterFits, SumFits, UnaryFits}
 use Rattle.lift_tree.specs.Typing.{BinaryRow, constant, Declared, UnaryRow}
 use Rattle.lift_tree.specs.Annotations.{Annotates, Annotation, Leaf, One, Three, Two, type_in}
 use Rattle.lift_ir.specs.AtLaunch.{inner_of, outer_of, shape_of}

@@ -1,9 +1,7 @@
 -- A legal term that can be printed has sound parts.
-use Rattle.std.proofs.Common.{List, []}
-use Rattle.std.specs.Prelude.{map}
+use Rattle.std.proofs.Common.{[]}
 use Rattle.size_arith.specs.Ranges.{leasts}
 use Rattle.lift_tree.specs.Typing.{declared_by}
-use Rattle.lift_tree.specs.WorkedOut.{range_of}
 use Rattle.sound_parts.specs.Laws.{TermsHaveSoundParts}
 use Rattle.sound_parts.proofs.Leasts.{leasts_are_admissible}
 use Rattle.sound_parts.proofs.Types.{all_good, good_in, inputs_held}
