@@ -7,7 +7,7 @@ use Rattle.scalar_ops.specs.declared.op.Op.TheVariants.{Min, Max}
 use Rattle.kernel_tree.specs.Formula.{IdForm, GlobalId, GroupId, LocalId, GlobalSize, GroupCount, LocalSize, Comparison, Less, Equal, Formula, Number, Variable, LoopVariable, Size, Id, Binary, Choose}
 use Rattle.kernel_tree.specs.Code.{Start, FromZero, FromGlobalId, FromGroupId, FromLocalId, Stride, ByOne, ByGlobalSize, ByGroupCount, ByLocalSize, Code, End, Assigns, Loads, Stores, Loops, Syncs, Kernel}
 use Rattle.kernel_tree.specs.Pieces.{joined}
-use Rattle.kernel_tree.specs.KernelText.{Piece, array_name, space, line, semicolon, equals, question, colon, opens, closes, comma, barrier, index_ends, indent, named}
+use Rattle.kernel_tree.specs.KernelText.{Piece, array_name, space, line, semicolon, equals, question, colon, closes, comma, index_ends, indent, named}
 use Rattle.kernel_spelling.specs.Spelling.{spell, spell_id, spell_sign, spell_comparison, spell_start, spell_stride, spell_flags, spell_end, spell_code, loop_line, test_line, step_line, block_line, spell_locals, spell_privates, spell_variables, spell_sizes, spell_outputs, spell_inputs, first_output, spell_body, spell_kernel}
 use Rattle.kernel_printer.specs.Bytes.{id_text, opening, between, comparing, write_expression, write_end, start_text, stride_text, write_loop, flags_text, write_code, write_inputs, write_outputs, write_sizes, write_arrays, write_locals, write_privates, write_variables, write_kernel}
 

@@ -9,8 +9,8 @@ ghost use Rattle.kernel_reader.specs.Views.{Gave};
 ghost use Rattle.kernel_reader.specs.Noted.{notes_of};
 
 use crate::form::{
-    BLANK, CLOSES, COLON, COMMA, DEEPEST, Debts, EQUALS, Form, GREATER, LESS, Mark, NOUGHT, OPEN, OPENS,
-    QUESTION, SPACE, UINT,
+    BLANK, CLOSES, COLON, COMMA, DEEPEST, Debts, EQUALS, Form, GREATER, LESS, Mark, NOUGHT, OPEN,
+    OPENS, QUESTION, SPACE, UINT,
 };
 use crate::made::Made;
 use kernel_spelling::{Kind, called, named_id, signed};

@@ -46,10 +46,7 @@ fn give_test<'a>(place: Place, start: Start, owed: &mut Debts<'a>) -> Result<boo
         &[SEMICOLON, SPACE, turn, SPACE, PLUS, equals, SPACE, step],
     )?;
     let less = Owed::Token(LESS);
-    give(
-        owed,
-        &[SEMICOLON, SPACE, turn, SPACE, less, SPACE, bound],
-    )
+    give(owed, &[SEMICOLON, SPACE, turn, SPACE, less, SPACE, bound])
 }
 
 /// Gives what follows that which is added to a loop's variable.

@@ -10,8 +10,8 @@ ghost use Rattle.kernel_reader.specs.Views.{Gave};
 ghost use Rattle.kernel_reader.specs.Noted.{notes_of};
 
 use crate::form::{
-    BAR, BARRIER, BLANK, CLOSE, CLOSE_BLOCK, CLOSE_INDEX, CLOSES, DEEPEST, Debts, EQUALS, FOR, Form,
-    GLOBAL_FENCE, LINE, LOCAL_FENCE, Mark, OPEN_INDEX, OPENS, Place, SEMICOLON, SPACE, UINT,
+    BAR, BARRIER, BLANK, CLOSE, CLOSE_BLOCK, CLOSE_INDEX, CLOSES, DEEPEST, Debts, EQUALS, FOR,
+    Form, GLOBAL_FENCE, LINE, LOCAL_FENCE, Mark, OPEN_INDEX, OPENS, Place, SEMICOLON, SPACE, UINT,
 };
 use crate::lines::is_indent;
 use crate::made::Made;

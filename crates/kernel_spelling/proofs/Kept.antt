@@ -2,7 +2,7 @@
 use Rattle.std.proofs.Common.{◌≡◌, ℕ, suc, ◌+◌, ◌-◌, ◌^◌, ◌≤◌, ◌<◌, List, [], ◌∷◌, ◌++◌, Some, Bool, true, false, refl, ap, sym, ◌∙◌, subst, arith, max, length}
 use Rattle.std.specs.Prelude.{nat_lt, nat_le, decimal, ◌&&◌}
 use Rattle.std.proofs.Math.Nat.{max-le}
-use Rattle.std.proofs.lemmas.Bool.{lt-ltb, ltb-true, le-leb, and_from}
+use Rattle.std.proofs.lemmas.Bool.{lt-ltb, le-leb, and_from}
 use Rattle.std.proofs.lemmas.List.{append_assoc, append-nil, length-append}
 use Rattle.std.proofs.lemmas.Option.{same_Some}
 use Rattle.readings.specs.Readings.{Token, Form, Mark}
@@ -10,10 +10,10 @@ use Rattle.readings.specs.Meanings.{AllMean, split}
 use Rattle.scalar_ops.specs.declared.op.Op.{Op}
 use Rattle.scalar_ops.specs.declared.op.Op.TheVariants.{Min, Max, Shl, Shr}
 use Rattle.kernel_tree.specs.Formula.{IdForm, GlobalId, GroupId, LocalId, GlobalSize, GroupCount, LocalSize, Comparison, Less, Equal, Formula, Number, Id, Binary, Choose}
-use Rattle.kernel_tree.specs.Code.{Array, Input, Output, Local, Private, Start, FromZero, Stride, ByOne, Code, End, Assigns, Loads, Stores, Loops, Syncs}
+use Rattle.kernel_tree.specs.Code.{Input, Output, Local, Private, Start, FromZero, Stride, ByOne, Code, End, Assigns, Loads, Stores, Loops, Syncs}
 use Rattle.kernel_tree.specs.Grammar.{deepest, height, is_constant, is_operator, names_declared, is_expression, is_readable, is_writable, are_statements, has_statement, are_lengths}
-use Rattle.kernel_tree.specs.KernelText.{Piece, number_limit, Part, Parameter, Pointer, NewInput, NewOutput, AfterOutput, OutputOrSize, NewSize, AfterSize, Locals, NewLocal, LocalLength, Privates, Declared, PrivateLength, Variables, NewVariable, Statement, Next, Source, Fence, AfterLocal, Beginning, BeginningId, Step, StepId, Turn, Indent, Value, Opened, IdName, Rest, AfterLess, Note, Leaf, Both, Either, Stop, Assign, Load, Store, Loop, Sync, Notes, Item, texts, counted, stored, another_line, loop_head, loop_test, loop_body, cast, called, operated, compared, start_at, stride_by, noted, both_of, either_of, loop_of, array_name, id_name, space, line, comma, semicolon, star, equals, less, greater, plus, bar, question, colon, opens, closes, nought, index_begins, index_ends, block_begins, block_ends, global, local, const, uint, for, barrier, local_flag, global_flag, least, greatest, indent, variable, size, loop_variable, literal, zero_literal, one_literal, kernels, marked, Names, a_variable, a_loop_variable, a_size, IsSign, adds, subtracts, multiplies, divides, leaves, ands, ors, xors, IsCall, takes_least, takes_greatest, Gives, an_input, pointer_to_const, pointer, new_input, new_output, last_output, more_outputs, another_output, first_size, new_size, last_size, more_sizes, a_local, no_local, new_local, local_length, a_declaration, no_declaration, new_private, first_variable, private_length, another_variable, statements, new_variable, assign, store, loop, meet, load, value, another, end, end_of_loop, indented, fences_local, fences_global, local_alone, fences_both, turn, from_zero, from_id, from_this_id, by_one, by_count, by_this_count, number, named_value, call, open_value, an_id, both, this_id, sign, shift_right, equal, less_or_shift, shift_left, is_less}
-use Rattle.kernel_spelling.specs.Spelling.{is_called, spell_id, spell_sign, spell_comparison, spell, spell_start, spell_stride, loop_line, test_line, step_line, block_line, spell_code, spell_locals, spell_privates, spell_variables, spell_sizes, spell_outputs, spell_inputs, first_output}
+use Rattle.kernel_tree.specs.KernelText.{Piece, number_limit, Part, Parameter, Pointer, NewInput, NewOutput, AfterOutput, OutputOrSize, NewSize, AfterSize, Locals, NewLocal, LocalLength, Privates, Declared, PrivateLength, Variables, NewVariable, Statement, Next, Source, Fence, AfterLocal, Beginning, BeginningId, Step, StepId, Turn, Indent, Value, Opened, IdName, Rest, AfterLess, Note, Leaf, Both, Either, Stop, Assign, Load, Store, Loop, Sync, Notes, Item, texts, counted, stored, another_line, loop_test, loop_body, called, operated, compared, start_at, stride_by, noted, both_of, either_of, array_name, id_name, space, line, comma, semicolon, star, equals, less, greater, plus, bar, question, colon, opens, closes, nought, index_begins, index_ends, block_begins, block_ends, global, local, const, uint, for, barrier, local_flag, global_flag, indent, variable, size, loop_variable, literal, zero_literal, one_literal, kernels, marked, Names, a_variable, a_loop_variable, a_size, IsSign, adds, subtracts, multiplies, divides, leaves, ands, ors, xors, IsCall, takes_least, takes_greatest, Gives, an_input, pointer_to_const, pointer, new_input, new_output, last_output, more_outputs, another_output, first_size, new_size, last_size, more_sizes, a_local, no_local, new_local, local_length, a_declaration, no_declaration, new_private, first_variable, private_length, another_variable, statements, new_variable, assign, store, loop, meet, load, value, another, end, end_of_loop, indented, fences_local, fences_global, local_alone, fences_both, turn, from_zero, from_id, from_this_id, by_one, by_count, by_this_count, number, named_value, call, open_value, an_id, both, this_id, sign, shift_right, equal, less_or_shift, shift_left, is_less}
+use Rattle.kernel_spelling.specs.Spelling.{is_called, spell_id, spell_sign, spell, spell_start, spell_stride, loop_line, step_line, block_line, spell_code, spell_locals, spell_privates, spell_variables, spell_sizes, spell_outputs, spell_inputs, first_output}
 use Rattle.kernel_spelling.specs.Meaning.{CountsFit, FitsAt, IsValue, Tail, Operated, Compared, with_tail, spell_tail, TailFits, IsTail, IsId, IsCode, IsStatement, IsRound, AreVariables, ArePrivates, AreLocals, local_line, private_line, Means}
 
 abbrev All : List Item → Notes → List Piece → Notes → List Piece → Type 0

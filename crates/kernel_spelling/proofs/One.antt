@@ -1,5 +1,5 @@
 -- A text is of one kernel.
-use Rattle.std.proofs.Common.{◌≡◌, ℕ, List, [], ◌∷◌, refl, ap, sym, ◌∙◌, subst}
+use Rattle.std.proofs.Common.{◌≡◌, ℕ, List, [], ◌∷◌, ap, ◌∙◌, subst}
 use Rattle.readings.specs.Readings.{Reads}
 use Rattle.readings.specs.OneReading.{one_reading}
 use Rattle.kernel_tree.specs.Code.{Code, End, Kernel}

@@ -1,6 +1,6 @@
 -- What is spelled is read.
 use Rattle.std.proofs.Common.{◌≡◌, ℕ, zero, suc, ◌+◌, ◌<◌, ◌≤◌, ◌^◌, List, [], ◌∷◌, ◌++◌, Bool, true, false, refl, ap, sym, ◌∙◌, subst, arith, max, lit<, lit≤, Some, length}
-use Rattle.std.specs.Prelude.{nat_lt, nat_le, ◌&&◌, ◌||◌, decimal}
+use Rattle.std.specs.Prelude.{nat_lt, nat_le, ◌&&◌, ◌||◌}
 use Rattle.std.proofs.Math.Nat.{le-max_left, le-max_right}
 use Rattle.std.proofs.lemmas.Bool.{ltb-true, leb-true, and_parts}
 use Rattle.std.proofs.lemmas.List.{append_assoc, append-nil}
@@ -10,7 +10,7 @@ use Rattle.scalar_ops.specs.declared.op.Op.TheVariants.{Add, Mul, Min, Max, And,
 use Rattle.kernel_tree.specs.Formula.{IdForm, GlobalId, GroupId, LocalId, GlobalSize, GroupCount, LocalSize, Comparison, Less, Equal, Formula, Number, Variable, LoopVariable, Size, Id, Binary, Choose}
 use Rattle.kernel_tree.specs.Code.{Array, Input, Output, Local, Private, Start, FromZero, FromGlobalId, FromGroupId, FromLocalId, Stride, ByOne, ByGlobalSize, ByGroupCount, ByLocalSize, Code, End, Assigns, Loads, Stores, Loops, Syncs, Kernel}
 use Rattle.kernel_tree.specs.Grammar.{deepest, height, is_constant, is_operator, names_declared, is_expression, is_readable, is_writable, are_statements, has_statement, are_lengths}
-use Rattle.kernel_tree.specs.KernelText.{Piece, Part, Parameter, Locals, Privates, Variables, Declared, Statement, Next, Source, Fence, Beginning, Step, AfterOutput, AfterSize, Turn, Indent, Value, Opened, Rest, Note, Both, Either, Assign, Load, Store, Loop, Sync, Notes, Item, texts, counted, all_of, stored, loop_head, loop_test, loop_body, operated, compared, noted, array_name, array_number, number_limit, space, line, semicolon, equals, less, plus, question, colon, comma, opens, closes, uint, index_begins, index_ends, block_begins, local, for, barrier, least, greatest, indent, variable, literal, kernels, marked, Names, a_variable, a_loop_variable, a_size, adds, subtracts, multiplies, divides, leaves, ands, ors, xors, takes_least, takes_greatest, Gives, an_input, pointer_to_const, pointer, new_input, new_output, last_output, more_outputs, another_output, first_size, new_size, last_size, more_sizes, a_local, no_local, new_local, local_length, a_declaration, no_declaration, new_private, first_variable, private_length, another_variable, statements, new_variable, assign, store, loop, meet, load, value, another, end, end_of_loop, indented, fences_local, fences_global, local_alone, fences_both, turn, from_zero, from_id, from_this_id, by_one, by_count, by_this_count, number, named_value, call, open_value, an_id, both, this_id, sign, shift_right, equal, less_or_shift, shift_left, is_less, start, nothing}
+use Rattle.kernel_tree.specs.KernelText.{Piece, Part, Parameter, Locals, Privates, Variables, Statement, Next, Source, Fence, Beginning, Step, AfterOutput, AfterSize, Turn, Indent, Value, Opened, Rest, Note, Both, Either, Assign, Load, Store, Loop, Sync, Notes, Item, texts, counted, all_of, stored, loop_head, loop_test, loop_body, operated, compared, noted, array_name, array_number, number_limit, space, line, semicolon, equals, plus, question, colon, opens, closes, uint, index_begins, index_ends, block_begins, local, for, barrier, least, greatest, indent, literal, kernels, marked, Names, a_variable, a_loop_variable, a_size, adds, subtracts, multiplies, divides, leaves, ands, ors, xors, takes_least, takes_greatest, Gives, an_input, pointer_to_const, pointer, new_input, new_output, last_output, more_outputs, another_output, first_size, new_size, last_size, more_sizes, a_local, no_local, new_local, local_length, a_declaration, no_declaration, new_private, first_variable, private_length, another_variable, statements, new_variable, assign, store, loop, meet, load, value, another, end, end_of_loop, indented, fences_local, fences_global, local_alone, fences_both, turn, from_zero, from_id, from_this_id, by_one, by_count, by_this_count, number, named_value, call, open_value, an_id, both, this_id, sign, shift_right, equal, less_or_shift, shift_left, is_less, start, nothing}
 use Rattle.kernel_spelling.specs.Spelling.{is_called, spell, spell_sign, spell_comparison, spell_id, spell_start, spell_stride, spell_flags, spell_code, loop_line, test_line, step_line, block_line, spell_locals, spell_privates, spell_variables, spell_sizes, spell_outputs, spell_inputs, first_output, spell_body, spelled_with, HasText}
 use Rattle.kernel_spelling.specs.Meaning.{FitsAt, CountsFit}
 use Rattle.kernel_spelling.proofs.Kept.{one_longer, with_private, with_local, with_values, variables_fit, privates_fit, locals_fit}

@@ -1,5 +1,5 @@
 -- The pieces of a spelled kernel are the pieces of its text.
-use Rattle.std.proofs.Common.{◌≡◌, ℕ, zero, suc, ◌+◌, ◌^◌, ◌<◌, ◌≤◌, List, [], ◌∷◌, Bool, true, false, refl, ap, sym, ◌∙◌, subst, arith, length, lit<, lit≤}
+use Rattle.std.proofs.Common.{◌≡◌, ℕ, zero, suc, ◌+◌, ◌^◌, ◌<◌, ◌≤◌, List, [], ◌∷◌, Bool, true, false, refl, ap, sym, subst, arith, length, lit<, lit≤}
 use Rattle.std.specs.Prelude.{◌&&◌, ◌||◌, codes, decimal, nat_lt, nat_le}
 use Rattle.std.proofs.lemmas.Bool.{ltb-true, and_parts}
 use Rattle.std.proofs.lemmas.Fmt.{decimal_is_IsNumeral}
@@ -7,9 +7,9 @@ use Rattle.scalar_ops.specs.declared.op.Op.{Op}
 use Rattle.scalar_ops.specs.declared.op.Op.TheVariants.{Add, Mul, Min, Max, And, Or, Xor, Sub, Shl, Shr, Div, Rem, Lt, Eq}
 use Rattle.kernel_tree.specs.Formula.{IdForm, GlobalId, GroupId, LocalId, GlobalSize, GroupCount, LocalSize, Comparison, Less, Equal, Formula, Number, Variable, LoopVariable, Size, Id, Binary, Choose}
 use Rattle.kernel_tree.specs.Code.{Array, Input, Output, Local, Private, Start, FromZero, FromGlobalId, FromGroupId, FromLocalId, Stride, ByOne, ByGlobalSize, ByGroupCount, ByLocalSize, Code, End, Assigns, Loads, Stores, Loops, Syncs, Kernel}
-use Rattle.kernel_tree.specs.Grammar.{deepest, height, is_constant, is_operator, names_declared, is_expression, is_readable, is_writable, are_statements, has_statement, are_lengths}
+use Rattle.kernel_tree.specs.Grammar.{deepest, height, is_operator, names_declared, is_expression, is_readable, is_writable, are_statements, are_lengths}
 use Rattle.kernel_tree.specs.Pieces.{is_word, joined, ArePieces}
-use Rattle.kernel_tree.specs.KernelText.{Piece, Notes, counted, all_of as notes_of, number_limit, array_name, id_name, space, line, comma, semicolon, question, colon, closes, opens, bar, index_begins, index_ends, uint, global, local, const, for, barrier, local_flag, global_flag, least, greatest, nought, loop_variable, zero_literal, one_literal}
+use Rattle.kernel_tree.specs.KernelText.{Piece, Notes, counted, all_of as notes_of, number_limit, array_name, id_name, space, line, comma, semicolon, question, colon, closes, opens, index_begins, index_ends, uint, global, local, const, for, barrier, local_flag, global_flag, least, greatest, nought, loop_variable, zero_literal, one_literal}
 use Rattle.kernel_spelling.specs.Spelling.{is_called, spell, spell_sign, spell_comparison, spell_id, spell_start, spell_stride, spell_flags, spell_end, spell_code, loop_line, test_line, step_line, block_line, spell_locals, spell_privates, spell_variables, spell_sizes, spell_outputs, spell_inputs, first_output, spell_body, spelled_with, spelled, HasText}
 use Rattle.kernel_spelling.specs.Meaning.{CountsFit}
 use Rattle.kernel_spelling.proofs.Cut.{Stand, NoWord, NoBlank, all_of, word, single, blanks, indented, a_name, a_literal, decimal_word, small_number}

@@ -7,7 +7,6 @@ use Rattle.std.proofs.lemmas.List.{length-replicate}
 use Rattle.readings.specs.Readings.{Token, Form, Mark}
 use Rattle.readings.specs.Running.{Decides}
 use Rattle.scalar_ops.specs.declared.op.Op.{Op}
-use Rattle.scalar_ops.specs.declared.op.Op.TheVariants.{Shl, Shr}
 use Rattle.kernel_tree.specs.declared.tree.Array as held
 use Rattle.kernel_tree.specs.declared.tree.Array.TheVariants as array
 use Rattle.kernel_tree.specs.Formula.{Formula, IdForm, GlobalId, GroupId, LocalId, GlobalSize, GroupCount, LocalSize, Id, Less, Equal}
@@ -15,11 +14,11 @@ use Rattle.kernel_tree.specs.Formula as formula
 use Rattle.kernel_tree.specs.Code as code
 use Rattle.kernel_tree.specs.Grammar.{deepest, is_readable, is_writable}
 use Rattle.kernel_tree.specs.Tree.{array_of}
-use Rattle.kernel_tree.specs.KernelText.{Piece, Part, Parameter, Pointer, NewInput, NewOutput, AfterOutput, OutputOrSize, NewSize, AfterSize, Locals, NewLocal, LocalLength, Privates, Declared, PrivateLength, Variables, NewVariable, Statement, Next, Source, Fence, AfterLocal, Beginning, BeginningId, Step, StepId, Turn, Indent, Value, Opened, IdName, Rest, AfterLess, Note, DeclareLocal, DeclarePrivate, Leaf, Assign, Sync, Notes, Item, texts, counted, stored, another_line, loop_head, loop_test, loop_body, cast, called, operated, compared, start_at, stride_by, array_name, array_number, id_name, number_limit, space, comma, plus, equals, less, greater, bar, opens, closes, index_begins, index_ends, block_ends, global, local, const, uint, for, barrier, local_flag, global_flag, zero_literal, one_literal, indent, size, variable, loop_variable, literal, kernels, Names, a_variable, a_loop_variable, a_size, IsSign, adds, subtracts, multiplies, divides, leaves, ands, ors, xors, IsCall, takes_least, takes_greatest, Gives, an_input, pointer_to_const, pointer, new_input, new_output, last_output, more_outputs, another_output, first_size, new_size, last_size, more_sizes, a_local, no_local, new_local, local_length, a_declaration, no_declaration, new_private, first_variable, private_length, another_variable, statements, new_variable, assign, store, loop, meet, load, value, another, end, end_of_loop, indented, fences_local, fences_global, local_alone, fences_both, turn, from_zero, from_id, from_this_id, by_one, by_count, by_this_count, number, named_value, call, open_value, an_id, both, this_id, sign, shift_right, equal, less_or_shift, shift_left, is_less}
+use Rattle.kernel_tree.specs.KernelText.{Piece, Part, Parameter, Pointer, NewInput, NewOutput, AfterOutput, OutputOrSize, NewSize, AfterSize, Locals, NewLocal, LocalLength, Privates, Declared, PrivateLength, Variables, NewVariable, Statement, Next, Source, Fence, AfterLocal, Beginning, BeginningId, Step, StepId, Turn, Indent, Value, Opened, IdName, Rest, AfterLess, Note, DeclareLocal, DeclarePrivate, Leaf, Assign, Notes, Item, texts, counted, stored, another_line, loop_head, loop_test, loop_body, called, operated, start_at, stride_by, array_name, array_number, id_name, number_limit, space, comma, equals, less, greater, opens, closes, index_ends, block_ends, global, local, const, uint, for, barrier, local_flag, global_flag, zero_literal, one_literal, indent, size, variable, loop_variable, literal, kernels, Names, a_variable, a_loop_variable, a_size, IsSign, adds, subtracts, multiplies, divides, leaves, ands, ors, xors, IsCall, takes_least, takes_greatest, Gives, an_input, pointer_to_const, pointer, new_input, new_output, last_output, more_outputs, another_output, first_size, new_size, last_size, more_sizes, a_local, no_local, new_local, local_length, a_declaration, no_declaration, new_private, first_variable, private_length, another_variable, statements, new_variable, assign, store, loop, meet, load, value, another, end, end_of_loop, indented, fences_local, fences_global, local_alone, fences_both, turn, from_zero, from_id, from_this_id, by_one, by_count, by_this_count, number, named_value, call, open_value, an_id, both, this_id, sign, shift_right, equal, less_or_shift, shift_left, is_less}
 use Rattle.kernel_spelling.specs.declared.kinds.Kind.{Kind}
 use Rattle.kernel_spelling.specs.declared.kinds.Kind.TheVariants.{Array, Size, Variable, LoopVariable, Literal, Decimal, Other}
 use Rattle.kernel_spelling.specs.Kinds.{number_in, named_in, literal_in, kind_or, number_kind, array_kind, kind_of, beside, ids, signs, calls, id_in, sign_in, call_in}
-use Rattle.kernel_spelling.specs.Rows.{is_next, new_input_row, new_output_row, new_size_row, leaf, calling, whole_row, value_row, opened_row, id_row, rest_row, after_less_row, storing, loading, word_row, statement_row, source_row, end_row, next_row, fence_row, after_local_row, turn_row, beginning_row, beginning_id_row, step_row, step_id_row, new_variable_row, new_local_row, declared_row, length_row, variables_row, privates_row, locals_row, row, table}
+use Rattle.kernel_spelling.specs.Rows.{is_next, new_input_row, new_output_row, new_size_row, leaf, calling, whole_row, value_row, opened_row, id_row, rest_row, storing, loading, statement_row, source_row, end_row, next_row, turn_row, beginning_id_row, step_id_row, new_variable_row, new_local_row, declared_row, length_row, privates_row, row, table}
 use Rattle.kernel_spelling.specs.Numbers.{itself, same, number_decimal, number_is, no_number, named_is, literal_is, literal_spelled, not_named, no_name, no_literal, cond_then}
 
 -- ---- kinds

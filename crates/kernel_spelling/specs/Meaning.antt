@@ -1,8 +1,8 @@
 -- What the forms of a kernel's text mean: what they note, and how that is spelled.
-use Rattle.std.specs.Prelude.{◌≡◌, ℕ, suc, ◌+◌, ◌≤◌, ◌<◌, Bool, true, false, List, [], ◌∷◌, ◌++◌, Some, nat_lt, length}
+use Rattle.std.specs.Prelude.{◌≡◌, ℕ, suc, ◌+◌, ◌≤◌, ◌<◌, Bool, true, false, List, ◌∷◌, ◌++◌, Some, nat_lt, length}
 use Rattle.scalar_ops.specs.declared.op.Op.{Op}
 use Rattle.kernel_tree.specs.Formula.{IdForm, Comparison, Formula, Id, Binary, Choose}
-use Rattle.kernel_tree.specs.Code.{Local, Private, Output, Start, Stride, Code, Kernel}
+use Rattle.kernel_tree.specs.Code.{Local, Private, Output, Start, Stride, Code}
 use Rattle.kernel_tree.specs.Grammar.{deepest, height, is_constant, is_operator, names_declared, are_statements, has_statement, are_lengths}
 use Rattle.kernel_tree.specs.KernelText.{Piece, Part, Parameter, Pointer, NewInput, NewOutput, AfterOutput, OutputOrSize, NewSize, AfterSize, Locals, NewLocal, LocalLength, Privates, Declared, PrivateLength, Variables, NewVariable, Statement, Next, Source, Fence, AfterLocal, Beginning, BeginningId, Step, StepId, Turn, Indent, Value, Opened, IdName, Rest, AfterLess, Notes, number_limit, counted, noted, loop_of, array_name, id_name, space, comma, star, equals, less, question, colon, opens, closes, nought, index_begins, const, uint, global, local, barrier, local_flag, indent, variable, loop_variable}
 use Rattle.kernel_spelling.specs.Spelling.{is_called, spell_sign, spell_comparison, spell, spell_stride, loop_line, block_line, spell_code, spell_locals, spell_privates, spell_variables, spell_sizes, spell_outputs, spell_inputs, first_output}

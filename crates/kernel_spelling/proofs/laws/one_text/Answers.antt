@@ -1,4 +1,4 @@
-use Rattle.std.proofs.Common.{ap, ◌∙◌, refl}
+use Rattle.std.proofs.Common.{ap, ◌∙◌}
 use Rattle.kernel_tree.specs.Pieces.{joined}
 use Rattle.kernel_spelling.specs.Spelling.{spelled}
 use Rattle.kernel_spelling.proofs.Whole.{made_whole, spelled_made}
