@@ -1,10 +1,9 @@
 -- Local arrays are numbered in the order in which phases fill them.
-use Rattle.std.proofs.Common.{◌≡◌, ℕ, zero, suc, ◌+◌, ◌*◌, ◌<◌, ◌≤◌, List, [], ◌∷◌, ◌++◌, length, Bool, true, false, refl, sym, ap, ◌∙◌, subst, arith}
-use Rattle.std.specs.Prelude.{nat_lt, if◌then◌else◌}
+use Rattle.std.proofs.Common.{◌≡◌, ℕ, zero, suc, ◌+◌, ◌<◌, ◌≤◌, List, [], ◌∷◌, ◌++◌, length, Bool, true, false, refl, sym, ap, ◌∙◌, subst, arith}
 use Rattle.std.proofs.lemmas.Bool.{lt-ltb, le-ltb}
 use Rattle.lift_ir.specs.Types.{Ty, PairOf, ArrayOf, width}
 use Rattle.lift_ir.specs.Layouts.{operand_position, result_position}
-use Rattle.lift_ir.specs.Terms.{Global, WorkGroup, Local, Sequential, LocalMemory, PrivateMemory, Term, Literal, Bound, Source, Apply, ApplyNumber, Select, Both, Project, Reshape, LetArray, LetElement, Map, Fold, Store, Copy, HasType}
+use Rattle.lift_ir.specs.Terms.{Local, LocalMemory, Term, Bound, Source, Both, Project, Reshape, LetArray, Map, Copy, HasType}
 use Rattle.lift_ir.specs.Scalars.{Scalars}
 use Rattle.printed_form.specs.Marks.{Marks}
 use Rattle.group_terms.specs.Origins.{local_count}

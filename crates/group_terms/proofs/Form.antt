@@ -1,13 +1,13 @@
 -- Code that is printed for a map over work-groups is printed for its phases.
-use Rattle.std.proofs.Common.{◌≡◌, ℕ, zero, suc, ◌+◌, ◌<◌, ◌≤◌, List, [], ◌∷◌, ◌++◌, length, Bool, true, false, true≢false, refl, sym, ap, ◌∙◌, subst, arith}
-use Rattle.kernel_tree.specs.Code.{Local as LocalArray, Code, End}
+use Rattle.std.proofs.Common.{◌≡◌, ℕ, zero, suc, ◌+◌, ◌<◌, List, [], ◌∷◌, length, Bool, true, false, refl, sym, subst, arith}
+use Rattle.kernel_tree.specs.Code.{Code, End}
 use Rattle.kernel_tree.specs.Launch.{Launch, Cells}
 use Rattle.barrier_placement.specs.declared.touches.Touch.{Touch}
 use Rattle.barrier_placement.specs.Fencing.{Fencing, Open, Fenced, stands}
 use Rattle.barrier_placement.specs.Needed.{Needed}
 use Rattle.lift_ir.specs.Types.{Ty, PairOf, ArrayOf}
 use Rattle.lift_ir.specs.Layouts.{operand_position, result_position}
-use Rattle.lift_ir.specs.Terms.{LoadSet, Local, LocalMemory, Term, Bound, Source, Both, Project, Reshape, LetArray, Map, Copy, push, HasType}
+use Rattle.lift_ir.specs.Terms.{Local, LocalMemory, Term, Bound, Source, Both, Project, Reshape, LetArray, Map, Copy, push, HasType}
 use Rattle.lift_ir.specs.Scalars.{at_index}
 use Rattle.printed_form.specs.Counts.{load_count}
 use Rattle.printed_form.specs.Marks.{Marks, loaded_marks}
@@ -17,7 +17,7 @@ use Rattle.group_phases.specs.Phased.{ArePhases}
 use Rattle.group_printing.specs.Phases.{PhaseList, IsPhaseLoop, IsPhase}
 use Rattle.group_terms.specs.Forms.{StandsInGroup}
 use Rattle.group_terms.specs.Origins.{local_count}
-use Rattle.group_terms.specs.Uses.{Destination, Locals, Outputs, phases_in}
+use Rattle.group_terms.specs.Uses.{Destination, Locals, phases_in}
 use Rattle.group_terms.specs.Stages as stages
 use Rattle.group_terms.specs.Stages.{Stage, Scope, later, stage_at}
 use Rattle.group_terms.specs.Body.{GroupBody, destination_marks, goes_to, phase_list}

@@ -13,3 +13,6 @@ pub mod Theorem
 pub mod Needed
 pub mod Worked
 pub mod Programs
+pub mod Shown
+pub mod Typing
+pub mod Printer

@@ -1,5 +1,5 @@
 -- Typing looks at named components alone.
-use Rattle.std.proofs.Common.{◌≡◌, ℕ, zero, suc, ◌+◌, ◌*◌, ◌/◌, ◌-◌, ◌<◌, ◌≤◌, ◌⊎◌, ⊎_elim, inl, inr, List, [], ◌∷◌, ◌++◌, Bool, true, false, true≢false, refl, sym, ap, ◌∙◌, subst, arith}
+use Rattle.std.proofs.Common.{◌≡◌, ℕ, zero, suc, ◌+◌, ◌*◌, ◌/◌, ◌-◌, ◌⊎◌, ⊎_elim, inl, inr, List, [], ◌∷◌, ◌++◌, Bool, true, false, true≢false, refl, sym, ap, ◌∙◌, subst, arith}
 use Rattle.std.specs.Prelude.{◌==◌, map, if◌then◌else◌}
 use Rattle.std.proofs.lemmas.Bool.{eq-eqb, eqb-true}
 use Rattle.kernel_tree.specs.Faults.{Among}
@@ -170,16 +170,19 @@ loads_kept (Each x y) (ArrayOf n t) u W f s k = absurd s
 loads_kept (Each x y) (PairOf a b) u W f s k =
     let l = map (λ w. false ∷ w) (taken x) in
     let r = map (λ w. true ∷ w) (taken y) in
-    subst (LoadsScalars (Each x y)) (sym k.3)
-    (loads_kept x a k.1 (λ w. W (false ∷ w)) (λ w z. f (false ∷ w) (among_left (false ∷ w) l r (among_map (λ w. false ∷ w) w (taken x) z))) s.0 k.4,
-     loads_kept y b k.2 (λ w. W (true ∷ w)) (λ w z. f (true ∷ w) (among_right (true ∷ w) l r (among_map (λ w. true ∷ w) w (taken y) z))) s.1 k.5)
+    subst (LoadsScalars (Each x y)) (sym k.3) (
+      loads_kept x a k.1 (λ w. W (false ∷ w)) (λ w z. f (false ∷ w) (among_left (false ∷ w) l r (among_map (λ w. false ∷ w) w (taken x) z))) s.0 k.4,
+      loads_kept y b k.2 (λ w. W (true ∷ w)) (λ w z. f (true ∷ w) (among_right (true ∷ w) l r (among_map (λ w. true ∷ w) w (taken y) z))) s.1 k.5,
+    )
 
 module _ {A : Type 0} (num : A → ℕ) where
   -- a layout of an operand whose other components are whatever they are
   reshape_keeps : (l : Layout A) (u t v : Ty) (W : List Bool → Type 0) → Reshapes num l u t → KeepsIn u W v → (s : Ty) × Reshapes num l v s × KeepsIn t W s
-  reshape_keeps (Split m) (ArrayOf n x) t v W r k =
-      (ArrayOf (n / num m) (ArrayOf (num m) k.1), subst (λ z. Reshapes num (Split m) z (ArrayOf (n / num m) (ArrayOf (num m) k.1))) (sym k.2) (r.0, r.1, refl),
-       subst (λ z. KeepsIn z W (ArrayOf (n / num m) (ArrayOf (num m) k.1))) (sym r.2) (keeps_array (n / num m) (ArrayOf (num m) x) (ArrayOf (num m) k.1) W (keeps_array (num m) x k.1 W k.3)))
+  reshape_keeps (Split m) (ArrayOf n x) t v W r k = (
+    ArrayOf (n / num m) (ArrayOf (num m) k.1),
+    subst (λ z. Reshapes num (Split m) z (ArrayOf (n / num m) (ArrayOf (num m) k.1))) (sym k.2) (r.0, r.1, refl),
+    subst (λ z. KeepsIn z W (ArrayOf (n / num m) (ArrayOf (num m) k.1))) (sym r.2) (keeps_array (n / num m) (ArrayOf (num m) x) (ArrayOf (num m) k.1) W (keeps_array (num m) x k.1 W k.3)),
+  )
   reshape_keeps (Join m) (ArrayOf n (ArrayOf j x)) t v W r k =
       let i = k.3 in
       let same : v ≡ ArrayOf n (ArrayOf j i.1) = k.2 ∙ ap (ArrayOf n) i.2 in
@@ -251,9 +254,11 @@ module _ {A : Type 0} (num : A → ℕ) where
         let one = typed_by_named a g h (ArrayOf x.0 x.1) (onward false ws) (keeps_left g h l r k) x.4 in
         let two = typed_by_named b g h (ArrayOf x.0 x.2) (onward true ws) (keeps_right g h l r k) x.5 in
         let u = one.2.1 in
-        let v = two.2.1 in
-        (ArrayOf x.0 (PairOf u v), (x.0, u, v, refl, subst (HasType num src h a) one.2.2 one.1, subst (HasType num src h b) two.2.2 two.1),
-         subst (λ z. KeepsIn z (λ w. Among w ws) (ArrayOf x.0 (PairOf u v))) (sym x.3) (keeps_array x.0 (PairOf x.1 x.2) (PairOf u v) (λ w. Among w ws) (keeps_pair x.1 x.2 u v ws one.2.3 two.2.3)))
+        let v = two.2.1 in (
+          ArrayOf x.0 (PairOf u v),
+          (x.0, u, v, refl, subst (HasType num src h a) one.2.2 one.1, subst (HasType num src h b) two.2.2 two.1),
+          subst (λ z. KeepsIn z (λ w. Among w ws) (ArrayOf x.0 (PairOf u v))) (sym x.3) (keeps_array x.0 (PairOf x.1 x.2) (PairOf u v) (λ w. Among w ws) (keeps_pair x.1 x.2 u v ws one.2.3 two.2.3)),
+        )
       where
         keeps_pair : (a b u v : Ty) (ws : List (List Bool)) → KeepsIn a (λ w. Among w (onward false ws)) u → KeepsIn b (λ w. Among w (onward true ws)) v → KeepsIn (PairOf a b) (λ w. Among w ws) (PairOf u v)
         keeps_pair a b u v ws k l = (
@@ -295,9 +300,11 @@ module _ {A : Type 0} (num : A → ℕ) where
         let one = typed_by_named xs g h (ArrayOf (num n) x.0) es (keeps_left g h (named xs es) (outside c) k) x.4 in
         let i = one.2 in
         let kept = keeps_less x.0 i.1 (Wants c 0) (λ w. Among w es) (λ w z. among_right w (taken loads) (ways 0 c) (ways_among 0 w c z)) i.3 in
-        let two = typed_by_named b (push x.0 g) (push i.1 h) x.1 ws (keeps_push g h x.0 i.1 c kept (keeps_right g h (named xs es) (outside c) k)) x.5 in
-        (ArrayOf (num n) two.0, (i.1, two.0, x.2, loads_kept loads x.0 i.1 (λ w. Among w es) (λ w z. among_left w (taken loads) (ways 0 c) z) x.3 i.3, subst (HasType num src h xs) i.2 one.1, two.1, refl),
-         subst (λ z. KeepsIn z (λ w. Among w ws) (ArrayOf (num n) two.0)) (sym x.6) (keeps_array (num n) x.1 two.0 (λ w. Among w ws) two.2))
+        let two = typed_by_named b (push x.0 g) (push i.1 h) x.1 ws (keeps_push g h x.0 i.1 c kept (keeps_right g h (named xs es) (outside c) k)) x.5 in (
+          ArrayOf (num n) two.0,
+          (i.1, two.0, x.2, loads_kept loads x.0 i.1 (λ w. Among w es) (λ w z. among_left w (taken loads) (ways 0 c) z) x.3 i.3, subst (HasType num src h xs) i.2 one.1, two.1, refl),
+          subst (λ z. KeepsIn z (λ w. Among w ws) (ArrayOf (num n) two.0)) (sym x.6) (keeps_array (num n) x.1 two.0 (λ w. Among w ws) two.2),
+        )
     typed_by_named (Fold n loads y xs s b) g h ty ws k x =
         let c = named b whole in
         let es = taken loads ++ ways 0 c in

@@ -1,5 +1,5 @@
 -- The needed barriers hang on which uses there are, not on how often or in which order they are told.
-use Rattle.std.proofs.Common.{◌≡◌, ℕ, zero, suc, ◌<◌, List, [], ◌∷◌, ◌⊎◌, ⊎_elim, inl, inr, refl, sym, arith, Bool, true, false, true≢false}
+use Rattle.std.proofs.Common.{◌≡◌, ℕ, zero, suc, List, [], ◌∷◌, sym, arith, Bool, true, false, true≢false}
 use Rattle.std.specs.Prelude.{All, Contains, ◌&&◌}
 use Rattle.std.proofs.lemmas.Bool.{both_ways}
 use Rattle.std.proofs.lemmas.List.Elements.{All-contains}

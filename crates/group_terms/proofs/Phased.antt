@@ -1,35 +1,34 @@
 -- Stages that see what they read are phases of a map over work-groups.
-use Rattle.std.proofs.Common.{◌≡◌, ℕ, zero, suc, ◌+◌, ◌-◌, ◌*◌, ◌/◌, ◌%◌, ◌<◌, ◌≤◌, ◌⊎◌, ◌^◌, List, [], ◌∷◌, ◌++◌, length, Some, None, Bool, true, false, true≢false, refl, sym, ap, ◌∙◌, subst, inl, inr, arith}
-use Rattle.std.specs.Prelude.{map, slice_index, Contains, ◌&&◌}
+use Rattle.std.proofs.Common.{◌≡◌, ℕ, suc, ◌+◌, ◌-◌, ◌*◌, ◌/◌, ◌%◌, ◌<◌, ◌≤◌, ◌⊎◌, ◌^◌, List, [], ◌∷◌, ◌++◌, length, Bool, true, false, refl, sym, ap, ◌∙◌, subst, inl, inr, arith}
+use Rattle.std.specs.Prelude.{map, slice_index, Contains}
 use Rattle.std.proofs.Math.Nat.{mod-lt, mod-eq_of_lt, div-eq_of_lt, mul-add-div_right, mul-add-mod_self_right}
 use Rattle.std.proofs.lemmas.Bool.{and_parts, lt-ltb, le-ltb}
-use Rattle.kernel_tree.specs.Code.{Array, Input, Output, Local as LocalArray, Private, Code, Kernel}
+use Rattle.kernel_tree.specs.Code.{Array, Input, Output, Local as LocalArray, Private, Kernel}
 use Rattle.kernel_tree.specs.Launch.{Launch, Cells, IsWhole, group_of, group_count}
 use Rattle.kernel_tree.specs.Device.{Cell, LocalFence, GlobalFence, fence_of, length_in, row}
 use Rattle.kernel_tree.specs.Faults.{Among}
-use Rattle.kernel_tree.proofs.Grouping.{group_in_launch, in_launch}
+use Rattle.kernel_tree.proofs.Grouping.{group_in_launch}
 use Rattle.kernel_tree.proofs.Stride.{turns_of, turn_below, turn_owner, owner_turn, owner_has}
-use Rattle.lift_ir.specs.Types.{Ty, Scalar, PairOf, ArrayOf, IsPosition, IsFlat, width, component, size, flat, unflat}
+use Rattle.lift_ir.specs.Types.{Ty, Scalar, PairOf, ArrayOf, IsPosition, IsFlat, width, component, flat, unflat}
 use Rattle.lift_ir.specs.Terms.{LoadsScalars}
 use Rattle.lift_ir.specs.Scalars.{Scalars, at_index}
 use Rattle.lift_ir.proofs.Numbers.{component_below, flat_below, component_same, flat_same, unflat_flat}
 use Rattle.printed_form.specs.Marks.{Mark, Nowhere, Register, Spot, Marks}
 use Rattle.printed_form.specs.Whole.{IsGiven}
-use Rattle.group_phases.specs.Cells.{input_cell, output_cell, local_cell, IsGivenInput, IsOwnOutput}
-use Rattle.group_phases.specs.Work.{IsOwnLocal, IsFilledEarlier}
-use Rattle.group_phases.specs.Groups.{GroupOutputs, loop_turns}
-use Rattle.group_printing.specs.Phases as phases
-use Rattle.group_printing.specs.Phases.{Phase, PhaseList, turn_of, row_of, cell_of, phase_scalars, targets, work_of, IsRead, AreRead, IsFillable}
+use Rattle.group_phases.specs.Cells.{output_cell, local_cell, IsOwnOutput}
+use Rattle.group_phases.specs.Work.{IsOwnLocal}
+use Rattle.group_phases.specs.Groups.{loop_turns}
+use Rattle.group_printing.specs.Phases.{PhaseList, turn_of, row_of, cell_of, phase_scalars, targets, work_of, IsRead, AreRead, IsFillable}
 use Rattle.group_printing.specs.Printed.{IsPhased}
-use Rattle.group_terms.specs.Named.{ways, element_ways, named_outside}
-use Rattle.group_terms.specs.Origins.{Origin, Elsewhere, Within, at_way, bent}
+use Rattle.group_terms.specs.Named.{element_ways, named_outside}
+use Rattle.group_terms.specs.Origins.{Origin, Within, at_way, bent}
 use Rattle.group_terms.specs.Uses.{Use, Destination, Locals, Outputs, element_reads, variable_reads, writes_to, touch_of, numbered}
 use Rattle.group_terms.specs.Stages.{Stage, stage_at, uses_in, uses_of, result_type, value_in}
 use Rattle.group_terms.specs.Body as body
 use Rattle.group_terms.specs.Body.{GroupBody, destination_marks, goes_to, place_of, locals_end, home_in, choices_at, first_index, held_choices, held_position, phase_list}
 use Rattle.group_terms.specs.Whole.{destination_type}
 use Rattle.group_terms.proofs.Lists.{among_left, among_right, contained}
-use Rattle.group_terms.proofs.Seen.{IsSeen, SeenAt, Sees}
+use Rattle.group_terms.proofs.Seen.{SeenAt}
 use Rattle.group_terms.proofs.Sight as sight
 use Rattle.group_terms.proofs.Counters.{Chained, first_is, home_at, in_order}
 use Rattle.group_terms.proofs.Uses.{reading, writing, element_told, variable_told, bent_not_plain, write_told, among_numbered}
@@ -215,8 +214,7 @@ module _ {A : Type 0} (num : A → ℕ) (k : Kernel) (l : Launch) (c : Cells) (o
         let here = home_is w f (component ty ds) ty wl e comp in
         let by = group_of l j * l.local + first_index r % l.local in
         let rl : first_index r % l.local < l.local = mod-lt (first_index r) h.whole.positive in
-        let by_group : group_of l by ≡ group_of l j = group_is (group_of l j) (first_index r % l.local) rl in
-        (
+        let by_group : group_of l by ≡ group_of l j = group_is (group_of l j) (first_index r % l.local) rl in (
           omega arith,
           omega arith,
           inr (record {
@@ -280,7 +278,7 @@ module _ {A : Type 0} (num : A → ℕ) (k : Kernel) (l : Launch) (c : Cells) (o
         let under = (h.stages q ql).variable_under v cs r x in
         reads t q j (at_way (bent (s.origins v)) cs) r (s.env (turn_of l t j) v cs r) (s.sems (turn_of l t j) v cs r) il ql jl (λ a e. bent_not_plain (s.origins v) cs a e)
         (λ a plainly e. among_right (reading a plainly) (writes_to s.destination s.direct) (element_reads s.origin (element_ways s.phase.loads s.phase.body) ++ variable_reads s.origins (named_outside s.phase.body))
-            (among_right (reading a plainly) (element_reads s.origin (element_ways s.phase.loads s.phase.body)) (variable_reads s.origins (named_outside s.phase.body)) (variable_told s.origins (named_outside s.phase.body) v cs a plainly under e)))
+        (among_right (reading a plainly) (element_reads s.origin (element_ways s.phase.loads s.phase.body)) (variable_reads s.origins (named_outside s.phase.body)) (variable_told s.origins (named_outside s.phase.body) v cs a plainly under e)))
         ((h.stages q ql).envs v (turn_of l t j) il cs r x)
 
     elements : (t q j u : ℕ) → turn_of l t j < b.turns → q < n → j < l.global → u < turns_of (stage q).phase.len l.local (j % l.local)
@@ -292,38 +290,38 @@ module _ {A : Type 0} (num : A → ℕ) (k : Kernel) (l : Launch) (c : Cells) (o
         let under = (h.stages q ql).element_under cs (i ∷ r) w in
         reads t q j (at_way s.origin cs) (i ∷ r) (s.marks (turn_of l t j) cs (i ∷ r)) (s.scalars (turn_of l t j) cs (i ∷ r)) il ql jl (λ a e. row_owner j u)
         (λ a plainly e. among_right (reading a plainly) (writes_to s.destination s.direct) (element_reads s.origin (element_ways s.phase.loads s.phase.body) ++ variable_reads s.origins (named_outside s.phase.body))
-            (among_left (reading a plainly) (element_reads s.origin (element_ways s.phase.loads s.phase.body)) (variable_reads s.origins (named_outside s.phase.body)) (element_told s.origin (element_ways s.phase.loads s.phase.body) cs a plainly under e)))
+        (among_left (reading a plainly) (element_reads s.origin (element_ways s.phase.loads s.phase.body)) (variable_reads s.origins (named_outside s.phase.body)) (element_told s.origin (element_ways s.phase.loads s.phase.body) cs a plainly under e)))
         ((h.stages q ql).elements (turn_of l t j) il cs (i ∷ r) w)
 
     fillable : (i q : ℕ) → i < b.turns → q < n → (cs : List Bool) (r : List ℕ) → IsPosition (result_type (stage q)) cs r → IsFillable k c p q (goes_to b.out i (stage q) cs r)
     fillable i q il ql cs r x = by_destination (stage q).destination
         (λ f ty e.
-            let w = copy_inside q f ty cs r ql e x in
-            let comp = component_below ty cs ((stage q).outer r) w in
-            let index = flat_below ty cs ((stage q).outer r) (flat_type q f ty ql e) w in
-            let room = ((h.stages q ql).holds f ty e).1 (component ty cs) comp in
-            let low = first_is 0 q f ty b.stages h.chained ql e in
-            subst (λ a. IsFillable k c p q (destination_marks b.out i a cs ((stage q).outer r))) (sym e) (omega arith, omega arith))
+        let w = copy_inside q f ty cs r ql e x in
+        let comp = component_below ty cs ((stage q).outer r) w in
+        let index = flat_below ty cs ((stage q).outer r) (flat_type q f ty ql e) w in
+        let room = ((h.stages q ql).holds f ty e).1 (component ty cs) comp in
+        let low = first_is 0 q f ty b.stages h.chained ql e in
+        subst (λ a. IsFillable k c p q (destination_marks b.out i a cs ((stage q).outer r))) (sym e) (omega arith, omega arith))
         (λ e.
-            let o = h.out.outs cs (i ∷ (stage q).outer r) (il, out_inside q cs r ql e x) in
-            subst (λ a. IsFillable k c p q (destination_marks b.out i a cs ((stage q).outer r))) (sym e) (subst (IsFillable k c p q) (sym o.2) (o.3, tt)))
+        let o = h.out.outs cs (i ∷ (stage q).outer r) (il, out_inside q cs r ql e x) in
+        subst (λ a. IsFillable k c p q (destination_marks b.out i a cs ((stage q).outer r))) (sym e) (subst (IsFillable k c p q) (sym o.2) (o.3, tt)))
 
     same : (i q j : ℕ) → i < b.turns → q < n → (cs ds : List Bool) (r s : List ℕ) → IsPosition (result_type (stage q)) cs r → IsPosition (result_type (stage q)) ds s → cell_of l j (goes_to b.out i (stage q) cs r) ≡ cell_of l j (goes_to b.out i (stage q) ds s) → (cs ≡ ds) × (r ≡ s)
     same i q j il ql cs ds r s x y e = by_destination (stage q).destination
         (λ f ty a.
-            let w = copy_inside q f ty cs r ql a x in
-            let z = copy_inside q f ty ds s ql a y in
-            let cells = sym (copy_cell q j i f ty cs r a) ∙ e ∙ copy_cell q j i f ty ds s a in
-            let arrays : f + component ty cs ≡ f + component ty ds = ap (λ m. array_number m.array) cells in
-            (component_same ty cs ds ((stage q).outer r) ((stage q).outer s) w z (omega arith), from_outer r s x y (flat_same ty cs ds ((stage q).outer r) ((stage q).outer s) (flat_type q f ty ql a) w z (ap (λ m. m.index) cells))))
+        let w = copy_inside q f ty cs r ql a x in
+        let z = copy_inside q f ty ds s ql a y in
+        let cells = sym (copy_cell q j i f ty cs r a) ∙ e ∙ copy_cell q j i f ty ds s a in
+        let arrays : f + component ty cs ≡ f + component ty ds = ap (λ m. array_number m.array) cells in
+        (component_same ty cs ds ((stage q).outer r) ((stage q).outer s) w z (omega arith), from_outer r s x y (flat_same ty cs ds ((stage q).outer r) ((stage q).outer s) (flat_type q f ty ql a) w z (ap (λ m. m.index) cells))))
         (λ a.
-            let w : IsPosition (ArrayOf b.turns b.result) cs (i ∷ (stage q).outer r) = (il, out_inside q cs r ql a x) in
-            let z : IsPosition (ArrayOf b.turns b.result) ds (i ∷ (stage q).outer s) = (il, out_inside q ds s ql a y) in
-            let o = h.out.outs cs (i ∷ (stage q).outer r) w in
-            let u = h.out.outs ds (i ∷ (stage q).outer s) z in
-            let cells = sym (ap (cell_of l j) o.2) ∙ sym (out_cell q j i cs r a) ∙ e ∙ out_cell q j i ds s a ∙ ap (cell_of l j) u.2 in
-            let marks = o.2 ∙ ap (λ m. Spot (Output (array_number m.array)) m.index) cells ∙ sym u.2 in
-            (h.out.choices cs ds (i ∷ (stage q).outer r) (i ∷ (stage q).outer s) w z marks, from_outer r s x y (rest_is i i ((stage q).outer r) ((stage q).outer s) (h.out.places cs ds (i ∷ (stage q).outer r) (i ∷ (stage q).outer s) w z marks))))
+        let w : IsPosition (ArrayOf b.turns b.result) cs (i ∷ (stage q).outer r) = (il, out_inside q cs r ql a x) in
+        let z : IsPosition (ArrayOf b.turns b.result) ds (i ∷ (stage q).outer s) = (il, out_inside q ds s ql a y) in
+        let o = h.out.outs cs (i ∷ (stage q).outer r) w in
+        let u = h.out.outs ds (i ∷ (stage q).outer s) z in
+        let cells = sym (ap (cell_of l j) o.2) ∙ sym (out_cell q j i cs r a) ∙ e ∙ out_cell q j i ds s a ∙ ap (cell_of l j) u.2 in
+        let marks = o.2 ∙ ap (λ m. Spot (Output (array_number m.array)) m.index) cells ∙ sym u.2 in
+        (h.out.choices cs ds (i ∷ (stage q).outer r) (i ∷ (stage q).outer s) w z marks, from_outer r s x y (rest_is i i ((stage q).outer r) ((stage q).outer s) (h.out.places cs ds (i ∷ (stage q).outer r) (i ∷ (stage q).outer s) w z marks))))
       where
         from_outer : (r s : List ℕ) → IsPosition (result_type (stage q)) cs r → IsPosition (result_type (stage q)) ds s → (stage q).outer r ≡ (stage q).outer s → r ≡ s
         from_outer r s x y e = sym ((h.stages q ql).returns cs r x) ∙ ap (stage q).path e ∙ (h.stages q ql).returns ds s y
@@ -341,11 +339,11 @@ module _ {A : Type 0} (num : A → ℕ) (k : Kernel) (l : Launch) (c : Cells) (o
     valued t q j il ql jl cs r x = by_destination (stage q).destination
         (λ f ty e. ap (p.value (group_of l j) t) (copy_cell q j (turn_of l t j) f ty cs r e) ∙ copy_value q f (group_of l j) t (group_of l j) ty cs r ql e x)
         (λ e.
-            let w : IsPosition (ArrayOf b.turns b.result) cs (turn_of l t j ∷ (stage q).outer r) = (il, out_inside q cs r ql e x) in
-            let o = h.out.outs cs (turn_of l t j ∷ (stage q).outer r) w in
-            let v = h.out.values cs (turn_of l t j) ((stage q).outer r) o.0 o.1 w o.2 in
-            ap (p.value (group_of l j) t) (out_cell q j (turn_of l t j) cs r e ∙ ap (cell_of l j) o.2) ∙ v
-            ∙ ap (λ z. value_in num b.sources (turn_of l t j) (stage z) cs ((stage z).path ((stage q).outer r))) (sym (only_last q ql e)) ∙ ap (value_in num b.sources (turn_of l t j) (stage q) cs) ((h.stages q ql).returns cs r x))
+        let w : IsPosition (ArrayOf b.turns b.result) cs (turn_of l t j ∷ (stage q).outer r) = (il, out_inside q cs r ql e x) in
+        let o = h.out.outs cs (turn_of l t j ∷ (stage q).outer r) w in
+        let v = h.out.values cs (turn_of l t j) ((stage q).outer r) o.0 o.1 w o.2 in
+        ap (p.value (group_of l j) t) (out_cell q j (turn_of l t j) cs r e ∙ ap (cell_of l j) o.2) ∙ v
+        ∙ ap (λ z. value_in num b.sources (turn_of l t j) (stage z) cs ((stage z).path ((stage q).outer r))) (sym (only_last q ql e)) ∙ ap (value_in num b.sources (turn_of l t j) (stage q) cs) ((h.stages q ql).returns cs r x))
 
     due : (t q j : ℕ) (x : Cell) → q < n → j < l.global → mine t q j x → IsOwnOutput owner j x ⊎ IsOwnLocal l (work_of num l p) q j x
     due t q j y ql jl x =
@@ -355,27 +353,27 @@ module _ {A : Type 0} (num : A → ℕ) (k : Kernel) (l : Launch) (c : Cells) (o
         let inside : IsPosition (result_type (stage q)) cs r = (row_below q j x.1 x.2, x.5) in
         by_destination (stage q).destination
         (λ f ty e.
-            let is = x.6 ∙ copy_cell q j (turn_of l t j) f ty cs r e in
-            inr (record {
-              array = f + component ty cs;
-              index = flat ty ((stage q).outer r);
-              is = is;
-              in_phase = home_is q f (component ty cs) ty ql e (component_below ty cs ((stage q).outer r) (copy_inside q f ty cs r ql e inside));
-              owned = ap filler is ∙ copy_filler q f (group_of l j) ty cs r ql e inside ∙ ap (λ z. group_of l j * l.local + z) (row_owner j x.1) ∙ item_is j;
-            }))
+        let is = x.6 ∙ copy_cell q j (turn_of l t j) f ty cs r e in
+        inr (record {
+          array = f + component ty cs;
+          index = flat ty ((stage q).outer r);
+          is = is;
+          in_phase = home_is q f (component ty cs) ty ql e (component_below ty cs ((stage q).outer r) (copy_inside q f ty cs r ql e inside));
+          owned = ap filler is ∙ copy_filler q f (group_of l j) ty cs r ql e inside ∙ ap (λ z. group_of l j * l.local + z) (row_owner j x.1) ∙ item_is j;
+        }))
         (λ e.
-            let w : IsPosition (ArrayOf b.turns b.result) cs (turn_of l t j ∷ (stage q).outer r) = (x.0, out_inside q cs r ql e inside) in
-            let o = h.out.outs cs (turn_of l t j ∷ (stage q).outer r) w in
-            inl (record {
-              array = o.0;
-              index = o.1;
-              is = x.6 ∙ out_cell q j (turn_of l t j) cs r e ∙ ap (cell_of l j) o.2;
-              owned = h.out.owned cs (turn_of l t j) ((stage q).outer r) o.0 o.1 w o.2
-                  ∙ ap (λ z. (turn_of l t j % G) * l.local + first_index ((stage z).path ((stage q).outer r)) % l.local) (sym (only_last q ql e))
-                  ∙ ap (λ z. (turn_of l t j % G) * l.local + first_index z % l.local) ((h.stages q ql).returns cs r inside)
-                  ∙ ap (λ z. z * l.local + row % l.local) (turn_owner G (group_of l j) t (group_in_launch l h.whole j jl))
-                  ∙ ap (λ z. group_of l j * l.local + z) (row_owner j x.1) ∙ item_is j;
-            }))
+        let w : IsPosition (ArrayOf b.turns b.result) cs (turn_of l t j ∷ (stage q).outer r) = (x.0, out_inside q cs r ql e inside) in
+        let o = h.out.outs cs (turn_of l t j ∷ (stage q).outer r) w in
+        inl (record {
+          array = o.0;
+          index = o.1;
+          is = x.6 ∙ out_cell q j (turn_of l t j) cs r e ∙ ap (cell_of l j) o.2;
+          owned = h.out.owned cs (turn_of l t j) ((stage q).outer r) o.0 o.1 w o.2
+              ∙ ap (λ z. (turn_of l t j % G) * l.local + first_index ((stage z).path ((stage q).outer r)) % l.local) (sym (only_last q ql e))
+              ∙ ap (λ z. (turn_of l t j % G) * l.local + first_index z % l.local) ((h.stages q ql).returns cs r inside)
+              ∙ ap (λ z. z * l.local + row % l.local) (turn_owner G (group_of l j) t (group_in_launch l h.whole j jl))
+              ∙ ap (λ z. group_of l j * l.local + z) (row_owner j x.1) ∙ item_is j;
+        }))
 
     turn_is : (g t : ℕ) → g < G → (g + t * G) / G ≡ t
     turn_is g t lt =
@@ -393,10 +391,10 @@ module _ {A : Type 0} (num : A → ℕ) (k : Kernel) (l : Launch) (c : Cells) (o
         by_destination (stage q).destination
         (λ f ty e. absurd (not_local a i (group_of l j) (f + component ty cs) (flat ty ((stage q).outer r)) (x.6 ∙ copy_cell q j (turn_of l t j) f ty cs r e)))
         (λ e.
-            let w : IsPosition (ArrayOf b.turns b.result) cs (turn_of l t j ∷ (stage q).outer r) = (x.0, out_inside q cs r ql e inside) in
-            let o = h.out.outs cs (turn_of l t j ∷ (stage q).outer r) w in
-            let cells : output_cell a i ≡ output_cell o.0 o.1 = x.6 ∙ out_cell q j (turn_of l t j) cs r e ∙ ap (cell_of l j) o.2 in
-            (only_last q ql e, cs, (stage q).outer r, w, o.2 ∙ ap (λ m. Spot (Output (array_number m.array)) m.index) (sym cells)))
+        let w : IsPosition (ArrayOf b.turns b.result) cs (turn_of l t j ∷ (stage q).outer r) = (x.0, out_inside q cs r ql e inside) in
+        let o = h.out.outs cs (turn_of l t j ∷ (stage q).outer r) w in
+        let cells : output_cell a i ≡ output_cell o.0 o.1 = x.6 ∙ out_cell q j (turn_of l t j) cs r e ∙ ap (cell_of l j) o.2 in
+        (only_last q ql e, cs, (stage q).outer r, w, o.2 ∙ ap (λ m. Spot (Output (array_number m.array)) m.index) (sym cells)))
 
     differ : (a i t q j u r m : ℕ) → q < n → r < n → j < l.global → m < l.global → mine t q j (output_cell a i) → mine u r m (output_cell a i) → (t ≡ u) × (q ≡ r)
     differ a i t q j u r m ql rl jl ml x y =

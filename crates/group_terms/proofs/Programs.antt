@@ -1,5 +1,5 @@
 -- Kernels printed for a program's typed term that is a map over work-groups keep what they owe, at every admissible launch.
-use Rattle.std.proofs.Common.{◌≡◌, ℕ, zero, suc, ◌*◌, ◌/◌, ◌%◌, ◌<◌, ◌≤◌, Bool, List, [], ◌∷◌, length, Some, refl, sym, ap, ◌∙◌, subst, pos, ◌≤ℤ◌, arith}
+use Rattle.std.proofs.Common.{◌≡◌, ℕ, zero, suc, ◌*◌, ◌/◌, ◌%◌, ◌<◌, Bool, List, [], ◌∷◌, length, Some, refl, sym, ap, ◌∙◌, subst, pos, ◌≤ℤ◌, arith}
 use Rattle.std.specs.Prelude.{map, slice_get}
 use Rattle.size_arith.specs.declared.names.Name.{Name}
 use Rattle.size_arith.specs.declared.poly.Monomial.{Monomial}
@@ -33,26 +33,16 @@ use Rattle.printed_form.specs.Printer.{input_marks}
 use Rattle.printed_form.specs.Programs.{input_shape, first_buffer, lowered_root, cell_owner, IsLaunchOf, AreBuffersOf}
 use Rattle.printed_form.proofs.Programs.{input_has, input_given}
 use Rattle.group_phases.specs.Outcome.{BarriersServeAll}
-use Rattle.group_terms.specs.Theorem.{IsPrintedOverGroups, IsKeptApart}
+use Rattle.group_terms.specs.Theorem.{IsPrintedOverGroups}
 use Rattle.group_terms.specs.Programs.{PrintsGroups, IsGroupProgram, PrintedGroupProgramsKeep, PrintedGroupProgramsServe}
+use Rattle.group_terms.proofs.Typing.{lowered_has}
 use Rattle.group_terms.proofs.Theorem.{needed_keep_apart, needed_groups_keep, separated_groups_serve}
-
-shape_at : (tys : List PlainTy) (i : ℕ) (a : PlainTy) → slice_get tys i ≡ Some a → input_shape tys i ≡ shape_of a
-shape_at [] i a e = absurd (cc)
-shape_at (b ∷ tys) zero a e = ap shape_of (same b a e)
-  where
-    same : (b a : PlainTy) → Some b ≡ Some a → b ≡ a
-    same b a e = cc
-shape_at (b ∷ tys) (suc i) a e = shape_at tys i a e
 
 whole : (l : Launch) (is_task : Bool) (names : List Name) (bases : List ℕ) → IsAdmissibleLaunch names is_task bases l.global l.local → IsWhole l
 whole l is_task names bases h = let a = h.local_least in let b = h.divides in record { positive = omega arith; divides = parts l.global l.local b (omega arith) }
   where
     parts : (g n : ℕ) → g % n ≡ 0 → 0 < n → g ≡ g / n * n
     parts g n e h = omega arith
-
-shown : (d : Declared) (is_task : Bool) (bases : List ℕ) (l : Launch) → IsDeclared d → IsLaunchOf d is_task bases l → (j : ℕ) (p : List Monomial) → ShownAtLeast j d.names p → pos j ≤ℤ value_at bases p
-shown d is_task bases l declared launch j p s = shown_at_least d.names bases declared.names launch.admissible.sizes j p s
 
 module _ (d : Declared) (is_task : Bool) (w : World) (t : Tree) (a : Annotation) (l : Launch) (k : Kernel) (c : Cells) (program : IsGroupProgram d w.bases t a) (ok : IsAdmissible d w) (launch : IsLaunchOf d is_task w.bases l) (buffers : AreBuffersOf d w t a c) (printed : PrintsGroups d w.bases t a l k) where
   abbrev num : List Monomial → ℕ
@@ -70,14 +60,11 @@ module _ (d : Declared) (is_task : Bool) (w : World) (t : Tree) (a : Annotation)
   abbrev low : Lowered
   low = lowered_root t a
 
-  source_is : (i : ℕ) (b : PlainTy) → slice_get d.inputs i ≡ Some b → ty_at w.bases b ≡ src i
-  source_is i b e = sym (ap (measured (length_at w.bases)) (shape_at d.inputs i b e) ∙ shape_is w.bases b)
-
   lowers : Lowers num w 0 (length d.inputs) t low
   lowers = lowers_is d w ok program.lowerable.declared.few t Written [] a 0 refl program.lowerable.nodes program.lowerable.lowerable
 
   has : HasType num src no_type low result
-  has = has_is d w.bases (shown d is_task w.bases l program.lowerable.declared launch) program.lowerable.declared.inputs src source_is t Written [] a tt program.lowerable.nodes program.lowerable.lowerable
+  has = lowered_has d is_task w.bases t a l program launch
 
   flat_type : IsFlat result
   flat_type = output_flat w.bases (type_in a) program.lowerable.output

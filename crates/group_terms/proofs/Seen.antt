@@ -1,5 +1,5 @@
 -- What stands for a scalar that a phase reads.
-use Rattle.std.proofs.Common.{◌≡◌, ℕ, zero, suc, ◌+◌, ◌*◌, ◌<◌, ◌≤◌, ◌^◌, List, [], ◌∷◌, ◌++◌, length, Bool, true, false, true≢false, refl, sym, ap, ◌∙◌, subst, arith}
+use Rattle.std.proofs.Common.{◌≡◌, ℕ, ◌+◌, ◌<◌, ◌≤◌, List, [], ◌∷◌, ◌++◌, length, Bool, true, false, true≢false, refl, sym, ap, ◌∙◌, subst, arith}
 use Rattle.std.specs.Prelude.{slice_index}
 use Rattle.kernel_tree.specs.Code.{Input, Output, Local as LocalArray, Private}
 use Rattle.kernel_tree.specs.Launch.{Cells}
@@ -11,7 +11,7 @@ use Rattle.printed_form.specs.Whole.{IsGiven}
 use Rattle.group_printing.specs.Phases.{TurnElement}
 use Rattle.group_terms.specs.Origins.{Origin, Elsewhere, Within, BySide, on_side, at_way, bent, laid_from}
 use Rattle.group_terms.specs.Uses.{Locals}
-use Rattle.group_terms.specs.Stages.{Stage, stage_at, result_type, value_in}
+use Rattle.group_terms.specs.Stages.{stage_at, result_type, value_in}
 use Rattle.group_terms.specs.Body.{GroupBody, goes_to, first_index}
 
 -- origins

@@ -1,12 +1,11 @@
 -- The phases of a term see what they read, by induction on it.
-use Rattle.std.proofs.Common.{◌≡◌, ℕ, zero, suc, ◌+◌, ◌*◌, ◌<◌, ◌≤◌, ◌^◌, List, [], ◌∷◌, ◌++◌, length, Bool, true, false, true≢false, refl, sym, ap, ◌∙◌, subst, arith}
+use Rattle.std.proofs.Common.{◌≡◌, ℕ, zero, suc, ◌+◌, ◌<◌, ◌≤◌, ◌^◌, List, [], ◌∷◌, ◌++◌, length, Bool, true, false, true≢false, refl, sym, ap, ◌∙◌, subst, arith}
 use Rattle.kernel_tree.specs.Code.{Array, Local as LocalArray}
 use Rattle.kernel_tree.specs.Launch.{Cells}
-use Rattle.lift_ir.specs.Types.{Ty, Scalar, PairOf, ArrayOf, IsPosition, IsFlat, width, size}
+use Rattle.lift_ir.specs.Types.{Ty, PairOf, ArrayOf, IsPosition, IsFlat, width, size}
 use Rattle.lift_ir.specs.Layouts.{Layout, operand_position, result_position, Reshapes, IsInvertible}
-use Rattle.lift_ir.specs.Terms.{LoadSet, Global, WorkGroup, Local, Sequential, LocalMemory, PrivateMemory, Term, Literal, Bound, Source, Apply, ApplyNumber, Select, Both, Project, Reshape, LetArray, LetElement, Map, Fold, Store, Copy, LoadsScalars, push, HasType}
+use Rattle.lift_ir.specs.Terms.{LoadSet, Local, LocalMemory, Term, Bound, Source, Both, Project, Reshape, LetArray, Map, Copy, LoadsScalars, push, HasType}
 use Rattle.lift_ir.specs.Scalars.{Scalars, scalars_of}
-use Rattle.lift_ir.specs.Owner.{local_owner}
 use Rattle.lift_ir.proofs.Positions.{operand_in, result_in, result_operand}
 use Rattle.printed_form.specs.Counts.{load_count, variable_count, private_count}
 use Rattle.printed_form.specs.Marks.{Mark, Marks, laid_in}
@@ -201,11 +200,12 @@ module _ {A : Type 0} (num : A → ℕ) (long : Array → ℕ) (items : ℕ) (fe
         let one = sees x s (ArrayOf h.0 h.1) h.4 q f.0 scoped (each_left (λ r t. stage_at b.stages r ≡ t) q xs ys is) private.0 local.0 (omega arith) low in
         let two = sees y (later s x) (ArrayOf h.0 h.2) h.5 (q + length xs) f.1 (scoped_later q (q + length xs) s (omega arith) scoped) (each_right (λ r t. stage_at b.stages r ≡ t) q xs ys is) private.1 local.1 (omega arith) (omega arith) in
         let sum = long_append xs ys in
-        let end = q + length xs + length ys in
-        (each_append IsStage q xs ys one.0 two.0,
-         subst (λ z. SeenArgument (q + length (xs ++ ys)) s (Both true x y) z) (sym h.3)
-         (later_seen (origin_of s.origins s.locals (Both true x y)) end (q + length (xs ++ ys)) (ArrayOf h.0 (PairOf h.1 h.2)) (marks_of s.env s.locals (Both true x y)) (value_of s (Both true x y)) (omega arith)
-         (zipped end h.0 x y s h.1 h.2 (later_seen (origin_of s.origins s.locals x) (q + length xs) end (ArrayOf h.0 h.1) (marks_of s.env s.locals x) (value_of s x) (omega arith) one.1) two.1)))
+        let end = q + length xs + length ys in (
+          each_append IsStage q xs ys one.0 two.0,
+          subst (λ z. SeenArgument (q + length (xs ++ ys)) s (Both true x y) z) (sym h.3)
+              (later_seen (origin_of s.origins s.locals (Both true x y)) end (q + length (xs ++ ys)) (ArrayOf h.0 (PairOf h.1 h.2)) (marks_of s.env s.locals (Both true x y)) (value_of s (Both true x y)) (omega arith)
+              (zipped end h.0 x y s h.1 h.2 (later_seen (origin_of s.origins s.locals x) (q + length xs) end (ArrayOf h.0 h.1) (marks_of s.env s.locals x) (value_of s x) (omega arith) one.1) two.1)),
+        )
     sees (Project false a) s ty h q f scoped is private local room low =
         let r = sees a s (PairOf ty h.0) h.1 q f scoped is private local room low in
         (r.0, λ i il cs p z. r.1 i il (false ∷ cs) p z)
@@ -215,9 +215,11 @@ module _ {A : Type 0} (num : A → ℕ) (long : Array → ℕ) (items : ℕ) (fe
     sees (Reshape l a) s ty h q f scoped is private local room low =
         let r = sees a s h.0 h.1 q f scoped is private local room low in
         let e = q + length (argument_stages s a h.0 h.1) in
-        let o = origin_of s.origins s.locals a in
-        (r.0, λ i il cs p z. subst (λ w. At w e i p (marks_of s.env s.locals a i cs (operand_position num l p)) (value_of s a i cs (operand_position num l p))) (sym (way_bent o cs))
-            (seen_bent num c b (at_way o cs) e i (operand_position num l p) p (marks_of s.env s.locals a i cs (operand_position num l p)) (value_of s a i cs (operand_position num l p)) (r.1 i il cs (operand_position num l p) (operand_in num l h.0 ty cs p h.2 z))))
+        let o = origin_of s.origins s.locals a in (
+          r.0,
+          λ i il cs p z. subst (λ w. At w e i p (marks_of s.env s.locals a i cs (operand_position num l p)) (value_of s a i cs (operand_position num l p))) (sym (way_bent o cs))
+              (seen_bent num c b (at_way o cs) e i (operand_position num l p) p (marks_of s.env s.locals a i cs (operand_position num l p)) (value_of s a i cs (operand_position num l p)) (r.1 i il cs (operand_position num l p) (operand_in num l h.0 ty cs p h.2 z))),
+        )
     sees (LetArray v x) s ty h q f scoped is private local room low =
         let t = bind s v h.0 in
         let xs = argument_stages s v h.0 h.1 in
@@ -226,15 +228,17 @@ module _ {A : Type 0} (num : A → ℕ) (long : Array → ℕ) (items : ℕ) (fe
         let two = sees x t ty h.2 (q + length xs) f.1 (bound_in (q + length xs) s v h.0 (scoped_later q (q + length xs) s (omega arith) scoped) one.1) (each_right (λ r t. stage_at b.stages r ≡ t) q xs ys is) private.1 local.1 (omega arith) (omega arith) in
         let sum = long_append xs ys in
         let end = q + length xs + length ys in
-        let o = origin_of t.origins t.locals x in
-        (each_append IsStage q xs ys one.0 two.0, λ i il cs p z.
-            subst (λ w. At w (q + length (xs ++ ys)) i p (marks_of t.env t.locals x i cs p) (value_of t x i cs p)) (sym (way_bent o cs))
-            (seen_bent num c b (at_way o cs) (q + length (xs ++ ys)) i p p (marks_of t.env t.locals x i cs p) (value_of t x i cs p)
-            (seen_later num c b (at_way o cs) end (q + length (xs ++ ys)) i p (marks_of t.env t.locals x i cs p) (value_of t x i cs p) (omega arith) (two.1 i il cs p z))))
+        let o = origin_of t.origins t.locals x in (
+          each_append IsStage q xs ys one.0 two.0,
+          λ i il cs p z.
+              subst (λ w. At w (q + length (xs ++ ys)) i p (marks_of t.env t.locals x i cs p) (value_of t x i cs p)) (sym (way_bent o cs))
+              (seen_bent num c b (at_way o cs) (q + length (xs ++ ys)) i p p (marks_of t.env t.locals x i cs p) (value_of t x i cs p)
+              (seen_later num c b (at_way o cs) end (q + length (xs ++ ys)) i p (marks_of t.env t.locals x i cs p) (value_of t x i cs p) (omega arith) (two.1 i il cs p z))),
+        )
     sees (Copy LocalMemory u x) s ty h q f scoped is private local room low =
         let k = s.locals + local_count x in
         let w = works x s ty h.2 q (Locals k u) (λ p. p) (λ p. p) true f scoped is
-            (subst (λ z. IsAimed u z (λ p. p) (λ p. p) true) (sym h.0) (record { inside = λ cs p z. z; returns = λ cs p z. refl; covers = λ cs p z. (z, refl); straight = λ a p. refl })) (locals_fit k u h.1 local.1) (λ e. not_outputs k u e) private local.0 room low in
+        (subst (λ z. IsAimed u z (λ p. p) (λ p. p) true) (sym h.0) (record { inside = λ cs p z. z; returns = λ cs p z. refl; covers = λ cs p z. (z, refl); straight = λ a p. refl })) (locals_fit k u h.1 local.1) (λ e. not_outputs k u e) private local.0 room low in
         let end = q + length (argument_stages s (Copy LocalMemory u x) ty h) in
         (w.0, subst (λ z. Seen (laid_from k u) end z (λ i. laid_in LocalArray k u) (value_of s x)) (sym h.0) (copied end k x s u w.1))
     sees _ s ty h q f scoped is private local room low = absurd (assumption)

@@ -1,9 +1,6 @@
 -- Every run of a kernel that is printed for a map over work-groups leaves the source value.
-use Rattle.std.proofs.Common.{◌≡◌, ℕ, ◌+◌, ◌<◌, [], Bool, true, refl, sym, ◌∙◌, subst, arith}
-use Rattle.std.specs.Prelude.{All}
+use Rattle.std.proofs.Common.{◌<◌, [], true, sym, ◌∙◌, arith}
 use Rattle.barrier_placement.specs.Conflicts as placed
-use Rattle.barrier_placement.specs.Fencing.{Fencing}
-use Rattle.barrier_placement.specs.Needed.{Needed}
 use Rattle.barrier_placement.proofs.Separation.{separates}
 use Rattle.lift_tree.specs.Meaning.{meaning}
 use Rattle.lift_ir.specs.Scalars.{scalars_of, no_scalars, lists_of}
@@ -12,7 +9,7 @@ use Rattle.lift_ir.proofs.Meaning.{means}
 use Rattle.lift_ir.proofs.Lists.{are_lists, lists_long}
 use Rattle.group_terms.specs.Forms.{StandsInGroup, StandsOverGroups}
 use Rattle.group_terms.specs.Uses.{phases_in, phase_count, group_uses, group_touches}
-use Rattle.group_terms.specs.Theorem.{IsKeptApart, SeparatedGroupsKeep, SeparatedGroupsServe, NeededGroupsKeep, NeededKeepApart}
+use Rattle.group_terms.specs.Theorem.{SeparatedGroupsKeep, SeparatedGroupsServe, NeededGroupsKeep, NeededKeepApart}
 use Rattle.group_terms.proofs.Uses.{all_local}
 use Rattle.group_terms.proofs.Form.{open_first}
 use Rattle.group_terms.proofs.Whole.{separated_keep, separated_serve}

@@ -1,22 +1,22 @@
 -- The uses of a term's phases are those that its phases have, and all reads and writes are among them.
-use Rattle.std.proofs.Common.{◌≡◌, ℕ, zero, suc, ◌+◌, ◌<◌, ◌≤◌, ◌⊎◌, ⊎_elim, inl, inr, List, [], ◌∷◌, ◌++◌, length, Bool, true, false, true≢false, refl, sym, ap, ◌∙◌, subst, arith}
-use Rattle.std.specs.Prelude.{map, All}
+use Rattle.std.proofs.Common.{◌≡◌, ℕ, zero, suc, ◌+◌, ◌<◌, ◌⊎◌, ⊎_elim, inl, inr, List, [], ◌∷◌, ◌++◌, length, Bool, true, false, refl, sym, ap, ◌∙◌, subst, arith}
+use Rattle.std.specs.Prelude.{All}
 use Rattle.kernel_tree.specs.Faults.{Among}
 use Rattle.barrier_placement.specs.declared.touches.Touch.{Touch}
 use Rattle.barrier_placement.specs.Conflicts as placed
 use Rattle.barrier_placement.specs.Conflicts.{space_of}
 use Rattle.lift_ir.specs.Types.{Ty, PairOf, ArrayOf, width}
 use Rattle.lift_ir.specs.Layouts.{operand_position, result_position}
-use Rattle.lift_ir.specs.Terms.{Global, WorkGroup, Local, Sequential, LocalMemory, PrivateMemory, Term, Literal, Bound, Source, Apply, ApplyNumber, Select, Both, Project, Reshape, LetArray, LetElement, Map, Fold, Store, Copy, HasType}
+use Rattle.lift_ir.specs.Terms.{Local, LocalMemory, Term, Bound, Source, Both, Project, Reshape, LetArray, Map, Copy, HasType}
 use Rattle.lift_ir.specs.Scalars.{Scalars}
 use Rattle.printed_form.specs.Marks.{Marks}
 use Rattle.group_terms.specs.Named.{Component, ways}
-use Rattle.group_terms.specs.Origins.{Origin, Elsewhere, Within, BySide, on_side, at_way, bent, local_count}
+use Rattle.group_terms.specs.Origins.{Origin, Elsewhere, Within, BySide, at_way, bent, local_count}
 use Rattle.group_terms.specs.Forms.{StandsInGroup}
-use Rattle.group_terms.specs.Uses.{Use, Destination, Locals, Outputs, reads_of, element_reads, variable_reads, writes_from, writes_to, argument_uses, written_uses, touch_of, touches_in, numbered}
+use Rattle.group_terms.specs.Uses.{Use, Destination, Locals, reads_of, element_reads, variable_reads, writes_from, writes_to, argument_uses, written_uses, touch_of, touches_in, numbered}
 use Rattle.group_terms.specs.Stages as stages
 use Rattle.group_terms.specs.Stages.{Stage, Scope, later, stage_at, uses_in, uses_of}
-use Rattle.group_terms.proofs.Lists.{among_left, among_right, map_append, append_again}
+use Rattle.group_terms.proofs.Lists.{among_left, among_right, map_append}
 use Rattle.group_terms.proofs.Named.{IsUnder, ways_from}
 use Rattle.group_terms.proofs.Seen.{way_bent, way_on}
 

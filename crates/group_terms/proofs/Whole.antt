@@ -1,27 +1,25 @@
 -- A printed map over work-groups keeps the headline.
 use Rattle.std.proofs.Common.{◌≡◌, ℕ, zero, suc, ◌+◌, ◌*◌, ◌%◌, ◌<◌, ◌≤◌, ◌⊎◌, ⊎_elim, inl, inr, ◌^◌, List, [], ◌∷◌, ◌++◌, length, Bool, true, false, true≢false, refl, sym, ap, ◌∙◌, subst, arith}
-use Rattle.std.specs.Prelude.{map, replicate, slice_index, All}
+use Rattle.std.specs.Prelude.{map, replicate, slice_index}
 use Rattle.std.proofs.Math.Nat.{mod-eq_of_lt}
-use Rattle.kernel_tree.specs.Code.{Array, Input, Output, Local as LocalArray, Private, Kernel, Code, End}
+use Rattle.kernel_tree.specs.Code.{Array, Output, Kernel, End}
 use Rattle.kernel_tree.specs.Launch.{Launch, Cells, IsWhole, group_count}
 use Rattle.kernel_tree.specs.Device.{Cell, length_in}
 use Rattle.barrier_placement.specs.Conflicts as placed
 use Rattle.barrier_placement.specs.Fencing.{Fencing, Open}
-use Rattle.barrier_placement.specs.Needed.{Needed}
 use Rattle.barrier_placement.specs.Separates.{Separates}
-use Rattle.barrier_placement.proofs.Separation.{separates}
 use Rattle.lift_ir.specs.Types.{Ty, Scalar, PairOf, ArrayOf, IsPosition, IsFlat, width, size, unflat}
 use Rattle.lift_ir.specs.Layouts.{operand_position, result_position}
-use Rattle.lift_ir.specs.Terms.{LoadSet, Skip, Take, Each, WorkGroup, Local, LocalMemory, PrivateMemory, Term, Bound, Source, Both, Project, Reshape, LetArray, Map, LoadsScalars, push, HasType, no_type}
+use Rattle.lift_ir.specs.Terms.{LoadSet, Skip, Take, Each, WorkGroup, Local, LocalMemory, Term, Bound, Source, Both, Project, Reshape, LetArray, Map, LoadsScalars, push, HasType, no_type}
 use Rattle.lift_ir.specs.Scalars.{Scalars, by_side, at_index, scalars_of, no_scalars, AreLists}
 use Rattle.lift_ir.specs.Owner.{local_owner, owner}
 use Rattle.lift_ir.proofs.Owner.{owner_below}
 use Rattle.lift_ir.proofs.Positions.{operand_in, result_in}
 use Rattle.printed_form.specs.Counts.{load_count, variable_count, private_count, copy_lengths}
 use Rattle.printed_form.specs.Headline.{EveryRunKeeps}
-use Rattle.printed_form.specs.Marks.{Mark, Nowhere, Register, Spot, Marks, laid_in, loaded_marks}
+use Rattle.printed_form.specs.Marks.{Nowhere, Register, Marks, laid_in, loaded_marks}
 use Rattle.printed_form.specs.Form.{Declares, argument_marks}
-use Rattle.printed_form.specs.Whole.{no_marks, output_marks, IsGiven}
+use Rattle.printed_form.specs.Whole.{no_marks, IsGiven}
 use Rattle.printed_form.proofs.Lengths.{declares}
 use Rattle.group_phases.specs.Epochs.{IsPast}
 use Rattle.group_phases.specs.Outcome.{BarriersServeAll}
@@ -31,21 +29,21 @@ use Rattle.group_printing.specs.Printed.{IsPhased}
 use Rattle.group_printing.proofs.Printed as printed
 use Rattle.group_terms.specs.Origins.{Elsewhere, at_way}
 use Rattle.group_terms.specs.Forms.{StandsInGroup, IsOfInputs, StandsOverGroups}
-use Rattle.group_terms.specs.Uses.{Locals, Outputs, numbered, body_uses, phases_in, phase_count, group_touches}
+use Rattle.group_terms.specs.Uses.{Locals, Outputs, numbered, phase_count, group_touches}
 use Rattle.group_terms.specs.Stages as stages
 use Rattle.group_terms.specs.Stages.{Stage, Scope, stage_at, uses_of, value_in}
 use Rattle.group_terms.specs.Body.{GroupBody, first_index, phase_list}
-use Rattle.group_terms.specs.Form.{IsOverGroups, IsGroupTurn}
+use Rattle.group_terms.specs.Form.{IsOverGroups}
 use Rattle.group_terms.specs.Whole.{DeclaresLocals, row_of}
 use Rattle.group_terms.specs.Theorem.{IsPrintedOverGroups, IsKeptApart}
 use Rattle.group_terms.proofs.Lists.{Each as EachStage, each_at, each_from}
 use Rattle.group_terms.proofs.Seen.{SeenAt, seen_input}
 use Rattle.group_terms.proofs.Sight as sight
 use Rattle.group_terms.proofs.Counters.{written_chain}
-use Rattle.group_terms.proofs.Uses.{written_uses_are, all_local}
+use Rattle.group_terms.proofs.Uses.{written_uses_are}
 use Rattle.group_terms.proofs.Phased as phased
 use Rattle.group_terms.proofs.Form as form
-use Rattle.group_terms.proofs.Copies.{AreLong, declares_locals, inputs_no_copies, inputs_no_variables, inputs_no_privates}
+use Rattle.group_terms.proofs.Copies.{AreLong, declares_locals, inputs_no_copies, inputs_no_privates}
 use Rattle.group_terms.proofs.Outputs as outputs
 use Rattle.group_terms.proofs.Outputs.{IsLaid, laid_under, laid_itself}
 
@@ -260,14 +258,14 @@ module _ {A : Type 0} (num : A → ℕ) (k : Kernel) (l : Launch) (c : Cells) (l
         → IsOverGroups num l ins fence env t (λ cs p. laid_in Output 0 whole cs (outer p)) k.code → AreItsPhases num k l c lists fence (λ a m. owner num l t (path (unflat whole m))) t
     term_phases (Reshape y a) g env sems outer path ty f x given laid values room private local code =
         let r = term_phases a g env sems (λ p. outer (result_position num y p)) (λ p. operand_position num y (path p)) x.0 f.1 x.1 given (laid_under num y x.0 ty whole outer path f.0 x.2 laid)
-            (λ cs p z. let e = result_in num y x.0 ty cs p f.0 x.2 z in values cs (result_position num y p) e.0 ∙ ap (scalars_of num sources sems a cs) e.1) room private local code.1 in
+        (λ cs p z. let e = result_in num y x.0 ty cs p f.0 x.2 z in values cs (result_position num y p) e.0 ∙ ap (scalars_of num sources sems a cs) e.1) room private local code.1 in
         record { body = r.body; is = r.is; touches = r.touches; count = r.count; some_phase = r.some_phase; printed = r.printed }
     term_phases (LetArray v b) g env sems outer path ty f x given laid values room private local code =
         let none = inputs_no_privates v f.0 in
         let e : 0 + private_count v ≡ 0 = omega arith in
         let r = term_phases b (push x.0 g) (push (argument_marks l ins num env 0 v) env) (push (scalars_of num sources sems v) sems) outer path ty f.1 x.2
-            (given_push g env sems x.0 (argument_marks l ins num env 0 v) (scalars_of num sources sems v) (input_given v g env sems x.0 0 f.0 x.1 given) given) laid values (omega arith)
-            (subst (λ z. Declares long z b) e private.1) (subst (λ z. AreLong long 0 (z ++ copy_lengths LocalMemory b)) (inputs_no_copies LocalMemory v f.0) local) code in
+        (given_push g env sems x.0 (argument_marks l ins num env 0 v) (scalars_of num sources sems v) (input_given v g env sems x.0 0 f.0 x.1 given) given) laid values (omega arith)
+        (subst (λ z. Declares long z b) e private.1) (subst (λ z. AreLong long 0 (z ++ copy_lengths LocalMemory b)) (inputs_no_copies LocalMemory v f.0) local) code in
         record { body = r.body; is = r.is; touches = r.touches; count = r.count; some_phase = r.some_phase; printed = r.printed }
     term_phases (Map WorkGroup n loads xs b) g env sems outer path ty f x given laid values room private local code =
         let none = inputs_no_privates xs f.0 in
@@ -278,7 +276,7 @@ module _ {A : Type 0} (num : A → ℕ) (k : Kernel) (l : Launch) (c : Cells) (l
 
 -- a kernel that is printed for a term
 module _ {A : Type 0} (num : A → ℕ) (l : Launch) (src : ℕ → Ty) (ins : ℕ → Marks) (sources : ℕ → Scalars) (fence : ℕ → Fencing) (t : Term A) (ty : Ty) (k : Kernel) (c : Cells) (lists : List (List ℕ)) (h : IsPrintedOverGroups l num src ins sources fence t ty k c)
-  (shape : map length lists ≡ map length c.outs) (listed : AreLists ty (scalars_of num sources no_scalars t) lists) where
+    (shape : map length lists ≡ map length c.outs) (listed : AreLists ty (scalars_of num sources no_scalars t) lists) where
   abbrev of_owner : (array index : ℕ) → ℕ
   of_owner a m = owner num l t (unflat ty m)
 

@@ -1,24 +1,20 @@
 -- Worked terms.
-use Rattle.std.proofs.Common.{◌≡◌, ℕ, zero, suc, ◌+◌, ◌-◌, ◌*◌, ◌/◌, ◌%◌, ◌<◌, ◌≤◌, ◌^◌, List, [], ◌∷◌, length, Some, None, Bool, true, false, refl, sym, ap, ◌∙◌, subst, inl, inr, arith}
+use Rattle.std.proofs.Common.{◌≡◌, ℕ, zero, suc, ◌+◌, ◌-◌, ◌*◌, ◌/◌, ◌%◌, ◌<◌, ◌≤◌, ◌^◌, List, [], ◌∷◌, length, Some, Bool, true, false, refl, sym, ap, ◌∙◌, arith}
 use Rattle.std.specs.Prelude.{slice_index, min, max, map, All}
 use Rattle.std.proofs.Math.Nat.{mod-eq_of_lt, le-max_right, max-le}
 use Rattle.std.proofs.lemmas.List.{length-map, get_or-map}
-use Rattle.scalar_ops.specs.declared.op.Op.TheVariants.{Add, Sub, Mul, Div, Min, Max}
+use Rattle.scalar_ops.specs.declared.op.Op.TheVariants.{Add, Sub, Div}
 use Rattle.scalar_ops.specs.Operators.{apply_op}
-use Rattle.kernel_tree.specs.Formula.{Formula, Number, Size, Variable, LoopVariable, Binary, value, bound_value}
-use Rattle.kernel_tree.specs.Code.{Input, Output, Local as LocalArray, Code, End, Stores, Assigns, Syncs}
-use Rattle.kernel_tree.specs.Launch.{Launch, Cells, IsWhole, ids_of}
-use Rattle.kernel_tree.specs.Device.{row}
-use Rattle.barrier_placement.specs.declared.touches.Touch.{Touch}
+use Rattle.kernel_tree.specs.Formula.{Number, Size, Variable, LoopVariable, Binary, value, bound_value}
+use Rattle.kernel_tree.specs.Code.{Input, Output, Local as LocalArray, End, Stores, Assigns, Syncs}
+use Rattle.kernel_tree.specs.Launch.{Launch, Cells, ids_of}
 use Rattle.barrier_placement.specs.Needed.{Needed}
-use Rattle.lift_ir.specs.Types.{Ty, Scalar, ArrayOf, IsPosition, unflat, flat}
-use Rattle.lift_ir.specs.Terms.{Term, HasType, push, no_type}
+use Rattle.lift_ir.specs.Types.{Scalar, ArrayOf, IsPosition}
+use Rattle.lift_ir.specs.Terms.{HasType, no_type}
 use Rattle.lift_ir.specs.Scalars.{scalars_of, no_scalars, AreLists}
-use Rattle.lift_ir.specs.Owner.{owner}
-use Rattle.printed_form.specs.Marks.{Mark, Spot}
-use Rattle.printed_form.specs.Headline.{EveryRunKeeps}
+use Rattle.printed_form.specs.Marks.{Spot}
 use Rattle.printed_form.specs.Whole.{IsGiven, no_marks, output_marks}
-use Rattle.group_printing.specs.Tiles.{tile_index, copy_turn, add_turn, phase_code, tile_body, tile_kernel, tile_cells, AreTiles, added, tile_touches, no_barriers, two_barriers}
+use Rattle.group_printing.specs.Tiles.{tile_index, copy_turn, add_turn, phase_code, tile_body, tile_kernel, tile_cells, AreTiles, added, no_barriers, two_barriers}
 use Rattle.group_printing.proofs.TileBarriers.{exchanged_need}
 use Rattle.group_terms.specs.Uses.{phase_count, group_touches}
 use Rattle.group_terms.specs.Form.{IsOverGroups}
@@ -68,28 +64,76 @@ module _ (l : Launch) (tiles : ℕ) (xs out : List ℕ) (rest : ℕ) (h : AreTil
   added_typed : HasType itself (input_types n) no_type (added_tiles tiles) (numbers n)
   added_typed =
       let short = h.short in
-      let rows : tiles * 2 / 2 ≡ tiles = omega arith in
-      (ArrayOf tiles (numbers 2),
-       (numbers 2, numbers 2, omega arith, tt,
-        (numbers n, refl, (omega arith, omega arith, ap (λ z. ArrayOf z (numbers 2)) (sym rows)), (omega arith, tt), (omega arith, (omega arith, tt)), tt),
-        (Scalar, Scalar, omega arith, tt, (refl, tt, (Scalar, Scalar, omega arith, tt, refl, (refl, tt, refl), refl)), (refl, tt, (refl, refl, refl, refl)), refl), refl),
-       (omega arith, refl, refl), (omega arith, (omega arith, tt)), (omega arith, tt), tt)
+      let rows : tiles * 2 / 2 ≡ tiles = omega arith in (
+        ArrayOf tiles (numbers 2),
+        (
+          numbers 2,
+          numbers 2,
+          omega arith,
+          tt,
+          (numbers n, refl, (omega arith, omega arith, ap (λ z. ArrayOf z (numbers 2)) (sym rows)), (omega arith, tt), (omega arith, (omega arith, tt)), tt),
+          (Scalar, Scalar, omega arith, tt, (refl, tt, (Scalar, Scalar, omega arith, tt, refl, (refl, tt, refl), refl)), (refl, tt, (refl, refl, refl, refl)), refl),
+          refl,
+        ),
+        (omega arith, refl, refl),
+        (omega arith, (omega arith, tt)),
+        (omega arith, tt),
+        tt,
+      )
 
   added_code : IsOverGroups itself l (input_marks n) no_barriers no_marks (added_tiles tiles) (output_marks (numbers n)) (tile_kernel false no_barriers).code
-  added_code =
-      (tt, (Binary Div (Size 0) (Number 2), tile_body false no_barriers, refl, halved,
-      (tile_body false no_barriers, End, (λ i il. refl),
-      (phase_code false 1 End, phase_code false 1 End,
-       (tile_body false no_barriers, tile_body false no_barriers, refl, refl,
-        λ i il. (Number 2, copy_turn, refl, refl, λ u ul. (Stores (LocalArray 0) (LoopVariable 1) (Variable 0) End,
-            (Input 0, tile_index, (refl, λ k vs. place_is k i u [] vs il (omega arith) ∙ (let e : i * 2 + u ≡ (i * 2 + u) * 1 + 0 = omega arith in ap Some e)), refl),
-            (Stores (LocalArray 0) (LoopVariable 1) (Variable 0) End, refl, (LocalArray 0, LoopVariable 1, Variable 0, refl, (refl, λ k vs. let e : u ≡ u * 1 + 0 = omega arith in ap Some e), refl))))),
-       refl,
-       λ i il. (Number 2, add_turn false, refl, refl, λ u ul. (Stores (Output 0) tile_index (Binary Add (Variable 1) (Number 1)) End,
-           (LocalArray 0, LoopVariable 1, (refl, λ k vs. let e : u ≡ u * 1 + 0 = omega arith in ap Some e), refl),
-           (Stores (Output 0) tile_index (Binary Add (Variable 1) (Number 1)) End, (Stores (Output 0) tile_index (Binary Add (Variable 1) (Number 1)) End, refl, refl),
-            (Output 0, tile_index, Binary Add (Variable 1) (Number 1), refl, (refl, λ k vs. place_is k i u [] vs il (omega arith) ∙ (let e : i * 2 + u ≡ (i * 2 + u) * 1 + 0 = omega arith in ap Some e)), refl))))),
-      refl)))
+  added_code = (
+    tt,
+    (
+      Binary Div (Size 0) (Number 2),
+      tile_body false no_barriers,
+      refl,
+      halved,
+      (
+        tile_body false no_barriers,
+        End,
+        (λ i il. refl),
+        (
+          phase_code false 1 End,
+          phase_code false 1 End,
+          (
+            tile_body false no_barriers,
+            tile_body false no_barriers,
+            refl,
+            refl,
+            λ i il. (
+              Number 2,
+              copy_turn,
+              refl,
+              refl,
+              λ u ul. (
+                Stores (LocalArray 0) (LoopVariable 1) (Variable 0) End,
+                (Input 0, tile_index, (refl, λ k vs. place_is k i u [] vs il (omega arith) ∙ (let e : i * 2 + u ≡ (i * 2 + u) * 1 + 0 = omega arith in ap Some e)), refl),
+                (Stores (LocalArray 0) (LoopVariable 1) (Variable 0) End, refl, (LocalArray 0, LoopVariable 1, Variable 0, refl, (refl, λ k vs. let e : u ≡ u * 1 + 0 = omega arith in ap Some e), refl)),
+              ),
+            ),
+          ),
+          refl,
+          λ i il. (
+            Number 2,
+            add_turn false,
+            refl,
+            refl,
+            λ u ul. (
+              Stores (Output 0) tile_index (Binary Add (Variable 1) (Number 1)) End,
+              (LocalArray 0, LoopVariable 1, (refl, λ k vs. let e : u ≡ u * 1 + 0 = omega arith in ap Some e), refl),
+              (
+                Stores (Output 0) tile_index (Binary Add (Variable 1) (Number 1)) End,
+                (Stores (Output 0) tile_index (Binary Add (Variable 1) (Number 1)) End, refl, refl),
+                (Output 0, tile_index, Binary Add (Variable 1) (Number 1), refl, (refl, λ k vs. place_is k i u [] vs il (omega arith) ∙ (let e : i * 2 + u ≡ (i * 2 + u) * 1 + 0 = omega arith in ap Some e)), refl),
+              ),
+            ),
+          ),
+        ),
+        refl,
+      ),
+    ),
+  )
 
   added_printed : IsPrintedOverGroups l itself (input_types n) (input_marks n) (input_scalars xs) no_barriers (added_tiles tiles) (numbers n) (tile_kernel false no_barriers) c
   added_printed = record {
@@ -178,36 +222,112 @@ module _ (l : Launch) (tiles : ℕ) (xs out : List ℕ) (rest : ℕ) (h : AreTil
 
   sums_typed : HasType itself (input_types m) no_type (summed_tiles tiles) (numbers (m * 1))
   sums_typed =
-      let rows : (1 + m + 1 - 4) / 2 + 1 ≡ tiles = omega arith in
-      (ArrayOf m (numbers 1),
-       (ArrayOf tiles (ArrayOf 2 (numbers 1)),
-        (numbers 4, ArrayOf 2 (numbers 1), omega arith, tt,
-         (numbers (1 + m + 1), (numbers m, refl, (omega arith, refl, refl), (omega arith, tt), (omega arith, tt), tt), (omega arith, omega arith, omega arith, ap (λ z. ArrayOf z (numbers 4)) (sym rows)), (omega arith, tt), (omega arith, (omega arith, tt)), omega arith),
-         (numbers 3, numbers 1, omega arith, tt,
-          (numbers 4, (refl, tt, (Scalar, Scalar, omega arith, tt, refl, (refl, tt, refl), refl)), (omega arith, omega arith, refl, refl), (omega arith, tt), (omega arith, (omega arith, tt)), omega arith),
-          (Scalar, omega arith, tt, tt, refl, refl, (refl, refl, refl, refl), refl), refl), refl),
-        (omega arith, refl, refl), (omega arith, (omega arith, (omega arith, tt))), (omega arith, (omega arith, tt)), tt),
-       (omega arith, refl, refl), (omega arith, (omega arith, tt)), (omega arith, tt), tt)
+      let rows : (1 + m + 1 - 4) / 2 + 1 ≡ tiles = omega arith in (
+        ArrayOf m (numbers 1),
+        (
+          ArrayOf tiles (ArrayOf 2 (numbers 1)),
+          (
+            numbers 4,
+            ArrayOf 2 (numbers 1),
+            omega arith,
+            tt,
+            (numbers (1 + m + 1), (numbers m, refl, (omega arith, refl, refl), (omega arith, tt), (omega arith, tt), tt), (omega arith, omega arith, omega arith, ap (λ z. ArrayOf z (numbers 4)) (sym rows)), (omega arith, tt), (omega arith, (omega arith, tt)), omega arith),
+            (
+              numbers 3,
+              numbers 1,
+              omega arith,
+              tt,
+              (numbers 4, (refl, tt, (Scalar, Scalar, omega arith, tt, refl, (refl, tt, refl), refl)), (omega arith, omega arith, refl, refl), (omega arith, tt), (omega arith, (omega arith, tt)), omega arith),
+              (Scalar, omega arith, tt, tt, refl, refl, (refl, refl, refl, refl), refl),
+              refl,
+            ),
+            refl,
+          ),
+          (omega arith, refl, refl),
+          (omega arith, (omega arith, (omega arith, tt))),
+          (omega arith, (omega arith, tt)),
+          tt,
+        ),
+        (omega arith, refl, refl),
+        (omega arith, (omega arith, tt)),
+        (omega arith, tt),
+        tt,
+      )
 
   sums_code : IsOverGroups itself l (input_marks m) two_barriers no_marks (summed_tiles tiles) (output_marks (numbers (m * 1))) sums_kernel.code
-  sums_code =
-      (tt, (tt, (Binary Div (Size 0) (Number 2), sums_body, refl, halved l tiles xs out rest h,
-      (sums_body, Syncs true false End, (λ i il. refl),
-      (Syncs true false windows, windows,
-       (sums_body, sums_body, refl, refl,
-        λ i il. (Number 4, worked.copy_turn, refl, refl, λ u ul. (Stores (LocalArray 0) (LoopVariable 1) (Variable 0) End,
-            (Input 0, padded_place, (refl, λ k vs. padded_is k i u vs il ul), refl),
-            (Stores (LocalArray 0) (LoopVariable 1) (Variable 0) End, refl, (LocalArray 0, LoopVariable 1, Variable 0, refl, (refl, λ k vs. let e : u ≡ u * 1 + 0 = omega arith in ap Some e), refl))))),
-       refl,
-       λ i il. (Number 2, window_turn, refl, refl, λ u ul. (window_turn, refl,
-           (window_turn, window_turn, sum_loop, sum_store, refl, refl, (Number 0, refl, refl),
-            (Number 3, sum_turn, refl, refl,
-             λ t tl. (Assigns 1 (Binary Add (Variable 1) (Variable 2)) End, Assigns 1 (Binary Add (Variable 1) (Variable 2)) End,
-                 (LocalArray 0, in_window, (refl, λ k vs. window_is u t ul tl), refl),
-                 (Assigns 1 (Binary Add (Variable 1) (Variable 2)) End, refl, refl),
-                 (Binary Add (Variable 1) (Variable 2), refl, refl))),
-            (Output 0, tile_place, Variable 1, refl, (refl, λ k vs. place_is l tiles xs out rest h k i u [] vs il (omega arith) ∙ (let e : i * 2 + u ≡ ((i * 2 + u) * 1 + 0) * 1 + 0 = omega arith in ap Some e)), refl))))),
-      refl))))
+  sums_code = (
+    tt,
+    (
+      tt,
+      (
+        Binary Div (Size 0) (Number 2),
+        sums_body,
+        refl,
+        halved l tiles xs out rest h,
+        (
+          sums_body,
+          Syncs true false End,
+          (λ i il. refl),
+          (
+            Syncs true false windows,
+            windows,
+            (
+              sums_body,
+              sums_body,
+              refl,
+              refl,
+              λ i il. (
+                Number 4,
+                worked.copy_turn,
+                refl,
+                refl,
+                λ u ul. (
+                  Stores (LocalArray 0) (LoopVariable 1) (Variable 0) End,
+                  (Input 0, padded_place, (refl, λ k vs. padded_is k i u vs il ul), refl),
+                  (Stores (LocalArray 0) (LoopVariable 1) (Variable 0) End, refl, (LocalArray 0, LoopVariable 1, Variable 0, refl, (refl, λ k vs. let e : u ≡ u * 1 + 0 = omega arith in ap Some e), refl)),
+                ),
+              ),
+            ),
+            refl,
+            λ i il. (
+              Number 2,
+              window_turn,
+              refl,
+              refl,
+              λ u ul. (
+                window_turn,
+                refl,
+                (
+                  window_turn,
+                  window_turn,
+                  sum_loop,
+                  sum_store,
+                  refl,
+                  refl,
+                  (Number 0, refl, refl),
+                  (
+                    Number 3,
+                    sum_turn,
+                    refl,
+                    refl,
+                    λ t tl. (
+                      Assigns 1 (Binary Add (Variable 1) (Variable 2)) End,
+                      Assigns 1 (Binary Add (Variable 1) (Variable 2)) End,
+                      (LocalArray 0, in_window, (refl, λ k vs. window_is u t ul tl), refl),
+                      (Assigns 1 (Binary Add (Variable 1) (Variable 2)) End, refl, refl),
+                      (Binary Add (Variable 1) (Variable 2), refl, refl),
+                    ),
+                  ),
+                  (Output 0, tile_place, Variable 1, refl, (refl, λ k vs. place_is l tiles xs out rest h k i u [] vs il (omega arith) ∙ (let e : i * 2 + u ≡ ((i * 2 + u) * 1 + 0) * 1 + 0 = omega arith in ap Some e)), refl),
+                ),
+              ),
+            ),
+          ),
+          refl,
+        ),
+      ),
+    ),
+  )
 
   sums_printed : IsPrintedOverGroups l itself (input_types m) (input_marks m) (input_scalars xs) two_barriers (summed_tiles tiles) (numbers (m * 1)) sums_kernel (tile_cells xs out rest)
   sums_printed = record {

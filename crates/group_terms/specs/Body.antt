@@ -1,5 +1,5 @@
 -- From the stages of a body to the phases of a map over groups: what each turn binds, where values go, and what each cell is to hold.
-use Rattle.std.specs.Prelude.{ℕ, zero, suc, ◌+◌, ◌-◌, ◌*◌, ◌%◌, Bool, true, false, List, [], ◌∷◌, length, if◌then◌else◌, nat_lt, slice_index}
+use Rattle.std.specs.Prelude.{ℕ, suc, ◌+◌, ◌-◌, ◌*◌, ◌%◌, Bool, true, false, List, [], ◌∷◌, length, if◌then◌else◌, nat_lt, slice_index}
 use Rattle.kernel_tree.specs.Code.{Array, Input, Output, Local as LocalArray, Private}
 use Rattle.kernel_tree.specs.Launch.{Launch, Cells, group_count}
 use Rattle.kernel_tree.specs.Device.{Cell, row}

@@ -1,10 +1,10 @@
 -- Which code is printed for a map over work-groups: local maps are phases, with whatever stands between them, and the code is one for all turns.
-use Rattle.std.specs.Prelude.{◌≡◌, ℕ, ◌+◌, ◌<◌, Bool, true, false, List, [], ◌∷◌}
+use Rattle.std.specs.Prelude.{◌≡◌, ℕ, ◌+◌, ◌<◌, true, [], ◌∷◌}
 use Rattle.kernel_tree.specs.Formula.{Formula}
 use Rattle.kernel_tree.specs.Code.{Local as LocalArray, Code, End, Loops}
 use Rattle.kernel_tree.specs.Launch.{Launch}
 use Rattle.barrier_placement.specs.Fencing.{Fencing}
-use Rattle.lift_ir.specs.Layouts.{operand_position, result_position, IsInvertible}
+use Rattle.lift_ir.specs.Layouts.{result_position, IsInvertible}
 use Rattle.lift_ir.specs.Terms.{LoadSet, WorkGroup, Local, LocalMemory, Term, Bound, Source, Both, Project, Reshape, LetArray, Map, Copy, push}
 use Rattle.lift_ir.specs.Scalars.{at_index}
 use Rattle.printed_form.specs.Counts.{load_count, variable_count, private_count}

@@ -8,4 +8,5 @@ pub mod Form
 pub mod Whole
 pub mod Theorem
 pub mod Programs
+pub mod Printer
 pub mod Worked

@@ -1,13 +1,13 @@
 -- The phases of a map over work-groups whose body is one term, each with what stands for its variables, its argument and its value at every turn.
 use Rattle.std.specs.Prelude.{ℕ, zero, suc, ◌+◌, Bool, true, false, List, [], ◌∷◌, ◌++◌, map}
 use Rattle.kernel_tree.specs.Code.{Local as LocalArray}
-use Rattle.lift_ir.specs.Types.{Ty, Scalar, PairOf, ArrayOf, width}
+use Rattle.lift_ir.specs.Types.{Ty, Scalar, PairOf, ArrayOf}
 use Rattle.lift_ir.specs.Layouts.{operand_position, result_position}
-use Rattle.lift_ir.specs.Terms.{LoadSet, Skip, Local, Term, Literal, Bound, Source, Both, Project, Reshape, LetArray, Map, Copy, push, HasType, no_type}
-use Rattle.lift_ir.specs.Scalars.{Scalars, by_side, at_index, mapped, scalars_of}
+use Rattle.lift_ir.specs.Terms.{LoadSet, Skip, Term, Literal, Bound, Source, Both, Project, Reshape, LetArray, Map, Copy, push, HasType, no_type}
+use Rattle.lift_ir.specs.Scalars.{Scalars, by_side, mapped, scalars_of}
 use Rattle.printed_form.specs.Counts.{variable_count, private_count}
 use Rattle.printed_form.specs.Marks.{Nowhere, Marks, laid_in}
-use Rattle.group_printing.specs.Phases.{Phase, Place, TurnElement}
+use Rattle.group_printing.specs.Phases.{Phase}
 use Rattle.group_terms.specs.Named.{cut, ways, element_ways, named_outside}
 use Rattle.group_terms.specs.Origins.{Origin, Elsewhere, local_count, origin_of}
 use Rattle.group_terms.specs.Uses.{Use, Destination, Locals, Outputs, loop_uses}

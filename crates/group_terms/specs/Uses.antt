@@ -1,5 +1,5 @@
 -- The uses of local arrays by the phases of a map over work-groups, as functions of the term alone.
-use Rattle.std.specs.Prelude.{ℕ, zero, suc, ◌+◌, Bool, true, false, List, [], ◌∷◌, ◌++◌, length}
+use Rattle.std.specs.Prelude.{ℕ, zero, suc, ◌+◌, Bool, true, false, List, [], ◌∷◌, ◌++◌}
 use Rattle.barrier_placement.specs.declared.touches.Touch.{Touch}
 use Rattle.lift_ir.specs.Types.{Ty, width}
 use Rattle.lift_ir.specs.Terms.{LoadSet, Term, Both, Project, Reshape, LetArray, Map, Copy, push}

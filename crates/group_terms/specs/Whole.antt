@@ -1,5 +1,5 @@
 -- A whole term with a map over work-groups: its local arrays, where the value of its body goes, and its rows.
-use Rattle.std.specs.Prelude.{◌≡◌, ℕ, ◌+◌, ◌<◌, List, [], ◌∷◌}
+use Rattle.std.specs.Prelude.{◌≡◌, ℕ, ◌+◌, ◌<◌, List}
 use Rattle.kernel_tree.specs.Code.{Array, Local as LocalArray}
 use Rattle.lift_ir.specs.Types.{Ty, width, size}
 use Rattle.lift_ir.specs.Layouts.{operand_position}

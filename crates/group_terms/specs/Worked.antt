@@ -1,9 +1,9 @@
 -- Worked terms: what their phases use, which barriers these need, and that every run of their kernels keeps the headline.
-use Rattle.std.specs.Prelude.{◌≡◌, ℕ, zero, suc, ◌+◌, ◌*◌, ◌<◌, ◌≤◌, ◌^◌, Bool, true, false, List, [], ◌∷◌, length, slice_index}
+use Rattle.std.specs.Prelude.{◌≡◌, ℕ, zero, suc, ◌*◌, ◌<◌, ◌^◌, Bool, true, false, List, [], ◌∷◌, length, slice_index}
 use Rattle.scalar_ops.specs.declared.op.Op.TheVariants.{Add, Sub, Mul, Div, Min, Max}
 use Rattle.kernel_tree.specs.Formula.{Formula, Number, Size, Variable, LoopVariable, Binary}
 use Rattle.kernel_tree.specs.Code.{Input, Output, Local as LocalArray, FromZero, FromGroupId, FromLocalId, ByOne, ByGroupCount, ByLocalSize, Code, End, Assigns, Loads, Stores, Loops, Syncs, Kernel}
-use Rattle.kernel_tree.specs.Launch.{Launch, IsWhole}
+use Rattle.kernel_tree.specs.Launch.{Launch}
 use Rattle.barrier_placement.specs.declared.touches.Touch.{Touch}
 use Rattle.barrier_placement.specs.Needed.{Needed}
 use Rattle.lift_ir.specs.Types.{Ty, Scalar, ArrayOf, unflat}

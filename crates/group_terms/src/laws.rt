@@ -3,6 +3,7 @@
 ghost use Rattle.size_arith.specs.declared.poly.Monomial.{Monomial};
 ghost use Rattle.std.specs.Prelude.{List};
 ghost use Rattle.group_terms.specs.Worked.{AddedTilesKeep, SummedTilesKeep, SixKeep, UnnamedCopiesAreUnused};
+ghost use Rattle.group_terms.specs.Printer.{GroupPrinterPrints, GroupProgramsArePrinted};
 ghost use Rattle.group_terms.specs.Programs.{PrintedGroupProgramsKeep, PrintedGroupProgramsServe};
 ghost use Rattle.group_terms.specs.Theorem.{NeededKeepApart, NeededGroupsKeep, SeparatedGroupsKeep, SeparatedGroupsServe, UsesTellBarriers, AlignedNeedNone};
 
@@ -32,4 +33,10 @@ pub fn worked_groups_keep()
     ensures summed { SummedTilesKeep }
     ensures six { SixKeep }
     ensures unnamed { UnnamedCopiesAreUnused }
+{}
+
+/// What the printer makes of a map over work-groups is printed for it, with whatever barriers it is given, at every launch; of a program's typed term with the needed ones it is one kernel for all admissible launches.
+pub fn the_group_printer_prints()
+    ensures code { GroupPrinterPrints (List Monomial) }
+    ensures programs { GroupProgramsArePrinted }
 {}
