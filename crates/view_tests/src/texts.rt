@@ -1,7 +1,5 @@
 // Indices as they are spelled: the formulas put into one another.
 
-ghost use Rattle.std.specs.Prelude.{◌≡◌};
-
 use crate::kinds::{Form, arrays, input, loop_variables, read_through, written_through};
 use array_views::{ArrayKind, PairStack, View};
 use index_expr::{Index, Operation};
