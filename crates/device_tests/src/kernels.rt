@@ -1,4 +1,4 @@
-//! Kernels of one output and no size, to be run.
+//! Kernels of one output, to be run.
 
 ghost use Rattle.std.specs.Prelude.{◌≡◌, IfOk};
 
@@ -209,6 +209,61 @@ pub fn past_a_private_array(alloc: Global) -> Result<Kernel, AllocError>
         locals: Vec::new(alloc),
         privates,
         variables: 0,
+        body,
+    })
+}
+
+/// `for (i0 = 0u; i0 < s0; i0 += 1u) { v0 = a0[i0]; o0[i0] = (v0 + addend); }`, of one input and one size
+pub fn sums(alloc: Global, addend: u32) -> Result<Kernel, AllocError>
+    ensures inputs { IfOk result (λ kernel. kernel.inputs ≡ 1) }
+    ensures outputs { IfOk result (λ kernel. kernel.outputs ≡ 1) }
+    ensures sizes { IfOk result (λ kernel. kernel.sizes ≡ 1) }
+{
+    let sum = Expr::Binary(
+        Op::Add,
+        Box::new(alloc, Expr::Variable(0))?,
+        Box::new(alloc, Expr::Number(addend))?,
+    );
+    let turn = vec![in alloc;
+        Stmt::Load(0, Array::Input(0), Expr::LoopVariable(0)),
+        Stmt::Store(Array::Output(0), Expr::LoopVariable(0), sum),
+    ]?;
+    let body = vec![in alloc; Stmt::Loop(Start::Zero, Expr::Size(0), Stride::One, turn)]?;
+    Ok(Kernel {
+        inputs: 1,
+        outputs: 1,
+        sizes: 1,
+        locals: Vec::new(alloc),
+        privates: Vec::new(alloc),
+        variables: 1,
+        body,
+    })
+}
+
+/// `for (i0 = 0u; i0 < s0; i0 += 1u) { for (i1 = 0u; i1 < s0; i1 += 1u) { o0[i0] = (i0 + i1); } v0 = 7u; }`, of one size
+pub fn nested(alloc: Global) -> Result<Kernel, AllocError>
+    ensures inputs { IfOk result (λ kernel. kernel.inputs ≡ 0) }
+    ensures outputs { IfOk result (λ kernel. kernel.outputs ≡ 1) }
+    ensures sizes { IfOk result (λ kernel. kernel.sizes ≡ 1) }
+{
+    let sum = Expr::Binary(
+        Op::Add,
+        Box::new(alloc, Expr::LoopVariable(0))?,
+        Box::new(alloc, Expr::LoopVariable(1))?,
+    );
+    let inner = vec![in alloc; Stmt::Store(Array::Output(0), Expr::LoopVariable(0), sum)]?;
+    let outer = vec![in alloc;
+        Stmt::Loop(Start::Zero, Expr::Size(0), Stride::One, inner),
+        Stmt::Assign(0, Expr::Number(7)),
+    ]?;
+    let body = vec![in alloc; Stmt::Loop(Start::Zero, Expr::Size(0), Stride::One, outer)]?;
+    Ok(Kernel {
+        inputs: 0,
+        outputs: 1,
+        sizes: 1,
+        locals: Vec::new(alloc),
+        privates: Vec::new(alloc),
+        variables: 1,
         body,
     })
 }

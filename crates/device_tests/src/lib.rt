@@ -4,6 +4,8 @@
 #[cfg(test)]
 mod kernels;
 #[cfg(test)]
+mod machine;
+#[cfg(test)]
 mod runs;
 #[cfg(test)]
 mod schedules;

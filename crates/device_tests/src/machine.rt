@@ -1,17 +1,18 @@
-// The machine on small kernels.
+//! The machine, event by event.
 
-ghost use Rattle.std.specs.Prelude.{◌≡◌, IfOk, length};
+ghost use Rattle.std.specs.Prelude.{◌≡◌, length};
 
-use kernel_emit::map_kernel;
+use crate::kernels::{nested, past_the_output, sums};
 use kernel_tree::events::{Access, Cell, Event, Fault, FaultKind, Seen};
 use kernel_tree::launches::{Cells, Launch};
-use kernel_tree::tree::{Array, Expr, Kernel, Start, Stmt, Stride};
+use kernel_tree::tree::{Array, Kernel};
 use ndrange_machine::Machine;
 use std::alloc::{AllocError, Global};
 
 // Words, what they are when 1 is added to each, and how many events that takes.
-const SUMS: [(&[u32], &[u32], u32); 3] = [
+const SUMS: [(&[u32], &[u32], u32); 4] = [
     (&[1, 2, 4294967295], &[2, 3, 0], 10),
+    (&[5, 0], &[6, 1], 7),
     (&[7], &[8], 4),
     (&[], &[], 1),
 ];
@@ -26,63 +27,22 @@ const FIRST_OUTPUT: Cell = Cell {
     index: 0,
 };
 
-// for (i0 = 0u; i0 < s0; i0 += 1u) { for (i1 = 0u; i1 < s0; i1 += 1u) { o0[i0] = i0 + i1; } v0 = 7u; }
-fn nested(alloc: Global) -> Result<Kernel, AllocError>
-    ensures inputs { IfOk result (λ kernel. kernel.inputs ≡ 0) }
-    ensures outputs { IfOk result (λ kernel. kernel.outputs ≡ 1) }
-    ensures sizes { IfOk result (λ kernel. kernel.sizes ≡ 1) }
-{
-    let sum = Expr::Sum(
-        Box::new(alloc, Expr::LoopVariable(0))?,
-        Box::new(alloc, Expr::LoopVariable(1))?,
-    );
-    let inner = vec![in alloc; Stmt::Store(Array::Output(0), Expr::LoopVariable(0), sum)]?;
-    let outer = vec![in alloc;
-        Stmt::Loop(Start::Zero, Expr::Size(0), Stride::One, inner),
-        Stmt::Assign(0, Expr::Number(7)),
-    ]?;
-    let body = vec![in alloc; Stmt::Loop(Start::Zero, Expr::Size(0), Stride::One, outer)]?;
-    Ok(Kernel {
-        inputs: 0,
-        outputs: 1,
-        sizes: 1,
-        variables: 1,
-        body,
-    })
-}
-
-// o0[1u] = 1u;
-fn second_cell(alloc: Global) -> Result<Kernel, AllocError>
-    ensures inputs { IfOk result (λ kernel. kernel.inputs ≡ 0) }
-    ensures outputs { IfOk result (λ kernel. kernel.outputs ≡ 1) }
-    ensures sizes { IfOk result (λ kernel. kernel.sizes ≡ 1) }
-{
-    let body = vec![in alloc; Stmt::Store(Array::Output(0), Expr::Number(1), Expr::Number(1))]?;
-    Ok(Kernel {
-        inputs: 0,
-        outputs: 1,
-        sizes: 1,
-        variables: 0,
-        body,
-    })
-}
-
-// One work-item of a kernel of one output.
+// One work-item of a kernel of one output, with these sizes.
 fn start(
     alloc: Global,
     kernel: Kernel,
-    size: u32,
+    sizes: Vec<u32>,
     ins: Vec<Vec<u32>>,
     out: Vec<u32>,
 ) -> Result<Machine, AllocError>
     requires inputs { kernel.inputs ≡ length ins.items }
     requires outputs { kernel.outputs ≡ 1 }
-    requires sizes { kernel.sizes ≡ 1 }
+    requires sizes { kernel.sizes ≡ length sizes.items }
 {
     let launch = Launch {
         global: 1,
         local: 1,
-        sizes: vec![in alloc; size]?,
+        sizes,
     };
     let outs = vec![in alloc; out]?;
     Machine::start(alloc, kernel, launch, Cells { ins, outs, rest: 9 })
@@ -93,10 +53,10 @@ fn start_sums(alloc: Global, words: &[u32]) -> Result<Machine, AllocError> {
     let Ok(size) = u32::try_from(words.len()) else {
         return Err(AllocError);
     };
-    let kernel = map_kernel(alloc, 1)?;
+    let kernel = sums(alloc, 1)?;
     let ins = vec![in alloc; words.to_vec(alloc)?]?;
     let out = vec![in alloc; 0; words.len()]?;
-    start(alloc, kernel, size, ins, out)
+    start(alloc, kernel, vec![in alloc; size]?, ins, out)
 }
 
 // Takes the first enabled event until there is none, and counts.
@@ -169,17 +129,18 @@ fn tells_accesses(rt: HostRuntime) {
 fn nests_loops(rt: HostRuntime) {
     let alloc = rt.alloc();
     let kernel = nested(alloc).expect(&rt, "memory");
+    let sizes = vec![in alloc; 2].expect(&rt, "memory");
     let out = vec![in alloc; 0, 0].expect(&rt, "memory");
-    let mut machine = start(alloc, kernel, 2, Vec::new(alloc), out).expect(&rt, "memory");
+    let mut machine = start(alloc, kernel, sizes, Vec::new(alloc), out).expect(&rt, "memory");
     assert!(rt; run(&mut machine) == 15 && leaves(machine, &[1, 2]));
 }
 
 #[test]
 fn tells_an_access_outside(rt: HostRuntime) {
     let alloc = rt.alloc();
-    let kernel = second_cell(alloc).expect(&rt, "memory");
+    let kernel = past_the_output(alloc).expect(&rt, "memory");
     let out = vec![in alloc; 0].expect(&rt, "memory");
-    let mut machine = start(alloc, kernel, 0, Vec::new(alloc), out).expect(&rt, "memory");
+    let mut machine = start(alloc, kernel, Vec::new(alloc), Vec::new(alloc), out).expect(&rt, "memory");
     let cell = Cell {
         array: Array::Output(0),
         index: 1,
