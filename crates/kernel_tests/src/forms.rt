@@ -80,18 +80,51 @@ pub const NO_STATEMENTS: [(&'static [u8], u8); 37] = [
     (b"  v0 = p1[0u];\n", 7),
     (b"  v0 = l0;\n", 9),
     (b"  barrier(0);\n", 10),
-    (b"  barrier(CLK_GLOBAL_MEM_FENCE | CLK_LOCAL_MEM_FENCE);\n", 30),
-    (b"  barrier(CLK_LOCAL_MEM_FENCE|CLK_GLOBAL_MEM_FENCE);\n", 29),
+    (
+        b"  barrier(CLK_GLOBAL_MEM_FENCE | CLK_LOCAL_MEM_FENCE);\n",
+        30,
+    ),
+    (
+        b"  barrier(CLK_LOCAL_MEM_FENCE|CLK_GLOBAL_MEM_FENCE);\n",
+        29,
+    ),
     (b"  barrier();\n", 10),
-    (b"  for (uint i0 = 1u; i0 < s0; i0 += 1u) {\n    v0 = i0;\n  }\n", 17),
-    (b"  for (uint i0 = v0; i0 < s0; i0 += 1u) {\n    v0 = i0;\n  }\n", 17),
-    (b"  for (uint i0 = (uint)get_global_size(0); i0 < s0; i0 += 1u) {\n    v0 = i0;\n  }\n", 23),
-    (b"  for (uint i0 = 0u; i0 < s0; i0 += 2u) {\n    v0 = i0;\n  }\n", 36),
-    (b"  for (uint i0 = 0u; i0 < s0; i0 += (uint)get_global_id(0)) {\n    v0 = i0;\n  }\n", 42),
-    (b"  for (uint i0 = 0u; i0 < (uint)get_global_size(0); i0 += 1u) {\n    v0 = i0;\n  }\n", 27),
-    (b"  for (uint i0 = 0u; i0 < i0; i0 += 1u) {\n    v0 = i0;\n  }\n", 26),
-    (b"  for (uint i0 = 0u; i0 < l0; i0 += 1u) {\n    v0 = i0;\n  }\n", 26),
-    (b"  for (uint i1 = 0u; i1 < s0; i1 += 1u) {\n    v0 = i1;\n  }\n", 12),
+    (
+        b"  for (uint i0 = 1u; i0 < s0; i0 += 1u) {\n    v0 = i0;\n  }\n",
+        17,
+    ),
+    (
+        b"  for (uint i0 = v0; i0 < s0; i0 += 1u) {\n    v0 = i0;\n  }\n",
+        17,
+    ),
+    (
+        b"  for (uint i0 = (uint)get_global_size(0); i0 < s0; i0 += 1u) {\n    v0 = i0;\n  }\n",
+        23,
+    ),
+    (
+        b"  for (uint i0 = 0u; i0 < s0; i0 += 2u) {\n    v0 = i0;\n  }\n",
+        36,
+    ),
+    (
+        b"  for (uint i0 = 0u; i0 < s0; i0 += (uint)get_global_id(0)) {\n    v0 = i0;\n  }\n",
+        42,
+    ),
+    (
+        b"  for (uint i0 = 0u; i0 < (uint)get_global_size(0); i0 += 1u) {\n    v0 = i0;\n  }\n",
+        27,
+    ),
+    (
+        b"  for (uint i0 = 0u; i0 < i0; i0 += 1u) {\n    v0 = i0;\n  }\n",
+        26,
+    ),
+    (
+        b"  for (uint i0 = 0u; i0 < l0; i0 += 1u) {\n    v0 = i0;\n  }\n",
+        26,
+    ),
+    (
+        b"  for (uint i1 = 0u; i1 < s0; i1 += 1u) {\n    v0 = i1;\n  }\n",
+        12,
+    ),
 ];
 
 /// What stands before the declarations: 40 bytes.

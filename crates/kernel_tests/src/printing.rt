@@ -54,8 +54,7 @@ const GLOBAL: &[u8] =
 ";
 
 /// Sums of three neighbours by work-groups, which keep tiles of four numbers in local memory.
-const TILES: &[u8] =
-    b"__kernel void lift(__global const uint *a0, __global uint *o0, const uint s0)
+const TILES: &[u8] = b"__kernel void lift(__global const uint *a0, __global uint *o0, const uint s0)
 {
   __local uint l0[4];
   uint p0[1];
@@ -113,7 +112,10 @@ fn first_lost(
 #[test]
 fn every_form(rt: HostRuntime) -> Result<(), Fail> {
     assert_eq!(rt; first_lost(rt.alloc(), HEAD, &STATEMENTS, END)?, None);
-    assert_eq!(rt; first_lost(rt.alloc(), OPENING, &DECLARATIONS, STORE)?, None);
+    assert_eq!(rt;
+        first_lost(rt.alloc(), OPENING, &DECLARATIONS, STORE)?,
+        None
+    );
     Ok(())
 }
 

@@ -269,8 +269,14 @@ fn deep_sums(rt: HostRuntime) -> Result<(), Fail> {
 // The forms that begin alike are told apart where they first differ.
 #[test]
 fn no_forms(rt: HostRuntime) -> Result<(), Fail> {
-    assert_eq!(rt; first_taken(rt.alloc(), HEAD, &NO_STATEMENTS, END, 127)?, None);
-    assert_eq!(rt; first_taken(rt.alloc(), OPENING, &NO_DECLARATIONS, STORE, 40)?, None);
+    assert_eq!(rt;
+        first_taken(rt.alloc(), HEAD, &NO_STATEMENTS, END, 127)?,
+        None
+    );
+    assert_eq!(rt;
+        first_taken(rt.alloc(), OPENING, &NO_DECLARATIONS, STORE, 40)?,
+        None
+    );
     Ok(())
 }
 
