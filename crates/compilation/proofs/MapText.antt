@@ -1,5 +1,5 @@
 -- The text of a printed program's kernel.
-use Rattle.std.proofs.Common.{true, ◌≡◌, ◌∙◌, ℕ, List, ap, sym, subst, refl, arith}
+use Rattle.std.proofs.Common.{true, ◌≡◌, ◌∙◌, ℕ, ◌<◌, ◌^◌, List, ap, sym, subst, arith}
 use Rattle.kernel_tree.specs.Code.{Kernel}
 use Rattle.kernel_tree.specs.Grammar.{is_kernel}
 use Rattle.kernel_tree.specs.KernelText.{IsKernelText}
@@ -8,14 +8,13 @@ use Rattle.kernel_spelling.specs.Spelling.{HasText, text_of}
 
 -- the kernel of a form has a text, where it is in the grammar
 pub has_text_of : (addend : ℕ) → is_kernel (map_kernel addend) ≡ true → HasText (map_kernel addend)
-has_text_of addend in_grammar = record {
+has_text_of addend in_grammar = let none : 0 < 2 ^ 32 = omega arith in record {
   in_grammar = in_grammar;
-  written = refl;
-  locals = refl;
-  privates = refl;
   inputs = omega arith;
   outputs = omega arith;
   sizes = omega arith;
+  locals = none;
+  privates = none;
   variables = omega arith;
 }
 

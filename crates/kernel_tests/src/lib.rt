@@ -1,12 +1,8 @@
-//! Tests of kernels: what is read and printed, and the machine and the device that run them.
+//! Tests of kernels' texts: what is read and what is printed.
 #![tactic(auto)]
 
 #[cfg(test)]
-mod device;
-#[cfg(test)]
-mod emit;
-#[cfg(test)]
-mod machine;
+mod forms;
 #[cfg(test)]
 mod nests;
 #[cfg(test)]

@@ -1,0 +1,11 @@
+//! Tests of the device: kernels of the whole language, run by one work-item along schedules.
+#![tactic(auto)]
+
+#[cfg(test)]
+mod kernels;
+#[cfg(test)]
+mod machine;
+#[cfg(test)]
+mod runs;
+#[cfg(test)]
+mod schedules;
