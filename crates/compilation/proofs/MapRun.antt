@@ -1,5 +1,5 @@
 -- The run by one work-item, over a list of numbers, of a kernel that meets its source.
-use Rattle.std.proofs.Common.{Bool, true, true≢false, ◌≡◌, ℕ, ◌<◌, ◌≤◌, List, [], ◌∷◌, ◌++◌, length, map, replicate, refl, sym, ap, ◌∙◌, subst, arith}
+use Rattle.std.proofs.Common.{Option, Bool, true, true≢false, ◌≡◌, ℕ, ◌<◌, ◌≤◌, List, [], ◌∷◌, ◌++◌, length, map, replicate, refl, sym, ap, ◌∙◌, subst, arith}
 use Rattle.std.specs.Prelude.{Vec, slice_index}
 use Rattle.std.specs.Global.{Global}
 use Rattle.std.proofs.lemmas.List.{length-replicate}
@@ -10,7 +10,12 @@ use Rattle.kernel_tree.specs.Launch.{Launch, Cells, MayStart}
 use Rattle.kernel_tree.specs.Device.{row, IsStart, start_state, device_of, IsRun}
 use Rattle.kernel_emit.specs.Headline.{KeepsHeadline}
 use Rattle.kernel_emit.specs.MapKernel.{map_kernel}
-use Rattle.ndrange_device.specs.InOrder.{EndsInOrder, IsSafe}
+use Rattle.kernel_tree.specs.Schedule.{in_order}
+use Rattle.kernel_tree.specs.declared.events.Cell as seen
+use Rattle.kernel_tree.specs.declared.events.Event.TheVariants.{Step}
+use Rattle.kernel_tree.specs.declared.events.FaultKind.{FaultKind}
+use Rattle.kernel_tree.proofs.Scheduled.{no_fault}
+use Rattle.ndrange_device.specs.Outcomes.{EndsUnder, FaultsUnder}
 use Rattle.launch_file.specs.LaunchFile.{Given}
 use Rattle.lift_tree.specs.Launches.{IsAdmissibleLaunch, lists_of}
 use Rattle.lift_tree.specs.Meaning.{World}
@@ -71,19 +76,22 @@ module _ (p : PlainProgram) (output : PlainTy) (is_task : Bool) (addend : ℕ) (
       meets w (task_launch (length ns)) (zeroed ns) admits (start_state (map_kernel addend) (zeroed ns)) es
       (start_is (map_kernel addend) (task_launch (length ns)) (zeroed ns)) r
 
-  safe : IsSafe (map_kernel addend) (task_launch (length ns)) (zeroed ns)
-  safe es r = let h = keeps es r in (h.faultless, let b = h.bounded in omega arith)
+  -- so no run has a fault
+  clean : (kind : FaultKind) (event item : ℕ) (cell : Option seen.Cell) → FaultsUnder in_order (map_kernel addend) (task_launch (length ns)) (zeroed ns) kind event item cell → ⊥
+  clean kind event item cell f =
+      no_fault (device_of (map_kernel addend) (task_launch (length ns)) (zeroed ns)) (start_state (map_kernel addend) (zeroed ns)) f.front (Step item) [] kind
+      (keeps (f.front ++ Step item ∷ []) f.scheduled.is_run.enabled).faultless f.fault
 
   -- where the value has one list, the run leaves it
-  left : (want : List ℕ) → lists_of output (source_value p w) ≡ want ∷ [] → (rows : List (List ℕ)) (events : ℕ) → EndsInOrder (map_kernel addend) (task_launch (length ns)) (zeroed ns) rows events → rows ≡ want ∷ []
-  left want one rows events e =
-      let h = keeps e.events e.scheduled.is_run.enabled in
+  left : (want : List ℕ) → lists_of output (source_value p w) ≡ want ∷ [] → (rows : List (List ℕ)) (events releases : ℕ) → EndsUnder in_order (map_kernel addend) (task_launch (length ns)) (zeroed ns) rows events releases → rows ≡ want ∷ []
+  left want one rows events releases e =
+      let h = keeps e.run e.scheduled.is_run.enabled in
       let counts : length (replicate (length ns) 0) ∷ [] ≡ length want ∷ [] = admits.outputs ∙ ap (map length) one in
       let long : length (replicate (length ns) 0) ≡ length want = cc (counts) in
-      let n : length (row rows 0) ≡ length want = e.outputs.lengths 0 ∙ long in
+      let n : length (row rows 0) ≡ length want = e.left.lengths 0 ∙ long in
       let is : row (lists_of output (source_value p w)) 0 ≡ want = ap (λ (q : List (List ℕ)). row q 0) one in
-      only_row rows want e.outputs.count n
-      (λ i lt. e.outputs.words 0 i (subst (λ m. i < m) (sym n) lt)
+      only_row rows want e.left.count n
+      (λ i lt. e.left.words 0 i (subst (λ m. i < m) (sym n) lt)
       ∙ h.left e.over 0 i (subst (λ (q : List ℕ). i < length q) (sym is) lt) ∙ ap (λ (q : List ℕ). slice_index q i) is)
 
 -- ---- at the launch that is given
@@ -131,28 +139,29 @@ module _ (p : PlainProgram) (output : PlainTy) (is_task : Bool) (addend : ℕ) (
   one_item_as_made l launch = ap (λ (x : Launch). x.global) (launch ∙ launch_is)
 
   module _ (meets : MeetsSource p output is_task (map_kernel addend)) where
-    pub safe_as_made : (k : Kernel) (l : Launch) (c : Cells) → k ≡ map_kernel addend → l ≡ g.launch → c ≡ zeroed (first_input (world_given g)) → IsSafe k l c
-    safe_as_made k l c kernel launch cells =
+    pub clean_as_made : (k : Kernel) (l : Launch) (c : Cells) → k ≡ map_kernel addend → l ≡ g.launch → c ≡ zeroed (first_input (world_given g))
+        → (kind : FaultKind) (event item : ℕ) (cell : Option seen.Cell) → FaultsUnder in_order k l c kind event item cell → ⊥
+    clean_as_made k l c kernel launch cells =
         let launched : l ≡ task_launch (length (first_input (world_given g))) = launch ∙ launch_is in
-        rw (kernel, launched, cells) (safe p output is_task addend (world_given g) (first_input (world_given g)) has.most meets admits_given)
+        rw (kernel, launched, cells) (clean p output is_task addend (world_given g) (first_input (world_given g)) has.most meets admits_given)
 
     -- its run leaves the value's numbers
-    pub left_as_made : (k : Kernel) (l : Launch) (c : Cells) (rows : List (List ℕ)) (events : ℕ) → k ≡ map_kernel addend → l ≡ g.launch → c ≡ zeroed (first_input (world_given g)) → EndsInOrder k l c rows events
+    pub left_as_made : (k : Kernel) (l : Launch) (c : Cells) (rows : List (List ℕ)) (events releases : ℕ) → k ≡ map_kernel addend → l ≡ g.launch → c ≡ zeroed (first_input (world_given g)) → EndsUnder in_order k l c rows events releases
         → rows ≡ numbers_in (source_value p (world_given g)) ∷ []
-    left_as_made k l c rows events kernel launch cells e =
-        left p output is_task addend (world_given g) (first_input (world_given g)) has.most meets admits_given (numbers_in (source_value p (world_given g))) has.list rows events
-        (subst (λ x. EndsInOrder (map_kernel addend) (task_launch (length (first_input (world_given g)))) x rows events) cells
-        (subst (λ x. EndsInOrder (map_kernel addend) x c rows events) (launch ∙ launch_is)
-        (subst (λ x. EndsInOrder x l c rows events) kernel e)))
+    left_as_made k l c rows events releases kernel launch cells e =
+        left p output is_task addend (world_given g) (first_input (world_given g)) has.most meets admits_given (numbers_in (source_value p (world_given g))) has.list rows events releases
+        (subst (λ x. EndsUnder in_order (map_kernel addend) (task_launch (length (first_input (world_given g)))) x rows events releases) cells
+        (subst (λ x. EndsUnder in_order (map_kernel addend) x c rows events releases) (launch ∙ launch_is)
+        (subst (λ x. EndsUnder in_order x l c rows events releases) kernel e)))
 
     -- and is the run at the launch that is given
-    pub run_as_made : (k : Kernel) (l : Launch) (c : Cells) (rows : List (List ℕ)) (events : ℕ) → k ≡ map_kernel addend → l ≡ g.launch → c ≡ zeroed (first_input (world_given g)) → EndsInOrder k l c rows events
-        → RunsInOrder p output (map_kernel addend) g events
-    run_as_made k l c rows events kernel launch cells e =
-        subst (λ x. EndsInOrder (map_kernel addend) g.launch (begun p output (world_given g)) x events) (left_as_made k l c rows events kernel launch cells e ∙ sym has.list)
-        (subst (λ x. EndsInOrder (map_kernel addend) g.launch x rows events) (cells ∙ sym begun_is)
-        (subst (λ x. EndsInOrder (map_kernel addend) x c rows events) launch
-        (subst (λ x. EndsInOrder x l c rows events) kernel e)))
+    pub run_as_made : (k : Kernel) (l : Launch) (c : Cells) (rows : List (List ℕ)) (events releases : ℕ) → k ≡ map_kernel addend → l ≡ g.launch → c ≡ zeroed (first_input (world_given g)) → EndsUnder in_order k l c rows events releases
+        → RunsInOrder p output (map_kernel addend) g events releases
+    run_as_made k l c rows events releases kernel launch cells e =
+        subst (λ x. EndsUnder in_order (map_kernel addend) g.launch (begun p output (world_given g)) x events releases) (left_as_made k l c rows events releases kernel launch cells e ∙ sym has.list)
+        (subst (λ x. EndsUnder in_order (map_kernel addend) g.launch x rows events releases) (cells ∙ sym begun_is)
+        (subst (λ x. EndsUnder in_order (map_kernel addend) x c rows events releases) launch
+        (subst (λ x. EndsUnder in_order x l c rows events releases) kernel e)))
 
   -- a value with these numbers is the program's
   pub value_as_left : (value : List ℕ) → value ≡ numbers_in (source_value p (world_given g)) → words value ≡ source_value p (world_given g)

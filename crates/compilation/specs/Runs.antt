@@ -4,7 +4,8 @@ use Rattle.kernel_tree.specs.Code.{Kernel}
 use Rattle.kernel_tree.specs.KernelText.{IsKernelText}
 use Rattle.kernel_tree.specs.Launch.{Launch, Cells}
 use Rattle.kernel_emit.specs.Headline.{EveryRunKeeps}
-use Rattle.ndrange_device.specs.InOrder.{EndsInOrder}
+use Rattle.kernel_tree.specs.Schedule.{in_order}
+use Rattle.ndrange_device.specs.Outcomes.{EndsUnder}
 use Rattle.lift_tree.specs.Launches.{IsAdmissibleLaunch, buffers_of, lists_of}
 use Rattle.lift_tree.specs.Meaning.{World}
 use Rattle.lift_tree.specs.Programs.{PlainProgram}
@@ -40,15 +41,16 @@ pub record IsAdmissibleFor (p : PlainProgram) (is_task : Bool) (g : Given) : Typ
   pub world : IsAdmissible (declared_by p) (world_given g)
   pub launch : IsAdmissibleLaunch (declared_by p).names is_task g.bases g.launch.global g.launch.local
 
--- the kernel's run in order at the launch and on the inputs that are given leaves the source's value, and has so many events
-abbrev pub RunsInOrder : PlainProgram → (output : PlainTy) → Kernel → Given → (events : ℕ) → Type 0
-RunsInOrder p output k g events = EndsInOrder k g.launch (begun p output (world_given g)) (lists_of output (source_value p (world_given g))) events
+-- the kernel's run in order at the launch and on the inputs that are given leaves the source's value, and has so many events, so many of them releases
+abbrev pub RunsInOrder : PlainProgram → (output : PlainTy) → Kernel → Given → (events releases : ℕ) → Type 0
+RunsInOrder p output k g events releases = EndsUnder in_order k g.launch (begun p output (world_given g)) (lists_of output (source_value p (world_given g))) events releases
 
--- The line is that of this run: the source's value, and the counts of events and of releases, of which there are none.
+-- The line is that of this run: the source's value, and the counts of events and of releases.
 pub record IsLineAt (p : PlainProgram) (output : PlainTy) (k : Kernel) (g : Given) (line : List ℕ) : Type 0 where
   pub events : ℕ
-  pub run : RunsInOrder p output k g events
-  pub written : line ≡ result_line (source_value p (world_given g)) (Some (events, 0))
+  pub releases : ℕ
+  pub run : RunsInOrder p output k g events releases
+  pub written : line ≡ result_line (source_value p (world_given g)) (Some (events, releases))
 
 -- the line is that of the run of the kernel that the text is
 pub record IsLineOfText (p : PlainProgram) (output : PlainTy) (text : List ℕ) (g : Given) (line : List ℕ) : Type 0 where

@@ -20,7 +20,7 @@ use kernel_tree::tree::Kernel;
 use launch_file::file::{Ask, LaunchFile, read_launch};
 use launch_file::result::result_text;
 use lift_reader::program::programs_may_be_typed;
-use ndrange_device::{Ended, run_in_order};
+use ndrange_device::{DeviceNo, run_in_order};
 use pattern_types::laws::judged_inputs_are_proper;
 use std::alloc::{AllocError, Global};
 
@@ -62,11 +62,12 @@ fn cells_of(alloc: Global, input: Vec<u32>) -> Result<Cells, AllocError>
     Ok(Cells { ins, outs, rest: 0 })
 }
 
-// What a run leaves: the output's numbers, and how many events it had.
+// What a run leaves: the output's numbers, and how many events and releases it had.
 #[derive(Drop)]
 struct Outcome {
     value: Vec<u32>,
     events: u64,
+    releases: u64,
 }
 
 // Runs what is read back from the text, by one work-item, in order.
@@ -76,17 +77,26 @@ fn run_back(alloc: Global, compiled: &Compiled, file: &LaunchFile) -> Result<Out
     ensures value { IfOk result (λ o. words o.value.items
         ≡ source_value (program_of compiled.now.program) (world_given (given_by file.now))) }
     ensures run { IfOk result (λ o. RunsInOrder (program_of compiled.now.program)
-        (ty_of compiled.now.output) (map_kernel compiled.now.addend) (given_by file.now) o.events) }
+        (ty_of compiled.now.output) (map_kernel compiled.now.addend) (given_by file.now)
+        o.events o.releases) }
 {
     let kernel = read_back(alloc, compiled)?;
     let launch = copied(alloc, &file.launch)?;
     let input = first_input(alloc, file)?;
     let cells = cells_of(alloc, input)?;
-    let Ended { mut outs, events } = run_in_order(alloc, kernel, launch, cells)?;
-    let Some(value) = outs.pop() else {
+    let mut ran = match run_in_order(alloc, kernel, launch, cells) {
+        Ok(ran) => ran,
+        Err(DeviceNo::Memory) => return Err(AllocError),
+        Err(DeviceNo::Fault { .. }) => unreachable!(),
+    };
+    let Some(value) = ran.outputs.pop() else {
         unreachable!()
     };
-    Ok(Outcome { value, events })
+    Ok(Outcome {
+        value,
+        events: ran.events,
+        releases: ran.releases,
+    })
 }
 
 /// The result line of the run of what is read back from the text, at the launch and on the inputs
@@ -105,7 +115,7 @@ pub fn run_launch(
     one_text();
     let outcome = run_back(alloc, compiled, file)?;
     let value = list_of(alloc, outcome.value.as_slice())?;
-    Ok(result_text(alloc, &value, Some((outcome.events, 0)))?)
+    Ok(result_text(alloc, &value, Some((outcome.events, outcome.releases)))?)
 }
 
 /// The result line of a program, a script and a launch file: compiles, and runs what is read back

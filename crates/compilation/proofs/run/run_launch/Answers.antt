@@ -11,12 +11,14 @@ returns c =
     let compiled = c.args.compiled.now in
     let addend = compiled.addend in
     let events = c.in_ok-outcome.outcome.events in
+    let releases = c.in_ok-outcome.outcome.releases in
     record {
       kernel = map_kernel addend;
       read = subst (λ text. IsKernelText text (map_kernel addend)) (sym compiled.one_kernel) (c.one_text.ensures.taken (map_kernel addend) (has_text_of addend compiled.in_grammar));
       run = record {
         events = events;
+        releases = releases;
         run = c.in_ok-outcome.ensures.run;
-        written = c.in_ok-result_text.ensures ∙ ap (λ v. result_line v (Some (events, 0))) (c.in_ok-value.ensures ∙ ap words c.as_slice.ensures.value ∙ c.in_ok-outcome.ensures.value);
+        written = c.in_ok-result_text.ensures ∙ ap (λ v. result_line v (Some (events, releases))) (c.in_ok-value.ensures ∙ ap words c.as_slice.ensures.value ∙ c.in_ok-outcome.ensures.value);
       };
     }
