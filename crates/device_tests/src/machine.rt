@@ -140,7 +140,9 @@ fn tells_an_access_outside(rt: HostRuntime) {
     let alloc = rt.alloc();
     let kernel = past_the_output(alloc).expect(&rt, "memory");
     let out = vec![in alloc; 0].expect(&rt, "memory");
-    let mut machine = start(alloc, kernel, Vec::new(alloc), Vec::new(alloc), out).expect(&rt, "memory");
+    let mut machine = start(alloc, kernel, Vec::new(alloc), Vec::new(alloc), out).expect(
+        &rt, "memory",
+    );
     let cell = Cell {
         array: Array::Output(0),
         index: 1,
