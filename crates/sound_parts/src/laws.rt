@@ -1,0 +1,8 @@
+//! Laws of legal terms, each carried by a function that does nothing.
+
+ghost use Rattle.sound_parts.specs.Laws.{TermsHaveSoundParts};
+
+/// A legal term that can be printed has sound parts.
+pub fn terms_have_sound_parts()
+    ensures { TermsHaveSoundParts }
+{}
