@@ -1,0 +1,7 @@
+pub mod Formulas
+pub mod Arrays
+pub mod Layouts
+pub mod Views
+pub mod Accesses
+pub mod Cells
+pub mod Promises
