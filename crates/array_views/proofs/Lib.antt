@@ -1,3 +1,4 @@
 pub mod Shapes
 pub mod Signs
-pub mod Stacks
+pub mod Exact
+pub mod Cells

@@ -1,4 +1,5 @@
 pub mod Formulas
+pub mod Stacks
 pub mod Arrays
 pub mod Layouts
 pub mod Views

@@ -13,6 +13,7 @@ use Rattle.array_views.specs.declared.load_set.LoadSet.{LoadSet}
 use Rattle.array_views.specs.declared.load_set.LoadSet as load
 use Rattle.array_views.specs.declared.node.Node.{Node}
 use Rattle.array_views.specs.declared.node.Node as node
+use Rattle.array_views.specs.declared.view.View as held
 use Rattle.array_views.specs.Formulas.{index_formula}
 use Rattle.array_views.specs.Arrays.{array_with, extent_of}
 use Rattle.array_views.specs.Layouts.{layout_in}
@@ -47,6 +48,12 @@ view_of (Component s x) = λ cs is. view_of x (s ∷ cs) is
 view_of (At i x) = view_at (index_formula i) (view_of x)
 view_of (Reading y x) = λ cs is. view_of x cs (operand_indices index_formula y is)
 view_of (Writing y x) = λ cs is. view_of x cs (result_indices index_formula y is)
+
+abbrev pub plain_in : held.View → PlainView
+plain_in v = plain_of v.node.value
+
+abbrev pub view_in : held.View → View
+view_in v = view_of (plain_in v)
 
 abbrev pub loads_of : LoadSet → ir.LoadSet
 loads_of load.Skip = ir.Skip

@@ -8,6 +8,7 @@ ghost use Rattle.index_expr.specs.declared.operation.Operation.TheVariants.{Sum,
 ghost use Rattle.index_expr.specs.Expression.{Binary, Literal, expression_of};
 ghost use Rattle.index_expr.specs.Lengths.{length_expression};
 ghost use Rattle.array_views.specs.Arrays.{extent_of, spelled_shape};
+ghost use Rattle.array_views.specs.Stacks.{indices_in};
 ghost use Rattle.array_views.specs.Accesses.{row_major, row_major_from};
 
 use crate::stack::{IndexStack, PairStack};
@@ -93,7 +94,7 @@ impl Extent {
 
     /// The index of an element in row-major order: the index alone for an array of one dimension.
     pub fn row_major(&self, alloc: Global, indices: &mut IndexStack) -> Result<Index, AllocError>
-        ensures { IfOk result (λ i. expression_of i ≡ row_major (extent_of self.now) indices.old) }
+        ensures { IfOk result (λ i. expression_of i ≡ row_major (extent_of self.now) (indices_in indices.old)) }
     {
         match self {
             Extent::Scalar | Extent::Pair(_, _) => Ok(Index::Literal(0)),
@@ -112,7 +113,7 @@ impl Extent {
         indices: &mut IndexStack,
     ) -> Result<Index, AllocError>
         ensures { IfOk result (λ i. expression_of i
-            ≡ row_major_from (expression_of row) (extent_of self.now) indices.old) }
+            ≡ row_major_from (expression_of row) (extent_of self.now) (indices_in indices.old)) }
     {
         match self {
             Extent::Scalar | Extent::Pair(_, _) => Ok(row),

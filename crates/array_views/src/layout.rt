@@ -6,6 +6,7 @@ ghost use Rattle.lift_tree.specs.Types.{ty_of};
 ghost use Rattle.lift_ir.specs.AtLaunch.{inner_of, layout_of, outer_of};
 ghost use Rattle.index_expr.specs.Expression.{Literal, expression_of};
 ghost use Rattle.index_expr.specs.Lengths.{length_expression};
+ghost use Rattle.array_views.specs.Stacks.{indices_in};
 ghost use Rattle.array_views.specs.Layouts.{layout_in, spelled_layout, flattened, parted, swapped, clamped, to_operand, to_result};
 
 use crate::extent::flat_index;
@@ -25,7 +26,10 @@ pub enum Layout {
     Join(Index),
     Transpose,
     /// Pieces of this size, which begin at the multiples of the step.
-    Slide { size: u32, step: u32 },
+    Slide {
+        size: u32,
+        step: u32,
+    },
     /// So many copies of the first element before, and of the last after; the operand has this length.
     Pad {
         left: u32,
@@ -64,7 +68,7 @@ impl Layout {
 
     /// Makes of indices in the result those in the operand.
     pub fn to_operand(&self, alloc: Global, indices: &mut IndexStack) -> Result<(), AllocError>
-        ensures { OnOk result (indices.new ≡ to_operand (layout_in self.now) indices.old) }
+        ensures { OnOk result (indices_in indices.new ≡ to_operand (layout_in self.now) (indices_in indices.old)) }
     {
         match self {
             Layout::Split(length) => flatten(alloc, length, indices),
@@ -77,7 +81,7 @@ impl Layout {
 
     /// Makes of indices in the operand those in the result, for join, split and transpose.
     pub fn to_result(&self, alloc: Global, indices: &mut IndexStack) -> Result<(), AllocError>
-        ensures { OnOk result (indices.new ≡ to_result (layout_in self.now) indices.old) }
+        ensures { OnOk result (indices_in indices.new ≡ to_result (layout_in self.now) (indices_in indices.old)) }
     {
         match self {
             Layout::Split(length) => part(alloc, length, indices),
@@ -110,7 +114,7 @@ fn outer_length(alloc: Global, names: &Names, ty: &Ty) -> Result<Index, AllocErr
 
 // Row and index in it become the index in all rows.
 fn flatten(alloc: Global, length: &Index, indices: &mut IndexStack) -> Result<(), AllocError>
-    ensures { OnOk result (indices.new ≡ flattened (expression_of length.now) indices.old) }
+    ensures { OnOk result (indices_in indices.new ≡ flattened (expression_of length.now) (indices_in indices.old)) }
 {
     let Some(row) = indices.pop() else {
         return Ok(());
@@ -123,23 +127,23 @@ fn flatten(alloc: Global, length: &Index, indices: &mut IndexStack) -> Result<()
 
 // An index becomes the row and the index in it.
 fn part(alloc: Global, length: &Index, indices: &mut IndexStack) -> Result<(), AllocError>
-    ensures { OnOk result (indices.new ≡ parted (expression_of length.now) indices.old) }
+    ensures { OnOk result (indices_in indices.new ≡ parted (expression_of length.now) (indices_in indices.old)) }
 {
     let Some(index) = indices.pop() else {
         return Ok(());
     };
-    let row = Index::binary(alloc, Operation::Quotient, index.copy(alloc)?, length.copy(alloc)?)?;
-    indices.push(Index::binary(
+    let row = Index::binary(
         alloc,
-        Operation::Remainder,
-        index,
+        Operation::Quotient,
+        index.copy(alloc)?,
         length.copy(alloc)?,
-    )?)?;
+    )?;
+    indices.push(Index::binary(alloc, Operation::Remainder, index, length.copy(alloc)?)?)?;
     indices.push(row)
 }
 
 fn swap(indices: &mut IndexStack) -> Result<(), AllocError>
-    ensures { OnOk result (indices.new ≡ swapped indices.old) }
+    ensures { OnOk result (indices_in indices.new ≡ swapped (indices_in indices.old)) }
 {
     let Some(row) = indices.pop() else {
         return Ok(());
@@ -160,7 +164,7 @@ fn clamp(
     length: &Index,
     indices: &mut IndexStack,
 ) -> Result<(), AllocError>
-    ensures { OnOk result (indices.new ≡ clamped (Literal left) (expression_of length.now) indices.old) }
+    ensures { OnOk result (indices_in indices.new ≡ clamped (Literal left) (expression_of length.now) (indices_in indices.old)) }
 {
     let Some(index) = indices.pop() else {
         return Ok(());

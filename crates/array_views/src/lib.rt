@@ -6,6 +6,7 @@
 pub mod access;
 pub mod array;
 pub mod extent;
+pub mod laws;
 pub mod layout;
 pub mod load_set;
 pub mod node;

@@ -2,6 +2,7 @@
 
 ghost use Rattle.std.specs.Prelude.{◌≡◌, ◌+◌, ◌≤◌, ◌<◌, ◌^◌, IfOk};
 ghost use Rattle.lift_ir.specs.Types.{width};
+ghost use Rattle.array_views.specs.Stacks.{indices_in};
 ghost use Rattle.array_views.specs.Accesses.{access_at, access_of};
 ghost use Rattle.array_views.specs.Arrays.{extent_of};
 ghost use Rattle.array_views.specs.Views.{Placed, plain_of};
@@ -51,7 +52,7 @@ impl Node {
         choices: &mut PairStack,
         indices: &mut IndexStack,
     ) -> Result<Access, AllocError>
-        ensures { IfOk result (λ a. access_of a ≡ access_at (plain_of self.now) choices.old indices.old) }
+        ensures { IfOk result (λ a. access_of a ≡ access_at (plain_of self.now) choices.old (indices_in indices.old)) }
     {
         match self {
             Node::Nothing => Ok(Access::Nothing),
@@ -92,7 +93,7 @@ impl Placed {
     ) -> Result<Access, AllocError>
         ensures { IfOk result (λ a. access_of a ≡ access_at
             (Placed self.now.kind self.now.first (extent_of self.now.extent))
-            choices.old indices.old) }
+            choices.old (indices_in indices.old)) }
     {
         let index = self.extent.row_major(alloc, indices)?;
         Ok(Access::InCell(Cell {

@@ -1,7 +1,8 @@
 // Stacks of pair choices and of indices, eight entries inline.
 
 ghost use Rattle.std.specs.Prelude.{◌≡◌, [], ◌∷◌, IfOk, OnOk, MatchOption};
-ghost use Rattle.index_expr.specs.Expression.{Expression, expression_of};
+ghost use Rattle.index_expr.specs.Expression.{expression_of};
+ghost use Rattle.array_views.specs.Stacks.{indices_in};
 
 use index_expr::Index;
 use smallvec::SmallVec;
@@ -68,19 +69,10 @@ pub struct IndexStack {
     indices: SmallVec<Index, 8>,
 }
 
-impl Model for IndexStack {
-    ghost use Rattle.std.specs.Prelude.{List, map, reverse};
-    ghost use Rattle.index_expr.specs.Expression.{Expression, expression_of};
-
-    ghost Value = { List Expression };
-
-    ghost view = { λ s. map expression_of (reverse s.indices.items) };
-}
-
 impl IndexStack {
     /// An empty stack.
     pub fn new(alloc: Global) -> Self
-        ensures { result ≡ [] }
+        ensures { indices_in result ≡ [] }
     {
         IndexStack {
             indices: SmallVec::new(alloc),
@@ -89,7 +81,7 @@ impl IndexStack {
 
     /// Puts an index on top.
     pub fn push(&mut self, index: Index) -> Result<(), AllocError>
-        ensures { OnOk result (self.new ≡ expression_of index ∷ self.old) }
+        ensures { OnOk result (indices_in self.new ≡ expression_of index ∷ indices_in self.old) }
     {
         self.indices.push(index)?;
         Ok(())
@@ -97,8 +89,8 @@ impl IndexStack {
 
     /// Takes the index on top.
     pub fn pop(&mut self) -> Option<Index>
-        ensures { MatchOption result ((self.old ≡ []) × (self.new ≡ []))
-            (λ i. self.old ≡ expression_of i ∷ self.new) }
+        ensures { MatchOption result ((indices_in self.old ≡ []) × (indices_in self.new ≡ []))
+            (λ i. indices_in self.old ≡ expression_of i ∷ indices_in self.new) }
     {
         self.indices.pop()
     }

@@ -13,8 +13,9 @@ ghost use Rattle.index_expr.specs.Lengths.{length_expression};
 ghost use Rattle.array_views.specs.Accesses.{access_at, access_of, cell_alone, sign_of, target_of};
 ghost use Rattle.array_views.specs.Arrays.{array_with, spelled_shape};
 ghost use Rattle.array_views.specs.Formulas.{index_formula, spelled};
+ghost use Rattle.array_views.specs.Stacks.{indices_in};
 ghost use Rattle.array_views.specs.Layouts.{spelled_layout};
-ghost use Rattle.array_views.specs.Views.{Nothing, Placed, plain_of, Both, Component, At, Reading, Writing, loads_of, view_of};
+ghost use Rattle.array_views.specs.Views.{Nothing, Placed, plain_of, Both, Component, At, Reading, Writing, loads_of, plain_in, view_in};
 
 use crate::access::{Access, Cell};
 use crate::array::ArrayKind;
@@ -29,7 +30,6 @@ use lift_tree::term::UnaryForm;
 use lift_tree::ty::Ty;
 use size_arith::Names;
 use std::alloc::{AllocError, Global};
-use std::marker::Model;
 use std::rc::Rc;
 
 /// What stands for each scalar of a value, or where each scalar of it goes.
@@ -40,18 +40,10 @@ pub struct View {
     node: Rc<Node>,
 }
 
-impl Model for View {
-    ghost use Rattle.array_views.specs.Views.{PlainView, plain_of};
-
-    ghost Value = { PlainView };
-
-    ghost view = { λ v. plain_of v.node.value };
-}
-
 impl View {
     // A view of one node.
     fn new(alloc: Global, node: Node) -> Result<Self, AllocError>
-        ensures { IfOk result (λ v. v ≡ plain_of node) }
+        ensures { IfOk result (λ v. plain_in v ≡ plain_of node) }
     {
         Ok(View {
             node: Rc::new(alloc, node)?,
@@ -60,7 +52,7 @@ impl View {
 
     /// The same view.
     pub fn share(&self) -> Result<Self, AllocError>
-        ensures { IfOk result (λ v. v ≡ self.now) }
+        ensures { IfOk result (λ v. plain_in v ≡ plain_in self.now) }
     {
         Ok(View {
             node: self.node.clone()?,
@@ -69,7 +61,7 @@ impl View {
 
     /// No scalar has anything that stands for it.
     pub fn nothing(alloc: Global) -> Result<Self, AllocError>
-        ensures { IfOk result (λ v. v ≡ Nothing) }
+        ensures { IfOk result (λ v. plain_in v ≡ Nothing) }
     {
         View::new(alloc, Node::Nothing)
     }
@@ -83,9 +75,9 @@ impl View {
         ty: &Ty,
     ) -> Result<Self, AllocError>
         requires { first + width (shape_of (ty_of ty.now)) ≤ 2 ^ 32 }
-        ensures plain { IfOk result (λ v. v ≡ Placed kind first
+        ensures plain { IfOk result (λ v. plain_in v ≡ Placed kind first
             (spelled_shape (length_expression names.now) (shape_of (ty_of ty.now)))) }
-        ensures view { IfOk result (λ v. view_of v ≡ printed.placed_view (spelled names.now)
+        ensures view { IfOk result (λ v. view_in v ≡ printed.placed_view (spelled names.now)
             (array_with kind) first (shape_of (ty_of ty.now))) }
     {
         let extent = Extent::spelled(alloc, names, ty)?;
@@ -103,9 +95,9 @@ impl View {
     pub fn laid(alloc: Global, kind: ArrayKind, first: u32, ty: &Ty) -> Result<Self, AllocError>
         requires numbered { first + width (ty_at [] (ty_of ty.now)) ≤ 2 ^ 32 }
         requires short { IsShort (ty_at [] (ty_of ty.now)) }
-        ensures plain { IfOk result (λ v. v ≡ Placed kind first
+        ensures plain { IfOk result (λ v. plain_in v ≡ Placed kind first
             (spelled_shape Literal (ty_at [] (ty_of ty.now)))) }
-        ensures view { IfOk result (λ v. view_of v ≡ printed.laid_view
+        ensures view { IfOk result (λ v. view_in v ≡ printed.laid_view
             (array_with kind) first (ty_at [] (ty_of ty.now))) }
     {
         let extent = Extent::literal(alloc, ty)?;
@@ -122,7 +114,7 @@ impl View {
     /// An element in private variables, one a component, the first of which has this number.
     pub fn held(alloc: Global, ty: &Ty, first: u32) -> Result<Self, AllocError>
         requires { first + width (element_ty (ty_of ty.now)) ≤ 2 ^ 32 }
-        ensures { IfOk result (λ v. view_of v ≡ printed.held_view (element_ty (ty_of ty.now)) first) }
+        ensures { IfOk result (λ v. view_in v ≡ printed.held_view (element_ty (ty_of ty.now)) first) }
     {
         match ty {
             Ty::Number | Ty::Array(_, _) => View::new(alloc, Node::Variable(first)),
@@ -137,8 +129,8 @@ impl View {
     /// An element, once these of its scalars are loaded into private variables, the first of which has this number.
     pub fn loaded(&self, alloc: Global, loads: &LoadSet, first: u32) -> Result<Self, AllocError>
         requires { first + load_count (loads_of loads.now) ≤ 2 ^ 32 }
-        ensures { IfOk result (λ v. view_of v
-            ≡ printed.loaded_view (loads_of loads.now) (view_of self.now) first) }
+        ensures { IfOk result (λ v. view_in v
+            ≡ printed.loaded_view (loads_of loads.now) (view_in self.now) first) }
     {
         match loads {
             LoadSet::Skip => self.share(),
@@ -154,27 +146,27 @@ impl View {
 
     /// A pair, or the pairs of two arrays' elements.
     pub fn both(alloc: Global, left: View, right: View) -> Result<Self, AllocError>
-        ensures plain { IfOk result (λ v. v ≡ Both left right) }
-        ensures view { IfOk result (λ v. view_of v
-            ≡ by_side (λ is. printed.Blank) (view_of left) (view_of right)) }
+        ensures plain { IfOk result (λ v. plain_in v ≡ Both (plain_in left) (plain_in right)) }
+        ensures view { IfOk result (λ v. view_in v
+            ≡ by_side (λ is. printed.Blank) (view_in left) (view_in right)) }
     {
         View::new(alloc, Node::Both(left.node, right.node))
     }
 
     /// A side of a pair, or of an array's pairs; `true` is the second.
     pub fn component(&self, alloc: Global, second: bool) -> Result<Self, AllocError>
-        ensures plain { IfOk result (λ v. v ≡ Component second self.now) }
-        ensures view { IfOk result (λ v. view_of v
-            ≡ (λ cs is. view_of self.now (second ∷ cs) is)) }
+        ensures plain { IfOk result (λ v. plain_in v ≡ Component second (plain_in self.now)) }
+        ensures view { IfOk result (λ v. view_in v
+            ≡ (λ cs is. view_in self.now (second ∷ cs) is)) }
     {
         View::new(alloc, Node::Component(second, self.node.clone()?))
     }
 
     /// The element of an array at an index.
     pub fn at(&self, alloc: Global, index: Index) -> Result<Self, AllocError>
-        ensures plain { IfOk result (λ v. v ≡ At (expression_of index) self.now) }
-        ensures view { IfOk result (λ v. view_of v
-            ≡ printed.view_at (index_formula (expression_of index)) (view_of self.now)) }
+        ensures plain { IfOk result (λ v. plain_in v ≡ At (expression_of index) (plain_in self.now)) }
+        ensures view { IfOk result (λ v. view_in v
+            ≡ printed.view_at (index_formula (expression_of index)) (view_in self.now)) }
     {
         View::new(alloc, Node::At(index, self.node.clone()?))
     }
@@ -190,9 +182,9 @@ impl View {
         ty: &Ty,
         operand: &Ty,
     ) -> Result<Self, AllocError>
-        ensures plain { IfOk result (λ v. v ≡ Reading (spelled_layout (length_expression names.now)
-            (layout_of form.now (ty_of ty.now) (ty_of operand.now))) self.now) }
-        ensures view { IfOk result (λ v. view_of v ≡ (λ cs is. view_of self.now cs
+        ensures plain { IfOk result (λ v. plain_in v ≡ Reading (spelled_layout (length_expression names.now)
+            (layout_of form.now (ty_of ty.now) (ty_of operand.now))) (plain_in self.now)) }
+        ensures view { IfOk result (λ v. view_in v ≡ (λ cs is. view_in self.now cs
             (printed.operand_indices (spelled names.now)
             (layout_of form.now (ty_of ty.now) (ty_of operand.now)) is))) }
     {
@@ -209,9 +201,9 @@ impl View {
         ty: &Ty,
         operand: &Ty,
     ) -> Result<Self, AllocError>
-        ensures plain { IfOk result (λ v. v ≡ Writing (spelled_layout (length_expression names.now)
-            (layout_of form.now (ty_of ty.now) (ty_of operand.now))) self.now) }
-        ensures view { IfOk result (λ v. view_of v ≡ (λ cs is. view_of self.now cs
+        ensures plain { IfOk result (λ v. plain_in v ≡ Writing (spelled_layout (length_expression names.now)
+            (layout_of form.now (ty_of ty.now) (ty_of operand.now))) (plain_in self.now)) }
+        ensures view { IfOk result (λ v. view_in v ≡ (λ cs is. view_in self.now cs
             (printed.result_indices (spelled names.now)
             (layout_of form.now (ty_of ty.now) (ty_of operand.now)) is))) }
     {
@@ -226,9 +218,9 @@ impl View {
         mut choices: PairStack,
         mut indices: IndexStack,
     ) -> Result<Access, AllocError>
-        ensures access { IfOk result (λ a. access_of a ≡ access_at self.now choices indices) }
+        ensures access { IfOk result (λ a. access_of a ≡ access_at (plain_in self.now) choices (indices_in indices)) }
         ensures sign { IfOk result (λ a. sign_of (access_of a)
-            ≡ view_of self.now choices (map index_formula indices)) }
+            ≡ view_in self.now choices (map index_formula (indices_in indices))) }
     {
         self.node.access(alloc, &mut choices, &mut indices)
     }
@@ -240,7 +232,7 @@ impl View {
         choices: PairStack,
         indices: IndexStack,
     ) -> Result<Option<Cell>, AllocError>
-        ensures { IfOk result (λ c. target_of c ≡ cell_alone (access_at self.now choices indices)) }
+        ensures { IfOk result (λ c. target_of c ≡ cell_alone (access_at (plain_in self.now) choices (indices_in indices))) }
     {
         Ok(self.access(alloc, choices, indices)?.into_cell())
     }

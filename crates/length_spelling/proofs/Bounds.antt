@@ -1,20 +1,17 @@
 -- A spelled length is of the kernel grammar.
-use Rattle.std.proofs.Common.{◌≡◌, ℕ, suc, ◌+◌, ◌<◌, ◌≤◌, ◌^◌, Bool, true, false, List, length, refl, subst, sym, arith}
+use Rattle.std.proofs.Common.{◌≡◌, ℕ, suc, ◌+◌, ◌^◌, Bool, true, false, List, length, refl, arith}
 use Rattle.std.specs.Prelude.{◌&&◌}
 use Rattle.std.proofs.Math.Nat.{mod-lt}
 use Rattle.std.proofs.lemmas.Bool.{lt-ltb}
-use Rattle.scalar_ops.specs.declared.op.Op.{Op}
 use Rattle.size_arith.specs.declared.names.Name.{Name}
 use Rattle.size_arith.specs.declared.poly.Monomial.{Monomial}
 use Rattle.size_arith.specs.Polynomial.{degree}
 use Rattle.index_expr.specs.declared.operation.Operation.{Operation}
 use Rattle.index_expr.specs.declared.operation.Operation.TheVariants.{Sum, Difference, Product, Quotient, Remainder, Least, Greatest}
-use Rattle.index_expr.specs.Expression.{Expression, Size, Literal, Binary}
+use Rattle.index_expr.specs.Expression.{Expression, Binary}
 use Rattle.index_expr.specs.Lengths.{length_expression}
-use Rattle.kernel_tree.specs.Formula as formula
-use Rattle.kernel_tree.specs.Formula.{Formula}
 use Rattle.kernel_tree.specs.Code.{Kernel}
-use Rattle.kernel_tree.specs.Grammar.{height, is_constant, is_operator, names_declared}
+use Rattle.kernel_tree.specs.Grammar.{is_constant, is_operator, names_declared}
 use Rattle.length_spelling.specs.Formulas.{operator_of, index_formula, length_formula}
 use Rattle.length_spelling.specs.Laws.{IsBound, LengthsAreBounds, length_height}
 use Rattle.length_spelling.proofs.Lengths.{IsKept, of_length}

@@ -1,10 +1,9 @@
 -- A spelled index expression has its value on words.
-use Rattle.std.proofs.Common.{◌≡◌, ◌≢◌, ◌∙◌, ℕ, zero, suc, ℤ, pos, ◌+◌, ◌*◌, ◌%◌, ◌≤◌, ◌<◌, ◌^◌, Bool, true, false, Option, Some, None, List, [], ◌∷◌, refl, sym, ap, subst, ⊎_elim, arith}
-use Rattle.std.specs.Prelude.{slice_index, unsigned_abs, ◌==◌, ◌&&◌, if◌then◌else◌}
+use Rattle.std.proofs.Common.{◌≡◌, ◌≢◌, ◌∙◌, ℕ, zero, suc, ℤ, pos, ◌<◌, ◌^◌, Bool, true, false, Some, None, List, [], ◌∷◌, refl, sym, ap, subst, ⊎_elim, arith}
+use Rattle.std.specs.Prelude.{unsigned_abs, ◌==◌, ◌&&◌, if◌then◌else◌}
 use Rattle.std.proofs.Math.Nat.{mod-eq_of_lt}
 use Rattle.std.proofs.lemmas.Bool.{cases_Bool, eqb-true}
 use Rattle.std.proofs.lemmas.Int.{ints}
-use Rattle.scalar_ops.specs.declared.op.Op.{Op}
 use Rattle.scalar_ops.specs.Operators.{apply_op}
 use Rattle.size_arith.specs.declared.names.Name.{Name}
 use Rattle.size_arith.specs.declared.poly.Monomial.{Monomial}
@@ -16,9 +15,9 @@ use Rattle.index_expr.specs.Expression as index
 use Rattle.index_expr.specs.Expression.{Expression}
 use Rattle.index_expr.specs.Values.{exact, wrapped, operate_words, Divides, IsWord, IsRangedAt, HasNoZeroDivisorAt, HasNoZeroDivisorInWordsAt}
 use Rattle.index_expr.specs.Lengths.{length_expression}
-use Rattle.kernel_tree.specs.Formula.{Formula, Number, Variable, LoopVariable, Size, Id, Binary, Choose, Ids, operate, divides, with_both, value}
+use Rattle.kernel_tree.specs.Formula.{Ids, operate, with_both, value}
 use Rattle.kernel_tree.specs.Grammar.{is_constant}
-use Rattle.length_spelling.specs.Formulas.{operator_of, index_formula, length_formula}
+use Rattle.length_spelling.specs.Formulas.{operator_of, index_formula}
 use Rattle.length_spelling.specs.Laws.{AreWords, IndicesAreSpelled, LengthsAreSpelled}
 use Rattle.length_spelling.proofs.Bounds.{lengths_are_constant}
 

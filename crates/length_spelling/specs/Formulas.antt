@@ -1,5 +1,5 @@
 -- Index expressions, and lengths, as expressions of a kernel.
-use Rattle.std.specs.Prelude.{ℕ, ◌%◌, ◌^◌, List}
+use Rattle.std.specs.Prelude.{◌%◌, ◌^◌, List}
 use Rattle.scalar_ops.specs.declared.op.Op.{Op}
 use Rattle.scalar_ops.specs.declared.op.Op.TheVariants.{Add, Sub, Mul, Div, Rem, Min, Max}
 use Rattle.size_arith.specs.declared.names.Name.{Name}
