@@ -25,6 +25,7 @@ use size_arith::{Names, Poly};
 use std::alloc::{AllocError, Global};
 
 /// What a program's terms name: the sizes, and the inputs' types.
+#[derive(Clone, Copy)]
 pub struct Declared<'p> {
     pub names: &'p Names,
     pub inputs: &'p [Ty],
