@@ -1,6 +1,6 @@
 // A kernel as a tree.
 
-ghost use Rattle.std.specs.Prelude.{◌≡◌, IfOk, true};
+ghost use Rattle.std.specs.Prelude.{◌≡◌, ◌<◌, ◌^◌, IfOk, length, true};
 ghost use Rattle.kernel_tree.specs.Formula as formula;
 ghost use Rattle.kernel_tree.specs.Grammar.{is_kernel};
 ghost use Rattle.kernel_tree.specs.Tree.{formula_of, comparison_of, kernel_with};
@@ -146,4 +146,6 @@ pub struct Kernel {
     pub body: Vec<Stmt>,
     pub ghost in_grammar: { is_kernel
         (kernel_with inputs outputs sizes locals.items privates.items variables body.items) ≡ true },
+    /// Arrays have numbers below 2^32.
+    pub ghost few_arrays: { (length locals.items < 2 ^ 32) × (length privates.items < 2 ^ 32) },
 }
