@@ -20,7 +20,7 @@ printed before xs turn addend empty pushed body =
     ap (λ ys. code_then ys End) only ∙ before-Loop start.Zero (expr.Size 0) stride.One turn End ∙ ap (λ c. Loops FromZero (Size 0) ByOne c End) body
 
 -- a body with the code of the map's kernel makes that kernel
-pub kernel_is : (body : List Stmt) (addend : ℕ) → code_then body End ≡ (map_kernel addend).code → kernel_with 1 1 1 1 body ≡ map_kernel addend
+pub kernel_is : (body : List Stmt) (addend : ℕ) → code_then body End ≡ (map_kernel addend).code → kernel_with 1 1 1 [] [] 1 body ≡ map_kernel addend
 kernel_is body addend code =
     let made : Code → Kernel = λ c. record { inputs = 1; outputs = 1; sizes = 1; locals = []; privates = []; variables = 1; code = c } in
     ap made code

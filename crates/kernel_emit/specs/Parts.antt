@@ -5,9 +5,9 @@ use Rattle.printed_form.specs.Printer.{sign_exprs}
 use Rattle.lowering.specs.Terms.{term_of}
 use Rattle.kernel_emit.specs.Scopes.{scope_of}
 use Rattle.kernel_emit.specs.declared.expressions.Part.{Part}
-use Rattle.kernel_emit.specs.declared.expressions.Part.TheVariants.{Whole, First, Second}
+use Rattle.kernel_emit.specs.declared.expressions.Part as part
 
 abbrev pub parts_of : Part → List Bool → Option Formula
-parts_of (Whole scope first term) = sign_exprs (scope_of scope.now) first (term_of term.now)
-parts_of (First p) = λ cs. parts_of p.now (false ∷ cs)
-parts_of (Second p) = λ cs. parts_of p.now (true ∷ cs)
+parts_of (part.Whole scope first term) = sign_exprs (scope_of scope.now) first (term_of term.now)
+parts_of (part.First' p whole) = λ cs. parts_of whole (false ∷ cs)
+parts_of (part.Second' p whole) = λ cs. parts_of whole (true ∷ cs)

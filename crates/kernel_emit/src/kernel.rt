@@ -61,7 +61,7 @@ pub fn emit(alloc: Global, lowered: &Lowered) -> Result<Kernel, AllocError>
     ensures { IfOk result (λ k. kernel_of k ≡ programs.printed_kernel (spelled lowered.now.names)
         (declared_of lowered.now) (tree_of lowered.now.term) (annotation_of lowered.now.types)) }
 {
-    let term = lower(alloc, lowered)?;
+    let term = lower(alloc, &lowered.term, &lowered.types)?;
     let declared = Declared {
         names: &lowered.names,
         inputs: &lowered.inputs,

@@ -71,7 +71,11 @@ fn merged(alloc: Global, one: LoadSet, other: LoadSet) -> Result<LoadSet, AllocE
         (_, LoadSet::Take) => Ok(LoadSet::Take),
         (LoadSet::Each(a, b), LoadSet::Each(c, d)) => {
             let left = merged(alloc, Box::into_inner(a), Box::into_inner(c))?;
-            each(alloc, left, merged(alloc, Box::into_inner(b), Box::into_inner(d))?)
+            each(
+                alloc,
+                left,
+                merged(alloc, Box::into_inner(b), Box::into_inner(d))?,
+            )
         }
     }
 }

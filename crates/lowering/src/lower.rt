@@ -13,13 +13,11 @@ ghost use Rattle.lowering.specs.Places.{place_of};
 ghost use Rattle.lowering.specs.Terms.{kind_of, term_of};
 
 use crate::loads::loads;
-use crate::place::Place;
+use crate::place::{Place, is_element};
 use crate::term::{Kind, Layout, Space, Term};
 use lift_tree::term::{BinaryForm, MapKind, Operator, Term as Source, UnaryForm};
 use lift_tree::ty::Ty;
 use lift_tree::typed::NodeTypes;
-use lowered_tree::around::is_element;
-use lowered_tree::lowered::Lowered;
 use scalar_ops::op::{Op, Reducer};
 use size_arith::Poly;
 use std::alloc::{AllocError, Global};
@@ -115,7 +113,6 @@ fn placed(alloc: Global, place: Place, ty: &Ty, term: Term) -> Result<Term, Allo
 }
 
 // The same where the type may be an array's.
-#[tactic(auto, using(crate::proofs::Elements::alike))]
 fn placed_element(alloc: Global, place: Place, ty: &Ty, term: Term) -> Result<Term, AllocError>
     ensures { IfOk result
         (λ t. term_of t ≡ spec.placed_element (place_of place) (ty_of ty.now) (term_of term)) }
@@ -168,7 +165,12 @@ fn joined(
 {
     match form {
         BinaryForm::Operator(operator) => {
-            placed(alloc, place, ty, Term::Apply(operation(operator), left, right))
+            placed(
+                alloc,
+                place,
+                ty,
+                Term::Apply(operation(operator), left, right),
+            )
         }
         BinaryForm::Pair => placed(alloc, place, ty, Term::Pair(left, right)),
         BinaryForm::Zip => Ok(Term::Zip(left, right)),
@@ -177,7 +179,6 @@ fn joined(
 }
 
 // A let of a value of this type.
-#[tactic(auto, using(crate::proofs::Elements::alike))]
 fn bound(alloc: Global, ty: &Ty, value: Box<Term>, body: Box<Term>) -> Result<Term, AllocError>
     ensures { IfOk result (λ t. term_of t
         ≡ spec.lower_let (ty_of ty.now) (term_of value.value) (term_of body.value)) }
@@ -241,9 +242,9 @@ fn boxed(
     Ok(Box::new(alloc, lower_at(alloc, place, term, types)?)?)
 }
 
-/// The term that a term of these types is lowered to where it stands.
+// The term that a term of these types is lowered to where it stands.
 #[cycle(lowering)]
-pub fn lower_at(
+fn lower_at(
     alloc: Global,
     place: Place,
     term: &Source,
@@ -293,10 +294,10 @@ pub fn lower_at(
     }
 }
 
-/// The whole term, which is written.
-pub fn lower(alloc: Global, lowered: &Lowered) -> Result<Term, AllocError>
-    ensures { IfOk result (λ t. term_of t ≡ spec.lower spec.Written
-        (tree_of lowered.now.term) (annotation_of lowered.now.types)) }
+/// The term that a term of these types is lowered to, the whole of which is written.
+pub fn lower(alloc: Global, term: &Source, types: &NodeTypes) -> Result<Term, AllocError>
+    ensures { IfOk result (λ t. term_of t
+        ≡ spec.lower spec.Written (tree_of term.now) (annotation_of types.now)) }
 {
-    lower_at(alloc, Place::Written, &lowered.term, &lowered.types)
+    lower_at(alloc, Place::Written, term, types)
 }

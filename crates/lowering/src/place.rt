@@ -8,7 +8,6 @@ ghost use Rattle.lowering.specs.Places.{place_of};
 
 use lift_tree::term::{BinaryForm, UnaryForm};
 use lift_tree::ty::Ty;
-use lowered_tree::around::is_element;
 
 /// What a term stands for.
 #[derive(Clone, Copy, PartialEq, Eq)]
@@ -19,6 +18,17 @@ pub enum Place {
     Argument,
     /// It is worked out, an element.
     Element,
+}
+
+/// Whether the type is a number, or pairs of such.
+pub fn is_element(ty: &Ty) -> bool
+    ensures { result ≡ spec.is_element (ty_of ty.now) }
+{
+    match ty {
+        Ty::Number => true,
+        Ty::Pair(a, b) => is_element(a) && is_element(b),
+        Ty::Array(_, _) => false,
+    }
 }
 
 impl Place {
@@ -60,7 +70,6 @@ impl Place {
     }
 
     /// The place of a let's value of this type: an element is set, an array is let.
-    #[tactic(auto, using(crate::proofs::Elements::alike))]
     pub fn of_value(ty: &Ty) -> Place
         ensures { place_of result ≡ if spec.is_element (ty_of ty.now) then spec.Element else spec.Argument }
     {
@@ -72,7 +81,6 @@ impl Place {
     }
 
     /// The place of the body of a let of this type: in writing position of an element the whole let is an element.
-    #[tactic(auto, using(crate::proofs::Elements::alike))]
     pub fn of_body(self, ty: &Ty) -> Place
         ensures { place_of result ≡ spec.body_place (place_of self) (ty_of ty.now) }
     {
