@@ -2,3 +2,5 @@ pub mod Shapes
 pub mod Signs
 pub mod Exact
 pub mod Cells
+pub mod Loads
+pub mod Nodes

@@ -9,7 +9,7 @@ use Rattle.lift_ir.specs.Types.{Shape, Scalar, PairOf, ArrayOf, width, component
 use Rattle.lift_ir.specs.Layouts.{Layout, Split, Join, Transpose, Slide, Pad}
 use Rattle.printed_form.specs.Views.{Read, placed_view, index_from, index_in, operand_indices, result_indices}
 use Rattle.index_expr.specs.Expression.{Expression}
-use Rattle.array_views.specs.Formulas.{index_formula}
+use Rattle.length_spelling.specs.Formulas.{index_formula}
 use Rattle.array_views.specs.Arrays.{spelled_shape}
 use Rattle.array_views.specs.Layouts.{spelled_layout}
 

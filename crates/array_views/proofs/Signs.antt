@@ -6,7 +6,7 @@ use Rattle.lift_ir.specs.Layouts.{Layout, Split, Join, Transpose, Slide, Pad}
 use Rattle.printed_form.specs.Views.{Read, index_from, index_in, operand_indices, result_indices}
 use Rattle.index_expr.specs.declared.operation.Operation.TheVariants.{Sum, Product}
 use Rattle.index_expr.specs.Expression.{Expression, Literal, Binary}
-use Rattle.array_views.specs.Formulas.{index_formula}
+use Rattle.length_spelling.specs.Formulas.{index_formula}
 use Rattle.array_views.specs.Arrays.{array_with}
 use Rattle.array_views.specs.Layouts.{flattened, parted, to_operand, to_result}
 use Rattle.array_views.specs.Views as view

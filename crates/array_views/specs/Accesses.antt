@@ -7,8 +7,8 @@ use Rattle.index_expr.specs.declared.operation.Operation.TheVariants.{Sum, Produ
 use Rattle.index_expr.specs.Expression.{Expression, Literal, Binary, expression_of}
 use Rattle.array_views.specs.declared.access.Cell.{Cell}
 use Rattle.array_views.specs.declared.access.Access.{Access}
-use Rattle.array_views.specs.declared.access.Access as access
-use Rattle.array_views.specs.Formulas.{index_formula}
+use Rattle.array_views.specs.declared.access.Access.TheVariants as access
+use Rattle.length_spelling.specs.Formulas.{index_formula}
 use Rattle.array_views.specs.Arrays.{array_with}
 use Rattle.array_views.specs.Layouts.{to_operand, to_result}
 use Rattle.array_views.specs.Views as view

@@ -6,7 +6,6 @@ use Rattle.kernel_tree.specs.Code as code
 use Rattle.kernel_tree.specs.Code.{Array}
 use Rattle.lift_ir.specs.Types.{Shape, Scalar, PairOf, ArrayOf}
 use Rattle.index_expr.specs.Expression.{Expression, Literal, expression_of}
-use Rattle.index_expr.specs.Lengths.{length_expression}
 use Rattle.array_views.specs.declared.array.ArrayKind.{ArrayKind}
 use Rattle.array_views.specs.declared.array.ArrayKind.TheVariants as kind
 use Rattle.array_views.specs.declared.extent.Extent.{Extent}

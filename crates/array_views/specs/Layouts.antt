@@ -5,7 +5,7 @@ use Rattle.lift_ir.specs.Layouts as ir
 use Rattle.index_expr.specs.declared.operation.Operation.TheVariants.{Sum, Difference, Product, Quotient, Remainder, Least, Greatest}
 use Rattle.index_expr.specs.Expression.{Expression, Literal, Binary, expression_of}
 use Rattle.array_views.specs.declared.layout.Layout.{Layout}
-use Rattle.array_views.specs.declared.layout.Layout as layout
+use Rattle.array_views.specs.declared.layout.Layout.TheVariants as layout
 
 abbrev pub layout_in : Layout → ir.Layout Expression
 layout_in (layout.Split m) = ir.Split (expression_of m)

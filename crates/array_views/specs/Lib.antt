@@ -1,4 +1,3 @@
-pub mod Formulas
 pub mod Stacks
 pub mod Arrays
 pub mod Layouts
@@ -6,3 +5,4 @@ pub mod Views
 pub mod Accesses
 pub mod Cells
 pub mod Promises
+pub mod NodeCounts

@@ -14,7 +14,7 @@ use Rattle.array_views.specs.declared.load_set.LoadSet as load
 use Rattle.array_views.specs.declared.node.Node.{Node}
 use Rattle.array_views.specs.declared.node.Node as node
 use Rattle.array_views.specs.declared.view.View as held
-use Rattle.array_views.specs.Formulas.{index_formula}
+use Rattle.length_spelling.specs.Formulas.{index_formula}
 use Rattle.array_views.specs.Arrays.{array_with, extent_of}
 use Rattle.array_views.specs.Layouts.{layout_in}
 

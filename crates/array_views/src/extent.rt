@@ -6,13 +6,14 @@ ghost use Rattle.lift_ir.specs.AtLaunch.{length_at, shape_of, ty_at};
 ghost use Rattle.lift_ir.specs.Types.{width, component, IsShort};
 ghost use Rattle.index_expr.specs.declared.operation.Operation.TheVariants.{Sum, Product};
 ghost use Rattle.index_expr.specs.Expression.{Binary, Literal, expression_of};
-ghost use Rattle.index_expr.specs.Lengths.{length_expression};
+ghost use Rattle.length_spelling.specs.Formulas.{spelled_length};
 ghost use Rattle.array_views.specs.Arrays.{extent_of, spelled_shape};
 ghost use Rattle.array_views.specs.Stacks.{indices_in};
 ghost use Rattle.array_views.specs.Accesses.{row_major, row_major_from};
 
 use crate::stack::{IndexStack, PairStack};
-use index_expr::{Index, Operation, length_index};
+use index_expr::{Index, Operation};
+use length_spelling::spelled_length;
 use lift_tree::ty::Ty;
 use size_arith::{Names, Poly, Sizes};
 use std::alloc::{AllocError, Global};
@@ -30,7 +31,7 @@ impl Extent {
     /// A type, its lengths spelled over the sizes.
     pub fn spelled(alloc: Global, names: &Names, ty: &Ty) -> Result<Self, AllocError>
         ensures { IfOk result (λ e. extent_of e
-            ≡ spelled_shape (length_expression names.now) (shape_of (ty_of ty.now))) }
+            ≡ spelled_shape (spelled_length names.now) (shape_of (ty_of ty.now))) }
     {
         match ty {
             Ty::Number => Ok(Extent::Scalar),
@@ -40,7 +41,7 @@ impl Extent {
             }
             Ty::Array(element, length) => {
                 let element = Box::new(alloc, Extent::spelled(alloc, names, element)?)?;
-                Ok(Extent::Array(length_index(alloc, length, names)?, element))
+                Ok(Extent::Array(spelled_length(alloc, length, names)?, element))
             }
         }
     }
@@ -76,6 +77,7 @@ impl Extent {
     }
 
     /// The number of the component that is chosen, from left to right.
+    #[tactic(auto, using(crate::proofs::Shapes::some_width))]
     pub fn component(&self, choices: &mut PairStack) -> u32
         requires { width (extent_of self.now) ≤ 2 ^ 32 }
         ensures value { result ≡ component (extent_of self.now) choices.old }
@@ -94,7 +96,8 @@ impl Extent {
 
     /// The index of an element in row-major order: the index alone for an array of one dimension.
     pub fn row_major(&self, alloc: Global, indices: &mut IndexStack) -> Result<Index, AllocError>
-        ensures { IfOk result (λ i. expression_of i ≡ row_major (extent_of self.now) (indices_in indices.old)) }
+        ensures { IfOk result (λ i. expression_of i
+            ≡ row_major (extent_of self.now) (indices_in indices.old)) }
     {
         match self {
             Extent::Scalar | Extent::Pair(_, _) => Ok(Index::Literal(0)),

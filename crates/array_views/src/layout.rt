@@ -5,13 +5,14 @@ ghost use Rattle.lift_tree.specs.declared.term.UnaryForm.{UnaryForm};
 ghost use Rattle.lift_tree.specs.Types.{ty_of};
 ghost use Rattle.lift_ir.specs.AtLaunch.{inner_of, layout_of, outer_of};
 ghost use Rattle.index_expr.specs.Expression.{Literal, expression_of};
-ghost use Rattle.index_expr.specs.Lengths.{length_expression};
+ghost use Rattle.length_spelling.specs.Formulas.{spelled_length};
 ghost use Rattle.array_views.specs.Stacks.{indices_in};
 ghost use Rattle.array_views.specs.Layouts.{layout_in, spelled_layout, flattened, parted, swapped, clamped, to_operand, to_result};
 
 use crate::extent::flat_index;
 use crate::stack::IndexStack;
-use index_expr::{Index, Operation, length_index};
+use index_expr::{Index, Operation};
+use length_spelling::spelled_length;
 use lift_tree::term::UnaryForm;
 use lift_tree::ty::Ty;
 use size_arith::Names;
@@ -47,7 +48,7 @@ impl Layout {
         ty: &Ty,
         operand: &Ty,
     ) -> Result<Self, AllocError>
-        ensures { IfOk result (λ y. layout_in y ≡ spelled_layout (length_expression names.now)
+        ensures { IfOk result (λ y. layout_in y ≡ spelled_layout (spelled_length names.now)
             (layout_of form.now (ty_of ty.now) (ty_of operand.now))) }
     {
         match form {
@@ -68,7 +69,8 @@ impl Layout {
 
     /// Makes of indices in the result those in the operand.
     pub fn to_operand(&self, alloc: Global, indices: &mut IndexStack) -> Result<(), AllocError>
-        ensures { OnOk result (indices_in indices.new ≡ to_operand (layout_in self.now) (indices_in indices.old)) }
+        ensures { OnOk result (indices_in indices.new
+            ≡ to_operand (layout_in self.now) (indices_in indices.old)) }
     {
         match self {
             Layout::Split(length) => flatten(alloc, length, indices),
@@ -81,7 +83,8 @@ impl Layout {
 
     /// Makes of indices in the operand those in the result, for join, split and transpose.
     pub fn to_result(&self, alloc: Global, indices: &mut IndexStack) -> Result<(), AllocError>
-        ensures { OnOk result (indices_in indices.new ≡ to_result (layout_in self.now) (indices_in indices.old)) }
+        ensures { OnOk result (indices_in indices.new
+            ≡ to_result (layout_in self.now) (indices_in indices.old)) }
     {
         match self {
             Layout::Split(length) => part(alloc, length, indices),
@@ -94,7 +97,8 @@ impl Layout {
 
 // The length of an array's rows; 0 where there are none.
 fn inner_length(alloc: Global, names: &Names, ty: &Ty) -> Result<Index, AllocError>
-    ensures { IfOk result (λ n. expression_of n ≡ length_expression names.now (inner_of (ty_of ty.now))) }
+    ensures { IfOk result (λ n. expression_of n
+        ≡ spelled_length names.now (inner_of (ty_of ty.now))) }
 {
     match ty {
         Ty::Array(rows, _) => outer_length(alloc, names, rows),
@@ -104,17 +108,19 @@ fn inner_length(alloc: Global, names: &Names, ty: &Ty) -> Result<Index, AllocErr
 
 // The length of an array; 0 of what is none.
 fn outer_length(alloc: Global, names: &Names, ty: &Ty) -> Result<Index, AllocError>
-    ensures { IfOk result (λ n. expression_of n ≡ length_expression names.now (outer_of (ty_of ty.now))) }
+    ensures { IfOk result (λ n. expression_of n
+        ≡ spelled_length names.now (outer_of (ty_of ty.now))) }
 {
     match ty {
-        Ty::Array(_, length) => length_index(alloc, length, names),
+        Ty::Array(_, length) => spelled_length(alloc, length, names),
         Ty::Number | Ty::Pair(_, _) => Ok(Index::Literal(0)),
     }
 }
 
 // Row and index in it become the index in all rows.
 fn flatten(alloc: Global, length: &Index, indices: &mut IndexStack) -> Result<(), AllocError>
-    ensures { OnOk result (indices_in indices.new ≡ flattened (expression_of length.now) (indices_in indices.old)) }
+    ensures { OnOk result (indices_in indices.new
+        ≡ flattened (expression_of length.now) (indices_in indices.old)) }
 {
     let Some(row) = indices.pop() else {
         return Ok(());
@@ -127,7 +133,8 @@ fn flatten(alloc: Global, length: &Index, indices: &mut IndexStack) -> Result<()
 
 // An index becomes the row and the index in it.
 fn part(alloc: Global, length: &Index, indices: &mut IndexStack) -> Result<(), AllocError>
-    ensures { OnOk result (indices_in indices.new ≡ parted (expression_of length.now) (indices_in indices.old)) }
+    ensures { OnOk result (indices_in indices.new
+        ≡ parted (expression_of length.now) (indices_in indices.old)) }
 {
     let Some(index) = indices.pop() else {
         return Ok(());
@@ -164,7 +171,8 @@ fn clamp(
     length: &Index,
     indices: &mut IndexStack,
 ) -> Result<(), AllocError>
-    ensures { OnOk result (indices_in indices.new ≡ clamped (Literal left) (expression_of length.now) (indices_in indices.old)) }
+    ensures { OnOk result (indices_in indices.new
+        ≡ clamped (Literal left) (expression_of length.now) (indices_in indices.old)) }
 {
     let Some(index) = indices.pop() else {
         return Ok(());

@@ -10,6 +10,7 @@ pub mod laws;
 pub mod layout;
 pub mod load_set;
 pub mod node;
+pub mod placed;
 pub mod stack;
 pub mod view;
 

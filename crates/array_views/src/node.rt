@@ -1,29 +1,19 @@
 // Views as trees that share their parts.
 
-ghost use Rattle.std.specs.Prelude.{◌≡◌, ◌+◌, ◌≤◌, ◌<◌, ◌^◌, IfOk};
-ghost use Rattle.lift_ir.specs.Types.{width};
+ghost use Rattle.std.specs.Prelude.{◌≡◌, IfOk};
 ghost use Rattle.array_views.specs.Stacks.{indices_in};
 ghost use Rattle.array_views.specs.Accesses.{access_at, access_of};
 ghost use Rattle.array_views.specs.Arrays.{extent_of};
-ghost use Rattle.array_views.specs.Views.{Placed, plain_of};
+ghost use Rattle.array_views.specs.Views as plain;
+ghost use Rattle.array_views.specs.Views.{plain_of};
 
 use crate::access::{Access, Cell};
-use crate::array::ArrayKind;
-use crate::extent::Extent;
 use crate::layout::Layout;
+use crate::placed::Placed;
 use crate::stack::{IndexStack, PairStack};
 use index_expr::Index;
 use std::alloc::{AllocError, Global};
 use std::rc::Rc;
-
-/// A value in arrays of one kind, one a component, the first of which has this number.
-#[derive(Drop)]
-pub struct Placed {
-    pub kind: ArrayKind,
-    pub first: u32,
-    pub extent: Extent,
-    pub ghost numbered: { first + width (extent_of extent) ≤ 2 ^ 32 },
-}
 
 /// A node of a view.
 #[derive(Drop)]
@@ -52,7 +42,8 @@ impl Node {
         choices: &mut PairStack,
         indices: &mut IndexStack,
     ) -> Result<Access, AllocError>
-        ensures { IfOk result (λ a. access_of a ≡ access_at (plain_of self.now) choices.old (indices_in indices.old)) }
+        ensures { IfOk result (λ a. access_of a
+            ≡ access_at (plain_of self.now) choices.old (indices_in indices.old)) }
     {
         match self {
             Node::Nothing => Ok(Access::Nothing),
@@ -92,7 +83,7 @@ impl Placed {
         indices: &mut IndexStack,
     ) -> Result<Access, AllocError>
         ensures { IfOk result (λ a. access_of a ≡ access_at
-            (Placed self.now.kind self.now.first (extent_of self.now.extent))
+            (plain.Placed self.now.kind self.now.first (extent_of self.now.extent))
             choices.old (indices_in indices.old)) }
     {
         let index = self.extent.row_major(alloc, indices)?;

@@ -57,7 +57,8 @@ impl PairStack {
 
     /// Takes the choice on top.
     pub fn pop(&mut self) -> Option<bool>
-        ensures { MatchOption result ((self.old ≡ []) × (self.new ≡ [])) (λ c. self.old ≡ c ∷ self.new) }
+        ensures { MatchOption result ((self.old ≡ []) × (self.new ≡ []))
+            (λ c. self.old ≡ c ∷ self.new) }
     {
         self.choices.pop()
     }

@@ -9,10 +9,9 @@ ghost use Rattle.lift_ir.specs.Types.{width, IsShort};
 ghost use Rattle.printed_form.specs.Counts.{load_count};
 ghost use Rattle.printed_form.specs.Views as printed;
 ghost use Rattle.index_expr.specs.Expression.{Literal, expression_of};
-ghost use Rattle.index_expr.specs.Lengths.{length_expression};
 ghost use Rattle.array_views.specs.Accesses.{access_at, access_of, cell_alone, sign_of, target_of};
 ghost use Rattle.array_views.specs.Arrays.{array_with, spelled_shape};
-ghost use Rattle.array_views.specs.Formulas.{index_formula, spelled};
+ghost use Rattle.length_spelling.specs.Formulas.{index_formula, length_formula, spelled_length};
 ghost use Rattle.array_views.specs.Stacks.{indices_in};
 ghost use Rattle.array_views.specs.Layouts.{spelled_layout};
 ghost use Rattle.array_views.specs.Views.{Nothing, Placed, plain_of, Both, Component, At, Reading, Writing, loads_of, plain_in, view_in};
@@ -22,8 +21,8 @@ use crate::array::ArrayKind;
 use crate::extent::Extent;
 use crate::layout::Layout;
 use crate::load_set::LoadSet;
-use crate::node;
 use crate::node::Node;
+use crate::placed;
 use crate::stack::{IndexStack, PairStack};
 use index_expr::Index;
 use lift_tree::term::UnaryForm;
@@ -67,6 +66,7 @@ impl View {
     }
 
     /// A value in buffers of this kind, one a component, the first of which has this number. Its lengths are spelled over the sizes.
+    #[tactic(auto, using(crate::proofs::Shapes::width_spelled))]
     pub fn placed(
         alloc: Global,
         names: &Names,
@@ -76,14 +76,14 @@ impl View {
     ) -> Result<Self, AllocError>
         requires { first + width (shape_of (ty_of ty.now)) ≤ 2 ^ 32 }
         ensures plain { IfOk result (λ v. plain_in v ≡ Placed kind first
-            (spelled_shape (length_expression names.now) (shape_of (ty_of ty.now)))) }
-        ensures view { IfOk result (λ v. view_in v ≡ printed.placed_view (spelled names.now)
+            (spelled_shape (spelled_length names.now) (shape_of (ty_of ty.now)))) }
+        ensures view { IfOk result (λ v. view_in v ≡ printed.placed_view (length_formula names.now)
             (array_with kind) first (shape_of (ty_of ty.now))) }
     {
         let extent = Extent::spelled(alloc, names, ty)?;
         View::new(
             alloc,
-            Node::Placed(node::Placed {
+            Node::Placed(placed::Placed {
                 kind,
                 first,
                 extent,
@@ -92,6 +92,7 @@ impl View {
     }
 
     /// The same of a type whose lengths are numbers, as that of a copy to local or private memory.
+    #[tactic(auto, using(crate::proofs::Shapes::width_spelled))]
     pub fn laid(alloc: Global, kind: ArrayKind, first: u32, ty: &Ty) -> Result<Self, AllocError>
         requires numbered { first + width (ty_at [] (ty_of ty.now)) ≤ 2 ^ 32 }
         requires short { IsShort (ty_at [] (ty_of ty.now)) }
@@ -103,7 +104,7 @@ impl View {
         let extent = Extent::literal(alloc, ty)?;
         View::new(
             alloc,
-            Node::Placed(node::Placed {
+            Node::Placed(placed::Placed {
                 kind,
                 first,
                 extent,
@@ -112,9 +113,11 @@ impl View {
     }
 
     /// An element in private variables, one a component, the first of which has this number.
+    #[tactic(auto, using(crate::proofs::Shapes::some_width))]
     pub fn held(alloc: Global, ty: &Ty, first: u32) -> Result<Self, AllocError>
         requires { first + width (element_ty (ty_of ty.now)) ≤ 2 ^ 32 }
-        ensures { IfOk result (λ v. view_in v ≡ printed.held_view (element_ty (ty_of ty.now)) first) }
+        ensures { IfOk result (λ v. view_in v
+            ≡ printed.held_view (element_ty (ty_of ty.now)) first) }
     {
         match ty {
             Ty::Number | Ty::Array(_, _) => View::new(alloc, Node::Variable(first)),
@@ -128,7 +131,7 @@ impl View {
 
     /// An element, once these of its scalars are loaded into private variables, the first of which has this number.
     pub fn loaded(&self, alloc: Global, loads: &LoadSet, first: u32) -> Result<Self, AllocError>
-        requires { first + load_count (loads_of loads.now) ≤ 2 ^ 32 }
+        requires { first + load_count (loads_of loads.now) < 2 ^ 32 }
         ensures { IfOk result (λ v. view_in v
             ≡ printed.loaded_view (loads_of loads.now) (view_in self.now) first) }
     {
@@ -164,7 +167,8 @@ impl View {
 
     /// The element of an array at an index.
     pub fn at(&self, alloc: Global, index: Index) -> Result<Self, AllocError>
-        ensures plain { IfOk result (λ v. plain_in v ≡ At (expression_of index) (plain_in self.now)) }
+        ensures plain { IfOk result (λ v. plain_in v
+            ≡ At (expression_of index) (plain_in self.now)) }
         ensures view { IfOk result (λ v. view_in v
             ≡ printed.view_at (index_formula (expression_of index)) (view_in self.now)) }
     {
@@ -182,10 +186,11 @@ impl View {
         ty: &Ty,
         operand: &Ty,
     ) -> Result<Self, AllocError>
-        ensures plain { IfOk result (λ v. plain_in v ≡ Reading (spelled_layout (length_expression names.now)
+        ensures plain { IfOk result (λ v. plain_in v
+            ≡ Reading (spelled_layout (spelled_length names.now)
             (layout_of form.now (ty_of ty.now) (ty_of operand.now))) (plain_in self.now)) }
         ensures view { IfOk result (λ v. view_in v ≡ (λ cs is. view_in self.now cs
-            (printed.operand_indices (spelled names.now)
+            (printed.operand_indices (length_formula names.now)
             (layout_of form.now (ty_of ty.now) (ty_of operand.now)) is))) }
     {
         let layout = Layout::of_form(alloc, names, form, ty, operand)?;
@@ -201,10 +206,11 @@ impl View {
         ty: &Ty,
         operand: &Ty,
     ) -> Result<Self, AllocError>
-        ensures plain { IfOk result (λ v. plain_in v ≡ Writing (spelled_layout (length_expression names.now)
+        ensures plain { IfOk result (λ v. plain_in v
+            ≡ Writing (spelled_layout (spelled_length names.now)
             (layout_of form.now (ty_of ty.now) (ty_of operand.now))) (plain_in self.now)) }
         ensures view { IfOk result (λ v. view_in v ≡ (λ cs is. view_in self.now cs
-            (printed.result_indices (spelled names.now)
+            (printed.result_indices (length_formula names.now)
             (layout_of form.now (ty_of ty.now) (ty_of operand.now)) is))) }
     {
         let layout = Layout::of_form(alloc, names, form, ty, operand)?;
@@ -212,13 +218,15 @@ impl View {
     }
 
     /// What stands for the scalar at these pair choices and indices.
+    #[tactic(auto, using(crate::proofs::Signs::sign_is))]
     pub fn access(
         &self,
         alloc: Global,
         mut choices: PairStack,
         mut indices: IndexStack,
     ) -> Result<Access, AllocError>
-        ensures access { IfOk result (λ a. access_of a ≡ access_at (plain_in self.now) choices (indices_in indices)) }
+        ensures access { IfOk result (λ a. access_of a
+            ≡ access_at (plain_in self.now) choices (indices_in indices)) }
         ensures sign { IfOk result (λ a. sign_of (access_of a)
             ≡ view_in self.now choices (map index_formula (indices_in indices))) }
     {
@@ -232,7 +240,8 @@ impl View {
         choices: PairStack,
         indices: IndexStack,
     ) -> Result<Option<Cell>, AllocError>
-        ensures { IfOk result (λ c. target_of c ≡ cell_alone (access_at (plain_in self.now) choices (indices_in indices))) }
+        ensures { IfOk result (λ c. target_of c
+            ≡ cell_alone (access_at (plain_in self.now) choices (indices_in indices))) }
     {
         Ok(self.access(alloc, choices, indices)?.into_cell())
     }

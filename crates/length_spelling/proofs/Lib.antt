@@ -1,3 +1,4 @@
 pub mod Lengths
-pub mod Values
 pub mod Bounds
+pub mod Values
+pub mod Words

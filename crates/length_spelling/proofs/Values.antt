@@ -17,7 +17,7 @@ use Rattle.index_expr.specs.Values.{exact, wrapped, operate_words, Divides, IsWo
 use Rattle.index_expr.specs.Lengths.{length_expression}
 use Rattle.kernel_tree.specs.Formula.{Ids, operate, with_both, value}
 use Rattle.kernel_tree.specs.Grammar.{is_constant}
-use Rattle.length_spelling.specs.Formulas.{operator_of, index_formula}
+use Rattle.length_spelling.specs.Formulas.{in_words, index_formula, operator_of}
 use Rattle.length_spelling.specs.Laws.{AreWords, IndicesAreSpelled, LengthsAreSpelled}
 use Rattle.length_spelling.proofs.Bounds.{lengths_are_constant}
 
@@ -34,12 +34,12 @@ operates Least x y h = refl
 operates Greatest x y h = refl
 
 module _ (ids : Ids) (loops vars : List ℕ) (sizes_fit : AreWords ids.sizes) (loops_fit : AreWords loops) where
-  spelled : (e : Expression) → HasNoZeroDivisorInWordsAt ids.sizes loops e → value ids loops vars (index_formula e) ≡ Some (wrapped ids.sizes loops e)
+  spelled : (e : Expression) → HasNoZeroDivisorInWordsAt ids.sizes loops e → value ids loops vars (index_formula (in_words e)) ≡ Some (wrapped ids.sizes loops e)
   spelled (index.Variable k l g) h = ap Some (sym (mod-eq_of_lt (loops_fit k)))
   spelled (index.Literal n) h = refl
   spelled (index.Size k) h = ap Some (sym (mod-eq_of_lt (sizes_fit k)))
   spelled (index.Binary o a b) h =
-      ap (λ z. with_both (operate (operator_of o)) z (value ids loops vars (index_formula b))) (spelled a h.1)
+      ap (λ z. with_both (operate (operator_of o)) z (value ids loops vars (index_formula (in_words b)))) (spelled a h.1)
       ∙ ap (λ z. with_both (operate (operator_of o)) (Some (wrapped ids.sizes loops a)) z) (spelled b h.2)
       ∙ operates o (wrapped ids.sizes loops a) (wrapped ids.sizes loops b) h.0
 
@@ -69,13 +69,13 @@ second_of false b h = absurd (cc)
 
 -- what has no variables has its value in whatever loops
 module _ (ids : Ids) (loops vars : List ℕ) where
-  constant_value : (e : Expression) → is_constant (index_formula e) ≡ true → value ids loops vars (index_formula e) ≡ value ids [] [] (index_formula e)
+  constant_value : (e : Expression) → is_constant (index_formula (in_words e)) ≡ true → value ids loops vars (index_formula (in_words e)) ≡ value ids [] [] (index_formula (in_words e))
   constant_value (index.Variable k l g) h = absurd (cc)
   constant_value (index.Literal n) h = refl
   constant_value (index.Size k) h = refl
   constant_value (index.Binary o a b) h =
-      ap (λ z. with_both (operate (operator_of o)) z (value ids loops vars (index_formula b))) (constant_value a (first_of (is_constant (index_formula a)) (is_constant (index_formula b)) h))
-      ∙ ap (λ z. with_both (operate (operator_of o)) (value ids [] [] (index_formula a)) z) (constant_value b (second_of (is_constant (index_formula a)) (is_constant (index_formula b)) h))
+      ap (λ z. with_both (operate (operator_of o)) z (value ids loops vars (index_formula (in_words b)))) (constant_value a (first_of (is_constant (index_formula (in_words a))) (is_constant (index_formula (in_words b))) h))
+      ∙ ap (λ z. with_both (operate (operator_of o)) (value ids [] [] (index_formula (in_words a))) z) (constant_value b (second_of (is_constant (index_formula (in_words a))) (is_constant (index_formula (in_words b))) h))
 
 -- what is known of lengths as index expressions
 pub record Exact : Type 0 where

@@ -20,13 +20,23 @@ operator_of Remainder = Rem
 operator_of Least = Min
 operator_of Greatest = Max
 
--- a variable is that of an enclosing loop, and literals are words
+-- its variables are those of the enclosing loops
 abbrev pub index_formula : Expression → Formula
 index_formula (index.Variable k l g) = LoopVariable k
-index_formula (index.Literal n) = Number (n % 2 ^ 32)
+index_formula (index.Literal n) = Number n
 index_formula (index.Size k) = Size k
 index_formula (index.Binary o a b) = Binary (operator_of o) (index_formula a) (index_formula b)
 
--- a length over the sizes
+-- the literals as words
+abbrev pub in_words : Expression → Expression
+in_words (index.Variable k l g) = index.Variable k l g
+in_words (index.Literal n) = index.Literal (n % 2 ^ 32)
+in_words (index.Size k) = index.Size k
+in_words (index.Binary o a b) = index.Binary o (in_words a) (in_words b)
+
+-- a length over the sizes: the expression of a length, which has no literal that isn't a word where it is within the limits of polynomials
+abbrev pub spelled_length : List Name → List Monomial → Expression
+spelled_length names p = in_words (length_expression names p)
+
 abbrev pub length_formula : List Name → List Monomial → Formula
-length_formula names p = index_formula (length_expression names p)
+length_formula names p = index_formula (spelled_length names p)

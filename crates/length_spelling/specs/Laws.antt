@@ -3,23 +3,24 @@ use Rattle.std.specs.Prelude.{ℕ, ◌≡◌, ◌<◌, ◌≤◌, ◌^◌, true,
 use Rattle.size_arith.specs.declared.names.Name.{Name}
 use Rattle.size_arith.specs.declared.poly.Monomial.{Monomial}
 use Rattle.size_arith.specs.Ranges.{AreNames, Admissible, sizes_at}
-use Rattle.size_arith.specs.Polynomial.{degree, value_at}
+use Rattle.size_arith.specs.Polynomial.{AllSmall, degree, value_at}
 use Rattle.index_expr.specs.Expression.{Expression}
 use Rattle.index_expr.specs.Values.{HasNoZeroDivisorInWordsAt, wrapped}
+use Rattle.index_expr.specs.Lengths.{length_expression}
 use Rattle.kernel_tree.specs.Formula.{Formula, Ids, value}
 use Rattle.kernel_tree.specs.Code.{Kernel}
 use Rattle.kernel_tree.specs.Grammar.{height, is_constant, names_declared}
-use Rattle.length_spelling.specs.Formulas.{index_formula, length_formula}
+use Rattle.length_spelling.specs.Formulas.{in_words, index_formula, length_formula, spelled_length}
 
 abbrev pub AreWords : List ℕ → Type 0
 AreWords xs = (k : ℕ) → slice_index xs k < 2 ^ 32
 
--- among words, an index expression is spelled with its value on words
+-- among words, an index expression of words is spelled with its value on words
 abbrev pub IndicesAreSpelled : Type 0
 IndicesAreSpelled =
     (ids : Ids) (loops variables : List ℕ) (e : Expression)
     → AreWords ids.sizes → AreWords loops → HasNoZeroDivisorInWordsAt ids.sizes loops e
-    → value ids loops variables (index_formula e) ≡ Some (wrapped ids.sizes loops e)
+    → value ids loops variables (index_formula (in_words e)) ≡ Some (wrapped ids.sizes loops e)
 
 -- at admissible sizes a length is spelled with its value, in whatever loops
 abbrev pub LengthsAreSpelled : Type 0
@@ -45,3 +46,9 @@ LengthsAreBounds =
     (names : List Name) (k : Kernel) (p : List Monomial)
     → k.sizes ≡ length names → length p ≤ 32 → degree p ≤ 4
     → IsBound k length_height (length_formula names p)
+
+-- a length whose coefficients are within the limit is spelled by its expression as it is
+abbrev pub LengthsAreOfWords : Type 0
+LengthsAreOfWords =
+    (names : List Name) (p : List Monomial) → AreNames names → AllSmall (2 ^ 32) p
+    → spelled_length names p ≡ length_expression names p

@@ -4,4 +4,4 @@
 pub mod laws;
 pub mod spelling;
 
-pub use spelling::{operator_of, spell_index, spell_length};
+pub use spelling::{operator_of, spell_index, spell_length, spelled_length};

@@ -3,7 +3,7 @@
 ghost use Rattle.std.specs.Prelude.{◌≡◌, IfOk};
 ghost use Rattle.index_expr.specs.Expression.{expression_of};
 ghost use Rattle.kernel_tree.specs.Tree.{formula_of};
-ghost use Rattle.length_spelling.specs.Formulas.{index_formula, length_formula, operator_of};
+ghost use Rattle.length_spelling.specs.Formulas.{index_formula, length_formula, operator_of, spelled_length};
 
 use index_expr::{Index, Operation, length_index};
 use kernel_tree::tree::Expr;
@@ -42,11 +42,20 @@ pub fn spell_index(alloc: Global, index: &Index) -> Result<Expr, AllocError>
     }
 }
 
-/// A length over the sizes, in the order of their declarations. It has the length's value at all
-/// admissible sizes.
+/// A length as an index expression over the sizes, in the order of their declarations.
+#[tactic(auto, using(crate::proofs::Words::polynomials_are_of_words))]
+pub fn spelled_length(alloc: Global, length: &Poly, names: &Names) -> Result<Index, AllocError>
+    ensures { IfOk result (λ e. expression_of e ≡ spelled_length names.now length.now) }
+{
+    let _declared = names.as_slice();
+    let _within = length.as_slice();
+    length_index(alloc, length, names)
+}
+
+/// A length over the sizes. It has the length's value at all admissible sizes.
 pub fn spell_length(alloc: Global, length: &Poly, names: &Names) -> Result<Expr, AllocError>
     ensures { IfOk result (λ e. formula_of e ≡ length_formula names.now length.now) }
 {
-    let index = length_index(alloc, length, names)?;
+    let index = spelled_length(alloc, length, names)?;
     spell_index(alloc, &index)
 }

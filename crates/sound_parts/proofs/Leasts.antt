@@ -56,8 +56,8 @@ shifted_is ls (m ∷ p) =
     ap (λ x. (m.coefficient *ℤ pos x) +ℤ shifted ls p (not_raised ls)) (part_is ls m.powers)
     ∙ ap (λ z. (m.coefficient *ℤ pos (product ls m.powers)) +ℤ z) (shifted_is ls p)
 
-one_less : (k : ℕ) (z : ℤ) → k ≡ 1 → pos 0 ≤ℤ (neg_ℤ (pos 1) *ℤ pos k) +ℤ z → pos 1 ≤ℤ z
-one_less k z e h = let g = subst (λ x. pos 0 ≤ℤ (neg_ℤ (pos 1) *ℤ pos x) +ℤ z) e h in omega (arith, ints)
+one_less : (k : ℕ) (z : ℤ) → k ≡ 1 → pos 0 ≤ℤ ((neg_ℤ (pos 1) *ℤ pos k) +ℤ z) → pos 1 ≤ℤ z
+one_less k z e h = let g = subst (λ x. pos 0 ≤ℤ ((neg_ℤ (pos 1) *ℤ pos x) +ℤ z)) e h in omega (arith, ints)
 
 pub at_least_one : (names : List Name) (p : List Monomial) → ShownAtLeast 1 names p → pos 1 ≤ℤ value_at (leasts names) p
 at_least_one names p h =
@@ -65,7 +65,7 @@ at_least_one names p h =
     let none = part_is ls no_powers ∙ product_of_zeros 8 ls in
     let shown = h (not_raised ls) (as_many ls) in
     one_less (part ls no_powers (not_raised ls)) (value_at ls p) none
-    (subst (λ z. pos 0 ≤ℤ (neg_ℤ (pos 1) *ℤ pos (part ls no_powers (not_raised ls))) +ℤ z) (shifted_is ls p) shown)
+    (subst (λ z. pos 0 ≤ℤ ((neg_ℤ (pos 1) *ℤ pos (part ls no_powers (not_raised ls))) +ℤ z)) (shifted_is ls p) shown)
 
 -- ---- an array has a cell
 natural_some : (z : ℤ) → pos 1 ≤ℤ z → 1 ≤ natural z

@@ -1,5 +1,5 @@
 -- The parts of what a typed term is lowered to.
-use Rattle.std.proofs.Common.{◌≡◌, ◌∙◌, ℕ, ◌<◌, ◌≤◌, ◌^◌, Bool, true, false, List, ◌∷◌, length, refl, sym, ap, subst, inl, inr, arith}
+use Rattle.std.proofs.Common.{◌≡◌, ◌∙◌, ℕ, suc, ◌<◌, ◌≤◌, ◌^◌, Bool, true, false, List, [], ◌∷◌, length, refl, sym, ap, subst, inl, inr, arith}
 use Rattle.std.specs.Prelude.{if◌then◌else◌, max}
 use Rattle.std.proofs.lemmas.Option.{slice_get_within}
 use Rattle.size_arith.specs.Ranges.{leasts}
@@ -16,7 +16,7 @@ use Rattle.lift_tree.specs.Typing.{Declared}
 use Rattle.lift_tree.specs.Annotations.{Annotates, Annotation, Leaf, One, Three, Two, type_in}
 use Rattle.lift_ir.specs.Types as ir
 use Rattle.lift_ir.specs.Types.{IsShort, size, Ty}
-use Rattle.lift_ir.specs.Terms.{Copy, LetArray, LetElement, Space, Store}
+use Rattle.lift_ir.specs.Terms.{Copy, LetArray, LetElement, LocalMemory, PrivateMemory, Space, Store}
 use Rattle.lift_ir.specs.AtLaunch.{layout_of, shape_of, ty_at}
 use Rattle.lift_ir.specs.Lowering.{Argument, body_place, Element, element_ty, is_element, lower, lower_let, Lowered, Place, placed, placed_element, value_place, Written}
 use Rattle.lift_ir.specs.Lowerable.{IsElementTerm, IsLowerable, IsStaged}
@@ -41,7 +41,7 @@ short_words (ir.ArrayOf n t) h = let s = h.0 in (omega (arith, s), short_words t
 dimensions_at : (ys : List ℕ) (a : PlainTy) → dimensions (ty_at ys a) ≡ dimensions (shape_of a)
 dimensions_at ys types.U32 = refl
 dimensions_at ys (types.PairOf a b) = ap (λ m. max m (dimensions (ty_at ys b))) (dimensions_at ys a) ∙ ap (λ m. max (dimensions (shape_of a)) m) (dimensions_at ys b)
-dimensions_at ys (types.ArrayOf a n) = ap (λ m. suc m) (dimensions_at ys a)
+dimensions_at ys (types.ArrayOf a n) = ap suc (dimensions_at ys a)
 
 -- ---- where a let is of an element, and where it is one
 value_element : (n : Annotation) → is_element (type_in n) ≡ true → value_place n ≡ Element
@@ -101,7 +101,7 @@ module _ (d : Declared) (inputs : Every (IsGood d.names) d.inputs) where
   element g (tree.Let v b) (Two a n m) y w o =
       let x = moved (value_place n) Element v n (value_element n o.0) (element g v n y.0 w.0 o.1) in
       let z = element (type_in n ∷ g) b m y.1 w.1 o.2 in
-      same_either (is_element a) _ (let_element (type_in n) (lower (value_place n) v n) (lower Element b m) o.0 x z)
+      same_either (is_element a) (lower_let (type_in n) (lower (value_place n) v n) (lower Element b m)) (let_element (type_in n) (lower (value_place n) v n) (lower Element b m) o.0 x z)
   element g _ _ y w o = absurd o
 
   -- an element term that is stored
@@ -139,20 +139,20 @@ module _ (d : Declared) (inputs : Every (IsGood d.names) d.inputs) where
     sound_written g (tree.Let v b) (Two a n m) all y f w l (inl o) =
         let x = moved (value_place n) Element v n (value_element n o.1) (element g v n y.0 w.0 o.2) in
         let z = moved (body_place Written a) Element b m (body_element a o.0) (element (type_in n ∷ g) b m y.1 w.1 o.3) in
-        stored a _ o.0 (let_element (type_in n) (lower (value_place n) v n) (lower (body_place Written a) b m) o.1 x z)
+        stored a (lower_let (type_in n) (lower (value_place n) v n) (lower (body_place Written a) b m)) o.0 (let_element (type_in n) (lower (value_place n) v n) (lower (body_place Written a) b m) o.1 x z)
     sound_written g (tree.Let v b) (Two a n m) all y f w l (inr (inl o)) =
         let x = moved (value_place n) Element v n (value_element n o.1) (element g v n y.0 w.0 o.2) in
         let good = good_in d inputs g v n all y.0 f.0 in
         let under = lowerable_at (body_place Written a) Written b m (body_written a o.0) l.1 in
         let z = moved (body_place Written a) Written b m (body_written a o.0) (sound_written (type_in n ∷ g) b m (good, all) y.1 f.1 w.1 under o.3) in
-        written a _ o.0 (let_element (type_in n) (lower (value_place n) v n) (lower (body_place Written a) b m) o.1 x z)
+        written a (lower_let (type_in n) (lower (value_place n) v n) (lower (body_place Written a) b m)) o.0 (let_element (type_in n) (lower (value_place n) v n) (lower (body_place Written a) b m) o.1 x z)
     sound_written g (tree.Let v b) (Two a n m) all y f w l (inr (inr o)) =
         let value = lowerable_at (value_place n) Argument v n (value_argument n o.1) l.0 in
         let x = moved (value_place n) Argument v n (value_argument n o.1) (sound_argument g v n all y.0 f.0 w.0 value o.2) in
         let good = good_in d inputs g v n all y.0 f.0 in
         let under = lowerable_at (body_place Written a) Written b m (body_written a o.0) l.1 in
         let z = moved (body_place Written a) Written b m (body_written a o.0) (sound_written (type_in n ∷ g) b m (good, all) y.1 f.1 w.1 under o.3) in
-        written a _ o.0 (let_array (type_in n) (lower (value_place n) v n) (lower (body_place Written a) b m) o.1 x z)
+        written a (lower_let (type_in n) (lower (value_place n) v n) (lower (body_place Written a) b m)) o.0 (let_array (type_in n) (lower (value_place n) v n) (lower (body_place Written a) b m) o.1 x z)
     sound_written g (tree.Map j xs b) (Two a n m) all y f w l o =
         let good = good_in d inputs g xs n all y.2 f.0 in (
           outer_held (type_in n) good.held,
@@ -183,9 +183,9 @@ module _ (d : Declared) (inputs : Every (IsGood d.names) d.inputs) where
     sound_argument g (tree.Unary (unary.Pad s k) t) (One a n) all y f w l o =
         ((w.0, outer_held (type_in n) (good_in d inputs g t n all y.0 f.0).held), sound_argument g t n all y.0 f.0 w.1 l.3 o)
     sound_argument g (tree.Unary unary.ToLocal t) (One a n) all y f w l o =
-        copy _ a (lower Written t n) (good_in d inputs g (tree.Unary unary.ToLocal t) (One a n) all y f) o.1 o.2 l.2.1 (sound_written g t n all y.0 f.0 w.1 l.3 o.3)
+        copy LocalMemory a (lower Written t n) (good_in d inputs g (tree.Unary unary.ToLocal t) (One a n) all y f) o.1 o.2 l.2.1 (sound_written g t n all y.0 f.0 w.1 l.3 o.3)
     sound_argument g (tree.Unary unary.ToPrivate t) (One a n) all y f w l o =
-        copy _ a (lower Written t n) (good_in d inputs g (tree.Unary unary.ToPrivate t) (One a n) all y f) o.1 o.2 l.2.1 (sound_written g t n all y.0 f.0 w.1 l.3 o.3)
+        copy PrivateMemory a (lower Written t n) (good_in d inputs g (tree.Unary unary.ToPrivate t) (One a n) all y f) o.1 o.2 l.2.1 (sound_written g t n all y.0 f.0 w.1 l.3 o.3)
     sound_argument g (tree.Binary binary.Zip t u) (Two a n m) all y f w l o =
         (sound_argument g t n all y.0 f.0 w.0 l.1 o.0, sound_argument g u m all y.1 f.1 w.1 l.2 o.1)
     sound_argument g (tree.Let v b) (Two a n m) all y f w l o =
@@ -193,5 +193,5 @@ module _ (d : Declared) (inputs : Every (IsGood d.names) d.inputs) where
         let x = moved (value_place n) Argument v n (value_argument n o.0) (sound_argument g v n all y.0 f.0 w.0 value o.1) in
         let good = good_in d inputs g v n all y.0 f.0 in
         let z = sound_argument (type_in n ∷ g) b m (good, all) y.1 f.1 w.1 l.1 o.2 in
-        same_either (is_element a) _ (let_array (type_in n) (lower (value_place n) v n) (lower Argument b m) o.0 x z)
+        same_either (is_element a) (lower_let (type_in n) (lower (value_place n) v n) (lower Argument b m)) (let_array (type_in n) (lower (value_place n) v n) (lower Argument b m) o.0 x z)
     sound_argument g _ _ all y f w l o = absurd o

@@ -107,7 +107,7 @@ module _ (d : Declared) (inputs : Every (IsGood d.names) d.inputs) where
   good_number : (a : PlainTy) → a ≡ types.U32 → Good a
   good_number a e = subst Good (sym e) (record { formed = tt; held = number_held })
 
-  good_element : (a x : PlainTy) (n : List Monomial) → a ≡ types.ArrayOf x n → Good a → Good x
+  pub good_element : (a x : PlainTy) (n : List Monomial) → a ≡ types.ArrayOf x n → Good a → Good x
   good_element a x n e h = let g = subst Good e h in record { formed = g.formed.1; held = element_held x n g.held }
 
   -- an array that is formed
