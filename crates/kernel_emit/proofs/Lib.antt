@@ -7,3 +7,4 @@ pub mod Blocks
 pub mod Scopes
 pub mod Sizes
 pub mod Lists
+pub mod Copies

@@ -4,11 +4,9 @@ ghost use Rattle.std.specs.Prelude.{◌≡◌, [], IfOk, OnOk};
 ghost use Rattle.kernel_tree.specs.Tree.{array_of, formula_of};
 ghost use Rattle.lift_tree.specs.Types.{ty_of};
 ghost use Rattle.lift_ir.specs.Lowering.{element_ty};
-ghost use Rattle.index_expr.specs.Expression.{expression_of};
 ghost use Rattle.printed_form.specs.Printer as printer;
 ghost use Rattle.printed_form.specs.Views as views;
 ghost use Rattle.array_views.specs.Arrays.{array_with};
-ghost use Rattle.array_views.specs.Formulas.{index_formula, op_of};
 ghost use Rattle.array_views.specs.Views.{loads_of, view_in};
 ghost use Rattle.lowering.specs.Terms.{load_set_of};
 ghost use Rattle.kernel_emit.specs.Blocks.{code_in};
@@ -18,11 +16,10 @@ use crate::block::Block;
 use crate::counts::{load_count, plus};
 use crate::expressions::Part;
 use array_views::{Access, ArrayKind, IndexStack, PairStack, View};
-use index_expr::{Index, Operation};
 use kernel_tree::tree::{Array, Expr, Stmt};
+use length_spelling::spell_index;
 use lift_tree::ty::Ty;
 use lowering::term::LoadSet;
-use scalar_ops::op::Op;
 use std::alloc::{AllocError, Global};
 
 fn array_at(kind: ArrayKind, number: u32) -> Array
@@ -36,48 +33,14 @@ fn array_at(kind: ArrayKind, number: u32) -> Array
     }
 }
 
-fn operator(operation: Operation) -> Op
-    ensures { result ≡ op_of operation }
-{
-    match operation {
-        Operation::Sum => Op::Add,
-        Operation::Difference => Op::Sub,
-        Operation::Product => Op::Mul,
-        Operation::Quotient => Op::Div,
-        Operation::Remainder => Op::Rem,
-        Operation::Least => Op::Min,
-        Operation::Greatest => Op::Max,
-    }
-}
-
-/// An index expression, as an expression of the kernel.
-pub fn spelled(alloc: Global, index: &Index) -> Result<Expr, AllocError>
-    ensures { IfOk result (λ e. formula_of e ≡ index_formula (expression_of index.now)) }
-{
-    match index {
-        Index::Variable { number, .. } => Ok(Expr::LoopVariable(*number)),
-        Index::Literal(number) => Ok(Expr::Number(*number)),
-        Index::Size(number) => Ok(Expr::Size(*number)),
-        Index::Binary(operation, a, b) => {
-            let a = spelled(alloc, a)?;
-            Expr::binary(alloc, operator(*operation), a, spelled(alloc, b)?)
-        }
-    }
-}
-
 // Stores a number where the view says.
-fn put_store(
-    alloc: Global,
-    target: &View,
-    value: Expr,
-    block: &mut Block,
-) -> Result<(), AllocError>
+fn put_store(alloc: Global, target: &View, value: Expr, block: &mut Block) -> Result<(), AllocError>
     ensures { OnOk result (code_in block.new
         ≡ printer.print_store (view_in target.now [] []) (formula_of value) (code_in block.old)) }
 {
     match target.access(alloc, PairStack::new(alloc), IndexStack::new(alloc))? {
         Access::InCell(cell) => {
-            let index = spelled(alloc, &cell.index)?;
+            let index = spell_index(alloc, &cell.index)?;
             block.put(Stmt::Store(array_at(cell.kind, cell.array), index, value))
         }
         Access::Nothing | Access::Variable(_) => Ok(()),
@@ -96,7 +59,7 @@ fn put_load(
 {
     match source.access(alloc, PairStack::new(alloc), IndexStack::new(alloc))? {
         Access::InCell(cell) => {
-            let index = spelled(alloc, &cell.index)?;
+            let index = spell_index(alloc, &cell.index)?;
             block.put(Stmt::Load(variable, array_at(cell.kind, cell.array), index))
         }
         Access::Nothing | Access::Variable(_) => Ok(()),
@@ -162,12 +125,7 @@ fn viewed_loads(alloc: Global, loads: &LoadSet) -> Result<array_views::LoadSet, 
 }
 
 /// What stands for an element once these of its components are loaded.
-pub fn loaded(
-    alloc: Global,
-    loads: &LoadSet,
-    source: &View,
-    first: u32,
-) -> Result<View, AllocError>
+pub fn loaded(alloc: Global, loads: &LoadSet, source: &View, first: u32) -> Result<View, AllocError>
     ensures { IfOk result (λ v. view_in v
         ≡ views.loaded_view (load_set_of loads.now) (view_in source.now) first) }
 {

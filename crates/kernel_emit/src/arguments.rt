@@ -9,7 +9,7 @@ ghost use Rattle.array_views.specs.Arrays.{array_with};
 ghost use Rattle.printed_form.specs.Printer as printer;
 ghost use Rattle.printed_form.specs.Programs as programs;
 ghost use Rattle.printed_form.specs.Views as views;
-ghost use Rattle.array_views.specs.Formulas.{spelled};
+ghost use Rattle.length_spelling.specs.Formulas.{length_formula};
 ghost use Rattle.array_views.specs.Views.{view_in};
 ghost use Rattle.lowering.specs.Terms.{term_of};
 ghost use Rattle.kernel_emit.specs.Copies.{HasShortCopies};
@@ -39,7 +39,7 @@ fn placed(
     first: u32,
     ty: &Ty,
 ) -> Result<View, AllocError>
-    ensures { IfOk result (λ v. view_in v ≡ views.placed_view (spelled names.now)
+    ensures { IfOk result (λ v. view_in v ≡ views.placed_view (length_formula names.now)
         (array_with kind) first (shape_of (ty_of ty.now))) }
 {
     plus(first, width(ty)?)?;
@@ -48,7 +48,7 @@ fn placed(
 
 /// What stands for the output.
 pub fn output(alloc: Global, names: &Names, ty: &Ty) -> Result<View, AllocError>
-    ensures { IfOk result (λ v. view_in v ≡ views.placed_view (spelled names.now)
+    ensures { IfOk result (λ v. view_in v ≡ views.placed_view (length_formula names.now)
         Output 0 (shape_of (ty_of ty.now))) }
 {
     placed(alloc, names, ArrayKind::Output, 0, ty)
@@ -62,7 +62,7 @@ fn input(
     inputs: &[Ty],
     number: u32,
 ) -> Result<View, AllocError>
-    ensures { IfOk result (λ v. view_in v ≡ views.placed_view (spelled names.now) Input
+    ensures { IfOk result (λ v. view_in v ≡ views.placed_view (length_formula names.now) Input
         (first + programs.first_buffer (map ty_of inputs.now) number)
         (programs.input_shape (map ty_of inputs.now) number)) }
 {
@@ -124,7 +124,13 @@ pub fn argument(
         Term::Second(a) => argument(alloc, declared, scope, first, a)?.component(alloc, true),
         Term::Reshape(layout, a) => {
             let a = argument(alloc, declared, scope, first, a)?;
-            a.reading(alloc, declared.names, &layout.form, &layout.ty, &layout.operand)
+            a.reading(
+                alloc,
+                declared.names,
+                &layout.form,
+                &layout.ty,
+                &layout.operand,
+            )
         }
         Term::LetArray(value, body) => {
             let second = plus(first, private_count(value)?)?;

@@ -95,12 +95,7 @@ pub fn let_variables(term: &Term) -> Result<u32, AllocError>
 }
 
 // How many private variables a fold has besides those of its array.
-fn fold_variables(
-    loads: &LoadSet,
-    ty: &Ty,
-    start: &Term,
-    body: &Term,
-) -> Result<u32, AllocError>
+fn fold_variables(loads: &LoadSet, ty: &Ty, start: &Term, body: &Term) -> Result<u32, AllocError>
     ensures { IfOk result (λ n. n ≡ spec.let_variables (term_of start.now)
         + (types.width (element_ty (ty_of ty.now)) + (spec.load_count (load_set_of loads.now)
         + (spec.let_variables (term_of body.now) + spec.temporaries (element_ty (ty_of ty.now)))))) }
@@ -131,7 +126,10 @@ pub fn variable_count(term: &Term) -> Result<u32, AllocError>
             plus(variable_count(array)?, rest)
         }
         Term::Fold(_, loads, ty, array, start, body) => {
-            plus(variable_count(array)?, fold_variables(loads, ty, start, body)?)
+            plus(
+                variable_count(array)?,
+                fold_variables(loads, ty, start, body)?,
+            )
         }
         Term::Store(_, a) => let_variables(a),
         Term::Literal(_)
@@ -148,10 +146,8 @@ pub fn private_count(term: &Term) -> Result<u32, AllocError>
     ensures { IfOk result (λ n. n ≡ spec.private_count (term_of term.now)) }
 {
     match term {
-        Term::Pair(a, b)
-        | Term::Zip(a, b)
-        | Term::LetArray(a, b)
-        | Term::Map(_, _, _, a, b) => plus(private_count(a)?, private_count(b)?),
+        Term::Pair(a, b) | Term::Zip(a, b) | Term::LetArray(a, b) | Term::Map(_, _, _, a, b) =>
+            plus(private_count(a)?, private_count(b)?),
         Term::First(a)
         | Term::Second(a)
         | Term::Reshape(_, a)

@@ -65,7 +65,13 @@ pub fn put_moved(
 {
     let values = held(alloc, ty, from)?;
     let scope = Scope::Bound(&values, &Scope::Empty);
-    put_assigned(alloc, ty, &Part::Whole(&scope, 0, &Term::Bound(0)), to, block)
+    put_assigned(
+        alloc,
+        ty,
+        &Part::Whole(&scope, 0, &Term::Bound(0)),
+        to,
+        block,
+    )
 }
 
 /// Assigns a new accumulator, of a pair through temporaries, the first of which is variable `temporary`.
@@ -121,7 +127,13 @@ pub fn put_element(
             let next = plus(variable, element_width(ty)?)?;
             let bound = held(alloc, ty, variable)?;
             put_element(alloc, &Scope::Bound(&bound, scope), next, body, block)?;
-            put_assigned(alloc, ty, &Part::Whole(scope, first, value), variable, block)?;
+            put_assigned(
+                alloc,
+                ty,
+                &Part::Whole(scope, first, value),
+                variable,
+                block,
+            )?;
             put_element(alloc, scope, first, value, block)
         }
         Term::Literal(_)

@@ -25,8 +25,22 @@ fn operation(alloc: Global, op: Op, a: Expr, b: Expr) -> Result<Expr, AllocError
         (λ e. formula_of e ≡ spec.operation op (formula_of a) (formula_of b)) }
 {
     match op {
-        Op::Lt => Expr::choose(alloc, Comparison::Less, a, b, Expr::Number(1), Expr::Number(0)),
-        Op::Eq => Expr::choose(alloc, Comparison::Equal, a, b, Expr::Number(1), Expr::Number(0)),
+        Op::Lt => Expr::choose(
+            alloc,
+            Comparison::Less,
+            a,
+            b,
+            Expr::Number(1),
+            Expr::Number(0),
+        ),
+        Op::Eq => Expr::choose(
+            alloc,
+            Comparison::Equal,
+            a,
+            b,
+            Expr::Number(1),
+            Expr::Number(0),
+        ),
         Op::Add
         | Op::Mul
         | Op::Min
@@ -143,9 +157,7 @@ pub fn component(
         Term::Pair(a, b) | Term::Zip(a, b) => match choices.pop() {
             None => Ok(None),
             Some(false) => component(alloc, scope, first, a, choices),
-            Some(true) => {
-                component(alloc, scope, plus(first, let_variables(a)?)?, b, choices)
-            }
+            Some(true) => { component(alloc, scope, plus(first, let_variables(a)?)?, b, choices) }
         },
         Term::First(a) => {
             choices.push(false)?;
@@ -184,11 +196,7 @@ pub enum Part<'p> {
 
 impl<'p> Part<'p> {
     // The expression of a component of the part.
-    fn component(
-        &self,
-        alloc: Global,
-        mut choices: PairStack,
-    ) -> Result<Option<Expr>, AllocError>
+    fn component(&self, alloc: Global, mut choices: PairStack) -> Result<Option<Expr>, AllocError>
         ensures { IfOk result
             (λ e. option_map formula_of e ≡ parts_of self.now choices) }
     {

@@ -10,7 +10,7 @@ ghost use Rattle.lift_tree.specs.Types.{ty_of};
 ghost use Rattle.lift_ir.specs.AtLaunch.{shape_of};
 ghost use Rattle.printed_form.specs.Printer as printer;
 ghost use Rattle.printed_form.specs.Programs as programs;
-ghost use Rattle.array_views.specs.Formulas.{spelled};
+ghost use Rattle.length_spelling.specs.Formulas.{length_formula};
 ghost use Rattle.lowering.specs.Terms.{term_of};
 ghost use Rattle.kernel_emit.specs.Copies.{HasShortCopies};
 ghost use Rattle.kernel_emit.specs.Inputs.{spell_in};
@@ -58,7 +58,7 @@ fn statements(
 pub fn emit(alloc: Global, lowered: &Lowered) -> Result<Kernel, AllocError>
     requires { IsEmittable (declared_of lowered.now)
         (tree_of lowered.now.term) (annotation_of lowered.now.types) }
-    ensures { IfOk result (λ k. kernel_of k ≡ programs.printed_kernel (spelled lowered.now.names)
+    ensures { IfOk result (λ k. kernel_of k ≡ programs.printed_kernel (length_formula lowered.now.names)
         (declared_of lowered.now) (tree_of lowered.now.term) (annotation_of lowered.now.types)) }
 {
     let term = lower(alloc, &lowered.term, &lowered.types)?;

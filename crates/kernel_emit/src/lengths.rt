@@ -98,10 +98,7 @@ fn add_lengths(
         ≡ lengths.old.items ++ spec.copy_lengths (space_of space) (term_of term.now)) }
 {
     match term {
-        Term::Pair(a, b)
-        | Term::Zip(a, b)
-        | Term::LetArray(a, b)
-        | Term::Map(_, _, _, a, b) => {
+        Term::Pair(a, b) | Term::Zip(a, b) | Term::LetArray(a, b) | Term::Map(_, _, _, a, b) => {
             add_lengths(space, a, none, lengths)?;
             add_lengths(space, b, none, lengths)
         }

@@ -11,7 +11,6 @@ ghost use Rattle.printed_form.specs.Counts.{let_variables};
 ghost use Rattle.printed_form.specs.Form as form;
 ghost use Rattle.printed_form.specs.Printer as printer;
 ghost use Rattle.printed_form.specs.Views.{held_sign, held_view, view_at};
-ghost use Rattle.array_views.specs.Formulas as formulas;
 ghost use Rattle.array_views.specs.Views.{view_in};
 ghost use Rattle.lowering.specs.Terms.{kind_of, load_set_of, term_of};
 ghost use Rattle.kernel_emit.specs.Blocks.{code_in};
@@ -19,19 +18,22 @@ ghost use Rattle.kernel_emit.specs.Copies.{HasShortCopies};
 ghost use Rattle.kernel_emit.specs.Inputs.{inputs_in, spell_in};
 ghost use Rattle.kernel_emit.specs.Scopes.{scope_of};
 
-use crate::accesses::{loaded, put_loaded, put_stored, spelled};
+use crate::accesses::{loaded, put_loaded, put_stored};
 use crate::arguments::{Declared, argument, private};
 use crate::block::Block;
-use crate::counts::{element_width, let_variables, load_count, plus, private_count, variable_count};
+use crate::counts::{
+    element_width, let_variables, load_count, plus, private_count, variable_count,
+};
 use crate::elements::{held, put_assigned, put_element, put_reassigned};
 use crate::expressions::Part;
 use crate::scope::Scope;
 use array_views::View;
-use index_expr::{Index, length_index};
+use index_expr::Index;
 use kernel_tree::tree::{Expr, Start, Stride};
+use length_spelling::spell_length;
 use lift_tree::ty::Ty;
 use lowering::term::{Kind, LoadSet, Space, Term};
-use size_arith::{Names, Poly};
+use size_arith::Poly;
 use std::alloc::{AllocError, Global};
 
 /// Where code stands: within so many loops, with these binders in scope, and with the numbers of the first private array and of the first private variable that aren't taken.
@@ -63,13 +65,6 @@ fn stride_of(kind: Kind) -> Stride
         Kind::Local => Stride::LocalSize,
         Kind::Sequential => Stride::One,
     }
-}
-
-fn length(alloc: Global, length: &Poly, names: &Names) -> Result<Expr, AllocError>
-    ensures { IfOk result (λ e. tree.formula_of e ≡ formulas.spelled names.now length.now) }
-{
-    let index = length_index(alloc, length, names)?;
-    spelled(alloc, &index)
 }
 
 // The element at the turn of the loop that stands within so many others.
@@ -147,11 +142,26 @@ fn put_fold(
 {
     let accumulator = plus(site.variable, let_variables(start)?)?;
     let mut turn = Block::new(alloc);
-    put_fold_turn(alloc, site.scope, loads, ty, element, accumulator, body, &mut turn)?;
+    put_fold_turn(
+        alloc,
+        site.scope,
+        loads,
+        ty,
+        element,
+        accumulator,
+        body,
+        &mut turn,
+    )?;
     let values = held(alloc, ty, accumulator)?;
     let scope = Scope::Bound(&values, &Scope::Empty);
     let result = Term::Bound(0);
-    put_stored(alloc, ty, &Part::Whole(&scope, 0, &result), &at_first(alloc, target)?, block)?;
+    put_stored(
+        alloc,
+        ty,
+        &Part::Whole(&scope, 0, &result),
+        &at_first(alloc, target)?,
+        block,
+    )?;
     block.put_loop(Start::Zero, length, Stride::One, turn)?;
     let start_value = Part::Whole(site.scope, site.variable, start);
     put_assigned(alloc, ty, &start_value, accumulator, block)?;
@@ -249,7 +259,7 @@ fn put_map(
     let target = at_turn(alloc, target, site.depth)?;
     put_written(alloc, declared, &inner, body, &target, &mut turn)?;
     put_loaded(alloc, loads, &element, first_load, &mut turn)?;
-    let bound = length(alloc, count, declared.names)?;
+    let bound = spell_length(alloc, count, declared.names)?;
     block.put_loop(start_of(kind), bound, stride_of(kind), turn)?;
     put_argument(alloc, declared, site, array, block)
 }
@@ -315,8 +325,10 @@ pub fn put_written(
                 variable: plus(site.variable, variable_count(array)?)?,
                 ..*site
             };
-            let bound = length(alloc, count, declared.names)?;
-            put_fold(alloc, &after, bound, loads, ty, &element, start, body, target, block)?;
+            let bound = spell_length(alloc, count, declared.names)?;
+            put_fold(
+                alloc, &after, bound, loads, ty, &element, start, body, target, block,
+            )?;
             put_argument(alloc, declared, site, array, block)
         }
         Term::Literal(_)
