@@ -9,12 +9,12 @@ use Rattle.array_views.specs.Accesses.{PlainAccess, access_at}
 
 -- i * m + j
 abbrev pub flattened_nodes : (length : ℕ) → List ℕ → List ℕ
-flattened_nodes m (i ∷ j ∷ p) = i + m + 1 + j + 1 ∷ p
+flattened_nodes m (i ∷ j ∷ p) = (i + m + 1 + j + 1) ∷ p
 flattened_nodes m p = p
 
 -- i / m and i % m
 abbrev pub parted_nodes : (length : ℕ) → List ℕ → List ℕ
-parted_nodes m (i ∷ p) = i + m + 1 ∷ i + m + 1 ∷ p
+parted_nodes m (i ∷ p) = (i + m + 1) ∷ (i + m + 1) ∷ p
 parted_nodes m p = p
 
 abbrev pub swapped_nodes : List ℕ → List ℕ
@@ -23,7 +23,7 @@ swapped_nodes p = p
 
 -- min(max(i, l) - l, n - 1)
 abbrev pub clamped_nodes : (length : ℕ) → List ℕ → List ℕ
-clamped_nodes n (i ∷ p) = i + 1 + 1 + 1 + 1 + (n + 1 + 1) + 1 ∷ p
+clamped_nodes n (i ∷ p) = (i + 1 + 1 + 1 + 1 + (n + 1 + 1) + 1) ∷ p
 clamped_nodes n p = p
 
 abbrev pub operand_nodes : Layout Expression → List ℕ → List ℕ
