@@ -1,6 +1,7 @@
 -- Statements that are held from the last to the first.
 use Rattle.std.proofs.Common.{◌≡◌, List, [], ◌∷◌, ◌++◌, refl, ap, sym, ◌∙◌}
 use Rattle.std.specs.Prelude.{Vec, reverse}
+use Rattle.std.proofs.lemmas.List.{reverse-append}
 use Rattle.std.specs.Global.{Global}
 use Rattle.kernel_tree.specs.declared.tree.Expr.{Expr}
 use Rattle.kernel_tree.specs.declared.tree.Start.{Start}
@@ -22,7 +23,7 @@ over (x ∷ xs) ys rest = ap (before x) (over xs ys rest)
 
 pub turned : (xs : List Stmt) (rest : Code) → code_then (reverse xs) rest ≡ code_from xs rest
 turned [] rest = refl
-turned (x ∷ xs) rest = over (reverse xs) (x ∷ []) rest ∙ turned xs (before x rest)
+turned (x ∷ xs) rest = ap (λ ys. code_then ys rest) (reverse-append (x ∷ []) xs) ∙ (over (reverse xs) (x ∷ []) rest ∙ turned xs (before x rest))
 
 -- a loop over such statements
 pub looped : (s : Start) (b : Expr) (c : Stride) (body : Vec Stmt Global) (rest code : Code) → code_then body.items End ≡ code → before (Loop s b c body) rest ≡ Loops (start_of s) (formula_of b) (stride_of c) code rest

@@ -8,3 +8,4 @@ pub mod Scopes
 pub mod Sizes
 pub mod Lists
 pub mod Copies
+pub mod Kernels

@@ -1,5 +1,5 @@
 -- What is printed is the map's kernel, and one of the kernel grammar.
-use Rattle.std.proofs.Common.{◌≡◌, ◌∙◌, ◌<◌, ◌^◌, ℕ, List, [], ◌∷◌, ◌++◌, ap, true, refl}
+use Rattle.std.proofs.Common.{◌≡◌, ◌∙◌, ◌<◌, ◌^◌, ℕ, List, [], ◌∷◌, ◌++◌, ap, true, refl, length, lit<}
 use Rattle.std.specs.Prelude.{Vec}
 use Rattle.std.specs.Global.{Global}
 use Rattle.std.proofs.lemmas.Bool.{lt-ltb}
@@ -19,11 +19,14 @@ printed before xs turn addend empty pushed body =
     let only : xs ≡ Loop start.Zero (expr.Size 0) stride.One turn ∷ [] = pushed ∙ ap (λ ys. ys ++ Loop start.Zero (expr.Size 0) stride.One turn ∷ []) empty in
     ap (λ ys. code_then ys End) only ∙ before-Loop start.Zero (expr.Size 0) stride.One turn End ∙ ap (λ c. Loops FromZero (Size 0) ByOne c End) body
 
--- a body with the code of the map's kernel makes that kernel
-pub kernel_is : (body : List Stmt) (addend : ℕ) → code_then body End ≡ (map_kernel addend).code → kernel_with 1 1 1 [] [] 1 body ≡ map_kernel addend
-kernel_is body addend code =
+-- a body with the code of the map's kernel, and no arrays, make that kernel
+pub kernel_is : (body : List Stmt) (addend : ℕ) (locals privates : List ℕ) → locals ≡ [] → privates ≡ [] → code_then body End ≡ (map_kernel addend).code → kernel_with 1 1 1 locals privates 1 body ≡ map_kernel addend
+kernel_is body addend locals privates no_locals no_privates code =
     let made : Code → Kernel = λ c. record { inputs = 1; outputs = 1; sizes = 1; locals = []; privates = []; variables = 1; code = c } in
-    ap made code
+    ap (λ xs. kernel_with 1 1 1 xs privates 1 body) no_locals ∙ (ap (λ xs. kernel_with 1 1 1 [] xs 1 body) no_privates ∙ ap made code)
+
+pub few : (xs : List ℕ) → xs ≡ [] → length xs < 2 ^ 32
+few xs none = rw none (lit< tt)
 
 pub of_grammar : (addend : ℕ) → addend < 2 ^ 32 → is_kernel (map_kernel addend) ≡ true
 of_grammar addend fits = rw (lt-ltb _ _ fits) refl

@@ -15,19 +15,16 @@ use size_arith::{Poly, Sizes};
 use std::alloc::{AllocError, Global};
 
 // A length that names no size.
-#[tactic(auto, using(crate::proofs::Sizes::whole))]
-fn literal(length: &Poly, none: &Sizes) -> u32
-    requires none { none.now ≡ [] }
-    requires short { length_at [] length.now < 2 ^ 31 }
+fn literal(alloc: Global, length: &Poly) -> u32
+    requires { length_at [] length.now < 2 ^ 31 }
     ensures { result ≡ length_at [] length.now }
 {
-    length.value_at(none) as u32
+    length.value_at(&Sizes::new(alloc)) as u32
 }
 
 // How many scalars a component has.
 #[tactic(auto, using(crate::proofs::Sizes::part))]
-fn size(ty: &Ty, none: &Sizes) -> u32
-    requires none { none.now ≡ [] }
+fn size(alloc: Global, ty: &Ty) -> u32
     requires short { IsShort (ty_at [] (ty_of ty.now)) }
     requires word { types.size (ty_at [] (ty_of ty.now)) < 2 ^ 32 }
     ensures { result ≡ types.size (ty_at [] (ty_of ty.now)) }
@@ -35,11 +32,11 @@ fn size(ty: &Ty, none: &Sizes) -> u32
     match ty {
         Ty::Number | Ty::Pair(_, _) => 1,
         Ty::Array(element, length) => {
-            let length = literal(length, none);
+            let length = literal(alloc, length);
             if length == 0 {
                 return 0;
             }
-            length * size(element, none)
+            length * size(alloc, element)
         }
     }
 }
@@ -66,20 +63,19 @@ fn add_each(ty: &Ty, number: u32, numbers: &mut Vec<u32>) -> Result<(), AllocErr
 // Adds the arrays of a copy, where they lie in the space that is asked for.
 #[tactic(auto, using(crate::proofs::Lists::lists))]
 fn add_copy(
+    alloc: Global,
     asked: Space,
     space: Space,
     ty: &Ty,
-    none: &Sizes,
     lengths: &mut Vec<u32>,
 ) -> Result<(), AllocError>
-    requires none { none.now ≡ [] }
-    requires short { IsShortCopy (ty_at [] (ty_of ty.now)) }
+    requires { IsShortCopy (ty_at [] (ty_of ty.now)) }
     ensures { OnOk result (lengths.new.items ≡ lengths.old.items
         ++ spec.copied (space_of asked) (space_of space) (ty_at [] (ty_of ty.now))) }
 {
     match (asked, space) {
         (Space::Local, Space::Local) | (Space::Private, Space::Private) => {
-            add_each(ty, size(ty, none), lengths)
+            add_each(ty, size(alloc, ty), lengths)
         }
         (Space::Local, Space::Private) | (Space::Private, Space::Local) => Ok(()),
     }
@@ -87,29 +83,28 @@ fn add_copy(
 
 #[tactic(auto, using(crate::proofs::Lists::lists))]
 fn add_lengths(
+    alloc: Global,
     space: Space,
     term: &Term,
-    none: &Sizes,
     lengths: &mut Vec<u32>,
 ) -> Result<(), AllocError>
-    requires none { none.now ≡ [] }
-    requires short { HasShortCopies (term_of term.now) }
+    requires { HasShortCopies (term_of term.now) }
     ensures { OnOk result (lengths.new.items
         ≡ lengths.old.items ++ spec.copy_lengths (space_of space) (term_of term.now)) }
 {
     match term {
         Term::Pair(a, b) | Term::Zip(a, b) | Term::LetArray(a, b) | Term::Map(_, _, _, a, b) => {
-            add_lengths(space, a, none, lengths)?;
-            add_lengths(space, b, none, lengths)
+            add_lengths(alloc, space, a, lengths)?;
+            add_lengths(alloc, space, b, lengths)
         }
         Term::First(a)
         | Term::Second(a)
         | Term::Reshape(_, a)
         | Term::LetElement(_, _, a)
-        | Term::Fold(_, _, _, a, _, _) => add_lengths(space, a, none, lengths),
+        | Term::Fold(_, _, _, a, _, _) => add_lengths(alloc, space, a, lengths),
         Term::Copy(at, ty, a) => {
-            add_lengths(space, a, none, lengths)?;
-            add_copy(space, *at, ty, none, lengths)
+            add_lengths(alloc, space, a, lengths)?;
+            add_copy(alloc, space, *at, ty, lengths)
         }
         Term::Literal(_)
         | Term::Bound(_)
@@ -128,6 +123,6 @@ pub fn copy_lengths(alloc: Global, space: Space, term: &Term) -> Result<Vec<u32>
         (λ ns. ns.items ≡ spec.copy_lengths (space_of space) (term_of term.now)) }
 {
     let mut lengths = Vec::new(alloc);
-    add_lengths(space, term, &Sizes::new(alloc), &mut lengths)?;
+    add_lengths(alloc, space, term, &mut lengths)?;
     Ok(lengths)
 }
