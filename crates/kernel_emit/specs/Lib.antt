@@ -7,3 +7,4 @@ pub mod Parts
 pub mod Copies
 pub mod Inputs
 pub mod Emittable
+pub mod Nodes

@@ -1,6 +1,9 @@
 //! The expressions of element terms.
 
-ghost use Rattle.std.specs.Prelude.{◌≡◌, [], ◌∷◌, IfOk, option_map};
+ghost use Rattle.std.specs.Prelude.{◌≡◌, [], false, IfOk, option_map};
+ghost use Rattle.lift_ir.specs.Lowering.{element_ty};
+ghost use Rattle.lift_ir.specs.Terms as terms;
+ghost use Rattle.lift_tree.specs.Types.{ty_of};
 ghost use Rattle.kernel_tree.specs.Formula as formula;
 ghost use Rattle.kernel_tree.specs.Tree.{formula_of};
 ghost use Rattle.printed_form.specs.Expressions as spec;
@@ -122,12 +125,92 @@ fn variable(
     }
 }
 
-/// The expression of a component of an element term whose first variable has this number.
-pub fn component(
+// The component of an operator's value: the one number.
+#[cycle(expressions)]
+fn applied(
     alloc: Global,
+    op: Op,
+    a: &Term,
+    b: &Term,
     scope: &Scope,
     first: u32,
+) -> Result<Option<Expr>, AllocError>
+    ensures { IfOk result (λ e. option_map formula_of e ≡ printer.sign_exprs (scope_of scope.now)
+        first (terms.Apply op (term_of a.now) (term_of b.now)) []) }
+{
+    let second = plus(first, let_variables(a)?)?;
+    let a = component(alloc, a, scope, first, PairStack::new(alloc))?;
+    let b = component(alloc, b, scope, second, PairStack::new(alloc))?;
+    of_both(alloc, op, a, b)
+}
+
+#[cycle(expressions)]
+fn selected(
+    alloc: Global,
+    condition: &Term,
+    yes: &Term,
+    no: &Term,
+    scope: &Scope,
+    first: u32,
+) -> Result<Option<Expr>, AllocError>
+    ensures { IfOk result (λ e. option_map formula_of e ≡ printer.sign_exprs (scope_of scope.now)
+        first (terms.Select (term_of condition.now) (term_of yes.now) (term_of no.now)) []) }
+{
+    let second = plus(first, let_variables(condition)?)?;
+    let third = plus(second, let_variables(yes)?)?;
+    let condition = component(alloc, condition, scope, first, PairStack::new(alloc))?;
+    let yes = component(alloc, yes, scope, second, PairStack::new(alloc))?;
+    let no = component(alloc, no, scope, third, PairStack::new(alloc))?;
+    selection(alloc, condition, yes, no)
+}
+
+// A component of a pair, or of a zip, which has the same.
+#[cycle(expressions)]
+fn side(
+    alloc: Global,
+    a: &Term,
+    b: &Term,
+    scope: &Scope,
+    first: u32,
+    mut choices: PairStack,
+) -> Result<Option<Expr>, AllocError>
+    ensures { IfOk result (λ e. option_map formula_of e ≡ printer.sign_exprs (scope_of scope.now)
+        first (terms.Both false (term_of a.now) (term_of b.now)) choices) }
+{
+    match choices.pop() {
+        None => Ok(None),
+        Some(false) => component(alloc, a, scope, first, choices),
+        Some(true) => component(alloc, b, scope, plus(first, let_variables(a)?)?, choices),
+    }
+}
+
+#[cycle(expressions)]
+fn bound(
+    alloc: Global,
+    ty: &Ty,
+    value: &Term,
+    body: &Term,
+    scope: &Scope,
+    first: u32,
+    choices: PairStack,
+) -> Result<Option<Expr>, AllocError>
+    ensures { IfOk result (λ e. option_map formula_of e ≡ printer.sign_exprs (scope_of scope.now)
+        first (terms.LetElement (element_ty (ty_of ty.now)) (term_of value.now)
+        (term_of body.now)) choices) }
+{
+    let variable = plus(first, let_variables(value)?)?;
+    let next = plus(variable, element_width(ty)?)?;
+    let held = View::held(alloc, ty, variable)?;
+    component(alloc, body, &Scope::Bound(&held, scope), next, choices)
+}
+
+/// The expression of a component of an element term whose first variable has this number.
+#[cycle(expressions)]
+pub fn component(
+    alloc: Global,
     term: &Term,
+    scope: &Scope,
+    first: u32,
     mut choices: PairStack,
 ) -> Result<Option<Expr>, AllocError>
     ensures { IfOk result (λ e. option_map formula_of e
@@ -136,43 +219,22 @@ pub fn component(
     match term {
         Term::Literal(number) => Ok(Some(Expr::Number(*number))),
         Term::Bound(binder) => variable(alloc, scope, *binder, choices),
-        Term::Apply(op, a, b) => {
-            let second = plus(first, let_variables(a)?)?;
-            let a = component(alloc, scope, first, a, PairStack::new(alloc))?;
-            let b = component(alloc, scope, second, b, PairStack::new(alloc))?;
-            of_both(alloc, *op, a, b)
-        }
+        Term::Apply(op, a, b) => applied(alloc, *op, a, b, scope, first),
         Term::ApplyNumber(op, number, a) => {
-            let a = component(alloc, scope, first, a, PairStack::new(alloc))?;
+            let a = component(alloc, a, scope, first, PairStack::new(alloc))?;
             with_number(alloc, *op, a, *number)
         }
-        Term::Select(condition, yes, no) => {
-            let second = plus(first, let_variables(condition)?)?;
-            let third = plus(second, let_variables(yes)?)?;
-            let condition = component(alloc, scope, first, condition, PairStack::new(alloc))?;
-            let yes = component(alloc, scope, second, yes, PairStack::new(alloc))?;
-            let no = component(alloc, scope, third, no, PairStack::new(alloc))?;
-            selection(alloc, condition, yes, no)
-        }
-        Term::Pair(a, b) | Term::Zip(a, b) => match choices.pop() {
-            None => Ok(None),
-            Some(false) => component(alloc, scope, first, a, choices),
-            Some(true) => { component(alloc, scope, plus(first, let_variables(a)?)?, b, choices) }
-        },
+        Term::Select(condition, yes, no) => selected(alloc, condition, yes, no, scope, first),
+        Term::Pair(a, b) | Term::Zip(a, b) => side(alloc, a, b, scope, first, choices),
         Term::First(a) => {
             choices.push(false)?;
-            component(alloc, scope, first, a, choices)
+            component(alloc, a, scope, first, choices)
         }
         Term::Second(a) => {
             choices.push(true)?;
-            component(alloc, scope, first, a, choices)
+            component(alloc, a, scope, first, choices)
         }
-        Term::LetElement(ty, value, body) => {
-            let first = plus(first, let_variables(value)?)?;
-            let next = plus(first, element_width(ty)?)?;
-            let held = View::held(alloc, ty, first)?;
-            component(alloc, &Scope::Bound(&held, scope), next, body, choices)
-        }
+        Term::LetElement(ty, value, body) => bound(alloc, ty, value, body, scope, first, choices),
         Term::Source(_)
         | Term::Reshape(_, _)
         | Term::LetArray(_, _)
@@ -201,7 +263,7 @@ impl<'p> Part<'p> {
             (λ e. option_map formula_of e ≡ parts_of self.now choices) }
     {
         match self {
-            Part::Whole(scope, first, term) => component(alloc, scope, *first, term, choices),
+            Part::Whole(scope, first, term) => component(alloc, term, scope, *first, choices),
             Part::First(whole) => {
                 choices.push(false)?;
                 whole.component(alloc, choices)

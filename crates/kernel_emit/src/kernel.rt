@@ -55,6 +55,7 @@ fn statements(
 }
 
 /// The kernel of a lowered term: for each component of each input a parameter, then for each of the output and for each size, private variables and arrays as the term needs them, and its code.
+#[tactic(auto, using(crate::proofs::Kernels::kernels))]
 pub fn emit(alloc: Global, lowered: &Lowered) -> Result<Kernel, AllocError>
     requires { IsEmittable (declared_of lowered.now)
         (tree_of lowered.now.term) (annotation_of lowered.now.types) }

@@ -1,6 +1,6 @@
 //! The lengths of the arrays that a term's copies fill.
 
-ghost use Rattle.std.specs.Prelude.{◌≡◌, ◌++◌, ◌<◌, ◌^◌, [], replicate, IfOk, OnOk};
+ghost use Rattle.std.specs.Prelude.{◌≡◌, ◌++◌, ◌<◌, ◌^◌, [], length, replicate, IfOk, OnOk};
 ghost use Rattle.lift_tree.specs.Types.{ty_of};
 ghost use Rattle.lift_ir.specs.AtLaunch.{length_at, ty_at};
 ghost use Rattle.lift_ir.specs.Types as types;
@@ -116,13 +116,17 @@ fn add_lengths(
     }
 }
 
-/// The lengths of all arrays in a space, in postorder of the copies, by component.
+/// The lengths of all arrays in a space, in postorder of the copies, by component. 2^32 lengths are answered as want of memory.
 pub fn copy_lengths(alloc: Global, space: Space, term: &Term) -> Result<Vec<u32>, AllocError>
     requires { HasShortCopies (term_of term.now) }
-    ensures { IfOk result
+    ensures lengths { IfOk result
         (λ ns. ns.items ≡ spec.copy_lengths (space_of space) (term_of term.now)) }
+    ensures few { IfOk result (λ ns. length ns.items < 2 ^ 32) }
 {
     let mut lengths = Vec::new(alloc);
     add_lengths(alloc, space, term, &mut lengths)?;
+    if lengths.len() > u32::MAX as usize {
+        return Err(AllocError);
+    }
     Ok(lengths)
 }
