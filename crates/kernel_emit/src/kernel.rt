@@ -1,13 +1,15 @@
 //! From a lowered term to its kernel.
 
-ghost use Rattle.std.specs.Prelude.{◌≡◌, IfOk, map};
+ghost use Rattle.std.specs.Prelude.{◌≡◌, IfOk, length, map};
 ghost use Rattle.kernel_tree.specs.Kernels.{kernel_of};
 ghost use Rattle.kernel_tree.specs.Code.{End};
 ghost use Rattle.kernel_tree.specs.Tree.{code_then};
-ghost use Rattle.lift_tree.specs.Annotations.{annotation_of};
+ghost use Rattle.lift_tree.specs.Annotations.{annotation_of, type_in};
 ghost use Rattle.lift_tree.specs.Tree.{tree_of};
 ghost use Rattle.lift_tree.specs.Types.{ty_of};
 ghost use Rattle.lift_ir.specs.AtLaunch.{shape_of};
+ghost use Rattle.lift_ir.specs.Types as types;
+ghost use Rattle.printed_form.specs.Counts as spec;
 ghost use Rattle.printed_form.specs.Printer as printer;
 ghost use Rattle.printed_form.specs.Programs as programs;
 ghost use Rattle.length_spelling.specs.Formulas.{length_formula};
@@ -54,30 +56,69 @@ fn statements(
     Ok(block.into_statements())
 }
 
-/// The kernel of a lowered term: for each component of each input a parameter, then for each of the output and for each size, private variables and arrays as the term needs them, and its code.
-#[tactic(auto, using(crate::proofs::Kernels::kernels))]
-pub fn emit(alloc: Global, lowered: &Lowered) -> Result<Kernel, AllocError>
-    requires { IsEmittable (declared_of lowered.now)
-        (tree_of lowered.now.term) (annotation_of lowered.now.types) }
-    ensures { IfOk result (λ k. kernel_of k ≡ programs.printed_kernel (length_formula lowered.now.names)
-        (declared_of lowered.now) (tree_of lowered.now.term) (annotation_of lowered.now.types)) }
+// How many parameters of each kind a kernel has, and how many private variables.
+#[derive(Clone, Copy)]
+struct Counts {
+    inputs: u32,
+    outputs: u32,
+    sizes: u32,
+    variables: u32,
+}
+
+fn counts(lowered: &Lowered, term: &Term) -> Result<Counts, AllocError>
+    ensures inputs { IfOk result
+        (λ c. c.inputs ≡ programs.buffer_count (map ty_of lowered.now.inputs.items)) }
+    ensures outputs { IfOk result
+        (λ c. c.outputs ≡ types.width (shape_of (type_in (annotation_of lowered.now.types)))) }
+    ensures sizes { IfOk result (λ c. c.sizes ≡ length lowered.now.names) }
+    ensures variables { IfOk result (λ c. c.variables ≡ spec.variable_count (term_of term.now)) }
 {
-    let term = lower(alloc, &lowered.term, &lowered.types)?;
+    Ok(Counts {
+        inputs: buffer_count(&lowered.inputs)?,
+        outputs: width(lowered.types.own_type())?,
+        sizes: lowered.names.as_slice().len() as u32,
+        variables: variable_count(term)?,
+    })
+}
+
+// The kernel of a lowered term, which is this one of the intermediate representation.
+#[tactic(auto, using(crate::proofs::Kernels::kernels))]
+fn printed(alloc: Global, lowered: &Lowered, term: &Term) -> Result<Kernel, AllocError>
+    requires root { term_of term.now ≡ programs.lowered_root (tree_of lowered.now.term)
+        (annotation_of lowered.now.types) }
+    requires emittable { IsEmittable (declared_of lowered.now)
+        (tree_of lowered.now.term) (annotation_of lowered.now.types) }
+    ensures { IfOk result (λ k. kernel_of k ≡ programs.printed_kernel
+        (length_formula lowered.now.names) (declared_of lowered.now) (tree_of lowered.now.term)
+        (annotation_of lowered.now.types)) }
+{
+    let counts = counts(lowered, term)?;
     let declared = Declared {
         names: &lowered.names,
         inputs: &lowered.inputs,
     };
-    let ty = lowered.types.own_type();
-    let body = statements(alloc, &declared, &term, ty)?;
-    let locals = copy_lengths(alloc, Space::Local, &term)?;
-    let privates = copy_lengths(alloc, Space::Private, &term)?;
+    let locals = copy_lengths(alloc, Space::Local, term)?;
+    let privates = copy_lengths(alloc, Space::Private, term)?;
+    let body = statements(alloc, &declared, term, lowered.types.own_type())?;
     Ok(Kernel {
-        inputs: buffer_count(&lowered.inputs)?,
-        outputs: width(ty)?,
-        sizes: lowered.names.as_slice().len() as u32,
+        inputs: counts.inputs,
+        outputs: counts.outputs,
+        sizes: counts.sizes,
         locals,
         privates,
-        variables: variable_count(&term)?,
+        variables: counts.variables,
         body,
     })
+}
+
+/// The kernel of a lowered term: for each component of each input a parameter, then for each of the output and for each size, private variables and arrays as the term needs them, and its code.
+pub fn emit(alloc: Global, lowered: &Lowered) -> Result<Kernel, AllocError>
+    requires { IsEmittable (declared_of lowered.now)
+        (tree_of lowered.now.term) (annotation_of lowered.now.types) }
+    ensures { IfOk result (λ k. kernel_of k ≡ programs.printed_kernel
+        (length_formula lowered.now.names) (declared_of lowered.now) (tree_of lowered.now.term)
+        (annotation_of lowered.now.types)) }
+{
+    let term = lower(alloc, &lowered.term, &lowered.types)?;
+    printed(alloc, lowered, &term)
 }
