@@ -65,7 +65,7 @@ struct Counts {
     variables: u32,
 }
 
-fn counts(lowered: &Lowered, term: &Term) -> Result<Counts, AllocError>
+fn counted(lowered: &Lowered, term: &Term) -> Result<Counts, AllocError>
     ensures inputs { IfOk result
         (λ c. c.inputs ≡ programs.buffer_count (map ty_of lowered.now.inputs.items)) }
     ensures outputs { IfOk result
@@ -92,7 +92,7 @@ fn printed(alloc: Global, lowered: &Lowered, term: &Term) -> Result<Kernel, Allo
         (length_formula lowered.now.names) (declared_of lowered.now) (tree_of lowered.now.term)
         (annotation_of lowered.now.types)) }
 {
-    let counts = counts(lowered, term)?;
+    let counts = counted(lowered, term)?;
     let declared = Declared {
         names: &lowered.names,
         inputs: &lowered.inputs,
