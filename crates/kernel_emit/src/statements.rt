@@ -88,6 +88,46 @@ fn at_first(alloc: Global, array: &View) -> Result<View, AllocError>
     array.at(alloc, Index::Literal(0))
 }
 
+// The code of an element in writing position.
+fn put_store(
+    alloc: Global,
+    site: &Site,
+    ty: &Ty,
+    value: &Term,
+    target: &View,
+    block: &mut Block,
+) -> Result<(), AllocError>
+    ensures { OnOk result (code_in block.new ≡ printer.print_element
+        (scope_of site.now.scope.now) site.now.variable (term_of value.now)
+        (printer.print_stored (element_ty (ty_of ty.now)) (printer.sign_exprs
+        (scope_of site.now.scope.now) site.now.variable (term_of value.now))
+        (view_in target.now) (code_in block.old))) }
+{
+    let part = Part::Whole(site.scope, site.variable, value);
+    put_stored(alloc, ty, &part, target, block)?;
+    put_element(alloc, site.scope, site.variable, value, block)
+}
+
+// The code that sets the variables of a bound element, the first of which has this number.
+fn put_bound_element(
+    alloc: Global,
+    site: &Site,
+    ty: &Ty,
+    value: &Term,
+    variable: u32,
+    block: &mut Block,
+) -> Result<(), AllocError>
+    ensures { OnOk result (code_in block.new ≡ printer.print_element
+        (scope_of site.now.scope.now) site.now.variable (term_of value.now)
+        (printer.print_assigned (element_ty (ty_of ty.now)) (printer.sign_exprs
+        (scope_of site.now.scope.now) site.now.variable (term_of value.now))
+        variable (code_in block.old))) }
+{
+    let part = Part::Whole(site.scope, site.variable, value);
+    put_assigned(alloc, ty, &part, variable, block)?;
+    put_element(alloc, site.scope, site.variable, value, block)
+}
+
 // A fold's code in one turn, over this element, where the accumulator is held from that variable on.
 fn put_fold_turn(
     alloc: Global,
@@ -118,7 +158,7 @@ fn put_fold_turn(
 }
 
 // A fold's code after that of its array, of which this stands for the element at a turn.
-fn put_fold(
+fn put_fold_loop(
     alloc: Global,
     site: &Site,
     length: Expr,
@@ -163,9 +203,7 @@ fn put_fold(
         block,
     )?;
     block.put_loop(Start::Zero, length, Stride::One, turn)?;
-    let start_value = Part::Whole(site.scope, site.variable, start);
-    put_assigned(alloc, ty, &start_value, accumulator, block)?;
-    put_element(alloc, site.scope, site.variable, start, block)
+    put_bound_element(alloc, site, ty, start, accumulator, block)
 }
 
 /// The copies of an argument.
@@ -264,6 +302,100 @@ fn put_map(
     put_argument(alloc, declared, site, array, block)
 }
 
+// The code of a let of an array.
+#[cycle(statements)]
+fn put_let_array(
+    alloc: Global,
+    declared: &Declared,
+    site: &Site,
+    value: &Term,
+    body: &Term,
+    target: &View,
+    block: &mut Block,
+) -> Result<(), AllocError>
+    requires value { HasShortCopies (term_of value.now) }
+    requires body { HasShortCopies (term_of body.now) }
+    ensures { OnOk result (code_in block.new ≡ printer.print_written (spell_in declared.now)
+        (inputs_in declared.now) site.now.depth (scope_of site.now.scope.now) site.now.array
+        site.now.variable (terms.LetArray (term_of value.now) (term_of body.now))
+        (view_in target.now) (code_in block.old)) }
+{
+    let bound = argument(alloc, declared, site.scope, site.array, value)?;
+    let inner = Site {
+        depth: site.depth,
+        scope: &Scope::Bound(&bound, site.scope),
+        array: plus(site.array, private_count(value)?)?,
+        variable: plus(site.variable, variable_count(value)?)?,
+    };
+    put_written(alloc, declared, &inner, body, target, block)?;
+    put_argument(alloc, declared, site, value, block)
+}
+
+// The code of a let of an element.
+#[cycle(statements)]
+fn put_let_element(
+    alloc: Global,
+    declared: &Declared,
+    site: &Site,
+    ty: &Ty,
+    value: &Term,
+    body: &Term,
+    target: &View,
+    block: &mut Block,
+) -> Result<(), AllocError>
+    requires { HasShortCopies (term_of body.now) }
+    ensures { OnOk result (code_in block.new ≡ printer.print_written (spell_in declared.now)
+        (inputs_in declared.now) site.now.depth (scope_of site.now.scope.now) site.now.array
+        site.now.variable (terms.LetElement (element_ty (ty_of ty.now)) (term_of value.now)
+        (term_of body.now)) (view_in target.now) (code_in block.old)) }
+{
+    let variable = plus(site.variable, let_variables(value)?)?;
+    let bound = held(alloc, ty, variable)?;
+    let inner = Site {
+        depth: site.depth,
+        scope: &Scope::Bound(&bound, site.scope),
+        array: site.array,
+        variable: plus(variable, element_width(ty)?)?,
+    };
+    put_written(alloc, declared, &inner, body, target, block)?;
+    put_bound_element(alloc, site, ty, value, variable, block)
+}
+
+// A fold's code.
+#[cycle(statements)]
+fn put_fold(
+    alloc: Global,
+    declared: &Declared,
+    site: &Site,
+    count: &Poly,
+    loads: &LoadSet,
+    ty: &Ty,
+    array: &Term,
+    start: &Term,
+    body: &Term,
+    target: &View,
+    block: &mut Block,
+) -> Result<(), AllocError>
+    requires { HasShortCopies (term_of array.now) }
+    ensures { OnOk result (code_in block.new ≡ printer.print_written (spell_in declared.now)
+        (inputs_in declared.now) site.now.depth (scope_of site.now.scope.now) site.now.array
+        site.now.variable (terms.Fold count.now (load_set_of loads.now) (element_ty (ty_of ty.now))
+        (term_of array.now) (term_of start.now) (term_of body.now))
+        (view_in target.now) (code_in block.old)) }
+{
+    let element = argument(alloc, declared, site.scope, site.array, array)?;
+    let element = at_turn(alloc, &element, site.depth)?;
+    let after = Site {
+        variable: plus(site.variable, variable_count(array)?)?,
+        ..*site
+    };
+    let bound = spell_length(alloc, count, declared.names)?;
+    put_fold_loop(
+        alloc, &after, bound, loads, ty, &element, start, body, target, block,
+    )?;
+    put_argument(alloc, declared, site, array, block)
+}
+
 /// A term in writing position, which goes to the target.
 #[cycle(statements)]
 pub fn put_written(
@@ -280,57 +412,24 @@ pub fn put_written(
         site.now.variable (term_of term.now) (view_in target.now) (code_in block.old)) }
 {
     match term {
-        Term::Store(ty, a) => {
-            let value = Part::Whole(site.scope, site.variable, a);
-            put_stored(alloc, ty, &value, target, block)?;
-            put_element(alloc, site.scope, site.variable, a, block)
-        }
+        Term::Store(ty, a) => put_store(alloc, site, ty, a, target, block),
         Term::Reshape(layout, a) => {
             let names = declared.names;
             let target = target.writing(alloc, names, &layout.form, &layout.ty, &layout.operand)?;
             put_written(alloc, declared, site, a, &target, block)
         }
         Term::LetArray(value, body) => {
-            let bound = argument(alloc, declared, site.scope, site.array, value)?;
-            let next = Site {
-                depth: site.depth,
-                scope: &Scope::Bound(&bound, site.scope),
-                array: plus(site.array, private_count(value)?)?,
-                variable: plus(site.variable, variable_count(value)?)?,
-            };
-            put_written(alloc, declared, &next, body, target, block)?;
-            put_argument(alloc, declared, site, value, block)
+            put_let_array(alloc, declared, site, value, body, target, block)
         }
         Term::LetElement(ty, value, body) => {
-            let variable = plus(site.variable, let_variables(value)?)?;
-            let bound = held(alloc, ty, variable)?;
-            let next = Site {
-                depth: site.depth,
-                scope: &Scope::Bound(&bound, site.scope),
-                array: site.array,
-                variable: plus(variable, element_width(ty)?)?,
-            };
-            put_written(alloc, declared, &next, body, target, block)?;
-            let set = Part::Whole(site.scope, site.variable, value);
-            put_assigned(alloc, ty, &set, variable, block)?;
-            put_element(alloc, site.scope, site.variable, value, block)
+            put_let_element(alloc, declared, site, ty, value, body, target, block)
         }
         Term::Map(kind, count, loads, array, body) => put_map(
             alloc, declared, site, *kind, count, loads, array, body, target, block,
         ),
-        Term::Fold(count, loads, ty, array, start, body) => {
-            let element = argument(alloc, declared, site.scope, site.array, array)?;
-            let element = at_turn(alloc, &element, site.depth)?;
-            let after = Site {
-                variable: plus(site.variable, variable_count(array)?)?,
-                ..*site
-            };
-            let bound = spell_length(alloc, count, declared.names)?;
-            put_fold(
-                alloc, &after, bound, loads, ty, &element, start, body, target, block,
-            )?;
-            put_argument(alloc, declared, site, array, block)
-        }
+        Term::Fold(count, loads, ty, array, start, body) => put_fold(
+            alloc, declared, site, count, loads, ty, array, start, body, target, block,
+        ),
         Term::Literal(_)
         | Term::Bound(_)
         | Term::Source(_)

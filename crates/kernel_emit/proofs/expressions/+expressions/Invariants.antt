@@ -1,7 +1,7 @@
 use Rattle.std.proofs.Common.{◌+◌, ◌*◌}
 use Rattle.lowering.specs.Terms.{term_of}
 use Rattle.kernel_emit.specs.Nodes.{nodes}
-use Rattle.kernel_emit.proofs.+expressions.Given as goal
+use Rattle.kernel_emit.proofs.expressions.+expressions.Given as goal
 
 abbrev pub decreases-applied : goal.decreases-applied
 decreases-applied l = 2 * (nodes (term_of l.a.now) + nodes (term_of l.b.now)) + 1
