@@ -9,3 +9,4 @@ pub mod Sizes
 pub mod Lists
 pub mod Copies
 pub mod Kernels
+pub mod Statements

@@ -1,0 +1,33 @@
+-- The printed code of a term, of that of its parts.
+use Rattle.std.proofs.Common.{◌≡◌, ℕ, ◌+◌, List, [], Bool, refl, ap}
+use Rattle.kernel_tree.specs.Formula.{Formula, LoopVariable, Number}
+use Rattle.kernel_tree.specs.Code.{Code, Loops, FromZero, ByOne}
+use Rattle.lift_ir.specs.Layouts.{Layout}
+use Rattle.lift_ir.specs.Types.{Ty, width}
+use Rattle.lift_ir.specs.Terms.{LoadSet, Term, Reshape, LetArray, LetElement, Fold, push}
+use Rattle.printed_form.specs.Counts.{let_variables, private_count, variable_count}
+use Rattle.printed_form.specs.Printer.{argument_view, print_argument, print_assigned, print_element, print_fold_turn, print_stored, print_written, sign_exprs}
+use Rattle.printed_form.specs.Views.{View, held_sign, held_view, result_indices, view_at}
+
+pub let_element : {A : Type 0} (env : ℕ → View) (n : ℕ) (ty : Ty) (v b : Term A) (rest inner code : Code) (bound : View) (f m g k : ℕ) → f ≡ let_variables v → m ≡ n + f → g ≡ width ty → k ≡ m + g → bound ≡ held_view ty m
+    → inner ≡ print_element (push bound env) k b rest → code ≡ print_assigned ty (sign_exprs env n v) m inner → print_element env n v code ≡ print_element env n (LetElement ty v b) rest
+let_element env n ty v b rest inner code bound f m g k ef em eg ek eb ei ec = rw (ec, ei, eb, ek, eg, em, ef) refl
+
+module _ {A : Type 0} (spell : A → Formula) (ins : ℕ → View) (depth : ℕ) (env : ℕ → View) (a n : ℕ) where
+  pub argument_let : (v b : Term A) (rest code : Code) (bound : View) (f p g q : ℕ) → bound ≡ argument_view spell ins env a v → f ≡ private_count v → p ≡ a + f → g ≡ variable_count v → q ≡ n + g
+      → code ≡ print_argument spell ins depth (push bound env) p q b rest → print_argument spell ins depth env a n v code ≡ print_argument spell ins depth env a n (LetArray v b) rest
+  argument_let v b rest code bound f p g q eb ef ep eg eq ec = rw (ec, eb, ep, ef, eq, eg) refl
+
+  pub written_let : (v b : Term A) (w : View) (rest code : Code) (bound : View) (f p g q : ℕ) → bound ≡ argument_view spell ins env a v → f ≡ private_count v → p ≡ a + f → g ≡ variable_count v → q ≡ n + g
+      → code ≡ print_written spell ins depth (push bound env) p q b w rest → print_argument spell ins depth env a n v code ≡ print_written spell ins depth env a n (LetArray v b) w rest
+  written_let v b w rest code bound f p g q eb ef ep eg eq ec = rw (ec, eb, ep, ef, eq, eg) refl
+
+  pub written_layout : (y : Layout A) (t : Term A) (w target : View) (rest : Code) → target ≡ (λ cs is. w cs (result_indices spell y is))
+      → print_written spell ins depth env a n t target rest ≡ print_written spell ins depth env a n (Reshape y t) w rest
+  written_layout y t w target rest e = ap (λ v. print_written spell ins depth env a n t v rest) e
+
+  pub written_fold : (len : A) (loads : LoadSet) (ty : Ty) (xs s b : Term A) (w : View) (rest code : Code) (array element : View) (bound : Formula) (f p : ℕ)
+      → array ≡ argument_view spell ins env a xs → element ≡ view_at (LoopVariable depth) array → f ≡ variable_count xs → p ≡ n + f → bound ≡ spell len
+      → code ≡ print_element env p s (print_assigned ty (sign_exprs env p s) (p + let_variables s) (Loops FromZero bound ByOne (print_fold_turn env loads ty element (p + let_variables s) b) (print_stored ty (λ cs. held_sign (held_view ty (p + let_variables s) cs [])) (view_at (Number 0) w) rest)))
+      → print_argument spell ins depth env a n xs code ≡ print_written spell ins depth env a n (Fold len loads ty xs s b) w rest
+  written_fold len loads ty xs s b w rest code array element bound f p ea ee ef ep eb ec = rw (ec, ee, ea, ep, ef, eb) refl
