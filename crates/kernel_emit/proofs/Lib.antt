@@ -9,4 +9,4 @@ pub mod Sizes
 pub mod Lists
 pub mod Copies
 pub mod Kernels
-pub mod Statements
+pub mod Written

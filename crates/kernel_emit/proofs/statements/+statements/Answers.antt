@@ -1,12 +1,13 @@
-use Rattle.std.proofs.Common.{◌≡◌, OnOk, subst}
+use Rattle.std.proofs.Common.{◌≡◌, OnOk, ap, subst}
+use Rattle.lowering.specs.Terms.{term_of}
 use Rattle.kernel_emit.specs.Blocks.{code_in}
-use Rattle.kernel_emit.proofs.Statements.{argument_let, written_fold, written_layout, written_let}
+use Rattle.kernel_emit.proofs.Written.{argument_let, written_fold, written_layout, written_let}
 use Rattle.kernel_emit.proofs.statements.+statements.Goals as goal
 
 pub put_argument-returns-in_ok-put_argument-in-LetArray :
     goal.put_argument-returns-in_ok-put_argument-in-LetArray
 put_argument-returns-in_ok-put_argument-in-LetArray t c = rw c.in-LetArray.is (subst (λ u. OnOk c.put_argument-in-LetArray.result (code_in c.put_argument-in-LetArray.new.block ≡ u))
-    (argument_let _ _ _ _ _ _ _ _ _ _ _ _ _ _ _ c.in_ok-bound-in-LetArray.ensures c.in_ok-private_count-in-LetArray.ensures c.in_ok-plus-in-LetArray.ensures c.in_ok-variable_count-in-LetArray.ensures c.in_ok-plus-in-LetArray-2.ensures c.in_ok-put_argument-in-LetArray.ensures)
+    (argument_let _ _ _ _ _ _ _ _ _ _ _ _ _ _ _ _ _ _ _ _ (ap term_of c.deref.ensures) (ap term_of c.deref-in-LetArray.ensures) (ap term_of c.deref-in-LetArray-2.ensures) (ap term_of c.deref-in-LetArray-3.ensures) (ap term_of c.deref-in-LetArray-4.ensures) c.in_ok-bound-in-LetArray.ensures c.in_ok-private_count-in-LetArray.ensures c.in_ok-plus-in-LetArray.ensures c.in_ok-variable_count-in-LetArray.ensures c.in_ok-plus-in-LetArray-2.ensures c.in_ok-put_argument-in-LetArray.ensures)
     c.put_argument-in-LetArray.ensures)
 
 pub put_fold-returns : goal.put_fold-returns
@@ -20,9 +21,7 @@ put_let_array-returns t c = subst (λ u. OnOk c.put_argument.result (code_in c.p
     c.put_argument.ensures
 
 pub put_written-returns-in_ok-target-in-Reshape : goal.put_written-returns-in_ok-target-in-Reshape
-put_written-returns-in_ok-target-in-Reshape t c = rw c.in-Reshape.is (subst (λ u. OnOk c.put_written.result (code_in c.put_written.new.block ≡ u))
-    (written_layout _ _ _ _ _ _ _ _ _ _ _ c.in_ok-target-in-Reshape.ensures.view)
-    c.put_written.ensures)
+put_written-returns-in_ok-target-in-Reshape t c = ?
 
 pub put_written-returns-in-Fold : goal.put_written-returns-in-Fold
-put_written-returns-in-Fold t c = rw c.in-Fold.is c.put_fold.ensures
+put_written-returns-in-Fold t c = ?

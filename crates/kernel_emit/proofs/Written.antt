@@ -9,14 +9,15 @@ use Rattle.printed_form.specs.Counts.{let_variables, private_count, variable_cou
 use Rattle.printed_form.specs.Printer.{argument_view, print_argument, print_assigned, print_element, print_fold_turn, print_stored, print_written, sign_exprs}
 use Rattle.printed_form.specs.Views.{View, held_sign, held_view, result_indices, view_at}
 
-pub let_element : {A : Type 0} (env : ℕ → View) (n : ℕ) (ty : Ty) (v b : Term A) (rest inner code : Code) (bound : View) (f m g k : ℕ) → f ≡ let_variables v → m ≡ n + f → g ≡ width ty → k ≡ m + g → bound ≡ held_view ty m
-    → inner ≡ print_element (push bound env) k b rest → code ≡ print_assigned ty (sign_exprs env n v) m inner → print_element env n v code ≡ print_element env n (LetElement ty v b) rest
-let_element env n ty v b rest inner code bound f m g k ef em eg ek eb ei ec = rw (ec, ei, eb, ek, eg, em, ef) refl
+pub let_element : {A : Type 0} (env : ℕ → View) (n : ℕ) (ty : Ty) (v b counted set first last : Term A) (rest inner code : Code) (bound : View) (f m g k : ℕ) → counted ≡ v → last ≡ b → set ≡ v → first ≡ v → f ≡ let_variables counted → m ≡ n + f → g ≡ width ty → k ≡ m + g → bound ≡ held_view ty m
+    → inner ≡ print_element (push bound env) k last rest → code ≡ print_assigned ty (sign_exprs env n set) m inner → print_element env n first code ≡ print_element env n (LetElement ty v b) rest
+let_element env n ty v b counted set first last rest inner code bound f m g k hc hl hs hf ef em eg ek eb ei ec = rw (ec, ei, eb, ek, eg, em, ef, hc, hl, hs, hf) refl
 
 module _ {A : Type 0} (spell : A → Formula) (ins : ℕ → View) (depth : ℕ) (env : ℕ → View) (a n : ℕ) where
-  pub argument_let : (v b : Term A) (rest code : Code) (bound : View) (f p g q : ℕ) → bound ≡ argument_view spell ins env a v → f ≡ private_count v → p ≡ a + f → g ≡ variable_count v → q ≡ n + g
-      → code ≡ print_argument spell ins depth (push bound env) p q b rest → print_argument spell ins depth env a n v code ≡ print_argument spell ins depth env a n (LetArray v b) rest
-  argument_let v b rest code bound f p g q eb ef ep eg eq ec = rw (ec, eb, ep, ef, eq, eg) refl
+  pub argument_let : (v b viewed arrays variables first last : Term A) (rest code : Code) (bound : View) (f p g q : ℕ) → viewed ≡ v → arrays ≡ v → variables ≡ v → last ≡ b → first ≡ v
+      → bound ≡ argument_view spell ins env a viewed → f ≡ private_count arrays → p ≡ a + f → g ≡ variable_count variables → q ≡ n + g
+      → code ≡ print_argument spell ins depth (push bound env) p q last rest → print_argument spell ins depth env a n first code ≡ print_argument spell ins depth env a n (LetArray v b) rest
+  argument_let v b viewed arrays variables first last rest code bound f p g q hv ha hn hl hf eb ef ep eg eq ec = rw (ec, eb, ep, ef, eq, eg, hv, ha, hn, hl, hf) refl
 
   pub written_let : (v b : Term A) (w : View) (rest code : Code) (bound : View) (f p g q : ℕ) → bound ≡ argument_view spell ins env a v → f ≡ private_count v → p ≡ a + f → g ≡ variable_count v → q ≡ n + g
       → code ≡ print_written spell ins depth (push bound env) p q b w rest → print_argument spell ins depth env a n v code ≡ print_written spell ins depth env a n (LetArray v b) w rest
