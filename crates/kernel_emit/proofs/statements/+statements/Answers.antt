@@ -33,6 +33,6 @@ put_written-returns-in_ok-target-in-Reshape t c = rw c.in-Reshape.is (subst₂ (
     (ap term_of c.deref-in-Reshape.ensures) c.in_ok-target-in-Reshape.ensures.view c.put_written.ensures)
 
 pub put_written-returns-in-Fold : goal.put_written-returns-in-Fold
-put_written-returns-in-Fold t c =
-    let folded = λ xs s b. OnOk c.put_fold.result (code_in c.put_fold.new.block ≡ print_written (spell_in c.args.declared.now) (inputs_in c.args.declared.now) c.args.site.now.depth (scope_of c.args.site.now.scope.now) c.args.site.now.array c.args.site.now.variable (Fold c.in-Fold.count (load_set_of c.in-Fold.loads) (element_ty (ty_of c.in-Fold.ty)) (term_of xs) (term_of s) (term_of b)) (view_in c.args.target.now) (code_in c.args.block.now)) in
-    rw c.in-Fold.is (subst (λ b. folded _ _ b) c.deref-in-Fold-3.ensures (subst₂ (λ xs s. folded xs s _) c.deref-in-Fold.ensures c.deref-in-Fold-2.ensures c.put_fold.ensures))
+put_written-returns-in-Fold t c = rw c.in-Fold.is
+    (subst (λ b. OnOk c.put_fold.result (code_in c.put_fold.new.block ≡ print_written (spell_in c.args.declared.now) (inputs_in c.args.declared.now) c.args.site.now.depth (scope_of c.args.site.now.scope.now) c.args.site.now.array c.args.site.now.variable (Fold c.in-Fold.count (load_set_of c.in-Fold.loads) (element_ty (ty_of c.in-Fold.ty)) (term_of c.in-Fold.array.value) (term_of c.in-Fold.start.value) (term_of b)) (view_in c.args.target.now) (code_in c.args.block.now))) c.deref-in-Fold-3.ensures
+    (subst₂ (λ xs s. OnOk c.put_fold.result (code_in c.put_fold.new.block ≡ print_written (spell_in c.args.declared.now) (inputs_in c.args.declared.now) c.args.site.now.depth (scope_of c.args.site.now.scope.now) c.args.site.now.array c.args.site.now.variable (Fold c.in-Fold.count (load_set_of c.in-Fold.loads) (element_ty (ty_of c.in-Fold.ty)) (term_of xs) (term_of s) (term_of c.deref-in-Fold-3.result.now)) (view_in c.args.target.now) (code_in c.args.block.now))) c.deref-in-Fold.ensures c.deref-in-Fold-2.ensures c.put_fold.ensures))
