@@ -1,0 +1,44 @@
+-- The printed code of a term, of that of its parts.
+use Rattle.std.proofs.Common.{◌≡◌, ℕ, ◌+◌, List, [], Bool, refl, ap}
+use Rattle.kernel_tree.specs.Formula.{Formula, LoopVariable, Number}
+use Rattle.kernel_tree.specs.Code.{Code, End, Loops, FromZero, ByOne}
+use Rattle.lift_ir.specs.Layouts.{Layout}
+use Rattle.lift_ir.specs.Types.{Ty, width}
+use Rattle.lift_ir.specs.Terms.{LoadSet, Term, Reshape, LetArray, LetElement, Fold, push}
+use Rattle.printed_form.specs.Counts.{let_variables, load_count, private_count, variable_count}
+use Rattle.printed_form.specs.Printer.{argument_view, print_argument, print_assigned, print_element, print_fold_turn, print_loaded, print_reassigned, print_stored, print_written, sign_exprs}
+use Rattle.printed_form.specs.Views.{View, held_sign, held_view, loaded_view, result_indices, view_at}
+
+pub let_element : {A : Type 0} (env : ℕ → View) (n : ℕ) (ty : Ty) (v b counted set first last : Term A) (rest inner code : Code) (bound : View) (f m g k : ℕ) → counted ≡ v → last ≡ b → set ≡ v → first ≡ v → f ≡ let_variables counted → m ≡ n + f → g ≡ width ty → k ≡ m + g → bound ≡ held_view ty m
+    → inner ≡ print_element (push bound env) k last rest → code ≡ print_assigned ty (sign_exprs env n set) m inner → print_element env n first code ≡ print_element env n (LetElement ty v b) rest
+let_element env n ty v b counted set first last rest inner code bound f m g k hc hl hs hf ef em eg ek eb ei ec = rw (ec, ei, eb, ek, eg, em, ef, hc, hl, hs, hf) refl
+
+pub fold_turn : {A : Type 0} (env : ℕ → View) (loads : LoadSet) (ty : Ty) (x : View) (acc : ℕ) (b : Term A) (start reassigned code : Code) (held bound : View) (g first_load h first_let v temporary : ℕ) → start ≡ End → g ≡ width ty → first_load ≡ acc + g → h ≡ load_count loads → first_let ≡ first_load + h → v ≡ let_variables b → temporary ≡ first_let + v
+    → held ≡ held_view ty acc → bound ≡ loaded_view loads x first_load → reassigned ≡ print_reassigned ty (sign_exprs (push bound (push held env)) first_let b) acc temporary start
+    → code ≡ print_element (push bound (push held env)) first_let b reassigned → print_loaded loads x first_load code ≡ print_fold_turn env loads ty x acc b
+fold_turn env loads ty x acc b start reassigned code held bound g first_load h first_let v temporary es eg ef eh el ev et ehe ebo er ec = rw (ec, er, es, ebo, ehe, et, ev, el, eh, ef, eg) refl
+
+pub fold_loop : {A : Type 0} (env : ℕ → View) (n : ℕ) (ty : Ty) (len : Formula) (s : Term A) (w : View) (loads : LoadSet) (x : View) (b : Term A) (rest : Code) (lets m : ℕ) (turned stored looped : Code) (values first : View) → lets ≡ let_variables s → m ≡ n + lets → turned ≡ print_fold_turn env loads ty x m b → values ≡ held_view ty m → first ≡ view_at (Number 0) w
+    → stored ≡ print_stored ty (λ cs. held_sign (values cs [])) first rest → looped ≡ Loops FromZero len ByOne turned stored
+    → print_element env n s (print_assigned ty (sign_exprs env n s) m looped) ≡ print_element env n s (print_assigned ty (sign_exprs env n s) (n + let_variables s) (Loops FromZero len ByOne (print_fold_turn env loads ty x (n + let_variables s) b) (print_stored ty (λ cs. held_sign (held_view ty (n + let_variables s) cs [])) (view_at (Number 0) w) rest)))
+fold_loop env n ty len s w loads x b rest lets m turned stored looped values first es em et ev ef eo el = rw (el, eo, et, ef, ev, em, es) refl
+
+module _ {A : Type 0} (spell : A → Formula) (ins : ℕ → View) (depth : ℕ) (env : ℕ → View) (a n : ℕ) where
+  pub argument_let : (v b viewed arrays variables first last : Term A) (rest code : Code) (bound : View) (f p g q : ℕ) → viewed ≡ v → arrays ≡ v → variables ≡ v → last ≡ b → first ≡ v
+      → bound ≡ argument_view spell ins env a viewed → f ≡ private_count arrays → p ≡ a + f → g ≡ variable_count variables → q ≡ n + g
+      → code ≡ print_argument spell ins depth (push bound env) p q last rest → print_argument spell ins depth env a n first code ≡ print_argument spell ins depth env a n (LetArray v b) rest
+  argument_let v b viewed arrays variables first last rest code bound f p g q hv ha hn hl hf eb ef ep eg eq ec = rw (ec, eb, ep, ef, eq, eg, hv, ha, hn, hl, hf) refl
+
+  pub written_let : (v b : Term A) (w : View) (rest code : Code) (bound : View) (f p g q : ℕ) → bound ≡ argument_view spell ins env a v → f ≡ private_count v → p ≡ a + f → g ≡ variable_count v → q ≡ n + g
+      → code ≡ print_written spell ins depth (push bound env) p q b w rest → print_argument spell ins depth env a n v code ≡ print_written spell ins depth env a n (LetArray v b) w rest
+  written_let v b w rest code bound f p g q eb ef ep eg eq ec = rw (ec, eb, ep, ef, eq, eg) refl
+
+  pub written_layout : (y : Layout A) (t : Term A) (w target : View) (rest : Code) → target ≡ (λ cs is. w cs (result_indices spell y is))
+      → print_written spell ins depth env a n t target rest ≡ print_written spell ins depth env a n (Reshape y t) w rest
+  written_layout y t w target rest e = ap (λ v. print_written spell ins depth env a n t v rest) e
+
+  pub written_fold : (len : A) (loads : LoadSet) (ty : Ty) (xs s b : Term A) (w : View) (rest code : Code) (array element : View) (bound : Formula) (f p : ℕ)
+      → array ≡ argument_view spell ins env a xs → element ≡ view_at (LoopVariable depth) array → f ≡ variable_count xs → p ≡ n + f → bound ≡ spell len
+      → code ≡ print_element env p s (print_assigned ty (sign_exprs env p s) (p + let_variables s) (Loops FromZero bound ByOne (print_fold_turn env loads ty element (p + let_variables s) b) (print_stored ty (λ cs. held_sign (held_view ty (p + let_variables s) cs [])) (view_at (Number 0) w) rest)))
+      → print_argument spell ins depth env a n xs code ≡ print_written spell ins depth env a n (Fold len loads ty xs s b) w rest
+  written_fold len loads ty xs s b w rest code array element bound f p ea ee ef ep eb ec = rw (ec, ee, ea, ep, ef, eb) refl
