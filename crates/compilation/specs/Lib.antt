@@ -1,12 +1,5 @@
 pub mod Compiled
 pub mod Form
-pub mod Nest
-pub mod OneList
+pub mod Legal
+pub mod Meets
 pub mod OneProof
-pub mod Runs
-pub mod Shown
-pub mod Source
-pub mod SourceTerms
-pub mod Stages
-pub mod Started
-pub mod StepsText

@@ -1,0 +1,43 @@
+//! The kernel of a last term.
+ghost use Rattle.std.specs.Prelude.{◌≡◌, IfErr, IfOk, Ok};
+ghost use Rattle.lift_tree.specs.Annotations.{annotation_of};
+ghost use Rattle.lift_tree.specs.Programs.{program_of};
+ghost use Rattle.lift_tree.specs.Tree.{tree_of};
+ghost use Rattle.lift_tree.specs.Typing.{declared_by};
+ghost use Rattle.kernel_tree.specs.Kernels.{kernel_of};
+ghost use Rattle.kernel_emit.specs.MapKernel.{map_kernel};
+ghost use Rattle.strategy_script.specs.Steps.{state_of};
+ghost use Rattle.nest_premises.specs.Printable.{IsPrintable};
+ghost use Rattle.program_source.specs.Program.{StopsFor};
+ghost use Rattle.compilation.specs.Compiled.{PrintsAtAll};
+ghost use Rattle.compilation.specs.Form.{HasForm};
+ghost use Rattle.compilation.specs.Legal.{CompilesTerm, IsTypedLast};
+
+use crate::legal::{addend_of, judge_buffers, mapped};
+use fault_lines::Refusal;
+use kernel_emit::map_kernel;
+use kernel_tree::tree::Kernel;
+use lift_tree::typed::Typed;
+use nest_premises::laws::accepted_terms_are_printable;
+use nest_premises::steps::has_word_steps;
+use std::alloc::Global;
+
+/// The number that the kernel of a last term adds, where the term is compiled.
+pub fn compiled_addend(alloc: Global, last: &Typed) -> Result<u32, Refusal>
+    requires { IsTypedLast last.now }
+    ensures form { IfOk result
+        (λ addend. HasForm (program_of last.now.program) (tree_of last.now.term) addend) }
+    ensures compiles { IfOk result (λ _. CompilesTerm (program_of last.now.program)
+        (state_of last.now) (Ok (state_of last.now))) }
+    ensures printable { IfOk result (λ _. IsPrintable (declared_by (program_of last.now.program))
+        (tree_of last.now.term) (annotation_of last.now.types)) }
+    ensures refused { IfErr result
+        (StopsFor (CompilesTerm (program_of last.now.program) (state_of last.now))) }
+{
+    accepted_terms_are_printable();
+    has_word_steps(&last.term);
+    let mapped = mapped(alloc, last)?;
+    let addend = addend_of(alloc, last)?;
+    judge_buffers(alloc, mapped, last)?;
+    Ok(addend)
+}

@@ -1,0 +1,5 @@
+pub mod FewNodes
+pub mod Once
+pub mod Proper
+pub mod Stages
+pub mod TermsMade
