@@ -25,7 +25,7 @@ use Rattle.program_source.specs.Terms.{TermsOf}
 use Rattle.program_source.proofs.FewNodes.{few_inputs}
 use Rattle.compilation.specs.Compiled.{IsCompiled, PrintsAtAll}
 use Rattle.compilation.specs.Legal.{CompilesTerm, IsTypedLast, LegalOf}
-use Rattle.compilation.specs.Meets.{Admits, LeavesSource, MeetsSource, Starts}
+use Rattle.compilation.specs.Meets.{Admits, CanBeLaidOut, HasFewEvents, IsTextFor, LeavesSource, MeetsSource, Starts}
 
 -- ---- what is printed for a term that keeps the source's value
 
@@ -52,11 +52,6 @@ module _ (p : PlainProgram) (s : State) (k : Kernel) (printable : IsPrintable (d
 -- a kernel that meets its source leaves its value
 pub leaves : (p : PlainProgram) (output : PlainTy) (s : State) (k : Kernel) → MeetsSource p output s k → LeavesSource p output (is_task s.tree) k
 leaves p output s k meets w l c a start es begins is = (meets w l c a start es begins is).leaves
-
--- what holds of a text's kernel holds of each kernel of that text
-pub of_each : (P : Kernel → Type 0) (text : List ℕ) → ((bytes : List ℕ) (k l : Kernel) → IsKernelText bytes k → IsKernelText bytes l → k ≡ l)
-    → (k : Kernel) → IsKernelText text k → P k → (l : Kernel) → IsKernelText text l → P l
-of_each P text one k written holds l too = subst P (one text k l written too) holds
 
 -- ---- the last term
 
@@ -86,6 +81,25 @@ compiled_found program script t output task text k start keep same alone last co
       prints = prints;
       parameters = starts p (state_of t) k printable last.term.keeps prints start;
       meets = meets p (state_of t) k printable last.term.keeps prints keep;
+    })
+
+-- what a type keeps of it
+pub text_for : (program script : List ℕ) (t : Typed) (output : PlainTy) (text : List ℕ) (k : Kernel) → PrintedProgramsStart → PrintedProgramsKeep → output ≡ type_in (annotation_of t.types)
+    → IsLastTerm program script t → CanBeLaidOut (program_of t.program) (type_in (annotation_of t.types)) → IsPrintable (declared_by (program_of t.program)) (tree_of t.term) (annotation_of t.types)
+    → PrintsAtAll (program_of t.program) (state_of t) k → IsKernelText text k → is_task (tree_of t.term) ≡ true → HasFewEvents (program_of t.program) (type_in (annotation_of t.types)) true k
+    → IsTextFor (program_of t.program) output (is_task (tree_of t.term)) text
+text_for program script t output text k start keep same last laid_out printable prints written alone few =
+    let p = program_of t.program in
+    subst (λ (a : PlainTy). IsTextFor p a (is_task (tree_of t.term)) text) (sym same)
+    (record {
+      typed = last.output;
+      laid_out = laid_out;
+      kernel = k;
+      written = written;
+      starts = starts p (state_of t) k printable last.term.keeps prints start;
+      leaves = leaves p (type_in (annotation_of t.types)) (state_of t) k (meets p (state_of t) k printable last.term.keeps prints keep);
+      alone = alone;
+      few_events = subst (λ b. HasFewEvents p (type_in (annotation_of t.types)) b k) (sym alone) few;
     })
 
 -- what stops the terms stops what is compiled of them

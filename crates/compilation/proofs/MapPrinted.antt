@@ -1,5 +1,5 @@
 -- The kernel of a sequential map is printed for it.
-use Rattle.std.proofs.Common.{◌≡◌, ◌∙◌, ◌+◌, ◌*◌, ◌<◌, ◌≤◌, ◌^◌, ℕ, List, [], ◌∷◌, length, true, None, Some, inl, refl, sym, ap, subst, arith, pos}
+use Rattle.std.proofs.Common.{◌≡◌, ◌∙◌, ◌+◌, ◌*◌, ◌<◌, ◌≤◌, ◌^◌, ℕ, List, [], ◌∷◌, true, None, Some, inl, refl, sym, ap, ap₂, subst, arith, pos}
 use Rattle.std.proofs.lemmas.Int.{ints}
 use Rattle.std.proofs.Math.Nat.{pow-zero, pow-suc}
 use Rattle.std.specs.Prelude.{slice_index}
@@ -8,10 +8,10 @@ use Rattle.size_arith.specs.declared.names.Name.{Name}
 use Rattle.size_arith.specs.declared.poly.Monomial.{Monomial}
 use Rattle.size_arith.specs.Polynomial.{value_at}
 use Rattle.size_arith.specs.Ranges as ranges
-use Rattle.size_arith.specs.Ranges.{Admissible}
+use Rattle.size_arith.specs.Ranges.{Admissible, sizes_at}
 use Rattle.lift_tree.specs.declared.length.Factor.TheVariants as factors
 use Rattle.lift_tree.specs.declared.length.Sign.TheVariants as signs
-use Rattle.lift_tree.specs.Annotations.{Annotation, Annotates, Leaf, One, Two, Three}
+use Rattle.lift_tree.specs.Annotations.{Annotation, Annotates, Leaf, One, Two, Three, type_in}
 use Rattle.lift_tree.specs.Programs.{PlainProgram}
 use Rattle.lift_tree.specs.Tree.{Tree, Input, Variable, Number}
 use Rattle.lift_tree.specs.Types.{PlainTy, U32, ArrayOf}
@@ -22,6 +22,7 @@ use Rattle.kernel_tree.specs.Code.{Code, Output, End}
 use Rattle.kernel_tree.specs.Formula as formula
 use Rattle.kernel_tree.specs.Bound.{bound}
 use Rattle.kernel_tree.specs.Launch.{Launch, Cells}
+use Rattle.lift_ir.specs.AtLaunch.{length_at, natural}
 use Rattle.kernel_emit.specs.MapKernel.{map_kernel, map_turn}
 use Rattle.lowered_tree.specs.Kinds.{is_task}
 use Rattle.lowered_tree.specs.Printed.{first_unprinted}
@@ -86,7 +87,15 @@ sum_is d a c (Three b n m k) h = absurd h
 types_are : (d : Declared) (c : ℕ) (len : List Monomial) (n : Annotation) → d.inputs ≡ ArrayOf U32 len ∷ [] → Annotates d [] (sequential_map c) n → n ≡ map_types len
 types_are d c len (Leaf b) one h = absurd h
 types_are d c len (One b n) one h = absurd h
-types_are d c len (Two b n m) one h = ?
+types_are d c len (Two b n m) one h =
+    let input = input_is d [] (ArrayOf U32 len) n one h.2 in
+    let same : ArrayOf h.0 h.1 ≡ ArrayOf U32 len = sym h.3 ∙ ap type_in input in
+    let element : h.0 ≡ U32 = cc (same) in
+    let long : h.1 ≡ len = cc (same) in
+    let added = sum_is d h.0 c m h.4 in
+    let word : type_in m ≡ U32 = ap type_in added in
+    let whole = h.5 in
+    cc
 types_are d c len (Three b n m k) one h = absurd h
 
 -- ---- its kernel
@@ -94,10 +103,15 @@ types_are d c len (Three b n m k) one h = absurd h
 one_index : (i : ℕ) → i ≡ i * 1 + 0
 one_index i = omega arith
 
+length_is : (form : Form) (body : Tree) (bases : List ℕ) (l : Launch) → IsLaunchOf (declared_by (of_form form body)) true bases l → slice_index l.sizes 0 ≡ length_at bases (counted form)
+length_is form body bases l at =
+    let y = one_base (range form) bases at.admissible.sizes in
+    let one : 1 * y.0 ≡ y.0 = omega arith in
+    ap (λ (ns : List ℕ). slice_index ns 0) (at.sizes ∙ ap (sizes_at (range form ∷ [])) y.1) ∙ one ∙ sym (ap natural (counted_at form y.0)) ∙ sym (ap (λ ys. length_at ys (counted form)) y.1)
+
 printed_for : (form : Form) (body : Tree) (bases : List ℕ) (l : Launch) → IsLaunchOf (declared_by (of_form form body)) true bases l
     → Prints (declared_by (of_form form body)) bases (sequential_map form.addend) (map_types (counted form)) l (map_kernel form.addend)
 printed_for form body bases l at =
-    let y = one_base (range form) bases at.admissible.sizes in
     let store : Code = code.Stores (Output 0) (formula.LoopVariable 0) (formula.Binary Add (formula.Variable 0) (formula.Number form.addend)) End in
     record {
       inputs = refl;
@@ -113,7 +127,7 @@ printed_for form body bases l at =
           formula.Size 0,
           map_turn form.addend,
           refl,
-          ?,
+          ap Some (length_is form body bases l at),
           λ i lt. (store, (code.Input 0, formula.LoopVariable 0, (refl, λ k vs. ap Some (one_index i)), refl), (store, (store, refl, refl), (Output 0, formula.LoopVariable 0, formula.Binary Add (formula.Variable 0) (formula.Number form.addend), refl, (refl, λ k vs. ap Some (one_index i)), refl))),
         ),
       ));
@@ -121,14 +135,42 @@ printed_for form body bases l at =
 
 -- ---- what is known of a term of the form
 
+PrintsMap : PlainProgram → Tree → Annotation → ℕ → Type 0
+PrintsMap p t n addend = (bases : List ℕ) (l : Launch) → IsLaunchOf (declared_by p) (is_task t) bases l → Prints (declared_by p) bases t n l (map_kernel addend)
+
+nodes_are : (p : PlainProgram) (s : State) (form : Form) → IsPrinted p s.tree form → Annotates (declared_by p) [] s.tree s.types → s.types ≡ map_types (counted form)
+nodes_are p s form printed nodes =
+    types_are (declared_by p) form.addend (counted form) s.types (ap (λ (q : PlainProgram). (declared_by q).inputs) (is_of_form p s.tree form printed))
+    (subst (λ (t : Tree). Annotates (declared_by p) [] t s.types) printed.becomes nodes)
+
+unfolding PrintsMap
 pub map_prints : (p : PlainProgram) (s : State) (addend : ℕ) → HasForm p s.tree addend → Annotates (declared_by p) [] s.tree s.types → PrintsAtAll p s (map_kernel addend)
-map_prints p s addend has nodes = ?
+map_prints p s addend has nodes =
+    let form = has.form in
+    let is = is_of_form p s.tree form has.printed in
+    let q = of_form form p.body in
+    let types = nodes_are p s form has.printed nodes in
+    let base : PrintsMap q (sequential_map form.addend) (map_types (counted form)) form.addend = printed_for form p.body in
+    subst (λ (r : PlainProgram). PrintsMap r s.tree s.types addend) (sym is)
+    (subst (λ (t : Tree). PrintsMap q t s.types addend) (sym has.printed.becomes)
+    (subst (λ (n : Annotation). PrintsMap q (sequential_map form.addend) n addend) (sym types)
+    (subst (λ (a : ℕ). PrintsMap q (sequential_map form.addend) (map_types (counted form)) a) has.adds base)))
 
 pub map_is_task : (p : PlainProgram) (term : Tree) (addend : ℕ) → HasForm p term addend → is_task term ≡ true
 map_is_task p term addend has = ap is_task has.printed.becomes
 
 pub map_is_printed : (p : PlainProgram) (s : State) (addend : ℕ) → HasForm p s.tree addend → Annotates (declared_by p) [] s.tree s.types → first_unprinted s.tree s.types ≡ None
-map_is_printed p s addend has nodes = ?
+map_is_printed p s addend has nodes = ap₂ first_unprinted has.printed.becomes (nodes_are p s has.form has.printed nodes)
+
+few_events : (form : Form) (body : Tree) (output : PlainTy) (addend : ℕ) → form.to ≤ 1048576 → HasFewEvents (of_form form body) output true (map_kernel addend)
+few_events form body output addend most w l c a =
+    let y = one_base (range form) w.bases a.world.bases in
+    let one = a.launch.alone refl in
+    let size : slice_index l.sizes 0 ≡ 1 * y.0 = ap (λ (ns : List ℕ). slice_index ns 0) (a.sizes ∙ a.world.sizes ∙ ap (sizes_at (range form ∷ [])) y.1) in
+    let is : bound (map_kernel addend) l ≡ 1 * (1 + 1 * y.0 * 3 + 0) = ap₂ (λ g n. g * (1 + n * 3 + 0)) one size in
+    let below = y.2.1 in
+    omega (arith, is, below, most)
 
 pub map_has_few_events : (p : PlainProgram) (output : PlainTy) (term : Tree) (addend : ℕ) → HasForm p term addend → HasFewEvents p output true (map_kernel addend)
-map_has_few_events p output term addend has w l c a = ?
+map_has_few_events p output term addend has =
+    subst (λ (q : PlainProgram). HasFewEvents q output true (map_kernel addend)) (sym (is_of_form p term has.form has.printed)) (few_events has.form p.body output addend has.printed.most)

@@ -2,4 +2,3 @@ pub mod Compiled
 pub mod Form
 pub mod Legal
 pub mod Meets
-pub mod OneProof

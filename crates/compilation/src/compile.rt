@@ -1,28 +1,23 @@
 //! A program and a script, compiled to the text of a kernel.
-ghost use Rattle.std.specs.Prelude.{◌≡◌, ◌+◌, ◌<◌, ◌^◌, IfErr, IfOk, true};
+ghost use Rattle.std.specs.Prelude.{◌≡◌, IfErr, IfOk};
 ghost use Rattle.lift_tree.specs.Annotations.{annotation_of, type_in};
 ghost use Rattle.lift_tree.specs.Programs.{program_of};
 ghost use Rattle.lift_tree.specs.Types.{ty_of};
-ghost use Rattle.kernel_tree.specs.Code.{Kernel};
-ghost use Rattle.kernel_tree.specs.KernelText.{IsKernelText};
-ghost use Rattle.kernel_emit.specs.MapKernel.{map_kernel};
 ghost use Rattle.program_source.specs.Program.{OnProgram, StopsFor};
 ghost use Rattle.compilation.specs.Compiled.{IsCompiled};
 ghost use Rattle.compilation.specs.Legal.{LegalOf};
-ghost use Rattle.compilation.specs.Meets.{HasFewEvents, LeavesSource, Starts};
-ghost use Rattle.compilation.specs.OneProof.{leaves_source_once};
+ghost use Rattle.compilation.specs.Meets.{IsTextFor};
 
-use crate::kernel::compiled_addend;
+use crate::kernel::compiled_kernel;
 use fault_lines::Refusal;
-use kernel_emit::map_kernel;
 use kernel_printer::print;
-use kernel_spelling::one_kernel;
 use lift_tree::program::Program;
 use lift_tree::ty::Ty;
 use lift_tree::typed::NodeTypes;
+use lowered_tree::around::is_task;
 use printed_form::laws::{printed_programs_keep, printed_programs_start};
 use program_source::last_term;
-use std::alloc::{AllocError, Global};
+use std::alloc::Global;
 
 /// The text of a kernel, with the program that it is compiled from.
 #[derive(Drop)]
@@ -35,18 +30,8 @@ pub struct Compiled {
     pub is_task: bool,
     /// The text of the kernel.
     pub text: Vec<u8>,
-    // The text is some kernel's.
-    ghost some_kernel: { ¬ ((k : Kernel) → ¬ IsKernelText text.items k) },
-    // Whatever kernel that is, it may be started at each admissible launch, and every run of it
-    // there leaves the program's value.
-    ghost starts: { (k : Kernel) → IsKernelText text.items k
-        → Starts (program_of program) (ty_of output) is_task k },
-    ghost leaves: { (k : Kernel) → IsKernelText text.items k
-        → LeavesSource (program_of program) (ty_of output) is_task k } by { leaves_source_once (program_of program) (ty_of output) is_task text.items },
-    // So far one work-item runs it, and its events can be counted.
-    ghost one_item: { is_task ≡ true },
-    ghost few_events: { (k : Kernel) → IsKernelText text.items k
-        → HasFewEvents (program_of program) (ty_of output) is_task k },
+    // The text is of a kernel that leaves the program's value at each admissible launch.
+    ghost text_for: { ∥ IsTextFor (program_of program) (ty_of output) is_task text.items ∥₁ },
 }
 
 // The type of the whole term.
@@ -61,14 +46,6 @@ fn own_type(types: NodeTypes) -> Ty
     }
 }
 
-// The text of the kernel that adds this number.
-fn printed(alloc: Global, addend: u32) -> Result<Vec<u8>, AllocError>
-    ensures { IfOk result (λ text. IsKernelText text.items (map_kernel addend)) }
-{
-    let kernel = map_kernel(alloc, addend)?;
-    print(alloc, &kernel)
-}
-
 /// Compiles a program along a script: to the text of one kernel, of which every run at every
 /// admissible launch leaves the program's value. A refusal is the first cause in the order of the
 /// stages: the program's text and its limits, its types, the script's text and its limit, the
@@ -80,16 +57,15 @@ pub fn compile_text(alloc: Global, program: &[u8], script: &[u8]) -> Result<Comp
     ensures refused { IfErr result
         (StopsFor (OnProgram program.now (λ p. LegalOf p script.now))) }
 {
-    one_kernel();
     printed_programs_keep();
     printed_programs_start();
     let last = last_term(alloc, program, script)?;
-    let addend = compiled_addend(alloc, &last)?;
-    let text = printed(alloc, addend)?;
+    let kernel = compiled_kernel(alloc, &last)?;
+    let text = print(alloc, &kernel)?;
     Ok(Compiled {
+        is_task: is_task(&last.term),
         program: last.program,
         output: own_type(last.types),
-        is_task: true,
         text,
     })
 }

@@ -1,17 +1,19 @@
 //! The kernel of a last term.
-ghost use Rattle.std.specs.Prelude.{◌≡◌, IfErr, IfOk, Ok};
-ghost use Rattle.lift_tree.specs.Annotations.{annotation_of};
+ghost use Rattle.std.specs.Prelude.{◌≡◌, IfErr, IfOk, Ok, true};
+ghost use Rattle.lift_tree.specs.Annotations.{annotation_of, type_in};
 ghost use Rattle.lift_tree.specs.Programs.{program_of};
 ghost use Rattle.lift_tree.specs.Tree.{tree_of};
+ghost use Rattle.lift_tree.specs.Types.{PlainTy};
 ghost use Rattle.lift_tree.specs.Typing.{declared_by};
 ghost use Rattle.kernel_tree.specs.Kernels.{kernel_of};
-ghost use Rattle.kernel_emit.specs.MapKernel.{map_kernel};
+ghost use Rattle.lowered_tree.specs.Kinds.{is_task};
 ghost use Rattle.strategy_script.specs.Steps.{state_of};
 ghost use Rattle.nest_premises.specs.Printable.{IsPrintable};
 ghost use Rattle.program_source.specs.Program.{StopsFor};
 ghost use Rattle.compilation.specs.Compiled.{PrintsAtAll};
 ghost use Rattle.compilation.specs.Form.{HasForm};
 ghost use Rattle.compilation.specs.Legal.{CompilesTerm, IsTypedLast};
+ghost use Rattle.compilation.specs.Meets.{CanBeLaidOut, HasFewEvents};
 
 use crate::legal::{addend_of, judge_buffers, mapped};
 use fault_lines::Refusal;
@@ -22,8 +24,8 @@ use nest_premises::laws::accepted_terms_are_printable;
 use nest_premises::steps::has_word_steps;
 use std::alloc::Global;
 
-/// The number that the kernel of a last term adds, where the term is compiled.
-pub fn compiled_addend(alloc: Global, last: &Typed) -> Result<u32, Refusal>
+// The number that the kernel of a last term adds, where the term is compiled.
+fn compiled_addend(alloc: Global, last: &Typed) -> Result<u32, Refusal>
     requires { IsTypedLast last.now }
     ensures form { IfOk result
         (λ addend. HasForm (program_of last.now.program) (tree_of last.now.term) addend) }
@@ -40,4 +42,26 @@ pub fn compiled_addend(alloc: Global, last: &Typed) -> Result<u32, Refusal>
     let addend = addend_of(alloc, last)?;
     judge_buffers(alloc, mapped, last)?;
     Ok(addend)
+}
+
+/// The kernel of a last term, printed for it at each admissible launch. `Nest`, `Unprinted` and
+/// `Alloc` come in this order, for the first rule, node or limit.
+pub fn compiled_kernel(alloc: Global, last: &Typed) -> Result<Kernel, Refusal>
+    requires { IsTypedLast last.now }
+    ensures prints { IfOk result (λ k. PrintsAtAll (program_of last.now.program)
+        (state_of last.now) (kernel_of k)) }
+    ensures compiles { IfOk result (λ _. CompilesTerm (program_of last.now.program)
+        (state_of last.now) (Ok (state_of last.now))) }
+    ensures printable { IfOk result (λ _. IsPrintable (declared_by (program_of last.now.program))
+        (tree_of last.now.term) (annotation_of last.now.types)) }
+    ensures laid_out { IfOk result (λ _. CanBeLaidOut (program_of last.now.program)
+        (type_in (annotation_of last.now.types))) }
+    ensures alone { IfOk result (λ _. is_task (tree_of last.now.term) ≡ true) }
+    ensures few { IfOk result (λ k. (output : PlainTy)
+        → HasFewEvents (program_of last.now.program) output true (kernel_of k)) }
+    ensures refused { IfErr result
+        (StopsFor (CompilesTerm (program_of last.now.program) (state_of last.now))) }
+{
+    let addend = compiled_addend(alloc, last)?;
+    Ok(map_kernel(alloc, addend)?)
 }

@@ -5,12 +5,13 @@ ghost use Rattle.launch_file.specs.ResultLine.{result_line};
 ghost use Rattle.lift_tree.specs.Annotations.{IsTyped};
 ghost use Rattle.lift_tree.specs.Programs.{program_of};
 ghost use Rattle.lift_tree.specs.Tree.{tree_of};
-ghost use Rattle.compilation.specs.Runs.{IsAdmissibleFor};
-ghost use Rattle.compilation.specs.Source.{source_value, world_given};
-ghost use Rattle.compilation.specs.Started.{EvalOf, FailsFor, IsValueLine, OnSource};
+ghost use Rattle.program_runs.specs.Runs.{IsAdmissibleFor, world_given};
+ghost use Rattle.program_source.specs.Ends.{FailsFor, OnSource};
+ghost use Rattle.program_source.specs.Program.{source_value};
+ghost use Rattle.program_runs.specs.Started.{EvalOf, IsValueLine};
 ghost use Rattle.fault_lines.specs.Shown.{failure_of};
 
-use crate::source::typed_source;
+use program_source::typed_source;
 use fault_lines::Failure;
 use launch_file::file::{Ask, LaunchFile, read_launch};
 use launch_file::result::result_text;

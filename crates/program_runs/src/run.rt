@@ -1,32 +1,40 @@
 //! The run of the text of a kernel.
-ghost use Rattle.std.specs.Prelude.{◌≡◌, ◌∷◌, [], IfErr, IfOk, length, replicate};
+ghost use Rattle.std.specs.Prelude.{◌≡◌, IfErr, IfOk, map};
 ghost use Rattle.kernel_tree.specs.Kernels.{kernel_of};
-ghost use Rattle.kernel_emit.specs.MapKernel.{map_kernel};
+ghost use Rattle.kernel_tree.specs.KernelText.{IsKernelText};
+ghost use Rattle.lift_tree.specs.Launches.{lists_of};
 ghost use Rattle.lift_tree.specs.Programs.{program_of};
 ghost use Rattle.lift_tree.specs.Types.{ty_of};
-ghost use Rattle.compilation.specs.Runs.{IsAdmissibleFor, IsLineOfText, RunsInOrder};
+ghost use Rattle.lift_tree.specs.Values.{value_of};
+ghost use Rattle.value_lists.specs.Lists.{value_in};
 ghost use Rattle.launch_file.specs.LaunchFile.{given_by};
-ghost use Rattle.compilation.specs.Source.{source_value, words, world_given};
-ghost use Rattle.compilation.specs.Started.{FailsFor, IsRunLine, OnSource, RunOf};
 ghost use Rattle.fault_lines.specs.Shown.{failure_of};
+ghost use Rattle.program_source.specs.Ends.{FailsFor, OnSource};
+ghost use Rattle.program_source.specs.Program.{source_value};
+ghost use Rattle.program_runs.specs.Runs.{IsAdmissibleFor, IsLineOfText, RunsText, world_given};
+ghost use Rattle.program_runs.specs.Started.{IsRunLine, RunOf};
 
-use crate::cells::{first_input, list_of};
-use crate::compile::{Compiled, compile_text};
+use crate::cells::begun;
+use compilation::{Compiled, compile_text};
 use fault_lines::Failure;
 use kernel_reader::{KernelNo, read_kernel};
-use kernel_spelling::one_text;
-use kernel_tree::launches::{Cells, Launch};
+use kernel_spelling::one_kernel;
+use kernel_tree::launches::Launch;
 use kernel_tree::tree::Kernel;
 use launch_file::file::{Ask, LaunchFile, read_launch};
 use launch_file::result::result_text;
 use lift_reader::program::programs_may_be_typed;
+use lift_tree::laws::values_have_their_types;
+use lift_tree::value::Val;
 use ndrange_device::{Ended, run_in_order};
 use pattern_types::laws::judged_inputs_are_proper;
 use std::alloc::{AllocError, Global};
+use value_lists::laws::{lists_have_lengths, lists_hold_one_value};
+use value_lists::value_of_lists;
 
 // The kernel that is read back from the text.
 fn read_back(alloc: Global, compiled: &Compiled) -> Result<Kernel, AllocError>
-    ensures { IfOk result (λ kernel. kernel_of kernel ≡ map_kernel compiled.now.addend) }
+    ensures { IfOk result (λ k. IsKernelText compiled.now.text.items (kernel_of k)) }
 {
     match read_kernel(alloc, compiled.text.as_slice()) {
         Ok(kernel) => Ok(kernel),
@@ -46,47 +54,40 @@ fn copied(alloc: Global, launch: &Launch) -> Result<Launch, AllocError>
     })
 }
 
-// The input, an output as long, and 0 in all other memory.
-fn cells_of(alloc: Global, input: Vec<u32>) -> Result<Cells, AllocError>
-    ensures { IfOk result (λ cells. cells ≡ record {
-      ins = input.items ∷ [];
-      outs = replicate (length input.items) 0 ∷ [];
-      rest = 0;
-    }) }
-{
-    let output = vec![in alloc; 0; input.len()]?;
-    let mut ins = Vec::new(alloc);
-    ins.push(input)?;
-    let mut outs = Vec::new(alloc);
-    outs.push(output)?;
-    Ok(Cells { ins, outs, rest: 0 })
-}
-
-// What a run leaves: the output's numbers, and how many events it had.
-#[derive(Drop)]
-struct Outcome {
-    value: Vec<u32>,
-    events: u64,
-}
-
-// Runs what is read back from the text, by one work-item, in order.
-fn run_back(alloc: Global, compiled: &Compiled, file: &LaunchFile) -> Result<Outcome, AllocError>
+// What the run of what is read back from the text leaves, by one work-item, in order.
+fn run_back(alloc: Global, compiled: &Compiled, file: &LaunchFile) -> Result<Ended, AllocError>
     requires { IsAdmissibleFor (program_of compiled.now.program) compiled.now.is_task
         (given_by file.now) }
-    ensures value { IfOk result (λ o. words o.value.items
-        ≡ source_value (program_of compiled.now.program) (world_given (given_by file.now))) }
-    ensures run { IfOk result (λ o. RunsInOrder (program_of compiled.now.program)
-        (ty_of compiled.now.output) (map_kernel compiled.now.addend) (given_by file.now) o.events) }
+    ensures left { IfOk result (λ ended. map (λ l. l.items) ended.outs.items
+        ≡ lists_of (ty_of compiled.now.output)
+        (source_value (program_of compiled.now.program) (world_given (given_by file.now)))) }
+    ensures run { IfOk result (λ ended. RunsText (program_of compiled.now.program)
+        (ty_of compiled.now.output) compiled.now.text.items (given_by file.now) ended.events) }
 {
+    lists_have_lengths();
+    values_have_their_types();
+    one_kernel();
     let kernel = read_back(alloc, compiled)?;
     let launch = copied(alloc, &file.launch)?;
-    let input = first_input(alloc, file)?;
-    let cells = cells_of(alloc, input)?;
-    let Ended { mut outs, events } = run_in_order(alloc, kernel, launch, cells)?;
-    let Some(value) = outs.pop() else {
-        unreachable!()
-    };
-    Ok(Outcome { value, events })
+    let cells = begun(alloc, compiled, file)?;
+    run_in_order(alloc, kernel, launch, cells)
+}
+
+// The value that the output's lists hold.
+fn value_left(
+    alloc: Global,
+    compiled: &Compiled,
+    file: &LaunchFile,
+    outs: &[Vec<u32>],
+) -> Result<Val, AllocError>
+    requires admissible { IsAdmissibleFor (program_of compiled.now.program) compiled.now.is_task
+        (given_by file.now) }
+    requires left { map (λ l. l.items) outs.now ≡ lists_of (ty_of compiled.now.output)
+        (source_value (program_of compiled.now.program) (world_given (given_by file.now))) }
+    ensures { IfOk result (λ v. value_of v ≡ value_in (given_by file.now).bases
+        (ty_of compiled.now.output) (map (λ l. l.items) outs.now) 0 0) }
+{
+    value_of_lists(alloc, &compiled.output, &file.sizes, outs)
 }
 
 /// The result line of the run of what is read back from the text, at the launch and on the inputs
@@ -102,10 +103,11 @@ pub fn run_launch(
     ensures { IfOk result (λ line. IsLineOfText (program_of compiled.now.program)
         (ty_of compiled.now.output) compiled.now.text.items (given_by file.now) line.items) }
 {
-    one_text();
-    let outcome = run_back(alloc, compiled, file)?;
-    let value = list_of(alloc, outcome.value.as_slice())?;
-    Ok(result_text(alloc, &value, Some((outcome.events, 0)))?)
+    lists_hold_one_value();
+    values_have_their_types();
+    let Ended { outs, events } = run_back(alloc, compiled, file)?;
+    let value = value_left(alloc, compiled, file, &outs)?;
+    result_text(alloc, &value, Some((events, 0)))
 }
 
 /// The result line of a program, a script and a launch file: compiles, and runs what is read back

@@ -106,7 +106,7 @@ module _ {T F M N : Type 0} (g : Grammar T F M N) where
     | inr (inr less) ↦ absurd (not_before o n ts j (i - j - 1) k (subst (StopsAt g o n ts) (omega (arith, less)) h))
   ]
 
-abbrev TokensAreOne : Type 0
+abbrev pub TokensAreOne : Type 0
 TokensAreOne = (at : ℕ) (text : List ℕ) (some others : List (ℕ × Lexeme)) → AreTokens at text some → AreTokens at text others → some ≡ others
 
 -- a text stops at one token

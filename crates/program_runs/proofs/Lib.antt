@@ -1,0 +1,5 @@
+pub mod Admitted
+pub mod LaidOut
+pub mod Once
+pub mod Running
+pub mod Stopped
