@@ -1,3 +1,4 @@
 pub mod Compiling
+pub mod Legality
 pub mod MapPrinted
 pub mod Once

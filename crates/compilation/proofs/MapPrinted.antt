@@ -1,8 +1,9 @@
 -- The kernel of a sequential map is printed for it.
-use Rattle.std.proofs.Common.{◌≡◌, ◌∙◌, ◌+◌, ◌*◌, ◌<◌, ◌≤◌, ◌^◌, ℕ, List, [], ◌∷◌, true, None, Some, inl, refl, sym, ap, ap₂, subst, arith, pos}
+use Rattle.std.proofs.Common.{◌≡◌, ◌∙◌, ◌+◌, ◌*◌, ◌<◌, ◌≤◌, ◌^◌, ℕ, List, [], ◌∷◌, true, None, Some, inl, refl, sym, ap, ap₂, subst, arith, pos, tt}
 use Rattle.std.proofs.lemmas.Int.{ints}
 use Rattle.std.proofs.Math.Nat.{pow-zero, pow-suc}
-use Rattle.std.specs.Prelude.{slice_index}
+use Rattle.std.specs.Prelude.{nat_abs, slice_index}
+use Rattle.value_lists.specs.Lists as lists
 use Rattle.scalar_ops.specs.declared.op.Op.TheVariants.{Add}
 use Rattle.size_arith.specs.declared.names.Name.{Name}
 use Rattle.size_arith.specs.declared.poly.Monomial.{Monomial}
@@ -30,7 +31,7 @@ use Rattle.printed_form.specs.Programs.{IsLaunchOf, Prints}
 use Rattle.strategy_script.specs.Steps.{State}
 use Rattle.compilation.specs.Compiled.{PrintsAtAll}
 use Rattle.compilation.specs.Form.{Form, HasForm, IsPrinted, input_of, sequential_map, size_of, sum}
-use Rattle.compilation.specs.Meets.{Admits, HasFewEvents}
+use Rattle.compilation.specs.Meets.{Admits, CanBeLaidOut, HasFewEvents}
 
 -- ---- programs of the form
 
@@ -174,3 +175,20 @@ few_events form body output addend most w l c a =
 pub map_has_few_events : (p : PlainProgram) (output : PlainTy) (term : Tree) (addend : ℕ) → HasForm p term addend → HasFewEvents p output true (map_kernel addend)
 map_has_few_events p output term addend has =
     subst (λ (q : PlainProgram). HasFewEvents q output true (map_kernel addend)) (sym (is_of_form p term has.form has.printed)) (few_events has.form p.body output addend has.printed.most)
+
+-- lists of numbers, as many as the size says
+counted_are : (form : Form) (body : Tree) → form.to ≤ 1048576 → CanBeLaidOut (of_form form body) (ArrayOf U32 (counted form))
+counted_are form body most = record {
+  elements = tt;
+  few = omega arith;
+  small = λ bases ok.
+      let y = one_base (range form) bases ok in
+      let long : lists.length_at bases (counted form) ≡ y.0 = ap (λ ys. lists.length_at ys (counted form)) y.1 ∙ ap nat_abs (counted_at form y.0) in
+      let below = y.2.1 in
+      (omega (arith, long, below, most), omega (arith, long, below, most), omega (arith, long, below, most));
+}
+
+pub map_laid_out : (p : PlainProgram) (s : State) (addend : ℕ) → HasForm p s.tree addend → Annotates (declared_by p) [] s.tree s.types → CanBeLaidOut p (type_in s.types)
+map_laid_out p s addend has nodes =
+    subst (λ (q : PlainProgram). CanBeLaidOut q (type_in s.types)) (sym (is_of_form p s.tree has.form has.printed))
+    (subst (CanBeLaidOut (of_form has.form p.body)) (sym (ap type_in (nodes_are p s has.form has.printed nodes))) (counted_are has.form p.body has.printed.most))

@@ -1,0 +1,70 @@
+-- Why a last term isn't compiled, and what is known of one that is.
+use Rattle.std.proofs.Common.{◌≡◌, List, ℕ, [], None, Some, Ok, inl, inr, refl, subst, tt}
+use Rattle.lift_tree.specs.Annotations.{Annotation, annotation_of}
+use Rattle.lift_tree.specs.Programs.{PlainProgram, program_of}
+use Rattle.lift_tree.specs.Tree.{Tree, tree_of}
+use Rattle.lift_tree.specs.declared.typed.Typed.{Typed}
+use Rattle.strategy_script.specs.Steps.{State}
+use Rattle.lowered_tree.specs.Nest.{IsLegalNest, LegalWithoutFault, nest_fault}
+use Rattle.lowered_tree.specs.Inputs.{HasTypedInputs}
+use Rattle.nest_premises.specs.Legal.{HasWordSteps, IsLegalTerm}
+use Rattle.thread_mapping.specs.Found as nest
+use Rattle.thread_mapping.specs.declared.judging.NestNo.{NestNo}
+use Rattle.thread_mapping.specs.declared.judging.NestNo.TheVariants as nests
+use Rattle.buffer_allocation.specs.Limits as limits
+use Rattle.buffer_allocation.specs.declared.buffers.AllocNo.{AllocNo}
+use Rattle.buffer_allocation.specs.declared.buffers.AllocNo.TheVariants as allocations
+use Rattle.fault_lines.specs.declared.refusal.Refusal.{Refusal}
+use Rattle.fault_lines.specs.declared.refusal.Refusal.TheVariants as told
+use Rattle.program_source.specs.Program.{StopsFor}
+use Rattle.program_source.specs.Stages.{As}
+use Rattle.compilation.specs.Form.{HasForm}
+use Rattle.compilation.specs.Legal.{BuffersOf, CompilesTerm, IsTypedLast, NestOf, PrintedOf}
+
+pub typed_inputs : (t : Typed) → IsTypedLast t → HasTypedInputs (program_of t.program)
+typed_inputs t last = record { proper = last.proper; declared = last.typed.declared; within = last.within.inputs }
+
+pub legal_term : (t : Typed) → IsTypedLast t → HasWordSteps (tree_of t.term) → IsLegalNest (tree_of t.term) (annotation_of t.types) → IsLegalTerm (program_of t.program) (tree_of t.term) (annotation_of t.types)
+legal_term t last steps legal = record {
+  declared = last.typed.declared;
+  nodes = last.typed.nodes;
+  output = last.typed.output;
+  within = last.within;
+  steps = steps;
+  legal = legal;
+}
+
+-- ---- each stage, over the term as it is lowered
+
+pub is_legal : LegalWithoutFault → (t u : Tree) (n m : Annotation) → t ≡ u → n ≡ m → nest_fault t n ≡ None → IsLegalNest u m
+is_legal law t u n m term types h = rw (term, types) ((law t n).0 h)
+
+pub nest_stops : (s : State) (t : Tree) (n : Annotation) (why : NestNo) → t ≡ s.tree → n ≡ s.types → nest.Refuses why t n → StopsFor (As told.Nest (NestOf s)) (told.Nest why)
+nest_stops s t n (nests.Nest place rule) term types h =
+    inr (nests.Nest place rule, subst (λ (m : Annotation). nest_fault s.tree m ≡ Some (place, rule)) types (subst (λ (u : Tree). nest_fault u n ≡ Some (place, rule)) term h), refl)
+nest_stops s t n nests.Memory term types h = inl refl
+
+pub within_is : (t u : Tree) (n m : Annotation) → t ≡ u → n ≡ m → limits.passed_limit t n ≡ None → limits.passed_limit u m ≡ None
+within_is t u n m term types h = subst (λ (k : Annotation). limits.passed_limit u k ≡ None) types (subst (λ (v : Tree). limits.passed_limit v n ≡ None) term h)
+
+pub buffers_stop : (s : State) (t : Tree) (n : Annotation) (why : AllocNo) → t ≡ s.tree → n ≡ s.types → limits.Refuses why t n → StopsFor (As told.Alloc (BuffersOf s)) (told.Alloc why)
+buffers_stop s t n (allocations.Limit which count) term types h =
+    inr (allocations.Limit which count, subst (λ (m : Annotation). limits.passed_limit s.tree m ≡ Some (which, count)) types (subst (λ (u : Tree). limits.passed_limit u n ≡ Some (which, count)) term h), refl)
+buffers_stop s t n allocations.Memory term types h = inl refl
+
+-- ---- all stages
+
+pub compiles : (p : PlainProgram) (s : State) (addend : ℕ) → IsLegalNest s.tree s.types → HasForm p s.tree addend → limits.passed_limit s.tree s.types ≡ None → CompilesTerm p s (Ok s)
+compiles p s addend legal form within = (tt, legal, (addend, form, (tt, within, refl)))
+
+pub at_nest : (p : PlainProgram) (s : State) (why : Refusal) → StopsFor (As told.Nest (NestOf s)) why → StopsFor (CompilesTerm p s) why
+at_nest p s why (inl memory) = inl memory
+at_nest p s why (inr h) = inr (inl h)
+
+pub at_printed : (p : PlainProgram) (s : State) (why : Refusal) → IsLegalNest s.tree s.types → StopsFor (As told.Unprinted (PrintedOf p s)) why → StopsFor (CompilesTerm p s) why
+at_printed p s why legal (inl memory) = inl memory
+at_printed p s why legal (inr h) = inr (inr (tt, legal, inl h))
+
+pub at_buffers : (p : PlainProgram) (s : State) (addend : ℕ) (why : Refusal) → IsLegalNest s.tree s.types → HasForm p s.tree addend → StopsFor (As told.Alloc (BuffersOf s)) why → StopsFor (CompilesTerm p s) why
+at_buffers p s addend why legal form (inl memory) = inl memory
+at_buffers p s addend why legal form (inr h) = inr (inr (tt, legal, inr (addend, form, inl h)))
