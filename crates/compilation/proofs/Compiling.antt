@@ -1,5 +1,5 @@
 -- What is compiled of the last term of a program and a script.
-use Rattle.std.proofs.Common.{◌≡◌, ◌∙◌, ◌≤◌, List, ℕ, [], ◌∷◌, Ok, Result, Bool, true, ap, length, map, subst, sym, inl, inr, refl, arith, tt}
+use Rattle.std.proofs.Common.{◌≡◌, ◌∙◌, ◌≤◌, List, ℕ, [], ◌∷◌, Ok, Result, Bool, true, ap, length, map, subst, sym, inl, inr, refl, arith}
 use Rattle.kernel_tree.specs.Code.{Kernel}
 use Rattle.kernel_tree.specs.KernelText.{IsKernelText}
 use Rattle.kernel_tree.specs.Launch.{Launch, Cells}

@@ -1,5 +1,5 @@
 -- Why a last term isn't compiled, and what is known of one that is.
-use Rattle.std.proofs.Common.{◌≡◌, List, ℕ, [], None, Some, Ok, inl, inr, refl, subst, tt}
+use Rattle.std.proofs.Common.{◌≡◌, List, ℕ, [], None, Some, Ok, inl, inr, refl, subst}
 use Rattle.lift_tree.specs.Annotations.{Annotation, annotation_of}
 use Rattle.lift_tree.specs.Programs.{PlainProgram, program_of}
 use Rattle.lift_tree.specs.Tree.{Tree, tree_of}
@@ -37,7 +37,7 @@ legal_term t last steps legal = record {
 -- ---- each stage, over the term as it is lowered
 
 pub is_legal : LegalWithoutFault → (t u : Tree) (n m : Annotation) → t ≡ u → n ≡ m → nest_fault t n ≡ None → IsLegalNest u m
-is_legal law t u n m term types h = rw (term, types) ((law t n).0 h)
+is_legal law t u n m term types h = subst (λ (k : Annotation). IsLegalNest u k) types (subst (λ (v : Tree). IsLegalNest v n) term ((law t n).0 h))
 
 pub nest_stops : (s : State) (t : Tree) (n : Annotation) (why : NestNo) → t ≡ s.tree → n ≡ s.types → nest.Refuses why t n → StopsFor (As told.Nest (NestOf s)) (told.Nest why)
 nest_stops s t n (nests.Nest place rule) term types h =

@@ -1,5 +1,5 @@
 -- The kernel of a sequential map is printed for it.
-use Rattle.std.proofs.Common.{◌≡◌, ◌∙◌, ◌+◌, ◌*◌, ◌<◌, ◌≤◌, ◌^◌, ℕ, List, [], ◌∷◌, true, None, Some, inl, refl, sym, ap, ap₂, subst, arith, pos, tt}
+use Rattle.std.proofs.Common.{◌≡◌, ◌∙◌, ◌+◌, ◌*◌, ◌<◌, ◌≤◌, ◌^◌, ℕ, List, [], ◌∷◌, true, None, Some, inl, refl, sym, ap, ap₂, subst, arith, pos}
 use Rattle.std.proofs.lemmas.Int.{ints}
 use Rattle.std.proofs.Math.Nat.{pow-zero, pow-suc}
 use Rattle.std.specs.Prelude.{nat_abs, slice_index}
@@ -35,17 +35,17 @@ use Rattle.compilation.specs.Meets.{Admits, CanBeLaidOut, HasFewEvents}
 
 -- ---- programs of the form
 
-of_form : Form → Tree → PlainProgram
+abbrev of_form : Form → Tree → PlainProgram
 of_form form body = record { sizes = size_of form ∷ []; inputs = input_of form ∷ []; body = body }
 
 is_of_form : (p : PlainProgram) (term : Tree) (form : Form) → IsPrinted p term form → p ≡ of_form form p.body
 is_of_form p term form printed = λ i. record { sizes = printed.sizes i; inputs = printed.inputs i; body = p.body }
 
-range : Form → Name
+abbrev range : Form → Name
 range form = range_of (size_of form)
 
 -- as many as the form's size says
-counted : Form → List Monomial
+abbrev counted : Form → List Monomial
 counted form = length_of (range form ∷ []) (record { sign = signs.Plus; product = factors.Size 0 ∷ [] } ∷ [])
 
 counted_at : (form : Form) (y : ℕ) → value_at (y ∷ []) (counted form) ≡ pos y
@@ -58,7 +58,7 @@ one_base n (y ∷ z ∷ ys) h = absurd h.1
 
 -- ---- the types of the map's nodes
 
-map_types : List Monomial → Annotation
+abbrev map_types : List Monomial → Annotation
 map_types n = Two (ArrayOf U32 n) (Leaf (ArrayOf U32 n)) (Two U32 (Leaf U32) (Leaf U32))
 
 input_is : (d : Declared) (g : List PlainTy) (a : PlainTy) (n : Annotation) → d.inputs ≡ a ∷ [] → Annotates d g (Input 0) n → n ≡ Leaf a
@@ -82,7 +82,7 @@ number_is d g c (Three b n m k) h = absurd h
 sum_is : (d : Declared) (a : PlainTy) (c : ℕ) (n : Annotation) → Annotates d (a ∷ []) (sum c) n → n ≡ Two U32 (Leaf a) (Leaf U32)
 sum_is d a c (Leaf b) h = absurd h
 sum_is d a c (One b n) h = absurd h
-sum_is d a c (Two b n m) h = let e = variable_is d a n h.0 in let f = number_is d (a ∷ []) c m h.1 in let g = h.4 in cc
+sum_is d a c (Two b n m) h = let e = variable_is d a n h.0 in let f = number_is d (a ∷ []) c m h.1 in let g = h.2.2 in cc
 sum_is d a c (Three b n m k) h = absurd h
 
 types_are : (d : Declared) (c : ℕ) (len : List Monomial) (n : Annotation) → d.inputs ≡ ArrayOf U32 len ∷ [] → Annotates d [] (sequential_map c) n → n ≡ map_types len
@@ -136,7 +136,7 @@ printed_for form body bases l at =
 
 -- ---- what is known of a term of the form
 
-PrintsMap : PlainProgram → Tree → Annotation → ℕ → Type 0
+abbrev PrintsMap : PlainProgram → Tree → Annotation → ℕ → Type 0
 PrintsMap p t n addend = (bases : List ℕ) (l : Launch) → IsLaunchOf (declared_by p) (is_task t) bases l → Prints (declared_by p) bases t n l (map_kernel addend)
 
 nodes_are : (p : PlainProgram) (s : State) (form : Form) → IsPrinted p s.tree form → Annotates (declared_by p) [] s.tree s.types → s.types ≡ map_types (counted form)
@@ -144,7 +144,7 @@ nodes_are p s form printed nodes =
     types_are (declared_by p) form.addend (counted form) s.types (ap (λ (q : PlainProgram). (declared_by q).inputs) (is_of_form p s.tree form printed))
     (subst (λ (t : Tree). Annotates (declared_by p) [] t s.types) printed.becomes nodes)
 
-unfolding PrintsMap
+
 pub map_prints : (p : PlainProgram) (s : State) (addend : ℕ) → HasForm p s.tree addend → Annotates (declared_by p) [] s.tree s.types → PrintsAtAll p s (map_kernel addend)
 map_prints p s addend has nodes =
     let form = has.form in

@@ -14,9 +14,9 @@ use Rattle.compilation.specs.Form.{sequential_map}
 use Rattle.compilation.specs.Legal.{BuffersOf, CompilesTerm, LegalOf, NestOf, PrintedOf}
 
 nest_one : LegalWithoutFault → (s : State) → IsOne (NestOf s)
-nest_one law s (Ok tt) (Ok tt) h k = refl
-nest_one law s (Ok tt) (Err (nests.Nest place rule)) h k = absurd (none-some _ (sym ((law s.tree s.types).1 h) ∙ k))
-nest_one law s (Err (nests.Nest place rule)) (Ok tt) h k = absurd (none-some _ (sym ((law s.tree s.types).1 k) ∙ h))
+nest_one law s (Ok x) (Ok y) h k = refl
+nest_one law s (Ok x) (Err (nests.Nest place rule)) h k = absurd (none-some _ (sym ((law s.tree s.types).1 h) ∙ k))
+nest_one law s (Err (nests.Nest place rule)) (Ok x) h k = absurd (none-some _ (sym ((law s.tree s.types).1 k) ∙ h))
 nest_one law s (Err (nests.Nest a r)) (Err (nests.Nest b q)) h k = ap (λ x. Err (nests.Nest x.0 x.1)) (same_Some (a, r) (b, q) (sym h ∙ k))
 nest_one law s (Err nests.Memory) r h k = absurd h
 nest_one law s r (Err nests.Memory) h k = absurd k
@@ -30,9 +30,9 @@ printed_one p s (Err place) (Ok b) h k = absurd (h.1 b k)
 printed_one p s (Err place) (Err other) h k = ap Err (h.0 ∙ sym k.0)
 
 buffers_one : (s : State) → IsOne (BuffersOf s)
-buffers_one s (Ok tt) (Ok tt) h k = refl
-buffers_one s (Ok tt) (Err (allocations.Limit w n)) h k = absurd (none-some _ (sym h ∙ k))
-buffers_one s (Err (allocations.Limit w n)) (Ok tt) h k = absurd (none-some _ (sym k ∙ h))
+buffers_one s (Ok x) (Ok y) h k = refl
+buffers_one s (Ok x) (Err (allocations.Limit w n)) h k = absurd (none-some _ (sym h ∙ k))
+buffers_one s (Err (allocations.Limit w n)) (Ok x) h k = absurd (none-some _ (sym k ∙ h))
 buffers_one s (Err (allocations.Limit w n)) (Err (allocations.Limit v m)) h k = ap (λ x. Err (allocations.Limit x.0 x.1)) (same_Some (w, n) (v, m) (sym h ∙ k))
 buffers_one s (Err allocations.Memory) r h k = absurd h
 buffers_one s r (Err allocations.Memory) h k = absurd k

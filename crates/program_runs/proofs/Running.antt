@@ -1,5 +1,5 @@
 -- The run of a compiled kernel at what a launch file gives.
-use Rattle.std.proofs.Common.{◌≡◌, ◌∙◌, ◌+◌, ◌<◌, ◌≤◌, ◌^◌, Bool, true, ℕ, List, [], ◌∷◌, ◌++◌, length, map, replicate, refl, sym, ap, subst, arith, Ok, Err, Some, tt}
+use Rattle.std.proofs.Common.{◌≡◌, ◌∙◌, ◌+◌, ◌<◌, ◌≤◌, ◌^◌, Bool, true, ℕ, List, [], ◌∷◌, ◌++◌, length, map, replicate, refl, sym, ap, subst, arith, Ok, Err, Some}
 use Rattle.kernel_tree.specs.declared.events.Event.{Event}
 use Rattle.kernel_tree.specs.Bound.{bound}
 use Rattle.kernel_tree.specs.Code.{Kernel}
