@@ -25,7 +25,7 @@ use Rattle.program_source.specs.Terms.{TermsOf}
 use Rattle.program_source.proofs.FewNodes.{few_inputs}
 use Rattle.compilation.specs.Compiled.{IsCompiled, PrintsAtAll}
 use Rattle.compilation.specs.Legal.{CompilesTerm, IsTypedLast, LegalOf}
-use Rattle.compilation.specs.Meets.{Admits, CanBeLaidOut, HasFewEvents, IsTextFor, LeavesSource, MeetsSource, Starts}
+use Rattle.compilation.specs.Meets.{Admits, CanBeLaidOut, IsTextFor, LeavesSource, MeetsSource, Starts}
 
 -- ---- what is printed for a term that keeps the source's value
 
@@ -86,9 +86,9 @@ compiled_found program script t output task text k start keep same alone last co
 -- what a type keeps of it
 pub text_for : (program script : List ℕ) (t : Typed) (output : PlainTy) (text : List ℕ) (k : Kernel) → PrintedProgramsStart → PrintedProgramsKeep → output ≡ type_in (annotation_of t.types)
     → IsLastTerm program script t → CanBeLaidOut (program_of t.program) (type_in (annotation_of t.types)) → IsPrintable (declared_by (program_of t.program)) (tree_of t.term) (annotation_of t.types)
-    → PrintsAtAll (program_of t.program) (state_of t) k → IsKernelText text k → is_task (tree_of t.term) ≡ true → HasFewEvents (program_of t.program) (type_in (annotation_of t.types)) true k
+    → PrintsAtAll (program_of t.program) (state_of t) k → IsKernelText text k → is_task (tree_of t.term) ≡ true
     → IsTextFor (program_of t.program) output (is_task (tree_of t.term)) text
-text_for program script t output text k start keep same last laid_out printable prints written alone few =
+text_for program script t output text k start keep same last laid_out printable prints written alone =
     let p = program_of t.program in
     subst (λ (a : PlainTy). IsTextFor p a (is_task (tree_of t.term)) text) (sym same)
     (record {
@@ -99,7 +99,6 @@ text_for program script t output text k start keep same last laid_out printable 
       starts = starts p (state_of t) k printable last.term.keeps prints start;
       leaves = leaves p (type_in (annotation_of t.types)) (state_of t) k (meets p (state_of t) k printable last.term.keeps prints keep);
       alone = alone;
-      few_events = subst (λ b. HasFewEvents p (type_in (annotation_of t.types)) b k) (sym alone) few;
     })
 
 -- what stops the terms stops what is compiled of them

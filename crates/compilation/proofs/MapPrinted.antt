@@ -21,8 +21,7 @@ use Rattle.lift_tree.specs.WorkedOut.{length_of, range_of}
 use Rattle.kernel_tree.specs.Code as code
 use Rattle.kernel_tree.specs.Code.{Code, Output, End}
 use Rattle.kernel_tree.specs.Formula as formula
-use Rattle.kernel_tree.specs.Bound.{bound}
-use Rattle.kernel_tree.specs.Launch.{Launch, Cells}
+use Rattle.kernel_tree.specs.Launch.{Launch}
 use Rattle.lift_ir.specs.AtLaunch.{length_at, natural}
 use Rattle.kernel_emit.specs.MapKernel.{map_kernel, map_turn}
 use Rattle.lowered_tree.specs.Kinds.{is_task}
@@ -31,7 +30,7 @@ use Rattle.printed_form.specs.Programs.{IsLaunchOf, Prints}
 use Rattle.strategy_script.specs.Steps.{State}
 use Rattle.compilation.specs.Compiled.{PrintsAtAll}
 use Rattle.compilation.specs.Form.{Form, HasForm, IsPrinted, input_of, sequential_map, size_of, sum}
-use Rattle.compilation.specs.Meets.{Admits, CanBeLaidOut, HasFewEvents}
+use Rattle.compilation.specs.Meets.{CanBeLaidOut}
 
 -- ---- programs of the form
 
@@ -162,19 +161,6 @@ map_is_task p term addend has = ap is_task has.printed.becomes
 
 pub map_is_printed : (p : PlainProgram) (s : State) (addend : ℕ) → HasForm p s.tree addend → Annotates (declared_by p) [] s.tree s.types → first_unprinted s.tree s.types ≡ None
 map_is_printed p s addend has nodes = ap₂ first_unprinted has.printed.becomes (nodes_are p s has.form has.printed nodes)
-
-few_events : (form : Form) (body : Tree) (output : PlainTy) (addend : ℕ) → form.to ≤ 1048576 → HasFewEvents (of_form form body) output true (map_kernel addend)
-few_events form body output addend most w l c a =
-    let y = one_base (range form) w.bases a.world.bases in
-    let one = a.launch.alone refl in
-    let size : slice_index l.sizes 0 ≡ 1 * y.0 = ap (λ (ns : List ℕ). slice_index ns 0) (a.sizes ∙ a.world.sizes ∙ ap (sizes_at (range form ∷ [])) y.1) in
-    let is : bound (map_kernel addend) l ≡ 1 * (1 + 1 * y.0 * 3 + 0) = ap₂ (λ g n. g * (1 + n * 3 + 0)) one size in
-    let below = y.2.1 in
-    omega (arith, is, below, most)
-
-pub map_has_few_events : (p : PlainProgram) (output : PlainTy) (term : Tree) (addend : ℕ) → HasForm p term addend → HasFewEvents p output true (map_kernel addend)
-map_has_few_events p output term addend has =
-    subst (λ (q : PlainProgram). HasFewEvents q output true (map_kernel addend)) (sym (is_of_form p term has.form has.printed)) (few_events has.form p.body output addend has.printed.most)
 
 -- lists of numbers, as many as the size says
 counted_are : (form : Form) (body : Tree) → form.to ≤ 1048576 → CanBeLaidOut (of_form form body) (ArrayOf U32 (counted form))

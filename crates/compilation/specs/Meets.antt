@@ -1,6 +1,5 @@
 -- What a compiled kernel owes its program.
-use Rattle.std.specs.Prelude.{◌≡◌, ◌+◌, ◌<◌, ◌^◌, ℕ, List, Bool, true, map, length}
-use Rattle.kernel_tree.specs.Bound.{bound}
+use Rattle.std.specs.Prelude.{◌≡◌, ◌<◌, ◌^◌, ℕ, List, Bool, true, map, length}
 use Rattle.kernel_tree.specs.Code.{Kernel}
 use Rattle.kernel_tree.specs.KernelText.{IsKernelText}
 use Rattle.kernel_tree.specs.Launch.{Launch, Cells, MayStart}
@@ -34,10 +33,6 @@ abbrev pub LeavesSource : PlainProgram → (output : PlainTy) → (is_task : Boo
 LeavesSource p output is_task k = (w : World) (l : Launch) (c : Cells) → Admits p output is_task w l c
     → EveryRunLeaves k l c (lists_of output (source_value p w))
 
--- The events of its runs can be counted in 64 bits.
-abbrev pub HasFewEvents : PlainProgram → (output : PlainTy) → (is_task : Bool) → Kernel → Type 0
-HasFewEvents p output is_task k = (w : World) (l : Launch) (c : Cells) → Admits p output is_task w l c → bound k l + 1 < 2 ^ 64
-
 -- And each cell is written by its owner, which the last term tells.
 abbrev pub MeetsSource : PlainProgram → (output : PlainTy) → (last : State) → Kernel → Type 0
 MeetsSource p output last k = (w : World) (l : Launch) (c : Cells) → Admits p output (is_task last.tree) w l c
@@ -58,4 +53,3 @@ pub record IsTextFor (p : PlainProgram) (output : PlainTy) (is_task : Bool) (tex
   pub starts : Starts p output is_task kernel
   pub leaves : LeavesSource p output is_task kernel
   pub alone : is_task ≡ true
-  pub few_events : HasFewEvents p output is_task kernel

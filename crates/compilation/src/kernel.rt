@@ -3,7 +3,6 @@ ghost use Rattle.std.specs.Prelude.{◌≡◌, IfErr, IfOk, Ok, true};
 ghost use Rattle.lift_tree.specs.Annotations.{annotation_of, type_in};
 ghost use Rattle.lift_tree.specs.Programs.{program_of};
 ghost use Rattle.lift_tree.specs.Tree.{tree_of};
-ghost use Rattle.lift_tree.specs.Types.{PlainTy};
 ghost use Rattle.lift_tree.specs.Typing.{declared_by};
 ghost use Rattle.kernel_tree.specs.Kernels.{kernel_of};
 ghost use Rattle.lowered_tree.specs.Kinds.{is_task};
@@ -13,7 +12,7 @@ ghost use Rattle.program_source.specs.Program.{StopsFor};
 ghost use Rattle.compilation.specs.Compiled.{PrintsAtAll};
 ghost use Rattle.compilation.specs.Form.{HasForm};
 ghost use Rattle.compilation.specs.Legal.{CompilesTerm, IsTypedLast};
-ghost use Rattle.compilation.specs.Meets.{CanBeLaidOut, HasFewEvents};
+ghost use Rattle.compilation.specs.Meets.{CanBeLaidOut};
 
 use crate::legal::{addend_of, judge_buffers, mapped};
 use fault_lines::Refusal;
@@ -57,8 +56,6 @@ pub fn compiled_kernel(alloc: Global, last: &Typed) -> Result<Kernel, Refusal>
     ensures laid_out { IfOk result (λ _. CanBeLaidOut (program_of last.now.program)
         (type_in (annotation_of last.now.types))) }
     ensures alone { IfOk result (λ _. is_task (tree_of last.now.term) ≡ true) }
-    ensures few { IfOk result (λ k. (output : PlainTy)
-        → HasFewEvents (program_of last.now.program) output true (kernel_of k)) }
     ensures refused { IfErr result
         (StopsFor (CompilesTerm (program_of last.now.program) (state_of last.now))) }
 {

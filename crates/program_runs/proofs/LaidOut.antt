@@ -1,5 +1,5 @@
 -- Values laid out in lists.
-use Rattle.std.proofs.Common.{◌≡◌, ◌∙◌, ◌++◌, ◌<◌, ◌+◌, ℕ, zero, suc, List, [], ◌∷◌, length, map, replicate, refl, sym, ap, ap₂, arith, append_assoc, append-nil}
+use Rattle.std.proofs.Common.{◌≡◌, ◌∙◌, ◌++◌, ◌<◌, ◌+◌, ◌*◌, ℕ, zero, suc, List, [], ◌∷◌, length, map, replicate, refl, sym, ap, ap₂, arith, append_assoc, append-nil}
 use Rattle.std.specs.Prelude.{slice_index}
 use Rattle.std.proofs.Props.{props}
 use Rattle.std.proofs.lemmas.List.{length-replicate}
@@ -31,7 +31,7 @@ small_once ys count (ArrayOf a n) = let x = small_once ys (count * length_at ys 
 -- ---- rows
 
 -- lists of zeros are as long as they are made
-pub blank_lengths : (ns : List ℕ) → map length (map (λ n. replicate n 0) ns) ≡ ns
+pub blank_lengths : (ns : List ℕ) → map (length {A = ℕ}) (map (λ (n : ℕ). replicate {A = ℕ} n 0) ns) ≡ ns
 blank_lengths [] = refl
 blank_lengths (n ∷ ns) = ap₂ (λ m ms. m ∷ ms) (length-replicate n 0) (blank_lengths ns)
 

@@ -1,13 +1,17 @@
 -- The run of a compiled kernel at what a launch file gives.
-use Rattle.std.proofs.Common.{◌≡◌, ◌∙◌, ◌+◌, ◌<◌, ◌≤◌, ◌^◌, Bool, true, ℕ, List, [], ◌∷◌, ◌++◌, length, map, replicate, refl, sym, ap, subst, arith, Ok, Err, Some}
+use Rattle.std.proofs.Common.{◌≡◌, ◌∙◌, ◌<◌, ◌≤◌, Bool, true, ℕ, List, [], ◌∷◌, ◌++◌, length, map, replicate, refl, sym, ap, subst, arith, Option}
 use Rattle.kernel_tree.specs.declared.events.Event.{Event}
-use Rattle.kernel_tree.specs.Bound.{bound}
 use Rattle.kernel_tree.specs.Code.{Kernel}
 use Rattle.kernel_tree.specs.KernelText.{IsKernelText}
 use Rattle.kernel_tree.specs.Launch.{Launch, Cells, MayStart}
 use Rattle.kernel_tree.specs.Device.{IsStart, start_state, device_of, IsRun}
 use Rattle.std.proofs.lemmas.List.{length-replicate}
-use Rattle.ndrange_device.specs.InOrder.{EndsInOrder, IsSafe}
+use Rattle.kernel_tree.specs.Schedule.{Schedule}
+use Rattle.kernel_tree.proofs.Scheduled.{no_fault}
+use Rattle.kernel_tree.specs.declared.events.Event.TheVariants.{Step}
+use Rattle.kernel_tree.specs.declared.events.FaultKind.{FaultKind}
+use Rattle.kernel_tree.specs.declared.events.Cell as shown
+use Rattle.ndrange_device.specs.Outcomes.{EndsUnder, FaultsUnder}
 use Rattle.launch_file.specs.LaunchFile.{Given}
 use Rattle.lift_tree.specs.Launches.{lists_of}
 use Rattle.lift_tree.specs.Programs.{PlainProgram}
@@ -18,7 +22,7 @@ use Rattle.value_lists.specs.Lists.{list_lengths, value_in}
 use Rattle.value_lists.specs.Laws.{ListsHaveLengths, ListsHoldOneValue}
 use Rattle.program_source.specs.Program.{source_value}
 use Rattle.compilation.specs.Meets.{Admits, IsTextFor}
-use Rattle.program_runs.specs.Runs.{IsAdmissibleFor, RunsInOrder, begun, world_given}
+use Rattle.program_runs.specs.Runs.{IsAdmissibleFor, RunsAsGiven, begun, world_given}
 use Rattle.program_runs.proofs.LaidOut.{blank_lengths, row_lengths, rows_are}
 
 -- each text is of one kernel
@@ -34,8 +38,8 @@ start_is k l c = record {
   epochs = λ g f. refl;
 }
 
-run_as_given : (k : Kernel) (l m : Launch) (c d : Cells) (rows : List (List ℕ)) (events : ℕ) → l ≡ m → c ≡ d → EndsInOrder k l c rows events → EndsInOrder k m d rows events
-run_as_given k l m c d rows events launch cells e = subst (λ x. EndsInOrder k m x rows events) cells (subst (λ x. EndsInOrder k x c rows events) launch e)
+run_as_given : (schedule : Schedule) (k : Kernel) (l m : Launch) (c d : Cells) (rows : List (List ℕ)) (events releases : ℕ) → l ≡ m → c ≡ d → EndsUnder schedule k l c rows events releases → EndsUnder schedule k m d rows events releases
+run_as_given schedule k l m c d rows events releases launch cells e = subst (λ x. EndsUnder schedule k m x rows events releases) cells (subst (λ x. EndsUnder schedule k x c rows events releases) launch e)
 
 module _ (p : PlainProgram) (output : PlainTy) (task : Bool) (text : List ℕ) (g : Given) (types : ValuesHaveTypes) (ok : IsAdmissibleFor p task g) (is : IsTextFor p output task text) where
   value_typed : HasType g.bases output (source_value p (world_given g))
@@ -67,19 +71,18 @@ module _ (p : PlainProgram) (output : PlainTy) (task : Bool) (text : List ℕ) (
           → LeavesWanted x g.launch (begun p output (world_given g)) (lists_of output (source_value p (world_given g))) (start_state x (begun p output (world_given g))) es) same
           (λ fs q. is.leaves (world_given g) g.launch (begun p output (world_given g)) admits (start_state is.kernel (begun p output (world_given g))) fs (start_is is.kernel g.launch (begun p output (world_given g))) q) es r
 
-      safe : IsSafe k g.launch (begun p output (world_given g))
-      safe es r =
-          let h = leaves es r in
-          let few = subst (λ (x : Kernel). bound x g.launch + 1 < 2 ^ 64) same (is.few_events (world_given g) g.launch (begun p output (world_given g)) admits) in
-          let most = h.bounded in
-          (h.faultless, omega (arith, few, most))
+      -- so the run has no fault
+      clean : (schedule : Schedule) (kind : FaultKind) (event item : ℕ) (cell : Option shown.Cell) → FaultsUnder schedule k g.launch (begun p output (world_given g)) kind event item cell → ⊥
+      clean schedule kind event item cell f =
+          no_fault (device_of k g.launch (begun p output (world_given g))) (start_state k (begun p output (world_given g))) f.front (Step item) [] kind
+          (leaves (f.front ++ Step item ∷ []) f.scheduled.is_run.enabled).faultless f.fault
 
       -- the run leaves the value's lists
-      left : (rows : List (List ℕ)) (events : ℕ) → EndsInOrder k g.launch (begun p output (world_given g)) rows events → rows ≡ lists_of output (source_value p (world_given g))
-      left rows events e =
-          let h = leaves e.events e.scheduled.is_run.enabled in
-          rows_are rows (begun p output (world_given g)).outs (lists_of output (source_value p (world_given g))) e.outputs.count e.outputs.lengths h.shape
-          (λ a i lt. e.outputs.words a i (let z = row_lengths (lists_of output (source_value p (world_given g))) (begun p output (world_given g)).outs h.shape a in let n = e.outputs.lengths a in omega (arith, z, n, lt)) ∙ h.left e.over a i lt)
+      left : (schedule : Schedule) (rows : List (List ℕ)) (events releases : ℕ) → EndsUnder schedule k g.launch (begun p output (world_given g)) rows events releases → rows ≡ lists_of output (source_value p (world_given g))
+      left schedule rows events releases e =
+          let h = leaves e.run e.scheduled.is_run.enabled in
+          rows_are rows (begun p output (world_given g)).outs (lists_of output (source_value p (world_given g))) e.left.count e.left.lengths h.shape
+          (λ a i lt. e.left.words a i (let z = row_lengths (lists_of output (source_value p (world_given g))) (begun p output (world_given g)).outs h.shape a in let n = e.left.lengths a in omega (arith, z, n, lt)) ∙ h.left e.over a i lt)
 
       -- what was made is at the launch, with these cells
       module _ (l : Launch) (c : Cells) (launch : l ≡ g.launch) (cells : c ≡ begun p output (world_given g)) where
@@ -89,14 +92,15 @@ module _ (p : PlainProgram) (output : PlainTy) (task : Bool) (text : List ℕ) (
         pub one_item_as_made : l.global ≡ 1
         one_item_as_made = ap (λ (x : Launch). x.global) launch ∙ ok.launch.alone is.alone
 
-        pub safe_as_made : IsSafe k l c
-        safe_as_made = rw (launch, cells) safe
+        pub clean_as_made : (schedule : Schedule) (kind : FaultKind) (event item : ℕ) (cell : Option shown.Cell) → FaultsUnder schedule k l c kind event item cell → ⊥
+        clean_as_made schedule kind event item cell f =
+            clean schedule kind event item cell (subst (λ x. FaultsUnder schedule k g.launch x kind event item cell) cells (subst (λ x. FaultsUnder schedule k x c kind event item cell) launch f))
 
-        pub left_as_made : (rows : List (List ℕ)) (events : ℕ) → EndsInOrder k l c rows events → rows ≡ lists_of output (source_value p (world_given g))
-        left_as_made rows events e = left rows events (run_as_given k l g.launch c (begun p output (world_given g)) rows events launch cells e)
+        pub left_as_made : (schedule : Schedule) (rows : List (List ℕ)) (events releases : ℕ) → EndsUnder schedule k l c rows events releases → rows ≡ lists_of output (source_value p (world_given g))
+        left_as_made schedule rows events releases e = left schedule rows events releases (run_as_given schedule k l g.launch c (begun p output (world_given g)) rows events releases launch cells e)
 
 -- the run at the launch that is given
-pub run_is : (p : PlainProgram) (output : PlainTy) (g : Given) (k : Kernel) (l : Launch) (c : Cells) (rows : List (List ℕ)) (events : ℕ) → l ≡ g.launch → c ≡ begun p output (world_given g)
-    → rows ≡ lists_of output (source_value p (world_given g)) → EndsInOrder k l c rows events → RunsInOrder p output k g events
-run_is p output g k l c rows events launch cells left e =
-    subst (λ x. EndsInOrder k g.launch (begun p output (world_given g)) x events) left (run_as_given k l g.launch c (begun p output (world_given g)) rows events launch cells e)
+pub run_is : (p : PlainProgram) (output : PlainTy) (g : Given) (k : Kernel) (l : Launch) (c : Cells) (rows : List (List ℕ)) (events releases : ℕ) → l ≡ g.launch → c ≡ begun p output (world_given g)
+    → rows ≡ lists_of output (source_value p (world_given g)) → EndsUnder g.schedule k l c rows events releases → RunsAsGiven p output k g events releases
+run_is p output g k l c rows events releases launch cells left e =
+    subst (λ x. EndsUnder g.schedule k g.launch (begun p output (world_given g)) x events releases) left (run_as_given g.schedule k l g.launch c (begun p output (world_given g)) rows events releases launch cells e)

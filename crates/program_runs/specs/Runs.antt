@@ -3,7 +3,7 @@ use Rattle.std.specs.Prelude.{◌≡◌, ℕ, List, Bool, Some, map, replicate}
 use Rattle.kernel_tree.specs.Code.{Kernel}
 use Rattle.kernel_tree.specs.KernelText.{IsKernelText}
 use Rattle.kernel_tree.specs.Launch.{Cells}
-use Rattle.ndrange_device.specs.InOrder.{EndsInOrder}
+use Rattle.ndrange_device.specs.Outcomes.{EndsUnder}
 use Rattle.lift_tree.specs.Launches.{IsAdmissibleLaunch, buffers_of, lists_of}
 use Rattle.lift_tree.specs.Meaning.{World}
 use Rattle.lift_tree.specs.Programs.{PlainProgram}
@@ -31,18 +31,19 @@ pub record IsAdmissibleFor (p : PlainProgram) (is_task : Bool) (g : Given) : Typ
   pub world : IsAdmissible (declared_by p) (world_given g)
   pub launch : IsAdmissibleLaunch (declared_by p).names is_task g.bases g.launch.global g.launch.local
 
--- the kernel's run in order at the launch and on the inputs that are given leaves the source's value, and has so many events
-abbrev pub RunsInOrder : PlainProgram → (output : PlainTy) → Kernel → Given → (events : ℕ) → Type 0
-RunsInOrder p output k g events = EndsInOrder k g.launch (begun p output (world_given g)) (lists_of output (source_value p (world_given g))) events
+-- the kernel's run under the schedule, at the launch and on the inputs that are given leaves the source's value, and has so many events, so many of them releases
+abbrev pub RunsAsGiven : PlainProgram → (output : PlainTy) → Kernel → Given → (events releases : ℕ) → Type 0
+RunsAsGiven p output k g events releases = EndsUnder g.schedule k g.launch (begun p output (world_given g)) (lists_of output (source_value p (world_given g))) events releases
 
--- The text is a kernel's, whose run at what is given leaves the source's value, and has so many events.
-pub record RunsText (p : PlainProgram) (output : PlainTy) (text : List ℕ) (g : Given) (events : ℕ) : Type 0 where
+-- The text is a kernel's, whose run at what is given leaves the source's value, and has so many events, so many of them releases.
+pub record RunsText (p : PlainProgram) (output : PlainTy) (text : List ℕ) (g : Given) (events releases : ℕ) : Type 0 where
   pub kernel : Kernel
   pub read : IsKernelText text kernel
-  pub run : RunsInOrder p output kernel g events
+  pub run : RunsAsGiven p output kernel g events releases
 
--- The line is that of the run of the text: the source's value, and the counts of that run's events and of its releases, of which there are none so far.
+-- The line is that of the run of the text: the source's value, and the counts of that run's events and of its releases.
 pub record IsLineOfText (p : PlainProgram) (output : PlainTy) (text : List ℕ) (g : Given) (line : List ℕ) : Type 0 where
   pub events : ℕ
-  pub run : RunsText p output text g events
-  pub written : line ≡ result_line (source_value p (world_given g)) (Some (events, 0))
+  pub releases : ℕ
+  pub run : RunsText p output text g events releases
+  pub written : line ≡ result_line (source_value p (world_given g)) (Some (events, releases))

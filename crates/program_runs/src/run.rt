@@ -19,14 +19,14 @@ use compilation::{Compiled, compile_text};
 use fault_lines::Failure;
 use kernel_reader::{KernelNo, read_kernel};
 use kernel_spelling::one_kernel;
-use kernel_tree::launches::Launch;
+use kernel_tree::launches;
 use kernel_tree::tree::Kernel;
 use launch_file::file::{Ask, LaunchFile, read_launch};
 use launch_file::result::result_text;
 use lift_reader::program::programs_may_be_typed;
 use lift_tree::laws::values_have_their_types;
 use lift_tree::value::Val;
-use ndrange_device::{Ended, run_in_order};
+use ndrange_device::{DeviceNo, Outcome, launch};
 use pattern_types::laws::judged_inputs_are_proper;
 use std::alloc::{AllocError, Global};
 use value_lists::laws::{lists_have_lengths, lists_hold_one_value};
@@ -44,33 +44,38 @@ fn read_back(alloc: Global, compiled: &Compiled) -> Result<Kernel, AllocError>
 }
 
 // The launch once more.
-fn copied(alloc: Global, launch: &Launch) -> Result<Launch, AllocError>
+fn copied(alloc: Global, launch: &launches::Launch) -> Result<launches::Launch, AllocError>
     ensures { IfOk result (λ copy. copy ≡ launch.now) }
 {
-    Ok(Launch {
+    Ok(launches::Launch {
         global: launch.global,
         local: launch.local,
         sizes: launch.sizes.as_slice().to_vec(alloc)?,
     })
 }
 
-// What the run of what is read back from the text leaves, by one work-item, in order.
-fn run_back(alloc: Global, compiled: &Compiled, file: &LaunchFile) -> Result<Ended, AllocError>
+// What the run of what is read back from the text leaves, under the schedule of the file.
+fn run_back(alloc: Global, compiled: &Compiled, file: &LaunchFile) -> Result<Outcome, AllocError>
     requires { IsAdmissibleFor (program_of compiled.now.program) compiled.now.is_task
         (given_by file.now) }
-    ensures left { IfOk result (λ ended. map (λ l. l.items) ended.outs.items
+    ensures left { IfOk result (λ outcome. map (λ l. l.items) outcome.outputs.items
         ≡ lists_of (ty_of compiled.now.output)
         (source_value (program_of compiled.now.program) (world_given (given_by file.now)))) }
-    ensures run { IfOk result (λ ended. RunsText (program_of compiled.now.program)
-        (ty_of compiled.now.output) compiled.now.text.items (given_by file.now) ended.events) }
+    ensures run { IfOk result (λ outcome. RunsText (program_of compiled.now.program)
+        (ty_of compiled.now.output) compiled.now.text.items (given_by file.now)
+        outcome.events outcome.releases) }
 {
     lists_have_lengths();
     values_have_their_types();
     one_kernel();
     let kernel = read_back(alloc, compiled)?;
-    let launch = copied(alloc, &file.launch)?;
+    let at = copied(alloc, &file.launch)?;
     let cells = begun(alloc, compiled, file)?;
-    run_in_order(alloc, kernel, launch, cells)
+    match launch(alloc, kernel, at, cells, &file.schedule) {
+        Ok(outcome) => Ok(outcome),
+        Err(DeviceNo::Memory) => Err(AllocError),
+        Err(DeviceNo::Fault { .. }) => unreachable!(),
+    }
 }
 
 // The value that the output's lists hold.
@@ -91,8 +96,8 @@ fn value_left(
 }
 
 /// The result line of the run of what is read back from the text, at the launch and on the inputs
-/// of a launch file, which are admissible for the program; so far one work-item runs it, in order.
-/// No run of it has a fault, and its value is the program's.
+/// of a launch file, which are admissible for the program, under the file's schedule. No run of it
+/// has a fault, and its value is the program's.
 pub fn run_launch(
     alloc: Global,
     compiled: &Compiled,
@@ -105,9 +110,9 @@ pub fn run_launch(
 {
     lists_hold_one_value();
     values_have_their_types();
-    let Ended { outs, events } = run_back(alloc, compiled, file)?;
-    let value = value_left(alloc, compiled, file, &outs)?;
-    result_text(alloc, &value, Some((events, 0)))
+    let outcome = run_back(alloc, compiled, file)?;
+    let value = value_left(alloc, compiled, file, &outcome.outputs)?;
+    result_text(alloc, &value, Some((outcome.events, outcome.releases)))
 }
 
 /// The result line of a program, a script and a launch file: compiles, and runs what is read back

@@ -1,5 +1,4 @@
 use Rattle.std.proofs.Common.{refl}
-use Rattle.lift_tree.specs.Annotations.{annotation_of, type_in}
 use Rattle.kernel_tree.specs.Kernels.{kernel_of}
 use Rattle.program_source.specs.Program.{OnProgram, StopsFor}
 use Rattle.program_source.proofs.Stages.{handed_on}
@@ -15,7 +14,7 @@ invariant_of-result c =
     let k = c.in_ok-kernel.ensures in
     record {
       text_for = ∣ text_for c.args.program.now c.args.script.now c.in_ok-last.last _ _ (kernel_of c.in_ok-kernel.kernel) c.printed_programs_start.ensures c.printed_programs_keep.ensures c.own_type.ensures
-          c.in_ok-last.ensures.last k.laid_out k.printable k.prints c.in_ok-text.ensures.text k.alone (k.few (type_in (annotation_of c.in_ok-last.last.types))) ∣₁;
+          c.in_ok-last.ensures.last k.laid_out k.printable k.prints c.in_ok-text.ensures.text k.alone ∣₁;
     }
 
 pub returns-clause-found : goal.returns-clause-found
