@@ -61,10 +61,11 @@ typed_last program script t last = record {
   few = few_inputs (program_of t.program) last.read.within;
   typed = last.term.typed;
   within = last.within;
+  low = last.low;
 }
 
 pub compiled_found : (program script : List ℕ) (t : Typed) (output : PlainTy) (task : Bool) (text : List ℕ) (k : Kernel) → PrintedProgramsStart → PrintedProgramsKeep → output ≡ type_in (annotation_of t.types)
-    → is_task (tree_of t.term) ≡ task → IsLastTerm program script t → CompilesTerm (program_of t.program) (state_of t) (Ok (state_of t)) → IsPrintable (declared_by (program_of t.program)) (tree_of t.term) (annotation_of t.types)
+    → is_task (tree_of t.term) ≡ task → IsLastTerm program script t → CompilesTerm (state_of t) (Ok (state_of t)) → IsPrintable (declared_by (program_of t.program)) (tree_of t.term) (annotation_of t.types)
     → PrintsAtAll (program_of t.program) (state_of t) k → IsKernelText text k → IsCompiled program script (program_of t.program) output task text
 compiled_found program script t output task text k start keep same alone last compiles printable prints written =
     let p = program_of t.program in
@@ -108,7 +109,7 @@ terms_first text script why (inr (inl h)) = inr (inl h)
 terms_first text script why (inr (inr (p, read, h))) = inr (inr (p, read, inl h))
 
 pub last_stops : (program script : List ℕ) (t : Typed) (why : Refusal) → IsLastTerm program script t
-    → StopsFor (CompilesTerm (program_of t.program) (state_of t)) why → StopsFor (OnProgram program (λ p. LegalOf p script)) why
+    → StopsFor (CompilesTerm (state_of t)) why → StopsFor (OnProgram program (λ p. LegalOf p script)) why
 last_stops program script t why last (inl memory) = inl memory
 last_stops program script t why last (inr stops) =
     inr (inr (program_of t.program, last.read, inr (last.terms, last.made, inr (state_of t, last.is_last, stops))))

@@ -1,11 +1,12 @@
 -- Why a last term isn't compiled, and what is known of one that is.
-use Rattle.std.proofs.Common.{◌≡◌, List, ℕ, [], None, Some, Ok, inl, inr, refl, subst}
+use Rattle.std.proofs.Common.{◌≡◌, ◌∙◌, List, ℕ, Option, None, Some, Ok, ap₂, inl, inr, refl, subst, sym}
 use Rattle.lift_tree.specs.Annotations.{Annotation, annotation_of}
-use Rattle.lift_tree.specs.Programs.{PlainProgram, program_of}
+use Rattle.lift_tree.specs.Programs.{program_of}
 use Rattle.lift_tree.specs.Tree.{Tree, tree_of}
 use Rattle.lift_tree.specs.declared.typed.Typed.{Typed}
 use Rattle.strategy_script.specs.Steps.{State}
 use Rattle.lowered_tree.specs.Nest.{IsLegalNest, LegalWithoutFault, nest_fault}
+use Rattle.lowered_tree.specs.Printed.{first_unprinted}
 use Rattle.lowered_tree.specs.Inputs.{HasTypedInputs}
 use Rattle.nest_premises.specs.Legal.{HasWordSteps, IsLegalTerm}
 use Rattle.thread_mapping.specs.Found as nest
@@ -18,7 +19,6 @@ use Rattle.fault_lines.specs.declared.refusal.Refusal.{Refusal}
 use Rattle.fault_lines.specs.declared.refusal.Refusal.TheVariants as told
 use Rattle.program_source.specs.Program.{StopsFor}
 use Rattle.program_source.specs.Stages.{As}
-use Rattle.compilation.specs.Form.{HasForm}
 use Rattle.compilation.specs.Legal.{BuffersOf, CompilesTerm, IsTypedLast, NestOf, PrintedOf}
 
 pub typed_inputs : (t : Typed) → IsTypedLast t → HasTypedInputs (program_of t.program)
@@ -52,19 +52,22 @@ buffers_stop s t n (allocations.Limit which count) term types h =
     inr (allocations.Limit which count, subst (λ (m : Annotation). limits.passed_limit s.tree m ≡ Some (which, count)) types (subst (λ (u : Tree). limits.passed_limit u n ≡ Some (which, count)) term h), refl)
 buffers_stop s t n allocations.Memory term types h = inl refl
 
+pub printed_is : (t u : Tree) (n m : Annotation) (o : Option (List ℕ)) → t ≡ u → n ≡ m → o ≡ first_unprinted t n → first_unprinted u m ≡ o
+printed_is t u n m o term types h = sym (h ∙ ap₂ first_unprinted term types)
+
 -- ---- all stages
 
-pub compiles : (p : PlainProgram) (s : State) (addend : ℕ) → IsLegalNest s.tree s.types → HasForm p s.tree addend → limits.passed_limit s.tree s.types ≡ None → CompilesTerm p s (Ok s)
-compiles p s addend legal form within = (tt, legal, (addend, form, (tt, within, refl)))
+pub compiles : (s : State) → IsLegalNest s.tree s.types → first_unprinted s.tree s.types ≡ None → limits.passed_limit s.tree s.types ≡ None → CompilesTerm s (Ok s)
+compiles s legal printed within = (tt, legal, (tt, printed, (tt, within, refl)))
 
-pub at_nest : (p : PlainProgram) (s : State) (why : Refusal) → StopsFor (As told.Nest (NestOf s)) why → StopsFor (CompilesTerm p s) why
-at_nest p s why (inl memory) = inl memory
-at_nest p s why (inr h) = inr (inl h)
+pub at_nest : (s : State) (why : Refusal) → StopsFor (As told.Nest (NestOf s)) why → StopsFor (CompilesTerm s) why
+at_nest s why (inl memory) = inl memory
+at_nest s why (inr h) = inr (inl h)
 
-pub at_printed : (p : PlainProgram) (s : State) (why : Refusal) → IsLegalNest s.tree s.types → StopsFor (As told.Unprinted (PrintedOf p s)) why → StopsFor (CompilesTerm p s) why
-at_printed p s why legal (inl memory) = inl memory
-at_printed p s why legal (inr h) = inr (inr (tt, legal, inl h))
+pub at_printed : (s : State) (why : Refusal) → IsLegalNest s.tree s.types → StopsFor (As told.Unprinted (PrintedOf s)) why → StopsFor (CompilesTerm s) why
+at_printed s why legal (inl memory) = inl memory
+at_printed s why legal (inr h) = inr (inr (tt, legal, inl h))
 
-pub at_buffers : (p : PlainProgram) (s : State) (addend : ℕ) (why : Refusal) → IsLegalNest s.tree s.types → HasForm p s.tree addend → StopsFor (As told.Alloc (BuffersOf s)) why → StopsFor (CompilesTerm p s) why
-at_buffers p s addend why legal form (inl memory) = inl memory
-at_buffers p s addend why legal form (inr h) = inr (inr (tt, legal, inr (addend, form, inl h)))
+pub at_buffers : (s : State) (why : Refusal) → IsLegalNest s.tree s.types → first_unprinted s.tree s.types ≡ None → StopsFor (As told.Alloc (BuffersOf s)) why → StopsFor (CompilesTerm s) why
+at_buffers s why legal printed (inl memory) = inl memory
+at_buffers s why legal printed (inr h) = inr (inr (tt, legal, inr (tt, printed, inl h)))

@@ -1,4 +1,4 @@
 pub mod Compiling
+pub mod Emitting
 pub mod Legality
-pub mod MapPrinted
 pub mod Once

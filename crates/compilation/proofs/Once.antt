@@ -10,7 +10,6 @@ use Rattle.fault_lines.specs.declared.refusal.Refusal.TheVariants as told
 use Rattle.program_source.specs.Stages.{As, Gives, IsOne, Then}
 use Rattle.program_source.specs.Terms.{LastOf, TermsOf}
 use Rattle.program_source.proofs.Once.{as_one, gives_one, last_one, terms_one, then_one}
-use Rattle.compilation.specs.Form.{sequential_map}
 use Rattle.compilation.specs.Legal.{BuffersOf, CompilesTerm, LegalOf, NestOf, PrintedOf}
 
 nest_one : LegalWithoutFault → (s : State) → IsOne (NestOf s)
@@ -21,13 +20,11 @@ nest_one law s (Err (nests.Nest a r)) (Err (nests.Nest b q)) h k = ap (λ x. Err
 nest_one law s (Err nests.Memory) r h k = absurd h
 nest_one law s r (Err nests.Memory) h k = absurd k
 
-printed_one : (p : PlainProgram) (s : State) → IsOne (PrintedOf p s)
-printed_one p s (Ok a) (Ok b) h k =
-    let same : sequential_map h.form.addend ≡ sequential_map k.form.addend = sym h.printed.becomes ∙ k.printed.becomes in
-    ap Ok (sym h.adds ∙ cc (same) ∙ k.adds)
-printed_one p s (Ok a) (Err place) h k = absurd (k.1 a h)
-printed_one p s (Err place) (Ok b) h k = absurd (h.1 b k)
-printed_one p s (Err place) (Err other) h k = ap Err (h.0 ∙ sym k.0)
+printed_one : (s : State) → IsOne (PrintedOf s)
+printed_one s (Ok x) (Ok y) h k = refl
+printed_one s (Ok x) (Err place) h k = absurd (none-some _ (sym h ∙ k))
+printed_one s (Err place) (Ok x) h k = absurd (none-some _ (sym k ∙ h))
+printed_one s (Err place) (Err other) h k = ap Err (same_Some place other (sym h ∙ k))
 
 buffers_one : (s : State) → IsOne (BuffersOf s)
 buffers_one s (Ok x) (Ok y) h k = refl
@@ -37,13 +34,13 @@ buffers_one s (Err (allocations.Limit w n)) (Err (allocations.Limit v m)) h k = 
 buffers_one s (Err allocations.Memory) r h k = absurd h
 buffers_one s r (Err allocations.Memory) h k = absurd k
 
-compiles_one : LegalWithoutFault → (p : PlainProgram) (s : State) → IsOne (CompilesTerm p s)
-compiles_one law p s =
+compiles_one : LegalWithoutFault → (s : State) → IsOne (CompilesTerm s)
+compiles_one law s =
     then_one (As told.Nest (NestOf s)) _ (as_one told.Nest (NestOf s) (nest_one law s)) (λ legal _.
-    then_one (As told.Unprinted (PrintedOf p s)) _ (as_one told.Unprinted (PrintedOf p s) (printed_one p s)) (λ addend _.
+    then_one (As told.Unprinted (PrintedOf s)) _ (as_one told.Unprinted (PrintedOf s) (printed_one s)) (λ printed _.
     then_one (As told.Alloc (BuffersOf s)) _ (as_one told.Alloc (BuffersOf s) (buffers_one s)) (λ within _. gives_one s)))
 
 pub legal_one : LegalWithoutFault → (p : PlainProgram) (script : List ℕ) → IsOne (LegalOf p script)
 legal_one law p script =
-    then_one (TermsOf p script) (λ terms. Then (LastOf terms) (CompilesTerm p)) (terms_one p script) (λ terms _.
-    then_one (LastOf terms) (CompilesTerm p) (last_one terms) (λ last _. compiles_one law p last))
+    then_one (TermsOf p script) (λ terms. Then (LastOf terms) CompilesTerm) (terms_one p script) (λ terms _.
+    then_one (LastOf terms) CompilesTerm (last_one terms) (λ last _. compiles_one law last))

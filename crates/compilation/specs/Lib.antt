@@ -1,4 +1,3 @@
 pub mod Compiled
-pub mod Form
 pub mod Legal
 pub mod Meets

@@ -3,7 +3,6 @@
 #![tactic(auto)]
 
 mod compile;
-mod form;
 mod kernel;
 mod legal;
 

@@ -1,28 +1,31 @@
 -- The terms of a program and a script.
-use Rattle.std.proofs.Common.{◌≡◌, ◌⊎◌, ◌∙◌, ◌+◌, ◌<◌, ◌≤◌, take, get_or, ℕ, List, [], ◌∷◌, ◌++◌, length, map, Ok, Err, Result, refl, sym, ap, subst, inl, inr, append_assoc, append-nil, arith}
-use Rattle.std.specs.Prelude.{codes}
+use Rattle.std.proofs.Common.{Bool, true, false, ◌≡◌, ◌⊎◌, ◌∙◌, ◌+◌, ◌<◌, ◌≤◌, take, get_or, ℕ, List, [], ◌∷◌, ◌++◌, length, map, Ok, Err, Result, refl, sym, ap, subst, inl, inr, append_assoc, append-nil, arith}
+use Rattle.std.specs.Prelude.{codes, if◌then◌else◌, nat_lt}
+use Rattle.std.proofs.lemmas.Bool.{ltb-false}
 use Rattle.std.proofs.lemmas.List.{map-append, take_more}
 use Rattle.lift_tree.specs.Annotations.{Annotation, IsTyped, annotation_of, type_in}
 use Rattle.lift_tree.specs.Belonging.{IsProper}
 use Rattle.lift_tree.specs.Limits.{IsWithinLimits}
 use Rattle.lift_tree.specs.Lists.{Every}
 use Rattle.lift_tree.specs.Programs.{PlainProgram, program_of}
-use Rattle.lift_tree.specs.Tree.{Tree, tree_of}
+use Rattle.lift_tree.specs.Tree.{Tree, height, nodes, tree_of}
 use Rattle.lift_tree.specs.Types.{PlainTy}
 use Rattle.lift_tree.specs.Typing.{HasOutput, declared_by}
 use Rattle.lift_tree.specs.declared.typed.Typed.{Typed}
 use Rattle.lift_tree.proofs.Annotated.{annotated_is_typed}
 use Rattle.lift_tree.proofs.Unique.{one_type}
-use Rattle.pattern_types.specs.Judged.{and_then, program_judged}
+use Rattle.pattern_types.specs.Judged.{and_then, counted, program_judged}
 use Rattle.pattern_types.specs.Judgement.{IsJudgement, TypesAreJudged}
 use Rattle.pattern_types.specs.declared.refusal.TypeRefusal.{TypeRefusal}
 use Rattle.rewriting.specs.Keeps.{Keeps}
-use Rattle.strategy_script.specs.Steps.{IsAfter, IsLastTerm as IsLast, State, around_whole, at_step, limited, rewritten, state_of, stepped, terms_from, terms_of, with_types}
+use Rattle.strategy_script.specs.Steps.{IsAfter, IsLastTerm as IsLast, State, around_whole, at_most, at_step, limited, rewritten, state_of, stepped, terms_from, terms_of, with_types}
 use Rattle.strategy_script.specs.declared.faults.Fault.{Fault}
+use Rattle.strategy_script.specs.declared.faults.Fault.TheVariants.{Passes}
+use Rattle.strategy_script.specs.declared.faults.StepLimit.TheVariants.{Depth, Nodes}
 use Rattle.strategy_script.specs.declared.faults.StepNo.{StepNo}
 use Rattle.strategy_script.specs.declared.script.Step.{Step}
 use Rattle.term_texts.specs.TermText.{text_of}
-use Rattle.program_source.specs.Program.{IsRead}
+use Rattle.program_source.specs.Program.{IsRead, ProgramsAreLow}
 use Rattle.program_source.specs.SourceTerms.{AreSourceTerms, IsBegun, IsLastTerm, IsSourceTerm, typed_line, typed_lines}
 use Rattle.program_source.specs.StepsText.{IsStepsText, term_lines}
 use Rattle.program_source.specs.Terms as of_terms
@@ -111,6 +114,39 @@ last_judged p (step ∷ steps) k s last front judged e =
     | inr found ↦ last_judged p steps (k + 1) next.0 last found.0 after (more.1 ∙ ap Ok found.1)
     ]
 
+abbrev as_limited : Bool → Fault → Result (Unit {0}) Fault
+as_limited b e = if b then Err e else Ok tt
+
+not_above : (b : Bool) (e : Fault) → as_limited b e ≡ Ok tt → b ≡ false
+not_above true e h = absurd (cc (h))
+not_above false e h = refl
+
+low_of : (n : ℕ) → at_most 256 Depth (counted n) ≡ Ok tt → n ≤ 256
+low_of n h = let few = ltb-false 256 (counted n) (not_above (nat_lt 256 (counted n)) (Passes Depth (counted n)) h) in omega (arith, few)
+
+-- a term that a step makes is at most 256 high
+stepped_low : (p : PlainProgram) (step : Step) (s t : State) → stepped p step s ≡ Ok t → height t.tree ≤ 256
+stepped_low p step s t h =
+    let made = and_ok (rewritten step (around_whole p s) s.tree) _ t h in
+    let few = and_ok (limited made.0) (λ _. with_types made.0 (program_judged p made.0)) t made.2 in
+    let typed = typed_ok made.0 (program_judged p made.0) t few.2 in
+    let nodes_fit = and_ok (at_most 4096 Nodes (counted (nodes made.0))) (λ _. at_most 256 Depth (counted (height made.0))) few.0 few.1 in
+    subst (λ (u : Tree). height u ≤ 256) typed.0 (low_of (height made.0) nodes_fit.2)
+
+-- so is each last term, where the first is
+last_low : (p : PlainProgram) (steps : List Step) (k : ℕ) (s last : State) (front : List State) → height s.tree ≤ 256 → terms_from p steps k s ≡ Ok (front ++ last ∷ []) → height last.tree ≤ 256
+last_low p [] k s last [] low e = let same : s ≡ last = cc (e) in subst (λ (t : State). height t.tree ≤ 256) same low
+last_low p [] k s last (t ∷ front) low e = absurd (no_more front last (cc (e)))
+last_low p (step ∷ steps) k s last front low e =
+    let next = and_ok (at_step (k + 1) (stepped p step s)) _ (front ++ last ∷ []) e in
+    let more = and_ok (terms_from p steps (k + 1) next.0) _ (front ++ last ∷ []) next.2 in
+    let first = first_from p steps (k + 1) next.0 more.0 more.1 in
+    let after = stepped_low p step s next.0 (at_step_ok (k + 1) (stepped p step s) next.0 next.1) in
+    elim (split_last s more.0 front last (cc (more.2))) as (λ _. height last.tree ≤ 256) [
+    | inl none ↦ absurd (cc (none, first.1))
+    | inr found ↦ last_low p steps (k + 1) next.0 last found.0 after (more.1 ∙ ap Ok found.1)
+    ]
+
 -- ---- types
 
 -- what is typed has an output's type
@@ -137,10 +173,11 @@ record LastOver (program script : List ℕ) (p : PlainProgram) (t : Typed) : Typ
   keeps : Keeps (declared_by p) [] p.body (tree_of t.term)
   output : HasOutput p p.body (type_in (annotation_of t.types))
   judged : program_judged p (tree_of t.term) ≡ Ok (annotation_of t.types)
+  low : height (tree_of t.term) ≤ 256
 
-pub last_is : (program script : List ℕ) (source t : Typed) (steps : List Step) → TypesAreJudged → IsBegun program script source steps
+pub last_is : (program script : List ℕ) (source t : Typed) (steps : List Step) → TypesAreJudged → ProgramsAreLow → IsBegun program script source steps
     → IsLast (program_of source.program) steps (state_of source) (state_of t) → IsAfter source t → IsLastTerm program script t
-last_is program script source t steps law begun last after =
+last_is program script source t steps law lows begun last after =
     let p = program_of source.program in
     let typed = after.typed in
     let body = subst (λ (b : Tree). Keeps (declared_by p) [] b (tree_of t.term)) begun.whole after.keeps in
@@ -158,6 +195,7 @@ last_is program script source t steps law begun last after =
       output = kept_output p (type_in (annotation_of source.types)) (tree_of t.term) (type_in (annotation_of t.types)) (output_of source p.body begun.ready.typed begun.whole) body
           (subst (λ (q : PlainProgram). HasOutput q (tree_of t.term) (type_in (annotation_of t.types))) after.program own);
       judged = judged;
+      low = last_low p steps 0 (state_of source) (state_of t) last.front (subst (λ (b : Tree). height b ≤ 256) (sym begun.whole) (lows program p begun.read.is)) last.made;
     } in
     let mine : LastOver program script (program_of t.program) t = subst (λ (q : PlainProgram). LastOver program script q t) (sym after.program) here in
     record {
@@ -170,6 +208,7 @@ last_is program script source t steps law begun last after =
       output = mine.output;
       within = is_within (program_of t.program) (tree_of t.term) (annotation_of t.types) _ mine.judged
           (law (program_of t.program) (tree_of t.term) (annotation_of t.types) (record { declared = typed.declared; nodes = typed.nodes; output = typed.output }));
+      low = mine.low;
     }
 
 -- ---- lines

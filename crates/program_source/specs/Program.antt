@@ -1,8 +1,9 @@
 -- A program's text, and its types.
-use Rattle.std.specs.Prelude.{◌≡◌, ◌⊎◌, ℕ, List, [], Some, None, Result, Ok, Err}
+use Rattle.std.specs.Prelude.{◌≡◌, ◌⊎◌, ◌≤◌, ℕ, List, [], Some, None, Result, Ok, Err}
 use Rattle.lift_tree.specs.Annotations.{Annotation}
 use Rattle.lift_tree.specs.Meaning.{World, meaning}
 use Rattle.lift_tree.specs.Programs.{PlainProgram}
+use Rattle.lift_tree.specs.Tree.{height}
 use Rattle.lift_tree.specs.Values.{Value}
 use Rattle.lift_reader.specs.ProgramText.{IsProgramText, StopsAtToken, first_limit}
 use Rattle.lift_reader.specs.declared.refusal.Quantity.{Quantity}
@@ -36,6 +37,10 @@ ReadsProgram text (Ok p) = IsRead text p
 ReadsProgram text (Err (readings.Syntax token offset)) = StopsAtToken text token offset × ((p : PlainProgram) → ¬ IsProgramText text p)
 ReadsProgram text (Err (readings.Limit which count)) = PassesLimit text which count
 ReadsProgram text (Err readings.Memory) = ⊥
+
+-- the term of a program's text is at most 256 high
+abbrev pub ProgramsAreLow : Type 0
+ProgramsAreLow = (text : List ℕ) (p : PlainProgram) → IsProgramText text p → height p.body ≤ 256
 
 -- what a program's text comes to, where this is what its program does
 abbrev pub OnProgram : {A : Type 0} → List ℕ → (PlainProgram → Result A Refusal → Type 0) → Result A Refusal → Type 0

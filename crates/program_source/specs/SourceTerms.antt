@@ -5,7 +5,7 @@ use Rattle.lift_tree.specs.Belonging.{IsProper}
 use Rattle.lift_tree.specs.Limits.{IsWithinLimits}
 use Rattle.lift_tree.specs.Lists.{Every}
 use Rattle.lift_tree.specs.Programs.{PlainProgram, program_of}
-use Rattle.lift_tree.specs.Tree.{tree_of}
+use Rattle.lift_tree.specs.Tree.{height, tree_of}
 use Rattle.lift_tree.specs.Typing.{HasOutput, declared_by}
 use Rattle.lift_tree.specs.declared.typed.Typed.{Typed}
 use Rattle.pattern_types.specs.Judged.{program_judged}
@@ -39,7 +39,7 @@ pub record AreSourceTerms (program script : List ℕ) (terms : List Typed) : Typ
   pub made : TermsOf source script (Ok (map state_of terms))
   pub each : Every (IsSourceTerm source) terms
 
--- this is the last of them, whose type is the program's, and which is within the limits on types
+-- this is the last of them, whose type is the program's, and which is within the limits on types and on height
 pub record IsLastTerm (program script : List ℕ) (t : Typed) : Type 0 where
   pub read : IsRead program (program_of t.program)
   pub proper : IsProper (program_of t.program)
@@ -49,6 +49,7 @@ pub record IsLastTerm (program script : List ℕ) (t : Typed) : Type 0 where
   pub term : IsSourceTerm (program_of t.program) t
   pub output : HasOutput (program_of t.program) (program_of t.program).body (type_in (annotation_of t.types))
   pub within : IsWithinLimits (program_of t.program) (tree_of t.term) (annotation_of t.types)
+  pub low : height (tree_of t.term) ≤ 256
 
 -- a term's text, and LF
 abbrev pub typed_line : Typed → List ℕ

@@ -2,6 +2,7 @@
 #![tactic(auto)]
 
 mod source;
+mod stand_in;
 mod terms;
 
 pub use source::typed_source;

@@ -17,4 +17,4 @@ returns-in_err-last_term-clause-refused c =
 
 pub returns-clause-last : goal.returns-clause-last
 returns-clause-last c =
-    last_is c.args.program.now c.args.script.now _ _ _ c.types_are_judged.ensures c.in_ok-begin.ensures.begun c.in_ok-last_term.ensures.last c.in_ok-last_term.ensures.after
+    last_is c.args.program.now c.args.script.now _ _ _ c.types_are_judged.ensures c.programs_are_low.ensures c.in_ok-begin.ensures.begun c.in_ok-last_term.ensures.last c.in_ok-last_term.ensures.after
