@@ -1,4 +1,5 @@
 pub mod FewNodes
+pub mod Low
 pub mod Once
 pub mod Proper
 pub mod Stages

@@ -2,7 +2,6 @@
 #![tactic(auto)]
 
 mod source;
-mod stand_in;
 mod terms;
 
 pub use source::typed_source;

@@ -16,7 +16,6 @@ use fault_lines::Refusal;
 use lift_tree::laws::typed_nodes_type_the_term;
 use lift_tree::typed::Typed;
 use pattern_types::laws::types_are_judged;
-use crate::stand_in::programs_are_low;
 use std::alloc::{AllocError, Global};
 use strategy_script::{Script, read_script, run_script};
 use term_texts::term_text;
@@ -52,7 +51,6 @@ pub fn last_term(alloc: Global, program: &[u8], script: &[u8]) -> Result<Typed, 
 {
     typed_nodes_type_the_term();
     types_are_judged();
-    programs_are_low();
     let (source, script) = begin(alloc, program, script)?;
     Ok(strategy_script::last_term(alloc, source, &script)?)
 }

@@ -3,6 +3,7 @@ use Rattle.lift_tree.specs.Programs.{program_of}
 use Rattle.program_source.specs.Program.{OnProgram, StopsFor}
 use Rattle.program_source.specs.Terms.{TermsOf}
 use Rattle.program_source.proofs.Stages.{handed_on, on_program, step_stops}
+use Rattle.program_source.proofs.Low.{programs_are_low}
 use Rattle.program_source.proofs.TermsMade.{last_is, source_made}
 use Rattle.program_source.proofs.terms.last_term.Goals as goal
 
@@ -17,4 +18,4 @@ returns-in_err-last_term-clause-refused c =
 
 pub returns-clause-last : goal.returns-clause-last
 returns-clause-last c =
-    last_is c.args.program.now c.args.script.now _ _ _ c.types_are_judged.ensures c.programs_are_low.ensures c.in_ok-begin.ensures.begun c.in_ok-last_term.ensures.last c.in_ok-last_term.ensures.after
+    last_is c.args.program.now c.args.script.now _ _ _ c.types_are_judged.ensures programs_are_low c.in_ok-begin.ensures.begun c.in_ok-last_term.ensures.last c.in_ok-last_term.ensures.after
