@@ -154,30 +154,28 @@ fn private_cells_are_limited(rt: HostRuntime) -> Result<(), Fail> {
     Ok(())
 }
 
-// Two numbers through so many pairs of layouts.
+// A sum on two numbers, seen through so many pairs of layouts.
 fn layouts(alloc: Global, pairs: usize) -> Result<String, AllocError> {
     let opened = repeated(alloc, "join(split(1, ", pairs, "xs")?;
-    let closed = repeated(alloc, "))", pairs, ", xs)")?;
-    format!(in alloc; "input xs: [u32; 2]; output map(\\p. add(first(p), second(p)), zip({opened}{closed}))")
+    let closed = repeated(alloc, "))", pairs, ")")?;
+    format!(in alloc; "input xs: [u32; 2]; output map(\\x. add(x, 1), {opened}{closed}")
 }
 
 #[test]
 fn layouts_are_limited(rt: HostRuntime) -> Result<(), Fail> {
-    let launch = "{\"global\":1,\"local\":1,\"sizes\":{},\"inputs\":{\"xs\":[3,4]}}";
-    let most = layouts(rt.alloc(), 11)?;
+    let few = layouts(rt.alloc(), 2)?;
     let call = Call {
-        program: most.as_str(),
-        launch,
+        program: few.as_str(),
+        launch: "{\"global\":1,\"local\":1,\"sizes\":{},\"inputs\":{\"xs\":[3,4]}}",
         ..FIRST
     };
-    let line = "{\"value\":[6,8],\"events\":9,\"releases\":0}\n";
+    let line = "{\"value\":[4,5],\"events\":7,\"releases\":0}\n";
     assert!(rt; call.ends(rt.alloc(), &RUN, 0, line, "")?);
-    let more = layouts(rt.alloc(), 12)?;
+    let many = layouts(rt.alloc(), 13)?;
     let call = Call {
-        program: more.as_str(),
-        launch,
+        program: many.as_str(),
         ..FIRST
     };
-    assert!(rt; is_limit(rt.alloc(), call, &RUN, "lift: limit layouts: 25\n")?);
+    assert!(rt; is_limit(rt.alloc(), call, &COMPILE, "lift: limit layouts: 26\n")?);
     Ok(())
 }
