@@ -1,5 +1,5 @@
 -- The kernel that is emitted for a legal term.
-use Rattle.std.proofs.Common.{◌≡◌, ◌∙◌, ◌+◌, ◌*◌, ◌<◌, ◌≤◌, ◌^◌, ◌++◌, ◌∷◌, ℕ, List, [], Bool, true, false, cond, Option, None, Some, inl, inr, refl, sym, ap₂, subst, arith, pos, negsuc, ℤ, ◌≤ℤ◌, ◌⊎◌}
+use Rattle.std.proofs.Common.{◌≡◌, ◌∙◌, ◌+◌, ◌*◌, ◌<◌, ◌≤◌, ◌^◌, ◌++◌, ◌∷◌, ℕ, List, [], Bool, true, false, cond, Option, None, Some, inl, inr, refl, sym, ap, ap₂, subst, arith, pos, negsuc, ℤ, ◌≤ℤ◌, ◌⊎◌}
 use Rattle.std.specs.Prelude.{if◌then◌else◌, nat_abs, nat_lt}
 use Rattle.std.proofs.lemmas.Bool.{ltb-false}
 use Rattle.std.proofs.lemmas.Int.{ints}
@@ -10,13 +10,14 @@ use Rattle.size_arith.specs.declared.poly.Monomial.{Monomial}
 use Rattle.size_arith.specs.Polynomial.{value_at}
 use Rattle.size_arith.specs.Ranges.{Admissible, AreNames, leasts, sizes_at}
 use Rattle.size_arith.proofs.Soundness.{shown_at_least}
-use Rattle.lift_tree.specs.Annotations.{Annotation, Annotates, Leaf, One, Two, Three, type_in}
+use Rattle.lift_tree.specs.Annotations.{Annotation, Annotates, Leaf, One, Two, Three, annotation_of, type_in}
 use Rattle.lift_tree.specs.Lists.{Every}
-use Rattle.lift_tree.specs.Programs.{PlainProgram}
+use Rattle.lift_tree.specs.Programs.{PlainProgram, program_of}
 use Rattle.lift_tree.specs.Tree as tree
-use Rattle.lift_tree.specs.Tree.{Tree, height}
+use Rattle.lift_tree.specs.Tree.{Tree, height, tree_of}
 use Rattle.lift_tree.specs.Types.{PlainTy, U32, PairOf, ArrayOf, HoldsElements, IsElement, IsFormed, IsOutput}
 use Rattle.lift_tree.specs.Typing.{Declared, declared_by}
+use Rattle.lift_tree.specs.declared.typed.Typed.{Typed}
 use Rattle.lift_tree.proofs.Annotated.{annotated_is_typed}
 use Rattle.lift_tree.proofs.Formed.{formed}
 use Rattle.kernel_tree.specs.Code.{Kernel}
@@ -24,11 +25,12 @@ use Rattle.kernel_tree.specs.Launch.{Launch}
 use Rattle.lift_ir.specs.AtLaunch.{length_at, natural, shape_of}
 use Rattle.lift_ir.specs.Forms.{Stands, StandsOverLaunch}
 use Rattle.lift_ir.specs.Loads.{LoadsSuffice}
-use Rattle.lift_ir.specs.Lowering.{Lowered}
+use Rattle.lift_ir.specs.Lowering as lowering
 use Rattle.lift_ir.specs.Promises.{LoweredTermsServe}
 use Rattle.lift_ir.specs.Types as ir
 use Rattle.lift_ir.specs.Types.{IsShort, measured, size}
 use Rattle.lowered_tree.specs.declared.around.Around.{Around}
+use Rattle.lowered_tree.specs.declared.lowered.Lowered.{Lowered}
 use Rattle.lowered_tree.specs.Kinds.{is_parallel, is_task}
 use Rattle.lowered_tree.specs.Nest.{Site, in_child, sites, under}
 use Rattle.lowered_tree.specs.Printed.{first_place, first_unprinted, is_unprinted_at}
@@ -47,9 +49,10 @@ use Rattle.printable_terms.specs.Laws.{KernelsAreInTheGrammar, TermsArePrinted, 
 use Rattle.printable_terms.specs.Sound.{HasSoundParts}
 use Rattle.sound_parts.specs.Laws.{LeastSizesAreAdmissible}
 use Rattle.kernel_emit.specs.Copies.{HasShortCopies}
-use Rattle.kernel_emit.specs.Emittable.{IsEmittable}
+use Rattle.kernel_emit.specs.Emittable.{IsEmittable, declared_of}
 use Rattle.strategy_script.specs.Steps.{State}
 use Rattle.compilation.specs.Compiled.{PrintsAtAll}
+use Rattle.compilation.specs.Legal.{IsLoweredOf}
 use Rattle.compilation.specs.Meets.{CanBeLaidOut}
 
 -- ---- it can be emitted
@@ -71,13 +74,13 @@ at_least d task ok = record {
   sizes = refl;
 }
 
-stands_somewhere : (l : Launch) (t : Lowered) → StandsAt l t → Stands true t ⊎ StandsOverLaunch t
+stands_somewhere : (l : Launch) (t : lowering.Lowered) → StandsAt l t → Stands true t ⊎ StandsOverLaunch t
 stands_somewhere l t (inl h) = inl h.1
 stands_somewhere l t (inr h) = inr h
 
 -- copies are short where loads suffice
 abbrev pub CopiesAreShort : Type 0
-CopiesAreShort = (h : ℕ → List Bool → Bool) (t : Lowered) → LoadsSuffice h t → HasShortCopies t
+CopiesAreShort = (h : ℕ → List Bool → Bool) (t : lowering.Lowered) → LoadsSuffice h t → HasShortCopies t
 
 pub emittable : (p : PlainProgram) (t : Tree) (n : Annotation) → IsLegalTerm p t n → IsPrintable (declared_by p) t n → passed_limit t n ≡ None → height t ≤ 512 → HasSoundParts (declared_by p) t n
     → KernelsAreInTheGrammar → LeastSizesAreAdmissible → TermsCanBeWritten (List Monomial) → LoweredTermsServe → CopiesAreShort → IsEmittable (declared_by p) t n
@@ -96,6 +99,24 @@ emittable p t n legal printable within low sound grammar least written serve sho
 pub prints_at_all : (p : PlainProgram) (s : State) (k : Kernel) → TermsArePrinted → IsPrintable (declared_by p) s.tree s.types → k ≡ kernel_of_term (declared_by p) s.tree s.types → PrintsAtAll p s k
 prints_at_all p s k law printable is bases l at =
     subst (λ (x : Kernel). Prints (declared_by p) bases s.tree s.types l x) (sym is) (law (declared_by p) bases s.tree s.types l printable at)
+
+-- ---- as it is lowered
+
+pub emittable_lowered : (t : Typed) (l : Lowered) → IsLoweredOf t l → IsEmittable (declared_by (program_of t.program)) (tree_of t.term) (annotation_of t.types) → IsEmittable (declared_of l) (tree_of l.term) (annotation_of l.types)
+emittable_lowered t l is h =
+    subst (λ (d : Declared). IsEmittable d (tree_of l.term) (annotation_of l.types)) (sym is.declared)
+    (subst (λ (u : Tree). IsEmittable (declared_by (program_of t.program)) u (annotation_of l.types)) (sym is.term)
+    (subst (λ (n : Annotation). IsEmittable (declared_by (program_of t.program)) (tree_of t.term) n) (sym is.types) h))
+
+pub kernel_lowered : (t : Typed) (l : Lowered) (k : Kernel) → IsLoweredOf t l → k ≡ kernel_of_term (declared_of l) (tree_of l.term) (annotation_of l.types) → k ≡ kernel_of_term (declared_by (program_of t.program)) (tree_of t.term) (annotation_of t.types)
+kernel_lowered t l k is h =
+    subst (λ (n : Annotation). k ≡ kernel_of_term (declared_by (program_of t.program)) (tree_of t.term) n) is.types
+    (subst (λ (u : Tree). k ≡ kernel_of_term (declared_by (program_of t.program)) u (annotation_of l.types)) is.term
+    (subst (λ (d : Declared). k ≡ kernel_of_term d (tree_of l.term) (annotation_of l.types)) is.declared h))
+
+-- it has an output for each component of the type
+pub few_outputs : (d : Declared) (t : Tree) (n : Annotation) (k : Kernel) → k ≡ kernel_of_term d t n → k.outputs < 2 ^ 32 → ir.width (shape_of (type_in n)) < 2 ^ 32
+few_outputs d t n k is few = subst (λ (m : ℕ). m < 2 ^ 32) (ap (λ (x : Kernel). x.outputs) is) few
 
 -- ---- one work-item runs it so far
 

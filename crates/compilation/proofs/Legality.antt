@@ -1,14 +1,19 @@
 -- Why a last term isn't compiled, and what is known of one that is.
-use Rattle.std.proofs.Common.{◌≡◌, ◌∙◌, List, ℕ, Option, None, Some, Ok, ap₂, inl, inr, refl, subst, sym}
+use Rattle.std.proofs.Common.{◌≡◌, ◌∙◌, List, ℕ, Option, None, Some, Ok, ap₂, inl, inr, map, refl, subst, sym}
 use Rattle.lift_tree.specs.Annotations.{Annotation, annotation_of}
 use Rattle.lift_tree.specs.Programs.{program_of}
 use Rattle.lift_tree.specs.Tree.{Tree, tree_of}
+use Rattle.lift_tree.specs.Types.{ty_of}
+use Rattle.lift_tree.specs.Typing.{declared_by}
 use Rattle.lift_tree.specs.declared.typed.Typed.{Typed}
 use Rattle.strategy_script.specs.Steps.{State}
 use Rattle.lowered_tree.specs.Nest.{IsLegalNest, LegalWithoutFault, nest_fault}
 use Rattle.lowered_tree.specs.Printed.{first_unprinted}
 use Rattle.lowered_tree.specs.Inputs.{HasTypedInputs}
+use Rattle.lowered_tree.specs.declared.lowered.Lowered.{Lowered}
+use Rattle.nest_premises.specs.Laws.{AcceptedTermsArePrintable}
 use Rattle.nest_premises.specs.Legal.{HasWordSteps, IsLegalTerm}
+use Rattle.nest_premises.specs.Printable.{IsPrintable}
 use Rattle.thread_mapping.specs.Found as nest
 use Rattle.thread_mapping.specs.declared.judging.NestNo.{NestNo}
 use Rattle.thread_mapping.specs.declared.judging.NestNo.TheVariants as nests
@@ -19,7 +24,7 @@ use Rattle.fault_lines.specs.declared.refusal.Refusal.{Refusal}
 use Rattle.fault_lines.specs.declared.refusal.Refusal.TheVariants as told
 use Rattle.program_source.specs.Program.{StopsFor}
 use Rattle.program_source.specs.Stages.{As}
-use Rattle.compilation.specs.Legal.{BuffersOf, CompilesTerm, IsTypedLast, NestOf, PrintedOf}
+use Rattle.compilation.specs.Legal.{BuffersOf, CompilesTerm, IsLoweredOf, IsTypedLast, NestOf, PrintedOf}
 
 pub typed_inputs : (t : Typed) → IsTypedLast t → HasTypedInputs (program_of t.program)
 typed_inputs t last = record { proper = last.proper; declared = last.typed.declared; within = last.within.inputs }
@@ -34,7 +39,16 @@ legal_term t last steps legal = record {
   legal = legal;
 }
 
+pub printable_term : AcceptedTermsArePrintable → (t : Typed) → IsTypedLast t → HasWordSteps (tree_of t.term) → IsLegalNest (tree_of t.term) (annotation_of t.types) → first_unprinted (tree_of t.term) (annotation_of t.types) ≡ None
+    → IsPrintable (declared_by (program_of t.program)) (tree_of t.term) (annotation_of t.types)
+printable_term law t last steps legal printed = law (program_of t.program) (tree_of t.term) (annotation_of t.types) (legal_term t last steps legal) printed
+
 -- ---- each stage, over the term as it is lowered
+
+pub lowered_of : (t : Typed) (l m : Lowered) → l.names ≡ (declared_by (program_of t.program)).names → map ty_of l.inputs.items ≡ (declared_by (program_of t.program)).inputs
+    → tree_of l.term ≡ tree_of t.term → annotation_of l.types ≡ annotation_of t.types → m ≡ l → IsLoweredOf t m
+lowered_of t l m names inputs term types same =
+    subst (IsLoweredOf t) (sym same) (record { declared = λ i. record { names = names i; inputs = inputs i }; term = term; types = types })
 
 pub is_legal : LegalWithoutFault → (t u : Tree) (n m : Annotation) → t ≡ u → n ≡ m → nest_fault t n ≡ None → IsLegalNest u m
 is_legal law t u n m term types h = subst (λ (k : Annotation). IsLegalNest u k) types (subst (λ (v : Tree). IsLegalNest v n) term ((law t n).0 h))
