@@ -1,15 +1,18 @@
 -- Values laid out in lists.
-use Rattle.std.proofs.Common.{◌≡◌, ◌∙◌, ◌++◌, ◌<◌, ◌+◌, ◌*◌, ℕ, zero, suc, List, [], ◌∷◌, length, map, replicate, refl, sym, ap, ap₂, arith, append_assoc, append-nil}
+use Rattle.std.proofs.Common.{◌≡◌, ◌∙◌, ◌++◌, ◌<◌, ◌≤◌, ◌+◌, ◌*◌, ℕ, zero, suc, List, [], ◌∷◌, length, map, replicate, refl, sym, ap, ap₂, arith, append_assoc, append-nil}
 use Rattle.std.specs.Prelude.{slice_index}
 use Rattle.std.proofs.Props.{props}
-use Rattle.std.proofs.lemmas.List.{length-replicate}
+use Rattle.std.proofs.lemmas.List.{length-map, length-replicate}
 use Rattle.std.proofs.lemmas.Grind.{same_number_lists}
 use Rattle.size_arith.specs.declared.names.Name.{Name}
 use Rattle.kernel_tree.specs.Device.{row}
-use Rattle.lift_tree.specs.Launches.{buffers_of}
+use Rattle.lift_tree.specs.Launches.{buffers_of, lists_of}
 use Rattle.lift_tree.specs.Programs.{input_of}
 use Rattle.lift_tree.specs.Types.{PlainTy, U32, PairOf, ArrayOf, HoldsElements, IsElement}
-use Rattle.value_lists.specs.Lists.{IsSmall, length_at}
+use Rattle.lift_tree.specs.Limits.{components}
+use Rattle.lift_tree.specs.Values.{Value, list_of}
+use Rattle.value_lists.specs.Lists.{IsSmall, length_at, width}
+use Rattle.value_lists.proofs.Held.{width_is}
 
 -- ---- facts that a truncated fact gives
 
@@ -55,3 +58,12 @@ rows_are (r ∷ rs) (o ∷ os) (w ∷ ws) count long shape same =
     let later : map length ws ≡ map length os = cc (shape) in
     ap₂ (λ x xs. x ∷ xs) (same_number_lists r w (long 0 ∙ sym first) (λ i lt. same 0 i (let e = long 0 in omega (arith, lt, e, first))))
     (rows_are rs os ws (omega (arith, count)) (λ a. long (suc a)) later (λ a i lt. same (suc a) i lt))
+
+-- there are as many lists as components
+pub wide : {X : Type 0} (a : PlainTy) (v : Value) (f : X → List ℕ) (outs : List X) → map f outs ≡ lists_of a v → width a ≤ length outs
+wide a v f outs left =
+    let here : length (map f outs) ≡ length outs = length-map outs f in
+    let there : length (map (list_of v) (components a)) ≡ length (components a) = length-map (components a) (list_of v) in
+    let same : length (map f outs) ≡ length (map (list_of v) (components a)) = ap length left in
+    let all = width_is a in
+    omega (arith, here, there, same, all)

@@ -1,4 +1,5 @@
 pub mod Admitted
+pub mod Buffers
 pub mod LaidOut
 pub mod Once
 pub mod Running

@@ -1,5 +1,6 @@
 -- The run of a compiled kernel at what a launch file gives.
-use Rattle.std.proofs.Common.{◌≡◌, ◌∙◌, ◌<◌, ◌≤◌, Bool, true, ℕ, List, [], ◌∷◌, ◌++◌, length, map, replicate, refl, sym, ap, subst, arith, Option}
+use Rattle.std.proofs.Common.{◌≡◌, ◌∙◌, ◌<◌, ◌≤◌, Bool, true, ℕ, List, [], ◌∷◌, ◌++◌, length, map, replicate, refl, sym, ap, subst, arith, Option, Result, Ok, Err}
+use Rattle.std.specs.Prelude.{IfOk}
 use Rattle.kernel_tree.specs.declared.events.Event.{Event}
 use Rattle.kernel_tree.specs.Code.{Kernel}
 use Rattle.kernel_tree.specs.KernelText.{IsKernelText}
@@ -13,10 +14,12 @@ use Rattle.kernel_tree.specs.declared.events.FaultKind.{FaultKind}
 use Rattle.kernel_tree.specs.declared.events.Cell as shown
 use Rattle.ndrange_device.specs.Outcomes.{EndsUnder, FaultsUnder}
 use Rattle.launch_file.specs.LaunchFile.{Given}
+use Rattle.launch_file.specs.ResultLine.{result_line}
 use Rattle.lift_tree.specs.Launches.{lists_of}
 use Rattle.lift_tree.specs.Programs.{PlainProgram}
 use Rattle.lift_tree.specs.Types.{PlainTy, HasType}
 use Rattle.lift_tree.specs.Typing.{IsAdmissible, ValuesHaveTypes, declared_by}
+use Rattle.lift_tree.specs.Values.{Value}
 use Rattle.printed_form.specs.Headline.{LeavesWanted}
 use Rattle.value_lists.specs.Lists.{list_lengths, value_in}
 use Rattle.value_lists.specs.Laws.{ListsHaveLengths, ListsHoldOneValue}
@@ -48,6 +51,11 @@ module _ (p : PlainProgram) (output : PlainTy) (task : Bool) (text : List ℕ) (
   -- the value that is read from its lists
   pub value_is : ListsHoldOneValue → value_in g.bases output (lists_of output (source_value p (world_given g))) 0 0 ≡ source_value p (world_given g)
   value_is law = law g.bases output (source_value p (world_given g)) is.laid_out.elements value_typed
+
+  -- so the line of what is read from these lists is the value's
+  pub value_told : ListsHoldOneValue → (rows : List (List ℕ)) (v : Value) (counts : Option (ℕ × ℕ)) → rows ≡ lists_of output (source_value p (world_given g)) → v ≡ value_in g.bases output rows 0 0
+      → result_line v counts ≡ result_line (source_value p (world_given g)) counts
+  value_told law rows v counts left held = ap (λ (x : Value). result_line x counts) (held ∙ ap (λ (ls : List (List ℕ)). value_in g.bases output ls 0 0) left ∙ value_is law)
 
   module _ (lengths : ListsHaveLengths) where
     long : map length (begun p output (world_given g)).outs ≡ map length (lists_of output (source_value p (world_given g)))
@@ -104,3 +112,8 @@ pub run_is : (p : PlainProgram) (output : PlainTy) (g : Given) (k : Kernel) (l :
     → rows ≡ lists_of output (source_value p (world_given g)) → EndsUnder g.schedule k l c rows events releases → RunsAsGiven p output k g events releases
 run_is p output g k l c rows events releases launch cells left e =
     subst (λ x. EndsUnder g.schedule k g.launch (begun p output (world_given g)) x events releases) left (run_as_given g.schedule k l g.launch c (begun p output (world_given g)) rows events releases launch cells e)
+
+-- what is made of an answer
+pub made_of : {V E : Type 0} (r : Result V E) (P Q : V → Type 0) → ((v : V) → P v → Q v) → IfOk r P → IfOk r Q
+made_of (Ok v) P Q f h = f v h
+made_of (Err e) P Q f h = tt

@@ -4,8 +4,8 @@ use Rattle.compilation.proofs.legal.judge_printed.Goals as goal
 
 pub returns-in-Some-clause-refused : goal.returns-in-Some-clause-refused
 returns-in-Some-clause-refused c =
-    inr (_, printed_is _ _ _ _ (Some _) c.requires.term c.requires.types c.in_ok-first_unprinted.ensures, refl)
+    inr (_, printed_is _ _ _ _ (Some _) c.requires.term c.requires.types c.in_ok-place.ensures, refl)
 
 pub returns-in-None-clause-all : goal.returns-in-None-clause-all
 returns-in-None-clause-all c =
-    printed_is _ _ _ _ None c.requires.term c.requires.types c.in_ok-first_unprinted.ensures
+    printed_is _ _ _ _ None c.requires.term c.requires.types c.in_ok-place.ensures
