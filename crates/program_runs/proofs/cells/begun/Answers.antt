@@ -2,8 +2,8 @@ use Rattle.std.proofs.Common.{◌≡◌, ◌∙◌, map}
 use Rattle.std.proofs.Props.{props}
 use Rattle.std.proofs.Math.Logic.{∥∥₁_elim}
 use Rattle.launch_file.specs.LaunchFile.{given_by}
-use Rattle.lift_tree.specs.Programs.{program_of, range_of}
 use Rattle.lift_tree.specs.Types.{ty_of}
+use Rattle.lift_tree.specs.WorkedOut.{range_of}
 use Rattle.program_runs.proofs.LaidOut.{elements_once, small_once}
 use Rattle.program_runs.proofs.cells.begun.Goals as goal
 
@@ -23,4 +23,4 @@ blank_lists-requires-clause-few c =
     ∥∥₁_elim compiled.text_for (Prim.hlevel props) (λ t. t.laid_out.few)
 
 pub returns : goal.returns
-returns c = ?
+returns c = let h = (c.new-ins.ensures, c.deref.ensures, c.deref-2.ensures, c.in_ok-add_inputs.ensures) in ?

@@ -1,6 +1,10 @@
+use Rattle.std.proofs.Common.{subst}
 use Rattle.std.proofs.Props.{props}
 use Rattle.std.proofs.Math.Logic.{∥∥₁_elim}
 use Rattle.kernel_tree.specs.Kernels.{kernel_of}
+use Rattle.kernel_tree.specs.Schedule.{schedule_of}
+use Rattle.ndrange_device.specs.Outcomes.{Refuses}
+use Rattle.ndrange_device.specs.declared.outcome.DeviceNo.{DeviceNo}
 use Rattle.launch_file.specs.LaunchFile.{given_by}
 use Rattle.lift_tree.specs.Programs.{program_of}
 use Rattle.lift_tree.specs.Types.{ty_of}
@@ -26,7 +30,8 @@ unreachable-requires c =
     let compiled = c.args.compiled.now in
     ∥∥₁_elim compiled.text_for (Prim.hlevel props) (λ t.
     clean_as_made (program_of compiled.program) (ty_of compiled.output) compiled.is_task compiled.text.items (given_by c.args.file.now) c.values_have_their_types.ensures c.requires t
-    c.lists_have_lengths.ensures c.one_kernel.ensures _ c.in_ok-kernel.ensures _ _ c.in_ok-at.ensures c.in_ok-cells.ensures _ _ _ _ _ c.in-Err-Fault.ensures.refusal)
+    c.lists_have_lengths.ensures c.one_kernel.ensures _ c.in_ok-kernel.ensures _ _ c.in_ok-at.ensures c.in_ok-cells.ensures _ _ _ _ _
+    (subst (λ (e : DeviceNo). Refuses (schedule_of c.args.file.now.schedule) (kernel_of c.in_ok-kernel.kernel) c.in_ok-at.at c.in_ok-cells.cells e) c.in-Err-Fault.field-0-is c.in-Err-Fault.ensures.refusal))
 
 pub returns-in-Ok-clause-left : goal.returns-in-Ok-clause-left
 returns-in-Ok-clause-left c =

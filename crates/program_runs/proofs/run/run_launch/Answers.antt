@@ -1,4 +1,8 @@
-use Rattle.std.proofs.Common.{◌∙◌}
+use Rattle.std.proofs.Common.{◌≡◌, ◌∙◌, ℕ, Some, Vec}
+use Rattle.std.specs.Global.{Global}
+use Rattle.launch_file.specs.ResultLine.{result_line}
+use Rattle.lift_tree.specs.Values.{value_of}
+use Rattle.program_runs.specs.Runs.{IsLineOfText}
 use Rattle.std.proofs.Props.{props}
 use Rattle.std.proofs.Math.Logic.{∥∥₁_elim}
 use Rattle.launch_file.specs.LaunchFile.{given_by}
@@ -10,7 +14,10 @@ use Rattle.program_runs.proofs.run.run_launch.Goals as goal
 pub returns : goal.returns
 returns c =
     let compiled = c.args.compiled.now in
-    made_of _ _ _ (λ line h. record {
+    made_of c.result_text.result
+    (λ (line : Vec ℕ Global). line.items ≡ result_line (value_of c.in_ok-value.value) (Some (c.in_ok-outcome.outcome.events, c.in_ok-outcome.outcome.releases)))
+    (λ (line : Vec ℕ Global). IsLineOfText (program_of compiled.program) (ty_of compiled.output) compiled.text.items (given_by c.args.file.now) line.items)
+    (λ line h. record {
       events = c.in_ok-outcome.outcome.events;
       releases = c.in_ok-outcome.outcome.releases;
       run = c.in_ok-outcome.ensures.run;
