@@ -23,4 +23,4 @@ blank_lists-requires-clause-few c =
     ∥∥₁_elim compiled.text_for (Prim.hlevel props) (λ t. t.laid_out.few)
 
 pub returns : goal.returns
-returns c = let h = (c.new-ins.ensures, c.deref.ensures, c.deref-2.ensures, c.in_ok-add_inputs.ensures) in ?
+returns c = let a = c.new-ins.ensures in let b = c.deref.ensures in let d = c.deref-2.ensures in ?
