@@ -45,3 +45,7 @@ pub none_held_of_values : (names : List Name) (inputs : List Input) (values : Li
 none_held_of_values names [] values old h = sym (append-nil old)
 none_held_of_values names (i ∷ is) [] old h = sym (append-nil old)
 none_held_of_values names (i ∷ is) (v ∷ vs) old h = absurd (omega (arith, h))
+
+-- from no lists on, they are what the buffers hold
+pub held_first : {L : Type 0} {f : L → List ℕ} (names : List Name) (old new : List L) (is js : List Input) (vs ws : List Val) → old ≡ [] → is ≡ js → vs ≡ ws → map f new ≡ map f old ++ held names is vs → map f new ≡ held names js ws
+held_first {f = f} names old new is js vs ws none inputs values h = h ∙ ap (λ ls. map f ls ++ held names is vs) none ∙ ap₂ (held names) inputs values
