@@ -12,6 +12,7 @@ import tempfile
 TOP = os.path.dirname(os.path.dirname(os.path.abspath(__file__)))
 PROGRAM = os.path.abspath(sys.argv[1]) if len(sys.argv) > 1 else f"{TOP}/lift"
 ADDED = "size N from 1 to 1000; input xs: [u32; N]; output map(\\x. add(x, 1), xs)"
+ROWS_OF = "input xs: [[u32; 2]; 3]; output "
 ARRAY = "size N from 1 to 1000; input xs: [u32; N]; output "
 LAUNCH = {"global": 1, "local": 1, "sizes": {"N": 3}, "inputs": {"xs": [1, 2, 3]}}
 
@@ -69,6 +70,16 @@ ROWS = [
     ("input xs: [u32; 4]; output map(\\r. map(\\x. reduce(add, x, r), r), split(2, xs))", "at . map-split", None, 9, "lift: step 1: side mentions"),
     (ADDED, "at 0 copy\n" * 255, None, 10, "lift: limit depth: 257"),
     (ADDED, "", None, 11, "lift: nest: N1 at ."),
+    (ADDED, "at . to-lcl", None, 11, "lift: nest: N2 at ."),
+    (ROWS_OF + "map(\\r. map(\\x. x, r), xs)", "at . to-glb\nat 1 to-glb", None, 11, "lift: nest: N3 at 1"),
+    (ADDED, "at . to-wrg", None, 11, "lift: nest: N4 at 1"),
+    (ADDED, "at . to-seq\nat . local", None, 11, "lift: nest: N5 at ."),
+    ("size N from 1 to 64; input xs: [u32; 2*N]; output join(map(\\r. map(\\x. x, r), split(N, xs)))", "at 0.1.0 local-copy\nat 0.1 to-lcl\nat 0 to-wrg", None, 11, "lift: nest: N6 at 0.1.0"),
+    (ADDED, "at 0 copy\nat 0 to-seq\nat . to-seq", None, 11, "lift: nest: N7 at 0"),
+    (ADDED, "at 0 private-copy\nat . to-seq", None, 11, "lift: nest: N8 at 0"),
+    (ROWS_OF + "map(\\r. map(\\x. x, r), xs)", "at 1 to-glb\nat . to-seq", None, 11, "lift: nest: N9 at 1"),
+    (ARRAY + "slide(1, 1, map(\\x. x, xs))", "at 0 to-seq", None, 11, "lift: nest: N10 at ."),
+    ("input xs: [u32; 5]; output xs", "", None, 11, "lift: nest: N11 at ."),
     (ADDED, "at . to-glb", None, 11, "lift: nest: N0 at ."),
     (ADDED, "at . to-seq", launch()[:-1], 12, "lift: launch: not json"),
     (ADDED, "at . to-seq", launch(local=None), 12, "lift: launch: missing local"),

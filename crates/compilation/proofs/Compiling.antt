@@ -1,77 +1,115 @@
 -- What is compiled of the last term of a program and a script.
-use Rattle.std.proofs.Common.{◌≡◌, Ok, List, ℕ, [], subst, sym, true, inl, inr, refl}
-use Rattle.kernel_emit.specs.MapKernel.{map_kernel}
+use Rattle.std.proofs.Common.{◌≡◌, ◌∙◌, ◌≤◌, List, ℕ, [], ◌∷◌, Ok, Result, Bool, true, ap, length, map, subst, sym, inl, inr, refl, arith}
+use Rattle.kernel_tree.specs.Code.{Kernel}
 use Rattle.kernel_tree.specs.KernelText.{IsKernelText}
+use Rattle.kernel_tree.specs.Launch.{Launch, Cells}
 use Rattle.lift_tree.specs.Annotations.{annotation_of, type_in}
+use Rattle.lift_tree.specs.Launches.{lists_of}
+use Rattle.lift_tree.specs.Meaning.{World, meaning}
 use Rattle.lift_tree.specs.Programs.{PlainProgram, program_of}
 use Rattle.lift_tree.specs.Tree.{tree_of}
 use Rattle.lift_tree.specs.Types.{PlainTy}
-use Rattle.lift_tree.specs.Typing.{HasOutput, declared_by}
+use Rattle.lift_tree.specs.Typing.{IsAdmissible, declared_by}
+use Rattle.lift_tree.specs.Values.{Value}
 use Rattle.lift_tree.specs.declared.typed.Typed.{Typed}
+use Rattle.lowered_tree.specs.Kinds.{is_task}
+use Rattle.nest_premises.specs.Printable.{IsPrintable}
+use Rattle.printed_form.specs.Headline.{EveryRunKeeps}
+use Rattle.printed_form.specs.Programs.{AreBuffersOf, IsLaunchOf, PrintedProgramsKeep, PrintedProgramsStart, cell_owner}
 use Rattle.rewriting.specs.Keeps.{Keeps}
 use Rattle.strategy_script.specs.Steps.{State, state_of}
 use Rattle.fault_lines.specs.declared.refusal.Refusal.{Refusal}
-use Rattle.fault_lines.specs.declared.refusal.Refusal.TheVariants as told
-use Rattle.compilation.specs.Compiled.{FormOf, IsCompiled, IsLast, IsRead, NestOf, OnProgram, StopsFor, TermsOf}
-use Rattle.compilation.specs.Form.{HasForm}
-use Rattle.compilation.specs.OneList.{IsOverOneList}
-use Rattle.compilation.specs.Runs.{MeetsSource}
-use Rattle.compilation.specs.SourceTerms.{IsLastTerm}
-use Rattle.compilation.specs.Stages.{As}
-use Rattle.compilation.proofs.Meets.{meets_source, over_one_list}
-use Rattle.compilation.proofs.TermsMade.{keeps_valued, last_output}
+use Rattle.program_source.specs.Program.{IsRead, OnProgram, StopsFor, source_value}
+use Rattle.program_source.specs.SourceTerms.{IsLastTerm}
+use Rattle.program_source.specs.Terms.{TermsOf}
+use Rattle.program_source.proofs.FewNodes.{few_inputs}
+use Rattle.compilation.specs.Compiled.{IsCompiled, PrintsAtAll}
+use Rattle.compilation.specs.Legal.{CompilesTerm, IsTypedLast, LegalOf}
+use Rattle.compilation.specs.Meets.{Admits, CanBeLaidOut, IsTextFor, LeavesSource, MeetsSource, Starts}
 
--- the terms of a last term's own program, of which it is the last, and what it keeps
-record Ends (program script : List ℕ) (p : PlainProgram) (t : Typed) (output : PlainTy) : Type 0 where
-  read : IsRead program p
-  terms : List State
-  made : TermsOf p script (Ok terms)
-  is_last : IsLast (state_of t) terms
-  typed : HasOutput p p.body output
-  keeps : Keeps (declared_by p) [] p.body (tree_of t.term)
+-- ---- what is printed for a term that keeps the source's value
 
-ends : (program script : List ℕ) (t : Typed) (output : PlainTy) → output ≡ type_in (annotation_of t.types) → IsLastTerm program script t → Ends program script (program_of t.program) t output
-ends program script t output same h =
-    subst (λ (q : PlainProgram). Ends program script q t output) (sym h.term.program)
+module _ (p : PlainProgram) (s : State) (k : Kernel) (printable : IsPrintable (declared_by p) s.tree s.types) (keeps : Keeps (declared_by p) [] p.body s.tree) (prints : PrintsAtAll p s k) where
+  same_value : (w : World) → IsAdmissible (declared_by p) w → meaning w [] s.tree ≡ source_value p w
+  same_value w ok = keeps.value w [] ok (λ n a e. absurd (cc (e)))
+
+  module _ (w : World) (l : Launch) (c : Cells) (a : Admits p (type_in s.types) (is_task s.tree) w l c) where
+    launch_of : IsLaunchOf (declared_by p) (is_task s.tree) w.bases l
+    launch_of = record { admissible = a.launch; sizes = a.sizes ∙ a.world.sizes }
+
+    cells_of : AreBuffersOf (declared_by p) w s.tree s.types c
+    cells_of = record { inputs = a.inputs; outputs = a.outputs ∙ ap (λ (v : Value). map length (lists_of (type_in s.types) v)) (sym (same_value w a.world)) }
+
+  pub starts : PrintedProgramsStart → Starts p (type_in s.types) (is_task s.tree) k
+  starts law w l c a =
+      law (declared_by p) (is_task s.tree) w s.tree s.types l k c (printable.lowerable w.bases a.world.bases) a.world (launch_of w l c a) (cells_of w l c a) (prints w.bases l (launch_of w l c a))
+
+  pub meets : PrintedProgramsKeep → MeetsSource p (type_in s.types) s k
+  meets law w l c a =
+      subst (λ (v : Value). EveryRunKeeps k l c (cell_owner w.bases l s.tree s.types) (lists_of (type_in s.types) v)) (same_value w a.world)
+      (law (declared_by p) (is_task s.tree) w s.tree s.types l k c (printable.lowerable w.bases a.world.bases) a.world (launch_of w l c a) (cells_of w l c a) (prints w.bases l (launch_of w l c a)))
+
+-- a kernel that meets its source leaves its value
+pub leaves : (p : PlainProgram) (output : PlainTy) (s : State) (k : Kernel) → MeetsSource p output s k → LeavesSource p output (is_task s.tree) k
+leaves p output s k meets w l c a start es begins is = (meets w l c a start es begins is).leaves
+
+-- ---- the last term
+
+pub typed_last : (program script : List ℕ) (t : Typed) → IsLastTerm program script t → IsTypedLast t
+typed_last program script t last = record {
+  proper = last.proper;
+  few = few_inputs (program_of t.program) last.read.within;
+  typed = last.term.typed;
+  within = last.within;
+  low = last.low;
+}
+
+pub compiled_found : (program script : List ℕ) (t : Typed) (output : PlainTy) (task : Bool) (text : List ℕ) (k : Kernel) → PrintedProgramsStart → PrintedProgramsKeep → output ≡ type_in (annotation_of t.types)
+    → is_task (tree_of t.term) ≡ task → IsLastTerm program script t → CompilesTerm (state_of t) (Ok (state_of t)) → IsPrintable (declared_by (program_of t.program)) (tree_of t.term) (annotation_of t.types)
+    → PrintsAtAll (program_of t.program) (state_of t) k → IsKernelText text k → IsCompiled program script (program_of t.program) output task text
+compiled_found program script t output task text k start keep same alone last compiles printable prints written =
+    let p = program_of t.program in
+    subst (λ (a : PlainTy). IsCompiled program script p a task text) (sym same)
     (record {
-      read = h.are.read;
-      terms = _;
-      made = h.are.made;
-      is_last = h.is_last;
-      typed = subst (HasOutput h.are.source h.are.source.body) (sym same) (last_output program script t h);
-      keeps = h.term.keeps;
+      read = last.read;
+      typed = last.output;
+      last = state_of t;
+      legal = (last.terms, last.made, (state_of t, last.is_last, compiles));
+      alone = alone;
+      keeps = last.term.keeps;
+      kernel = k;
+      written = written;
+      prints = prints;
+      parameters = starts p (state_of t) k printable last.term.keeps prints start;
+      meets = meets p (state_of t) k printable last.term.keeps prints keep;
     })
 
-pub compiled_meets : (program script : List ℕ) (t : Typed) (addend : ℕ) (output : PlainTy) → output ≡ type_in (annotation_of t.types) → IsLastTerm program script t
-    → HasForm (program_of t.program) (tree_of t.term) addend → MeetsSource (program_of t.program) output true (map_kernel addend)
-compiled_meets program script t addend output same h form =
-    let e = ends program script t output same h in
-    subst (λ n. MeetsSource (program_of t.program) output true (map_kernel n)) form.adds
-    (meets_source (program_of t.program) (tree_of t.term) form.form output form.printed (keeps_valued (program_of t.program) (tree_of t.term) output e.typed e.keeps))
-
-pub compiled_over_one_list : (program script : List ℕ) (t : Typed) (addend : ℕ) (output : PlainTy) → output ≡ type_in (annotation_of t.types) → IsLastTerm program script t
-    → HasForm (program_of t.program) (tree_of t.term) addend → IsOverOneList (program_of t.program) output
-compiled_over_one_list program script t addend output same h form =
-    let e = ends program script t output same h in
-    over_one_list (program_of t.program) (tree_of t.term) form.form output form.printed (keeps_valued (program_of t.program) (tree_of t.term) output e.typed e.keeps)
-
-pub compiled_found : (program script : List ℕ) (t : Typed) (addend : ℕ) (output : PlainTy) (text : List ℕ) → output ≡ type_in (annotation_of t.types) → IsLastTerm program script t
-    → HasForm (program_of t.program) (tree_of t.term) addend → IsKernelText text (map_kernel addend) → IsCompiled program script (program_of t.program) addend output text
-compiled_found program script t addend output text same h form written =
-    let e = ends program script t output same h in
-    record {
-      read = e.read;
-      term = tree_of t.term;
-      form = (e.terms, e.made, (state_of t, e.is_last, (addend, form, refl)));
-      typed = e.typed;
-      keeps = e.keeps;
+-- what a type keeps of it
+pub text_for : (program script : List ℕ) (t : Typed) (output : PlainTy) (text : List ℕ) (k : Kernel) → PrintedProgramsStart → PrintedProgramsKeep → output ≡ type_in (annotation_of t.types)
+    → IsLastTerm program script t → CanBeLaidOut (program_of t.program) (type_in (annotation_of t.types)) → IsPrintable (declared_by (program_of t.program)) (tree_of t.term) (annotation_of t.types)
+    → PrintsAtAll (program_of t.program) (state_of t) k → IsKernelText text k → is_task (tree_of t.term) ≡ true
+    → IsTextFor (program_of t.program) output (is_task (tree_of t.term)) text
+text_for program script t output text k start keep same last laid_out printable prints written alone =
+    let p = program_of t.program in
+    subst (λ (a : PlainTy). IsTextFor p a (is_task (tree_of t.term)) text) (sym same)
+    (record {
+      typed = last.output;
+      laid_out = laid_out;
+      kernel = k;
       written = written;
-      meets = compiled_meets program script t addend output same h form;
-    }
+      starts = starts p (state_of t) k printable last.term.keeps prints start;
+      leaves = leaves p (type_in (annotation_of t.types)) (state_of t) k (meets p (state_of t) k printable last.term.keeps prints keep);
+      alone = alone;
+    })
 
-pub form_stops : (program script : List ℕ) (t : Typed) (output : PlainTy) (why : Refusal) → output ≡ type_in (annotation_of t.types) → IsLastTerm program script t
-    → StopsFor (As told.Nest (NestOf (program_of t.program) (tree_of t.term))) why → StopsFor (OnProgram program (λ p. FormOf p script)) why
-form_stops program script t output why same h (inl memory) = inl memory
-form_stops program script t output why same h (inr stops) =
-    let e = ends program script t output same h in
-    inr (inr (program_of t.program, e.read, inr (e.terms, e.made, inr (state_of t, e.is_last, inl stops))))
+-- what stops the terms stops what is compiled of them
+pub terms_first : (text script : List ℕ) (why : Refusal) → StopsFor (OnProgram text (λ p. TermsOf p script)) why → StopsFor (OnProgram text (λ p. LegalOf p script)) why
+terms_first text script why (inl memory) = inl memory
+terms_first text script why (inr (inl h)) = inr (inl h)
+terms_first text script why (inr (inr (p, read, h))) = inr (inr (p, read, inl h))
+
+pub last_stops : (program script : List ℕ) (t : Typed) (why : Refusal) → IsLastTerm program script t
+    → StopsFor (CompilesTerm (state_of t)) why → StopsFor (OnProgram program (λ p. LegalOf p script)) why
+last_stops program script t why last (inl memory) = inl memory
+last_stops program script t why last (inr stops) =
+    inr (inr (program_of t.program, last.read, inr (last.terms, last.made, inr (state_of t, last.is_last, stops))))

@@ -1,11 +1,4 @@
-pub mod Admitted
 pub mod Compiling
-pub mod FewNodes
-pub mod Held
-pub mod MapRun
-pub mod MapText
-pub mod Meets
+pub mod Emitting
+pub mod Legality
 pub mod Once
-pub mod Proper
-pub mod Stages
-pub mod TermsMade

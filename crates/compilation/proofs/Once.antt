@@ -1,276 +1,46 @@
--- Stages come to one end.
-use Rattle.std.proofs.Common.{◌≡◌, ◌∙◌, ◌++◌, ◌+◌, ◌<◌, ◌≤◌, ℕ, suc, List, [], ◌∷◌, ap, sym, subst, length, take, drop, refl, ◌-◌, arith, None, Result, Ok, Err, inl, inr, append_assoc}
-use Rattle.std.proofs.lemmas.Bool.{cases_order}
-use Rattle.std.proofs.lemmas.List.{length-drop, length-take-le, take-append-drop}
+-- Compiling comes to one end.
+use Rattle.std.proofs.Common.{◌≡◌, ◌∙◌, ℕ, List, [], ◌∷◌, ap, sym, refl, Result, Ok, Err}
 use Rattle.std.proofs.lemmas.Option.{none-some, same_Some}
-use Rattle.std.proofs.Math.Seq.{take-append-add}
-use Rattle.readings.specs.Readings.{GoesOn, Grammar, Owed, Reads, Stops, Token, Form, Mark, gives, notes, stands, takes}
-use Rattle.readings.specs.Exactly.{StopsAt}
 use Rattle.lift_tree.specs.Programs.{PlainProgram}
-use Rattle.lift_tree.specs.Tree.{Tree}
-use Rattle.lift_reader.specs.Grammar as grammar
-use Rattle.lift_reader.specs.ProgramText.{IsProgramText, StopsAtToken, first_limit, lexemes, place_of}
-use Rattle.lift_reader.specs.Tokens.{AreTokens, Lexeme}
-use Rattle.lift_reader.specs.declared.refusal.ReadRefusal.TheVariants as readings
-use Rattle.pattern_types.specs.Judged.{program_judged}
-use Rattle.strategy_script.specs.Steps.{State, terms_of}
-use Rattle.strategy_script.specs.declared.script.ScriptLimit.TheVariants as limits
-use Rattle.strategy_script.specs.declared.script.ScriptNo.TheVariants as scripts
-use Rattle.lift_reader.specs.ProgramText.{ProgramsMayBeTyped}
-use Rattle.lift_tree.specs.Limits.{HasProperInputs}
-use Rattle.pattern_types.specs.Judgement.{JudgedInputsAreProper}
-use Rattle.launch_file.specs.Judged as launches
-use Rattle.launch_file.specs.Laws.{FilesAreNotRefused, FilesGiveOneThing}
-use Rattle.launch_file.specs.declared.file.Ask.{Ask}
-use Rattle.launch_file.specs.declared.file.Ask.TheVariants as asks
-use Rattle.fault_lines.specs.Failure as failures
-use Rattle.fault_lines.specs.Failure.{Failure}
-use Rattle.fault_lines.specs.declared.refusal.NestRefusal.TheVariants as nests
-use Rattle.fault_lines.specs.declared.refusal.Refusal.{Refusal}
+use Rattle.strategy_script.specs.Steps.{State}
+use Rattle.lowered_tree.specs.Nest.{LegalWithoutFault}
+use Rattle.thread_mapping.specs.declared.judging.NestNo.TheVariants as nests
+use Rattle.buffer_allocation.specs.declared.buffers.AllocNo.TheVariants as allocations
 use Rattle.fault_lines.specs.declared.refusal.Refusal.TheVariants as told
-use Rattle.compilation.specs.Compiled.{FormOf, IsRead, LastOf, NestOf, Printed, ReadsProgram, ReadsScript, TermsOf, TypesOf, source_of}
-use Rattle.compilation.specs.Form.{sequential_map}
-use Rattle.compilation.specs.Nest.{first_undecided}
-use Rattle.compilation.specs.Stages.{As, Gives, IsOne, Then}
-use Rattle.compilation.specs.Started.{Accepts, EvalOf, HasOneEnd, LaunchOf, OnSource, RunOf, for_one_item}
-use Rattle.compilation.proofs.Proper.{proper}
+use Rattle.program_source.specs.Stages.{As, Gives, IsOne, Then}
+use Rattle.program_source.specs.Terms.{LastOf, TermsOf}
+use Rattle.program_source.proofs.Once.{as_one, gives_one, last_one, terms_one, then_one}
+use Rattle.compilation.specs.Legal.{BuffersOf, CompilesTerm, LegalOf, NestOf, PrintedOf}
 
--- ---- stages
+nest_one : LegalWithoutFault → (s : State) → IsOne (NestOf s)
+nest_one law s (Ok x) (Ok y) h k = refl
+nest_one law s (Ok x) (Err (nests.Nest place rule)) h k = absurd (none-some _ (sym ((law s.tree s.types).1 h) ∙ k))
+nest_one law s (Err (nests.Nest place rule)) (Ok x) h k = absurd (none-some _ (sym ((law s.tree s.types).1 k) ∙ h))
+nest_one law s (Err (nests.Nest a r)) (Err (nests.Nest b q)) h k = ap (λ x. Err (nests.Nest x.0 x.1)) (same_Some (a, r) (b, q) (sym h ∙ k))
+nest_one law s (Err nests.Memory) r h k = absurd h
+nest_one law s r (Err nests.Memory) h k = absurd k
 
-ok_same : {A E : Type 0} (r : Result A E) (a b : A) → r ≡ Ok a → r ≡ Ok b → a ≡ b
-ok_same r a b h k = cc (h, k)
+printed_one : (s : State) → IsOne (PrintedOf s)
+printed_one s (Ok x) (Ok y) h k = refl
+printed_one s (Ok x) (Err place) h k = absurd (none-some _ (sym h ∙ k))
+printed_one s (Err place) (Ok x) h k = absurd (none-some _ (sym k ∙ h))
+printed_one s (Err place) (Err other) h k = ap Err (same_Some place other (sym h ∙ k))
 
-err_same : {A E : Type 0} (r : Result A E) (e f : E) → r ≡ Err e → r ≡ Err f → e ≡ f
-err_same r e f h k = cc (h, k)
+buffers_one : (s : State) → IsOne (BuffersOf s)
+buffers_one s (Ok x) (Ok y) h k = refl
+buffers_one s (Ok x) (Err (allocations.Limit w n)) h k = absurd (none-some _ (sym h ∙ k))
+buffers_one s (Err (allocations.Limit w n)) (Ok x) h k = absurd (none-some _ (sym k ∙ h))
+buffers_one s (Err (allocations.Limit w n)) (Err (allocations.Limit v m)) h k = ap (λ x. Err (allocations.Limit x.0 x.1)) (same_Some (w, n) (v, m) (sym h ∙ k))
+buffers_one s (Err allocations.Memory) r h k = absurd h
+buffers_one s r (Err allocations.Memory) h k = absurd k
 
-then_one : {A B E : Type 0} (R : Result A E → Type 0) (S : A → Result B E → Type 0) → IsOne R → ((a : A) → R (Ok a) → IsOne (S a)) → IsOne (Then R S)
-then_one R S one next (Ok b) (Ok c) h k =
-    let same = ok_same _ h.0 k.0 refl (one (Ok h.0) (Ok k.0) h.1 k.1) in
-    next k.0 k.1 (Ok b) (Ok c) (subst (λ a. S a (Ok b)) same h.2) k.2
-then_one R S one next (Ok b) (Err e) h (inl k) = absurd (cc (one (Ok h.0) (Err e) h.1 k))
-then_one R S one next (Ok b) (Err e) h (inr k) =
-    let same = ok_same _ h.0 k.0 refl (one (Ok h.0) (Ok k.0) h.1 k.1) in
-    next k.0 k.1 (Ok b) (Err e) (subst (λ a. S a (Ok b)) same h.2) k.2
-then_one R S one next (Err e) (Ok c) (inl h) k = absurd (cc (one (Err e) (Ok k.0) h k.1))
-then_one R S one next (Err e) (Ok c) (inr h) k =
-    let same = ok_same _ h.0 k.0 refl (one (Ok h.0) (Ok k.0) h.1 k.1) in
-    next k.0 k.1 (Err e) (Ok c) (subst (λ a. S a (Err e)) same h.2) k.2
-then_one R S one next (Err e) (Err f) (inl h) (inl k) = ap Err (err_same _ e f refl (one (Err e) (Err f) h k))
-then_one R S one next (Err e) (Err f) (inl h) (inr k) = absurd (cc (one (Err e) (Ok k.0) h k.1))
-then_one R S one next (Err e) (Err f) (inr h) (inl k) = absurd (cc (one (Ok h.0) (Err f) h.1 k))
-then_one R S one next (Err e) (Err f) (inr h) (inr k) =
-    let same = ok_same _ h.0 k.0 refl (one (Ok h.0) (Ok k.0) h.1 k.1) in
-    next k.0 k.1 (Err e) (Err f) (subst (λ a. S a (Err e)) same h.2) k.2
+compiles_one : LegalWithoutFault → (s : State) → IsOne (CompilesTerm s)
+compiles_one law s =
+    then_one (As told.Nest (NestOf s)) _ (as_one told.Nest (NestOf s) (nest_one law s)) (λ legal _.
+    then_one (As told.Unprinted (PrintedOf s)) _ (as_one told.Unprinted (PrintedOf s) (printed_one s)) (λ printed _.
+    then_one (As told.Alloc (BuffersOf s)) _ (as_one told.Alloc (BuffersOf s) (buffers_one s)) (λ within _. gives_one s)))
 
-as_one : {A E F : Type 0} (tell : E → F) (R : Result A E → Type 0) → IsOne R → IsOne (As tell R)
-as_one tell R one (Ok a) (Ok b) h k = ap Ok (ok_same _ a b refl (one (Ok a) (Ok b) h k))
-as_one tell R one (Ok a) (Err f) h k = absurd (cc (one (Ok a) (Err k.0) h k.1))
-as_one tell R one (Err e) (Ok b) h k = absurd (cc (one (Err h.0) (Ok b) h.1 k))
-as_one tell R one (Err e) (Err f) h k = ap Err (h.2 ∙ ap tell (err_same _ h.0 k.0 refl (one (Err h.0) (Err k.0) h.1 k.1)) ∙ sym k.2)
-
-gives_one : {A E : Type 0} (a : A) → IsOne (Gives {A = A} {E = E} a)
-gives_one a r s h k = h ∙ sym k
-
-equal_one : {A : Type 0} (x : A) → IsOne (λ (r : A). x ≡ r)
-equal_one x r s h k = sym h ∙ k
-
--- ---- the program's text
-
-take_more_of : {T : Type 0} (i m : ℕ) (ts : List T) → i ≤ length ts → take (i + m) ts ≡ take i ts ++ take m (drop i ts)
-take_more_of i m ts inside =
-    ap (take (i + m)) (sym (take-append-drop i ts))
-    ∙ ap (λ k. take (k + m) (take i ts ++ drop i ts)) (sym (length-take-le i ts inside))
-    ∙ take-append-add (take i ts) (drop i ts) m
-
-module _ {T F M N : Type 0} (g : Grammar T F M N) where
-  -- what goes on at all of a text goes on at its beginning
-  goes_on_before : {o : List (Owed T F M)} {n : N} {ts : List T} {o2 : List (Owed T F M)} {n2 : N} → Reads g o n ts o2 n2 → (front back : List T) → ts ≡ front ++ back → GoesOn g o n front
-  goes_on_before (stands {o = o} {n = n}) [] back e = (o, n, stands)
-  goes_on_before stands (t ∷ front) back e = absurd (cc (e))
-  goes_on_before (takes {t = a} {o = o} {n = n} r) [] back e = (Token a ∷ o, n, stands)
-  goes_on_before (takes {t = a} {o = o} {n = n} {ts = ts} r) (t ∷ front) back e =
-      let e1 : a ≡ t = cc (e) in let e2 : ts ≡ front ++ back = cc (e) in
-      let k = goes_on_before r front back e2 in
-      (k.0, k.1, subst (λ z. Reads g (Token a ∷ o) n (z ∷ front) k.0 k.1) e1 (takes k.2))
-  goes_on_before (gives {f = f} {t = a} {o = o} {n = n} h r) [] back e = (Form f ∷ o, n, stands)
-  goes_on_before (gives {f = f} {t = a} {o = o} {n = n} {ts = ts} h r) (t ∷ front) back e =
-      let e1 : a ≡ t = cc (e) in let e2 : ts ≡ front ++ back = cc (e) in
-      let k = goes_on_before r front back e2 in
-      (k.0, k.1, subst (λ z. Reads g (Form f ∷ o) n (z ∷ front) k.0 k.1) e1 (gives h k.2))
-  goes_on_before (notes {m = m} {o = o} {n = n} h r) [] back e = (Mark m ∷ o, n, stands)
-  goes_on_before (notes h r) (t ∷ front) back e = let k = goes_on_before r (t ∷ front) back e in (k.0, k.1, notes h k.2)
-
-  -- where a text stops before a token, it doesn't go on at more tokens
-  stops_before : (o : List (Owed T F M)) (n : N) (front back : List T) (d : ℕ) → Stops g o n front back → d < length back → GoesOn g o n (front ++ take (suc d) back) → ⊥
-  stops_before o n front [] d there less goes = omega (arith, less)
-  stops_before o n front (t ∷ back) d there less goes = there (goes_on_before goes.2 (front ++ t ∷ []) (take d back) (sym (append_assoc front (t ∷ []) (take d back))))
-
-  not_before : (o : List (Owed T F M)) (n : N) (ts : List T) (i d : ℕ) → StopsAt g o n ts i → StopsAt g o n ts (i + suc d) → ⊥
-  not_before o n ts i d h k =
-      stops_before o n (take i ts) (drop i ts) d h.there
-      (let a = k.inside in let b = length-drop i ts in omega (arith, a, b))
-      (subst (GoesOn g o n) (take_more_of i (suc d) ts h.inside) k.before)
-
-  stops_once : (o : List (Owed T F M)) (n : N) (ts : List T) (i j : ℕ) → StopsAt g o n ts i → StopsAt g o n ts j → i ≡ j
-  stops_once o n ts i j h k = elim (cases_order i j) as (λ _. i ≡ j) [
-    | inl same ↦ same
-    | inr (inl less) ↦ absurd (not_before o n ts i (j - i - 1) h (subst (StopsAt g o n ts) (omega (arith, less)) k))
-    | inr (inr less) ↦ absurd (not_before o n ts j (i - j - 1) k (subst (StopsAt g o n ts) (omega (arith, less)) h))
-  ]
-
-abbrev TokensAreOne : Type 0
-TokensAreOne = (at : ℕ) (text : List ℕ) (some others : List (ℕ × Lexeme)) → AreTokens at text some → AreTokens at text others → some ≡ others
-
--- a text stops at one token
-tokens_one : TokensAreOne → (text : List ℕ) (t o u q : ℕ) → StopsAtToken text t o → StopsAtToken text u q → (t ≡ u) × (o ≡ q)
-tokens_one law text t o u q h k =
-    let same : h.tokens ≡ k.tokens = law 0 text h.tokens k.tokens h.are k.are in
-    let before : h.before ≡ k.before =
-    stops_once grammar.programs grammar.start grammar.nothing (lexemes k.tokens) h.before k.before
-    (subst (λ ts. StopsAt grammar.programs grammar.start grammar.nothing (lexemes ts) h.before) same h.stops) k.stops in
-    let token : t ≡ u = h.counted ∙ ap (λ n. n + 1) before ∙ sym k.counted in
-    let offset : o ≡ q = h.place ∙ ap (λ ts. place_of ts h.before (length text)) same ∙ ap (λ n. place_of k.tokens n (length text)) before ∙ sym k.place in
-    (token, offset)
-
-reads_one : TokensAreOne → (text : List ℕ) → IsOne (ReadsProgram text)
-reads_one law text (Ok p) (Ok q) h k = ap Ok (k.only p h.is)
-reads_one law text (Ok p) (Err (readings.Syntax t o)) h k = absurd (k.1 p h.is)
-reads_one law text (Ok p) (Err (readings.Limit w c)) h k = absurd (none-some _ (sym h.within ∙ k.passes p h.is))
-reads_one law text (Err (readings.Syntax t o)) (Ok q) h k = absurd (h.1 q k.is)
-reads_one law text (Err (readings.Syntax t o)) (Err (readings.Syntax u q)) h k = let same = tokens_one law text t o u q h.0 k.0 in λ i. Err (readings.Syntax (same.0 i) (same.1 i))
-reads_one law text (Err (readings.Syntax t o)) (Err (readings.Limit w c)) h k = absurd (h.1 k.program k.is)
-reads_one law text (Err (readings.Limit w c)) (Ok q) h k = absurd (none-some _ (sym k.within ∙ h.passes q k.is))
-reads_one law text (Err (readings.Limit w c)) (Err (readings.Syntax t o)) h k = absurd (k.1 h.program h.is)
-reads_one law text (Err (readings.Limit w c)) (Err (readings.Limit v d)) h k =
-    ap (λ x. Err (readings.Limit x.0 x.1)) (same_Some (w, c) (v, d) (sym (h.passes h.program h.is) ∙ k.passes h.program h.is))
-reads_one law text (Err readings.Memory) r h k = absurd h
-reads_one law text r (Err readings.Memory) h k = absurd k
-
--- ---- the types, the script and the steps
-
-types_one : (p : PlainProgram) → IsOne (TypesOf p)
-types_one p = as_one told.Typing (λ r. program_judged p p.body ≡ r) (equal_one (program_judged p p.body))
-
-scripts_one : (text : List ℕ) → IsOne (ReadsScript text)
-scripts_one text (Ok m) (Ok n) h k = ap Ok (h.0.found ∙ sym k.0.found)
-scripts_one text (Ok m) (Err (scripts.Syntax line)) h k = let all = h.0.all in let there = k.there in absurd (omega (arith, all, there))
-scripts_one text (Ok m) (Err (scripts.Limit limits.Steps count)) h k =
-    let one = ap length h.0.found in let above = k.above in let counted = k.counted in let few = h.1 in absurd (omega (arith, one, above, counted, few))
-scripts_one text (Err (scripts.Syntax line)) (Ok n) h k = let all = k.0.all in let there = h.there in absurd (omega (arith, all, there))
-scripts_one text (Err (scripts.Syntax a)) (Err (scripts.Syntax b)) h k = ap (λ n. Err (scripts.Syntax n)) (h.counted ∙ sym k.counted)
-scripts_one text (Err (scripts.Syntax a)) (Err (scripts.Limit limits.Steps b)) h k = let there = h.there in let all = k.script.all in absurd (omega (arith, there, all))
-scripts_one text (Err (scripts.Limit limits.Steps count)) (Ok n) h k =
-    let one = ap length k.0.found in let above = h.above in let counted = h.counted in let few = k.1 in absurd (omega (arith, one, above, counted, few))
-scripts_one text (Err (scripts.Limit limits.Steps a)) (Err (scripts.Syntax b)) h k = let there = k.there in let all = h.script.all in absurd (omega (arith, there, all))
-scripts_one text (Err (scripts.Limit limits.Steps a)) (Err (scripts.Limit limits.Steps b)) h k = ap (λ n. Err (scripts.Limit limits.Steps n)) (h.counted ∙ sym k.counted)
-scripts_one text (Err scripts.Memory) r h k = absurd h
-scripts_one text r (Err scripts.Memory) h k = absurd k
-
-terms_one : (p : PlainProgram) (script : List ℕ) → IsOne (TermsOf p script)
-terms_one p script =
-    then_one _ _ (types_one p) (λ types _.
-    then_one _ _ (as_one told.Script (ReadsScript script) (scripts_one script)) (λ steps _.
-    as_one told.Step (λ r. terms_of p steps (source_of p types) ≡ r) (equal_one (terms_of p steps (source_of p types)))))
-
--- ---- the nest
-
-last_in : State → List State → State
-last_in s [] = s
-last_in s (t ∷ ts) = last_in t ts
-
-last_in-append : (s : State) (front : List State) (t : State) → last_in s (front ++ t ∷ []) ≡ t
-unfolding last_in
-last_in-append s [] t = refl
-last_in-append s (u ∷ front) t = last_in-append u front t
-
-last_one : (terms : List State) → IsOne (LastOf terms)
-last_one terms (Ok s) (Ok t) h k =
-    ap Ok (sym (last_in-append s h.front s) ∙ ap (last_in s) (sym h.is ∙ k.is) ∙ last_in-append s k.front t)
-last_one terms (Err e) r h k = absurd h
-last_one terms r (Err e) h k = absurd k
-
-nest_one : (p : PlainProgram) (term : Tree) → IsOne (NestOf p term)
-nest_one p term (Ok a) (Ok b) h k =
-    let same : sequential_map h.form.addend ≡ sequential_map k.form.addend = sym h.printed.becomes ∙ k.printed.becomes in
-    ap Ok (sym h.adds ∙ cc (same) ∙ k.adds)
-nest_one p term (Ok a) (Err (nests.Undecided place)) h k = absurd (none-some _ (ap first_undecided (sym h.printed.becomes) ∙ k))
-nest_one p term (Ok a) (Err nests.Unprinted) h k = absurd (k.1 a h)
-nest_one p term (Err (nests.Undecided place)) (Ok b) h k = absurd (none-some _ (ap first_undecided (sym k.printed.becomes) ∙ h))
-nest_one p term (Err (nests.Undecided a)) (Err (nests.Undecided b)) h k = ap (λ place. Err (nests.Undecided place)) (same_Some a b (sym h ∙ k))
-nest_one p term (Err (nests.Undecided a)) (Err nests.Unprinted) h k = absurd (none-some a (sym k.0 ∙ h))
-nest_one p term (Err nests.Unprinted) (Ok b) h k = absurd (h.1 b k)
-nest_one p term (Err nests.Unprinted) (Err (nests.Undecided b)) h k = absurd (none-some b (sym h.0 ∙ k))
-nest_one p term (Err nests.Unprinted) (Err nests.Unprinted) h k = refl
-
-form_one : (p : PlainProgram) (script : List ℕ) → IsOne (FormOf p script)
-form_one p script =
-    let printed : Tree → ℕ → Result Printed Refusal → Type 0 = λ term addend. Gives (record { term = term; addend = addend }) in
-    let nest : Tree → Result Printed Refusal → Type 0 = λ term. Then (As told.Nest (NestOf p term)) (printed term) in
-    then_one (TermsOf p script) (λ terms. Then (LastOf terms) (λ last. nest last.tree)) (terms_one p script) (λ terms _.
-    then_one (LastOf terms) (λ last. nest last.tree) (last_one terms) (λ last _.
-    then_one (As told.Nest (NestOf p last.tree)) (printed last.tree) (as_one told.Nest (NestOf p last.tree) (nest_one p last.tree)) (λ addend _.
-    gives_one (record { term = last.tree; addend = addend }))))
-
--- ---- launch files
-
--- what is known of programs that are typed, and of their launch files
-pub record LaunchLaws : Type 0 where
-  pub typable : ProgramsMayBeTyped
-  pub judged : JudgedInputsAreProper
-  pub refused : FilesAreNotRefused
-  pub one : FilesGiveOneThing
-
-launch_one : FilesAreNotRefused → FilesGiveOneThing → (p : PlainProgram) (ask : Ask) (launch : List ℕ) → HasProperInputs p → IsOne (LaunchOf p ask launch)
-launch_one well one p ask launch proper (Ok g) (Ok h) a b = ap Ok (one p ask launch g h proper a b)
-launch_one well one p ask launch proper (Ok g) (Err e) a b = absurd (well p ask launch g e proper a b)
-launch_one well one p ask launch proper (Err e) (Ok g) a b = absurd (well p ask launch g e proper b a)
-launch_one well one p ask launch proper (Err e) (Err f) (inl a) (inl b) = ap Err (a.1 ∙ sym b.1)
-launch_one well one p ask launch proper (Err e) (Err f) (inl a) (inr b) = absurd (a.0 b.0 b.1)
-launch_one well one p ask launch proper (Err e) (Err f) (inr a) (inl b) = absurd (b.0 a.0 a.1)
-launch_one well one p ask launch proper (Err e) (Err f) (inr a) (inr b) =
-    sym a.2 ∙ ap (launches.judged p ask) (same_Some a.0 b.0 (sym a.1.1 ∙ b.1.1)) ∙ b.2
-
-run_one : LaunchLaws → (text : List ℕ) (p : PlainProgram) (script launch : List ℕ) → IsRead text p → IsOne (RunOf p script launch)
-run_one laws text p script launch read =
-    then_one _ _ (as_one failures.Source (FormOf p script) (form_one p script)) (λ form is.
-    as_one (failures.Launch p) (LaunchOf p for_one_item launch) (launch_one laws.refused laws.one p for_one_item launch (proper laws.typable laws.judged text p read is.1.0 is.1.1)))
-
-eval_one : LaunchLaws → (text : List ℕ) (p : PlainProgram) (launch : List ℕ) → IsRead text p → IsOne (EvalOf p launch)
-eval_one laws text p launch read =
-    then_one _ _ (as_one failures.Source (TypesOf p) (types_one p)) (λ types is.
-    as_one (failures.Launch p) (LaunchOf p asks.Eval launch) (launch_one laws.refused laws.one p asks.Eval launch (proper laws.typable laws.judged text p read types is)))
-
--- ---- whole texts
-
-one_cause : {A : Type 0} (text : List ℕ) (S : PlainProgram → Result A Failure → Type 0) → IsOne (OnSource text S) → (f g : Failure) → OnSource text S (Err f) → OnSource text S (Err g) → f ≡ g
-one_cause text S one f g h k = err_same _ f g refl (one (Err f) (Err g) h k)
-
--- a program's text is read as that program, unless it is refused
-read_or_refused : {A : Type 0} (text : List ℕ) (S : PlainProgram → Result A Failure → Type 0) (f : Failure) (p : PlainProgram) → IsProgramText text p → first_limit p ≡ None → OnSource text S (Err f) → IsRead text p
-read_or_refused text S f p is within (inl (readings.Syntax token offset, h, e)) = absurd (h.1 p is)
-read_or_refused text S f p is within (inl (readings.Limit which count, h, e)) = absurd (none-some _ (sym within ∙ h.passes p is))
-read_or_refused text S f p is within (inl (readings.Memory, h, e)) = absurd h
-read_or_refused text S f p is within (inr (q, read, h)) = subst (IsRead text) (sym (read.only p is)) read
-
-no_cause : {A : Type 0} (text : List ℕ) (S : PlainProgram → Result A Failure → Type 0) → IsOne (OnSource text S) → (f : Failure) → Accepts text S → OnSource text S (Err f) → ⊥
-no_cause text S one f (p, is, within, (a, h)) refused =
-    let read = read_or_refused text S f p is within refused in
-    let two : Ok a ≡ Err f = one (Ok a) (Err f) (p, read, h) refused in
-    cc (two)
-
-pub one_end : {A : Type 0} → TokensAreOne → (text : List ℕ) (S : PlainProgram → Result A Failure → Type 0) → ((p : PlainProgram) → IsRead text p → IsOne (S p)) → HasOneEnd text S
-one_end law text S each =
-    let one : IsOne (OnSource text S) = then_one _ S (as_one (λ why. failures.Source (told.Program why)) (ReadsProgram text) (reads_one law text)) each in
-    record { cause = one_cause text S one; none = no_cause text S one }
-
-pub form_end : TokensAreOne → (program script : List ℕ) → HasOneEnd program (λ p. As failures.Source (FormOf p script))
-form_end law program script = one_end law program (λ p. As failures.Source (FormOf p script)) (λ p read. as_one failures.Source (FormOf p script) (form_one p script))
-
-pub terms_end : TokensAreOne → (program script : List ℕ) → HasOneEnd program (λ p. As failures.Source (TermsOf p script))
-terms_end law program script = one_end law program (λ p. As failures.Source (TermsOf p script)) (λ p read. as_one failures.Source (TermsOf p script) (terms_one p script))
-
-pub run_end : TokensAreOne → LaunchLaws → (program script launch : List ℕ) → HasOneEnd program (λ p. RunOf p script launch)
-run_end law laws program script launch = one_end law program (λ p. RunOf p script launch) (λ p read. run_one laws program p script launch read)
-
-pub eval_end : TokensAreOne → LaunchLaws → (program launch : List ℕ) → HasOneEnd program (λ p. EvalOf p launch)
-eval_end law laws program launch = one_end law program (λ p. EvalOf p launch) (λ p read. eval_one laws program p launch read)
+pub legal_one : LegalWithoutFault → (p : PlainProgram) (script : List ℕ) → IsOne (LegalOf p script)
+legal_one law p script =
+    then_one (TermsOf p script) (λ terms. Then (LastOf terms) CompilesTerm) (terms_one p script) (λ terms _.
+    then_one (LastOf terms) CompilesTerm (last_one terms) (λ last _. compiles_one law last))

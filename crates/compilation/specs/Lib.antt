@@ -1,12 +1,3 @@
 pub mod Compiled
-pub mod Form
-pub mod Nest
-pub mod OneList
-pub mod OneProof
-pub mod Runs
-pub mod Shown
-pub mod Source
-pub mod SourceTerms
-pub mod Stages
-pub mod Started
-pub mod StepsText
+pub mod Legal
+pub mod Meets

@@ -1,19 +1,9 @@
-//! Programs, compiled along scripts: the terms that a script makes, the text of the kernel, its
-//! run, and the source value.
+//! A program and a script, compiled: the script's last term, where its nest is legal and within
+//! the limits, and the text of its kernel.
 #![tactic(auto)]
 
-mod cells;
 mod compile;
-mod eval;
-mod form;
-mod laws;
-mod nest;
-mod run;
-mod source;
-mod terms;
+mod kernel;
+mod legal;
 
 pub use compile::{Compiled, compile_text};
-pub use eval::eval_text;
-pub use laws::one_end;
-pub use run::{run_launch, run_text};
-pub use terms::{source_terms, steps_text};

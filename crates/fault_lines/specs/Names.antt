@@ -1,7 +1,11 @@
 -- The names of limits and rules, as they are written.
 use Rattle.std.specs.Prelude.{ℕ, List, codes}
+use Rattle.buffer_allocation.specs.declared.buffers.AllocLimit.{AllocLimit}
+use Rattle.buffer_allocation.specs.declared.buffers.AllocLimit.TheVariants as allocated
 use Rattle.lift_reader.specs.declared.refusal.Quantity.{Quantity}
 use Rattle.lift_reader.specs.declared.refusal.Quantity.TheVariants as counted
+use Rattle.lowered_tree.specs.declared.rule.NestRule.{NestRule}
+use Rattle.lowered_tree.specs.declared.rule.NestRule.TheVariants as nest
 use Rattle.pattern_types.specs.declared.refusal.Rule.{Rule}
 use Rattle.pattern_types.specs.declared.refusal.Rule.TheVariants as rules
 use Rattle.pattern_types.specs.declared.refusal.TypeLimit.{TypeLimit}
@@ -42,3 +46,21 @@ rule_name rules.Slide = codes "slide"
 rule_name rules.Pad = codes "pad"
 rule_name rules.Output = codes "output"
 rule_name rules.Length = codes "length"
+
+abbrev pub nest_rule_name : NestRule → List ℕ
+nest_rule_name nest.N1 = codes "N1"
+nest_rule_name nest.N2 = codes "N2"
+nest_rule_name nest.N3 = codes "N3"
+nest_rule_name nest.N4 = codes "N4"
+nest_rule_name nest.N5 = codes "N5"
+nest_rule_name nest.N6 = codes "N6"
+nest_rule_name nest.N7 = codes "N7"
+nest_rule_name nest.N8 = codes "N8"
+nest_rule_name nest.N9 = codes "N9"
+nest_rule_name nest.N10 = codes "N10"
+nest_rule_name nest.N11 = codes "N11"
+
+abbrev pub alloc_limit_name : AllocLimit → List ℕ
+alloc_limit_name allocated.Layouts = codes "layouts"
+alloc_limit_name allocated.Local = codes "local"
+alloc_limit_name allocated.Private = codes "private"

@@ -6,15 +6,16 @@ use Rattle.pattern_types.specs.declared.refusal.Spot.{Spot}
 use Rattle.pattern_types.specs.declared.refusal.Spot.TheVariants as spots
 use Rattle.pattern_types.specs.declared.refusal.TypeRefusal.TheVariants as typings
 use Rattle.fault_lines.specs.Lines.{line_of_texts, place_text}
-use Rattle.fault_lines.specs.Names.{quantity_name, rule_name, step_limit_name, type_limit_name}
+use Rattle.buffer_allocation.specs.declared.buffers.AllocNo.TheVariants as allocations
+use Rattle.fault_lines.specs.Names.{alloc_limit_name, nest_rule_name, quantity_name, rule_name, step_limit_name, type_limit_name}
 use Rattle.rewriting.specs.Conditions.{condition_name}
 use Rattle.strategy_script.specs.declared.faults.StepNo.TheVariants as stops
 use Rattle.strategy_script.specs.declared.faults.Why.{Why}
 use Rattle.strategy_script.specs.declared.faults.Why.TheVariants as whys
 use Rattle.strategy_script.specs.declared.script.ScriptNo.TheVariants as scripts
-use Rattle.fault_lines.specs.declared.refusal.NestRefusal.TheVariants as nests
+use Rattle.thread_mapping.specs.declared.judging.NestNo.TheVariants as nests
 use Rattle.fault_lines.specs.declared.refusal.Refusal.{Refusal}
-use Rattle.fault_lines.specs.declared.refusal.Refusal.TheVariants.{Program, Typing, Script, Step, Nest, Memory}
+use Rattle.fault_lines.specs.declared.refusal.Refusal.TheVariants.{Program, Typing, Script, Step, Nest, Unprinted, Alloc, Memory}
 
 abbrev pub status_of : Refusal → ℕ
 status_of (Program (readings.Syntax token offset)) = 6
@@ -29,7 +30,11 @@ status_of (Script scripts.Memory) = 13
 status_of (Step (stops.Inapplicable step why)) = 9
 status_of (Step (stops.Limit which step count)) = 10
 status_of (Step stops.Memory) = 13
-status_of (Nest why) = 11
+status_of (Nest (nests.Nest place rule)) = 11
+status_of (Nest nests.Memory) = 13
+status_of (Unprinted place) = 11
+status_of (Alloc (allocations.Limit which count)) = 10
+status_of (Alloc allocations.Memory) = 13
 status_of Memory = 13
 
 -- ---- lines
@@ -47,6 +52,10 @@ step_line step whys.NoPlace = line_of_texts (codes "lift: step " ∷ decimal ste
 step_line step whys.Shape = line_of_texts (codes "lift: step " ∷ decimal step ∷ codes ": shape" ∷ [])
 step_line step (whys.Side condition) = line_of_texts (codes "lift: step " ∷ decimal step ∷ codes ": side " ∷ condition_name condition ∷ [])
 
+-- which rule of the nest is broken, and where
+abbrev pub nest_line : (rule : List ℕ) → (place : List ℕ) → List ℕ
+nest_line rule place = line_of_texts (codes "lift: nest: " ∷ rule ∷ codes " at " ∷ place_text place ∷ [])
+
 abbrev pub memory_line : List ℕ
 memory_line = line_of_texts (codes "lift: memory" ∷ [])
 
@@ -63,6 +72,9 @@ line_of (Script scripts.Memory) = memory_line
 line_of (Step (stops.Inapplicable step why)) = step_line step why
 line_of (Step (stops.Limit which step count)) = limit_line (step_limit_name which) count
 line_of (Step stops.Memory) = memory_line
-line_of (Nest (nests.Undecided place)) = line_of_texts (codes "lift: nest: N1 at " ∷ place_text place ∷ [])
-line_of (Nest nests.Unprinted) = line_of_texts (codes "lift: nest: N0 at ." ∷ [])
+line_of (Nest (nests.Nest place rule)) = nest_line (nest_rule_name rule) place
+line_of (Nest nests.Memory) = memory_line
+line_of (Unprinted place) = nest_line (codes "N0") place
+line_of (Alloc (allocations.Limit which count)) = limit_line (alloc_limit_name which) count
+line_of (Alloc allocations.Memory) = memory_line
 line_of Memory = memory_line

@@ -7,4 +7,4 @@ mod names;
 mod refusal;
 
 pub use failure::Failure;
-pub use refusal::{NestRefusal, Refusal};
+pub use refusal::Refusal;

@@ -2,13 +2,17 @@
 ghost use Rattle.std.specs.Prelude.{◌≡◌};
 ghost use Rattle.rewriting.specs.Conditions.{condition_name};
 ghost use Rattle.fault_lines.specs.Names.{
+  alloc_limit_name,
+  nest_rule_name,
   quantity_name,
   rule_name,
   step_limit_name,
   type_limit_name,
 };
 
+use buffer_allocation::buffers::AllocLimit;
 use lift_reader::refusal::Quantity;
+use lowered_tree::rule::NestRule;
 use pattern_types::{Rule, TypeLimit};
 use rewriting::Condition;
 use strategy_script::StepLimit;
@@ -70,5 +74,33 @@ pub fn rule_name(rule: Rule) -> &'static [u8]
         Rule::Pad => b"pad".as_slice(),
         Rule::Output => b"output".as_slice(),
         Rule::Length => b"length".as_slice(),
+    }
+}
+
+pub fn nest_rule_name(rule: NestRule) -> &'static [u8]
+    ensures { result.now ≡ nest_rule_name rule }
+{
+    match rule {
+        NestRule::N1 => b"N1".as_slice(),
+        NestRule::N2 => b"N2".as_slice(),
+        NestRule::N3 => b"N3".as_slice(),
+        NestRule::N4 => b"N4".as_slice(),
+        NestRule::N5 => b"N5".as_slice(),
+        NestRule::N6 => b"N6".as_slice(),
+        NestRule::N7 => b"N7".as_slice(),
+        NestRule::N8 => b"N8".as_slice(),
+        NestRule::N9 => b"N9".as_slice(),
+        NestRule::N10 => b"N10".as_slice(),
+        NestRule::N11 => b"N11".as_slice(),
+    }
+}
+
+pub fn alloc_limit_name(which: AllocLimit) -> &'static [u8]
+    ensures { result.now ≡ alloc_limit_name which }
+{
+    match which {
+        AllocLimit::Layouts => b"layouts".as_slice(),
+        AllocLimit::Local => b"local".as_slice(),
+        AllocLimit::Private => b"private".as_slice(),
     }
 }

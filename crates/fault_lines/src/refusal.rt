@@ -6,28 +6,25 @@ ghost use Rattle.fault_lines.specs.Refusal.{
   limit_line,
   line_of,
   memory_line,
+  nest_line,
   status_of,
   step_line,
   type_line,
 };
 
 use crate::lines::{Piece, write_line};
-use crate::names::{condition_name, quantity_name, rule_name, step_limit_name, type_limit_name};
+use crate::names::{
+    alloc_limit_name, condition_name, nest_rule_name, quantity_name, rule_name, step_limit_name,
+    type_limit_name,
+};
+use buffer_allocation::buffers::AllocNo;
 use lift_io::Sink;
 use lift_reader::refusal::ReadRefusal;
 use lift_tree::place::Place;
 use pattern_types::{Rule, Spot, TypeRefusal};
 use std::alloc::AllocError;
 use strategy_script::{ScriptNo, StepNo, Why};
-
-/// Why what the steps make of a program isn't printed.
-#[derive(Drop)]
-pub enum NestRefusal {
-    /// No script said how the node at this place is run, the first in preorder.
-    Undecided { place: Place },
-    /// It isn't what is printed so far.
-    Unprinted,
-}
+use thread_mapping::NestNo;
 
 /// Why a program and a script have no kernel: the first cause in the order of the stages.
 #[derive(Drop)]
@@ -40,8 +37,12 @@ pub enum Refusal {
     Script(ScriptNo),
     /// A step of the script can't be made, or passes a limit.
     Step(StepNo),
-    /// What the steps make isn't a nest that is printed.
-    Nest(NestRefusal),
+    /// The nest that the steps make of the program breaks a rule.
+    Nest(NestNo),
+    /// No kernel is printed so far of the node at this place, the first in preorder.
+    Unprinted { place: Place },
+    /// The term passes a limit on layouts or on memory.
+    Alloc(AllocNo),
     /// Memory ran out outside of these stages. Inside of one, its own refusal says so.
     Memory,
 }
@@ -202,19 +203,41 @@ fn report_step<E: Sink>(err: &mut E, no: StepNo)
     }
 }
 
-fn report_nest<E: Sink>(err: &mut E, no: &NestRefusal)
+// Writes which rule of the nest is broken, and where.
+fn report_place<E: Sink>(err: &mut E, rule: &[u8], place: &Place)
+    ensures { TakesLine (E.taken err.old) (E.taken err.new)
+        (Rose (E.faults err.old) (E.faults err.new)) (nest_line rule.now place.now) }
+{
+    write_line(
+        err,
+        &[
+            Piece::Text(b"lift: nest: "),
+            Piece::Text(rule),
+            Piece::Text(b" at "),
+            Piece::Place(place.numbers()),
+        ],
+    );
+}
+
+fn report_nest<E: Sink>(err: &mut E, no: &NestNo)
     ensures { TakesLine (E.taken err.old) (E.taken err.new)
         (Rose (E.faults err.old) (E.faults err.new)) (line_of (Refusal.Nest no.now)) }
 {
     match no {
-        NestRefusal::Undecided { place } => write_line(
-            err,
-            &[
-                Piece::Text(b"lift: nest: N1 at "),
-                Piece::Place(place.numbers()),
-            ],
-        ),
-        NestRefusal::Unprinted => write_line(err, &[Piece::Text(b"lift: nest: N0 at .")]),
+        NestNo::Nest { place, rule } => report_place(err, nest_rule_name(*rule), place),
+        NestNo::Memory => report_memory(err),
+    }
+}
+
+fn report_alloc<E: Sink>(err: &mut E, no: &AllocNo)
+    ensures { TakesLine (E.taken err.old) (E.taken err.new)
+        (Rose (E.faults err.old) (E.faults err.new)) (line_of (Refusal.Alloc no.now)) }
+{
+    match no {
+        AllocNo::Limit { which, count } => {
+            report_limit(err, alloc_limit_name(*which), *count as u128);
+        }
+        AllocNo::Memory => report_memory(err),
     }
 }
 
@@ -231,12 +254,15 @@ impl Refusal {
             Refusal::Program(ReadRefusal::Limit { .. })
             | Refusal::Typing(TypeRefusal::Limit { .. })
             | Refusal::Script(ScriptNo::Limit { .. })
-            | Refusal::Step(StepNo::Limit { .. }) => 10,
-            Refusal::Nest(_) => 11,
+            | Refusal::Step(StepNo::Limit { .. })
+            | Refusal::Alloc(AllocNo::Limit { .. }) => 10,
+            Refusal::Nest(NestNo::Nest { .. }) | Refusal::Unprinted { .. } => 11,
             Refusal::Program(ReadRefusal::Memory)
             | Refusal::Typing(TypeRefusal::Memory)
             | Refusal::Script(ScriptNo::Memory)
             | Refusal::Step(StepNo::Memory)
+            | Refusal::Nest(NestNo::Memory)
+            | Refusal::Alloc(AllocNo::Memory)
             | Refusal::Memory => 13,
         }
     }
@@ -253,6 +279,8 @@ impl Refusal {
             Refusal::Script(no) => report_script(err, *no),
             Refusal::Step(no) => report_step(err, *no),
             Refusal::Nest(no) => report_nest(err, no),
+            Refusal::Unprinted { place } => report_place(err, b"N0", place),
+            Refusal::Alloc(no) => report_alloc(err, no),
             Refusal::Memory => report_memory(err),
         }
     }
@@ -308,12 +336,22 @@ impl From<StepNo> for Refusal {
     }
 }
 
-impl From<NestRefusal> for Refusal {
+impl From<NestNo> for Refusal {
     ghost use Rattle.fault_lines.specs.declared.refusal.Refusal.TheVariants.{Nest};
 
     ghost from_gives = { λ no e. e ≡ Nest no };
 
-    fn from(no: NestRefusal) -> Self {
+    fn from(no: NestNo) -> Self {
         Refusal::Nest(no)
+    }
+}
+
+impl From<AllocNo> for Refusal {
+    ghost use Rattle.fault_lines.specs.declared.refusal.Refusal.TheVariants.{Alloc};
+
+    ghost from_gives = { λ no e. e ≡ Alloc no };
+
+    fn from(no: AllocNo) -> Self {
+        Refusal::Alloc(no)
     }
 }

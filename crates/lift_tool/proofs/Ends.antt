@@ -1,5 +1,5 @@
 -- Why calls end as they do: each cause excludes the others, and what is well formed.
-use Rattle.std.proofs.Common.{◌≡◌, ◌≢◌, ◌⊎◌, ◌∙◌, ◌<◌, ◌≤◌, ℕ, List, [], ◌∷◌, ap, ap₂, sym, subst, length, inl, inr, refl, arith, Option, Some}
+use Rattle.std.proofs.Common.{Bool, ◌≡◌, ◌≢◌, ◌⊎◌, ◌∙◌, ◌<◌, ◌≤◌, ℕ, List, [], ◌∷◌, ap, ap₂, sym, subst, length, inl, inr, refl, arith, Option, Some}
 use Rattle.std.specs.Prelude.{IfSome}
 use Rattle.std.proofs.lemmas.Option.{same_Some}
 use Rattle.command_line.specs.Requests.{Asks, CommandLine, IsTaken, compile, eval, run, steps}
@@ -8,13 +8,17 @@ use Rattle.lift_reader.specs.declared.refusal.ReadRefusal.TheVariants as reading
 use Rattle.pattern_types.specs.declared.refusal.TypeRefusal.TheVariants as typings
 use Rattle.strategy_script.specs.declared.faults.StepNo.TheVariants as stops
 use Rattle.strategy_script.specs.declared.script.ScriptNo.TheVariants as scripts
+use Rattle.thread_mapping.specs.declared.judging.NestNo.TheVariants as nests
+use Rattle.buffer_allocation.specs.declared.buffers.AllocNo.TheVariants as allocations
+use Rattle.launch_file.specs.LaunchFile.{Given, IsLaunchFile}
+use Rattle.launch_file.specs.declared.file.Ask.TheVariants.{Run}
 use Rattle.launch_file.specs.declared.refusal.LaunchNo.{LaunchNo}
 use Rattle.launch_file.specs.declared.refusal.LaunchNo.TheVariants as no
 use Rattle.fault_lines.specs.Failure.{Failure, Launch, Read, Source, TooLong, launch_status, line_of, status_of}
 use Rattle.fault_lines.specs.Refusal as sources
 use Rattle.fault_lines.specs.declared.refusal.Refusal.{Refusal}
 use Rattle.fault_lines.specs.declared.refusal.Refusal.TheVariants as told_of
-use Rattle.compilation.specs.Started.{StagesEndOnce}
+use Rattle.program_runs.specs.Started.{StagesEndOnce}
 use Rattle.lift_tool.specs.Files.{AllTold, AreTexts, File, HasText, IsUnread, NoneRose, StopsAtFile, Told}
 use Rattle.lift_tool.specs.Outcome.{Answers, IsAccepted, OnTexts, StopsAtText, StopsFor, WordsCause}
 use Rattle.lift_tool.specs.Request.{files_of}
@@ -33,10 +37,14 @@ texts_accepted law (run p s l) texts f ok h = (law.run _ _ _).none f ok h
 texts_accepted law (steps p s) texts f ok h = (law.steps _ _).none f ok h
 texts_accepted law (eval p l) texts f ok h = (law.value _ _).none f ok h
 
+-- the launch file of a task
+at_task : (p : PlainProgram) (a b : Bool) (launch : List ℕ) (g : Given) → a ≡ b → IsLaunchFile p (Run b) launch g → IsLaunchFile p (Run a) launch g
+at_task p a b launch g same is = subst (λ c. IsLaunchFile p (Run c) launch g) (sym same) is
+
 -- what was written was accepted
 answer_accepted : (request : CommandLine) (texts : List (List ℕ)) (text : List ℕ) → Answers request texts text → IsAccepted request texts
-answer_accepted (compile p s) texts text h = let c = h.compiled in (h.source, c.read.is, c.read.within, (_, c.form))
-answer_accepted (run p s l) texts text h = let c = h.compiled in (h.source, c.read.is, c.read.within, (h.given, (_, c.form, h.launch_file)))
+answer_accepted (compile p s) texts text h = let c = h.compiled in (h.source, c.read.is, c.read.within, (c.last, c.legal))
+answer_accepted (run p s l) texts text h = let c = h.compiled in (h.source, c.read.is, c.read.within, (h.given, (c.last, c.legal, at_task h.source _ _ _ h.given c.alone h.launch_file)))
 answer_accepted (steps p s) texts text h = (h.source, h.read.is, h.read.within, (h.terms, h.made))
 answer_accepted (eval p l) texts text h = (h.source, h.read.is, h.read.within, (h.given, h.started))
 
@@ -133,7 +141,11 @@ source_status (told_of.Script scripts.Memory) = omega arith
 source_status (told_of.Step (stops.Inapplicable step why)) = omega arith
 source_status (told_of.Step (stops.Limit which step count)) = omega arith
 source_status (told_of.Step stops.Memory) = omega arith
-source_status (told_of.Nest why) = omega arith
+source_status (told_of.Nest (nests.Nest place rule)) = omega arith
+source_status (told_of.Nest nests.Memory) = omega arith
+source_status (told_of.Unprinted place) = omega arith
+source_status (told_of.Alloc (allocations.Limit which count)) = omega arith
+source_status (told_of.Alloc allocations.Memory) = omega arith
 source_status told_of.Memory = omega arith
 
 launch_refused : (why : LaunchNo) → 6 ≤ launch_status why

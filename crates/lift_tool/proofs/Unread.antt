@@ -10,7 +10,9 @@ use Rattle.fault_lines.specs.Failure.{Failure, Read, Source, TooLong, status_of}
 use Rattle.fault_lines.specs.declared.failure.Failure as code
 use Rattle.fault_lines.specs.Shown.{failure_of, words_failed}
 use Rattle.fault_lines.specs.declared.refusal.Refusal.{Refusal}
-use Rattle.compilation.specs.Compiled as stages
+use Rattle.program_source.specs.Program as stages
+use Rattle.program_source.specs.Terms.{TermsOf}
+use Rattle.compilation.specs.Legal.{LegalOf}
 use Rattle.lift_tool.specs.Files.{AreTexts, AreUnreadFor, File, HasText, IsUnread, Told}
 use Rattle.lift_tool.specs.Outcome.{Answers, FailsFor, IsAnswer, StopsAtText, WordsCause}
 use Rattle.lift_tool.specs.Request.{files_of, sources}
@@ -78,13 +80,13 @@ files_fail told rose request f (inl memory) = inl memory
 files_fail told rose request f (inr h) = inr (inl h)
 
 pub kernel_fails : (told : Told) (rose : List ℕ → Type 0) (p s program script : List ℕ) (why : Refusal) → AreTexts told (sources p s) (program ∷ script ∷ [])
-    → stages.StopsFor (stages.OnProgram program (λ q. stages.FormOf q script)) why → FailsFor told rose (compile p s) (Source why)
+    → stages.StopsFor (stages.OnProgram program (λ q. LegalOf q script)) why → FailsFor told rose (compile p s) (Source why)
 kernel_fails told rose p s program script why are (inl memory) = inl memory
 kernel_fails told rose p s program script why are (inr (inl (e, h, same))) = inr (inr (program ∷ script ∷ [], are, inl (e, h, ap Source same)))
 kernel_fails told rose p s program script why are (inr (inr (q, read, h))) = inr (inr (program ∷ script ∷ [], are, inr (q, read, (why, h, refl))))
 
 pub steps_fail : (told : Told) (rose : List ℕ → Type 0) (p s program script : List ℕ) (why : Refusal) → AreTexts told (sources p s) (program ∷ script ∷ [])
-    → stages.StopsFor (stages.OnProgram program (λ q. stages.TermsOf q script)) why → FailsFor told rose (steps p s) (Source why)
+    → stages.StopsFor (stages.OnProgram program (λ q. TermsOf q script)) why → FailsFor told rose (steps p s) (Source why)
 steps_fail told rose p s program script why are (inl memory) = inl memory
 steps_fail told rose p s program script why are (inr (inl (e, h, same))) = inr (inr (program ∷ script ∷ [], are, inl (e, h, ap Source same)))
 steps_fail told rose p s program script why are (inr (inr (q, read, h))) = inr (inr (program ∷ script ∷ [], are, inr (q, read, (why, h, refl))))

@@ -1,13 +1,16 @@
 -- How a call ends, and why.
-use Rattle.std.specs.Prelude.{◌≡◌, ◌⊎◌, ℕ, zero, suc, List, [], ◌∷◌, Err}
+use Rattle.std.specs.Prelude.{◌≡◌, ◌⊎◌, ℕ, zero, suc, List, [], ◌∷◌, Bool, Err}
 use Rattle.command_line.specs.Requests.{Asks, CommandLine, IsTaken, compile, eval, run, steps}
 use Rattle.lift_tree.specs.Programs.{PlainProgram}
 use Rattle.lift_tree.specs.Types.{PlainTy}
 use Rattle.fault_lines.specs.Failure.{Failure, Source, Words, Write, status_of}
-use Rattle.compilation.specs.Compiled.{FormOf, IsCompiled, TermsOf}
-use Rattle.compilation.specs.Stages.{As}
-use Rattle.compilation.specs.Started.{Accepts, EvalOf, IsRunLine, IsValueLine, OnSource, RunOf}
-use Rattle.compilation.specs.StepsText.{IsStepsText}
+use Rattle.program_source.specs.Ends.{Accepts, OnSource}
+use Rattle.program_source.specs.Stages.{As}
+use Rattle.program_source.specs.StepsText.{IsStepsText}
+use Rattle.program_source.specs.Terms.{TermsOf}
+use Rattle.compilation.specs.Compiled.{IsCompiled}
+use Rattle.compilation.specs.Legal.{LegalOf}
+use Rattle.program_runs.specs.Started.{EvalOf, IsRunLine, IsValueLine, RunOf}
 use Rattle.lift_tool.specs.Files.{AreTexts, StopsAtFile, Told}
 use Rattle.lift_tool.specs.Request.{files_of}
 
@@ -22,9 +25,9 @@ text_at (text ∷ texts) (suc i) = text_at texts i
 -- the text is that of the kernel of a program and a script
 pub record IsKernelOf (program script text : List ℕ) : Type 0 where
   pub source : PlainProgram
-  pub addend : ℕ
   pub output : PlainTy
-  pub compiled : IsCompiled program script source addend output text
+  pub task : Bool
+  pub compiled : IsCompiled program script source output task text
 
 -- what a request writes for the texts of its files
 abbrev pub Answers : CommandLine → List (List ℕ) → List ℕ → Type 0
@@ -44,16 +47,16 @@ IsAnswer told request text = (texts : List (List ℕ)) × AreTexts told (files_o
 
 -- ---- the stages
 
--- the texts of a request are well formed: there is a nest that is printed, or terms for steps, or types for an evaluation, and the launch file is for it
+-- the texts of a request are well formed: the last term is legal and within its limits, or there are terms for steps, or types for an evaluation, and the launch file is for it
 abbrev pub IsAccepted : CommandLine → List (List ℕ) → Type 0
-IsAccepted (compile p s) texts = Accepts (text_at texts 0) (λ q. As Source (FormOf q (text_at texts 1)))
+IsAccepted (compile p s) texts = Accepts (text_at texts 0) (λ q. As Source (LegalOf q (text_at texts 1)))
 IsAccepted (run p s l) texts = Accepts (text_at texts 0) (λ q. RunOf q (text_at texts 1) (text_at texts 2))
 IsAccepted (steps p s) texts = Accepts (text_at texts 0) (λ q. As Source (TermsOf q (text_at texts 1)))
 IsAccepted (eval p l) texts = Accepts (text_at texts 0) (λ q. EvalOf q (text_at texts 1))
 
 -- the first stage that stops for the texts of a request, and why
 abbrev pub StopsAtText : CommandLine → List (List ℕ) → Failure → Type 0
-StopsAtText (compile p s) texts failure = OnSource (text_at texts 0) (λ q. As Source (FormOf q (text_at texts 1))) (Err failure)
+StopsAtText (compile p s) texts failure = OnSource (text_at texts 0) (λ q. As Source (LegalOf q (text_at texts 1))) (Err failure)
 StopsAtText (run p s l) texts failure = OnSource (text_at texts 0) (λ q. RunOf q (text_at texts 1) (text_at texts 2)) (Err failure)
 StopsAtText (steps p s) texts failure = OnSource (text_at texts 0) (λ q. As Source (TermsOf q (text_at texts 1))) (Err failure)
 StopsAtText (eval p l) texts failure = OnSource (text_at texts 0) (λ q. EvalOf q (text_at texts 1)) (Err failure)

@@ -39,11 +39,13 @@ mod files;
 mod requests;
 
 use command_line::read_words;
-use compilation::one_end;
-pub use compilation::{Compiled, compile_text, run_launch, source_terms, steps_text};
+pub use compilation::{Compiled, compile_text};
 use fault_lines::Failure;
 pub use files::{LAUNCH_LIMIT, SOURCE_LIMIT};
 use lift_io::{Files, Sink, write_whole};
+use program_runs::one_end;
+pub use program_runs::run_launch;
+pub use program_source::{source_terms, steps_text};
 use requests::answer_of;
 use std::alloc::Global;
 

@@ -20,9 +20,11 @@ ghost use Rattle.lift_tool.specs.Request.{files_of, sources};
 
 use crate::files::{LAUNCH_LIMIT, SOURCE_LIMIT, read_text};
 use command_line::Request;
-use compilation::{compile_text, eval_text, run_text, steps_text};
+use compilation::compile_text;
 use fault_lines::Failure;
 use lift_io::Files;
+use program_runs::{eval_text, run_text};
+use program_source::steps_text;
 use std::alloc::Global;
 
 // The texts of a program and of a script.

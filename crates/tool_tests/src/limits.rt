@@ -1,5 +1,5 @@
 //! Limits, each with its count.
-use crate::call::{Call, FIRST, RESULT, RUN, SCRIPT, STEPS, repeated};
+use crate::call::{COMPILE, Call, FIRST, RESULT, RUN, SCRIPT, STEPS, repeated};
 use std::alloc::{AllocError, Global};
 use std::test::Fail;
 
@@ -134,5 +134,48 @@ fn the_bytes_of_a_file_are_limited(rt: HostRuntime) -> Result<(), Fail> {
         ..FIRST
     };
     assert!(rt; is_limit(rt.alloc(), call, &RUN, "lift: limit bytes: 16777217\n")?);
+    Ok(())
+}
+
+// Copies so many numbers to private memory.
+fn copies(alloc: Global, cells: usize, status: u8, line: &str) -> Result<bool, AllocError> {
+    let program = format!(in alloc; "input xs: [u32; {cells}]; output map(\\x. x, xs)")?;
+    let call = Call {
+        program: program.as_str(),
+        script: "at 0 private-copy\nat . to-seq",
+        ..FIRST
+    };
+    call.ends(alloc, &COMPILE, status, "", line)
+}
+
+#[test]
+fn private_cells_are_limited(rt: HostRuntime) -> Result<(), Fail> {
+    assert!(rt; copies(rt.alloc(), 257, 10, "lift: limit private: 257\n")?);
+    Ok(())
+}
+
+// A sum on two numbers, seen through so many pairs of layouts.
+fn layouts(alloc: Global, pairs: usize) -> Result<String, AllocError> {
+    let opened = repeated(alloc, "join(split(1, ", pairs, "xs")?;
+    let closed = repeated(alloc, "))", pairs, ")")?;
+    format!(in alloc; "input xs: [u32; 2]; output map(\\x. add(x, 1), {opened}{closed}")
+}
+
+#[test]
+fn layouts_are_limited(rt: HostRuntime) -> Result<(), Fail> {
+    let few = layouts(rt.alloc(), 2)?;
+    let call = Call {
+        program: few.as_str(),
+        launch: "{\"global\":1,\"local\":1,\"sizes\":{},\"inputs\":{\"xs\":[3,4]}}",
+        ..FIRST
+    };
+    let line = "{\"value\":[4,5],\"events\":7,\"releases\":0}\n";
+    assert!(rt; call.ends(rt.alloc(), &RUN, 0, line, "")?);
+    let many = layouts(rt.alloc(), 13)?;
+    let call = Call {
+        program: many.as_str(),
+        ..FIRST
+    };
+    assert!(rt; is_limit(rt.alloc(), call, &COMPILE, "lift: limit layouts: 26\n")?);
     Ok(())
 }

@@ -219,7 +219,8 @@ fn steps_that_are_not_made_are_told_with_their_causes(rt: HostRuntime) -> Result
     Ok(())
 }
 
-const UNDECIDED: [(&str, &str); 5] = [
+// Along the first script, whose map becomes sequential: the first broken rule in preorder.
+const PROGRAMS: [(&str, &str); 6] = [
     (
         "input xs: [[u32; 2]; 3]; output map(\\r. map(\\x. x, r), transpose(map(\\r. r, xs)))",
         "lift: nest: N1 at 0.0\n",
@@ -234,64 +235,62 @@ const UNDECIDED: [(&str, &str); 5] = [
     ),
     (
         "input xs: [[u32; 2]; 3]; output map(\\r. select(1, 2, let y = map(\\x. x, r) in 3), xs)",
-        "lift: nest: N1 at 1.2.0\n",
+        "lift: nest: N7 at 1.2\n",
     ),
     (
         "input xs: [[u32; 2]; 3]; output map(\\r. zip(r, map(\\x. x, r)), xs)",
-        "lift: nest: N1 at 1.1\n",
+        "lift: nest: N10 at 1\n",
+    ),
+    (
+        "input xs: [[u32; 2]; 3]; output map(\\r. r, xs)",
+        "lift: nest: N11 at 1\n",
     ),
 ];
 
-const UNPRINTED: [(&str, &str); 7] = [
-    (
-        "size N from 1 to 1000; input xs: [u32; N]; output map(\\x. mul(x, 1), xs)",
-        "lift: nest: N0 at .\n",
-    ),
-    (
-        "size N from 1 to 1000; input xs: [u32; N]; output map(\\x. add(1, x), xs)",
-        "lift: nest: N0 at .\n",
-    ),
-    (
-        "size N multiple 2 from 2 to 1000; input xs: [u32; N]; output map(\\x. add(x, 1), xs)",
-        "lift: nest: N0 at .\n",
-    ),
-    (
-        "input xs: [u32; 3]; output map(\\x. add(x, 1), xs)",
-        "lift: nest: N0 at .\n",
-    ),
-    (
-        "size N from 1 to 1000; input xs: [u32; 1*N]; output map(\\x. add(x, 1), xs)",
-        "lift: nest: N0 at .\n",
-    ),
-    (
-        "size N from 1 to 1000; input xs: [u32; N]; input ys: [u32; N]; output map(\\x. add(x, 1), xs)",
-        "lift: nest: N0 at .\n",
-    ),
-    (
-        "size N from 1 to 1000; input xs: [u32; N]; output map(\\x. add(x, 1), join(split(1, xs)))",
-        "lift: nest: N0 at .\n",
-    ),
-];
-
-const NESTS: [(&str, &str); 5] = [
+const NESTS: [(&str, &str); 7] = [
     ("", "lift: nest: N1 at .\n"),
     ("# nothing\n", "lift: nest: N1 at .\n"),
+    ("at . to-lcl", "lift: nest: N2 at .\n"),
     ("at . to-glb", "lift: nest: N0 at .\n"),
+    ("at . to-seq\nat . local", "lift: nest: N5 at .\n"),
     ("at . split-map 1", "lift: nest: N1 at 0\n"),
     ("at 0 copy\nat . to-seq", "lift: nest: N1 at 0\n"),
 ];
 
+// Programs with scripts of their own.
+const MAPPED: [(&str, &str, &str); 3] = [
+    ("input xs: [u32; 5]; output xs", "", "lift: nest: N11 at .\n"),
+    (
+        "input xs: [u32; 5]; output slide(3, 1, map(\\x. x, xs))",
+        "at 0 to-seq",
+        "lift: nest: N10 at .\n",
+    ),
+    (
+        "size N from 1 to 64; input xs: [u32; 2*N]; output join(map(\\r. map(\\x. x, r), split(N, xs)))",
+        "at 0.1.0 local-copy\nat 0.1 to-lcl\nat 0 to-wrg",
+        "lift: nest: N6 at 0.1.0\n",
+    ),
+];
+
+fn mapped_end(alloc: Global) -> Result<bool, AllocError> {
+    for (program, script, line) in MAPPED {
+        let call = Call {
+            program,
+            script,
+            ..FIRST
+        };
+        if !call.ends(alloc, &COMPILE, 11, "", line)? {
+            return Ok(false);
+        }
+    }
+    Ok(true)
+}
+
 #[test]
-fn what_is_not_printed_is_told_by_its_nest(rt: HostRuntime) -> Result<(), Fail> {
-    assert!(rt; programs_end(rt.alloc(), &RUN, 11, &UNDECIDED)?);
-    assert!(rt; programs_end(rt.alloc(), &RUN, 11, &UNPRINTED)?);
+fn nests_are_refused_by_the_first_broken_rule(rt: HostRuntime) -> Result<(), Fail> {
+    assert!(rt; programs_end(rt.alloc(), &RUN, 11, &PROGRAMS)?);
     assert!(rt; scripts_end(rt.alloc(), &COMPILE, 11, &NESTS)?);
-    let unchanged = Call {
-        program: "input xs: [u32; 5]; output xs",
-        script: "",
-        ..FIRST
-    };
-    assert!(rt; unchanged.ends(rt.alloc(), &RUN, 11, "", "lift: nest: N0 at .\n")?);
+    assert!(rt; mapped_end(rt.alloc())?);
     Ok(())
 }
 

@@ -1,32 +1,33 @@
 use Rattle.std.proofs.Common.{refl}
-use Rattle.compilation.specs.Compiled.{FormOf, OnProgram, StopsFor}
-use Rattle.compilation.proofs.Compiling.{compiled_found, compiled_meets, compiled_over_one_list, form_stops}
-use Rattle.compilation.proofs.Stages.{handed_on, terms_first}
+use Rattle.kernel_tree.specs.Kernels.{kernel_of}
+use Rattle.program_source.specs.Program.{OnProgram, StopsFor}
+use Rattle.program_source.proofs.Stages.{handed_on}
+use Rattle.compilation.specs.Legal.{LegalOf}
+use Rattle.compilation.proofs.Compiling.{compiled_found, last_stops, terms_first, text_for, typed_last}
 use Rattle.compilation.proofs.compile.compile_text.Goals as goal
+
+pub compiled_kernel-requires : goal.compiled_kernel-requires
+compiled_kernel-requires c = typed_last c.args.program.now c.args.script.now _ c.in_ok-last.ensures.last
 
 pub invariant_of-result : goal.invariant_of-result
 invariant_of-result c =
-    let t = c.in_ok-last.last in
-    let addend = c.in_ok-addend.addend in
-    let printed = c.in_ok-addend.ensures.printed in
+    let k = c.in_ok-kernel.ensures in
     record {
-      in_grammar = c.in_ok-text.ensures.in_grammar;
-      one_kernel = c.in_ok-text.ensures.one_kernel;
-      one_item = refl;
-      one_list = compiled_over_one_list c.args.program.now c.args.script.now t addend _ c.own_type.ensures c.in_ok-last.ensures.last printed;
-      meets = compiled_meets c.args.program.now c.args.script.now t addend _ c.own_type.ensures c.in_ok-last.ensures.last printed;
+      text_for = ∣ text_for c.args.program.now c.args.script.now c.in_ok-last.last _ _ (kernel_of c.in_ok-kernel.kernel) c.printed_programs_start.ensures c.printed_programs_keep.ensures c.own_type.ensures
+          c.in_ok-last.ensures.last k.laid_out k.printable k.prints c.in_ok-text.ensures.text k.alone ∣₁;
     }
 
 pub returns-clause-found : goal.returns-clause-found
 returns-clause-found c =
-    compiled_found c.args.program.now c.args.script.now c.in_ok-last.last c.in_ok-addend.addend _ c.in_ok-text.text.items c.own_type.ensures c.in_ok-last.ensures.last c.in_ok-addend.ensures.printed c.in_ok-text.ensures.written
+    compiled_found c.args.program.now c.args.script.now c.in_ok-last.last _ _ _ (kernel_of c.in_ok-kernel.kernel) c.printed_programs_start.ensures c.printed_programs_keep.ensures c.own_type.ensures
+    refl c.in_ok-last.ensures.last c.in_ok-kernel.ensures.compiles c.in_ok-kernel.ensures.printable c.in_ok-kernel.ensures.prints c.in_ok-text.ensures.text
 
 pub returns-in_err-last-clause-refused : goal.returns-in_err-last-clause-refused
 returns-in_err-last-clause-refused c =
-    handed_on (StopsFor (OnProgram c.args.program.now (λ p. FormOf p c.args.script.now))) _ _ c.from_residual.ensures.1
+    handed_on (StopsFor (OnProgram c.args.program.now (λ p. LegalOf p c.args.script.now))) _ _ c.from_residual.ensures.1
     (terms_first c.args.program.now c.args.script.now _ c.in_err-last.ensures.refused)
 
-pub returns-in_err-addend-clause-refused : goal.returns-in_err-addend-clause-refused
-returns-in_err-addend-clause-refused c =
-    handed_on (StopsFor (OnProgram c.args.program.now (λ p. FormOf p c.args.script.now))) _ _ c.from_residual-in_err-addend.ensures.1
-    (form_stops c.args.program.now c.args.script.now c.in_ok-last.last _ _ refl c.in_ok-last.ensures.last c.in_err-addend.ensures.refused)
+pub returns-in_err-kernel-clause-refused : goal.returns-in_err-kernel-clause-refused
+returns-in_err-kernel-clause-refused c =
+    handed_on (StopsFor (OnProgram c.args.program.now (λ p. LegalOf p c.args.script.now))) _ _ c.from_residual-in_err-kernel.ensures.1
+    (last_stops c.args.program.now c.args.script.now c.in_ok-last.last _ c.in_ok-last.ensures.last c.in_err-kernel.ensures.refused)

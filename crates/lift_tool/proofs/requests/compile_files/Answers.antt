@@ -30,4 +30,4 @@ returns-clause-ok g c =
     let p : List ℕ = string_bytes {Z = Global} c.args.program in
     let s : List ℕ = string_bytes {Z = Global} c.args.script in
     let are : AreTexts told (sources p s) (c.as_slice.result.now ∷ c.as_slice-2.result.now ∷ []) = rw (c.as_slice.ensures.value, c.as_slice-2.ensures.value) c.in_ok-program.ensures.texts in
-    (c.as_slice.result.now ∷ c.as_slice-2.result.now ∷ [], are, record { source = _; addend = _; output = _; compiled = c.in_ok-compiled.ensures.found })
+    (c.as_slice.result.now ∷ c.as_slice-2.result.now ∷ [], are, record { source = _; output = _; task = _; compiled = c.in_ok-compiled.ensures.found })

@@ -1,0 +1,65 @@
+-- Which last terms are compiled.
+use Rattle.std.specs.Prelude.{◌≡◌, ◌≤◌, ℕ, List, length, Some, None, Result, Ok, Err}
+use Rattle.lift_tree.specs.Annotations.{IsTyped, annotation_of}
+use Rattle.lift_tree.specs.Belonging.{IsProper}
+use Rattle.lift_tree.specs.Limits.{IsWithinLimits}
+use Rattle.lift_tree.specs.Programs.{PlainProgram, program_of}
+use Rattle.lift_tree.specs.Tree.{height, tree_of}
+use Rattle.lift_tree.specs.Typing.{declared_by}
+use Rattle.lift_tree.specs.declared.typed.Typed.{Typed}
+use Rattle.lowered_tree.specs.declared.lowered.Lowered.{Lowered}
+use Rattle.kernel_emit.specs.Emittable.{declared_of}
+use Rattle.strategy_script.specs.Steps.{State}
+use Rattle.lowered_tree.specs.Nest.{IsLegalNest, nest_fault}
+use Rattle.lowered_tree.specs.Printed.{first_unprinted}
+use Rattle.thread_mapping.specs.declared.judging.NestNo.{NestNo}
+use Rattle.thread_mapping.specs.declared.judging.NestNo.TheVariants as nests
+use Rattle.buffer_allocation.specs.Limits.{passed_limit}
+use Rattle.buffer_allocation.specs.declared.buffers.AllocNo.{AllocNo}
+use Rattle.buffer_allocation.specs.declared.buffers.AllocNo.TheVariants as allocations
+use Rattle.fault_lines.specs.declared.refusal.Refusal.{Refusal}
+use Rattle.fault_lines.specs.declared.refusal.Refusal.TheVariants as told
+use Rattle.program_source.specs.Stages.{As, Gives, Then}
+use Rattle.program_source.specs.Terms.{LastOf, TermsOf}
+
+-- a typed term of a proper program with few inputs, within the limits on types
+pub record IsTypedLast (t : Typed) : Type 0 where
+  pub proper : IsProper (program_of t.program)
+  pub few : length (program_of t.program).inputs ≤ 8
+  pub typed : IsTyped t
+  pub within : IsWithinLimits (program_of t.program) (tree_of t.term) (annotation_of t.types)
+  pub low : height (tree_of t.term) ≤ 256
+
+-- the nest is legal, or this is the first node in preorder at which a rule is broken, and the lowest such rule
+abbrev pub NestOf : State → Result (Unit {0}) NestNo → Type 0
+NestOf s (Ok legal) = IsLegalNest s.tree s.types
+NestOf s (Err (nests.Nest place rule)) = nest_fault s.tree s.types ≡ Some (place, rule)
+NestOf s (Err nests.Memory) = ⊥
+
+-- each node is printed so far, or this is the first in preorder that isn't
+abbrev pub PrintedOf : State → Result (Unit {0}) (List ℕ) → Type 0
+PrintedOf s (Ok all) = first_unprinted s.tree s.types ≡ None
+PrintedOf s (Err place) = first_unprinted s.tree s.types ≡ Some place
+
+-- layouts and memory are within their limits, or this is the first limit that is passed, and the count
+abbrev pub BuffersOf : State → Result (Unit {0}) AllocNo → Type 0
+BuffersOf s (Ok within) = passed_limit s.tree s.types ≡ None
+BuffersOf s (Err (allocations.Limit which count)) = passed_limit s.tree s.types ≡ Some (which, count)
+BuffersOf s (Err allocations.Memory) = ⊥
+
+-- the term is compiled, or the first stage that stops: its nest, whether it is printed, its buffers
+abbrev pub CompilesTerm : State → Result State Refusal → Type 0
+CompilesTerm last =
+    Then (As told.Nest (NestOf last)) (λ _.
+    Then (As told.Unprinted (PrintedOf last)) (λ _.
+    Then (As told.Alloc (BuffersOf last)) (λ _. Gives last)))
+
+-- the last term of a program along a script, where it is compiled; or the first stage that stops
+abbrev pub LegalOf : PlainProgram → (script : List ℕ) → Result State Refusal → Type 0
+LegalOf p script = Then (TermsOf p script) (λ terms. Then (LastOf terms) CompilesTerm)
+
+-- it is what the term is lowered to, with what the term may name
+pub record IsLoweredOf (t : Typed) (l : Lowered) : Type 0 where
+  pub declared : declared_of l ≡ declared_by (program_of t.program)
+  pub term : tree_of l.term ≡ tree_of t.term
+  pub types : annotation_of l.types ≡ annotation_of t.types

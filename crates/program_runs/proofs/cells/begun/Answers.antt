@@ -1,0 +1,30 @@
+use Rattle.std.proofs.Common.{◌≡◌, ◌∙◌, map}
+use Rattle.std.proofs.Props.{props}
+use Rattle.std.proofs.Math.Logic.{∥∥₁_elim}
+use Rattle.launch_file.specs.LaunchFile.{given_by}
+use Rattle.lift_tree.specs.Types.{ty_of}
+use Rattle.lift_tree.specs.WorkedOut.{range_of}
+use Rattle.program_runs.proofs.Buffers.{held_first}
+use Rattle.program_runs.proofs.LaidOut.{elements_once, small_once}
+use Rattle.program_runs.proofs.cells.begun.Goals as goal
+
+pub blank_lists-requires-clause-elements : goal.blank_lists-requires-clause-elements
+blank_lists-requires-clause-elements c =
+    let compiled = c.args.compiled.now in
+    ∥∥₁_elim compiled.text_for (elements_once (ty_of compiled.output)) (λ t. t.laid_out.elements)
+
+pub blank_lists-requires-clause-small : goal.blank_lists-requires-clause-small
+blank_lists-requires-clause-small c =
+    let compiled = c.args.compiled.now in
+    ∥∥₁_elim compiled.text_for (small_once _ 1 (ty_of compiled.output)) (λ t. t.laid_out.small (given_by c.args.file.now).bases c.requires.launch.sizes)
+
+pub blank_lists-requires-clause-few : goal.blank_lists-requires-clause-few
+blank_lists-requires-clause-few c =
+    let compiled = c.args.compiled.now in
+    ∥∥₁_elim compiled.text_for (Prim.hlevel props) (λ t. t.laid_out.few)
+
+pub returns : goal.returns
+returns c =
+    let names = map range_of c.args.compiled.now.program.sizes.items in
+    let made = held_first names _ _ _ _ _ _ c.new-ins.ensures.items c.deref.ensures.value c.deref-2.ensures.value (c.in_ok-add_inputs.ensures names) in
+    λ i. record { ins = made i; outs = c.in_ok-outs.ensures i; rest = 0 }

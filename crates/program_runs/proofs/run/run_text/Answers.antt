@@ -1,0 +1,41 @@
+use Rattle.std.proofs.Common.{subst, sym}
+use Rattle.lift_tree.specs.Programs.{program_of}
+use Rattle.lift_tree.specs.Types.{ty_of}
+use Rattle.launch_file.specs.Judged.{Refuses}
+use Rattle.launch_file.specs.declared.file.Ask.TheVariants as asks
+use Rattle.launch_file.specs.LaunchFile.{given_by}
+use Rattle.lowered_tree.specs.Kinds.{is_task}
+use Rattle.compilation.specs.Legal.{LegalOf}
+use Rattle.program_source.proofs.Proper.{proper}
+use Rattle.program_runs.proofs.Admitted.{given_is_admissible}
+use Rattle.program_runs.proofs.Stopped.{launch_fails}
+use Rattle.program_runs.proofs.run.run_text.Goals as goal
+
+pub read_launch-requires : goal.read_launch-requires
+read_launch-requires c =
+    let found = c.in_ok-compiled.ensures.found in
+    proper c.programs_may_be_typed.ensures c.judged_inputs_are_proper.ensures c.args.program.now _ found.read found.legal.1.0 found.legal.1.1
+
+pub run_launch-requires : goal.run_launch-requires
+run_launch-requires c = given_is_admissible _ _ _ _ c.in-Ok.ensures.ok
+
+pub returns-in-Err-clause-refused : goal.returns-in-Err-clause-refused
+returns-in-Err-clause-refused c =
+    let p = program_of c.in_ok-compiled.compiled.program in
+    let found = c.in_ok-compiled.ensures.found in
+    launch_fails c.args.program.now p (λ last. asks.Run (is_task last.tree)) c.args.launch.now (λ q. LegalOf q c.args.script.now) _ c.in-Err.no found.read found.legal
+    (λ well. subst (λ b. Refuses p (asks.Run b) c.args.launch.now c.in-Err.no) (sym found.alone) (c.in-Err.ensures.refused well))
+
+pub returns-in_ok-run_launch-in-Ok-clause-found : goal.returns-in_ok-run_launch-in-Ok-clause-found
+returns-in_ok-run_launch-in-Ok-clause-found c =
+    let compiled = c.in_ok-compiled.compiled in
+    record {
+      source = program_of compiled.program;
+      output = ty_of compiled.output;
+      task = compiled.is_task;
+      text = compiled.text.items;
+      compiled = c.in_ok-compiled.ensures.found;
+      given = given_by c.in-Ok.file;
+      launch_file = c.in-Ok.ensures.ok;
+      run = c.in_ok-run_launch-in-Ok.ensures;
+    }

@@ -1,0 +1,49 @@
+-- The run of a kernel at what a launch file gives.
+use Rattle.std.specs.Prelude.{◌≡◌, ℕ, List, Bool, Some, map, replicate}
+use Rattle.kernel_tree.specs.Code.{Kernel}
+use Rattle.kernel_tree.specs.KernelText.{IsKernelText}
+use Rattle.kernel_tree.specs.Launch.{Cells}
+use Rattle.ndrange_device.specs.Outcomes.{EndsUnder}
+use Rattle.lift_tree.specs.Launches.{IsAdmissibleLaunch, buffers_of, lists_of}
+use Rattle.lift_tree.specs.Meaning.{World}
+use Rattle.lift_tree.specs.Programs.{PlainProgram}
+use Rattle.lift_tree.specs.Types.{PlainTy}
+use Rattle.lift_tree.specs.Typing.{IsAdmissible, declared_by}
+use Rattle.value_lists.specs.Lists.{list_lengths}
+use Rattle.launch_file.specs.LaunchFile.{Given}
+use Rattle.launch_file.specs.ResultLine.{result_line}
+use Rattle.program_source.specs.Program.{source_value}
+
+-- the sizes and the inputs that a launch file gives
+abbrev pub world_given : Given → World
+world_given g = record { bases = g.bases; sizes = g.launch.sizes; inputs = g.inputs }
+
+-- the inputs in their buffers, the output's as long as its type says, and 0 in all other memory
+abbrev pub begun : PlainProgram → PlainTy → World → Cells
+begun p output w = record {
+  ins = buffers_of (declared_by p).inputs w.inputs;
+  outs = map (λ n. replicate n 0) (list_lengths w.bases output);
+  rest = 0;
+}
+
+-- the sizes, the inputs and the launch that are given are admissible for the program
+pub record IsAdmissibleFor (p : PlainProgram) (is_task : Bool) (g : Given) : Type 0 where
+  pub world : IsAdmissible (declared_by p) (world_given g)
+  pub launch : IsAdmissibleLaunch (declared_by p).names is_task g.bases g.launch.global g.launch.local
+
+-- the kernel's run under the schedule, at the launch and on the inputs that are given leaves the source's value, and has so many events, so many of them releases
+abbrev pub RunsAsGiven : PlainProgram → (output : PlainTy) → Kernel → Given → (events releases : ℕ) → Type 0
+RunsAsGiven p output k g events releases = EndsUnder g.schedule k g.launch (begun p output (world_given g)) (lists_of output (source_value p (world_given g))) events releases
+
+-- The text is a kernel's, whose run at what is given leaves the source's value, and has so many events, so many of them releases.
+pub record RunsText (p : PlainProgram) (output : PlainTy) (text : List ℕ) (g : Given) (events releases : ℕ) : Type 0 where
+  pub kernel : Kernel
+  pub read : IsKernelText text kernel
+  pub run : RunsAsGiven p output kernel g events releases
+
+-- The line is that of the run of the text: the source's value, and the counts of that run's events and of its releases.
+pub record IsLineOfText (p : PlainProgram) (output : PlainTy) (text : List ℕ) (g : Given) (line : List ℕ) : Type 0 where
+  pub events : ℕ
+  pub releases : ℕ
+  pub run : RunsText p output text g events releases
+  pub written : line ≡ result_line (source_value p (world_given g)) (Some (events, releases))

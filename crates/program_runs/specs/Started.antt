@@ -1,0 +1,59 @@
+-- What a run and an evaluation are started from.
+use Rattle.std.specs.Prelude.{◌≡◌, ℕ, List, None, Bool, Result, Ok, Err}
+use Rattle.lift_tree.specs.Programs.{PlainProgram}
+use Rattle.lift_tree.specs.Types.{PlainTy}
+use Rattle.lowered_tree.specs.Kinds.{is_task}
+use Rattle.launch_file.specs.Judged.{Refuses}
+use Rattle.launch_file.specs.LaunchFile.{Given, IsLaunchFile}
+use Rattle.launch_file.specs.ResultLine.{result_line}
+use Rattle.launch_file.specs.declared.file.Ask.{Ask}
+use Rattle.launch_file.specs.declared.file.Ask.TheVariants.{Eval, Run}
+use Rattle.launch_file.specs.declared.refusal.LaunchNo.{LaunchNo}
+use Rattle.fault_lines.specs.Failure as failures
+use Rattle.fault_lines.specs.Failure.{Failure}
+use Rattle.program_source.specs.Ends.{HasOneEnd}
+use Rattle.program_source.specs.Program.{IsRead, TypesOf, source_value}
+use Rattle.program_source.specs.Stages.{As, Then}
+use Rattle.program_source.specs.Terms.{TermsOf}
+use Rattle.compilation.specs.Compiled.{IsCompiled}
+use Rattle.compilation.specs.Legal.{LegalOf}
+use Rattle.program_runs.specs.Runs.{IsLineOfText, world_given}
+
+-- what a launch file gives a program, or the first check that it fails
+abbrev pub LaunchOf : PlainProgram → Ask → (launch : List ℕ) → Result Given LaunchNo → Type 0
+LaunchOf p ask launch (Ok given) = IsLaunchFile p ask launch given
+LaunchOf p ask launch (Err why) = Refuses p ask launch why
+
+-- what a run is given, or the first stage that stops: all of compilation, then the launch file, for a task where the last term has no parallel map
+abbrev pub RunOf : PlainProgram → (script launch : List ℕ) → Result Given Failure → Type 0
+RunOf p script launch = Then (As failures.Source (LegalOf p script)) (λ last. As (failures.Launch p) (LaunchOf p (Run (is_task last.tree)) launch))
+
+-- what an evaluation is given, or the first stage that stops: the types, then the launch file
+abbrev pub EvalOf : PlainProgram → (launch : List ℕ) → Result Given Failure → Type 0
+EvalOf p launch = Then (As failures.Source (TypesOf p)) (λ _. As (failures.Launch p) (LaunchOf p Eval launch))
+
+-- the stages of each kind of call come to one end
+pub record StagesEndOnce : Type 0 where
+  pub kernel : (program script : List ℕ) → HasOneEnd program (λ p. As failures.Source (LegalOf p script))
+  pub steps : (program script : List ℕ) → HasOneEnd program (λ p. As failures.Source (TermsOf p script))
+  pub run : (program script launch : List ℕ) → HasOneEnd program (λ p. RunOf p script launch)
+  pub value : (program launch : List ℕ) → HasOneEnd program (λ p. EvalOf p launch)
+
+-- The line is that of the run of what is read back from the text of the program's kernel: the source's value, and the counts of that run.
+pub record IsRunLine (program script launch line : List ℕ) : Type 0 where
+  pub source : PlainProgram
+  pub output : PlainTy
+  pub task : Bool
+  pub text : List ℕ
+  pub compiled : IsCompiled program script source output task text
+  pub given : Given
+  pub launch_file : IsLaunchFile source (Run task) launch given
+  pub run : IsLineOfText source output text given line
+
+-- The line is that of the value of the source expression, at the launch file's sizes and inputs.
+pub record IsValueLine (program launch line : List ℕ) : Type 0 where
+  pub source : PlainProgram
+  pub given : Given
+  pub read : IsRead program source
+  pub started : EvalOf source launch (Ok given)
+  pub written : line ≡ result_line (source_value source (world_given given)) None

@@ -1,0 +1,6 @@
+pub mod FewNodes
+pub mod Low
+pub mod Once
+pub mod Proper
+pub mod Stages
+pub mod TermsMade

@@ -1,0 +1,23 @@
+use Rattle.lift_tree.specs.Annotations.{annotation_of}
+use Rattle.lift_tree.specs.Programs.{program_of}
+use Rattle.program_source.specs.Program.{OnProgram, StopsFor}
+use Rattle.program_source.specs.Terms.{TermsOf}
+use Rattle.program_source.proofs.Stages.{handed_on, on_program, step_stops}
+use Rattle.program_source.proofs.TermsMade.{source_made, source_terms_are}
+use Rattle.program_source.proofs.terms.source_terms.Goals as goal
+
+pub run_script-requires : goal.run_script-requires
+run_script-requires c = record { ready = c.in_ok-source.ensures.begun.ready }
+
+pub returns-in_err-run_script-clause-refused : goal.returns-in_err-run_script-clause-refused
+returns-in_err-run_script-clause-refused c =
+    let b = c.in_ok-source.ensures.begun in
+    let t = c.in_ok-source.source in
+    handed_on (StopsFor (OnProgram c.args.program.now (λ p. TermsOf p c.args.script.now))) _ _ c.from_residual-in_err-run_script.ensures.1
+    (on_program c.args.program.now (program_of t.program) (λ p. TermsOf p c.args.script.now) _ b.read
+    (step_stops (program_of t.program) (annotation_of t.types) c.args.script.now _ _ b.judged b.is b.few
+    (λ well. source_made t _ _ b.whole (c.in_err-run_script.ensures.refused well))))
+
+pub returns-clause-terms : goal.returns-clause-terms
+returns-clause-terms c =
+    source_terms_are c.args.program.now c.args.script.now _ _ _ c.in_ok-source.ensures.begun c.in_ok-run_script.ensures.terms c.in_ok-run_script.ensures.each

@@ -1,0 +1,26 @@
+-- How the stages of a text end.
+use Rattle.std.specs.Prelude.{◌≡◌, ◌⊎◌, ℕ, List, None, Result, Ok, Err}
+use Rattle.lift_reader.specs.ProgramText.{IsProgramText, first_limit}
+use Rattle.lift_tree.specs.Programs.{PlainProgram}
+use Rattle.fault_lines.specs.Failure as failures
+use Rattle.fault_lines.specs.Failure.{Failure}
+use Rattle.fault_lines.specs.declared.refusal.Refusal.TheVariants as told
+use Rattle.program_source.specs.Program.{ReadsProgram}
+use Rattle.program_source.specs.Stages.{As, Then}
+
+-- why a call stops: for its cause, or for want of memory, which is free
+abbrev pub FailsFor : {A : Type 0} → (Result A Failure → Type 0) → Failure → Type 0
+FailsFor R failure = (failures.status_of failure ≡ 13) ⊎ R (Err failure)
+
+-- what a program's text comes to, where this is what its program does
+abbrev pub OnSource : {A : Type 0} → List ℕ → (PlainProgram → Result A Failure → Type 0) → Result A Failure → Type 0
+OnSource text S = Then (As (λ why. failures.Source (told.Program why)) (ReadsProgram text)) S
+
+-- the text is a program within its limits, on which this makes something
+abbrev pub Accepts : {A : Type 0} → List ℕ → (PlainProgram → Result A Failure → Type 0) → Type 0
+Accepts {A = A} text S = (p : PlainProgram) × IsProgramText text p × (first_limit p ≡ None) × ((a : A) × S p (Ok a))
+
+-- a text stops for one cause at most, and for none where it is accepted
+pub record HasOneEnd {A : Type 0} (text : List ℕ) (S : PlainProgram → Result A Failure → Type 0) : Type 0 where
+  pub cause : (f g : Failure) → OnSource text S (Err f) → OnSource text S (Err g) → f ≡ g
+  pub none : (f : Failure) → Accepts text S → ¬ OnSource text S (Err f)

@@ -1,0 +1,8 @@
+//! A program's text: the program with its types, and the terms that a script makes of it.
+#![tactic(auto)]
+
+mod source;
+mod terms;
+
+pub use source::typed_source;
+pub use terms::{last_term, source_terms, steps_text};

@@ -1,0 +1,88 @@
+//! The terms that the steps of a script make of a program, and their lines.
+ghost use Rattle.std.specs.Prelude.{◌≡◌, ◌++◌, IfErr, IfOk, OnOk};
+ghost use Rattle.program_source.specs.Program.{OnProgram, StopsFor};
+ghost use Rattle.program_source.specs.SourceTerms.{
+  AreSourceTerms,
+  IsBegun,
+  IsLastTerm,
+  typed_line,
+  typed_lines,
+};
+ghost use Rattle.program_source.specs.StepsText.{IsStepsText};
+ghost use Rattle.program_source.specs.Terms.{TermsOf};
+
+use crate::source::typed_source;
+use fault_lines::Refusal;
+use lift_tree::laws::typed_nodes_type_the_term;
+use lift_tree::typed::Typed;
+use pattern_types::laws::types_are_judged;
+use std::alloc::{AllocError, Global};
+use strategy_script::{Script, read_script, run_script};
+use term_texts::term_text;
+
+// The typed source of a program, and the steps of a script.
+fn begin(alloc: Global, program: &[u8], script: &[u8]) -> Result<(Typed, Script), Refusal>
+    ensures begun { IfOk result (λ b. IsBegun program.now script.now b.0 b.1) }
+    ensures refused { IfErr result
+        (StopsFor (OnProgram program.now (λ p. TermsOf p script.now))) }
+{
+    let source = typed_source(alloc, program)?;
+    let script = read_script(alloc, script)?;
+    Ok((source, script))
+}
+
+/// The terms that the steps of a script make of a program: its own, then the term after each step.
+/// A refusal is the first cause in the order of the stages: the program's text and its limits, its
+/// types, the script's text and its limit, the steps in turn. Want of memory may come at any point.
+pub fn source_terms(alloc: Global, program: &[u8], script: &[u8]) -> Result<Vec<Typed>, Refusal>
+    ensures terms { IfOk result (λ terms. AreSourceTerms program.now script.now terms.items) }
+    ensures refused { IfErr result
+        (StopsFor (OnProgram program.now (λ p. TermsOf p script.now))) }
+{
+    let (source, script) = begin(alloc, program, script)?;
+    Ok(run_script(alloc, source, &script)?)
+}
+
+/// The last of the terms of [`source_terms`], with the same refusals. It holds two terms at a time.
+pub fn last_term(alloc: Global, program: &[u8], script: &[u8]) -> Result<Typed, Refusal>
+    ensures last { IfOk result (IsLastTerm program.now script.now) }
+    ensures refused { IfErr result
+        (StopsFor (OnProgram program.now (λ p. TermsOf p script.now))) }
+{
+    typed_nodes_type_the_term();
+    types_are_judged();
+    let (source, script) = begin(alloc, program, script)?;
+    Ok(strategy_script::last_term(alloc, source, &script)?)
+}
+
+// Writes a term on a line behind the text.
+fn push_line(alloc: Global, text: &mut Vec<u8>, typed: &Typed) -> Result<(), AllocError>
+    ensures { OnOk result (text.new.items ≡ text.old.items ++ typed_line typed.now) }
+{
+    let line = term_text(alloc, &typed.term, &typed.program)?;
+    text.extend_from_slice(line.as_slice())?;
+    text.push(b'\n')?;
+    Ok(())
+}
+
+// Each term on a line.
+fn terms_text(alloc: Global, terms: &[Typed]) -> Result<Vec<u8>, AllocError>
+    ensures { IfOk result (λ text. text.items ≡ typed_lines terms.now) }
+{
+    let mut text = Vec::new(alloc);
+    for typed in terms {
+        push_line(alloc, &mut text, typed)?;
+    }
+    Ok(text)
+}
+
+/// A line for each term that the steps of a script make of a program, its own first. Each term has
+/// the program's type, and its value at all admissible sizes and inputs.
+pub fn steps_text(alloc: Global, program: &[u8], script: &[u8]) -> Result<Vec<u8>, Refusal>
+    ensures written { IfOk result (λ text. IsStepsText program.now script.now text.items) }
+    ensures refused { IfErr result
+        (StopsFor (OnProgram program.now (λ p. TermsOf p script.now))) }
+{
+    let terms = source_terms(alloc, program, script)?;
+    Ok(terms_text(alloc, terms.as_slice())?)
+}
