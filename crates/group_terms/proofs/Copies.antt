@@ -50,7 +50,8 @@ no_copies false (LetArray v b) f = both_empty (copy_lengths LocalMemory v) (copy
 no_copies false (Copy PrivateMemory ty a) f = both_empty (copy_lengths LocalMemory a) [] (no_copies true a f) refl
 no_copies _ _ f = absurd (assumption)
 
-counted : {A : Type 0} (written : Bool) (t : Term A) → StandsInGroup written t → length (copy_lengths LocalMemory t) ≡ local_count t
+-- as many local arrays are declared as are counted
+pub counted : {A : Type 0} (written : Bool) (t : Term A) → StandsInGroup written t → length (copy_lengths LocalMemory t) ≡ local_count t
 counted true (Reshape y t) f = counted true t f.1
 counted true (LetArray v b) f = joined (local_count v) (local_count b) (copy_lengths LocalMemory v) (copy_lengths LocalMemory b) (counted false v f.0) (counted true b f.1)
 counted true (Map Local n loads xs b) f = let e = joined (local_count xs) 0 (copy_lengths LocalMemory xs) (copy_lengths LocalMemory b) (counted false xs f.0) (ap length (no_copies true b f.1)) in omega arith

@@ -45,7 +45,7 @@ mutual
   can_read (Map k n ls xs b) s = tt
   can_read (Fold n ls ty xs i b) s = tt
   can_read (Store ty x) s = tt
-  can_read (Copy LocalMemory ty x) s = tt
+  can_read (Copy LocalMemory ty x) s = absurd s
   can_read (Copy PrivateMemory ty x) s = can_write x s
 
 over_launch : {A : Type 0} (t : Term A) → StandsOverLaunch t → CanBeWritten t

@@ -155,7 +155,8 @@ module _ (d : Declared) (M : ℕ) (few : M ≤ 256) where
         layout_read j g a t n _ (lower Argument t n) e h (read G j g t n ty.0 (ap own.is_element ty.1.2) st can u (omega arith))
     read G j g (tree.Unary unary.ToPrivate t) (One a n) ty e st can u high h =
         copy_read j _ _ (none_zero (own.is_element a)) refl (write G j g 0 t n ty.0 st.3 can u (omega arith) (omega arith) (right _ (most (position.Written 0) g t n) h))
-    read G j g (tree.Unary unary.ToLocal t) (One a n) ty e st can u high h = copy_read j _ _ (none_zero (own.is_element a)) refl tt
+    read G j g (tree.Unary unary.ToLocal t) (One a n) ty e st can u high h =
+        copy_read j _ _ (none_zero (own.is_element a)) refl (write G j g 0 t n ty.0 st.3 can u (omega arith) (omega arith) (right _ (most (position.Written 0) g t n) h))
     read G j g (tree.Unary (unary.Div m) t) (One a n) ty e st can u high h = absurd st
     read G j g (tree.Unary (unary.Rem m) t) (One a n) ty e st can u high h = absurd st
     read G j g (tree.Binary binary.Zip t w) (Two a n m) ty e st can u high h =

@@ -1,13 +1,12 @@
 -- What the limits give at each node of a term.
-use Rattle.std.specs.Prelude.{◌<◌, ◌^◌, ℕ, Bool, true, not, ◌&&◌, List}
+use Rattle.std.specs.Prelude.{◌<◌, ◌^◌, ℕ, List}
 use Rattle.lift_tree.specs.declared.term.UnaryForm.{UnaryForm}
 use Rattle.lift_tree.specs.declared.term.UnaryForm.TheVariants as unary
-use Rattle.lift_tree.specs.Tree.{Tree, Variable, Number, Input, Unary, Binary, Select, Let, Map, Fold}
+use Rattle.lift_tree.specs.Tree.{Tree, Unary, Binary, Select, Let, Map, Fold}
 use Rattle.lift_tree.specs.Types.{PlainTy}
 use Rattle.lift_tree.specs.Annotations.{Annotation, One, Two, Three, type_in}
 use Rattle.lift_ir.specs.Types.{IsShort, size}
 use Rattle.lift_ir.specs.AtLaunch.{ty_at}
-use Rattle.lowered_tree.specs.Kinds.{is_over_groups}
 
 -- the cells of a copy's component, and a slide's step
 abbrev pub FormFits : List ℕ → UnaryForm → PlainTy → Type 0
@@ -25,15 +24,3 @@ Fits ys (Let v b) (Two a n m) = IsShort (ty_at ys a) × Fits ys v n × Fits ys b
 Fits ys (Map k xs b) (Two a n m) = IsShort (ty_at ys a) × Fits ys xs n × Fits ys b m
 Fits ys (Fold k xs z b) (Three a n m l) = IsShort (ty_at ys a) × Fits ys xs n × Fits ys z m × Fits ys b l
 Fits ys t n = IsShort (ty_at ys (type_in n))
-
--- no map over work-groups is in the term
-abbrev pub has_no_groups : Tree → Bool
-has_no_groups (Variable v) = true
-has_no_groups (Number c) = true
-has_no_groups (Input i) = true
-has_no_groups (Unary f t) = has_no_groups t
-has_no_groups (Binary f t u) = has_no_groups t && has_no_groups u
-has_no_groups (Select t u w) = has_no_groups t && has_no_groups u && has_no_groups w
-has_no_groups (Let v b) = has_no_groups v && has_no_groups b
-has_no_groups (Map k xs b) = not (is_over_groups k) && has_no_groups xs && has_no_groups b
-has_no_groups (Fold k xs s b) = has_no_groups xs && has_no_groups s && has_no_groups b

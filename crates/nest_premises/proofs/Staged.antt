@@ -19,16 +19,15 @@ use Rattle.lift_tree.specs.Annotations.{Annotation, Leaf, One, Two, Three, type_
 use Rattle.lift_ir.specs.Types.{PairOf, ArrayOf, IsShort, size}
 use Rattle.lift_ir.specs.AtLaunch.{natural, length_at, ty_at}
 use Rattle.lift_ir.specs.Lowering.{Written, Argument}
-use Rattle.lift_ir.specs.Lowerable.{IsElementTerm, IsStaged}
+use Rattle.lift_ir.specs.Lowerable.{IsElementTerm, HoldsNoScalar, IsStaged}
 use Rattle.lowered_tree.specs.declared.around.Around.{Around}
-use Rattle.lowered_tree.specs.declared.rule.NestRule.TheVariants.{N1, N5, N7, N8, N10, N11}
+use Rattle.lowered_tree.specs.declared.rule.NestRule.TheVariants.{N1, N6, N7, N8, N10, N11}
 use Rattle.lowered_tree.specs.Around.{under_form}
 use Rattle.lowered_tree.specs.Elements.{is_element, names_a_size, is_over_sizes, hangs_on_sizes}
-use Rattle.lowered_tree.specs.Forms.{shows_local_map}
-use Rattle.lowered_tree.specs.Kinds.{is_plain, is_over_groups}
+use Rattle.lowered_tree.specs.Kinds.{is_plain}
 use Rattle.nest_premises.specs.Legal.{CopiesArrays}
-use Rattle.nest_premises.proofs.Fits.{Fits, has_no_groups}
-use Rattle.nest_premises.proofs.Rules.{IsUnbrokenAt, AllUnbroken, or_left, or_right, not_left, not_right, spared, negated, denied, and_left, and_right, true_is_not_false, told_element, no_array, holds_none, left_part, right_part, clash_array, clash_element, moved, told_ir}
+use Rattle.nest_premises.proofs.Fits.{Fits}
+use Rattle.nest_premises.proofs.Rules.{IsUnbrokenAt, AllUnbroken, or_left, or_right, not_left, not_right, spared, negated, denied, true_is_not_false, told_element, no_array, holds_none, left_part, right_part, clash_array, clash_element, moved, told_ir}
 
 -- a program's inputs are arrays
 input_is_array : (inputs : List PlainTy) (i : ℕ) (a : PlainTy) → Every IsInput inputs → slice_get inputs i ≡ Some a → is_array a ≡ true
@@ -128,11 +127,6 @@ same_literal ys (types.PairOf a b) e =
 same_literal ys (types.ArrayOf a n) e =
     ap (λ z. ArrayOf (natural z) (ty_at ys a)) (value_of_none ys n (not_left (is_over_sizes n) (hangs_on_sizes a) e)) ∙ ap (ArrayOf (length_at [] n)) (same_literal ys a (not_right (is_over_sizes n) (hangs_on_sizes a) e))
 
-group_stays : (x y z : Bool) → x ≡ false → (not y && z) ≡ true → (x || y) ≡ false
-group_stays true y z e h = absurd (cc)
-group_stays false true z e h = absurd (cc)
-group_stays false false z e h = refl
-
 -- still in writing position
 pub passes : (x y : Bool) → x ≡ true → y ≡ false → (x && not y) ≡ true
 passes true true e h = absurd (cc)
@@ -151,83 +145,82 @@ pub no_fold : {A : Type 0} (s : Around) (j : FoldKind) (xs x b : Tree) (a : Plai
 no_fold s fold_kind.Plain xs x b a n m l h w = true_is_not_false true refl (h N1)
 no_fold s fold_kind.Sequential xs x b a n m l h w = true_is_not_false true refl (spared s.in_argument _ (not_left _ _ (h N7)) w)
 
+-- a copy of literal lengths
+copied : (ys : List ℕ) (t : Tree) (a : PlainTy) (n : Annotation) → is_array a ≡ true → IsShort (ty_at ys a) → size (ty_at ys a) < 2 ^ 31 → ty_at ys a ≡ ty_at [] a → IsStaged Written t n → HoldsNoScalar a × (size (ty_at [] a) < 2 ^ 31) × IsShort (ty_at [] a) × IsStaged Written t n
+copied ys t a n k f g e o = (holds_none a k, subst (λ z. size z < 2 ^ 31) e g, subst IsShort e f, o)
+
 module _ (d : Declared) (inputs : Every IsInput d.inputs) (ys : List ℕ) where
   mutual
-    -- N1, N7, N8: an argument
-    pub argued : (s : Around) (g : List PlainTy) (t : Tree) (n : Annotation) → Annotates d g t n → AllUnbroken s t n → CopiesArrays t n → Fits ys t n → s.in_group ≡ false → has_no_groups t ≡ true → s.in_argument ≡ true → is_element (type_in n) ≡ false → IsStaged Argument t n
-    argued s g (tree.Variable v) (Leaf a) y h k f q z w e = tt
-    argued s g (tree.Number v) (Leaf a) y h k f q z w e = clash_element a types.U32 y.1 refl e
-    argued s g (tree.Input i) (Leaf a) y h k f q z w e = holds_none a (input_is_array d.inputs i a inputs y)
-    argued s g (tree.Unary (unary.Div j) t) (One a n) y h k f q z w e = clash_element a types.U32 y.1.2 refl e
-    argued s g (tree.Unary (unary.Rem j) t) (One a n) y h k f q z w e = clash_element a types.U32 y.1.2 refl e
-    argued s g (tree.Unary unary.First t) (One a n) y h k f q z w e = argued _ g t n y.0 h.1 k.1 f.2 q z w (moved is_element false (type_in n) (types.PairOf a y.1.0) y.1.1 (left_part a y.1.0 e))
-    argued s g (tree.Unary unary.Second t) (One a n) y h k f q z w e = argued _ g t n y.0 h.1 k.1 f.2 q z w (moved is_element false (type_in n) (types.PairOf y.1.0 a) y.1.1 (right_part y.1.0 a e))
-    argued s g (tree.Unary unary.Join t) (One a n) y h k f q z w e = argued _ g t n y.0 h.1 k.1 f.2 q z w (moved is_element false (type_in n) (types.ArrayOf _ _) y.1.3 refl)
-    argued s g (tree.Unary unary.Transpose t) (One a n) y h k f q z w e = argued _ g t n y.0 h.1 k.1 f.2 q z w (moved is_element false (type_in n) (types.ArrayOf _ _) y.1.3 refl)
-    argued s g (tree.Unary (unary.Split fs) t) (One a n) y h k f q z w e = argued _ g t n y.0 h.1 k.1 f.2 q z w (moved is_element false (type_in n) (types.ArrayOf _ _) y.1.2 refl)
-    argued s g (tree.Unary (unary.Slide j l) t) (One a n) y h k f q z w e = argued _ g t n y.0 h.1 k.1 f.2 q z w (moved is_element false (type_in n) (types.ArrayOf _ _) y.1.2 refl)
-    argued s g (tree.Unary (unary.Pad j l) t) (One a n) y h k f q z w e = argued _ g t n y.0 h.1 k.1 f.2 q z w (moved is_element false (type_in n) (types.ArrayOf _ _) y.1.2 refl)
-    argued s g (tree.Unary unary.ToLocal t) (One a n) y h k f q z w e = true_is_not_false (not s.in_group) (denied s.in_group q) (not_left (not s.in_group) s.in_local (not_left (not s.in_group || s.in_local) (not (shows_local_map t)) (h.0 N5)))
-    argued s g (tree.Unary unary.ToPrivate t) (One a n) y h k f q z w e =
-        let literal = same_literal ys a (not_right (not s.in_item) (hangs_on_sizes a) (h.0 N8)) in
-        (holds_none a k.0, subst (λ z. size z < 2 ^ 31) literal f.1, subst IsShort literal f.0, written (is_element (type_in n)) _ g t n y.0 h.1 k.1 f.2 q z refl refl)
-    argued s g (tree.Binary (binary.Operator o) t u) (Two a n m) y h k f q z w e = clash_element a types.U32 y.2.2 refl e
-    argued s g (tree.Binary binary.Pair t u) (Two a n m) y h k f q z w e =
+    -- N1, N6, N7, N8: an argument
+    pub argued : (s : Around) (g : List PlainTy) (t : Tree) (n : Annotation) → Annotates d g t n → AllUnbroken s t n → CopiesArrays t n → Fits ys t n → s.in_argument ≡ true → is_element (type_in n) ≡ false → IsStaged Argument t n
+    argued s g (tree.Variable v) (Leaf a) y h k f w e = tt
+    argued s g (tree.Number v) (Leaf a) y h k f w e = clash_element a types.U32 y.1 refl e
+    argued s g (tree.Input i) (Leaf a) y h k f w e = holds_none a (input_is_array d.inputs i a inputs y)
+    argued s g (tree.Unary (unary.Div j) t) (One a n) y h k f w e = clash_element a types.U32 y.1.2 refl e
+    argued s g (tree.Unary (unary.Rem j) t) (One a n) y h k f w e = clash_element a types.U32 y.1.2 refl e
+    argued s g (tree.Unary unary.First t) (One a n) y h k f w e = argued _ g t n y.0 h.1 k.1 f.2 w (moved is_element false (type_in n) (types.PairOf a y.1.0) y.1.1 (left_part a y.1.0 e))
+    argued s g (tree.Unary unary.Second t) (One a n) y h k f w e = argued _ g t n y.0 h.1 k.1 f.2 w (moved is_element false (type_in n) (types.PairOf y.1.0 a) y.1.1 (right_part y.1.0 a e))
+    argued s g (tree.Unary unary.Join t) (One a n) y h k f w e = argued _ g t n y.0 h.1 k.1 f.2 w (moved is_element false (type_in n) (types.ArrayOf _ _) y.1.3 refl)
+    argued s g (tree.Unary unary.Transpose t) (One a n) y h k f w e = argued _ g t n y.0 h.1 k.1 f.2 w (moved is_element false (type_in n) (types.ArrayOf _ _) y.1.3 refl)
+    argued s g (tree.Unary (unary.Split fs) t) (One a n) y h k f w e = argued _ g t n y.0 h.1 k.1 f.2 w (moved is_element false (type_in n) (types.ArrayOf _ _) y.1.2 refl)
+    argued s g (tree.Unary (unary.Slide j l) t) (One a n) y h k f w e = argued _ g t n y.0 h.1 k.1 f.2 w (moved is_element false (type_in n) (types.ArrayOf _ _) y.1.2 refl)
+    argued s g (tree.Unary (unary.Pad j l) t) (One a n) y h k f w e = argued _ g t n y.0 h.1 k.1 f.2 w (moved is_element false (type_in n) (types.ArrayOf _ _) y.1.2 refl)
+    argued s g (tree.Unary unary.ToLocal t) (One a n) y h k f w e = copied ys t a n k.0 f.0 f.1 (same_literal ys a (h.0 N6)) (written (is_element (type_in n)) _ g t n y.0 h.1 k.1 f.2 refl refl)
+    argued s g (tree.Unary unary.ToPrivate t) (One a n) y h k f w e = copied ys t a n k.0 f.0 f.1 (same_literal ys a (not_right (not s.in_item) (hangs_on_sizes a) (h.0 N8))) (written (is_element (type_in n)) _ g t n y.0 h.1 k.1 f.2 refl refl)
+    argued s g (tree.Binary (binary.Operator o) t u) (Two a n m) y h k f w e = clash_element a types.U32 y.2.2 refl e
+    argued s g (tree.Binary binary.Pair t u) (Two a n m) y h k f w e =
         clash_element a (types.PairOf (type_in n) (type_in m)) y.2.2 (told_element (types.PairOf (type_in n) (type_in m)) (y.2.0, y.2.1)) e
-    argued s g (tree.Binary binary.Zip t u) (Two a n m) y h k f q z w e = (
-      argued _ g t n y.0 h.1 k.0 f.1 q (and_left (has_no_groups t) (has_no_groups u) z) w (moved is_element false (type_in n) (types.ArrayOf _ _) y.2.3 refl),
-      argued _ g u m y.1 h.2 k.1 f.2 q (and_right (has_no_groups t) (has_no_groups u) z) w (moved is_element false (type_in m) (types.ArrayOf _ _) y.2.4 refl),
+    argued s g (tree.Binary binary.Zip t u) (Two a n m) y h k f w e = (
+      argued _ g t n y.0 h.1 k.0 f.1 w (moved is_element false (type_in n) (types.ArrayOf _ _) y.2.3 refl),
+      argued _ g u m y.1 h.2 k.1 f.2 w (moved is_element false (type_in m) (types.ArrayOf _ _) y.2.4 refl),
     )
-    argued s g (tree.Binary (binary.Reduce r) t u) (Two a n m) y h k f q z w e = absurd (true_is_not_false true refl (h.0 N1))
-    argued s g (tree.Select t u x) (Three a n m l) y h k f q z w e = clash_element a types.U32 y.6 refl e
-    argued s g (tree.Let v b) (Two a n m) y h k f q z w e =
+    argued s g (tree.Binary (binary.Reduce r) t u) (Two a n m) y h k f w e = absurd (true_is_not_false true refl (h.0 N1))
+    argued s g (tree.Select t u x) (Three a n m l) y h k f w e = clash_element a types.U32 y.6 refl e
+    argued s g (tree.Let v b) (Two a n m) y h k f w e =
         let i = let_of_view d inputs s v b a n m h.0 w in (
           told_ir false (type_in n) i,
-          argued _ g v n y.0 h.1 k.0 f.1 q (and_left (has_no_groups v) (has_no_groups b) z) (or_left s.in_argument (not (is_element (type_in n))) w) i,
-          argued _ (type_in n ∷ g) b m y.1 h.2 k.1 f.2 q (and_right (has_no_groups v) (has_no_groups b) z) w (moved is_element false (type_in m) a (sym y.2) e),
+          argued _ g v n y.0 h.1 k.0 f.1 (or_left s.in_argument (not (is_element (type_in n))) w) i,
+          argued _ (type_in n ∷ g) b m y.1 h.2 k.1 f.2 w (moved is_element false (type_in m) a (sym y.2) e),
         )
-    argued s g (tree.Map j xs b) (Two a n m) y h k f q z w e = absurd (no_map s j xs b a n m h.0 w)
-    argued s g (tree.Fold j xs x b) (Three a n m l) y h k f q z w e = absurd (no_fold s j xs x b a n m l h.0 w)
-    argued s g _ _ y h k f q z w e = absurd y
+    argued s g (tree.Map j xs b) (Two a n m) y h k f w e = absurd (no_map s j xs b a n m h.0 w)
+    argued s g (tree.Fold j xs x b) (Three a n m l) y h k f w e = absurd (no_fold s j xs x b a n m l h.0 w)
+    argued s g _ _ y h k f w e = absurd y
 
     -- N1, N10, N11: a term in writing position; an element (true), or not
-    pub written : (x : Bool) (s : Around) (g : List PlainTy) (t : Tree) (n : Annotation) → Annotates d g t n → AllUnbroken s t n → CopiesArrays t n → Fits ys t n → s.in_group ≡ false → has_no_groups t ≡ true → s.is_written ≡ true → is_element (type_in n) ≡ x → IsStaged Written t n
-    written true s g t n y h k f q z w e = counted_stands t n (counted d inputs s g t n y h k (or_right s.in_element (is_element (type_in n)) e) (no_array (type_in n) e)) e
-    written false s g (tree.Variable v) (Leaf a) y h k f q z w e = tt
-    written false s g (tree.Number v) (Leaf a) y h k f q z w e = tt
-    written false s g (tree.Input i) (Leaf a) y h k f q z w e = refused s.is_written (is_element a) (h N11) w e
-    written false s g (tree.Unary (unary.Div j) t) (One a n) y h k f q z w e = clash_element a types.U32 y.1.2 refl e
-    written false s g (tree.Unary (unary.Rem j) t) (One a n) y h k f q z w e = clash_element a types.U32 y.1.2 refl e
-    written false s g (tree.Unary unary.First t) (One a n) y h k f q z w e = refused s.is_written (is_element a) (h.0 N10) w e
-    written false s g (tree.Unary unary.Second t) (One a n) y h k f q z w e = refused s.is_written (is_element a) (h.0 N10) w e
-    written false s g (tree.Unary unary.Join t) (One a n) y h k f q z w e = written (is_element (type_in n)) _ g t n y.0 h.1 k.1 f.2 q z (passes s.is_written (is_element a) w e) refl
-    written false s g (tree.Unary unary.Transpose t) (One a n) y h k f q z w e = written (is_element (type_in n)) _ g t n y.0 h.1 k.1 f.2 q z (passes s.is_written (is_element a) w e) refl
-    written false s g (tree.Unary (unary.Split fs) t) (One a n) y h k f q z w e = written (is_element (type_in n)) _ g t n y.0 h.1 k.1 f.2 q z (passes s.is_written (is_element a) w e) refl
-    written false s g (tree.Unary (unary.Slide j l) t) (One a n) y h k f q z w e = refused s.is_written (is_element a) (h.0 N10) w e
-    written false s g (tree.Unary (unary.Pad j l) t) (One a n) y h k f q z w e = refused s.is_written (is_element a) (h.0 N10) w e
-    written false s g (tree.Unary unary.ToLocal t) (One a n) y h k f q z w e = refused s.is_written (is_element a) (h.0 N11) w e
-    written false s g (tree.Unary unary.ToPrivate t) (One a n) y h k f q z w e = refused s.is_written (is_element a) (h.0 N11) w e
-    written false s g (tree.Binary (binary.Operator o) t u) (Two a n m) y h k f q z w e = clash_element a types.U32 y.2.2 refl e
-    written false s g (tree.Binary binary.Pair t u) (Two a n m) y h k f q z w e =
+    pub written : (x : Bool) (s : Around) (g : List PlainTy) (t : Tree) (n : Annotation) → Annotates d g t n → AllUnbroken s t n → CopiesArrays t n → Fits ys t n → s.is_written ≡ true → is_element (type_in n) ≡ x → IsStaged Written t n
+    written true s g t n y h k f w e = counted_stands t n (counted d inputs s g t n y h k (or_right s.in_element (is_element (type_in n)) e) (no_array (type_in n) e)) e
+    written false s g (tree.Variable v) (Leaf a) y h k f w e = tt
+    written false s g (tree.Number v) (Leaf a) y h k f w e = tt
+    written false s g (tree.Input i) (Leaf a) y h k f w e = refused s.is_written (is_element a) (h N11) w e
+    written false s g (tree.Unary (unary.Div j) t) (One a n) y h k f w e = clash_element a types.U32 y.1.2 refl e
+    written false s g (tree.Unary (unary.Rem j) t) (One a n) y h k f w e = clash_element a types.U32 y.1.2 refl e
+    written false s g (tree.Unary unary.First t) (One a n) y h k f w e = refused s.is_written (is_element a) (h.0 N10) w e
+    written false s g (tree.Unary unary.Second t) (One a n) y h k f w e = refused s.is_written (is_element a) (h.0 N10) w e
+    written false s g (tree.Unary unary.Join t) (One a n) y h k f w e = written (is_element (type_in n)) _ g t n y.0 h.1 k.1 f.2 (passes s.is_written (is_element a) w e) refl
+    written false s g (tree.Unary unary.Transpose t) (One a n) y h k f w e = written (is_element (type_in n)) _ g t n y.0 h.1 k.1 f.2 (passes s.is_written (is_element a) w e) refl
+    written false s g (tree.Unary (unary.Split fs) t) (One a n) y h k f w e = written (is_element (type_in n)) _ g t n y.0 h.1 k.1 f.2 (passes s.is_written (is_element a) w e) refl
+    written false s g (tree.Unary (unary.Slide j l) t) (One a n) y h k f w e = refused s.is_written (is_element a) (h.0 N10) w e
+    written false s g (tree.Unary (unary.Pad j l) t) (One a n) y h k f w e = refused s.is_written (is_element a) (h.0 N10) w e
+    written false s g (tree.Unary unary.ToLocal t) (One a n) y h k f w e = refused s.is_written (is_element a) (h.0 N11) w e
+    written false s g (tree.Unary unary.ToPrivate t) (One a n) y h k f w e = refused s.is_written (is_element a) (h.0 N11) w e
+    written false s g (tree.Binary (binary.Operator o) t u) (Two a n m) y h k f w e = clash_element a types.U32 y.2.2 refl e
+    written false s g (tree.Binary binary.Pair t u) (Two a n m) y h k f w e =
         clash_element a (types.PairOf (type_in n) (type_in m)) y.2.2 (told_element (types.PairOf (type_in n) (type_in m)) (y.2.0, y.2.1)) e
-    written false s g (tree.Binary binary.Zip t u) (Two a n m) y h k f q z w e = refused s.is_written (is_element a) (h.0 N10) w e
-    written false s g (tree.Binary (binary.Reduce r) t u) (Two a n m) y h k f q z w e = absurd (true_is_not_false true refl (h.0 N1))
-    written false s g (tree.Select t u x) (Three a n m l) y h k f q z w e = clash_element a types.U32 y.6 refl e
-    written false s g (tree.Let v b) (Two a n m) y h k f q z w e =
+    written false s g (tree.Binary binary.Zip t u) (Two a n m) y h k f w e = refused s.is_written (is_element a) (h.0 N10) w e
+    written false s g (tree.Binary (binary.Reduce r) t u) (Two a n m) y h k f w e = absurd (true_is_not_false true refl (h.0 N1))
+    written false s g (tree.Select t u x) (Three a n m l) y h k f w e = clash_element a types.U32 y.6 refl e
+    written false s g (tree.Let v b) (Two a n m) y h k f w e =
         let_stands v b a n m (is_element (type_in n)) refl e
         (λ i. counted d inputs _ g v n y.0 h.1 k.0 (or_right (s.in_element || is_element a) (is_element (type_in n)) i) (no_array (type_in n) i))
-        (λ i. argued _ g v n y.0 h.1 k.0 f.1 q (and_left (has_no_groups v) (has_no_groups b) z) (or_right s.in_argument (not (is_element (type_in n))) (denied (is_element (type_in n)) i)) i)
-        (written (is_element (type_in m)) _ (type_in n ∷ g) b m y.1 h.2 k.1 f.2 q (and_right (has_no_groups v) (has_no_groups b) z) (passes s.is_written (is_element a) w e) refl)
-    written false s g (tree.Map j xs b) (Two a n m) y h k f q z w e =
-        let low = and_left (not (is_over_groups j) && has_no_groups xs) (has_no_groups b) z in (
-          argued _ g xs n y.2 h.1 k.0 f.1 q (and_right (not (is_over_groups j)) (has_no_groups xs) low) (or_right s.in_argument true refl) (moved is_element false (type_in n) (types.ArrayOf _ _) y.3 refl),
-          written (is_element (type_in m)) _ (y.0 ∷ g) b m y.4 h.2 k.1 f.2 (group_stays s.in_group (is_over_groups j) (has_no_groups xs) q low) (and_right (not (is_over_groups j) && has_no_groups xs) (has_no_groups b) z) refl refl,
-        )
-    written false s g (tree.Fold j xs x b) (Three a n m l) y h k f q z w e =
+        (λ i. argued _ g v n y.0 h.1 k.0 f.1 (or_right s.in_argument (not (is_element (type_in n))) (denied (is_element (type_in n)) i)) i)
+        (written (is_element (type_in m)) _ (type_in n ∷ g) b m y.1 h.2 k.1 f.2 (passes s.is_written (is_element a) w e) refl)
+    written false s g (tree.Map j xs b) (Two a n m) y h k f w e =
+        (argued _ g xs n y.2 h.1 k.0 f.1 (or_right s.in_argument true refl) (moved is_element false (type_in n) (types.ArrayOf _ _) y.3 refl), written (is_element (type_in m)) _ (y.0 ∷ g) b m y.4 h.2 k.1 f.2 refl refl)
+    written false s g (tree.Fold j xs x b) (Three a n m l) y h k f w e =
         let i = told_element (type_in m) y.5 in
         let o = moved is_element true (type_in l) (type_in m) y.7 i in (
-          argued _ g xs n y.2 h.1 k.0 f.1 q (and_left (has_no_groups xs) (has_no_groups x) (and_left (has_no_groups xs && has_no_groups x) (has_no_groups b) z)) (or_right s.in_argument true refl) (moved is_element false (type_in n) (types.ArrayOf _ _) y.3 refl),
+          argued _ g xs n y.2 h.1 k.0 f.1 (or_right s.in_argument true refl) (moved is_element false (type_in n) (types.ArrayOf _ _) y.3 refl),
           counted d inputs _ g x m y.4 h.2 k.1 (or_right (s.in_element || is_element a) (is_element (type_in m)) i) (no_array (type_in m) i),
           counted d inputs _ (y.0 ∷ type_in m ∷ g) b l y.6 h.3 k.2 (or_right (s.in_element || is_element a) (is_element (type_in l)) o) (no_array (type_in l) o),
         )
-    written false s g _ _ y h k f q z w e = absurd y
+    written false s g _ _ y h k f w e = absurd y

@@ -1,5 +1,5 @@
 -- What a term without a broken rule is lowered to, for one work-item, has the forms of their places.
-use Rattle.std.proofs.Common.{◌≡◌, Bool, true, false, List, ◌∷◌, refl, inl, inr}
+use Rattle.std.proofs.Common.{◌≡◌, Bool, true, false, List, ◌∷◌, refl, sym, subst, inl, inr}
 use Rattle.std.specs.Prelude.{not, ◌&&◌, ◌||◌, if◌then◌else◌}
 use Rattle.lift_tree.specs.declared.term.UnaryForm.TheVariants as unary
 use Rattle.lift_tree.specs.declared.term.BinaryForm.TheVariants as binary
@@ -22,6 +22,7 @@ use Rattle.lowered_tree.specs.Forms.{shows_local_map}
 use Rattle.lowered_tree.specs.Kinds.{is_task}
 use Rattle.nest_premises.proofs.Rules.{AllUnbroken, moved, and_left, and_right, negated, not_right, from_ir, true_is_not_false}
 use Rattle.nest_premises.proofs.Staged.{passes, refused}
+use Rattle.nest_premises.proofs.Lets.{argument_let}
 
 body_staged : (v b : Tree) (a : PlainTy) (n m : Annotation) → IsStaged Written (tree.Let v b) (Two a n m) → ir.is_element a ≡ false → IsStaged Written b m
 body_staged v b a n m (inl o) e = true_is_not_false (ir.is_element a) o.0 e
@@ -69,15 +70,6 @@ module _ (d : Declared) where
       go false true f k = f refl
       go false false f k = (k refl refl, f refl)
 
-  let_argued : (v b : Tree) (a : PlainTy) (n m : Annotation) → ir.is_element (type_in n) ≡ false → Stands false (lower Argument b m) → Stands false (lower Argument v n) → Stands false (lower Argument (tree.Let v b) (Two a n m))
-  let_argued v b a n m e f k = go (ir.is_element a) (ir.is_element (type_in n)) e
-    where
-      go : (x y : Bool) → y ≡ false
-          → Stands false (let whole = if y then low.LetElement (element_ty (type_in n)) (lower (if y then Element else Argument) v n) (lower Argument b m) else low.LetArray (lower (if y then Element else Argument) v n) (lower Argument b m) in if x then whole else whole)
-      go x true e = absurd (cc)
-      go true false e = (k, f)
-      go false false e = (k, f)
-
   mutual
     pub argument_stands : (s : Around) (g : List PlainTy) (t : Tree) (n : Annotation) → Annotates d g t n → AllUnbroken s t n → IsStaged Argument t n → is_task t ≡ true → Stands false (lower Argument t n)
     argument_stands s g (tree.Variable v) (Leaf a) y h o z = tt
@@ -94,7 +86,7 @@ module _ (d : Declared) where
     argument_stands s g (tree.Binary binary.Zip t u) (Two a n m) y h o z =
         (argument_stands _ g t n y.0 h.1 o.0 (and_left (is_task t) (is_task u) z), argument_stands _ g u m y.1 h.2 o.1 (and_right (is_task t) (is_task u) z))
     argument_stands s g (tree.Let v b) (Two a n m) y h o z =
-        let_argued v b a n m o.0 (argument_stands _ (type_in n ∷ g) b m y.1 h.2 o.2 (and_right (is_task v) (is_task b) z)) (argument_stands _ g v n y.0 h.1 o.1 (and_left (is_task v) (is_task b) z))
+        subst (Stands false) (sym (argument_let v b a n m o.0)) (argument_stands _ g v n y.0 h.1 o.1 (and_left (is_task v) (is_task b) z), argument_stands _ (type_in n ∷ g) b m y.1 h.2 o.2 (and_right (is_task v) (is_task b) z))
     argument_stands s g _ _ y h o z = absurd o
 
     pub written_stands : (s : Around) (g : List PlainTy) (t : Tree) (n : Annotation) → Annotates d g t n → AllUnbroken s t n → IsStaged Written t n → is_task t ≡ true → s.is_written ≡ true → Stands true (lower Written t n)

@@ -1,12 +1,11 @@
--- Legal terms can be printed.
+-- Legal terms can be lowered and printed.
 use Rattle.std.proofs.Common.{◌≡◌, ℕ, ◌/◌, ◌<◌, ◌^◌, Bool, true, false, List, [], ◌∷◌, ◌++◌, Option, Some, None, refl, sym, subst, inl, inr, arith, map}
-use Rattle.std.specs.Prelude.{◌&&◌, if◌then◌else◌}
+use Rattle.std.specs.Prelude.{◌≢◌, ◌↔◌, if◌then◌else◌}
 use Rattle.std.proofs.Math.Nat.{mul-div-le, mod-eq-sub-mul-div}
 use Rattle.size_arith.specs.declared.names.Name.{Name}
 use Rattle.size_arith.specs.Ranges.{AreNames, IsName, IsAdmissible, Admissible, leasts}
 use Rattle.lift_tree.specs.declared.term.UnaryForm.{UnaryForm}
 use Rattle.lift_tree.specs.declared.term.UnaryForm.TheVariants as unary
-use Rattle.lift_tree.specs.declared.term.MapKind.TheVariants as map_kind
 use Rattle.lift_tree.specs.Tree as tree
 use Rattle.lift_tree.specs.Tree.{Tree}
 use Rattle.lift_tree.specs.Types as types
@@ -30,18 +29,23 @@ use Rattle.printed_form.specs.Programs.{IsLaunchOf, lowered_root, StandsAt}
 use Rattle.lowered_tree.specs.declared.around.Around.{Around}
 use Rattle.lowered_tree.specs.Around.{at_root}
 use Rattle.lowered_tree.specs.Elements.{is_element}
-use Rattle.lowered_tree.specs.Kinds.{is_parallel, is_task}
+use Rattle.lowered_tree.specs.Kinds.{is_global, is_over_groups, is_parallel, is_task}
 use Rattle.lowered_tree.specs.Nest.{Site, sites, under, in_child}
 use Rattle.lowered_tree.specs.Printed.{is_unprinted_at, first_place}
 use Rattle.nest_premises.specs.Legal.{FormCopiesArrays, CopiesArrays, shows_global_map, IsLegalTerm}
-use Rattle.nest_premises.specs.Printable.{IsPrintable}
-use Rattle.nest_premises.specs.Laws.{TasksArePrintable, LaunchesArePrintable, AcceptedTermsArePrintable}
-use Rattle.nest_premises.proofs.Fits.{Fits, has_no_groups}
+use Rattle.nest_premises.specs.Kind.{nest_kind}
+use Rattle.nest_premises.specs.declared.kind.NestKind.TheVariants.{Task, OverGroups}
+use Rattle.nest_premises.specs.Printable.{CanBeLowered, IsPrintable}
+use Rattle.nest_premises.specs.Laws.{LegalTermsCanBeLowered, KindsTellTasks, UngroupedTermsArePrintable, TasksArePrintable, LaunchesArePrintable, AcceptedTermsArePrintable}
+use Rattle.nest_premises.proofs.Fits.{Fits}
 use Rattle.nest_premises.proofs.Rules.{AllUnbroken, all_unbroken, front, behind, above, not_left, negated, denied}
 use Rattle.nest_premises.proofs.Staged.{written}
 use Rattle.nest_premises.proofs.Lowerable.{written_lowerable}
 use Rattle.nest_premises.proofs.Stands.{written_stands}
-use Rattle.nest_premises.proofs.Launches.{Over, two, three, without_groups, over_of, groupless, over_launch}
+use Rattle.nest_premises.proofs.Alone.{two, three}
+use Rattle.nest_premises.proofs.Top.{Over, over_of, over_shows, over_no_task, global_parallel, IsOfAKind, of_a_kind}
+use Rattle.nest_premises.proofs.OfKinds.{task_kind, kind_of_task, groups_kind}
+use Rattle.nest_premises.proofs.Launches.{over_launch}
 use Rattle.nest_premises.proofs.Limited.{IsFew, few_all, short, small, fits_in}
 
 -- ---- each node is printed
@@ -146,23 +150,10 @@ all_few names (i ∷ is) h = (few_scalars names i.ty h.0, all_few names is h.1)
 
 -- ---- a legal term
 
-no_element : (a : PlainTy) → IsOutput a → is_element a ≡ false
+pub no_element : (a : PlainTy) → IsOutput a → is_element a ≡ false
 no_element types.U32 h = absurd h
 no_element (types.PairOf a b) h = absurd h
 no_element (types.ArrayOf a n) h = refl
-
-behind_false : (x y : Bool) → y ≡ false → (x && y) ≡ false
-behind_false true y h = h
-behind_false false y h = refl
-
--- a map over all items is parallel
-over_no_task : (t : Tree) (n : Annotation) → Over t n → is_task t ≡ false
-over_no_task (tree.Unary unary.Join t) (One a n) e = over_no_task t n e
-over_no_task (tree.Unary unary.Transpose t) (One a n) e = over_no_task t n e
-over_no_task (tree.Unary (unary.Split fs) t) (One a n) e = over_no_task t n e
-over_no_task (tree.Let v b) (Two a n m) e = behind_false (is_task v) (is_task b) (over_no_task b m e)
-over_no_task (tree.Map map_kind.Global xs b) (Two a n m) e = refl
-over_no_task _ _ e = absurd e
 
 module _ (p : PlainProgram) (t : Tree) (n : Annotation) (r : IsLegalTerm p t n) (copies : CopiesArrays t n) where
   abbrev d : Declared
@@ -178,9 +169,8 @@ module _ (p : PlainProgram) (t : Tree) (n : Annotation) (r : IsLegalTerm p t n) 
   limited bases ok = fits_in d r.declared scalars bases ok [] t n tt tt r.nodes r.within.nodes r.steps
 
   -- at the least sizes, and so at all
-  staged : has_no_groups t ≡ true → IsStaged ir.Written t n
-  staged z =
-      written d r.declared.arrays (leasts d.names) (is_element (type_in n)) (at_root t) [] t n r.nodes unbroken copies (limited (leasts d.names) (leasts_admissible d.names r.declared.names)).0 refl z refl refl
+  staged : IsStaged ir.Written t n
+  staged = written d r.declared.arrays (leasts d.names) (is_element (type_in n)) (at_root t) [] t n r.nodes unbroken copies (limited (leasts d.names) (leasts_admissible d.names r.declared.names)).0 refl refl
 
   placed : (bases : List ℕ) (ok : Admissible d.names bases) (a : PlainTy) → IsOutput a → IsFew d r.declared scalars bases ok a → IsPlaced (length_at bases) (shape_of a)
   placed bases ok a o h =
@@ -195,27 +185,55 @@ module _ (p : PlainProgram) (t : Tree) (n : Annotation) (r : IsLegalTerm p t n) 
   all_placed bases ok [] o h = tt
   all_placed bases ok (a ∷ tys) o h = (placed bases ok a o.0 h.0, all_placed bases ok tys o.1 h.1)
 
-  -- what is staged can be printed, where its lowered term has the forms of their places
-  printable : IsStaged ir.Written t n → ((bases : List ℕ) (l : Launch) → IsLaunchOf d (is_task t) bases l → StandsAt l (lowered_root t n)) → IsPrintable d t n
-  printable o stands =
-      record {
-        staged = o;
-        lowerable = λ bases ok. record { declared = r.declared; nodes = r.nodes; output = r.output; lowerable = written_lowerable d bases (at_root t) [] t n r.nodes unbroken (limited bases ok).0 o refl };
-        fits = λ bases ok. (placed bases ok (type_in n) r.output (limited bases ok).1, all_placed bases ok d.inputs r.declared.arrays (few_all d r.declared scalars bases ok d.inputs r.declared.inputs scalars));
-        stands = stands;
-      }
+  lowered : CanBeLowered d t n
+  lowered = record {
+    staged = staged;
+    lowerable = λ bases ok. record { declared = r.declared; nodes = r.nodes; output = r.output; lowerable = written_lowerable d bases (at_root t) [] t n r.nodes unbroken (limited bases ok).0 staged refl };
+    fits = λ bases ok. (placed bases ok (type_in n) r.output (limited bases ok).1, all_placed bases ok d.inputs r.declared.arrays (few_all d r.declared scalars bases ok d.inputs r.declared.inputs scalars));
+  }
+
+  -- what is lowered can be printed, where it has the forms of their places
+  printable : ((bases : List ℕ) (l : Launch) → IsLaunchOf d (is_task t) bases l → StandsAt l (lowered_root t n)) → IsPrintable d t n
+  printable stands = record { staged = lowered.staged; lowerable = lowered.lowerable; fits = lowered.fits; stands = stands }
 
   task : is_task t ≡ true → IsPrintable d t n
-  task z =
-      let o = staged (without_groups t z) in
-      printable o (λ bases l k. inl (k.admissible.alone z, written_stands d (at_root t) [] t n r.nodes unbroken o z refl))
+  task z = printable (λ bases l k. inl (k.admissible.alone z, written_stands d (at_root t) [] t n r.nodes unbroken staged z refl))
+
+  over : Over is_global t n → IsPrintable d t n
+  over e =
+      printable
+      (λ bases l k. inr (over_launch d (at_root t) [] t n r.nodes unbroken staged (over_no_task is_global global_parallel t n e) refl (no_element (type_in n) r.output) e))
 
   launch : shows_global_map t ≡ true → IsPrintable d t n
-  launch e =
-      let over = over_of d [] t n r.nodes e in
-      let z = over_no_task t n over in
-      let o = staged (groupless d (at_root t) [] t n r.nodes unbroken z refl over) in
-      printable o (λ bases l k. inr (over_launch d (at_root t) [] t n r.nodes unbroken o z refl (no_element (type_in n) r.output) over))
+  launch e = over (over_of is_global d [] t n r.nodes e)
+
+  -- at the root
+  of_kind : IsOfAKind t n
+  of_kind = go (is_task t) refl
+    where
+      go : (x : Bool) → is_task t ≡ x → IsOfAKind t n
+      go true e = inl e
+      go false e = of_a_kind d (at_root t) [] t n r.nodes unbroken staged refl e refl refl
+
+  kind : (nest_kind t ≡ Task) ↔ (is_task t ≡ true)
+  kind = (task_kind t n of_kind, kind_of_task d t n r.nodes)
+
+  ungrouped : nest_kind t ≢ OverGroups → IsPrintable d t n
+  ungrouped e = go of_kind
+    where
+      go : IsOfAKind t n → IsPrintable d t n
+      go (inl z) = task z
+      go (inr (inl o)) = over o
+      go (inr (inr o)) = absurd (e (groups_kind t (over_shows is_over_groups t n o)))
+
+pub legal_terms_can_be_lowered : LegalTermsCanBeLowered
+legal_terms_can_be_lowered p t n r copies = lowered p t n r copies
+
+pub kinds_tell_tasks : KindsTellTasks
+kinds_tell_tasks p t n r copies = kind p t n r copies
+
+pub ungrouped_terms_are_printable : UngroupedTermsArePrintable
+ungrouped_terms_are_printable p t n r copies e = ungrouped p t n r copies e
 
 pub tasks_are_printable : TasksArePrintable
 tasks_are_printable p t n r copies z = task p t n r copies z

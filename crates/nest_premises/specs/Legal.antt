@@ -2,6 +2,7 @@
 use Rattle.std.specs.Prelude.{◌≡◌, ◌<◌, ◌^◌, Bool, true, false, []}
 use Rattle.lift_tree.specs.declared.term.UnaryForm.{UnaryForm}
 use Rattle.lift_tree.specs.declared.term.UnaryForm.TheVariants.{Div, Rem, First, Second, Join, Transpose, Split, Slide, Pad, ToLocal, ToPrivate}
+use Rattle.lift_tree.specs.declared.term.MapKind.{MapKind}
 use Rattle.lift_tree.specs.Tree.{Tree, Variable, Number, Input, Unary, Binary, Select, Let, Map, Fold}
 use Rattle.lift_tree.specs.Types.{PlainTy, is_array, IsOutput}
 use Rattle.lift_tree.specs.Programs.{PlainProgram}
@@ -66,14 +67,18 @@ CopiesArrays t n = Unit {0}
 
 -- ---- the whole
 
--- seen through join, split, transpose and the bodies of lets, a map over all work-items
+-- seen through join, split, transpose and the bodies of lets, a map of such a kind
+abbrev pub shows_map : (MapKind → Bool) → Tree → Bool
+shows_map p (Unary Join t) = shows_map p t
+shows_map p (Unary Transpose t) = shows_map p t
+shows_map p (Unary (Split fs) t) = shows_map p t
+shows_map p (Let v b) = shows_map p b
+shows_map p (Map k xs b) = p k
+shows_map p _ = false
+
+-- over all work-items
 abbrev pub shows_global_map : Tree → Bool
-shows_global_map (Unary Join t) = shows_global_map t
-shows_global_map (Unary Transpose t) = shows_global_map t
-shows_global_map (Unary (Split fs) t) = shows_global_map t
-shows_global_map (Let v b) = shows_global_map b
-shows_global_map (Map k xs b) = is_global k
-shows_global_map _ = false
+shows_global_map = shows_map is_global
 
 -- a typed term of a program, within the limits on types, with a legal nest
 pub record IsLegalTerm (p : PlainProgram) (t : Tree) (n : Annotation) : Type 0 where

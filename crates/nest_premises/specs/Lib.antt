@@ -1,3 +1,4 @@
 pub mod Legal
+pub mod Kind
 pub mod Printable
 pub mod Laws

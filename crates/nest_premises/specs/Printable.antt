@@ -10,6 +10,12 @@ use Rattle.lift_ir.specs.Lowerable.{IsStaged}
 use Rattle.lowered_tree.specs.Kinds.{is_task}
 use Rattle.printed_form.specs.Programs.{FitsBuffers, IsLaunchOf, IsLowerableProgram, lowered_root, StandsAt}
 
+-- it can be lowered at all admissible sizes, and all of it fits its buffers
+pub record CanBeLowered (d : Declared) (t : Tree) (n : Annotation) : Type 0 where
+  pub staged : IsStaged Written t n
+  pub lowerable : (bases : List ℕ) → Admissible d.names bases → IsLowerableProgram d bases t n
+  pub fits : (bases : List ℕ) → Admissible d.names bases → FitsBuffers d bases n
+
 -- it can be lowered, and what it is lowered to can be printed, at every admissible launch
 pub record IsPrintable (d : Declared) (t : Tree) (n : Annotation) : Type 0 where
   pub staged : IsStaged Written t n

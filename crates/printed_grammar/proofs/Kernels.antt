@@ -61,7 +61,7 @@ module _ {A : Type 0} (P : A → Type 0) (Q : ℕ → Type 0) where
   declared_lengths s (Copy m ty x) h = lengths_append (copy_lengths s x) (copied s m ty) (declared_lengths s x h.2) (copied_lengths s m ty h.3 h.4)
 
 -- as many private arrays are declared as are counted
-private_lengths : {A : Type 0} (t : Term A) → length (copy_lengths PrivateMemory t) ≡ private_count t
+pub private_lengths : {A : Type 0} (t : Term A) → length (copy_lengths PrivateMemory t) ≡ private_count t
 private_lengths (Literal c) = refl
 private_lengths (Bound v) = refl
 private_lengths (Source v) = refl
@@ -80,7 +80,7 @@ private_lengths (Copy LocalMemory ty x) = let a = length-append (copy_lengths Pr
 private_lengths (Copy PrivateMemory ty x) = let a = length-append (copy_lengths PrivateMemory x) (replicate (width ty) (size ty)) in let b = private_lengths x in let c = length-replicate (width ty) (size ty) in omega arith
 
 -- an input's buffers are among those declared
-source_within : (tys : List PlainTy) (s : ℕ) → s < length tys → first_buffer tys s + width (input_shape tys s) ≤ buffer_count tys
+pub source_within : (tys : List PlainTy) (s : ℕ) → s < length tys → first_buffer tys s + width (input_shape tys s) ≤ buffer_count tys
 source_within [] s lt = absurd (omega arith)
 source_within (a ∷ tys) zero lt = omega arith
 source_within (a ∷ tys) (suc s) lt = let x = source_within tys s (omega arith) in omega arith

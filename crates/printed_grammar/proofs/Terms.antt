@@ -32,7 +32,7 @@ module _ (k : Kernel) (S : ℕ) (one : 1 ≤ S) (small : S ≤ 1024) {A : Type 0
   number_spelled : (n : ℕ) → n < 2 ^ 32 → IsSpelledIn k S (Number n)
   number_spelled n lt = record { constant = refl; declared = λ l. lt-ltb n (2 ^ 32) lt; low = one }
 
-  all_spelled : (t : Ty) → AllLengths (λ n. n < 2 ^ 32) t → AllLengths (Spelled k S one Number) t
+  pub all_spelled : (t : Ty) → AllLengths (λ n. n < 2 ^ 32) t → AllLengths (Spelled k S one Number) t
   all_spelled Scalar h = tt
   all_spelled (PairOf a b) h = (all_spelled a h.0, all_spelled b h.1)
   all_spelled (ArrayOf n t) h = (number_spelled n h.0, all_spelled t h.1)
@@ -51,7 +51,7 @@ module _ (k : Kernel) (S : ℕ) (one : 1 ≤ S) (small : S ≤ 1024) {A : Type 0
   higher l H I v le g = view_more k S one k.variables k.variables l l H I v (omega arith) (omega arith) le g
 
   -- what stands for an argument
-  viewed_good : (l : ℕ) (g : ℕ → ℕ) (env : ℕ → View) (a : ℕ) (t : Term A) → Views l g env → a + private_count t ≤ length k.privates → IsSound Sp Q t → IsGoodView k S one k.variables l (8 + 3 * stacked g t) (viewed env a t)
+  pub viewed_good : (l : ℕ) (g : ℕ → ℕ) (env : ℕ → View) (a : ℕ) (t : Term A) → Views l g env → a + private_count t ≤ length k.privates → IsSound Sp Q t → IsGoodView k S one k.variables l (8 + 3 * stacked g t) (viewed env a t)
   viewed_good l g env a (Literal c) all le s = blank_good k S one k.variables l (8 + 3 * 0)
   viewed_good l g env a (Bound v) all le s = all v
   viewed_good l g env a (Source v) all le s = view_more k S one k.variables k.variables 0 l 8 (8 + 3 * 0) (ins v) (omega arith) (omega arith) (omega arith) (inputs v s)

@@ -5,7 +5,7 @@ use Rattle.kernel_tree.specs.Code.{Kernel}
 use Rattle.kernel_tree.specs.Grammar.{height, is_constant, is_operator, names_declared}
 use Rattle.lift_ir.specs.Types.{Shape, Scalar, PairOf, ArrayOf, IsElement, size}
 use Rattle.lift_ir.specs.Layouts.{IsInvertible, Layout, Split, Join, Transpose, Slide, Pad}
-use Rattle.lift_ir.specs.Terms.{Term, Literal, Bound, Source, Apply, ApplyNumber, Select, Both, Project, Reshape, LetArray, LetElement, Map, Fold, Store, Copy, PrivateMemory, push}
+use Rattle.lift_ir.specs.Terms.{Term, Literal, Bound, Source, Apply, ApplyNumber, Select, Both, Project, Reshape, LetArray, LetElement, Map, Fold, Store, Copy, push}
 
 -- an expression names what is declared within so many loops, and is at most so high
 abbrev pub IsGood : Kernel → (loops high : ℕ) → Formula → Type 0
@@ -80,7 +80,7 @@ abbrev mutual
   IsReadWithin most g (Project s a) = IsReadWithin most g a
   IsReadWithin most g (Reshape l a) = (stacked g (Reshape l a) ≤ most) × IsReadWithin most g a
   IsReadWithin most g (LetArray v b) = IsReadWithin most g v × IsReadWithin most (push (stacked g v) g) b
-  IsReadWithin most g (Copy PrivateMemory ty a) = IsWrittenWithin most g 0 a
+  IsReadWithin most g (Copy space ty a) = IsWrittenWithin most g 0 a
   IsReadWithin most g _ = Unit {0}
 
   -- nor in a term in writing position, which so many layouts stand above
@@ -133,5 +133,5 @@ abbrev mutual
   CanBeRead (Project s a) = CanBeRead a
   CanBeRead (Reshape l a) = CanBeRead a
   CanBeRead (LetArray v b) = CanBeRead v × CanBeRead b
-  CanBeRead (Copy PrivateMemory ty a) = CanBeWritten a
+  CanBeRead (Copy space ty a) = CanBeWritten a
   CanBeRead _ = Unit {0}

@@ -1,0 +1,4 @@
+pub mod Inputs
+pub mod Bodies
+pub mod Groups
+pub mod Whole

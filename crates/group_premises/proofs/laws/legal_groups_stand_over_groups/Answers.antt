@@ -1,0 +1,5 @@
+use Rattle.group_premises.proofs.Whole.{legal_groups_stand_over_groups}
+use Rattle.group_premises.proofs.laws.legal_groups_stand_over_groups.Goals as goal
+
+pub returns : goal.returns
+returns c = legal_groups_stand_over_groups

@@ -1,0 +1,37 @@
+-- What a let of an array is lowered to.
+use Rattle.std.proofs.Common.{◌≡◌, Bool, true, false, refl, inl, inr}
+use Rattle.std.specs.Prelude.{if◌then◌else◌}
+use Rattle.lift_tree.specs.Tree as tree
+use Rattle.lift_tree.specs.Tree.{Tree}
+use Rattle.lift_tree.specs.Types.{PlainTy}
+use Rattle.lift_tree.specs.Annotations.{Annotation, Two, type_in}
+use Rattle.lift_ir.specs.Terms.{LetArray, LetElement, Store}
+use Rattle.lift_ir.specs.Lowerable.{IsStaged}
+use Rattle.lift_ir.specs.Lowering.{Written, Argument, Element, is_element, element_ty, lower}
+use Rattle.nest_premises.proofs.Rules.{true_is_not_false}
+
+-- in writing position, where it is no element itself
+pub written_let : (v b : Tree) (a : PlainTy) (n m : Annotation) → is_element a ≡ false → is_element (type_in n) ≡ false → lower Written (tree.Let v b) (Two a n m) ≡ LetArray (lower Argument v n) (lower Written b m)
+written_let v b a n m e i = go (is_element a) (is_element (type_in n)) e i
+  where
+    go : (x y : Bool) → x ≡ false → y ≡ false
+        → (let whole = if y then LetElement (element_ty (type_in n)) (lower (if y then Element else Argument) v n) (lower (if x then Element else Written) b m) else LetArray (lower (if y then Element else Argument) v n) (lower (if x then Element else Written) b m) in if x then Store (element_ty a) whole else whole)
+        ≡ LetArray (lower Argument v n) (lower Written b m)
+    go true y e i = absurd (cc)
+    go false true e i = absurd (cc)
+    go false false e i = refl
+
+-- as an argument
+pub argument_let : (v b : Tree) (a : PlainTy) (n m : Annotation) → is_element (type_in n) ≡ false → lower Argument (tree.Let v b) (Two a n m) ≡ LetArray (lower Argument v n) (lower Argument b m)
+argument_let v b a n m e = go (is_element a) (is_element (type_in n)) e
+  where
+    go : (x y : Bool) → y ≡ false
+        → (let whole = if y then LetElement (element_ty (type_in n)) (lower (if y then Element else Argument) v n) (lower Argument b m) else LetArray (lower (if y then Element else Argument) v n) (lower Argument b m) in if x then whole else whole) ≡ LetArray (lower Argument v n) (lower Argument b m)
+    go x true e = absurd (cc)
+    go true false e = refl
+    go false false e = refl
+
+pub let_parts : (v b : Tree) (a : PlainTy) (n m : Annotation) → IsStaged Written (tree.Let v b) (Two a n m) → is_element a ≡ false → is_element (type_in n) ≡ false → IsStaged Argument v n × IsStaged Written b m
+let_parts v b a n m (inl o) e i = true_is_not_false (is_element a) o.0 e
+let_parts v b a n m (inr (inl o)) e i = true_is_not_false (is_element (type_in n)) o.1 i
+let_parts v b a n m (inr (inr o)) e i = (o.2, o.3)
