@@ -1,6 +1,6 @@
 -- Legal terms can be lowered and printed.
 use Rattle.std.proofs.Common.{◌≡◌, ℕ, ◌/◌, ◌<◌, ◌^◌, Bool, true, false, List, [], ◌∷◌, ◌++◌, Option, Some, None, refl, sym, subst, inl, inr, arith, map}
-use Rattle.std.specs.Prelude.{◌≢◌, ◌↔◌, if◌then◌else◌}
+use Rattle.std.specs.Prelude.{◌≢◌, ◌↔◌, ◌||◌, if◌then◌else◌}
 use Rattle.std.proofs.Math.Nat.{mul-div-le, mod-eq-sub-mul-div}
 use Rattle.size_arith.specs.declared.names.Name.{Name}
 use Rattle.size_arith.specs.Ranges.{AreNames, IsName, IsAdmissible, Admissible, leasts}
@@ -29,7 +29,7 @@ use Rattle.printed_form.specs.Programs.{IsLaunchOf, lowered_root, StandsAt}
 use Rattle.lowered_tree.specs.declared.around.Around.{Around}
 use Rattle.lowered_tree.specs.Around.{at_root}
 use Rattle.lowered_tree.specs.Elements.{is_element}
-use Rattle.lowered_tree.specs.Kinds.{is_global, is_over_groups, is_parallel, is_task}
+use Rattle.lowered_tree.specs.Kinds.{is_global, is_local, is_over_groups, is_task}
 use Rattle.lowered_tree.specs.Nest.{Site, sites, under, in_child}
 use Rattle.lowered_tree.specs.Printed.{is_unprinted_at, first_place}
 use Rattle.nest_premises.specs.Legal.{FormCopiesArrays, CopiesArrays, shows_global_map, IsLegalTerm}
@@ -38,11 +38,10 @@ use Rattle.nest_premises.specs.declared.kind.NestKind.TheVariants.{Task, OverGro
 use Rattle.nest_premises.specs.Printable.{CanBeLowered, IsPrintable}
 use Rattle.nest_premises.specs.Laws.{LegalTermsCanBeLowered, KindsTellTasks, UngroupedTermsArePrintable, TasksArePrintable, LaunchesArePrintable, AcceptedTermsArePrintable}
 use Rattle.nest_premises.proofs.Fits.{Fits}
-use Rattle.nest_premises.proofs.Rules.{AllUnbroken, all_unbroken, front, behind, above, not_left, negated, denied}
+use Rattle.nest_premises.proofs.Rules.{AllUnbroken, all_unbroken, front, behind, above, not_left, negated, true_is_not_false}
 use Rattle.nest_premises.proofs.Staged.{written}
 use Rattle.nest_premises.proofs.Lowerable.{written_lowerable}
 use Rattle.nest_premises.proofs.Stands.{written_stands}
-use Rattle.nest_premises.proofs.Alone.{two, three}
 use Rattle.nest_premises.proofs.Top.{Over, over_of, over_shows, over_no_task, global_parallel, IsOfAKind, of_a_kind}
 use Rattle.nest_premises.proofs.OfKinds.{task_kind, kind_of_task, groups_kind}
 use Rattle.nest_premises.proofs.Launches.{over_launch}
@@ -88,40 +87,24 @@ form_copies s (unary.Pad j l) t a n h = tt
 form_copies s unary.ToLocal t a n h = negated (is_array a) h
 form_copies s unary.ToPrivate t a n h = negated (is_array a) h
 
-module _ (d : Declared) where
-  printed_in : (s : Around) (g : List PlainTy) (t : Tree) (n : Annotation) → Annotates d g t n → Every IsPrinted (sites s t n) → CopiesArrays t n × (is_task t ≡ true)
-  printed_in s g (tree.Variable v) (Leaf a) y h = (tt, refl)
-  printed_in s g (tree.Number v) (Leaf a) y h = (tt, refl)
-  printed_in s g (tree.Input v) (Leaf a) y h = (tt, refl)
-  printed_in s g (tree.Unary f t) (One a n) y h = let r = printed_in _ g t n y.0 (ones (sites _ t n) h.1) in ((form_copies s f t a n h.0, r.0), r.1)
-  printed_in s g (tree.Binary f t u) (Two a n m) y h =
-      let o = twos (sites _ t n) (sites _ u m) h.1 in
-      let r = printed_in _ g t n y.0 o.0 in
-      let q = printed_in _ g u m y.1 o.1 in
-      ((r.0, q.0), two _ _ r.1 q.1)
-  printed_in s g (tree.Select t u x) (Three a n m l) y h =
-      let o = threes (sites _ t n) (sites _ u m) (sites _ x l) h.1 in
-      let r = printed_in _ g t n y.0 o.0 in
-      let q = printed_in _ g u m y.1 o.1 in
-      let p = printed_in _ g x l y.2 o.2 in
-      ((r.0, q.0, p.0), three _ _ _ r.1 q.1 p.1)
-  printed_in s g (tree.Let v b) (Two a n m) y h =
-      let o = twos (sites _ v n) (sites _ b m) h.1 in
-      let r = printed_in _ g v n y.0 o.0 in
-      let q = printed_in _ (type_in n ∷ g) b m y.1 o.1 in
-      ((r.0, q.0), two _ _ r.1 q.1)
-  printed_in s g (tree.Map j xs b) (Two a n m) y h =
-      let o = twos (sites _ xs n) (sites _ b m) h.1 in
-      let r = printed_in _ g xs n y.2 o.0 in
-      let q = printed_in _ (y.0 ∷ g) b m y.4 o.1 in
-      ((r.0, q.0), three _ _ _ (denied (is_parallel j) (not_left (is_parallel j) false h.0)) r.1 q.1)
-  printed_in s g (tree.Fold j xs x b) (Three a n m l) y h =
-      let o = threes (sites _ xs n) (sites _ x m) (sites _ b l) h.1 in
-      let r = printed_in _ g xs n y.2 o.0 in
-      let q = printed_in _ g x m y.4 o.1 in
-      let p = printed_in _ (y.0 ∷ type_in m ∷ g) b l y.6 o.2 in
-      ((r.0, q.0, p.0), three _ _ _ r.1 q.1 p.1)
-  printed_in s g _ _ y h = absurd y
+-- its copies are of arrays
+copied_in : (s : Around) (t : Tree) (n : Annotation) → Every IsPrinted (sites s t n) → CopiesArrays t n
+copied_in s (tree.Unary f t) (One a n) h = (form_copies s f t a n h.0, copied_in _ t n (ones (sites _ t n) h.1))
+copied_in s (tree.Binary f t u) (Two a n m) h = let o = twos (sites _ t n) (sites _ u m) h.1 in (copied_in _ t n o.0, copied_in _ u m o.1)
+copied_in s (tree.Select t u x) (Three a n m l) h = let o = threes (sites _ t n) (sites _ u m) (sites _ x l) h.1 in (copied_in _ t n o.0, copied_in _ u m o.1, copied_in _ x l o.2)
+copied_in s (tree.Let v b) (Two a n m) h = let o = twos (sites _ v n) (sites _ b m) h.1 in (copied_in _ v n o.0, copied_in _ b m o.1)
+copied_in s (tree.Map j xs b) (Two a n m) h = let o = twos (sites _ xs n) (sites _ b m) h.1 in (copied_in _ xs n o.0, copied_in _ b m o.1)
+copied_in s (tree.Fold j xs x b) (Three a n m l) h = let o = threes (sites _ xs n) (sites _ x m) (sites _ b l) h.1 in (copied_in _ xs n o.0, copied_in _ x m o.1, copied_in _ b l o.2)
+copied_in s _ _ h = tt
+
+-- and no map over work-groups is on top
+not_over_groups : {A : Type 0} (s : Around) (t : Tree) (n : Annotation) → Every IsPrinted (sites s t n) → Over is_over_groups t n → A
+not_over_groups s (tree.Unary unary.Join t) (One a n) h e = not_over_groups _ t n (ones (sites _ t n) h.1) e
+not_over_groups s (tree.Unary unary.Transpose t) (One a n) h e = not_over_groups _ t n (ones (sites _ t n) h.1) e
+not_over_groups s (tree.Unary (unary.Split fs) t) (One a n) h e = not_over_groups _ t n (ones (sites _ t n) h.1) e
+not_over_groups s (tree.Let v b) (Two a n m) h e = not_over_groups _ b m (twos (sites _ v n) (sites _ b m) h.1).1 e
+not_over_groups s (tree.Map k xs b) (Two a n m) h e = true_is_not_false (is_over_groups k) (over_shows is_over_groups (tree.Map k xs b) (Two a n m) e) (not_left (is_over_groups k) (is_local k) (not_left (is_over_groups k || is_local k) false h.0))
+not_over_groups s _ _ h e = absurd e
 
 -- ---- the least sizes are admissible
 
@@ -218,13 +201,14 @@ module _ (p : PlainProgram) (t : Tree) (n : Annotation) (r : IsLegalTerm p t n) 
   kind : (nest_kind t ≡ Task) ↔ (is_task t ≡ true)
   kind = (task_kind t n of_kind, kind_of_task d t n r.nodes)
 
-  ungrouped : nest_kind t ≢ OverGroups → IsPrintable d t n
-  ungrouped e = go of_kind
+  -- by no groups
+  for_items : (Over is_over_groups t n → ⊥) → IsPrintable d t n
+  for_items none = go of_kind
     where
       go : IsOfAKind t n → IsPrintable d t n
       go (inl z) = task z
       go (inr (inl o)) = over o
-      go (inr (inr o)) = absurd (e (groups_kind t (over_shows is_over_groups t n o)))
+      go (inr (inr o)) = absurd (none o)
 
 pub legal_terms_can_be_lowered : LegalTermsCanBeLowered
 legal_terms_can_be_lowered p t n r copies = lowered p t n r copies
@@ -233,7 +217,7 @@ pub kinds_tell_tasks : KindsTellTasks
 kinds_tell_tasks p t n r copies = kind p t n r copies
 
 pub ungrouped_terms_are_printable : UngroupedTermsArePrintable
-ungrouped_terms_are_printable p t n r copies e = ungrouped p t n r copies e
+ungrouped_terms_are_printable p t n r copies e = for_items p t n r copies (λ o. e (groups_kind t (over_shows is_over_groups t n o)))
 
 pub tasks_are_printable : TasksArePrintable
 tasks_are_printable p t n r copies z = task p t n r copies z
@@ -243,5 +227,5 @@ launches_are_printable p t n r copies e = launch p t n r copies e
 
 pub accepted_terms_are_printable : AcceptedTermsArePrintable
 accepted_terms_are_printable p t n r e =
-    let h = printed_in (declared_by p) (at_root t) [] t n r.nodes (all_printed (sites (at_root t) t n) e) in
-    task p t n r h.0 h.1
+    let printed = all_printed (sites (at_root t) t n) e in
+    for_items p t n r (copied_in (at_root t) t n printed) (not_over_groups (at_root t) t n printed)
