@@ -1,5 +1,5 @@
 -- What is compiled of the last term of a program and a script.
-use Rattle.std.proofs.Common.{◌≡◌, ◌∙◌, ◌≤◌, List, ℕ, [], ◌∷◌, Ok, Result, Bool, true, ap, length, map, subst, sym, inl, inr, refl, arith}
+use Rattle.std.proofs.Common.{◌≡◌, ◌∙◌, ◌≤◌, List, ℕ, [], ◌∷◌, Ok, Result, Bool, ap, length, map, subst, sym, inl, inr, refl, arith}
 use Rattle.kernel_tree.specs.Code.{Kernel}
 use Rattle.kernel_tree.specs.KernelText.{IsKernelText}
 use Rattle.kernel_tree.specs.Launch.{Launch, Cells}
@@ -87,9 +87,9 @@ compiled_found program script t output task text k start keep same alone last co
 -- what a type keeps of it
 pub text_for : (program script : List ℕ) (t : Typed) (output : PlainTy) (task : Bool) (text : List ℕ) (k : Kernel) → PrintedProgramsStart → PrintedProgramsKeep → output ≡ type_in (annotation_of t.types)
     → is_task (tree_of t.term) ≡ task → IsLastTerm program script t → CanBeLaidOut (program_of t.program) (type_in (annotation_of t.types)) → IsPrintable (declared_by (program_of t.program)) (tree_of t.term) (annotation_of t.types)
-    → PrintsAtAll (program_of t.program) (state_of t) k → IsKernelText text k → is_task (tree_of t.term) ≡ true
+    → PrintsAtAll (program_of t.program) (state_of t) k → IsKernelText text k
     → IsTextFor (program_of t.program) output task text
-text_for program script t output task text k start keep same told last laid_out printable prints written alone =
+text_for program script t output task text k start keep same told last laid_out printable prints written =
     let p = program_of t.program in
     subst (λ (b : Bool). IsTextFor p output b text) told
     (subst (λ (a : PlainTy). IsTextFor p a (is_task (tree_of t.term)) text) (sym same)
@@ -100,7 +100,6 @@ text_for program script t output task text k start keep same told last laid_out 
       written = written;
       starts = starts p (state_of t) k printable last.term.keeps prints start;
       leaves = leaves p (type_in (annotation_of t.types)) (state_of t) k (meets p (state_of t) k printable last.term.keeps prints keep);
-      alone = alone;
     }))
 
 -- what stops the terms stops what is compiled of them

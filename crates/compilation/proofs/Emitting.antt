@@ -1,6 +1,6 @@
 -- The kernel that is emitted for a legal term.
-use Rattle.std.proofs.Common.{◌≡◌, ◌∙◌, ◌+◌, ◌*◌, ◌<◌, ◌≤◌, ◌^◌, ◌++◌, ◌∷◌, ℕ, List, [], Bool, true, false, cond, Option, None, Some, inl, inr, refl, sym, ap, ap₂, subst, arith, pos, negsuc, ℤ, ◌≤ℤ◌, ◌⊎◌}
-use Rattle.std.specs.Prelude.{if◌then◌else◌, nat_abs, nat_lt}
+use Rattle.std.proofs.Common.{◌≡◌, ◌+◌, ◌*◌, ◌<◌, ◌≤◌, ◌^◌, ℕ, List, [], Bool, true, false, cond, Option, None, Some, inl, inr, refl, sym, ap, ap₂, subst, arith, pos, negsuc, ℤ, ◌≤ℤ◌, ◌⊎◌}
+use Rattle.std.specs.Prelude.{nat_abs, nat_lt}
 use Rattle.std.proofs.lemmas.Bool.{ltb-false}
 use Rattle.std.proofs.lemmas.Int.{ints}
 use Rattle.std.proofs.lemmas.Nat.{mul-le}
@@ -10,10 +10,8 @@ use Rattle.size_arith.specs.declared.poly.Monomial.{Monomial}
 use Rattle.size_arith.specs.Polynomial.{value_at}
 use Rattle.size_arith.specs.Ranges.{Admissible, AreNames, leasts, sizes_at}
 use Rattle.size_arith.proofs.Soundness.{shown_at_least}
-use Rattle.lift_tree.specs.Annotations.{Annotation, Annotates, Leaf, One, Two, Three, annotation_of, type_in}
-use Rattle.lift_tree.specs.Lists.{Every}
+use Rattle.lift_tree.specs.Annotations.{Annotation, annotation_of, type_in}
 use Rattle.lift_tree.specs.Programs.{PlainProgram, program_of}
-use Rattle.lift_tree.specs.Tree as tree
 use Rattle.lift_tree.specs.Tree.{Tree, height, tree_of}
 use Rattle.lift_tree.specs.Types.{PlainTy, U32, PairOf, ArrayOf, HoldsElements, IsElement, IsFormed, IsOutput}
 use Rattle.lift_tree.specs.Typing.{Declared, declared_by}
@@ -29,16 +27,10 @@ use Rattle.lift_ir.specs.Lowering as lowering
 use Rattle.lift_ir.specs.Promises.{LoweredTermsServe}
 use Rattle.lift_ir.specs.Types as ir
 use Rattle.lift_ir.specs.Types.{IsShort, measured, size}
-use Rattle.lowered_tree.specs.declared.around.Around.{Around}
 use Rattle.lowered_tree.specs.declared.lowered.Lowered.{Lowered}
-use Rattle.lowered_tree.specs.Kinds.{is_parallel, is_task}
-use Rattle.lowered_tree.specs.Nest.{Site, in_child, sites, under}
-use Rattle.lowered_tree.specs.Printed.{first_place, first_unprinted, is_unprinted_at}
-use Rattle.lowered_tree.specs.Around.{at_root}
+use Rattle.lowered_tree.specs.Kinds.{is_task}
 use Rattle.nest_premises.specs.Legal.{IsLegalTerm}
 use Rattle.nest_premises.specs.Printable.{IsPrintable}
-use Rattle.nest_premises.proofs.Launches.{three, two}
-use Rattle.nest_premises.proofs.Rules.{above, behind, denied, front, not_left}
 use Rattle.buffer_allocation.specs.Layouts.{layouts}
 use Rattle.buffer_allocation.specs.Limits.{passed_limit}
 use Rattle.value_lists.specs.Lists as lists
@@ -117,55 +109,6 @@ kernel_lowered t l k is h =
 -- it has an output for each component of the type
 pub few_outputs : (d : Declared) (t : Tree) (n : Annotation) (k : Kernel) → k ≡ kernel_of_term d t n → k.outputs < 2 ^ 32 → ir.width (shape_of (type_in n)) < 2 ^ 32
 few_outputs d t n k is few = subst (λ (m : ℕ). m < 2 ^ 32) (ap (λ (x : Kernel). x.outputs) is) few
-
--- ---- one work-item runs it so far
-
-not_here : (b : Bool) (p : List ℕ) (o : Option (List ℕ)) → (if b then Some p else o) ≡ None → (b ≡ false) × (o ≡ None)
-not_here true p o e = absurd (cc)
-not_here false p o e = (refl, e)
-
-abbrev IsPrinted : Site → Type 0
-IsPrinted x = is_unprinted_at x ≡ false
-
-all_printed : (xs : List Site) → first_place xs ≡ None → Every IsPrinted xs
-all_printed [] e = tt
-all_printed (x ∷ xs) e = let r = not_here (is_unprinted_at x) x.place (first_place xs) e in (r.0, all_printed xs r.1)
-
-unmoved : (i : ℕ) (x : Site) → IsPrinted (in_child i x) → IsPrinted x
-unmoved i x h = h
-
-ones : (xs : List Site) → Every IsPrinted (under 0 xs) → Every IsPrinted xs
-ones xs h = above IsPrinted unmoved 0 xs h
-
-twos : (xs ys : List Site) → Every IsPrinted (under 0 xs ++ under 1 ys) → Every IsPrinted xs × Every IsPrinted ys
-twos xs ys h = (ones xs (front IsPrinted (under 0 xs) (under 1 ys) h), above IsPrinted unmoved 1 ys (behind IsPrinted (under 0 xs) (under 1 ys) h))
-
-threes : (xs ys zs : List Site) → Every IsPrinted (under 0 xs ++ (under 1 ys ++ under 2 zs)) → Every IsPrinted xs × Every IsPrinted ys × Every IsPrinted zs
-threes xs ys zs h =
-    let r = behind IsPrinted (under 0 xs) (under 1 ys ++ under 2 zs) h in
-    (ones xs (front IsPrinted (under 0 xs) (under 1 ys ++ under 2 zs) h), above IsPrinted unmoved 1 ys (front IsPrinted (under 1 ys) (under 2 zs) r), above IsPrinted unmoved 2 zs (behind IsPrinted (under 1 ys) (under 2 zs) r))
-
-module _ (d : Declared) where
-  task_in : (s : Around) (g : List PlainTy) (t : Tree) (n : Annotation) → Annotates d g t n → Every IsPrinted (sites s t n) → is_task t ≡ true
-  task_in s g (tree.Variable v) (Leaf a) y h = refl
-  task_in s g (tree.Number v) (Leaf a) y h = refl
-  task_in s g (tree.Input v) (Leaf a) y h = refl
-  task_in s g (tree.Unary f t) (One a n) y h = task_in _ g t n y.0 (ones (sites _ t n) h.1)
-  task_in s g (tree.Binary f t u) (Two a n m) y h = let o = twos (sites _ t n) (sites _ u m) h.1 in two _ _ (task_in _ g t n y.0 o.0) (task_in _ g u m y.1 o.1)
-  task_in s g (tree.Select t u x) (Three a n m l) y h =
-      let o = threes (sites _ t n) (sites _ u m) (sites _ x l) h.1 in
-      three _ _ _ (task_in _ g t n y.0 o.0) (task_in _ g u m y.1 o.1) (task_in _ g x l y.2 o.2)
-  task_in s g (tree.Let v b) (Two a n m) y h = let o = twos (sites _ v n) (sites _ b m) h.1 in two _ _ (task_in _ g v n y.0 o.0) (task_in _ (type_in n ∷ g) b m y.1 o.1)
-  task_in s g (tree.Map j xs b) (Two a n m) y h =
-      let o = twos (sites _ xs n) (sites _ b m) h.1 in
-      three _ _ _ (denied (is_parallel j) (not_left (is_parallel j) false h.0)) (task_in _ g xs n y.2 o.0) (task_in _ (y.0 ∷ g) b m y.4 o.1)
-  task_in s g (tree.Fold j xs x b) (Three a n m l) y h =
-      let o = threes (sites _ xs n) (sites _ x m) (sites _ b l) h.1 in
-      three _ _ _ (task_in _ g xs n y.2 o.0) (task_in _ g x m y.4 o.1) (task_in _ (y.0 ∷ type_in m ∷ g) b l y.6 o.2)
-  task_in s g _ _ y h = absurd y
-
-pub is_alone : (p : PlainProgram) (t : Tree) (n : Annotation) → Annotates (declared_by p) [] t n → first_unprinted t n ≡ None → is_task t ≡ true
-is_alone p t n nodes printed = task_in (declared_by p) (at_root t) [] t n nodes (all_printed (sites (at_root t) t n) printed)
 
 -- ---- its output can be laid out
 

@@ -1,5 +1,5 @@
 -- What a compiled kernel owes its program.
-use Rattle.std.specs.Prelude.{◌≡◌, ◌<◌, ◌^◌, ℕ, List, Bool, true, map, length}
+use Rattle.std.specs.Prelude.{◌≡◌, ◌<◌, ◌^◌, ℕ, List, Bool, map, length}
 use Rattle.kernel_tree.specs.Code.{Kernel}
 use Rattle.kernel_tree.specs.KernelText.{IsKernelText}
 use Rattle.kernel_tree.specs.Launch.{Launch, Cells, MayStart}
@@ -52,4 +52,3 @@ pub record IsTextFor (p : PlainProgram) (output : PlainTy) (is_task : Bool) (tex
   pub written : IsKernelText text kernel
   pub starts : Starts p output is_task kernel
   pub leaves : LeavesSource p output is_task kernel
-  pub alone : is_task ≡ true

@@ -1,11 +1,10 @@
 //! The kernel of a last term.
-ghost use Rattle.std.specs.Prelude.{◌≡◌, ◌<◌, ◌^◌, IfErr, IfOk, Ok, true};
+ghost use Rattle.std.specs.Prelude.{◌<◌, ◌^◌, IfErr, IfOk, Ok};
 ghost use Rattle.lift_tree.specs.Annotations.{annotation_of, type_in};
 ghost use Rattle.lift_tree.specs.Programs.{program_of};
 ghost use Rattle.lift_tree.specs.Tree.{tree_of};
 ghost use Rattle.lift_tree.specs.Typing.{declared_by};
 ghost use Rattle.kernel_tree.specs.Kernels.{kernel_of};
-ghost use Rattle.lowered_tree.specs.Kinds.{is_task};
 ghost use Rattle.strategy_script.specs.Steps.{state_of};
 ghost use Rattle.nest_premises.specs.Printable.{IsPrintable};
 ghost use Rattle.program_source.specs.Program.{StopsFor};
@@ -47,7 +46,6 @@ pub fn compiled_kernel(alloc: Global, last: &Typed) -> Result<Kernel, Refusal>
         (tree_of last.now.term) (annotation_of last.now.types)) }
     ensures laid_out { IfOk result (λ _. CanBeLaidOut (program_of last.now.program)
         (type_in (annotation_of last.now.types))) }
-    ensures alone { IfOk result (λ _. is_task (tree_of last.now.term) ≡ true) }
     ensures refused { IfErr result (StopsFor (CompilesTerm (state_of last.now))) }
 {
     accepted_terms_are_printable();

@@ -14,7 +14,7 @@ invariant_of-result c =
     let k = c.in_ok-kernel.ensures in
     record {
       text_for = ∣ text_for c.args.program.now c.args.script.now c.in_ok-last.last _ _ _ (kernel_of c.in_ok-kernel.kernel) c.printed_programs_start.ensures c.printed_programs_keep.ensures c.own_type.ensures
-          (sym c.is_task.ensures) c.in_ok-last.ensures.last k.laid_out k.printable k.prints c.in_ok-text.ensures.text k.alone ∣₁;
+          (sym c.is_task.ensures) c.in_ok-last.ensures.last k.laid_out k.printable k.prints c.in_ok-text.ensures.text ∣₁;
     }
 
 pub returns-clause-found : goal.returns-clause-found

@@ -8,7 +8,7 @@ use Rattle.program_source.proofs.Stages.{handed_on}
 use Rattle.program_source.specs.Program.{StopsFor}
 use Rattle.strategy_script.specs.Steps.{state_of}
 use Rattle.compilation.specs.Legal.{CompilesTerm}
-use Rattle.compilation.proofs.Emitting.{emittable, emittable_lowered, few_outputs, is_alone, kernel_lowered, laid_out, prints_at_all}
+use Rattle.compilation.proofs.Emitting.{emittable, emittable_lowered, few_outputs, kernel_lowered, laid_out, prints_at_all}
 use Rattle.compilation.proofs.Legality.{at_buffers, at_nest, at_printed, compiles, legal_term, printable_term}
 use Rattle.compilation.proofs.kernel.compiled_kernel.Goals as goal
 
@@ -56,11 +56,6 @@ returns-clause-laid_out c =
     let printable = printable_term c.accepted_terms_are_printable.ensures last c.requires c.has_word_steps.ensures c.in_ok-mapped.ensures.legal c.in_ok-judge_printed.ensures.all in
     laid_out p t n legal printable
     (few_outputs (declared_by p) t n (kernel_of c.in_ok-kernel.kernel) (kernel_lowered last _ _ c.in_ok-lowered.ensures.is c.in_ok-kernel.ensures) c.has_few_outputs.ensures)
-
-pub returns-clause-alone : goal.returns-clause-alone
-returns-clause-alone c =
-    let last = c.args.last.now in
-    is_alone (program_of last.program) (tree_of last.term) (annotation_of last.types) c.requires.typed.nodes c.in_ok-judge_printed.ensures.all
 
 pub returns-in_err-mapped-clause-refused : goal.returns-in_err-mapped-clause-refused
 returns-in_err-mapped-clause-refused c =
