@@ -1,5 +1,5 @@
 -- What is compiled of the last term of a program and a script.
-use Rattle.std.proofs.Common.{◌≡◌, ◌∙◌, ◌≤◌, List, ℕ, [], ◌∷◌, Ok, Result, Bool, true, ap, length, map, subst, sym, inl, inr, refl, arith}
+use Rattle.std.proofs.Common.{◌≡◌, ◌∙◌, List, ℕ, [], Ok, Bool, true, ap, length, map, subst, sym, inl, inr}
 use Rattle.kernel_tree.specs.Code.{Kernel}
 use Rattle.kernel_tree.specs.KernelText.{IsKernelText}
 use Rattle.kernel_tree.specs.Launch.{Launch, Cells}
@@ -19,7 +19,7 @@ use Rattle.printed_form.specs.Programs.{AreBuffersOf, IsLaunchOf, PrintedProgram
 use Rattle.rewriting.specs.Keeps.{Keeps}
 use Rattle.strategy_script.specs.Steps.{State, state_of}
 use Rattle.fault_lines.specs.declared.refusal.Refusal.{Refusal}
-use Rattle.program_source.specs.Program.{IsRead, OnProgram, StopsFor, source_value}
+use Rattle.program_source.specs.Program.{OnProgram, StopsFor, source_value}
 use Rattle.program_source.specs.SourceTerms.{IsLastTerm}
 use Rattle.program_source.specs.Terms.{TermsOf}
 use Rattle.program_source.proofs.FewNodes.{few_inputs}

@@ -1,4 +1,4 @@
-use Rattle.std.proofs.Common.{arith, sym}
+use Rattle.std.proofs.Common.{arith}
 use Rattle.kernel_tree.specs.Kernels.{kernel_of}
 use Rattle.lift_tree.specs.Annotations.{annotation_of}
 use Rattle.lift_tree.specs.Programs.{program_of}
