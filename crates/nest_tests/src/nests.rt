@@ -60,12 +60,14 @@ const BROKEN: [(&str, &str, &str, NestRule); 11] = [
 ];
 
 // A program, a script, and the place in digits of the first node of the last term that isn't printed so far; none where each is.
-const UNPRINTED: [(&str, &str, Option<&str>); 6] = [
+const UNPRINTED: [(&str, &str, Option<&str>); 8] = [
     (ADDED, "at . to-seq", None),
     (COPIED, "at 0 private-copy\nat . to-seq", None),
     (SUM, SUMMED, None),
-    (ADDED, "at . to-glb", Some("")),
-    (ROWS, "at 1 to-glb\nat . to-seq", Some("1")),
+    (ADDED, "at . to-glb", None),
+    (ROWS, "at 1 to-seq\nat . to-glb", None),
+    (ADDED, "at . to-lcl", Some("")),
+    (ROWS, "at 1 to-lcl\nat . to-glb", Some("1")),
     (WINDOWS, TILED, Some("00")),
 ];
 

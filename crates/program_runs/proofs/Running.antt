@@ -97,9 +97,6 @@ module _ (p : PlainProgram) (output : PlainTy) (task : Bool) (text : List ℕ) (
         pub starts_as_made : MayStart k l c
         starts_as_made = rw (launch, cells) starts
 
-        pub one_item_as_made : l.global ≡ 1
-        one_item_as_made = ap (λ (x : Launch). x.global) launch ∙ ok.launch.alone is.alone
-
         pub clean_as_made : (schedule : Schedule) (kind : FaultKind) (event item : ℕ) (cell : Option shown.Cell) → FaultsUnder schedule k l c kind event item cell → ⊥
         clean_as_made schedule kind event item cell f =
             clean schedule kind event item cell (subst (λ x. FaultsUnder schedule k g.launch x kind event item cell) cells (subst (λ x. FaultsUnder schedule k x c kind event item cell) launch f))

@@ -94,17 +94,28 @@ fn other_writings_run_alike(rt: HostRuntime) -> Result<(), Fail> {
     Ok(())
 }
 
+// A text that repeats another between two more.
+fn around(
+    alloc: Global,
+    begin: &str,
+    repeated: &str,
+    times: usize,
+    end: &str,
+) -> Result<String, AllocError> {
+    let mut text = String::from_str(alloc, begin)?;
+    for _ in 0..times {
+        text.push_str(repeated)?;
+    }
+    text.push_str(end)?;
+    Ok(text)
+}
+
 #[test]
 fn a_thousand_numbers_have_3001_events(rt: HostRuntime) -> Result<(), Fail> {
     let begin = "{\"global\":1,\"local\":1,\"sizes\":{\"N\":1000},\"inputs\":{\"xs\":[0";
-    let mut launch = String::from_str(rt.alloc(), begin)?;
-    let mut line = String::from_str(rt.alloc(), "{\"value\":[1")?;
-    for _ in 0..999 {
-        launch.push_str(",0")?;
-        line.push_str(",1")?;
-    }
-    launch.push_str("]}}")?;
-    line.push_str("],\"events\":3001,\"releases\":0}\n")?;
+    let launch = around(rt.alloc(), begin, ",0", 999, "]}}")?;
+    let end = "],\"events\":3001,\"releases\":0}\n";
+    let line = around(rt.alloc(), "{\"value\":[1", ",1", 999, end)?;
     let thousand = Call {
         launch: launch.as_str(),
         ..FIRST
@@ -113,8 +124,49 @@ fn a_thousand_numbers_have_3001_events(rt: HostRuntime) -> Result<(), Fail> {
     Ok(())
 }
 
+const OVER_LAUNCH: &str =
+    "__kernel void lift(__global const uint *a0, __global uint *o0, const uint s0)\n{\n  uint v0;\n  for (uint i0 = (uint)get_global_id(0); i0 < s0; i0 += (uint)get_global_size(0)) {\n    v0 = a0[i0];\n    o0[i0] = (v0 + 1u);\n  }\n}\n";
+
+// The 4 work-items end with a test each, and each of the 5 turns is 3 events.
+const SCHEDULES: [&str; 3] = [
+    "{\"global\":4,\"local\":2,\"sizes\":{\"N\":5},\"inputs\":{\"xs\":[1,2,3,4,5]},\"schedule\":[]}",
+    "{\"global\":4,\"local\":2,\"sizes\":{\"N\":5},\"inputs\":{\"xs\":[1,2,3,4,5]},\"schedule\":[3,2,1,0]}",
+    "{\"global\":4,\"local\":2,\"sizes\":{\"N\":5},\"inputs\":{\"xs\":[1,2,3,4,5]},\"schedule\":{\"seed\":7}}",
+];
+
+#[test]
+fn a_map_over_the_launch_runs_alike_under_each_schedule(rt: HostRuntime) -> Result<(), Fail> {
+    let line = "{\"value\":[2,3,4,5,6],\"events\":19,\"releases\":0}\n";
+    for launch in SCHEDULES {
+        let call = Call {
+            script: "at . to-glb",
+            launch,
+            ..FIRST
+        };
+        assert!(rt; call.ends(rt.alloc(), &COMPILE, 0, OVER_LAUNCH, "")?);
+        assert!(rt; call.ends(rt.alloc(), &RUN, 0, line, "")?);
+    }
+    Ok(())
+}
+
+// Each of 65,536 work-items ends with a test, and each of the 1,000 turns is 3 events.
+#[test]
+fn a_thousand_turns_of_65536_items_have_68536_events(rt: HostRuntime) -> Result<(), Fail> {
+    let begin = "{\"global\":65536,\"local\":256,\"sizes\":{\"N\":1000},\"inputs\":{\"xs\":[0";
+    let launch = around(rt.alloc(), begin, ",0", 999, "]}}")?;
+    let end = "],\"events\":68536,\"releases\":0}\n";
+    let line = around(rt.alloc(), "{\"value\":[1", ",1", 999, end)?;
+    let wide = Call {
+        script: "at . to-glb",
+        launch: launch.as_str(),
+        ..FIRST
+    };
+    assert!(rt; wide.ends(rt.alloc(), &RUN, 0, line.as_str(), "")?);
+    Ok(())
+}
+
 // Programs with scripts, launch files and the lines of their runs, worked out by hand.
-const RUNS: [(&str, &str, &str, &str); 6] = [
+const RUNS: [(&str, &str, &str, &str); 7] = [
     // a transposed array
     (
         "input xs: [[u32; 3]; 2]; output map(\\r. map(\\x. x, r), transpose(xs))",
@@ -149,6 +201,13 @@ const RUNS: [(&str, &str, &str, &str); 6] = [
         "at . fold-seq",
         "{\"global\":1,\"local\":1,\"sizes\":{},\"inputs\":{\"xs\":[5,6,7]}}",
         "{\"value\":[[7,12]],\"events\":23,\"releases\":0}\n",
+    ),
+    // windows of a padded array, one to each work-item
+    (
+        "size N multiple 2 from 2 to 4096; input xs: [u32; N]; output join(map(\\w. reduce(add, 0, w), slide(3, 1, pad(1, 1, xs))))",
+        "at 0.1 reduce-fold\nat 0.1 fold-seq\nat 0 to-glb",
+        "{\"global\":4,\"local\":2,\"sizes\":{\"N\":4},\"inputs\":{\"xs\":[1,2,3,4]}}",
+        "{\"value\":[4,6,9,11],\"events\":56,\"releases\":0}\n",
     ),
     // a size that has a divisor: 2 turns of 2 statements, 3 tests
     (

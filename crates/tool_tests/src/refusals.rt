@@ -251,7 +251,10 @@ const NESTS: [(&str, &str); 7] = [
     ("", "lift: nest: N1 at .\n"),
     ("# nothing\n", "lift: nest: N1 at .\n"),
     ("at . to-lcl", "lift: nest: N2 at .\n"),
-    ("at . to-glb", "lift: nest: N0 at .\n"),
+    (
+        "at . split-map 1\nat 0.1 to-lcl\nat 0 to-wrg",
+        "lift: nest: N0 at 0\n",
+    ),
     ("at . to-seq\nat . local", "lift: nest: N5 at .\n"),
     ("at . split-map 1", "lift: nest: N1 at 0\n"),
     ("at 0 copy\nat . to-seq", "lift: nest: N1 at 0\n"),
@@ -259,7 +262,11 @@ const NESTS: [(&str, &str); 7] = [
 
 // Programs with scripts of their own.
 const MAPPED: [(&str, &str, &str); 3] = [
-    ("input xs: [u32; 5]; output xs", "", "lift: nest: N11 at .\n"),
+    (
+        "input xs: [u32; 5]; output xs",
+        "",
+        "lift: nest: N11 at .\n",
+    ),
     (
         "input xs: [u32; 5]; output slide(3, 1, map(\\x. x, xs))",
         "at 0 to-seq",
@@ -354,6 +361,36 @@ const LAUNCHES: [(&str, &str); 15] = [
     ),
 ];
 
+// Of a map over all work-items.
+const WIDE_LAUNCHES: [(&str, &str); 3] = [
+    (
+        "{\"global\":6,\"local\":4,\"sizes\":{\"N\":5},\"inputs\":{\"xs\":[1,2,3,4,5]}}",
+        "lift: launch: global 6, local 4\n",
+    ),
+    (
+        "{\"global\":65537,\"local\":1,\"sizes\":{\"N\":5},\"inputs\":{\"xs\":[1,2,3,4,5]}}",
+        "lift: launch: global 65537, local 1\n",
+    ),
+    (
+        "{\"global\":257,\"local\":257,\"sizes\":{\"N\":5},\"inputs\":{\"xs\":[1,2,3,4,5]}}",
+        "lift: launch: global 257, local 257\n",
+    ),
+];
+
+fn wide_launches_end(alloc: Global) -> Result<bool, AllocError> {
+    for (launch, line) in WIDE_LAUNCHES {
+        let call = Call {
+            script: "at . to-glb",
+            launch,
+            ..FIRST
+        };
+        if !call.ends(alloc, &RUN, 12, "", line)? {
+            return Ok(false);
+        }
+    }
+    Ok(true)
+}
+
 const EVALUATIONS: [(&str, &str); 8] = [
     (
         "{\"sizes\":{\"N\":0},\"inputs\":{\"xs\":[]}}",
@@ -392,6 +429,7 @@ const EVALUATIONS: [(&str, &str); 8] = [
 #[test]
 fn launch_files_are_refused_by_the_first_check(rt: HostRuntime) -> Result<(), Fail> {
     assert!(rt; launches_end(rt.alloc(), &RUN, 12, &LAUNCHES)?);
+    assert!(rt; wide_launches_end(rt.alloc())?);
     assert!(rt; launches_end(rt.alloc(), &EVAL, 12, &EVALUATIONS)?);
     let deep = repeated(rt.alloc(), "[", 100_000, "")?;
     let launch = deep.as_str();
