@@ -1,6 +1,6 @@
 -- Legal terms can be lowered and printed.
 use Rattle.std.proofs.Common.{◌≡◌, ℕ, ◌/◌, ◌<◌, ◌^◌, Bool, true, false, List, [], ◌∷◌, ◌++◌, Option, Some, None, refl, sym, subst, inl, inr, arith, map}
-use Rattle.std.specs.Prelude.{◌≢◌, ◌↔◌, ◌||◌, if◌then◌else◌}
+use Rattle.std.specs.Prelude.{◌↔◌, ◌||◌, if◌then◌else◌}
 use Rattle.std.proofs.Math.Nat.{mul-div-le, mod-eq-sub-mul-div}
 use Rattle.size_arith.specs.declared.names.Name.{Name}
 use Rattle.size_arith.specs.Ranges.{AreNames, IsName, IsAdmissible, Admissible, leasts}
@@ -17,7 +17,7 @@ use Rattle.lift_tree.specs.Limits.{InputFits, HasFewScalars}
 use Rattle.lift_tree.specs.Programs.{PlainInput, PlainProgram}
 use Rattle.lift_tree.specs.WorkedOut.{worked_out, range_of}
 use Rattle.lift_tree.specs.Typing.{Declared, declared_by}
-use Rattle.lift_tree.specs.Annotations.{Annotation, Leaf, One, Two, Three, type_in, Annotates}
+use Rattle.lift_tree.specs.Annotations.{Annotation, One, Two, Three, type_in}
 use Rattle.kernel_tree.specs.Launch.{Launch}
 use Rattle.lift_ir.specs.Types.{IsFlat, IsShort, IsPlaced, size}
 use Rattle.lift_ir.specs.AtLaunch.{length_at, shape_of}
@@ -34,7 +34,7 @@ use Rattle.lowered_tree.specs.Nest.{Site, sites, under, in_child}
 use Rattle.lowered_tree.specs.Printed.{is_unprinted_at, first_place}
 use Rattle.nest_premises.specs.Legal.{FormCopiesArrays, CopiesArrays, shows_global_map, IsLegalTerm}
 use Rattle.nest_premises.specs.Kind.{nest_kind}
-use Rattle.nest_premises.specs.declared.kind.NestKind.TheVariants.{Task, OverGroups}
+use Rattle.nest_premises.specs.declared.kind.NestKind.TheVariants.{Task}
 use Rattle.nest_premises.specs.Printable.{CanBeLowered, IsPrintable}
 use Rattle.nest_premises.specs.Laws.{LegalTermsCanBeLowered, KindsTellTasks, UngroupedTermsArePrintable, TasksArePrintable, LaunchesArePrintable, AcceptedTermsArePrintable}
 use Rattle.nest_premises.proofs.Fits.{Fits}
