@@ -22,8 +22,22 @@ pub enum Index {
 }
 
 impl Index {
-    ghost use Rattle.index_expr.specs.Expression.{expression_of, nodes};
+    ghost use Rattle.index_expr.specs.Expression.{Binary, expression_of, nodes};
     ghost use Rattle.index_expr.specs.Values.{exact_at, wrapped_at, HasNoZeroDivisor, HasNoZeroDivisorInWords, HasBoundedParts, HasWordArguments, IsRanged, IsWord};
+
+    /// The operation on two expressions.
+    pub fn binary(
+        alloc: Global,
+        operation: Operation,
+        a: Index,
+        b: Index,
+    ) -> Result<Self, AllocError>
+        ensures { IfOk result
+            (λ e. expression_of e ≡ Binary operation (expression_of a) (expression_of b)) }
+    {
+        let a = Box::new(alloc, a)?;
+        Ok(Index::Binary(operation, a, Box::new(alloc, b)?))
+    }
 
     /// An equal expression in memory of its own.
     pub fn copy(&self, alloc: Global) -> Result<Self, AllocError>
@@ -133,4 +147,14 @@ fn is_word(value: i128) -> bool
     ensures { IsTrue result ↔ IsWord value }
 {
     0 <= value && value <= 4294967295
+}
+
+impl Default for Index {
+    ghost use Rattle.index_expr.specs.Expression.{Literal, expression_of};
+
+    ghost is_default = { λ e. expression_of e ≡ Literal 0 };
+
+    fn default() -> Self {
+        Index::Literal(0)
+    }
 }

@@ -10,14 +10,6 @@ use crate::operation::Operation;
 use size_arith::{Monomial, Name, Names, Poly};
 use std::alloc::{AllocError, Global};
 
-fn binary(alloc: Global, operation: Operation, a: Index, b: Index) -> Result<Index, AllocError>
-    ensures { IfOk result
-        (λ e. expression_of e ≡ Binary operation (expression_of a) (expression_of b)) }
-{
-    let a = Box::new(alloc, a)?;
-    Ok(Index::Binary(operation, a, Box::new(alloc, b)?))
-}
-
 fn join(
     alloc: Global,
     operation: Operation,
@@ -29,7 +21,7 @@ fn join(
 {
     match rest {
         None => Ok(first),
-        Some(rest) => binary(alloc, operation, first, rest),
+        Some(rest) => Index::binary(alloc, operation, first, rest),
     }
 }
 
@@ -40,7 +32,7 @@ fn base_index(alloc: Global, number: u32, name: &Name) -> Result<Index, AllocErr
     if name.multiple == 1 {
         return Ok(Index::Size(number));
     }
-    binary(
+    Index::binary(
         alloc,
         Operation::Quotient,
         Index::Size(number),
@@ -96,7 +88,7 @@ fn number_index(alloc: Global, number: u128) -> Result<Index, AllocError>
     ensures { IfOk result (λ e. expression_of e ≡ number_expression number) }
 {
     if number == 4294967296 {
-        return binary(
+        return Index::binary(
             alloc,
             Operation::Product,
             Index::Literal(65536),
@@ -120,7 +112,7 @@ fn monomial_index(alloc: Global, names: &[Name], monomial: &Monomial) -> Result<
                 return Ok(product);
             }
             let number = number_index(alloc, coefficient)?;
-            binary(alloc, Operation::Product, number, product)
+            Index::binary(alloc, Operation::Product, number, product)
         }
     }
 }
@@ -185,6 +177,6 @@ pub fn length_index(alloc: Global, length: &Poly, names: &Names) -> Result<Index
     let gained = positives_index(alloc, names, monomials)?.unwrap_or(Index::Literal(0));
     match negatives_index(alloc, names, monomials)? {
         None => Ok(gained),
-        Some(lost) => binary(alloc, Operation::Difference, gained, lost),
+        Some(lost) => Index::binary(alloc, Operation::Difference, gained, lost),
     }
 }

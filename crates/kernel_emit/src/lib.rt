@@ -10,6 +10,7 @@ ghost use Rattle.kernel_emit.specs.MapKernel.{MapKernelKeeps, map_kernel, map_tu
 pub mod laws;
 
 use kernel_tree::tree::{Array, Expr, Kernel, Start, Stmt, Stride};
+use scalar_ops::op::Op;
 use std::alloc::{AllocError, Global};
 
 /// The kernel of a map that adds a number to each element, one after another.
@@ -21,6 +22,8 @@ pub fn map_kernel(alloc: Global, addend: u32) -> Result<Kernel, AllocError>
         inputs: 1,
         outputs: 1,
         sizes: 1,
+        locals: Vec::new(alloc),
+        privates: Vec::new(alloc),
         variables: 1,
         body,
     })
@@ -40,10 +43,8 @@ fn map_body(alloc: Global, addend: u32) -> Result<Vec<Stmt>, AllocError>
 fn map_turn(alloc: Global, addend: u32) -> Result<Vec<Stmt>, AllocError>
     ensures { IfOk result (λ body. code_then body.items End ≡ map_turn addend) }
 {
-    let sum = Expr::Sum(
-        Box::new(alloc, Expr::Variable(0))?,
-        Box::new(alloc, Expr::Number(addend))?,
-    );
+    let element = Expr::Variable(0);
+    let sum = Expr::binary(alloc, Op::Add, element, Expr::Number(addend))?;
     let mut body = Vec::new(alloc);
     body.push(Stmt::Load(0, Array::Input(0), Expr::LoopVariable(0)))?;
     body.push(Stmt::Store(Array::Output(0), Expr::LoopVariable(0), sum))?;

@@ -1,48 +1,14 @@
 -- Facts of blocks, indents and counts.
 use Rattle.std.proofs.Common.{◌≡◌, ℕ, zero, suc, ◌<◌, ◌-◌, ◌+◌, ◌*◌, List, [], ◌∷◌, ◌++◌, replicate, drop, ap, ◌∙◌, get_or, length, refl, subst, sym, arith, true}
-use Rattle.std.specs.Prelude.{codes, nat_lt}
+use Rattle.std.specs.Prelude.{codes, nat_lt, ◌||◌}
 use Rattle.std.proofs.lemmas.Bool.{ltb-true, and_parts, and_from}
-use Rattle.kernel_tree.specs.declared.tree.Expr.{Expr}
-use Rattle.kernel_tree.specs.declared.tree.Expr as expr
-use Rattle.kernel_tree.specs.declared.tree.Array.{Array}
-use Rattle.kernel_tree.specs.declared.tree.Array.TheVariants as array_form
 use Rattle.kernel_tree.specs.declared.tree.Stmt.{Stmt, Row_of-Stmt, end_of-Stmt, more_of-Stmt}
 use Rattle.kernel_tree.specs.declared.tree.Stmt as stmt
-use Rattle.kernel_tree.specs.declared.tree.Start.TheVariants as start_form
-use Rattle.kernel_tree.specs.declared.tree.Stride.TheVariants as stride_form
 use Rattle.kernel_tree.specs.Code.{Start, Stride, Code, End, Loops, Kernel}
 use Rattle.kernel_tree.specs.Formula.{Formula}
 use Rattle.kernel_tree.specs.Grammar.{deepest, is_constant, is_expression, is_readable, is_writable, has_statement, are_statements, is_kernel}
 use Rattle.kernel_tree.specs.KernelText.{indent}
 use Rattle.kernel_tree.specs.Tree.{formula_of, array_of, before, code_of, code_then}
-use Rattle.kernel_spelling.specs.Spelling.{is_written, has_name, is_written_code}
-
--- what the program holds has a spelling
-written_expression : (e : Expr) → is_written (formula_of e) ≡ true
-written_expression (expr.Number n) = refl
-written_expression (expr.Variable v) = refl
-written_expression (expr.LoopVariable i) = refl
-written_expression (expr.Size s) = refl
-written_expression (expr.Sum' p a q b) = and_from (is_written (formula_of a)) (is_written (formula_of b)) (written_expression a) (written_expression b)
-
-named_array : (a : Array) → has_name (array_of a) ≡ true
-named_array (array_form.Input n) = refl
-named_array (array_form.Output n) = refl
-
-mutual
-  written_before : (s : Stmt) (rest : Code) → is_written_code rest ≡ true → is_written_code (before s rest) ≡ true
-  written_before (stmt.Assign v e) rest h = and_from (is_written (formula_of e)) (is_written_code rest) (written_expression e) h
-  written_before (stmt.Load v a i) rest h = and_from (has_name (array_of a)) _ (named_array a) (and_from (is_written (formula_of i)) (is_written_code rest) (written_expression i) h)
-  written_before (stmt.Store a i e) rest h = and_from (has_name (array_of a)) _ (named_array a) (and_from (is_written (formula_of i)) _ (written_expression i) (and_from (is_written (formula_of e)) (is_written_code rest) (written_expression e) h))
-  written_before (stmt.Loop' start_form.Zero b stride_form.One shape body) rest h = and_from (is_written (formula_of b)) _ (written_expression b) (and_from (is_written_code (code_of body)) (is_written_code rest) (written_row body) h)
-
-  written_row : {m : _} (row : Row_of-Stmt m) → is_written_code (code_of row) ≡ true
-  written_row end_of-Stmt = refl
-  written_row (more_of-Stmt s rest) = written_before s (code_of rest) (written_row rest)
-
-pub written_block : (ss : List Stmt) → is_written_code (code_then ss End) ≡ true
-written_block [] = refl
-written_block (s ∷ ss) = written_before s (code_then ss End) (written_block ss)
 
 pub one_output : (k : Kernel) → is_kernel k ≡ true → k.outputs ≡ suc (k.outputs - 1)
 one_output k h =
@@ -70,6 +36,7 @@ behind k l (stmt.Load v a i) rest h =
 behind k l (stmt.Store a i e) rest h =
     let p = and_parts (is_expression k l (formula_of i)) _ (and_parts (is_writable k (array_of a)) _ h).1 in
     (and_parts (is_expression k l (formula_of e)) _ p.1).1
+behind k l (stmt.Barrier on_local on_global) rest h = (and_parts (on_local || on_global) _ h).1
 behind k l (stmt.Loop' s b c shape body) rest h =
     let p = and_parts (is_constant (formula_of b)) _ (and_parts (nat_lt l deepest) _ h).1 in
     let q = and_parts (has_statement (code_of body)) _ (and_parts (is_expression k l (formula_of b)) _ p.1).1 in

@@ -1,16 +1,15 @@
 -- The text that is printed is the kernel's, and no other.
 use Rattle.std.proofs.Common.{◌≡◌, ℕ, suc, ◌-◌, ◌<◌, ◌^◌, List, Result, Ok, Err, refl, ap, sym, ◌∙◌, subst}
-use Rattle.std.specs.Prelude.{IfOk, Vec, true}
+use Rattle.std.specs.Prelude.{IfOk, Vec}
 use Rattle.std.specs.Global.{Global}
 use Rattle.kernel_tree.specs.declared.tree.Kernel as held
 use Rattle.kernel_tree.specs.Code.{Kernel}
-use Rattle.kernel_tree.specs.Grammar.{is_kernel}
 use Rattle.kernel_tree.specs.Kernels.{kernel_of}
 use Rattle.kernel_tree.specs.Pieces.{joined}
 use Rattle.kernel_tree.specs.KernelText.{IsKernelText}
 use Rattle.kernel_spelling.specs.Spelling.{HasText, spelled_with, text_of}
 use Rattle.kernel_printer.specs.Bytes.{write_kernel}
-use Rattle.kernel_printer.proofs.Blocks.{written_block, one_output}
+use Rattle.kernel_printer.proofs.Blocks.{one_output}
 use Rattle.kernel_printer.proofs.Written.{kernel_written}
 
 abbrev Small : held.Kernel → Type 0
@@ -19,24 +18,23 @@ Small k = (k.inputs < 2 ^ 32) × (k.outputs < 2 ^ 32) × (k.sizes < 2 ^ 32) × (
 has_text : (k : held.Kernel) → Small k → HasText (kernel_of k)
 has_text k s = record {
   in_grammar = k.in_grammar;
-  written = written_block k.body.items;
-  locals = refl;
-  privates = refl;
   inputs = s.0;
   outputs = s.1;
   sizes = s.2;
+  locals = k.few_arrays.0;
+  privates = k.few_arrays.1;
   variables = s.3;
 }
 
 is_text : (k : held.Kernel) (bytes : List ℕ) → bytes ≡ write_kernel (kernel_of k) (k.outputs - 1) → bytes ≡ text_of (kernel_of k)
 is_text k bytes e =
     let outputs : k.outputs ≡ suc (k.outputs - 1) = one_output (kernel_of k) k.in_grammar in
-    e ∙ kernel_written (kernel_of k) (k.outputs - 1) (written_block k.body.items) ∙ ap (λ o. joined (spelled_with (kernel_of k) o)) (sym outputs)
+    e ∙ kernel_written (kernel_of k) (k.outputs - 1) ∙ ap (λ o. joined (spelled_with (kernel_of k) o)) (sym outputs)
 
 pub related : {E : Type 0} (k : held.Kernel) (r : Result (Vec ℕ Global) E) → ((k : Kernel) → HasText k → IsKernelText (text_of k) k) → IfOk r (λ text. text.items ≡ write_kernel (kernel_of k) (k.outputs - 1)) → IfOk r (λ _. Small k) → IfOk r (λ text. IsKernelText text.items (kernel_of k))
 related k (Ok text) taken e s = subst (λ z. IsKernelText z (kernel_of k)) (sym (is_text k text.items e)) (taken (kernel_of k) (has_text k s))
 related k (Err e) taken h s = tt
 
-pub alone : {E : Type 0} (k : held.Kernel) (r : Result (Vec ℕ Global) E) → ((bytes : List ℕ) (k : Kernel) → IsKernelText bytes k → (is_kernel k ≡ true) × (bytes ≡ text_of k)) → IfOk r (λ text. text.items ≡ write_kernel (kernel_of k) (k.outputs - 1)) → IfOk r (λ text. (bytes : List ℕ) → IsKernelText bytes (kernel_of k) → bytes ≡ text.items)
+pub alone : {E : Type 0} (k : held.Kernel) (r : Result (Vec ℕ Global) E) → ((bytes : List ℕ) (k : Kernel) → IsKernelText bytes k → HasText k × (bytes ≡ text_of k)) → IfOk r (λ text. text.items ≡ write_kernel (kernel_of k) (k.outputs - 1)) → IfOk r (λ text. (bytes : List ℕ) → IsKernelText bytes (kernel_of k) → bytes ≡ text.items)
 alone k (Ok text) only e = λ bytes h. (only bytes (kernel_of k) h).1 ∙ sym (is_text k text.items e)
 alone k (Err e) only h = tt

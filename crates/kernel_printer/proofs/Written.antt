@@ -1,15 +1,15 @@
 -- What is written is the spelling.
-use Rattle.std.proofs.Common.{◌≡◌, ℕ, zero, suc, ◌+◌, List, [], ◌∷◌, ◌++◌, ap, sym, ◌∙◌, arith, true}
-use Rattle.std.specs.Prelude.{◌&&◌, codes, decimal}
-use Rattle.std.proofs.lemmas.Bool.{and_parts}
+use Rattle.std.proofs.Common.{◌≡◌, ℕ, zero, suc, ◌+◌, List, [], ◌∷◌, ◌++◌, Bool, true, false, ap, sym, ◌∙◌, arith, refl}
+use Rattle.std.specs.Prelude.{codes, decimal}
 use Rattle.std.proofs.lemmas.List.{append_assoc, append-nil}
-use Rattle.scalar_ops.specs.declared.op.Op.TheVariants.{Add}
-use Rattle.kernel_tree.specs.Formula.{Formula, Number, Variable, LoopVariable, Size, Id, Binary, Choose}
-use Rattle.kernel_tree.specs.Code.{Code, End, Assigns, Loads, Stores, Loops, Syncs, Kernel}
+use Rattle.scalar_ops.specs.declared.op.Op.{Op}
+use Rattle.scalar_ops.specs.declared.op.Op.TheVariants.{Min, Max}
+use Rattle.kernel_tree.specs.Formula.{IdForm, GlobalId, GroupId, LocalId, GlobalSize, GroupCount, LocalSize, Comparison, Less, Equal, Formula, Number, Variable, LoopVariable, Size, Id, Binary, Choose}
+use Rattle.kernel_tree.specs.Code.{Start, FromZero, FromGlobalId, FromGroupId, FromLocalId, Stride, ByOne, ByGlobalSize, ByGroupCount, ByLocalSize, Code, End, Assigns, Loads, Stores, Loops, Syncs, Kernel}
 use Rattle.kernel_tree.specs.Pieces.{joined}
-use Rattle.kernel_tree.specs.KernelText.{Piece, space, line, semicolon, equals, plus, closes, index_ends, indent, named}
-use Rattle.kernel_spelling.specs.Spelling.{spell, array_name, spell_end, spell_code, loop_line, step_line, spell_variables, spell_sizes, spell_outputs, spell_inputs, first_output, spell_body, spell_kernel, is_written, is_written_code, starts_at_zero, steps_by_one, has_name}
-use Rattle.kernel_printer.specs.Bytes.{write_expression, write_end, write_loop, write_code, write_inputs, write_outputs, write_sizes, write_variables, write_kernel}
+use Rattle.kernel_tree.specs.KernelText.{Piece, array_name, space, line, semicolon, equals, question, colon, opens, closes, comma, barrier, index_ends, indent, named}
+use Rattle.kernel_spelling.specs.Spelling.{spell, spell_id, spell_sign, spell_comparison, spell_start, spell_stride, spell_flags, spell_end, spell_code, loop_line, test_line, step_line, block_line, spell_locals, spell_privates, spell_variables, spell_sizes, spell_outputs, spell_inputs, first_output, spell_body, spell_kernel}
+use Rattle.kernel_printer.specs.Bytes.{id_text, opening, between, comparing, write_expression, write_end, start_text, stride_text, write_loop, flags_text, write_code, write_inputs, write_outputs, write_sizes, write_arrays, write_locals, write_privates, write_variables, write_kernel}
 
 two : (f a b r : List ℕ) → (f ++ a ++ b) ++ r ≡ f ++ (a ++ (b ++ r))
 two f a b r = append_assoc (f ++ a) b r ∙ append_assoc f a (b ++ r)
@@ -26,76 +26,160 @@ five f a b c d e r = append_assoc (f ++ a ++ b ++ c ++ d) e r ∙ four f a b c d
 six : (f a b c d e g r : List ℕ) → (f ++ a ++ b ++ c ++ d ++ e ++ g) ++ r ≡ f ++ (a ++ (b ++ (c ++ (d ++ (e ++ (g ++ r))))))
 six f a b c d e g r = append_assoc (f ++ a ++ b ++ c ++ d ++ e) g r ∙ five f a b c d e (g ++ r)
 
-expression_written : (e : Formula) (front : List ℕ) (back : List Piece) → is_written e ≡ true → write_expression front e ++ joined back ≡ front ++ joined (spell e back)
-expression_written (Number v) front back h = two front (decimal v) (codes "u") (joined back) ∙ ap (λ z. front ++ z) (sym (append_assoc (decimal v) (codes "u") (joined back)))
-expression_written (Variable k) front back h = append_assoc front (named 118 k) (joined back)
-expression_written (LoopVariable k) front back h = append_assoc front (named 105 k) (joined back)
-expression_written (Size k) front back h = append_assoc front (named 115 k) (joined back)
-expression_written (Id form) front back h = absurd (cc (h))
-expression_written (Binary Add a b) front back h =
-    let w = and_parts (is_written a) (is_written b) h in
-    let left = write_expression (front ++ codes "(") a in
-    let right = write_expression (left ++ codes " + ") b in
+eight : (f a b c d e g h i r : List ℕ) → (f ++ a ++ b ++ c ++ d ++ e ++ g ++ h ++ i) ++ r ≡ f ++ (a ++ (b ++ (c ++ (d ++ (e ++ (g ++ (h ++ (i ++ r))))))))
+eight f a b c d e g h i r = append_assoc (f ++ a ++ b ++ c ++ d ++ e ++ g ++ h) i r ∙ append_assoc (f ++ a ++ b ++ c ++ d ++ e ++ g) h (i ++ r) ∙ six f a b c d e g (h ++ (i ++ r))
+
+-- ---- expressions
+
+id_written : (form : IdForm) (back : List Piece) → id_text form ++ joined back ≡ joined (spell_id form back)
+id_written GlobalId back = refl
+id_written GroupId back = refl
+id_written LocalId back = refl
+id_written GlobalSize back = refl
+id_written GroupCount back = refl
+id_written LocalSize back = refl
+
+comparison_written : (c : Comparison) (back : List Piece) → comparing c ++ joined back ≡ joined (space ∷ spell_comparison c (space ∷ back))
+comparison_written Less back = refl
+comparison_written Equal back = refl
+
+-- the pieces between an operator's operands
+abbrev middle : Op → List Piece → List Piece
+middle Min back = comma ∷ space ∷ back
+middle Max back = comma ∷ space ∷ back
+middle op back = space ∷ spell_sign op (space ∷ back)
+
+between_written : (op : Op) (back : List Piece) → between op ++ joined back ≡ joined (middle op back)
+between_written Min back = refl
+between_written Max back = refl
+between_written _ back = refl
+
+opening_written : (op : Op) (a b : Formula) (back : List Piece) → opening op ++ joined (spell a (middle op (spell b (closes ∷ back)))) ≡ joined (spell (Binary op a b) back)
+opening_written Min a b back = refl
+opening_written Max a b back = refl
+opening_written _ a b back = refl
+
+expression_written : (e : Formula) (front : List ℕ) (back : List Piece) → write_expression front e ++ joined back ≡ front ++ joined (spell e back)
+expression_written (Number v) front back = two front (decimal v) (codes "u") (joined back) ∙ ap (λ z. front ++ z) (sym (append_assoc (decimal v) (codes "u") (joined back)))
+expression_written (Variable k) front back = append_assoc front (named 118 k) (joined back)
+expression_written (LoopVariable k) front back = append_assoc front (named 105 k) (joined back)
+expression_written (Size k) front back = append_assoc front (named 115 k) (joined back)
+expression_written (Id form) front back = append_assoc front (id_text form) (joined back) ∙ ap (λ z. front ++ z) (id_written form back)
+expression_written (Binary op a b) front back =
+    let left = write_expression (front ++ opening op) a in
+    let right = write_expression (left ++ between op) b in
+    let rest = spell b (closes ∷ back) in
     append_assoc right (codes ")") (joined back)
-    ∙ expression_written b (left ++ codes " + ") (closes ∷ back) w.1
-    ∙ append_assoc left (codes " + ") (joined (spell b (closes ∷ back)))
-    ∙ expression_written a (front ++ codes "(") (space ∷ plus ∷ space ∷ spell b (closes ∷ back)) w.0
-    ∙ append_assoc front (codes "(") (joined (spell a (space ∷ plus ∷ space ∷ spell b (closes ∷ back))))
-expression_written (Binary _ a b) front back h = absurd (cc (h))
-expression_written (Choose c a b x y) front back h = absurd (cc (h))
+    ∙ expression_written b (left ++ between op) (closes ∷ back)
+    ∙ append_assoc left (between op) (joined rest)
+    ∙ ap (λ z. left ++ z) (between_written op rest)
+    ∙ expression_written a (front ++ opening op) (middle op rest)
+    ∙ append_assoc front (opening op) (joined (spell a (middle op rest)))
+    ∙ ap (λ z. front ++ z) (opening_written op a b back)
+expression_written (Choose c a b x y) front back =
+    let left = write_expression (front ++ codes "(") a in
+    let right = write_expression (left ++ comparing c) b in
+    let yes = write_expression (right ++ codes " ? ") x in
+    let no = write_expression (yes ++ codes " : ") y in
+    let rest = spell y (closes ∷ back) in
+    let choices = spell x (space ∷ colon ∷ space ∷ rest) in
+    let test = spell b (space ∷ question ∷ space ∷ choices) in
+    append_assoc no (codes ")") (joined back)
+    ∙ expression_written y (yes ++ codes " : ") (closes ∷ back)
+    ∙ append_assoc yes (codes " : ") (joined rest)
+    ∙ expression_written x (right ++ codes " ? ") (space ∷ colon ∷ space ∷ rest)
+    ∙ append_assoc right (codes " ? ") (joined choices)
+    ∙ expression_written b (left ++ comparing c) (space ∷ question ∷ space ∷ choices)
+    ∙ append_assoc left (comparing c) (joined test)
+    ∙ ap (λ z. left ++ z) (comparison_written c test)
+    ∙ expression_written a (front ++ codes "(") (space ∷ spell_comparison c (space ∷ test))
+    ∙ append_assoc front (codes "(") (joined (spell a (space ∷ spell_comparison c (space ∷ test))))
+
+-- ---- statements
 
 end_written : (l : ℕ) (front : List ℕ) (back : List Piece) → write_end l front ++ joined back ≡ front ++ joined (spell_end l back)
 end_written zero front back = append_assoc front (codes "}\n") (joined back)
 end_written (suc l) front back = two front (indent (suc l)) (codes "}\n") (joined back)
 
-loop_written : (l : ℕ) (front : List ℕ) (b : Formula) (back : List Piece) → is_written b ≡ true → write_loop l front b ++ joined back ≡ front ++ joined (indent (suc l) ∷ loop_line l (spell b (step_line l back)))
-loop_written l front b back h =
-    let head = front ++ indent (suc l) ++ codes "for (uint " ++ named 105 l ++ codes " = 0u; " ++ named 105 l ++ codes " < " in
-    three (write_expression head b) (codes "; ") (named 105 l) (codes " += 1u) {\n") (joined back)
-    ∙ expression_written b head (step_line l back) h
-    ∙ six front (indent (suc l)) (codes "for (uint ") (named 105 l) (codes " = 0u; ") (named 105 l) (codes " < ") (joined (spell b (step_line l back)))
+start_written : (s : Start) (back : List Piece) → start_text s ++ joined back ≡ joined (spell_start s back)
+start_written FromZero back = refl
+start_written FromGlobalId back = refl
+start_written FromGroupId back = refl
+start_written FromLocalId back = refl
 
-code_written : (c : Code) (l : ℕ) (front : List ℕ) (back : List Piece) → is_written_code c ≡ true → write_code l front c ++ joined back ≡ front ++ joined (spell_code l c back)
-code_written End l front back h = end_written l front back
-code_written (Assigns k e after) l front back h =
-    let w = and_parts (is_written e) (is_written_code after) h in
+stride_written : (c : Stride) (back : List Piece) → stride_text c ++ joined back ≡ joined (spell_stride c back)
+stride_written ByOne back = refl
+stride_written ByGlobalSize back = refl
+stride_written ByGroupCount back = refl
+stride_written ByLocalSize back = refl
+
+flags_written : (on_local on_global : Bool) (back : List Piece) → flags_text on_local on_global ++ joined back ≡ joined (spell_flags on_local on_global back)
+flags_written true true back = refl
+flags_written true false back = refl
+flags_written false true back = refl
+flags_written false false back = refl
+
+loop_written : (l : ℕ) (front : List ℕ) (s : Start) (b : Formula) (c : Stride) (back : List Piece) → write_loop l front s b c ++ joined back ≡ front ++ joined (indent (suc l) ∷ loop_line l (spell_start s (test_line l (spell b (step_line l (spell_stride c (block_line back)))))))
+loop_written l front s b c back =
+    let head = front ++ indent (suc l) ++ codes "for (uint " ++ named 105 l ++ codes " = " ++ start_text s ++ codes "; " ++ named 105 l ++ codes " < " in
+    let bounded = write_expression head b in
+    let rest = spell b (step_line l (spell_stride c (block_line back))) in
+    five bounded (codes "; ") (named 105 l) (codes " += ") (stride_text c) (codes ") {\n") (joined back)
+    ∙ ap (λ z. bounded ++ (codes "; " ++ (named 105 l ++ (codes " += " ++ z)))) (stride_written c (block_line back))
+    ∙ expression_written b head (step_line l (spell_stride c (block_line back)))
+    ∙ eight front (indent (suc l)) (codes "for (uint ") (named 105 l) (codes " = ") (start_text s) (codes "; ") (named 105 l) (codes " < ") (joined rest)
+    ∙ ap (λ z. front ++ (indent (suc l) ++ (codes "for (uint " ++ (named 105 l ++ (codes " = " ++ z))))) (start_written s (test_line l rest))
+
+code_written : (c : Code) (l : ℕ) (front : List ℕ) (back : List Piece) → write_code l front c ++ joined back ≡ front ++ joined (spell_code l c back)
+code_written End l front back = end_written l front back
+code_written (Assigns k e after) l front back =
     let head = front ++ indent (suc l) ++ named 118 k ++ codes " = " in
     let rest = spell_code l after back in
-    code_written after l (write_expression head e ++ codes ";\n") back w.1
+    code_written after l (write_expression head e ++ codes ";\n") back
     ∙ append_assoc (write_expression head e) (codes ";\n") (joined rest)
-    ∙ expression_written e head (semicolon ∷ line ∷ rest) w.0
+    ∙ expression_written e head (semicolon ∷ line ∷ rest)
     ∙ three front (indent (suc l)) (named 118 k) (codes " = ") (joined (spell e (semicolon ∷ line ∷ rest)))
-code_written (Loads k array i after) l front back h =
-    let v = and_parts (has_name array) (is_written i && is_written_code after) h in
-    let w = and_parts (is_written i) (is_written_code after) v.1 in
+code_written (Loads k array i after) l front back =
     let head = front ++ indent (suc l) ++ named 118 k ++ codes " = " ++ array_name array ++ codes "[" in
     let rest = spell_code l after back in
-    code_written after l (write_expression head i ++ codes "];\n") back w.1
+    code_written after l (write_expression head i ++ codes "];\n") back
     ∙ append_assoc (write_expression head i) (codes "];\n") (joined rest)
-    ∙ expression_written i head (index_ends ∷ semicolon ∷ line ∷ rest) w.0
+    ∙ expression_written i head (index_ends ∷ semicolon ∷ line ∷ rest)
     ∙ five front (indent (suc l)) (named 118 k) (codes " = ") (array_name array) (codes "[") (joined (spell i (index_ends ∷ semicolon ∷ line ∷ rest)))
-code_written (Stores array i e after) l front back h =
-    let v = and_parts (has_name array) (is_written i && (is_written e && is_written_code after)) h in
-    let u = and_parts (is_written i) (is_written e && is_written_code after) v.1 in
-    let w = and_parts (is_written e) (is_written_code after) u.1 in
+code_written (Stores array i e after) l front back =
     let head = front ++ indent (suc l) ++ array_name array ++ codes "[" in
     let mid = write_expression head i ++ codes "] = " in
     let rest = spell_code l after back in
     let value = spell e (semicolon ∷ line ∷ rest) in
-    code_written after l (write_expression mid e ++ codes ";\n") back w.1
+    code_written after l (write_expression mid e ++ codes ";\n") back
     ∙ append_assoc (write_expression mid e) (codes ";\n") (joined rest)
-    ∙ expression_written e mid (semicolon ∷ line ∷ rest) w.0
+    ∙ expression_written e mid (semicolon ∷ line ∷ rest)
     ∙ append_assoc (write_expression head i) (codes "] = ") (joined value)
-    ∙ expression_written i head (index_ends ∷ space ∷ equals ∷ space ∷ value) u.0
+    ∙ expression_written i head (index_ends ∷ space ∷ equals ∷ space ∷ value)
     ∙ three front (indent (suc l)) (array_name array) (codes "[") (joined (spell i (index_ends ∷ space ∷ equals ∷ space ∷ value)))
-code_written (Loops start b stride body after) l front back h =
-    let v = and_parts (starts_at_zero start && steps_by_one stride) (is_written b && (is_written_code body && is_written_code after)) h in
-    let u = and_parts (is_written b) (is_written_code body && is_written_code after) v.1 in
-    let w = and_parts (is_written_code body) (is_written_code after) u.1 in
-    code_written after l (write_code (suc l) (write_loop l front b) body) back w.1
-    ∙ code_written body (suc l) (write_loop l front b) (spell_code l after back) w.0
-    ∙ loop_written l front b (spell_code (suc l) body (spell_code l after back)) u.0
-code_written (Syncs on_local on_global after) l front back h = absurd (cc (h))
+code_written (Loops s b c body after) l front back =
+    code_written after l (write_code (suc l) (write_loop l front s b c) body) back
+    ∙ code_written body (suc l) (write_loop l front s b c) (spell_code l after back)
+    ∙ loop_written l front s b c (spell_code (suc l) body (spell_code l after back))
+code_written (Syncs on_local on_global after) l front back =
+    let rest = spell_code l after back in
+    code_written after l (front ++ indent (suc l) ++ codes "barrier(" ++ flags_text on_local on_global ++ codes ");\n") back
+    ∙ four front (indent (suc l)) (codes "barrier(") (flags_text on_local on_global) (codes ");\n") (joined rest)
+    ∙ ap (λ z. front ++ (indent (suc l) ++ (codes "barrier(" ++ z))) (flags_written on_local on_global (closes ∷ semicolon ∷ line ∷ rest))
+
+-- ---- declarations and parameters
+
+locals_written : (ns : List ℕ) (i : ℕ) (front : List ℕ) (back : List Piece) → write_arrays (codes "__local uint ") 108 front i ns ++ joined back ≡ front ++ joined (spell_locals i ns back)
+locals_written [] i front back = refl
+locals_written (n ∷ ns) i front back =
+    locals_written ns (suc i) (front ++ indent 1 ++ codes "__local uint " ++ named 108 i ++ codes "[" ++ decimal n ++ codes "];\n") back
+    ∙ six front (indent 1) (codes "__local uint ") (named 108 i) (codes "[") (decimal n) (codes "];\n") (joined (spell_locals (suc i) ns back))
+
+privates_written : (ns : List ℕ) (i : ℕ) (front : List ℕ) (back : List Piece) → write_arrays (codes "uint ") 112 front i ns ++ joined back ≡ front ++ joined (spell_privates i ns back)
+privates_written [] i front back = refl
+privates_written (n ∷ ns) i front back =
+    privates_written ns (suc i) (front ++ indent 1 ++ codes "uint " ++ named 112 i ++ codes "[" ++ decimal n ++ codes "];\n") back
+    ∙ six front (indent 1) (codes "uint ") (named 112 i) (codes "[") (decimal n) (codes "];\n") (joined (spell_privates (suc i) ns back))
 
 none : (i : ℕ) → i + 0 ≡ i
 none i = omega arith
@@ -134,17 +218,25 @@ variables_written (suc more) i front back =
 from_zero : (n : ℕ) → n ≡ 0 + n
 from_zero n = omega arith
 
-pub kernel_written : (k : Kernel) (more : ℕ) → is_written_code k.code ≡ true → write_kernel k more ≡ joined (spell_kernel k more)
-kernel_written k more h =
+pub kernel_written : (k : Kernel) (more : ℕ) → write_kernel k more ≡ joined (spell_kernel k more)
+kernel_written k more =
     let inputs = write_inputs (codes "__kernel void lift(") k.inputs in
     let outputs = write_outputs inputs more in
     let sizes = write_sizes outputs k.sizes in
-    let variables = write_variables (sizes ++ codes ")\n{\n") k.variables in
-    let body = spell_variables 0 k.variables (spell_code 0 k.code []) in
+    let opened = sizes ++ codes ")\n{\n" in
+    let locals = write_locals opened k.locals in
+    let privates = write_privates locals k.privates in
+    let variables = write_variables privates k.variables in
+    let code = spell_code 0 k.code [] in
+    let after_privates = spell_variables 0 k.variables code in
+    let after_locals = spell_privates 0 k.privates after_privates in
+    let body = spell_locals 0 k.locals after_locals in
     sym (append-nil (write_code 0 variables k.code))
-    ∙ code_written k.code 0 variables [] h
-    ∙ ap (λ n. write_variables (sizes ++ codes ")\n{\n") n ++ joined (spell_code 0 k.code [])) (from_zero k.variables)
-    ∙ variables_written k.variables 0 (sizes ++ codes ")\n{\n") (spell_code 0 k.code [])
+    ∙ code_written k.code 0 variables []
+    ∙ ap (λ n. write_variables privates n ++ joined code) (from_zero k.variables)
+    ∙ variables_written k.variables 0 privates code
+    ∙ privates_written k.privates 0 locals after_privates
+    ∙ locals_written k.locals 0 opened after_locals
     ∙ append_assoc sizes (codes ")\n{\n") (joined body)
     ∙ ap (λ n. write_sizes outputs n ++ joined (closes ∷ spell_body k)) (from_zero k.sizes)
     ∙ sizes_written k.sizes 0 outputs (spell_body k)

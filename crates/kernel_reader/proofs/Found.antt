@@ -9,7 +9,7 @@ use Rattle.readings.specs.declared.error.ReadError.{ReadError}
 use Rattle.readings.specs.declared.error.ReadError.TheVariants.{Refused}
 use Rattle.kernel_tree.specs.Code.{Kernel}
 use Rattle.kernel_tree.specs.Pieces.{ArePieces, joined}
-use Rattle.kernel_tree.specs.KernelText.{Piece, Notes, kernels, start, nothing, IsKernelText}
+use Rattle.kernel_tree.specs.KernelText.{Piece, Notes, all_of, kernels, start, nothing, IsKernelText}
 use Rattle.kernel_reader.specs.Views.{bytes_of}
 use Rattle.kernel_reader.specs.Noted.{notes_of}
 
@@ -47,7 +47,7 @@ pub stops_at : (n : Notes) (ps qs : List (Bor (List ℕ))) (e : ReadError) (i : 
 stops_at n ps qs e i w a f r = stops_from_nothing n ps qs i a f (subst (λ z. Refuses kernels start n (map bytes_of ps) z) w r)
 
 -- the reading of a kernel's text, by these pieces
-pub reading_of : OneCut → (bytes : List ℕ) (k : Kernel) (n : Notes) (ps qs : List (Bor (List ℕ))) → n ≡ nothing → ps ≡ qs → ArePieces bytes (map bytes_of qs) → (h : IsKernelText bytes k) → Reads kernels start n (map bytes_of ps) [] h.1
+pub reading_of : OneCut → (bytes : List ℕ) (k : Kernel) (n : Notes) (ps qs : List (Bor (List ℕ))) → n ≡ nothing → ps ≡ qs → ArePieces bytes (map bytes_of qs) → (h : IsKernelText bytes k) → Reads kernels start n (map bytes_of ps) [] (all_of k)
 reading_of one bytes k n ps qs e f cut h =
-    let pieces : h.0 ≡ map bytes_of ps = one bytes h.0 (map bytes_of qs) h.2 cut ∙ ap (λ z. map bytes_of z) (sym f) in
-    subst (λ z. Reads kernels start z (map bytes_of ps) [] h.1) (sym e) (subst (λ z. Reads kernels start nothing z [] h.1) pieces h.3)
+    let pieces : h.0 ≡ map bytes_of ps = one bytes h.0 (map bytes_of qs) h.1 cut ∙ ap (λ z. map bytes_of z) (sym f) in
+    subst (λ z. Reads kernels start z (map bytes_of ps) [] (all_of k)) (sym e) (subst (λ z. Reads kernels start nothing z [] (all_of k)) pieces h.2)

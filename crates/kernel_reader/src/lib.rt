@@ -1,8 +1,11 @@
 //! Kernel text, read back as a kernel.
 #![tactic(auto)]
 
+mod declarations;
 mod error;
+mod expressions;
 mod form;
+mod lines;
 mod made;
 mod parameters;
 mod pieces;

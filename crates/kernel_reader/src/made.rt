@@ -9,21 +9,24 @@ ghost use Rattle.kernel_reader.specs.Views.{bytes_of, part_of, note_of};
 ghost use Rattle.kernel_reader.specs.Noted.{notes_of};
 
 use crate::form::{Debts, Form, Mark};
-use crate::statements::is_indent;
+use crate::lines::is_indent;
 use kernel_tree::laws::blocks;
-use kernel_tree::tree::{Array, Expr, Start, Stmt, Stride};
+use kernel_tree::tree::{Array, Comparison, Expr, Start, Stmt, Stride};
 use readings::Notes;
+use scalar_ops::op::Op;
 use std::alloc::{AllocError, Global};
 use std::collections::VecDeque;
 use std::marker::PhantomData;
 
-/// How many names are declared so far, and the expressions and blocks that are made and not yet
+/// The names declared so far, with the lengths of the arrays, and the expressions and blocks that are made and not yet
 /// used, the last one first.
 #[derive(Drop)]
 pub struct Made<'a> {
     pub inputs: u32,
     pub outputs: u32,
     pub sizes: u32,
+    pub locals: Vec<u32>,
+    pub privates: Vec<u32>,
     pub variables: u32,
     pub values: VecDeque<Expr>,
     pub blocks: VecDeque<VecDeque<Stmt>>,
@@ -42,8 +45,8 @@ pub fn statements_of(alloc: Global, mut block: VecDeque<Stmt>) -> Result<Vec<Stm
 }
 
 impl<'a> Made<'a> {
-    fn sum(&mut self, alloc: Global) -> Result<bool, AllocError>
-        ensures { let note = note_of Mark.Sum in
+    fn both(&mut self, alloc: Global, op: Op) -> Result<bool, AllocError>
+        ensures { let note = note_of (Mark.Both op) in
             Noticed result (marked note (notes_of self.old)) (notes_of self.new) }
     {
         let Some(right) = self.values.pop_front() else {
@@ -52,9 +55,29 @@ impl<'a> Made<'a> {
         let Some(left) = self.values.pop_front() else {
             return Ok(false);
         };
-        let left = Box::new(alloc, left)?;
-        let right = Box::new(alloc, right)?;
-        self.values.push_front(Expr::Sum(left, right))?;
+        self.values
+            .push_front(Expr::binary(alloc, op, left, right)?)?;
+        Ok(true)
+    }
+
+    fn either(&mut self, alloc: Global, comparison: Comparison) -> Result<bool, AllocError>
+        ensures { let note = note_of (Mark.Either comparison) in
+            Noticed result (marked note (notes_of self.old)) (notes_of self.new) }
+    {
+        let Some(no) = self.values.pop_front() else {
+            return Ok(false);
+        };
+        let Some(yes) = self.values.pop_front() else {
+            return Ok(false);
+        };
+        let Some(right) = self.values.pop_front() else {
+            return Ok(false);
+        };
+        let Some(left) = self.values.pop_front() else {
+            return Ok(false);
+        };
+        self.values
+            .push_front(Expr::choose(alloc, comparison, left, right, yes, no)?)?;
         Ok(true)
     }
 
@@ -106,8 +129,28 @@ impl<'a> Made<'a> {
         Ok(true)
     }
 
-    fn close_loop(&mut self, alloc: Global) -> Result<bool, AllocError>
-        ensures { let note = note_of Mark.Loop in
+    fn synchronize(&mut self, on_local: bool, on_global: bool) -> Result<bool, AllocError>
+        ensures { let note = note_of (Mark.Sync on_local on_global) in
+            Noticed result (marked note (notes_of self.old)) (notes_of self.new) }
+    {
+        let Some(mut block) = self.blocks.pop_front() else {
+            return Ok(false);
+        };
+        block.push_front(Stmt::Barrier {
+            on_local,
+            on_global,
+        })?;
+        self.blocks.push_front(block)?;
+        Ok(true)
+    }
+
+    fn close_loop(
+        &mut self,
+        alloc: Global,
+        start: Start,
+        stride: Stride,
+    ) -> Result<bool, AllocError>
+        ensures { let note = note_of (Mark.Loop start stride) in
             Noticed result (marked note (notes_of self.old)) (notes_of self.new) }
     {
         blocks();
@@ -121,7 +164,7 @@ impl<'a> Made<'a> {
             return Ok(false);
         };
         let body = statements_of(alloc, body)?;
-        after.push_front(Stmt::Loop(Start::Zero, bound, Stride::One, body))?;
+        after.push_front(Stmt::Loop(start, bound, stride, body))?;
         self.blocks.push_front(after)?;
         Ok(true)
     }
@@ -160,16 +203,25 @@ impl<'a> Notes for Made<'a> {
 
     fn give(&self, form: Form, piece: &'a [u8], owed: &mut Debts<'a>) -> Result<bool, AllocError> {
         match form {
-            Form::Body => self.give_body(piece, owed),
-            Form::NewVariable => self.give_variable(piece, owed),
             Form::Statement(loops) => self.give_statement(loops, piece, owed),
             Form::Next(loops) => self.give_next(loops, piece, owed),
             Form::Source(loops, variable) => self.give_source(loops, variable, piece, owed),
+            Form::Fence(loops) => self.give_fence(loops, piece, owed),
+            Form::AfterLocal(loops) => self.give_after_local(loops, piece, owed),
+            Form::Beginning(place) => self.give_beginning(place, piece, owed),
+            Form::BeginningId(place) => self.give_beginning_id(place, piece, owed),
+            Form::Step(place, start) => self.give_step(place, start, piece, owed),
+            Form::StepId(place, start) => self.give_step_id(place, start, piece, owed),
             Form::Turn(loops) => self.give_turn(loops, piece, owed),
             Form::Indent(level) => Ok(is_indent(piece, level as u64)),
             Form::Value(bound, loops, depth) => self.give_value(bound, loops, depth, piece, owed),
+            Form::Opened(bound, loops, depth) => self.give_opened(bound, loops, depth, piece, owed),
+            Form::IdName => self.give_id(piece, owed),
             Form::Rest(bound, loops, depth) => self.give_rest(bound, loops, depth, piece, owed),
-            _ => self.give_head(form, piece, owed),
+            Form::AfterLess(bound, loops, depth) => {
+                self.give_after_less(bound, loops, depth, piece, owed)
+            }
+            _ => self.give_declaration(form, piece, owed),
         }
     }
 
@@ -191,6 +243,14 @@ impl<'a> Notes for Made<'a> {
                 self.variables = count;
                 Ok(true)
             }
+            Mark::DeclareLocal(elements) => {
+                self.locals.push(elements)?;
+                Ok(true)
+            }
+            Mark::DeclarePrivate(elements) => {
+                self.privates.push(elements)?;
+                Ok(true)
+            }
             Mark::Number(number) => {
                 self.values.push_front(Expr::Number(number))?;
                 Ok(true)
@@ -207,7 +267,12 @@ impl<'a> Notes for Made<'a> {
                 self.values.push_front(Expr::Size(k))?;
                 Ok(true)
             }
-            Mark::Sum => self.sum(alloc),
+            Mark::Id(form) => {
+                self.values.push_front(Expr::Id(form))?;
+                Ok(true)
+            }
+            Mark::Both(op) => self.both(alloc, op),
+            Mark::Either(comparison) => self.either(alloc, comparison),
             Mark::Stop => {
                 self.blocks.push_front(VecDeque::new(alloc))?;
                 Ok(true)
@@ -215,7 +280,8 @@ impl<'a> Notes for Made<'a> {
             Mark::Assign(variable) => self.assign(variable),
             Mark::Load(variable, array) => self.load(variable, array),
             Mark::Store(array) => self.store(array),
-            Mark::Loop => self.close_loop(alloc),
+            Mark::Loop(start, stride) => self.close_loop(alloc, start, stride),
+            Mark::Sync(on_local, on_global) => self.synchronize(on_local, on_global),
         }
     }
 

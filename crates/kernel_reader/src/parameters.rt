@@ -3,20 +3,19 @@
 ghost use Rattle.std.specs.Prelude.{◌≡◌, ◌+◌, ◌<◌, ◌^◌, true};
 ghost use Rattle.kernel_tree.specs.KernelText as text;
 ghost use Rattle.kernel_spelling.specs.Kinds.{kind_of};
-ghost use Rattle.kernel_spelling.specs.Rows.{row, head_row, is_next, new_input_row, new_output_row, new_size_row, new_variable_row};
+ghost use Rattle.kernel_spelling.specs.Rows.{row, head_row, is_next, new_input_row, new_output_row, new_size_row};
 ghost use Rattle.kernel_reader.specs.Views.{Gave, part_of};
 ghost use Rattle.kernel_reader.specs.Noted.{notes_of};
 
-use crate::form::{
-    CLOSE, COMMA, CONST, Debts, Form, GLOBAL, LINE, Mark, SEMICOLON, SPACE, STAR, UINT,
-};
+use crate::form::{CLOSE, COMMA, CONST, Debts, Form, GLOBAL, Mark, SPACE, STAR, UINT};
 use crate::made::Made;
 use kernel_spelling::Kind;
+use kernel_tree::tree::Array;
 use readings::{Owed, give};
 use std::alloc::AllocError;
 
 /// Whether a new name has the next number.
-fn is_next(k: u32, count: u32) -> bool
+pub fn is_next(k: u32, count: u32) -> bool
     ensures is { result ≡ is_next k count }
     ensures fits { result ≡ true → count + 1 < 2 ^ 32 }
 {
@@ -30,7 +29,7 @@ impl<'a> Made<'a> {
             Gave result owed.old.items owed.new.items (new_input_row n (kind_of p)) }
     {
         match Kind::of(piece) {
-            Kind::Input(k) => {
+            Kind::Array(Array::Input(k)) => {
                 if !is_next(k, self.inputs) {
                     return Ok(false);
                 }
@@ -48,7 +47,7 @@ impl<'a> Made<'a> {
             Gave result owed.old.items owed.new.items (new_output_row n (kind_of p)) }
     {
         match Kind::of(piece) {
-            Kind::Output(k) => {
+            Kind::Array(Array::Output(k)) => {
                 if !is_next(k, self.outputs) {
                     return Ok(false);
                 }
@@ -71,27 +70,6 @@ impl<'a> Made<'a> {
                 }
                 let declared = Owed::Mark(Mark::DeclareSize(self.sizes + 1));
                 give(owed, &[declared, Owed::Form(Form::AfterSize)])
-            }
-            _ => Ok(false),
-        }
-    }
-
-    pub fn give_variable(&self, piece: &'a [u8], owed: &mut Debts<'a>) -> Result<bool, AllocError>
-        ensures { let n = notes_of self.now in
-            let p = piece.entry.now in
-            Gave result owed.old.items owed.new.items (new_variable_row n (kind_of p)) }
-    {
-        match Kind::of(piece) {
-            Kind::Variable(k) => {
-                if !is_next(k, self.variables) {
-                    return Ok(false);
-                }
-                let declared = Owed::Mark(Mark::DeclareVariable(self.variables + 1));
-                let indent = Owed::Form(Form::Indent(1));
-                give(
-                    owed,
-                    &[declared, SEMICOLON, LINE, indent, Owed::Form(Form::Body)],
-                )
             }
             _ => Ok(false),
         }

@@ -4,14 +4,14 @@ ghost use Rattle.std.specs.Prelude.{◌≡◌, ℕ, List, IfOk, IfErr, map, []};
 ghost use Rattle.readings.specs.Readings.{Reads};
 ghost use Rattle.kernel_tree.specs.Code as code;
 ghost use Rattle.kernel_tree.specs.Kernels.{kernel_of};
-ghost use Rattle.kernel_tree.specs.KernelText.{IsKernelText, IsMade, Piece, kernels, start, nothing};
+ghost use Rattle.kernel_tree.specs.KernelText.{IsKernelText, Piece, all_of, kernels, start, nothing};
 ghost use Rattle.kernel_spelling.specs.Spelling.{HasText, text_of};
 ghost use Rattle.kernel_reader.specs.Views.{bytes_of, owed_by};
 ghost use Rattle.kernel_reader.specs.Noted.{notes_of};
 ghost use Rattle.kernel_reader.specs.Exactly.{Answers, Refuses};
 
 use crate::error::KernelNo;
-use crate::form::{Debt, Form, LINE, OPEN, OPEN_BLOCK, SPACE};
+use crate::form::{Debt, Form, LINE, OPEN_BLOCK, OPENS, SPACE};
 use crate::made::{Made, statements_of};
 use crate::pieces::{offset_of, pieces};
 use kernel_spelling::{one_cut, one_kernel, one_text, whole_readings};
@@ -28,13 +28,13 @@ const START: [Debt<'static>; 12] = [
     Owed::Token(b"void"),
     SPACE,
     Owed::Token(b"lift"),
-    Owed::Token(OPEN),
+    OPENS,
     Owed::Form(Form::Parameter),
     LINE,
     OPEN_BLOCK,
     LINE,
     Owed::Form(Form::Indent(1)),
-    Owed::Form(Form::Body),
+    Owed::Form(Form::Locals),
 ];
 
 fn first<'a>(alloc: Global) -> Made<'a>
@@ -44,6 +44,8 @@ fn first<'a>(alloc: Global) -> Made<'a>
         inputs: 0,
         outputs: 0,
         sizes: 0,
+        locals: Vec::new(alloc),
+        privates: Vec::new(alloc),
         variables: 0,
         values: VecDeque::new(alloc),
         blocks: VecDeque::new(alloc),
@@ -54,7 +56,7 @@ fn first<'a>(alloc: Global) -> Made<'a>
 /// The kernel that a whole reading made.
 fn kernel_from(alloc: Global, made: Made) -> Result<Kernel, AllocError>
     requires { (ps : List Piece) × Reads kernels start nothing ps [] (notes_of made) }
-    ensures { IfOk result (λ k. IsMade (notes_of made.entry) (kernel_of k)) }
+    ensures { IfOk result (λ k. notes_of made.entry ≡ all_of (kernel_of k)) }
 {
     whole_readings();
     let mut made = made;
@@ -66,6 +68,8 @@ fn kernel_from(alloc: Global, made: Made) -> Result<Kernel, AllocError>
         inputs: made.inputs,
         outputs: made.outputs,
         sizes: made.sizes,
+        locals: made.locals,
+        privates: made.privates,
         variables: made.variables,
         body,
     })

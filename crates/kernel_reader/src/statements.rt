@@ -1,71 +1,36 @@
-// The body of a kernel's text: what its forms give way to.
+// The statements of a kernel's text: what their forms give way to.
 
-ghost use Rattle.std.specs.Prelude.{◌≡◌, ◌<◌, ◌^◌, ◌++◌, OnOk, Some, bytes_eq};
-ghost use Rattle.kernel_tree.specs.KernelText as text;
-ghost use Rattle.kernel_tree.specs.KernelText.{indent};
+ghost use Rattle.std.specs.Prelude.{◌≡◌, Some};
+ghost use Rattle.kernel_tree.specs.Grammar.{is_readable, is_writable};
+ghost use Rattle.kernel_tree.specs.KernelText.{counted};
 ghost use Rattle.kernel_tree.specs.Tree.{array_of};
 ghost use Rattle.kernel_spelling.specs.Kinds.{kind_of};
-ghost use Rattle.kernel_spelling.specs.Rows.{row, statement_row, value_row, source_row, next_row, turn_row, looping, loading};
-ghost use Rattle.kernel_reader.specs.Views.{Gave, owed_by};
+ghost use Rattle.kernel_spelling.specs.Rows.{word_row, statement_row, source_row, next_row, fence_row, after_local_row, storing, loading};
+ghost use Rattle.kernel_reader.specs.Views.{Gave};
 ghost use Rattle.kernel_reader.specs.Noted.{notes_of};
 
 use crate::form::{
-    CLOSE, CLOSE_BLOCK, CLOSE_INDEX, Debts, EQUALS, FOR, Form, LESS, LINE, Mark, ONE, OPEN,
-    OPEN_BLOCK, OPEN_INDEX, PLUS, SEMICOLON, SPACE, UINT, ZERO,
+    BAR, BARRIER, BLANK, CLOSE, CLOSE_BLOCK, CLOSE_INDEX, CLOSES, DEEPEST, Debts, EQUALS, FOR, Form,
+    GLOBAL_FENCE, LINE, LOCAL_FENCE, Mark, OPEN_INDEX, OPENS, Place, SEMICOLON, SPACE, UINT,
 };
+use crate::lines::is_indent;
 use crate::made::Made;
 use kernel_spelling::Kind;
 use kernel_tree::tree::Array;
 use readings::{Owed, give, owe};
 use std::alloc::AllocError;
 
-/// How deep loops and expressions nest at most.
-const DEEPEST: u32 = 1024;
-
-/// Whether the piece is the spaces of so many levels.
-pub fn is_indent(piece: &[u8], level: u64) -> bool
-    requires { level < 2 ^ 33 }
-    ensures { result ≡ bytes_eq piece.now (indent level) }
+/// Gives what follows the array that is stored to.
+fn give_store<'a>(loops: u32, array: Array, owed: &mut Debts<'a>) -> Result<bool, AllocError>
+    ensures { let given = storing loops (array_of array) in
+        Gave result owed.old.items owed.new.items (Some given) }
 {
-    let mut left = 2 * level;
-    for b in piece {
-        if *b != b' ' || left == 0 {
-            return false;
-        }
-        left -= 1;
-    }
-    left == 0
-}
-
-/// Owes what follows the `for` of a loop.
-fn owe_loop<'a>(loops: u32, owed: &mut Debts<'a>) -> Result<(), AllocError>
-    requires { loops < 1024 }
-    ensures { OnOk result (owed_by owed.new.items ≡ looping loops ++ owed_by owed.old.items) }
-{
-    let turn = Owed::Form(Form::Turn(loops));
-    let bound = Owed::Form(Form::Value(true, loops, 1));
-    let indent = Owed::Form(Form::Indent(loops + 2));
-    let body = Owed::Form(Form::Statement(loops + 1));
+    let value = Owed::Form(Form::Value(false, loops, 1));
     let next = Owed::Form(Form::Next(loops));
-    let open = Owed::Token(OPEN);
-    let close = Owed::Token(CLOSE);
-    let plus = Owed::Token(PLUS);
-    let uint = Owed::Token(UINT);
-    owe(owed, &[indent, body, next, Owed::Mark(Mark::Loop)])?;
-    owe(
-        owed,
-        &[
-            SEMICOLON, SPACE, turn, SPACE, plus, EQUALS, SPACE, ONE, close, SPACE, OPEN_BLOCK, LINE,
-        ],
-    )?;
-    owe(owed, &[turn, SPACE, LESS, SPACE, bound])?;
-    owe(
-        owed,
-        &[
-            SPACE, open, uint, SPACE, turn, SPACE, EQUALS, SPACE, ZERO, SEMICOLON, SPACE,
-        ],
-    )?;
-    Ok(())
+    let stored = Owed::Mark(Mark::Store(array));
+    let equals = Owed::Token(EQUALS);
+    owe(owed, &[SPACE, value, SEMICOLON, LINE, next, stored])?;
+    give(owed, &[OPEN_INDEX, value, CLOSE_INDEX, SPACE, equals])
 }
 
 /// Gives what follows the array that a variable is loaded from.
@@ -95,7 +60,53 @@ fn give_load<'a>(
     )
 }
 
+/// Gives what follows the word with which a loop or a barrier begins.
+fn give_word<'a>(loops: u32, piece: &'a [u8], owed: &mut Debts<'a>) -> Result<bool, AllocError>
+    ensures { let p = piece.entry.now in
+        Gave result owed.old.items owed.new.items (word_row loops p) }
+{
+    if piece == FOR {
+        if loops >= DEEPEST {
+            return Ok(false);
+        }
+        let uint = Owed::Token(UINT);
+        let turn = Owed::Form(Form::Turn(loops));
+        let equals = Owed::Token(EQUALS);
+        let beginning = Owed::Form(Form::Beginning(Place { loops }));
+        return give(
+            owed,
+            &[
+                SPACE, OPENS, uint, SPACE, turn, SPACE, equals, SPACE, beginning,
+            ],
+        );
+    }
+    if piece == BARRIER {
+        return give(owed, &[OPENS, Owed::Form(Form::Fence(loops))]);
+    }
+    Ok(false)
+}
+
 impl<'a> Made<'a> {
+    fn is_declared(&self, array: Array) -> bool
+        ensures { result ≡ is_readable (counted (notes_of self.now)) (array_of array) }
+    {
+        match array {
+            Array::Input(k) => k < self.inputs,
+            Array::Output(k) => k < self.outputs,
+            Array::Local(k) => (k as usize) < self.locals.len(),
+            Array::Private(k) => (k as usize) < self.privates.len(),
+        }
+    }
+
+    fn may_be_written(&self, array: Array) -> bool
+        ensures { result ≡ is_writable (counted (notes_of self.now)) (array_of array) }
+    {
+        match array {
+            Array::Input(_) => false,
+            _ => self.is_declared(array),
+        }
+    }
+
     pub fn give_statement(
         &self,
         loops: u32,
@@ -111,90 +122,17 @@ impl<'a> Made<'a> {
                 if k >= self.variables {
                     return Ok(false);
                 }
+                let equals = Owed::Token(EQUALS);
                 let source = Owed::Form(Form::Source(loops, k));
-                give(owed, &[SPACE, EQUALS, SPACE, source])
+                give(owed, &[SPACE, equals, SPACE, source])
             }
-            Kind::Output(k) => {
-                if k >= self.outputs {
+            Kind::Array(array) => {
+                if !self.may_be_written(array) {
                     return Ok(false);
                 }
-                let value = Owed::Form(Form::Value(false, loops, 1));
-                let next = Owed::Form(Form::Next(loops));
-                let stored = Owed::Mark(Mark::Store(Array::Output(k)));
-                give(
-                    owed,
-                    &[
-                        OPEN_INDEX,
-                        value,
-                        CLOSE_INDEX,
-                        SPACE,
-                        EQUALS,
-                        SPACE,
-                        value,
-                        SEMICOLON,
-                        LINE,
-                        next,
-                        stored,
-                    ],
-                )
+                give_store(loops, array, owed)
             }
-            Kind::Other => {
-                if piece != FOR || loops >= DEEPEST {
-                    return Ok(false);
-                }
-                owe_loop(loops, owed)?;
-                Ok(true)
-            }
-            _ => Ok(false),
-        }
-    }
-
-    pub fn give_value(
-        &self,
-        bound: bool,
-        loops: u32,
-        depth: u32,
-        piece: &'a [u8],
-        owed: &mut Debts<'a>,
-    ) -> Result<bool, AllocError>
-        ensures { let n = notes_of self.now in
-            let p = piece.entry.now in
-            let row = value_row n bound loops depth p (kind_of p) in
-            Gave result owed.old.items owed.new.items row }
-    {
-        match Kind::of(piece) {
-            Kind::Variable(k) => {
-                if bound || k >= self.variables || depth > DEEPEST {
-                    return Ok(false);
-                }
-                give(owed, &[Owed::Mark(Mark::Variable(k))])
-            }
-            Kind::LoopVariable(k) => {
-                if bound || k >= loops || depth > DEEPEST {
-                    return Ok(false);
-                }
-                give(owed, &[Owed::Mark(Mark::LoopVariable(k))])
-            }
-            Kind::Size(k) => {
-                if k >= self.sizes || depth > DEEPEST {
-                    return Ok(false);
-                }
-                give(owed, &[Owed::Mark(Mark::Size(k))])
-            }
-            Kind::Literal(number) => {
-                if depth > DEEPEST {
-                    return Ok(false);
-                }
-                give(owed, &[Owed::Mark(Mark::Number(number))])
-            }
-            Kind::Other => {
-                if piece != OPEN || depth > DEEPEST {
-                    return Ok(false);
-                }
-                let left = Owed::Form(Form::Value(bound, loops, depth + 1));
-                let rest = Owed::Form(Form::Rest(bound, loops, depth + 1));
-                give(owed, &[left, SPACE, rest])
-            }
+            Kind::Other => give_word(loops, piece, owed),
             _ => Ok(false),
         }
     }
@@ -211,17 +149,11 @@ impl<'a> Made<'a> {
             Gave result owed.old.items owed.new.items (source_row n loops variable p (kind_of p)) }
     {
         match Kind::of(piece) {
-            Kind::Input(k) => {
-                if k >= self.inputs {
+            Kind::Array(array) => {
+                if !self.is_declared(array) {
                     return Ok(false);
                 }
-                give_load(loops, variable, Array::Input(k), owed)
-            }
-            Kind::Output(k) => {
-                if k >= self.outputs {
-                    return Ok(false);
-                }
-                give_load(loops, variable, Array::Output(k), owed)
+                give_load(loops, variable, array, owed)
             }
             _ => {
                 let next = Owed::Form(Form::Next(loops));
@@ -257,51 +189,57 @@ impl<'a> Made<'a> {
         give(owed, &[Owed::Token(CLOSE_BLOCK), LINE, stop])
     }
 
-    pub fn give_rest(
-        &self,
-        bound: bool,
-        loops: u32,
-        depth: u32,
-        piece: &'a [u8],
-        owed: &mut Debts<'a>,
-    ) -> Result<bool, AllocError>
-        ensures { let n = notes_of self.now in
-            let p = piece.entry.now in
-            Gave result owed.old.items owed.new.items (row n (text.Rest bound loops depth) p) }
-    {
-        if piece == PLUS {
-            let right = Owed::Form(Form::Value(bound, loops, depth));
-            return give(
-                owed,
-                &[SPACE, right, Owed::Token(CLOSE), Owed::Mark(Mark::Sum)],
-            );
-        }
-        Ok(false)
-    }
-
-    pub fn give_turn(
+    pub fn give_fence(
         &self,
         loops: u32,
         piece: &'a [u8],
         owed: &mut Debts<'a>,
     ) -> Result<bool, AllocError>
         ensures { let p = piece.entry.now in
-            Gave result owed.old.items owed.new.items (turn_row loops (kind_of p)) }
+            Gave result owed.old.items owed.new.items (fence_row loops p) }
     {
-        match Kind::of(piece) {
-            Kind::LoopVariable(k) => Ok(k == loops),
-            _ => Ok(false),
+        if piece == LOCAL_FENCE {
+            return give(owed, &[Owed::Form(Form::AfterLocal(loops))]);
         }
+        if piece == GLOBAL_FENCE {
+            let next = Owed::Form(Form::Next(loops));
+            let synchronized = Owed::Mark(Mark::Sync(false, true));
+            return give(owed, &[CLOSES, SEMICOLON, LINE, next, synchronized]);
+        }
+        Ok(false)
     }
 
-    pub fn give_body(&self, piece: &'a [u8], owed: &mut Debts<'a>) -> Result<bool, AllocError>
-        ensures { let n = notes_of self.now in
-            let p = piece.entry.now in
-            Gave result owed.old.items owed.new.items (row n text.Body p) }
+    pub fn give_after_local(
+        &self,
+        loops: u32,
+        piece: &'a [u8],
+        owed: &mut Debts<'a>,
+    ) -> Result<bool, AllocError>
+        ensures { let p = piece.entry.now in
+            Gave result owed.old.items owed.new.items (after_local_row loops p) }
     {
-        if piece == UINT {
-            return give(owed, &[SPACE, Owed::Form(Form::NewVariable)]);
+        let next = Owed::Form(Form::Next(loops));
+        if piece == CLOSE {
+            let synchronized = Owed::Mark(Mark::Sync(true, false));
+            return give(owed, &[SEMICOLON, LINE, next, synchronized]);
         }
-        self.give_statement(0, piece, owed)
+        if piece == BLANK {
+            let global = Owed::Token(GLOBAL_FENCE);
+            let synchronized = Owed::Mark(Mark::Sync(true, true));
+            return give(
+                owed,
+                &[
+                    BAR,
+                    SPACE,
+                    global,
+                    CLOSES,
+                    SEMICOLON,
+                    LINE,
+                    next,
+                    synchronized,
+                ],
+            );
+        }
+        Ok(false)
     }
 }

@@ -1,6 +1,6 @@
 pub mod Kept
 pub mod Spelled
-pub mod Whole
 pub mod Cut
-pub mod Stands
+pub mod Whole
 pub mod One
+pub mod Stands

@@ -1,24 +1,19 @@
 -- What is spelled is read.
-use Rattle.std.proofs.Common.{◌≡◌, ℕ, zero, suc, ◌+◌, ◌<◌, ◌≤◌, ◌^◌, List, [], ◌∷◌, ◌++◌, Bool, true, false, refl, ap, sym, ◌∙◌, subst, arith, max, lit<, lit≤, Some}
-use Rattle.std.specs.Prelude.{nat_lt, nat_le, ◌&&◌}
+use Rattle.std.proofs.Common.{◌≡◌, ℕ, zero, suc, ◌+◌, ◌<◌, ◌≤◌, ◌^◌, List, [], ◌∷◌, ◌++◌, Bool, true, false, refl, ap, sym, ◌∙◌, subst, arith, max, lit<, lit≤, Some, length}
+use Rattle.std.specs.Prelude.{nat_lt, nat_le, ◌&&◌, ◌||◌, decimal}
 use Rattle.std.proofs.Math.Nat.{le-max_left, le-max_right}
 use Rattle.std.proofs.lemmas.Bool.{ltb-true, leb-true, and_parts}
-use Rattle.std.proofs.lemmas.List.{append_assoc}
+use Rattle.std.proofs.lemmas.List.{append_assoc, append-nil}
 use Rattle.readings.specs.Readings.{Token, Form, Mark, Reads, stands, takes, gives, notes}
-use Rattle.scalar_ops.specs.declared.op.Op.TheVariants.{Add}
-use Rattle.kernel_tree.specs.Formula.{Formula, Number, Variable, LoopVariable, Size, Id, Binary, Choose}
-use Rattle.kernel_tree.specs.Code.{Array, Input, Output, Local, Private, FromZero, ByOne, Code, End, Assigns, Loads, Stores, Loops, Syncs, Kernel}
-use Rattle.kernel_tree.specs.Grammar.{deepest, height, is_constant, names_declared, is_expression, is_readable, is_writable, are_statements, has_statement}
-use Rattle.kernel_tree.specs.KernelText.{Piece, Part, Parameter, Body, Statement, Next, Source, AfterOutput, AfterSize, Indent, Value, Note, Assign, Load, Store, Loop, Notes, Item, texts, stored, loop_head, loop_step, noted, number_limit, line, semicolon, opens, index_begins, index_ends, block_begins, for, indent, literal, kernels, marked, Names, a_variable, a_loop_variable, a_size, Readable, from_input, from_output, Writable, to_output, Gives, an_input, pointer_to_const, pointer, new_input, new_output, last_output, more_outputs, another_output, first_size, new_size, last_size, more_sizes, declaration, new_variable, statements, assign, store, loop, load, value, another, end, end_of_loop, turn, indented, number, named_value, both, sum, start, nothing}
-use Rattle.kernel_spelling.specs.Spelling.{spell, array_name, spell_code, loop_line, step_line, spell_variables, spell_sizes, spell_outputs, spell_inputs, first_output, spell_body, spelled_with, HasText, is_written, has_name, is_written_code}
-use Rattle.kernel_spelling.specs.Meaning.{counted, FitsAt}
-use Rattle.kernel_spelling.proofs.Kept.{before}
-
-pub record CountsFit (n : Notes) : Type 0 where
-  pub inputs : n.inputs < number_limit
-  pub outputs : n.outputs < number_limit
-  pub sizes : n.sizes < number_limit
-  pub variables : n.variables < number_limit
+use Rattle.scalar_ops.specs.declared.op.Op.{Op}
+use Rattle.scalar_ops.specs.declared.op.Op.TheVariants.{Add, Mul, Min, Max, And, Or, Xor, Sub, Shl, Shr, Div, Rem, Lt, Eq}
+use Rattle.kernel_tree.specs.Formula.{IdForm, GlobalId, GroupId, LocalId, GlobalSize, GroupCount, LocalSize, Comparison, Less, Equal, Formula, Number, Variable, LoopVariable, Size, Id, Binary, Choose}
+use Rattle.kernel_tree.specs.Code.{Array, Input, Output, Local, Private, Start, FromZero, FromGlobalId, FromGroupId, FromLocalId, Stride, ByOne, ByGlobalSize, ByGroupCount, ByLocalSize, Code, End, Assigns, Loads, Stores, Loops, Syncs, Kernel}
+use Rattle.kernel_tree.specs.Grammar.{deepest, height, is_constant, is_operator, names_declared, is_expression, is_readable, is_writable, are_statements, has_statement, are_lengths}
+use Rattle.kernel_tree.specs.KernelText.{Piece, Part, Parameter, Locals, Privates, Variables, Declared, Statement, Next, Source, Fence, Beginning, Step, AfterOutput, AfterSize, Turn, Indent, Value, Opened, Rest, Note, Both, Either, Assign, Load, Store, Loop, Sync, Notes, Item, texts, counted, all_of, stored, loop_head, loop_test, loop_body, operated, compared, noted, array_name, array_number, number_limit, space, line, semicolon, equals, less, plus, question, colon, comma, opens, closes, uint, index_begins, index_ends, block_begins, local, for, barrier, least, greatest, indent, variable, literal, kernels, marked, Names, a_variable, a_loop_variable, a_size, adds, subtracts, multiplies, divides, leaves, ands, ors, xors, takes_least, takes_greatest, Gives, an_input, pointer_to_const, pointer, new_input, new_output, last_output, more_outputs, another_output, first_size, new_size, last_size, more_sizes, a_local, no_local, new_local, local_length, a_declaration, no_declaration, new_private, first_variable, private_length, another_variable, statements, new_variable, assign, store, loop, meet, load, value, another, end, end_of_loop, indented, fences_local, fences_global, local_alone, fences_both, turn, from_zero, from_id, from_this_id, by_one, by_count, by_this_count, number, named_value, call, open_value, an_id, both, this_id, sign, shift_right, equal, less_or_shift, shift_left, is_less, start, nothing}
+use Rattle.kernel_spelling.specs.Spelling.{is_called, spell, spell_sign, spell_comparison, spell_id, spell_start, spell_stride, spell_flags, spell_code, loop_line, test_line, step_line, block_line, spell_locals, spell_privates, spell_variables, spell_sizes, spell_outputs, spell_inputs, first_output, spell_body, spelled_with, HasText}
+use Rattle.kernel_spelling.specs.Meaning.{FitsAt, CountsFit}
+use Rattle.kernel_spelling.proofs.Kept.{one_longer, with_private, with_local, with_values, variables_fit, privates_fit, locals_fit}
 
 -- a form's alternative for the text, and its reading
 record Begins (f : Part) (o : List Item) (n : Notes) (ts : List Piece) (n2 : Notes) : Type 0 where
@@ -31,10 +26,6 @@ record Begins (f : Part) (o : List Item) (n : Notes) (ts : List Piece) (n2 : Not
 
 begun : (f : Part) (o : List Item) (n : Notes) (ts : List Piece) (n2 : Notes) → Begins f o n ts n2 → Reads kernels (Form f ∷ o) n ts [] n2
 begun f o n ts n2 b = subst (λ z. Reads kernels (Form f ∷ o) n z [] n2) (sym b.whole) (gives b.has b.reads)
-
-read_texts : (ps : List Piece) (o : List Item) (n : Notes) (ts : List Piece) (n2 : Notes) → Reads kernels o n ts [] n2 → Reads kernels (texts ps ++ o) n (before ps ts) [] n2
-read_texts [] o n ts n2 r = r
-read_texts (p ∷ ps) o n ts n2 r = takes (read_texts ps o n ts n2 r)
 
 -- ---- expressions
 
@@ -50,6 +41,9 @@ left_depth x y d h = let m = le-max_left x y in omega (arith, h, m)
 right_depth : (x y d : ℕ) → suc (max x y) + d ≤ 1025 → y + suc d ≤ 1025
 right_depth x y d h = let m = le-max_right x y in omega (arith, h, m)
 
+of_max : (x y d : ℕ) → max x y + suc d ≤ 1025 → suc (max x y) + d ≤ 1025
+of_max x y d h = omega (arith, h)
+
 pub smaller : (i m k : ℕ) → i < m → m < k → i < k
 smaller i m k h g = omega (arith, h, g)
 
@@ -60,56 +54,151 @@ a_name true e p n l c other known = absurd (let w : true ≡ false = sym (c refl
 pub loops_small : (i l : ℕ) → i < l → l ≤ 1024 → i < 2 ^ 32
 loops_small i l h g = let w : 1024 < 2 ^ 32 = lit< tt in omega (arith, h, g, w)
 
-begins_value : (e : Formula) (b : Bool) (l d : ℕ) (o : List Item) (n : Notes) (ts : List Piece) (n2 : Notes) → CountsFit n → l ≤ deepest → FitsAt n b l d e → is_written e ≡ true → Reads kernels o (noted n (e ∷ n.values) n.blocks) ts [] n2 → Begins (Value b l d) o n (spell e ts) n2
-begins_value (Number v) b l d o n ts n2 c deep f w r = record { piece = literal v; alternative = _; behind = ts; whole = refl; has = number (leaf_depth d f.2) (ltb-true v (2 ^ 32) f.0); reads = notes refl r }
-begins_value (Variable k) b l d o n ts n2 c deep f w r =
-    let less = ltb-true k n.variables f.0 in
-    record { piece = _; alternative = _; behind = ts; whole = refl; has = named_value (leaf_depth d f.2) (a_name b (Variable k) _ n l f.1 refl (a_variable (smaller k n.variables (2 ^ 32) less c.variables) less)); reads = notes refl r }
-begins_value (LoopVariable k) b l d o n ts n2 c deep f w r =
-    let less = ltb-true k l f.0 in
-    record { piece = _; alternative = _; behind = ts; whole = refl; has = named_value (leaf_depth d f.2) (a_name b (LoopVariable k) _ n l f.1 refl (a_loop_variable (loops_small k l less deep) less)); reads = notes refl r }
-begins_value (Size k) b l d o n ts n2 c deep f w r =
-    let less = ltb-true k n.sizes f.0 in
-    record { piece = _; alternative = _; behind = ts; whole = refl; has = named_value (leaf_depth d f.2) (a_size (smaller k n.sizes (2 ^ 32) less c.sizes) less); reads = notes refl r }
-begins_value (Id form) b l d o n ts n2 c deep f w r = absurd (cc (w))
-begins_value (Binary Add x y) b l d o n ts n2 c deep f w r =
-    let names = and_parts (names_declared (counted n) l x) (names_declared (counted n) l y) f.0 in
-    let written = and_parts (is_written x) (is_written y) w in
-    let fx : FitsAt n b l (suc d) x = (names.0, λ h. (and_parts (is_constant x) (is_constant y) (f.1 h)).0, left_depth (height x) (height y) d f.2) in
-    let fy : FitsAt n b l (suc d) y = (names.1, λ h. (and_parts (is_constant x) (is_constant y) (f.1 h)).1, right_depth (height x) (height y) d f.2) in
-    let n1 = noted n (x ∷ n.values) n.blocks in
-    let c1 : CountsFit n1 = record { inputs = c.inputs; outputs = c.outputs; sizes = c.sizes; variables = c.variables } in
-    let right = begun _ _ n1 _ n2 (begins_value y b l (suc d) _ n1 _ n2 c1 deep fy written.1 (takes (notes refl r))) in
-    let left = begun _ _ n _ n2 (begins_value x b l (suc d) _ n _ n2 c deep fx written.0 (takes (gives sum (takes right)))) in
-    record { piece = opens; alternative = _; behind = _; whole = refl; has = both (both_depth (max (height x) (height y)) d f.2); reads = left }
-begins_value (Binary _ x y) b l d o n ts n2 c deep f w r = absurd (cc (w))
-begins_value (Choose _ x y z u) b l d o n ts n2 c deep f w r = absurd (cc (w))
+-- the parts of an expression fit a level deeper
+fits_two : (n : Notes) (b : Bool) (l d : ℕ) (op : Op) (x y : Formula) → FitsAt n b l d (Binary op x y) → (is_operator op ≡ true) × FitsAt n b l (suc d) x × FitsAt n b l (suc d) y × (d ≤ deepest)
+fits_two n b l d op x y f =
+    let p = and_parts (is_operator op) (names_declared (counted n) l x && names_declared (counted n) l y) f.0 in
+    let names = and_parts (names_declared (counted n) l x) (names_declared (counted n) l y) p.1 in (
+      p.0,
+      (names.0, λ h. (and_parts (is_constant x) (is_constant y) (f.1 h)).0, left_depth (height x) (height y) d f.2),
+      (names.1, λ h. (and_parts (is_constant x) (is_constant y) (f.1 h)).1, right_depth (height x) (height y) d f.2),
+      both_depth (max (height x) (height y)) d f.2,
+    )
 
-read_value : (e : Formula) (b : Bool) (l : ℕ) (o : List Item) (n : Notes) (ts : List Piece) (n2 : Notes) → CountsFit n → l ≤ deepest → is_expression (counted n) l e ≡ true → (b ≡ true → is_constant e ≡ true) → is_written e ≡ true → Reads kernels o (noted n (e ∷ n.values) n.blocks) ts [] n2 → Begins (Value b l 1) o n (spell e ts) n2
-read_value e b l o n ts n2 c deep f constant w r =
+record FitsFour (n : Notes) (b : Bool) (l d : ℕ) (e a x y : Formula) : Type 0 where
+  left : FitsAt n b l (suc d) e
+  right : FitsAt n b l (suc d) a
+  yes : FitsAt n b l (suc d) x
+  no : FitsAt n b l (suc d) y
+  deep : d ≤ deepest
+
+fits_four : (n : Notes) (b : Bool) (l d : ℕ) (c : Comparison) (e a x y : Formula) → FitsAt n b l d (Choose c e a x y) → FitsFour n b l d e a x y
+fits_four n b l d c e a x y f =
+    let p = and_parts (names_declared (counted n) l e && names_declared (counted n) l a) (names_declared (counted n) l x && names_declared (counted n) l y) f.0 in
+    let q = and_parts (names_declared (counted n) l e) (names_declared (counted n) l a) p.0 in
+    let r = and_parts (names_declared (counted n) l x) (names_declared (counted n) l y) p.1 in
+    let constants = λ (h : b ≡ true). and_parts (is_constant e && is_constant a) (is_constant x && is_constant y) (f.1 h) in
+    let m = of_max (height e) (height a) d (left_depth (max (height e) (height a)) (max (height x) (height y)) d f.2) in
+    let k = of_max (height x) (height y) d (right_depth (max (height e) (height a)) (max (height x) (height y)) d f.2) in
+    record {
+      left = (q.0, λ h. (and_parts (is_constant e) (is_constant a) (constants h).0).0, left_depth (height e) (height a) d m);
+      right = (q.1, λ h. (and_parts (is_constant e) (is_constant a) (constants h).0).1, right_depth (height e) (height a) d m);
+      yes = (r.0, λ h. (and_parts (is_constant x) (is_constant y) (constants h).1).0, left_depth (height x) (height y) d k);
+      no = (r.1, λ h. (and_parts (is_constant x) (is_constant y) (constants h).1).1, right_depth (height x) (height y) d k);
+      deep = both_depth (max (max (height e) (height a)) (max (height x) (height y))) d f.2;
+    }
+
+-- a sign, and what follows it
+reads_sign : (op : Op) → is_operator op ≡ true → is_called op ≡ false → (b : Bool) (l d : ℕ) (o : List Item) (n : Notes) (ts : List Piece) (n2 : Notes) → Reads kernels (operated b l d op ++ o) n ts [] n2 → Reads kernels (Form (Rest b l d) ∷ o) n (spell_sign op (space ∷ ts)) [] n2
+reads_sign Add h g b l d o n ts n2 r = gives (sign adds) (takes r)
+reads_sign Sub h g b l d o n ts n2 r = gives (sign subtracts) (takes r)
+reads_sign Mul h g b l d o n ts n2 r = gives (sign multiplies) (takes r)
+reads_sign Div h g b l d o n ts n2 r = gives (sign divides) (takes r)
+reads_sign Rem h g b l d o n ts n2 r = gives (sign leaves) (takes r)
+reads_sign And h g b l d o n ts n2 r = gives (sign ands) (takes r)
+reads_sign Or h g b l d o n ts n2 r = gives (sign ors) (takes r)
+reads_sign Xor h g b l d o n ts n2 r = gives (sign xors) (takes r)
+reads_sign Shl h g b l d o n ts n2 r = gives less_or_shift (gives shift_left (takes r))
+reads_sign Shr h g b l d o n ts n2 r = gives shift_right (takes (takes r))
+reads_sign Min h g b l d o n ts n2 r = absurd (cc (g))
+reads_sign Max h g b l d o n ts n2 r = absurd (cc (g))
+reads_sign Lt h g b l d o n ts n2 r = absurd (cc (h))
+reads_sign Eq h g b l d o n ts n2 r = absurd (cc (h))
+
+reads_comparison : (c : Comparison) (b : Bool) (l d : ℕ) (o : List Item) (n : Notes) (ts : List Piece) (n2 : Notes) → Reads kernels (compared b l d c ++ o) n ts [] n2 → Reads kernels (Form (Rest b l d) ∷ o) n (spell_comparison c (space ∷ ts)) [] n2
+reads_comparison Less b l d o n ts n2 r = gives less_or_shift (gives is_less r)
+reads_comparison Equal b l d o n ts n2 r = gives equal (takes (takes r))
+
+-- what is in parentheses, by its left part
+in_parentheses : (b : Bool) (l d : ℕ) (o : List Item) (n : Notes) (ts : List Piece) (n2 : Notes) → d ≤ deepest → Begins (Value b l (suc d)) (Token space ∷ Form (Rest b l (suc d)) ∷ o) n ts n2 → Begins (Value b l d) o n (opens ∷ ts) n2
+in_parentheses b l d o n ts n2 deep left =
+    let inner : Begins (Opened b l d) o n ts n2 = record {
+      piece = left.piece;
+      alternative = left.alternative ++ Token space ∷ Form (Rest b l (suc d)) ∷ [];
+      behind = left.behind;
+      whole = left.whole;
+      has = both left.has;
+      reads = subst (λ z. Reads kernels z n left.behind [] n2) (sym (append_assoc left.alternative (Token space ∷ Form (Rest b l (suc d)) ∷ []) o)) left.reads;
+    } in
+    record { piece = opens; alternative = Form (Opened b l d) ∷ []; behind = ts; whole = refl; has = open_value deep; reads = begun (Opened b l d) o n ts n2 inner }
+
+begins_id : (form : IdForm) (b : Bool) (l d : ℕ) (o : List Item) (n : Notes) (ts : List Piece) (n2 : Notes) → FitsAt n b l d (Id form) → Reads kernels o (noted n (Id form ∷ n.values) n.blocks) ts [] n2 → Begins (Value b l d) o n (spell_id form ts) n2
+begins_id form false l d o n ts n2 f r = record {
+  piece = opens;
+  alternative = Form (Opened false l d) ∷ [];
+  behind = _;
+  whole = refl;
+  has = open_value (leaf_depth d f.2);
+  reads = gives an_id (takes (gives (this_id {form = form}) (takes (takes (takes (notes refl r))))));
+}
+begins_id form true l d o n ts n2 f r = absurd (let w : false ≡ true = f.1 refl in cc (w))
+
+begins_value : (e : Formula) (b : Bool) (l d : ℕ) (o : List Item) (n : Notes) (ts : List Piece) (n2 : Notes) → CountsFit n → l ≤ deepest → FitsAt n b l d e → Reads kernels o (noted n (e ∷ n.values) n.blocks) ts [] n2 → Begins (Value b l d) o n (spell e ts) n2
+begins_value (Number v) b l d o n ts n2 c deep f r = record { piece = literal v; alternative = _; behind = ts; whole = refl; has = number (leaf_depth d f.2) (ltb-true v (2 ^ 32) f.0); reads = notes refl r }
+begins_value (Variable k) b l d o n ts n2 c deep f r =
+    let fits = ltb-true k n.variables f.0 in
+    record { piece = _; alternative = _; behind = ts; whole = refl; has = named_value (leaf_depth d f.2) (a_name b (Variable k) _ n l f.1 refl (a_variable (smaller k n.variables (2 ^ 32) fits c.variables) fits)); reads = notes refl r }
+begins_value (LoopVariable k) b l d o n ts n2 c deep f r =
+    let fits = ltb-true k l f.0 in
+    record { piece = _; alternative = _; behind = ts; whole = refl; has = named_value (leaf_depth d f.2) (a_name b (LoopVariable k) _ n l f.1 refl (a_loop_variable (loops_small k l fits deep) fits)); reads = notes refl r }
+begins_value (Size k) b l d o n ts n2 c deep f r =
+    let fits = ltb-true k n.sizes f.0 in
+    record { piece = _; alternative = _; behind = ts; whole = refl; has = named_value (leaf_depth d f.2) (a_size (smaller k n.sizes (2 ^ 32) fits c.sizes) fits); reads = notes refl r }
+begins_value (Id form) b l d o n ts n2 c deep f r = begins_id form b l d o n ts n2 f r
+begins_value (Binary Min x y) b l d o n ts n2 c deep f r =
+    let p = fits_two n b l d Min x y f in
+    let n1 = noted n (x ∷ n.values) n.blocks in
+    let right = begun _ _ n1 _ n2 (begins_value y b l (suc d) _ n1 _ n2 (with_values n (x ∷ n.values) n.blocks c) deep p.2 (takes (notes refl r))) in
+    let left = begun _ _ n _ n2 (begins_value x b l (suc d) _ n _ n2 c deep p.1 (takes (takes right))) in
+    record { piece = least; alternative = _; behind = _; whole = refl; has = call p.3 takes_least; reads = takes left }
+begins_value (Binary Max x y) b l d o n ts n2 c deep f r =
+    let p = fits_two n b l d Max x y f in
+    let n1 = noted n (x ∷ n.values) n.blocks in
+    let right = begun _ _ n1 _ n2 (begins_value y b l (suc d) _ n1 _ n2 (with_values n (x ∷ n.values) n.blocks c) deep p.2 (takes (notes refl r))) in
+    let left = begun _ _ n _ n2 (begins_value x b l (suc d) _ n _ n2 c deep p.1 (takes (takes right))) in
+    record { piece = greatest; alternative = _; behind = _; whole = refl; has = call p.3 takes_greatest; reads = takes left }
+begins_value (Binary op x y) b l d o n ts n2 c deep f r =
+    let p = fits_two n b l d op x y f in
+    let n1 = noted n (x ∷ n.values) n.blocks in
+    let right = begun _ _ n1 _ n2 (begins_value y b l (suc d) (Token closes ∷ Mark (Both op) ∷ o) n1 (closes ∷ ts) n2 (with_values n (x ∷ n.values) n.blocks c) deep p.2 (takes (notes refl r))) in
+    let rest = reads_sign op p.0 refl b l (suc d) o n1 (spell y (closes ∷ ts)) n2 right in
+    in_parentheses b l d o n (spell x (space ∷ spell_sign op (space ∷ spell y (closes ∷ ts)))) n2 p.3 (begins_value x b l (suc d) (Token space ∷ Form (Rest b l (suc d)) ∷ o) n (space ∷ spell_sign op (space ∷ spell y (closes ∷ ts))) n2 c deep p.1 (takes rest))
+begins_value (Choose k e a x y) b l d o n ts n2 c deep f r =
+    let p = fits_four n b l d k e a x y f in
+    let n1 = noted n (e ∷ n.values) n.blocks in
+    let n3 = noted n (a ∷ e ∷ n.values) n.blocks in
+    let n4 = noted n (x ∷ a ∷ e ∷ n.values) n.blocks in
+    let no = begun _ _ n4 _ n2 (begins_value y b l (suc d) (Token closes ∷ Mark (Either k) ∷ o) n4 (closes ∷ ts) n2 (with_values n (x ∷ a ∷ e ∷ n.values) n.blocks c) deep p.no (takes (notes refl r))) in
+    let yes = begun _ _ n3 _ n2 (begins_value x b l (suc d) _ n3 (space ∷ colon ∷ space ∷ spell y (closes ∷ ts)) n2 (with_values n (a ∷ e ∷ n.values) n.blocks c) deep p.yes (takes (takes (takes no)))) in
+    let right = begun _ _ n1 _ n2 (begins_value a b l (suc d) _ n1 (space ∷ question ∷ space ∷ spell x (space ∷ colon ∷ space ∷ spell y (closes ∷ ts))) n2 (with_values n (e ∷ n.values) n.blocks c) deep p.right (takes (takes (takes yes)))) in
+    let choices = spell a (space ∷ question ∷ space ∷ spell x (space ∷ colon ∷ space ∷ spell y (closes ∷ ts))) in
+    let rest = reads_comparison k b l (suc d) o n1 choices n2 right in
+    in_parentheses b l d o n (spell e (space ∷ spell_comparison k (space ∷ choices))) n2 p.deep (begins_value e b l (suc d) (Token space ∷ Form (Rest b l (suc d)) ∷ o) n (space ∷ spell_comparison k (space ∷ choices)) n2 c deep p.left (takes rest))
+
+read_value : (e : Formula) (b : Bool) (l : ℕ) (o : List Item) (n : Notes) (ts : List Piece) (n2 : Notes) → CountsFit n → l ≤ deepest → is_expression (counted n) l e ≡ true → (b ≡ true → is_constant e ≡ true) → Reads kernels o (noted n (e ∷ n.values) n.blocks) ts [] n2 → Begins (Value b l 1) o n (spell e ts) n2
+read_value e b l o n ts n2 c deep f constant r =
     let p = and_parts (names_declared (counted n) l e) (nat_le (height e) deepest) f in
     let h : height e ≤ 1024 = leb-true (height e) deepest p.1 in
-    begins_value e b l 1 o n ts n2 c deep (p.0, constant, (let k : height e + 1 ≤ 1025 = omega (arith, h) in k)) w r
+    begins_value e b l 1 o n ts n2 c deep (p.0, constant, (let k : height e + 1 ≤ 1025 = omega (arith, h) in k)) r
 
 any : (e : Formula) → false ≡ true → is_constant e ≡ true
 any e h = absurd (cc (h))
 
+-- ---- arrays
+
+pub array_small : (n : Notes) (a : Array) → CountsFit n → is_readable (counted n) a ≡ true → array_number a < number_limit
+array_small n (Input k) c f = smaller k n.inputs (2 ^ 32) (ltb-true k n.inputs f) c.inputs
+array_small n (Output k) c f = smaller k n.outputs (2 ^ 32) (ltb-true k n.outputs f) c.outputs
+array_small n (Local k) c f = smaller k (length n.locals) (2 ^ 32) (ltb-true k (length n.locals) f) c.locals
+array_small n (Private k) c f = smaller k (length n.privates) (2 ^ 32) (ltb-true k (length n.privates) f) c.privates
+
+pub writable_readable : (n : Notes) (a : Array) → is_writable (counted n) a ≡ true → is_readable (counted n) a ≡ true
+writable_readable n (Input k) f = absurd (cc (f))
+writable_readable n (Output k) f = f
+writable_readable n (Local k) f = f
+writable_readable n (Private k) f = f
+
 -- ---- statements
-
-array_read : (n : Notes) (array : Array) → CountsFit n → is_readable (counted n) array ≡ true → has_name array ≡ true → Readable n (array_name array) array
-array_read n (Input k) c f w = let less = ltb-true k n.inputs f in from_input (smaller k n.inputs (2 ^ 32) less c.inputs) less
-array_read n (Output k) c f w = let less = ltb-true k n.outputs f in from_output (smaller k n.outputs (2 ^ 32) less c.outputs) less
-array_read n (Local k) c f w = absurd (cc (w))
-array_read n (Private k) c f w = absurd (cc (w))
-
-array_written : (n : Notes) (array : Array) → CountsFit n → is_writable (counted n) array ≡ true → has_name array ≡ true → Writable n (array_name array) array
-array_written n (Input k) c f w = absurd (cc (f))
-array_written n (Output k) c f w = let less = ltb-true k n.outputs f in to_output (smaller k n.outputs (2 ^ 32) less c.outputs) less
-array_written n (Local k) c f w = absurd (cc (w))
-array_written n (Private k) c f w = absurd (cc (w))
-
-pub with_values : (n : Notes) (values : List Formula) (blocks : List Code) → CountsFit n → CountsFit (noted n values blocks)
-with_values n values blocks c = record { inputs = c.inputs; outputs = c.outputs; sizes = c.sizes; variables = c.variables }
 
 record ReadsStatement (c : Code) (l : ℕ) (o : List Item) (n : Notes) (ts : List Piece) (n2 : Notes) : Type 0 where
   mid : List Piece
@@ -117,26 +206,26 @@ record ReadsStatement (c : Code) (l : ℕ) (o : List Item) (n : Notes) (ts : Lis
   begins : Begins (Statement l) o n mid n2
 
 abbrev StatementIsRead : Code → Type 0
-StatementIsRead c = (l : ℕ) (o : List Item) (n : Notes) (ts : List Piece) (n2 : Notes) → CountsFit n → l ≤ deepest → are_statements (counted n) l c ≡ true → is_written_code c ≡ true → Reads kernels o (noted n n.values (c ∷ n.blocks)) ts [] n2 → ReadsStatement c l o n ts n2
+StatementIsRead c = (l : ℕ) (o : List Item) (n : Notes) (ts : List Piece) (n2 : Notes) → CountsFit n → l ≤ deepest → are_statements (counted n) l c ≡ true → Reads kernels o (noted n n.values (c ∷ n.blocks)) ts [] n2 → ReadsStatement c l o n ts n2
 
 abbrev NextIsRead : Code → Type 0
-NextIsRead c = (l : ℕ) (o : List Item) (n : Notes) (ts : List Piece) (n2 : Notes) → CountsFit n → l ≤ deepest → are_statements (counted n) l c ≡ true → is_written_code c ≡ true → Reads kernels o (noted n n.values (c ∷ n.blocks)) ts [] n2 → Reads kernels (Form (Next l) ∷ o) n (spell_code l c ts) [] n2
+NextIsRead c = (l : ℕ) (o : List Item) (n : Notes) (ts : List Piece) (n2 : Notes) → CountsFit n → l ≤ deepest → are_statements (counted n) l c ≡ true → Reads kernels o (noted n n.values (c ∷ n.blocks)) ts [] n2 → Reads kernels (Form (Next l) ∷ o) n (spell_code l c ts) [] n2
 
 behind : (c : Code) (l : ℕ) (o : List Item) (n : Notes) (ts : List Piece) (n2 : Notes) → ReadsStatement c l o n ts n2 → Reads kernels (Form (Next l) ∷ o) n (spell_code l c ts) [] n2
 behind c l o n ts n2 s = subst (λ z. Reads kernels (Form (Next l) ∷ o) n z [] n2) (sym s.behind_indent) (gives another (begun (Statement l) o n s.mid n2 s.begins))
 
 read_next : (c : Code) → (has_statement c ≡ true → StatementIsRead c) → NextIsRead c
-read_next End h zero o n ts n2 c deep f w r = gives end (takes (notes refl r))
-read_next End h (suc l) o n ts n2 c deep f w r = gives end_of_loop (takes (takes (notes refl r)))
-read_next (Assigns k e after) h l o n ts n2 c deep f w r = behind (Assigns k e after) l o n ts n2 (h refl l o n ts n2 c deep f w r)
-read_next (Loads k array i after) h l o n ts n2 c deep f w r = behind (Loads k array i after) l o n ts n2 (h refl l o n ts n2 c deep f w r)
-read_next (Stores array i e after) h l o n ts n2 c deep f w r = behind (Stores array i e after) l o n ts n2 (h refl l o n ts n2 c deep f w r)
-read_next (Loops start b stride body after) h l o n ts n2 c deep f w r = behind (Loops start b stride body after) l o n ts n2 (h refl l o n ts n2 c deep f w r)
-read_next (Syncs on_local on_global after) h l o n ts n2 c deep f w r = absurd (cc (w))
+read_next End h zero o n ts n2 c deep f r = gives end (takes (notes refl r))
+read_next End h (suc l) o n ts n2 c deep f r = gives end_of_loop (takes (takes (notes refl r)))
+read_next (Assigns k e after) h l o n ts n2 c deep f r = behind (Assigns k e after) l o n ts n2 (h refl l o n ts n2 c deep f r)
+read_next (Loads k array i after) h l o n ts n2 c deep f r = behind (Loads k array i after) l o n ts n2 (h refl l o n ts n2 c deep f r)
+read_next (Stores array i e after) h l o n ts n2 c deep f r = behind (Stores array i e after) l o n ts n2 (h refl l o n ts n2 c deep f r)
+read_next (Loops start b stride body after) h l o n ts n2 c deep f r = behind (Loops start b stride body after) l o n ts n2 (h refl l o n ts n2 c deep f r)
+read_next (Syncs on_local on_global after) h l o n ts n2 c deep f r = behind (Syncs on_local on_global after) l o n ts n2 (h refl l o n ts n2 c deep f r)
 
--- behind a value that a variable is assigned
-read_stored : (note : Note) (c : Code) (l : ℕ) (o : List Item) (n n3 : Notes) (ts : List Piece) (n2 : Notes) → NextIsRead c → CountsFit n → l ≤ deepest → are_statements (counted n) l c ≡ true → is_written_code c ≡ true → marked note (noted n n.values (c ∷ n.blocks)) ≡ Some n3 → Reads kernels o n3 ts [] n2 → Reads kernels (stored l note ++ o) n (semicolon ∷ line ∷ spell_code l c ts) [] n2
-read_stored note c l o n n3 ts n2 next fit deep f w e r = takes (takes (next l (Mark note ∷ o) n ts n2 fit deep f w (notes e r)))
+-- the end of a line, and what follows it
+read_stored : (note : Note) (c : Code) (l : ℕ) (o : List Item) (n n3 : Notes) (ts : List Piece) (n2 : Notes) → NextIsRead c → CountsFit n → l ≤ deepest → are_statements (counted n) l c ≡ true → marked note (noted n n.values (c ∷ n.blocks)) ≡ Some n3 → Reads kernels o n3 ts [] n2 → Reads kernels (stored l note ++ o) n (semicolon ∷ line ∷ spell_code l c ts) [] n2
+read_stored note c l o n n3 ts n2 next fit deep f e r = takes (takes (next l (Mark note ∷ o) n ts n2 fit deep f (notes e r)))
 
 -- a value stands in the place of what a variable is assigned
 as_source : (l k : ℕ) (o : List Item) (n : Notes) (ts : List Piece) (n2 : Notes) → Begins (Value false l 1) (stored l (Assign k) ++ o) n ts n2 → Begins (Source l k) o n ts n2
@@ -149,73 +238,105 @@ as_source l k o n ts n2 b = record {
   reads = subst (λ z. Reads kernels z n b.behind [] n2) (sym (append_assoc b.alternative (stored l (Assign k)) o)) b.reads;
 }
 
-read_loop_head : (l : ℕ) (o : List Item) (n : Notes) (ts : List Piece) (n2 : Notes) → l < number_limit → Reads kernels o n ts [] n2 → (mid : List Piece) × (loop_line l ts ≡ for ∷ mid) × Reads kernels (loop_head l ++ o) n mid [] n2
-read_loop_head l o n ts n2 small r = (
-  _,
-  refl,
-  takes (takes (takes (takes (gives (turn small) (takes (takes (takes (takes (takes (takes (gives (turn small) (takes (takes (takes r)))))))))))))),
-)
+-- ---- a loop's line
 
-read_loop_step : (l : ℕ) (o : List Item) (n : Notes) (ts : List Piece) (n2 : Notes) → l < number_limit → Reads kernels o n ts [] n2 → Reads kernels (loop_step l ++ o) n (step_line l ts) [] n2
-read_loop_step l o n ts n2 small r = takes (takes (gives (turn small) (takes (takes (takes (takes (takes (takes (takes (takes (takes r)))))))))))
+read_start : (s : Start) (l : ℕ) (o : List Item) (n : Notes) (ts : List Piece) (n2 : Notes) → Reads kernels (loop_test l s ++ o) n ts [] n2 → Reads kernels (Form (Beginning l) ∷ o) n (spell_start s ts) [] n2
+read_start FromZero l o n ts n2 r = gives from_zero r
+read_start FromGlobalId l o n ts n2 r = gives from_id (takes (takes (gives (from_this_id GlobalId refl) (takes (takes (takes r))))))
+read_start FromGroupId l o n ts n2 r = gives from_id (takes (takes (gives (from_this_id GroupId refl) (takes (takes (takes r))))))
+read_start FromLocalId l o n ts n2 r = gives from_id (takes (takes (gives (from_this_id LocalId refl) (takes (takes (takes r))))))
+
+read_stride : (c : Stride) (s : Start) (l : ℕ) (o : List Item) (n : Notes) (ts : List Piece) (n2 : Notes) → Reads kernels (loop_body l s c ++ o) n ts [] n2 → Reads kernels (Form (Step l s) ∷ o) n (spell_stride c ts) [] n2
+read_stride ByOne s l o n ts n2 r = gives by_one r
+read_stride ByGlobalSize s l o n ts n2 r = gives by_count (takes (takes (gives (by_this_count GlobalSize refl) (takes (takes (takes r))))))
+read_stride ByGroupCount s l o n ts n2 r = gives by_count (takes (takes (gives (by_this_count GroupCount refl) (takes (takes (takes r))))))
+read_stride ByLocalSize s l o n ts n2 r = gives by_count (takes (takes (gives (by_this_count LocalSize refl) (takes (takes (takes r))))))
+
+read_loop_head : (l : ℕ) (o : List Item) (n : Notes) (ts : List Piece) (n2 : Notes) → l < number_limit → Reads kernels (Form (Beginning l) ∷ o) n ts [] n2 → (mid : List Piece) × (loop_line l ts ≡ for ∷ mid) × Reads kernels (loop_head l ++ o) n mid [] n2
+read_loop_head l o n ts n2 small r = (_, refl, takes (takes (takes (takes (gives (turn small) (takes (takes (takes r))))))))
+
+-- between what a loop's variable begins with and its step, around the bound
+read_loop_test : (l : ℕ) (s : Start) (o : List Item) (n : Notes) (ts : List Piece) (n2 : Notes) → l < number_limit → Reads kernels (Form (Value true l 1) ∷ texts (semicolon ∷ space ∷ []) ++ Form (Turn l) ∷ texts (space ∷ plus ∷ equals ∷ space ∷ []) ++ Form (Step l s) ∷ o) n ts [] n2 → Reads kernels (loop_test l s ++ o) n (test_line l ts) [] n2
+read_loop_test l s o n ts n2 small r = takes (takes (gives (turn small) (takes (takes (takes r)))))
+
+read_loop_step : (l : ℕ) (s : Start) (o : List Item) (n : Notes) (ts : List Piece) (n2 : Notes) → l < number_limit → Reads kernels (Form (Step l s) ∷ o) n ts [] n2 → Reads kernels (texts (semicolon ∷ space ∷ []) ++ Form (Turn l) ∷ texts (space ∷ plus ∷ equals ∷ space ∷ []) ++ Form (Step l s) ∷ o) n (step_line l ts) [] n2
+read_loop_step l s o n ts n2 small r = takes (takes (gives (turn small) (takes (takes (takes (takes r))))))
+
+-- ---- a barrier
+
+read_flags : (on_local on_global : Bool) → (on_local || on_global) ≡ true → (l : ℕ) (o : List Item) (n : Notes) (ts : List Piece) (n2 : Notes) → Reads kernels (stored l (Sync on_local on_global) ++ o) n ts [] n2 → Reads kernels (Form (Fence l) ∷ o) n (spell_flags on_local on_global (closes ∷ ts)) [] n2
+read_flags true true h l o n ts n2 r = gives fences_local (gives fences_both (takes (takes (takes (takes r)))))
+read_flags true false h l o n ts n2 r = gives fences_local (gives local_alone r)
+read_flags false true h l o n ts n2 r = gives fences_global (takes r)
+read_flags false false h l o n ts n2 r = absurd (cc (h))
+
+-- the parts of a loop that fits
+pub record LoopFits (n : Notes) (l : ℕ) (b : Formula) (body after : Code) : Type 0 where
+  pub below : l < 1024
+  pub constant : is_constant b ≡ true
+  pub bound : is_expression (counted n) l b ≡ true
+  pub some : has_statement body ≡ true
+  pub body_fits : are_statements (counted n) (suc l) body ≡ true
+  pub after_fits : are_statements (counted n) l after ≡ true
+
+pub loop_fits : (n : Notes) (l : ℕ) (s : Start) (b : Formula) (c : Stride) (body after : Code) → are_statements (counted n) l (Loops s b c body after) ≡ true → LoopFits n l b body after
+loop_fits n l s b c body after f =
+    let p = and_parts (nat_lt l deepest) (is_constant b && (is_expression (counted n) l b && (has_statement body && (are_statements (counted n) (suc l) body && are_statements (counted n) l after)))) f in
+    let q = and_parts (is_constant b) (is_expression (counted n) l b && (has_statement body && (are_statements (counted n) (suc l) body && are_statements (counted n) l after))) p.1 in
+    let u = and_parts (is_expression (counted n) l b) (has_statement body && (are_statements (counted n) (suc l) body && are_statements (counted n) l after)) q.1 in
+    let t = and_parts (has_statement body) (are_statements (counted n) (suc l) body && are_statements (counted n) l after) u.1 in
+    let v = and_parts (are_statements (counted n) (suc l) body) (are_statements (counted n) l after) t.1 in
+    record { below = ltb-true l deepest p.0; constant = q.0; bound = u.0; some = t.0; body_fits = v.0; after_fits = v.1 }
 
 read_statement : (c : Code) → has_statement c ≡ true → StatementIsRead c
 read_statement End h = absurd (cc (h))
-read_statement (Assigns k e after) h = λ l o n ts n2 fit deep f w r.
+read_statement (Assigns k e after) h = λ l o n ts n2 fit deep f r.
     let p = and_parts (nat_lt k n.variables) (is_expression (counted n) l e && are_statements (counted n) l after) f in
     let q = and_parts (is_expression (counted n) l e) (are_statements (counted n) l after) p.1 in
-    let v = and_parts (is_written e) (is_written_code after) w in
-    let less = ltb-true k n.variables p.0 in
+    let fits = ltb-true k n.variables p.0 in
     let n1 = noted n (e ∷ n.values) n.blocks in
-    let tail = read_stored (Assign k) after l o n1 _ ts n2 (read_next after (read_statement after)) (with_values n (e ∷ n.values) n.blocks fit) deep q.1 v.1 refl r in
-    let source = begun (Source l k) o n _ n2 (as_source l k o n _ n2 (read_value e false l (stored l (Assign k) ++ o) n _ n2 fit deep q.0 (any e) v.0 tail)) in
-    record { mid = _; behind_indent = refl; begins = record { piece = _; alternative = _; behind = _; whole = refl; has = assign (smaller k n.variables (2 ^ 32) less fit.variables) less; reads = takes (takes (takes source)) } }
-read_statement (Loads k array i after) h = λ l o n ts n2 fit deep f w r.
+    let tail = read_stored (Assign k) after l o n1 _ ts n2 (read_next after (read_statement after)) (with_values n (e ∷ n.values) n.blocks fit) deep q.1 refl r in
+    let source = begun (Source l k) o n _ n2 (as_source l k o n _ n2 (read_value e false l (stored l (Assign k) ++ o) n _ n2 fit deep q.0 (any e) tail)) in
+    record { mid = _; behind_indent = refl; begins = record { piece = _; alternative = _; behind = _; whole = refl; has = assign (smaller k n.variables (2 ^ 32) fits fit.variables) fits; reads = takes (takes (takes source)) } }
+read_statement (Loads k array i after) h = λ l o n ts n2 fit deep f r.
     let p = and_parts (nat_lt k n.variables) (is_readable (counted n) array && (is_expression (counted n) l i && are_statements (counted n) l after)) f in
     let q = and_parts (is_readable (counted n) array) (is_expression (counted n) l i && are_statements (counted n) l after) p.1 in
     let s = and_parts (is_expression (counted n) l i) (are_statements (counted n) l after) q.1 in
-    let v = and_parts (has_name array) (is_written i && is_written_code after) w in
-    let u = and_parts (is_written i) (is_written_code after) v.1 in
-    let less = ltb-true k n.variables p.0 in
+    let fits = ltb-true k n.variables p.0 in
     let n1 = noted n (i ∷ n.values) n.blocks in
-    let tail = read_stored (Load k array) after l o n1 _ ts n2 (read_next after (read_statement after)) (with_values n (i ∷ n.values) n.blocks fit) deep s.1 u.1 refl r in
-    let index = begun _ _ n _ n2 (read_value i false l (Token index_ends ∷ stored l (Load k array) ++ o) n _ n2 fit deep s.0 (any i) u.0 (takes tail)) in
-    let source : Begins (Source l k) o n (array_name array ∷ index_begins ∷ spell i (index_ends ∷ semicolon ∷ line ∷ spell_code l after ts)) n2 = record { piece = array_name array; alternative = _; behind = _; whole = refl; has = load (array_read n array fit q.0 v.0); reads = takes index } in
-    record { mid = _; behind_indent = refl; begins = record { piece = _; alternative = _; behind = _; whole = refl; has = assign (smaller k n.variables (2 ^ 32) less fit.variables) less; reads = takes (takes (takes (begun (Source l k) o n _ n2 source))) } }
-read_statement (Stores array i e after) h = λ l o n ts n2 fit deep f w r.
+    let tail = read_stored (Load k array) after l o n1 _ ts n2 (read_next after (read_statement after)) (with_values n (i ∷ n.values) n.blocks fit) deep s.1 refl r in
+    let index = begun _ _ n _ n2 (read_value i false l (Token index_ends ∷ stored l (Load k array) ++ o) n _ n2 fit deep s.0 (any i) (takes tail)) in
+    let source : Begins (Source l k) o n (array_name array ∷ index_begins ∷ spell i (index_ends ∷ semicolon ∷ line ∷ spell_code l after ts)) n2 = record { piece = array_name array; alternative = _; behind = _; whole = refl; has = load {array = array} (array_small n array fit q.0) q.0; reads = takes index } in
+    record { mid = _; behind_indent = refl; begins = record { piece = _; alternative = _; behind = _; whole = refl; has = assign (smaller k n.variables (2 ^ 32) fits fit.variables) fits; reads = takes (takes (takes (begun (Source l k) o n _ n2 source))) } }
+read_statement (Stores array i e after) h = λ l o n ts n2 fit deep f r.
     let q = and_parts (is_writable (counted n) array) (is_expression (counted n) l i && (is_expression (counted n) l e && are_statements (counted n) l after)) f in
     let s = and_parts (is_expression (counted n) l i) (is_expression (counted n) l e && are_statements (counted n) l after) q.1 in
     let p = and_parts (is_expression (counted n) l e) (are_statements (counted n) l after) s.1 in
-    let v = and_parts (has_name array) (is_written i && (is_written e && is_written_code after)) w in
-    let u = and_parts (is_written i) (is_written e && is_written_code after) v.1 in
-    let x = and_parts (is_written e) (is_written_code after) u.1 in
     let n1 = noted n (i ∷ n.values) n.blocks in
     let m1 = noted n (e ∷ i ∷ n.values) n.blocks in
-    let tail = read_stored (Store array) after l o m1 _ ts n2 (read_next after (read_statement after)) (with_values n (e ∷ i ∷ n.values) n.blocks fit) deep p.1 x.1 refl r in
-    let stored_value = begun _ _ n1 _ n2 (read_value e false l (stored l (Store array) ++ o) n1 _ n2 (with_values n (i ∷ n.values) n.blocks fit) deep p.0 (any e) x.0 tail) in
-    let index = begun _ _ n _ n2 (read_value i false l _ n _ n2 fit deep s.0 (any i) u.0 (takes (takes (takes (takes stored_value))))) in
-    record { mid = _; behind_indent = refl; begins = record { piece = array_name array; alternative = _; behind = _; whole = refl; has = store (array_written n array fit q.0 v.0); reads = takes index } }
-read_statement (Loops FromZero b ByOne body after) h = λ l o n ts n2 fit deep f w r.
-    let p = and_parts (nat_lt l deepest) (is_constant b && (is_expression (counted n) l b && (has_statement body && (are_statements (counted n) (suc l) body && are_statements (counted n) l after)))) f in
-    let q = and_parts (is_constant b) (is_expression (counted n) l b && (has_statement body && (are_statements (counted n) (suc l) body && are_statements (counted n) l after))) p.1 in
-    let s = and_parts (is_expression (counted n) l b) (has_statement body && (are_statements (counted n) (suc l) body && are_statements (counted n) l after)) q.1 in
-    let t = and_parts (has_statement body) (are_statements (counted n) (suc l) body && are_statements (counted n) l after) s.1 in
-    let u = and_parts (are_statements (counted n) (suc l) body) (are_statements (counted n) l after) t.1 in
-    let v = and_parts (is_written b) (is_written_code body && is_written_code after) w in
-    let x = and_parts (is_written_code body) (is_written_code after) v.1 in
-    let below : l < 1024 = ltb-true l deepest p.0 in
-    let small = loops_small l 1024 below (let k : 1024 ≤ 1024 = lit≤ tt in k) in
+    let tail = read_stored (Store array) after l o m1 _ ts n2 (read_next after (read_statement after)) (with_values n (e ∷ i ∷ n.values) n.blocks fit) deep p.1 refl r in
+    let stored_value = begun _ _ n1 _ n2 (read_value e false l (stored l (Store array) ++ o) n1 _ n2 (with_values n (i ∷ n.values) n.blocks fit) deep p.0 (any e) tail) in
+    let index = begun _ _ n _ n2 (read_value i false l _ n _ n2 fit deep s.0 (any i) (takes (takes (takes (takes stored_value))))) in
+    record { mid = _; behind_indent = refl; begins = record { piece = array_name array; alternative = _; behind = _; whole = refl; has = store {array = array} (array_small n array fit (writable_readable n array q.0)) q.0; reads = takes index } }
+read_statement (Loops s b c body after) h = λ l o n ts n2 fit deep f r.
+    let p = loop_fits n l s b c body after f in
+    let small = loops_small l 1024 p.below (let k : 1024 ≤ 1024 = lit≤ tt in k) in
     let n1 = noted n (b ∷ n.values) n.blocks in
     let m1 = noted n (b ∷ n.values) (body ∷ n.blocks) in
-    let tail = read_next after (read_statement after) l (Mark Loop ∷ o) m1 ts n2 (with_values n (b ∷ n.values) (body ∷ n.blocks) fit) deep u.1 x.1 (notes refl r) in
-    let inner = read_statement body t.0 (suc l) (Form (Next l) ∷ Mark Loop ∷ o) n1 (spell_code l after ts) n2 (with_values n (b ∷ n.values) n.blocks fit) (let k : suc l ≤ 1024 = omega (arith, below) in k) u.0 x.0 tail in
+    let below = p.below in
+    let tail = read_next after (read_statement after) l (Mark (Loop s c) ∷ o) m1 ts n2 (with_values n (b ∷ n.values) (body ∷ n.blocks) fit) deep p.after_fits (notes refl r) in
+    let inner = read_statement body p.some (suc l) (Form (Next l) ∷ Mark (Loop s c) ∷ o) n1 (spell_code l after ts) n2 (with_values n (b ∷ n.values) n.blocks fit) (let k : suc l ≤ 1024 = omega (arith, below) in k) p.body_fits tail in
     let opened = gives indented (begun _ _ n1 _ n2 inner.begins) in
-    let begun_body = subst (λ z. Reads kernels (Form (Indent (suc (suc l))) ∷ Form (Statement (suc l)) ∷ Form (Next l) ∷ Mark Loop ∷ o) n1 z [] n2) (sym inner.behind_indent) opened in
-    let bound = begun _ _ n _ n2 (read_value b true l _ n _ n2 fit deep s.0 (λ k. q.0) v.0 (read_loop_step l _ n1 _ n2 small begun_body)) in
-    let head = read_loop_head l _ n _ n2 small bound in
-    record { mid = _; behind_indent = ap (λ z. indent (suc l) ∷ z) head.1; begins = record { piece = for; alternative = _; behind = head.0; whole = refl; has = loop below; reads = head.2 } }
-read_statement (Loops _ b _ body after) h = λ l o n ts n2 fit deep f w r. absurd (cc (w))
-read_statement (Syncs on_local on_global after) h = λ l o n ts n2 fit deep f w r. absurd (cc (w))
+    let begun_body = subst (λ z. Reads kernels (Form (Indent (suc (suc l))) ∷ Form (Statement (suc l)) ∷ Form (Next l) ∷ Mark (Loop s c) ∷ o) n1 z [] n2) (sym inner.behind_indent) opened in
+    let round = read_stride c s l o n1 (block_line (spell_code (suc l) body (spell_code l after ts))) n2 (takes (takes (takes (takes begun_body)))) in
+    let bound = begun _ _ n _ n2 (read_value b true l _ n _ n2 fit deep p.bound (λ k. p.constant) (read_loop_step l s o n1 _ n2 small round)) in
+    let head = read_loop_head l o n _ n2 small (read_start s l o n _ n2 (read_loop_test l s o n _ n2 small bound)) in
+    record { mid = _; behind_indent = ap (λ z. indent (suc l) ∷ z) head.1; begins = record { piece = for; alternative = _; behind = head.0; whole = refl; has = loop p.below; reads = head.2 } }
+read_statement (Syncs on_local on_global after) h = λ l o n ts n2 fit deep f r.
+    let p = and_parts (on_local || on_global) (are_statements (counted n) l after) f in
+    let tail = read_stored (Sync on_local on_global) after l o n _ ts n2 (read_next after (read_statement after)) fit deep p.1 refl r in
+    let flags = read_flags on_local on_global p.0 l o n _ n2 tail in
+    record { mid = _; behind_indent = refl; begins = record { piece = barrier; alternative = _; behind = _; whole = refl; has = meet; reads = takes flags } }
 
 -- ---- declarations
 
@@ -231,21 +352,98 @@ within x y k h = omega (arith, h)
 with_count : (x y k : ℕ) → x + suc y < k → suc x + y < k
 with_count x y k h = omega (arith, h)
 
-read_body : (more : ℕ) (c : Code) (n n3 : Notes) → n3 ≡ record n { variables = n.variables + more; blocks = c ∷ n.blocks } → CountsFit n → n.variables + more < number_limit → are_statements (counted n3) 0 c ≡ true → has_statement c ≡ true → is_written_code c ≡ true → Reads kernels (Form (Indent 1) ∷ Form Body ∷ []) n (spell_variables n.variables more (spell_code 0 c [])) [] n3
-read_body zero c n n3 e fit small f s w =
-    let same : n3 ≡ noted n n.values (c ∷ n.blocks) = e ∙ ap (λ v. record n { variables = v; blocks = c ∷ n.blocks }) (no_more n.variables) in
+-- a body behind its first indent
+record ReadsBody (f : Part) (n : Notes) (ts : List Piece) (n2 : Notes) : Type 0 where
+  mid : List Piece
+  behind_indent : ts ≡ indent 1 ∷ mid
+  begins : Begins f [] n mid n2
+
+read_body : (f : Part) (n : Notes) (ts : List Piece) (n2 : Notes) → ReadsBody f n ts n2 → Reads kernels (Form (Indent 1) ∷ Form f ∷ []) n ts [] n2
+read_body f n ts n2 b = subst (λ z. Reads kernels (Form (Indent 1) ∷ Form f ∷ []) n z [] n2) (sym b.behind_indent) (gives indented (begun f [] n b.mid n2 b.begins))
+
+-- the statements of a body
+read_code : (c : Code) (n n3 : Notes) → n3 ≡ noted n n.values (c ∷ n.blocks) → CountsFit n → are_statements (counted n3) 0 c ≡ true → has_statement c ≡ true → ReadsStatement c 0 [] n [] n3
+read_code c n n3 same fit f s =
     let stood : Reads kernels [] (noted n n.values (c ∷ n.blocks)) [] [] n3 = subst (λ z. Reads kernels [] z [] [] n3) same stands in
     let g : are_statements (counted n) 0 c ≡ true = subst (λ (z : Notes). are_statements (counted z) 0 c ≡ true) same f in
-    let q = read_statement c s 0 [] n [] n3 fit (let k : 0 ≤ 1024 = lit≤ tt in k) g w stood in
-    let b = q.begins in
-    let body : Begins Body [] n q.mid n3 = record { piece = b.piece; alternative = b.alternative; behind = b.behind; whole = b.whole; has = statements b.has; reads = b.reads } in
-    subst (λ z. Reads kernels (Form (Indent 1) ∷ Form Body ∷ []) n z [] n3) (sym q.behind_indent) (gives indented (begun Body [] n q.mid n3 body))
-read_body (suc more) c n n3 e fit small f s w =
+    read_statement c s 0 [] n [] n3 fit (let k : 0 ≤ 1024 = lit≤ tt in k) g stood
+
+-- a form whose alternatives are also another's
+as_form : (f g : Part) (n : Notes) (ts : List Piece) (n2 : Notes) → ((p : Piece) (alternative : List Item) → Gives n f p alternative → Gives n g p alternative) → ReadsBody f n ts n2 → ReadsBody g n ts n2
+as_form f g n ts n2 h b = record {
+  mid = b.mid;
+  behind_indent = b.behind_indent;
+  begins = record { piece = b.begins.piece; alternative = b.begins.alternative; behind = b.begins.behind; whole = b.begins.whole; has = h b.begins.piece b.begins.alternative b.begins.has; reads = b.begins.reads };
+}
+
+code_body : (c : Code) (n n3 : Notes) → n3 ≡ noted n n.values (c ∷ n.blocks) → CountsFit n → are_statements (counted n3) 0 c ≡ true → has_statement c ≡ true → ReadsBody (Statement 0) n (spell_code 0 c []) n3
+code_body c n n3 same fit f s = let q = read_code c n n3 same fit f s in record { mid = q.mid; behind_indent = q.behind_indent; begins = q.begins }
+
+abbrev VariablesMade : ℕ → Code → Notes → Notes → Type 0
+VariablesMade more c n n3 = n3 ≡ record n { variables = n.variables + more; blocks = c ∷ n.blocks }
+
+no_variables : (c : Code) (n n3 : Notes) → VariablesMade 0 c n n3 → n3 ≡ noted n n.values (c ∷ n.blocks)
+no_variables c n n3 e = e ∙ ap (λ v. record n { variables = v; blocks = c ∷ n.blocks }) (no_more n.variables)
+
+read_variables : (more : ℕ) (c : Code) (n n3 : Notes) → VariablesMade more c n n3 → CountsFit n → n.variables + more < number_limit → are_statements (counted n3) 0 c ≡ true → has_statement c ≡ true → ReadsBody Variables n (spell_variables n.variables more (spell_code 0 c [])) n3
+read_variables zero c n n3 e fit small f s = as_form (Statement 0) Variables n _ n3 (λ p alternative g. statements g) (code_body c n n3 (no_variables c n n3 e) fit f s)
+read_variables (suc more) c n n3 e fit small f s =
     let n1 : Notes = record n { variables = suc n.variables } in
-    let e1 : n3 ≡ record n1 { variables = suc n.variables + more; blocks = c ∷ n.blocks } = e ∙ ap (λ v. record n { variables = v; blocks = c ∷ n.blocks }) (one_more n.variables more) in
+    let e1 : VariablesMade more c n1 n3 = e ∙ ap (λ v. record n { variables = v; blocks = c ∷ n.blocks }) (one_more n.variables more) in
     let one = within n.variables more number_limit small in
-    let fit1 : CountsFit n1 = record { inputs = fit.inputs; outputs = fit.outputs; sizes = fit.sizes; variables = one } in
-    gives indented (gives declaration (takes (gives (new_variable one) (notes refl (takes (takes (read_body more c n1 n3 e1 fit1 (with_count n.variables more number_limit small) f s w)))))))
+    let rest = read_body Variables n1 _ n3 (read_variables more c n1 n3 e1 (variables_fit n fit one) (with_count n.variables more number_limit small) f s) in
+    record { mid = _; behind_indent = refl; begins = record { piece = uint; alternative = _; behind = _; whole = refl; has = another_variable; reads = takes (gives (new_variable one) (notes refl (takes (takes rest)))) } }
+
+-- variables alone, where private arrays might be declared
+variables_alone : (more : ℕ) (c : Code) (n n3 : Notes) → VariablesMade more c n n3 → CountsFit n → n.variables + more < number_limit → are_statements (counted n3) 0 c ≡ true → has_statement c ≡ true → ReadsBody Privates n (spell_variables n.variables more (spell_code 0 c [])) n3
+variables_alone zero c n n3 e fit small f s = as_form (Statement 0) Privates n _ n3 (λ p alternative g. no_declaration g) (code_body c n n3 (no_variables c n n3 e) fit f s)
+variables_alone (suc more) c n n3 e fit small f s =
+    let n1 : Notes = record n { variables = suc n.variables } in
+    let e1 : VariablesMade more c n1 n3 = e ∙ ap (λ v. record n { variables = v; blocks = c ∷ n.blocks }) (one_more n.variables more) in
+    let one = within n.variables more number_limit small in
+    let rest = read_body Variables n1 _ n3 (read_variables more c n1 n3 e1 (variables_fit n fit one) (with_count n.variables more number_limit small) f s) in
+    record { mid = _; behind_indent = refl; begins = record { piece = uint; alternative = _; behind = _; whole = refl; has = a_declaration; reads = takes (gives (first_variable (new_variable one)) (notes refl (takes (takes rest)))) } }
+
+pub length_parts : (v : ℕ) (vs : List ℕ) → are_lengths (v ∷ vs) ≡ true → (0 < v) × (v < 2 ^ 32) × (are_lengths vs ≡ true)
+length_parts v vs h =
+    let p = and_parts (nat_lt 0 v) (nat_lt v (2 ^ 32) && are_lengths vs) h in
+    let q = and_parts (nat_lt v (2 ^ 32)) (are_lengths vs) p.1 in
+    (ltb-true 0 v p.0, ltb-true v (2 ^ 32) q.0, q.1)
+
+abbrev PrivatesMade : List ℕ → ℕ → Code → Notes → Notes → Type 0
+PrivatesMade vs more c n n3 = n3 ≡ record n { privates = n.privates ++ vs; variables = n.variables + more; blocks = c ∷ n.blocks }
+
+read_privates : (vs : List ℕ) (more : ℕ) (c : Code) (n n3 : Notes) → PrivatesMade vs more c n n3 → CountsFit n → are_lengths vs ≡ true → length n.privates + length vs < number_limit → n.variables + more < number_limit → are_statements (counted n3) 0 c ≡ true → has_statement c ≡ true
+    → ReadsBody Privates n (spell_privates (length n.privates) vs (spell_variables n.variables more (spell_code 0 c []))) n3
+read_privates [] more c n n3 e fit h few small f s = variables_alone more c n n3 (e ∙ ap (λ (z : List ℕ). record n { privates = z; variables = n.variables + more; blocks = c ∷ n.blocks }) (append-nil n.privates)) fit small f s
+read_privates (v ∷ vs) more c n n3 e fit h few small f s =
+    let p = length_parts v vs h in
+    let n1 = with_private n v in
+    let longer = one_longer n.privates v in
+    let e1 : PrivatesMade vs more c n1 n3 = e ∙ ap (λ (z : List ℕ). record n { privates = z; variables = n.variables + more; blocks = c ∷ n.blocks }) (sym (append_assoc n.privates (v ∷ []) vs)) in
+    let one = within (length n.privates) (length vs) number_limit few in
+    let fewer : length n1.privates + length vs < number_limit = subst (λ z. z + length vs < number_limit) (sym longer) (with_count (length n.privates) (length vs) number_limit few) in
+    let inner = read_body Privates n1 _ n3 (read_privates vs more c n1 n3 e1 (privates_fit n v fit one) p.2 fewer small f s) in
+    let rest = subst (λ z. Reads kernels (Form (Indent 1) ∷ Form Privates ∷ []) n1 (spell_privates z vs (spell_variables n.variables more (spell_code 0 c []))) [] n3) longer inner in
+    record { mid = _; behind_indent = refl; begins = record { piece = uint; alternative = _; behind = _; whole = refl; has = a_declaration; reads = takes (gives (new_private one) (takes (gives (private_length p.0 p.1) (notes refl (takes (takes (takes rest))))))) } }
+
+abbrev LocalsMade : (ls ps : List ℕ) → ℕ → Code → Notes → Notes → Type 0
+LocalsMade ls ps more c n n3 = n3 ≡ record n { locals = n.locals ++ ls; privates = n.privates ++ ps; variables = n.variables + more; blocks = c ∷ n.blocks }
+
+read_locals : (ls ps : List ℕ) (more : ℕ) (c : Code) (n n3 : Notes) → LocalsMade ls ps more c n n3 → CountsFit n → are_lengths ls ≡ true → are_lengths ps ≡ true → length n.locals + length ls < number_limit → length n.privates + length ps < number_limit → n.variables + more < number_limit → are_statements (counted n3) 0 c ≡ true → has_statement c ≡ true
+    → ReadsBody Locals n (spell_locals (length n.locals) ls (spell_privates (length n.privates) ps (spell_variables n.variables more (spell_code 0 c [])))) n3
+read_locals [] ps more c n n3 e fit h g few less_few small f s =
+    as_form Privates Locals n _ n3 (λ p alternative q. no_local q) (read_privates ps more c n n3 (e ∙ ap (λ (z : List ℕ). record n { locals = z; privates = n.privates ++ ps; variables = n.variables + more; blocks = c ∷ n.blocks }) (append-nil n.locals)) fit g less_few small f s)
+read_locals (v ∷ vs) ps more c n n3 e fit h g few less_few small f s =
+    let p = length_parts v vs h in
+    let n1 = with_local n v in
+    let longer = one_longer n.locals v in
+    let e1 : LocalsMade vs ps more c n1 n3 = e ∙ ap (λ (z : List ℕ). record n { locals = z; privates = n.privates ++ ps; variables = n.variables + more; blocks = c ∷ n.blocks }) (sym (append_assoc n.locals (v ∷ []) vs)) in
+    let one = within (length n.locals) (length vs) number_limit few in
+    let fewer : length n1.locals + length vs < number_limit = subst (λ z. z + length vs < number_limit) (sym longer) (with_count (length n.locals) (length vs) number_limit few) in
+    let inner = read_body Locals n1 _ n3 (read_locals vs ps more c n1 n3 e1 (locals_fit n v fit one) p.2 g fewer less_few small f s) in
+    let rest = subst (λ z. Reads kernels (Form (Indent 1) ∷ Form Locals ∷ []) n1 (spell_locals z vs (spell_privates (length n.privates) ps (spell_variables n.variables more (spell_code 0 c [])))) [] n3) longer inner in
+    record { mid = _; behind_indent = refl; begins = record { piece = local; alternative = _; behind = _; whole = refl; has = a_local; reads = takes (takes (takes (gives (new_local one) (takes (gives (local_length p.0 p.1) (notes refl (takes (takes (takes rest))))))))) } }
 
 -- ---- parameters
 
@@ -286,22 +484,21 @@ read_parameters (suc inputs) more sizes o n n3 ts n2 e ins small few r =
 
 -- ---- the whole
 
-abbrev pub all_of : Kernel → Notes
-all_of k = record { inputs = k.inputs; outputs = k.outputs; sizes = k.sizes; variables = k.variables; values = []; blocks = k.code ∷ [] }
-
 zero_plus : (x : ℕ) → x ≡ 0 + x
 zero_plus x = omega arith
 
-pub reads_kernel : (k : Kernel) (more : ℕ) → k.outputs ≡ suc more → are_statements (counted (all_of k)) 0 k.code ≡ true → has_statement k.code ≡ true → HasText k → Reads kernels start nothing (spelled_with k (suc more)) [] (all_of k)
-reads_kernel k more e f s h =
-    let n1 : Notes = record { inputs = k.inputs; outputs = k.outputs; sizes = k.sizes; variables = 0; values = []; blocks = [] } in
-    let fit : CountsFit n1 = record { inputs = h.inputs; outputs = h.outputs; sizes = h.sizes; variables = lit< tt } in
-    let made : all_of k ≡ record n1 { variables = 0 + k.variables; blocks = k.code ∷ [] } = ap (λ v. record n1 { variables = v; blocks = k.code ∷ [] }) (zero_plus k.variables) in
-    let body = read_body k.variables k.code n1 (all_of k) made fit (subst (λ z. z < number_limit) (zero_plus k.variables) h.variables) f s h.written in
+pub reads_kernel : (k : Kernel) (more : ℕ) → k.outputs ≡ suc more → are_lengths k.locals ≡ true → are_lengths k.privates ≡ true → are_statements (counted (all_of k)) 0 k.code ≡ true → has_statement k.code ≡ true → HasText k → Reads kernels start nothing (spelled_with k (suc more)) [] (all_of k)
+reads_kernel k more e locals privates f s h =
+    let n1 : Notes = record { inputs = k.inputs; outputs = k.outputs; sizes = k.sizes; locals = []; privates = []; variables = 0; values = []; blocks = [] } in
+    let none : 0 < number_limit = lit< tt in
+    let fit : CountsFit n1 = record { inputs = h.inputs; outputs = h.outputs; sizes = h.sizes; locals = none; privates = none; variables = none } in
+    let made : LocalsMade k.locals k.privates k.variables k.code n1 (all_of k) = ap (λ v. record n1 { locals = k.locals; privates = k.privates; variables = v; blocks = k.code ∷ [] }) (zero_plus k.variables) in
+    let below = λ (x : ℕ) (g : x < number_limit). subst (λ z. z < number_limit) (zero_plus x) g in
+    let body = read_body Locals n1 _ (all_of k) (read_locals k.locals k.privates k.variables k.code n1 (all_of k) made fit locals privates (below (length k.locals) h.locals) (below (length k.privates) h.privates) (below k.variables h.variables) f s) in
     let counts : n1 ≡ record nothing { inputs = 0 + k.inputs; outputs = 0 + suc more; sizes = 0 + k.sizes } =
     ap (λ v. record nothing { inputs = v; outputs = k.outputs; sizes = k.sizes }) (zero_plus k.inputs)
     ∙ ap (λ v. record nothing { inputs = 0 + k.inputs; outputs = v; sizes = k.sizes }) (e ∙ zero_plus (suc more))
     ∙ ap (λ v. record nothing { inputs = 0 + k.inputs; outputs = 0 + suc more; sizes = v }) (zero_plus k.sizes) in
     let outputs : 0 + suc more < number_limit = subst (λ z. z < number_limit) (e ∙ zero_plus (suc more)) h.outputs in
-    let parameters = read_parameters k.inputs more k.sizes (texts (line ∷ block_begins ∷ line ∷ []) ++ Form (Indent 1) ∷ Form Body ∷ []) nothing n1 (spell_body k) (all_of k) counts (subst (λ z. z < number_limit) (zero_plus k.inputs) h.inputs) outputs (subst (λ z. z < number_limit) (zero_plus k.sizes) h.sizes) (takes (takes (takes body))) in
+    let parameters = read_parameters k.inputs more k.sizes (texts (line ∷ block_begins ∷ line ∷ []) ++ Form (Indent 1) ∷ Form Locals ∷ []) nothing n1 (spell_body k) (all_of k) counts (below k.inputs h.inputs) outputs (below k.sizes h.sizes) (takes (takes (takes body))) in
     takes (takes (takes (takes (takes (takes parameters)))))

@@ -1,5 +1,5 @@
 -- What is read is a kernel, spelled.
-use Rattle.std.proofs.Common.{◌≡◌, ℕ, zero, suc, ◌+◌, List, [], ◌∷◌, ◌++◌, true, refl, ap, sym, ◌∙◌, subst, arith, length}
+use Rattle.std.proofs.Common.{◌≡◌, ℕ, zero, suc, ◌+◌, List, [], ◌∷◌, ◌++◌, true, refl, ap, sym, ◌∙◌, subst, arith, length, ◌<◌, lit<}
 use Rattle.std.specs.Prelude.{nat_lt, nat_le, ◌&&◌, ◌||◌, codes}
 use Rattle.std.proofs.lemmas.Bool.{and_from, and_parts, lt-ltb}
 use Rattle.readings.specs.Readings.{Form, Reads}
@@ -7,11 +7,11 @@ use Rattle.readings.specs.Meanings.{read_means}
 use Rattle.kernel_tree.specs.Formula.{Formula, Number, Variable, LoopVariable, Size, Id, Binary, Choose}
 use Rattle.kernel_tree.specs.Code.{Array, Input, Output, Local, Private, Code, End, Assigns, Loads, Stores, Loops, Syncs, Kernel}
 use Rattle.kernel_tree.specs.Grammar.{deepest, is_operator, is_constant, height, names_declared, is_expression, is_readable, is_writable, are_statements, has_statement, are_lengths, is_kernel}
-use Rattle.kernel_tree.specs.KernelText.{Piece, Notes, Item, texts, line, block_begins, kernels, start, nothing, IsMade, Indent, Body, Parameter, space, opens, indent}
-use Rattle.kernel_spelling.specs.Spelling.{spell_code, spell_variables, spell_head, spell_inputs, first_output, spell_outputs, spell_sizes, spelled, spelled_with, HasText}
-use Rattle.kernel_spelling.specs.Meaning.{counted, Means, AreParameters, IsBody}
+use Rattle.kernel_tree.specs.KernelText.{Piece, Notes, number_limit, Item, texts, counted, all_of, line, block_begins, kernels, start, nothing, Indent, Locals, Parameter, space, opens, indent}
+use Rattle.kernel_spelling.specs.Spelling.{spell_code, spell_locals, spell_privates, spell_variables, spell_head, spell_inputs, first_output, spell_outputs, spell_sizes, spelled, spelled_with, HasText}
+use Rattle.kernel_spelling.specs.Meaning.{CountsFit, Means, AreParameters, AreLocals}
 use Rattle.kernel_spelling.proofs.Kept.{before, at_tokens, at_indent, kept}
-use Rattle.kernel_spelling.proofs.Spelled.{all_of, reads_kernel}
+use Rattle.kernel_spelling.proofs.Spelled.{reads_kernel}
 
 -- ---- the counts alone say what may stand in the code
 
@@ -35,53 +35,61 @@ module _ (k : Kernel) where
   expression_same : (l : ℕ) (e : Formula) → is_expression bare l e ≡ is_expression k l e
   expression_same l e = ap (λ z. z && nat_le (height e) deepest) (names_same l e)
 
-  module _ (locals : k.locals ≡ []) (privates : k.privates ≡ []) where
-    readable_same : (a : Array) → is_readable bare a ≡ is_readable k a
-    readable_same (Input a) = refl
-    readable_same (Output a) = refl
-    readable_same (Local a) = ap (λ z. nat_lt a (length z)) (sym locals)
-    readable_same (Private a) = ap (λ z. nat_lt a (length z)) (sym privates)
+  readable_same : (a : Array) → is_readable bare a ≡ is_readable k a
+  readable_same (Input a) = refl
+  readable_same (Output a) = refl
+  readable_same (Local a) = refl
+  readable_same (Private a) = refl
 
-    writable_same : (a : Array) → is_writable bare a ≡ is_writable k a
-    writable_same (Input a) = refl
-    writable_same (Output a) = refl
-    writable_same (Local a) = readable_same (Local a)
-    writable_same (Private a) = readable_same (Private a)
+  writable_same : (a : Array) → is_writable bare a ≡ is_writable k a
+  writable_same (Input a) = refl
+  writable_same (Output a) = refl
+  writable_same (Local a) = refl
+  writable_same (Private a) = refl
 
-    pub statements_same : (l : ℕ) (c : Code) → are_statements bare l c ≡ are_statements k l c
-    statements_same l End = refl
-    statements_same l (Assigns v e after) =
-        ap (λ z. nat_lt v k.variables && (z && are_statements bare l after)) (expression_same l e)
-        ∙ ap (λ z. nat_lt v k.variables && (is_expression k l e && z)) (statements_same l after)
-    statements_same l (Loads v a i after) =
-        ap (λ z. nat_lt v k.variables && (z && (is_expression bare l i && are_statements bare l after))) (readable_same a)
-        ∙ ap (λ z. nat_lt v k.variables && (is_readable k a && (z && are_statements bare l after))) (expression_same l i)
-        ∙ ap (λ z. nat_lt v k.variables && (is_readable k a && (is_expression k l i && z))) (statements_same l after)
-    statements_same l (Stores a i e after) =
-        ap (λ z. z && (is_expression bare l i && (is_expression bare l e && are_statements bare l after))) (writable_same a)
-        ∙ ap (λ z. is_writable k a && (z && (is_expression bare l e && are_statements bare l after))) (expression_same l i)
-        ∙ ap (λ z. is_writable k a && (is_expression k l i && (z && are_statements bare l after))) (expression_same l e)
-        ∙ ap (λ z. is_writable k a && (is_expression k l i && (is_expression k l e && z))) (statements_same l after)
-    statements_same l (Loops s b c body after) =
-        ap (λ z. nat_lt l deepest && (is_constant b && (z && (has_statement body && (are_statements bare (suc l) body && are_statements bare l after))))) (expression_same l b)
-        ∙ ap (λ z. nat_lt l deepest && (is_constant b && (is_expression k l b && (has_statement body && (z && are_statements bare l after))))) (statements_same (suc l) body)
-        ∙ ap (λ z. nat_lt l deepest && (is_constant b && (is_expression k l b && (has_statement body && (are_statements k (suc l) body && z))))) (statements_same l after)
-    statements_same l (Syncs on_local on_global after) = ap (λ z. (on_local || on_global) && z) (statements_same l after)
+  pub statements_same : (l : ℕ) (c : Code) → are_statements bare l c ≡ are_statements k l c
+  statements_same l End = refl
+  statements_same l (Assigns v e after) =
+      ap (λ z. nat_lt v k.variables && (z && are_statements bare l after)) (expression_same l e)
+      ∙ ap (λ z. nat_lt v k.variables && (is_expression k l e && z)) (statements_same l after)
+  statements_same l (Loads v a i after) =
+      ap (λ z. nat_lt v k.variables && (z && (is_expression bare l i && are_statements bare l after))) (readable_same a)
+      ∙ ap (λ z. nat_lt v k.variables && (is_readable k a && (z && are_statements bare l after))) (expression_same l i)
+      ∙ ap (λ z. nat_lt v k.variables && (is_readable k a && (is_expression k l i && z))) (statements_same l after)
+  statements_same l (Stores a i e after) =
+      ap (λ z. z && (is_expression bare l i && (is_expression bare l e && are_statements bare l after))) (writable_same a)
+      ∙ ap (λ z. is_writable k a && (z && (is_expression bare l e && are_statements bare l after))) (expression_same l i)
+      ∙ ap (λ z. is_writable k a && (is_expression k l i && (z && are_statements bare l after))) (expression_same l e)
+      ∙ ap (λ z. is_writable k a && (is_expression k l i && (is_expression k l e && z))) (statements_same l after)
+  statements_same l (Loops s b c body after) =
+      ap (λ z. nat_lt l deepest && (is_constant b && (z && (has_statement body && (are_statements bare (suc l) body && are_statements bare l after))))) (expression_same l b)
+      ∙ ap (λ z. nat_lt l deepest && (is_constant b && (is_expression k l b && (has_statement body && (z && are_statements bare l after))))) (statements_same (suc l) body)
+      ∙ ap (λ z. nat_lt l deepest && (is_constant b && (is_expression k l b && (has_statement body && (are_statements k (suc l) body && z))))) (statements_same l after)
+  statements_same l (Syncs on_local on_global after) = ap (λ z. (on_local || on_global) && z) (statements_same l after)
 
 -- ---- a whole text
 
-abbrev pub parts : (inputs more sizes variables : ℕ) → Code → List Piece
-parts inputs more sizes variables c = spell_head (spell_inputs 0 inputs (first_output 0 (spell_outputs 1 more (spell_sizes 0 sizes (line ∷ block_begins ∷ line ∷ spell_variables 0 variables (spell_code 0 c []))))))
+abbrev pub body_parts : (locals privates : List ℕ) → (variables : ℕ) → Code → List Piece
+body_parts locals privates variables c = line ∷ block_begins ∷ line ∷ spell_locals 0 locals (spell_privates 0 privates (spell_variables 0 variables (spell_code 0 c [])))
+
+abbrev pub parts : (inputs more sizes : ℕ) → List Piece → List Piece
+parts inputs more sizes body = spell_head (spell_inputs 0 inputs (first_output 0 (spell_outputs 1 more (spell_sizes 0 sizes body))))
 
 pub record IsWhole (ps : List Piece) (n : Notes) : Type 0 where
   pub more : ℕ
   pub code : Code
   pub outputs : n.outputs ≡ suc more
+  pub locals : are_lengths n.locals ≡ true
+  pub privates : are_lengths n.privates ≡ true
   pub fits : are_statements (counted n) 0 code ≡ true
   pub some : has_statement code ≡ true
+  pub few : CountsFit n
   pub values : n.values ≡ []
   pub blocks : n.blocks ≡ code ∷ []
-  pub spelled : ps ≡ parts n.inputs more n.sizes n.variables code
+  pub spelled : ps ≡ parts n.inputs more n.sizes (body_parts n.locals n.privates n.variables code)
+
+none_fit : CountsFit nothing
+none_fit = let none : 0 < number_limit = lit< tt in record { inputs = none; outputs = none; sizes = none; locals = none; privates = none; variables = none }
 
 zero_plus : (x : ℕ) → 0 + x ≡ x
 zero_plus x = omega arith
@@ -90,35 +98,43 @@ abbrev head : List Piece
 head = codes "__kernel" ∷ space ∷ codes "void" ∷ space ∷ codes "lift" ∷ opens ∷ []
 
 -- the parameters, and then the body
-assembled : (ps x y z w m2 : List Piece) (n n1 n2 : Notes) → ps ≡ before head x → AreParameters (λ q. q) nothing x n1 y → y ≡ line ∷ block_begins ∷ line ∷ z → z ≡ indent 1 ∷ w → IsBody (λ q. indent 1 ∷ q) n1 w n2 m2 → n2 ≡ n → m2 ≡ [] → IsWhole ps n
+assembled : (ps x y z w m2 : List Piece) (n n1 n2 : Notes) → ps ≡ before head x → AreParameters (λ q. q) nothing x n1 y → y ≡ line ∷ block_begins ∷ line ∷ z → z ≡ indent 1 ∷ w → AreLocals (λ q. indent 1 ∷ q) n1 w n2 m2 → n2 ≡ n → m2 ≡ [] → IsWhole ps n
 assembled ps x y z w m2 n n1 n2 e1 p e2 e3 b e4 e5 =
-    let last : n ≡ record { inputs = 0 + p.inputs; outputs = 0 + suc p.outputs; sizes = 0 + p.sizes; variables = 0 + b.more; values = []; blocks = b.code ∷ [] } =
-    sym e4 ∙ b.noted ∙ ap (λ (q : Notes). record q { variables = q.variables + b.more; blocks = b.code ∷ q.blocks }) p.noted in
+    let last : n ≡ record { inputs = 0 + p.inputs; outputs = 0 + suc p.outputs; sizes = 0 + p.sizes; locals = b.locals; privates = b.privates; variables = 0 + b.more; values = []; blocks = b.code ∷ [] } =
+    sym e4 ∙ b.noted ∙ ap (λ (q : Notes). record q { locals = q.locals ++ b.locals; privates = q.privates ++ b.privates; variables = q.variables + b.more; blocks = b.code ∷ q.blocks }) p.noted in
     let inputs : p.inputs ≡ n.inputs = sym (ap (λ (q : Notes). q.inputs) last ∙ zero_plus p.inputs) in
     let sizes : p.sizes ≡ n.sizes = sym (ap (λ (q : Notes). q.sizes) last ∙ zero_plus p.sizes) in
+    let locals : b.locals ≡ n.locals = sym (ap (λ (q : Notes). q.locals) last) in
+    let privates : b.privates ≡ n.privates = sym (ap (λ (q : Notes). q.privates) last) in
     let variables : b.more ≡ n.variables = sym (ap (λ (q : Notes). q.variables) last ∙ zero_plus b.more) in
-    let from_zero : n1.variables ≡ 0 = ap (λ (q : Notes). q.variables) p.noted in
-    let body : y ≡ line ∷ block_begins ∷ line ∷ spell_variables 0 b.more (spell_code 0 b.code []) =
-    e2 ∙ ap (λ q. line ∷ block_begins ∷ line ∷ q) (e3 ∙ b.spelled ∙ ap (λ v. spell_variables v b.more (spell_code 0 b.code m2)) from_zero ∙ ap (λ q. spell_variables 0 b.more (spell_code 0 b.code q)) e5) in
-    let all : ps ≡ parts p.inputs p.outputs p.sizes b.more b.code = e1 ∙ ap spell_head (p.spelled ∙ ap (λ q. spell_inputs 0 p.inputs (first_output 0 (spell_outputs 1 p.outputs (spell_sizes 0 p.sizes q)))) body) in
+    let begun : spell_locals (length n1.locals) b.locals (spell_privates (length n1.privates) b.privates (spell_variables n1.variables b.more (spell_code 0 b.code m2))) ≡ spell_locals 0 b.locals (spell_privates 0 b.privates (spell_variables 0 b.more (spell_code 0 b.code []))) =
+    ap (λ (q : Notes). spell_locals (length q.locals) b.locals (spell_privates (length q.privates) b.privates (spell_variables q.variables b.more (spell_code 0 b.code m2)))) p.noted
+    ∙ ap (λ q. spell_locals 0 b.locals (spell_privates 0 b.privates (spell_variables 0 b.more (spell_code 0 b.code q)))) e5 in
+    let body : y ≡ body_parts b.locals b.privates b.more b.code = e2 ∙ ap (λ q. line ∷ block_begins ∷ line ∷ q) (e3 ∙ b.spelled ∙ begun) in
+    let same_body : body_parts b.locals b.privates b.more b.code ≡ body_parts n.locals n.privates n.variables b.code =
+    ap (λ (v : List ℕ). body_parts v b.privates b.more b.code) locals ∙ ap (λ (v : List ℕ). body_parts n.locals v b.more b.code) privates ∙ ap (λ v. body_parts n.locals n.privates v b.code) variables in
+    let all : ps ≡ parts p.inputs p.outputs p.sizes y = e1 ∙ ap spell_head p.spelled in
     record {
       more = p.outputs;
       code = b.code;
       outputs = ap (λ (q : Notes). q.outputs) last ∙ zero_plus (suc p.outputs);
+      locals = subst (λ z. are_lengths z ≡ true) locals b.local_lengths;
+      privates = subst (λ z. are_lengths z ≡ true) privates b.private_lengths;
       fits = subst (λ (q : Notes). are_statements (counted q) 0 b.code ≡ true) e4 b.fits;
       some = b.some;
+      few = subst CountsFit e4 (b.few (p.few none_fit));
       values = ap (λ (q : Notes). q.values) last;
       blocks = ap (λ (q : Notes). q.blocks) last;
-      spelled = all ∙ ap (λ v. parts v p.outputs p.sizes b.more b.code) inputs ∙ ap (λ v. parts n.inputs p.outputs v b.more b.code) sizes ∙ ap (λ v. parts n.inputs p.outputs n.sizes v b.code) variables;
+      spelled = all ∙ ap (parts p.inputs p.outputs p.sizes) (body ∙ same_body) ∙ ap (λ v. parts v p.outputs p.sizes (body_parts n.locals n.privates n.variables b.code)) inputs ∙ ap (λ v. parts n.inputs p.outputs v (body_parts n.locals n.privates n.variables b.code)) sizes;
     }
 
 pub whole : (ps : List Piece) (n : Notes) → Reads kernels start nothing ps [] n → IsWhole ps n
 whole ps n r =
-    let body : List Item = Form (Indent 1) ∷ Form Body ∷ [] in
+    let body : List Item = Form (Indent 1) ∷ Form Locals ∷ [] in
     let tail : List Item = texts (line ∷ block_begins ∷ line ∷ []) ++ body in
     let a = at_tokens head (Form Parameter ∷ tail) nothing ps n [] (read_means kernels Means kept r refl) in
     let c = at_tokens (line ∷ block_begins ∷ line ∷ []) body a.2.0 a.2.1 n [] a.2.3 in
-    let i = at_indent 1 (Form Body ∷ []) a.2.0 c.0 n [] c.2 in
+    let i = at_indent 1 (Form Locals ∷ []) a.2.0 c.0 n [] c.2 in
     assembled ps a.0 a.2.1 c.0 i.0 i.2.1 n a.2.0 i.2.0 a.1 a.2.2 c.1 i.1 i.2.2 i.2.3.0 i.2.3.1
 
 one_block : (c d : Code) → c ∷ [] ≡ d ∷ [] → c ≡ d
@@ -127,29 +143,49 @@ one_block c d e = cc (e)
 positive : (x : ℕ) → nat_lt 0 (suc x) ≡ true
 positive x = lt-ltb 0 (suc x) (omega arith)
 
--- a kernel that is made by a reading is in the grammar, and its pieces are its spelling
-pub made_whole : (ps : List Piece) (n : Notes) (k : Kernel) → Reads kernels start nothing ps [] n → IsMade n k → (is_kernel k ≡ true) × (ps ≡ spelled k)
-made_whole ps n k r made =
-    let same : n ≡ all_of k = made.0 in
-    let h = whole ps (all_of k) (subst (λ z. Reads kernels start nothing ps [] z) same r) in
+-- a kernel that is made by a reading has a text, and its pieces are its spelling
+pub made_whole : (ps : List Piece) (k : Kernel) → Reads kernels start nothing ps [] (all_of k) → HasText k × (ps ≡ spelled k)
+made_whole ps k r =
+    let h = whole ps (all_of k) r in
     let code : h.code ≡ k.code = sym (one_block k.code h.code h.blocks) in
-    let fits : are_statements k 0 k.code ≡ true = sym (statements_same k made.1 made.2 0 k.code) ∙ subst (λ c. are_statements (counted (all_of k)) 0 c ≡ true) code h.fits in
+    let fits : are_statements k 0 k.code ≡ true = sym (statements_same k 0 k.code) ∙ subst (λ c. are_statements (counted (all_of k)) 0 c ≡ true) code h.fits in
     let some : has_statement k.code ≡ true = subst (λ c. has_statement c ≡ true) code h.some in
-    let none : are_lengths [] ≡ true = refl in
-    let inner = and_from (are_lengths k.privates) _ (subst (λ z. are_lengths z ≡ true) (sym made.2) none) (and_from (has_statement k.code) (are_statements k 0 k.code) some fits) in
-    let outputs : nat_lt 0 k.outputs ≡ true = subst (λ z. nat_lt 0 z ≡ true) (sym h.outputs) (positive h.more) in (
-      and_from (nat_lt 0 k.outputs) _ outputs (and_from (are_lengths k.locals) _ (subst (λ z. are_lengths z ≡ true) (sym made.1) none) inner),
-      h.spelled ∙ ap (parts k.inputs h.more k.sizes k.variables) code ∙ ap (spelled_with k) (sym h.outputs),
+    let inner = and_from (are_lengths k.privates) _ h.privates (and_from (has_statement k.code) (are_statements k 0 k.code) some fits) in
+    let outputs : nat_lt 0 k.outputs ≡ true = subst (λ z. nat_lt 0 z ≡ true) (sym h.outputs) (positive h.more) in
+    let few = h.few in (
+      record {
+        in_grammar = and_from (nat_lt 0 k.outputs) _ outputs (and_from (are_lengths k.locals) _ h.locals inner);
+        inputs = few.inputs;
+        outputs = few.outputs;
+        sizes = few.sizes;
+        locals = few.locals;
+        privates = few.privates;
+        variables = few.variables;
+      },
+      h.spelled ∙ ap (λ c. parts k.inputs h.more k.sizes (body_parts k.locals k.privates k.variables c)) code ∙ ap (spelled_with k) (sym h.outputs),
     )
+
+-- the parts of a kernel of the grammar
+pub record KernelFits (k : Kernel) : Type 0 where
+  pub some_output : nat_lt 0 k.outputs ≡ true
+  pub locals : are_lengths k.locals ≡ true
+  pub privates : are_lengths k.privates ≡ true
+  pub some : has_statement k.code ≡ true
+  pub fits : are_statements (counted (all_of k)) 0 k.code ≡ true
+
+pub kernel_fits : (k : Kernel) → is_kernel k ≡ true → KernelFits k
+kernel_fits k h =
+    let p = and_parts (nat_lt 0 k.outputs) _ h in
+    let q = and_parts (are_lengths k.locals) _ p.1 in
+    let s = and_parts (are_lengths k.privates) _ q.1 in
+    let t = and_parts (has_statement k.code) (are_statements k 0 k.code) s.1 in
+    record { some_output = p.0; locals = q.0; privates = s.0; some = t.0; fits = statements_same k 0 k.code ∙ t.1 }
 
 -- and what has a text is read from its spelling
 pub spelled_made : (k : Kernel) → HasText k → Reads kernels start nothing (spelled k) [] (all_of k)
 spelled_made k h = at_outputs k.outputs refl where
   at_outputs : (o : ℕ) → k.outputs ≡ o → Reads kernels start nothing (spelled k) [] (all_of k)
-  at_outputs zero e = absurd (let p = and_parts (nat_lt 0 k.outputs) _ h.in_grammar in let w : nat_lt 0 0 ≡ true = subst (λ z. nat_lt 0 z ≡ true) e p.0 in cc (w))
+  at_outputs zero e = absurd (let w : nat_lt 0 0 ≡ true = subst (λ z. nat_lt 0 z ≡ true) e (kernel_fits k h.in_grammar).some_output in cc (w))
   at_outputs (suc more) e =
-      let p = and_parts (nat_lt 0 k.outputs) _ h.in_grammar in
-      let q = and_parts (are_lengths k.locals) _ p.1 in
-      let s = and_parts (are_lengths k.privates) _ q.1 in
-      let t = and_parts (has_statement k.code) (are_statements k 0 k.code) s.1 in
-      subst (λ z. Reads kernels start nothing z [] (all_of k)) (ap (spelled_with k) (sym e)) (reads_kernel k more e (statements_same k h.locals h.privates 0 k.code ∙ t.1) t.0 h)
+      let p = kernel_fits k h.in_grammar in
+      subst (λ z. Reads kernels start nothing z [] (all_of k)) (ap (spelled_with k) (sym e)) (reads_kernel k more e p.locals p.privates p.fits p.some h)

@@ -1,9 +1,13 @@
 -- What a piece is.
 use Rattle.std.specs.Prelude.{ℕ, ◌-◌, List, [], ◌∷◌, Option, Some, None, cond, bytes_eq, nat_lt, ◌&&◌, decimal, codes, length, take, drop}
 use Rattle.std.specs.Str.Parse.{digits_value}
-use Rattle.kernel_tree.specs.KernelText.{number_limit}
+use Rattle.scalar_ops.specs.declared.op.Op.{Op}
+use Rattle.scalar_ops.specs.declared.op.Op.TheVariants.{Add, Mul, Min, Max, And, Or, Xor, Sub, Div, Rem}
+use Rattle.kernel_tree.specs.declared.tree.Array.TheVariants as array
+use Rattle.kernel_tree.specs.Formula.{IdForm, GlobalId, GroupId, LocalId, GlobalSize, GroupCount, LocalSize}
+use Rattle.kernel_tree.specs.KernelText.{Piece, number_limit, id_name, plus, minus, star, slash, percent, ampersand, bar, caret, least, greatest}
 use Rattle.kernel_spelling.specs.declared.kinds.Kind.{Kind}
-use Rattle.kernel_spelling.specs.declared.kinds.Kind.TheVariants.{Input, Output, Size, Variable, LoopVariable, Literal, Other}
+use Rattle.kernel_spelling.specs.declared.kinds.Kind.TheVariants.{Array, Size, Variable, LoopVariable, Literal, Decimal, Other}
 
 -- the number whose decimal this is
 abbrev pub number_in : List ℕ → Option ℕ
@@ -21,5 +25,41 @@ abbrev pub kind_or : (ℕ → Kind) → Option ℕ → Kind → Kind
 kind_or f (Some k) rest = f k
 kind_or f None rest = rest
 
+abbrev pub number_kind : List ℕ → Kind
+number_kind p = kind_or Literal (literal_in p) (kind_or Decimal (number_in p) Other)
+
+abbrev pub array_kind : List ℕ → Kind
+array_kind p =
+    kind_or (λ k. Array (array.Input k)) (named_in 97 p) (
+    kind_or (λ k. Array (array.Output k)) (named_in 111 p) (
+    kind_or (λ k. Array (array.Local k)) (named_in 108 p) (
+    kind_or (λ k. Array (array.Private k)) (named_in 112 p) (
+    number_kind p))))
+
 abbrev pub kind_of : List ℕ → Kind
-kind_of p = kind_or Variable (named_in 118 p) (kind_or LoopVariable (named_in 105 p) (kind_or Input (named_in 97 p) (kind_or Output (named_in 111 p) (kind_or Size (named_in 115 p) (kind_or Literal (literal_in p) Other)))))
+kind_of p = kind_or Variable (named_in 118 p) (kind_or LoopVariable (named_in 105 p) (kind_or Size (named_in 115 p) (array_kind p)))
+
+-- ---- words and signs
+
+-- what stands beside the piece in a list
+abbrev pub beside : {A : Type 0} → List (Piece × A) → Piece → Option A
+beside [] p = None
+beside (x ∷ xs) p = cond (bytes_eq p x.0) (Some x.1) (beside xs p)
+
+abbrev pub ids : List (Piece × IdForm)
+ids = (id_name GlobalId, GlobalId) ∷ (id_name GroupId, GroupId) ∷ (id_name LocalId, LocalId) ∷ (id_name GlobalSize, GlobalSize) ∷ (id_name GroupCount, GroupCount) ∷ (id_name LocalSize, LocalSize) ∷ []
+
+abbrev pub signs : List (Piece × Op)
+signs = (plus, Add) ∷ (minus, Sub) ∷ (star, Mul) ∷ (slash, Div) ∷ (percent, Rem) ∷ (ampersand, And) ∷ (bar, Or) ∷ (caret, Xor) ∷ []
+
+abbrev pub calls : List (Piece × Op)
+calls = (least, Min) ∷ (greatest, Max) ∷ []
+
+abbrev pub id_in : Piece → Option IdForm
+id_in p = beside ids p
+
+abbrev pub sign_in : Piece → Option Op
+sign_in p = beside signs p
+
+abbrev pub call_in : Piece → Option Op
+call_in p = beside calls p

@@ -6,7 +6,7 @@ use Rattle.std.specs.Cmp.Lexicographic.{same_text}
 use Rattle.std.proofs.lemmas.Bool.{ltb-true, lt-ltb, and_from, and_parts, eq-eqb, eqb-true}
 use Rattle.std.proofs.lemmas.Option.{cond_some}
 use Rattle.std.proofs.lemmas.Fmt.{decimal_is_IsNumeral}
-use Rattle.std.proofs.lemmas.List.{take-append-drop, length-append}
+use Rattle.std.proofs.lemmas.List.{take-append-drop, length-append, append-nil}
 use Rattle.std.proofs.Math.Seq.{take-append_seam, drop-append_seam}
 use Rattle.std.specs.Str.Parse.{AllDigits}
 use Rattle.std.proofs.lemmas.Str.Parse.{IsDigitsTest, tells_digits}
@@ -49,7 +49,7 @@ pub no_bytes : (x : List ℕ) → length x ≡ 0 → x ≡ []
 no_bytes [] e = refl
 no_bytes (b ∷ x) e = absurd (omega (arith, e))
 
-cond_then : {A : Type 0} (b : Bool) (o : Option A) (x : A) → cond b o None ≡ Some x → (b ≡ true) × (o ≡ Some x)
+pub cond_then : {A : Type 0} (b : Bool) (o : Option A) (x : A) → cond b o None ≡ Some x → (b ≡ true) × (o ≡ Some x)
 cond_then true o x e = (refl, e)
 cond_then false o x e = absurd (cc (e))
 
@@ -77,13 +77,12 @@ literal_spelled v h =
     literal_at (decimal v) (length (decimal v ++ codes "u") - 1) (let e : length (decimal v ++ codes "u") ≡ length (decimal v) + 1 = length-append (decimal v) (codes "u") in omega (arith, e))
     ∙ number_decimal v h
 
--- a literal is no name
-not_named_at : (letter : ℕ) (w : List ℕ) → 58 ≤ letter → 0 < length w → AllDigits 10 w → named_in letter (w ++ codes "u") ≡ None
-not_named_at letter [] high some digits = absurd (omega (arith, some))
-not_named_at letter (d ∷ ds) high some digits =
-    let q = IsDigitsTest.parts tells_digits d ds digits in
+-- what begins with a digit is no name
+not_named_at : (letter : ℕ) (w back : List ℕ) → 58 ≤ letter → 0 < length w → AllDigits 10 w → named_in letter (w ++ back) ≡ None
+not_named_at letter [] back high some digits = absurd (omega (arith, some))
+not_named_at letter (d ∷ ds) back high some digits =
     let differ : nat_eq d letter ≡ false = other_at (nat_eq d letter) refl in
-    ap (λ b. cond (b && bytes_eq [] []) (number_in (ds ++ codes "u")) None) differ where
+    ap (λ b. cond (b && bytes_eq [] []) (number_in (ds ++ back)) None) differ where
       other_at : (v : Bool) → nat_eq d letter ≡ v → nat_eq d letter ≡ false
       other_at true e = absurd (let q = IsDigitsTest.parts tells_digits d ds digits in let w = eqb-true d letter e in let k = q.0.1 in omega (arith, w, high, k))
       other_at false e = e
@@ -91,4 +90,30 @@ not_named_at letter (d ∷ ds) high some digits =
 pub not_named : (letter v : ℕ) → 58 ≤ letter → v < 2 ^ 32 → named_in letter (decimal v ++ codes "u") ≡ None
 not_named letter v high h =
     let q = (decimal_is_IsNumeral v (small v h)).0 in
-    not_named_at letter (decimal v) high q.0 q.1
+    not_named_at letter (decimal v) (codes "u") high q.0 q.1
+
+pub no_name : (letter v : ℕ) → 58 ≤ letter → v < 2 ^ 32 → named_in letter (decimal v) ≡ None
+no_name letter v high h =
+    let q = (decimal_is_IsNumeral v (small v h)).0 in
+    ap (named_in letter) (sym (append-nil (decimal v))) ∙ not_named_at letter (decimal v) [] high q.0 q.1
+
+-- a decimal is no literal
+no_suffix : (w : List ℕ) → AllDigits 10 (w ++ codes "u") → ⊥
+no_suffix [] digits = let q = IsDigitsTest.parts tells_digits 117 [] digits in let k : 117 ≤ 57 = q.0.1 in omega (arith, k)
+no_suffix (d ∷ ds) digits = no_suffix ds (IsDigitsTest.parts tells_digits d (ds ++ codes "u") digits).1
+
+pub no_literal : (v : ℕ) → v < 2 ^ 32 → literal_in (decimal v) ≡ None
+no_literal v h = at_answer (literal_in (decimal v)) refl where
+  at_answer : (o : Option ℕ) → literal_in (decimal v) ≡ o → literal_in (decimal v) ≡ None
+  at_answer None e = e
+  at_answer (Some k) e = absurd (no_suffix (decimal k) (subst (AllDigits 10) (literal_is (decimal v) k e).1 (decimal_is_IsNumeral v (small v h)).0.1))
+
+-- what begins with no digit is no number
+pub no_number : (b : ℕ) (bs : List ℕ) → (48 ≤ b → b ≤ 57 → ⊥) → number_in (b ∷ bs) ≡ None
+no_number b bs apart = at_answer (number_in (b ∷ bs)) refl where
+  at_answer : (o : Option ℕ) → number_in (b ∷ bs) ≡ o → number_in (b ∷ bs) ≡ None
+  at_answer None e = e
+  at_answer (Some k) e = absurd (
+      let q = number_is (b ∷ bs) k e in
+      let digits = subst (AllDigits 10) (sym q.1) (decimal_is_IsNumeral k (small k q.0)).0.1 in
+      let d = IsDigitsTest.parts tells_digits b bs digits in apart d.0.0 d.0.1)

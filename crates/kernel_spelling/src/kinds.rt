@@ -1,21 +1,36 @@
 // What a piece is.
 
-ghost use Rattle.std.specs.Prelude.{◌≡◌};
-ghost use Rattle.kernel_spelling.specs.Kinds.{number_in, named_in, literal_in, kind_of};
+ghost use Rattle.std.specs.Prelude.{◌≡◌, option_map};
+ghost use Rattle.kernel_tree.specs.Tree.{id_of};
+ghost use Rattle.kernel_spelling.specs.Kinds.{number_in, named_in, literal_in, kind_of, id_in, sign_in, call_in};
 
 use itoa::Buffer;
+use kernel_tree::tree::{Array, IdForm};
+use scalar_ops::op::Op;
 
-/// What a piece is: a name of a kind with its number, a literal, or any other.
+/// What a piece is: a name of a kind with its number, a literal, a decimal, or any other.
 #[derive(Clone, Copy)]
 pub enum Kind {
-    Input(u32),
-    Output(u32),
+    Array(Array),
     Size(u32),
     Variable(u32),
     LoopVariable(u32),
     Literal(u32),
+    Decimal(u32),
     Other,
 }
+
+const GLOBAL_ID: &[u8] = b"get_global_id";
+
+const GROUP_ID: &[u8] = b"get_group_id";
+
+const LOCAL_ID: &[u8] = b"get_local_id";
+
+const GLOBAL_SIZE: &[u8] = b"get_global_size";
+
+const GROUP_COUNT: &[u8] = b"get_num_groups";
+
+const LOCAL_SIZE: &[u8] = b"get_local_size";
 
 /// The number whose decimal this is: digits without a leading zero, below 2^32.
 fn number(digits: &[u8]) -> Option<u32>
@@ -65,18 +80,76 @@ impl Kind {
         if let Some(k) = named(b'i', piece) {
             return Kind::LoopVariable(k);
         }
-        if let Some(k) = named(b'a', piece) {
-            return Kind::Input(k);
-        }
-        if let Some(k) = named(b'o', piece) {
-            return Kind::Output(k);
-        }
         if let Some(k) = named(b's', piece) {
             return Kind::Size(k);
+        }
+        if let Some(k) = named(b'a', piece) {
+            return Kind::Array(Array::Input(k));
+        }
+        if let Some(k) = named(b'o', piece) {
+            return Kind::Array(Array::Output(k));
+        }
+        if let Some(k) = named(b'l', piece) {
+            return Kind::Array(Array::Local(k));
+        }
+        if let Some(k) = named(b'p', piece) {
+            return Kind::Array(Array::Private(k));
         }
         if let Some(number) = literal(piece) {
             return Kind::Literal(number);
         }
+        if let Some(number) = number(piece) {
+            return Kind::Decimal(number);
+        }
         Kind::Other
+    }
+}
+
+/// The id that a piece names.
+pub fn named_id(piece: &[u8]) -> Option<IdForm>
+    ensures { option_map id_of result ≡ id_in piece.now }
+{
+    if piece == GLOBAL_ID {
+        Some(IdForm::GlobalId)
+    } else if piece == GROUP_ID {
+        Some(IdForm::GroupId)
+    } else if piece == LOCAL_ID {
+        Some(IdForm::LocalId)
+    } else if piece == GLOBAL_SIZE {
+        Some(IdForm::GlobalSize)
+    } else if piece == GROUP_COUNT {
+        Some(IdForm::GroupCount)
+    } else if piece == LOCAL_SIZE {
+        Some(IdForm::LocalSize)
+    } else {
+        None
+    }
+}
+
+/// The operator whose sign is one piece.
+pub fn signed(piece: &[u8]) -> Option<Op>
+    ensures { result ≡ sign_in piece.now }
+{
+    match piece {
+        b"+" => Some(Op::Add),
+        b"-" => Some(Op::Sub),
+        b"*" => Some(Op::Mul),
+        b"/" => Some(Op::Div),
+        b"%" => Some(Op::Rem),
+        b"&" => Some(Op::And),
+        b"|" => Some(Op::Or),
+        b"^" => Some(Op::Xor),
+        _ => None,
+    }
+}
+
+/// The operator that is called by its name.
+pub fn called(piece: &[u8]) -> Option<Op>
+    ensures { result ≡ call_in piece.now }
+{
+    match piece {
+        b"min" => Some(Op::Min),
+        b"max" => Some(Op::Max),
+        _ => None,
     }
 }

@@ -1,10 +1,9 @@
 // Laws of the kernel grammar.
 
-ghost use Rattle.std.specs.Prelude.{◌≡◌, true, ℕ, List, []};
+ghost use Rattle.std.specs.Prelude.{◌≡◌, ℕ, List, []};
 ghost use Rattle.readings.specs.Readings.{Reads};
 ghost use Rattle.kernel_tree.specs.Code.{Kernel};
-ghost use Rattle.kernel_tree.specs.Grammar.{is_kernel};
-ghost use Rattle.kernel_tree.specs.KernelText.{Piece, Notes, IsKernelText, IsMade, kernels, start, nothing};
+ghost use Rattle.kernel_tree.specs.KernelText.{Piece, Notes, IsKernelText, all_of, kernels, start, nothing};
 ghost use Rattle.kernel_tree.specs.Pieces.{ArePieces, joined};
 ghost use Rattle.kernel_spelling.specs.Spelling.{HasText, text_of};
 
@@ -12,9 +11,9 @@ ghost use Rattle.kernel_spelling.specs.Spelling.{HasText, text_of};
 pub fn one_text()
     // The kernel grammar relates a kernel to its text.
     ensures taken { (k : Kernel) → HasText k → IsKernelText (text_of k) k }
-    // It relates no other bytes to that kernel, and nothing but kernels to bytes.
+    // It relates no other bytes to that kernel, and nothing to a kernel that has none.
     ensures only { (bytes : List ℕ) (k : Kernel) → IsKernelText bytes k →
-        (is_kernel k ≡ true) × (bytes ≡ text_of k) }
+        HasText k × (bytes ≡ text_of k) }
 {}
 
 /// A text is of one kernel.
@@ -30,10 +29,10 @@ pub fn one_cut()
     ensures whole { (bytes : List ℕ) (ps : List Piece) → ArePieces bytes ps → bytes ≡ joined ps }
 {}
 
-/// What a whole reading notes is one kernel, of the grammar.
+/// What a whole reading notes is one kernel, which has a text.
 pub fn whole_readings()
     ensures made { (ps : List Piece) (n : Notes) →
-        Reads kernels start nothing ps [] n → (k : Kernel) × IsMade n k }
-    ensures in_grammar { (ps : List Piece) (n : Notes) (k : Kernel) →
-        Reads kernels start nothing ps [] n → IsMade n k → is_kernel k ≡ true }
+        Reads kernels start nothing ps [] n → (k : Kernel) × (n ≡ all_of k) }
+    ensures has_text { (ps : List Piece) (k : Kernel) →
+        Reads kernels start nothing ps [] (all_of k) → HasText k }
 {}

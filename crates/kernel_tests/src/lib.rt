@@ -6,6 +6,8 @@ mod device;
 #[cfg(test)]
 mod emit;
 #[cfg(test)]
+mod forms;
+#[cfg(test)]
 mod machine;
 #[cfg(test)]
 mod nests;

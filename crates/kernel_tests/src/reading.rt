@@ -1,5 +1,7 @@
 // Texts that are read as kernels, and texts that are no kernel's.
 
+use crate::forms::{END, HEAD, NO_DECLARATIONS, NO_STATEMENTS, OPENING, STORE};
+use itoa::Buffer;
 use kernel_reader::{KernelNo, read_kernel};
 use std::alloc::{AllocError, Global};
 use std::test::Fail;
@@ -149,6 +151,62 @@ fn first_wrong_cut(alloc: Global) -> Result<Option<usize>, AllocError> {
     Ok(None)
 }
 
+/// The place of the first text, between two others, that isn't refused at its byte. `begins` is the
+/// length of what stands before it.
+fn first_taken(
+    alloc: Global,
+    before: &[u8],
+    texts: &[(&'static [u8], u8)],
+    behind: &[u8],
+    begins: u8,
+) -> Result<Option<usize>, AllocError> {
+    for i in 0..texts.len() {
+        let (middle, at) = texts[i];
+        let mut text = Vec::from_slice(alloc, before)?;
+        put(&mut text, middle)?;
+        put(&mut text, behind)?;
+        if refused(alloc, &text)? != Some(begins as usize + at as usize) {
+            return Ok(Some(i));
+        }
+    }
+    Ok(None)
+}
+
+fn put_number(text: &mut Vec<u8>, number: usize) -> Result<(), AllocError> {
+    let mut buffer = Buffer::new();
+    put(text, buffer.format(number).as_bytes())
+}
+
+fn put_indent(text: &mut Vec<u8>, levels: usize) -> Result<(), AllocError> {
+    for _i in 0..levels {
+        put(text, b"  ")?;
+    }
+    Ok(())
+}
+
+/// A store within so many loops, one in another.
+fn loops(alloc: Global, depth: u16) -> Result<Vec<u8>, AllocError> {
+    let mut text = Vec::from_slice(alloc, OPENING)?;
+    for i in 0..depth as usize {
+        put_indent(&mut text, i + 1)?;
+        put(&mut text, b"for (uint i")?;
+        put_number(&mut text, i)?;
+        put(&mut text, b" = 0u; i")?;
+        put_number(&mut text, i)?;
+        put(&mut text, b" < 1u; i")?;
+        put_number(&mut text, i)?;
+        put(&mut text, b" += 1u) {\n")?;
+    }
+    put_indent(&mut text, depth as usize + 1)?;
+    put(&mut text, b"o0[0u] = 0u;\n")?;
+    for i in 0..depth as usize {
+        put_indent(&mut text, depth as usize - i)?;
+        put(&mut text, b"}\n")?;
+    }
+    put(&mut text, END)?;
+    Ok(text)
+}
+
 /// A kernel that stores a sum of ones, so many sums deep.
 fn sums(alloc: Global, depth: usize) -> Result<Vec<u8>, AllocError> {
     let mut text = Vec::new(alloc);
@@ -205,5 +263,23 @@ fn deep_sums(rt: HostRuntime) -> Result<(), Fail> {
     assert_eq!(rt; refused(rt.alloc(), &deepest)?, None);
     let deeper = sums(rt.alloc(), 1024)?;
     assert_eq!(rt; refused(rt.alloc(), &deeper)?, Some(1075));
+    Ok(())
+}
+
+// The forms that begin alike are told apart where they first differ.
+#[test]
+fn no_forms(rt: HostRuntime) -> Result<(), Fail> {
+    assert_eq!(rt; first_taken(rt.alloc(), HEAD, &NO_STATEMENTS, END, 127)?, None);
+    assert_eq!(rt; first_taken(rt.alloc(), OPENING, &NO_DECLARATIONS, STORE, 40)?, None);
+    Ok(())
+}
+
+// Loops nest at most 1,024 deep: one more is refused at its first word.
+#[test]
+fn deep_loops(rt: HostRuntime) -> Result<(), Fail> {
+    let deepest = loops(rt.alloc(), 1024)?;
+    assert_eq!(rt; refused(rt.alloc(), &deepest)?, None);
+    let deeper = loops(rt.alloc(), 1025)?;
+    assert_eq!(rt; refused(rt.alloc(), &deeper)?, Some(1098536));
     Ok(())
 }

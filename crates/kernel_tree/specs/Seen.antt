@@ -20,7 +20,7 @@ use Rattle.kernel_tree.specs.Faults.{FaultIs}
 abbrev pub shared : Array → Option held.Array
 shared (Input n) = Some (held_array.Input n)
 shared (Output n) = Some (held_array.Output n)
-shared (Local n) = None
+shared (Local n) = Some (held_array.Local n)
 shared (Private n) = None
 
 abbrev pub shared_cell : Array → ℕ → Option Cell

@@ -1,8 +1,38 @@
 // A kernel as a tree.
 
-ghost use Rattle.std.specs.Prelude.{◌≡◌, true};
+ghost use Rattle.std.specs.Prelude.{◌≡◌, ◌<◌, ◌^◌, IfOk, length, true};
+ghost use Rattle.kernel_tree.specs.Formula as formula;
 ghost use Rattle.kernel_tree.specs.Grammar.{is_kernel};
-ghost use Rattle.kernel_tree.specs.Tree.{kernel_with};
+ghost use Rattle.kernel_tree.specs.Tree.{formula_of, comparison_of, kernel_with};
+
+use scalar_ops::op::Op;
+use std::alloc::{AllocError, Global};
+
+/// What a work-item can ask about itself and the launch (OpenCL C 1.2, section 6.12.1), of dimension 0.
+#[derive(Clone, Copy, PartialEq, Eq)]
+pub enum IdForm {
+    /// `(uint)get_global_id(0)`
+    GlobalId,
+    /// `(uint)get_group_id(0)`
+    GroupId,
+    /// `(uint)get_local_id(0)`
+    LocalId,
+    /// `(uint)get_global_size(0)`
+    GlobalSize,
+    /// `(uint)get_num_groups(0)`
+    GroupCount,
+    /// `(uint)get_local_size(0)`
+    LocalSize,
+}
+
+/// How a conditional compares.
+#[derive(Clone, Copy, PartialEq, Eq)]
+pub enum Comparison {
+    /// `<`
+    Less,
+    /// `==`
+    Equal,
+}
 
 /// An expression over unsigned words of 32 bits.
 #[derive(Drop)]
@@ -15,15 +45,50 @@ pub enum Expr {
     LoopVariable(u32),
     /// A size, by its number.
     Size(u32),
-    /// The sum of two expressions, which wraps.
-    Sum(Box<Expr>, Box<Expr>),
+    /// What the work-item asks about itself and the launch.
+    Id(IdForm),
+    /// An operator on two expressions. `Lt` and `Eq` are of no kernel: they stand in `Choose`.
+    Binary(Op, Box<Expr>, Box<Expr>),
+    /// Where the comparison holds of the first two, the third, else the fourth.
+    Choose(Comparison, Box<Expr>, Box<Expr>, Box<Expr>, Box<Expr>),
 }
 
-/// An array in global memory, by its number among the arrays of its kind.
+impl Expr {
+    /// The operator on these two.
+    pub fn binary(alloc: Global, op: Op, a: Expr, b: Expr) -> Result<Self, AllocError>
+        ensures { IfOk result (λ e. formula_of e ≡ formula.Binary op (formula_of a) (formula_of b)) }
+    {
+        let a = Box::new(alloc, a)?;
+        Ok(Expr::Binary(op, a, Box::new(alloc, b)?))
+    }
+
+    /// `yes` where the comparison holds of `a` and `b`, else `no`.
+    pub fn choose(
+        alloc: Global,
+        comparison: Comparison,
+        a: Expr,
+        b: Expr,
+        yes: Expr,
+        no: Expr,
+    ) -> Result<Self, AllocError>
+        ensures { IfOk result (λ e. formula_of e ≡ formula.Choose (comparison_of comparison)
+            (formula_of a) (formula_of b) (formula_of yes) (formula_of no)) }
+    {
+        let a = Box::new(alloc, a)?;
+        let b = Box::new(alloc, b)?;
+        let yes = Box::new(alloc, yes)?;
+        Ok(Expr::Choose(comparison, a, b, yes, Box::new(alloc, no)?))
+    }
+}
+
+/// An array, by its number among the arrays of its kind. Inputs and outputs lie in global memory,
+/// local arrays are of a work-group, private arrays of a work-item.
 #[derive(Clone, Copy, PartialEq, Eq)]
 pub enum Array {
     Input(u32),
     Output(u32),
+    Local(u32),
+    Private(u32),
 }
 
 /// What a loop's variable begins with.
@@ -31,6 +96,12 @@ pub enum Array {
 pub enum Start {
     /// `0u`
     Zero,
+    /// `(uint)get_global_id(0)`
+    GlobalId,
+    /// `(uint)get_group_id(0)`
+    GroupId,
+    /// `(uint)get_local_id(0)`
+    LocalId,
 }
 
 /// What is added to a loop's variable after each turn.
@@ -38,6 +109,12 @@ pub enum Start {
 pub enum Stride {
     /// `1u`
     One,
+    /// `(uint)get_global_size(0)`
+    GlobalSize,
+    /// `(uint)get_num_groups(0)`
+    GroupCount,
+    /// `(uint)get_local_size(0)`
+    LocalSize,
 }
 
 /// A statement.
@@ -51,15 +128,24 @@ pub enum Stmt {
     Store(Array, Expr, Expr),
     /// A loop from the start, by the stride, while its variable is below the bound.
     Loop(Start, Expr, Stride, Vec<Stmt>),
+    /// A barrier of the work-group (OpenCL C 1.2, section 6.12.8), with its flags: whether it orders
+    /// accesses of local and of global memory.
+    Barrier { on_local: bool, on_global: bool },
 }
 
-/// A kernel of the kernel grammar: how many inputs, outputs, sizes and private variables it declares, and its statements.
+/// A kernel of the kernel grammar: how many inputs, outputs and sizes it takes, the lengths of its
+/// local and its private arrays, how many private variables it declares, and its statements.
 #[derive(Drop)]
 pub struct Kernel {
     pub inputs: u32,
     pub outputs: u32,
     pub sizes: u32,
+    pub locals: Vec<u32>,
+    pub privates: Vec<u32>,
     pub variables: u32,
     pub body: Vec<Stmt>,
-    pub ghost in_grammar: { is_kernel (kernel_with inputs outputs sizes variables body.items) ≡ true },
+    pub ghost in_grammar: { is_kernel
+        (kernel_with inputs outputs sizes locals.items privates.items variables body.items) ≡ true },
+    /// Arrays have numbers below 2^32.
+    pub ghost few_arrays: { (length locals.items < 2 ^ 32) × (length privates.items < 2 ^ 32) },
 }

@@ -8,7 +8,7 @@ ghost use Rattle.kernel_tree.specs.declared.events.FaultKind.TheVariants as faul
 ghost use Rattle.scalar_ops.specs.declared.op.Op.TheVariants.{Lt};
 ghost use Rattle.kernel_tree.specs.Formula.{Number, Variable, LoopVariable, Binary, value, sizes_alone};
 ghost use Rattle.kernel_tree.specs.Launch.{ids_of};
-ghost use Rattle.kernel_tree.specs.Code.{Input, Output, Private, FromZero, ByOne, End, Stores, Loops, Syncs};
+ghost use Rattle.kernel_tree.specs.Code.{Input, Output, Local, Private, FromZero, ByOne, End, Stores, Loops, Syncs};
 ghost use Rattle.kernel_tree.specs.Grammar.{is_kernel, is_expression};
 ghost use Rattle.kernel_tree.specs.Device.{AllEnded, Enabled, IsRun, device_of, run, start_state};
 ghost use Rattle.kernel_tree.specs.Item.{Fails, Moves, Reads, Writes, item, loop_variables, next};
@@ -86,6 +86,7 @@ pub fn worked_sights()
     ensures race { seen_of two_items first_state (Step 1) (Some fault.Race) ≡ record { event = Step 1; access = Some (Write (record { array = held.Output 0; index = 0 })); fault = Some (record { kind = fault.Race; cell = Some (record { array = held.Output 0; index = 0 }) }) } }
     ensures out_of_range { fault_of (Writes (Output 0) 1 1 (item End [] [])) fault.OutOfRange ≡ record { kind = fault.OutOfRange; cell = None } }
     ensures private { access_wanted (Writes (Private 0) 0 1 (item End [] [])) ≡ None }
+    ensures local { access_wanted (Reads (Local 0) 5 (λ x. item End [] [])) ≡ Some (Read (record { array = held.Local 0; index = 5 })) }
     ensures read { access_wanted (Reads (Input 2) 5 (λ x. item End [] [])) ≡ Some (Read (record { array = held.Input 2; index = 5 })) }
 {}
 

@@ -1,1 +1,2 @@
-pub mod RunInOrder
+pub mod Counting
+pub mod Running

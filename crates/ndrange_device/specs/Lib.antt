@@ -1,1 +1,2 @@
-pub mod InOrder
+pub mod Outcomes
+pub mod Progress

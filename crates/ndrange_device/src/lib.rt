@@ -1,42 +1,98 @@
-//! Whole runs of kernels. So far they are by one work-item, and in order.
+//! Whole runs of kernels along a schedule, up to their end or their first fault.
 #![tactic(auto)]
 
-ghost use Rattle.std.specs.Prelude.{◌≡◌, map, IfOk};
+ghost use Rattle.std.specs.Prelude.{◌≡◌, ◌<◌, map, IfOk, IfErr};
 ghost use Rattle.kernel_tree.specs.Kernels.{kernel_of};
 ghost use Rattle.kernel_tree.specs.Launch as seen;
-ghost use Rattle.ndrange_device.specs.InOrder.{EndsInOrder, IsSafe};
+ghost use Rattle.kernel_tree.specs.Schedule.{schedule_of, in_order};
+ghost use Rattle.ndrange_device.specs.Outcomes.{EndsUnder, Refuses};
 
-use kernel_tree::launches::{Cells, Launch};
+mod outcome;
+pub mod progress;
+
+use count_tree::steps::Steps;
+use kernel_tree::launches;
+use kernel_tree::launches::{Cells, Schedule};
 use kernel_tree::tree::Kernel;
 use ndrange_machine::Machine;
-use std::alloc::{AllocError, Global};
+use outcome::refusal;
+pub use outcome::{DeviceNo, Outcome};
+use progress::Progress;
+use std::alloc::Global;
+use std::marker::Brand;
+use std::sync::ledger::{Blank, Ledger};
 
-/// What is left when a run is over: the cells of each output, and how many events the run had.
-#[derive(Drop)]
-pub struct Ended {
-    pub outs: Vec<Vec<u32>>,
-    pub events: u64,
+/// Runs a kernel: of the enabled events, in the order of the work-items, the schedule says which
+/// comes next, until there is none or one is a fault. So far it is for one work-item.
+pub fn launch(
+    alloc: Global,
+    kernel: Kernel,
+    launch: launches::Launch,
+    cells: Cells,
+    schedule: &Schedule,
+) -> Result<Outcome, DeviceNo>
+    requires may_start { seen.MayStart (kernel_of kernel) launch cells }
+    requires one_item { launch.global ≡ 1 }
+    ensures outcome { IfOk result (λ o. EndsUnder (schedule_of schedule.now) (kernel_of kernel)
+        launch cells (map (λ row. row.items) o.outputs.items) o.events o.releases) }
+    ensures refusal { IfErr result (Refuses (schedule_of schedule.now) (kernel_of kernel) launch cells) }
+{
+    follow::<Brand>(alloc, kernel, launch, cells, schedule, Blank::new(1))
 }
 
-/// Runs a kernel none of whose runs has a fault: of the enabled events always the first in the order of the work-items, until there is none.
+/// Runs a kernel in order: of the enabled events the first, in the order of the work-items, comes
+/// next.
 pub fn run_in_order(
     alloc: Global,
     kernel: Kernel,
-    launch: Launch,
+    launch: launches::Launch,
     cells: Cells,
-) -> Result<Ended, AllocError>
+) -> Result<Outcome, DeviceNo>
     requires may_start { seen.MayStart (kernel_of kernel) launch cells }
     requires one_item { launch.global ≡ 1 }
-    requires safe { IsSafe (kernel_of kernel) launch cells }
-    ensures { IfOk result (λ ended. EndsInOrder (kernel_of kernel) launch cells (map (λ row. row.items) ended.outs.items) ended.events) }
+    ensures outcome { IfOk result (λ o. EndsUnder in_order (kernel_of kernel)
+        launch cells (map (λ row. row.items) o.outputs.items) o.events o.releases) }
+    ensures refusal { IfErr result (Refuses in_order (kernel_of kernel) launch cells) }
+{
+    let schedule = Schedule::Numbers(Vec::new(alloc));
+    crate::launch(alloc, kernel, launch, cells, &schedule)
+}
+
+// A kernel's run, whose events are counted for the proof that it ends.
+fn follow<L: Ledger>(
+    alloc: Global,
+    kernel: Kernel,
+    launch: launches::Launch,
+    cells: Cells,
+    schedule: &Schedule,
+    blank: Blank,
+) -> Result<Outcome, DeviceNo>
+    requires name { blank.name ≡ L.name }
+    requires parts { blank.parts ≡ L.parts }
+    requires some { 0 < blank.parts }
+    requires may_start { seen.MayStart (kernel_of kernel) launch cells }
+    requires one_item { launch.global ≡ 1 }
+    ensures outcome { IfOk result (λ o. EndsUnder (schedule_of schedule.now) (kernel_of kernel)
+        launch cells (map (λ row. row.items) o.outputs.items) o.events o.releases) }
+    ensures refusal { IfErr result (Refuses (schedule_of schedule.now) (kernel_of kernel) launch cells) }
 {
     let mut machine = Machine::start(alloc, kernel, launch, cells)?;
-    let mut events = 0u64;
-    while !machine.finished() {
-        let event = machine.nth_enabled(0);
-        let _ = machine.step(event);
-        events += 1;
+    let mut steps = Steps::<L>::new(blank);
+    let mut progress = Progress::start(schedule);
+    let mut enabled = machine.enabled();
+    while enabled > 0 {
+        let event = machine.nth_enabled(progress.number(schedule) % enabled);
+        progress.count(event);
+        steps.tick();
+        let seen = machine.step(event);
+        if let Some(no) = refusal(event, seen, progress.events) {
+            return Err(no);
+        }
+        enabled = machine.enabled();
     }
-    let outs = machine.outputs();
-    Ok(Ended { outs, events })
+    Ok(Outcome {
+        outputs: machine.outputs(),
+        events: progress.events,
+        releases: progress.releases,
+    })
 }

@@ -1,92 +1,105 @@
 -- The machine at the start of a run, and what it gives out at the end.
-use Rattle.std.proofs.Common.{◌≡◌, ℕ, ◌*◌, ◌/◌, ◌<◌, ◌≤◌, zero, suc, List, [], ◌∷◌, length, Some, refl, sym, ap, ◌∙◌, arith, length-append}
-use Rattle.std.specs.Prelude.{Vec, map, is_some, nat_lt, replicate, slice_get, slice_index}
+use Rattle.std.proofs.Common.{◌≡◌, ℕ, ◌<◌, zero, suc, List, [], ◌∷◌, length, Some, None, Bool, true, false, refl, sym, ap, ◌∙◌, subst, arith, length-append}
+use Rattle.std.specs.Global.{Global}
+use Rattle.std.specs.Prelude.{Vec, map, is_some, nat_lt, replicate, slice_get, slice_index, ◌==◌, if◌then◌else◌}
 use Rattle.std.proofs.lemmas.List.{append-nil, length-map, length-replicate}
-use Rattle.kernel_tree.specs.declared.events.Event.{Event}
-use Rattle.kernel_tree.specs.declared.tree.Array as held_array
-use Rattle.kernel_tree.specs.declared.tree.Array.TheVariants.{Input, Output}
-use Rattle.kernel_tree.specs.Code.{Code, Kernel}
-use Rattle.kernel_tree.specs.Tree.{array_of}
-use Rattle.kernel_tree.specs.Launch.{Launch, Cells, IsWhole}
+use Rattle.kernel_tree.specs.Code.{Array, Input, Output, Local, Private, Code, Kernel}
+use Rattle.kernel_tree.specs.Launch.{Launch, Cells, IsWhole, item_count, group_count}
 use Rattle.kernel_tree.specs.Item.{item}
-use Rattle.kernel_tree.specs.Device.{State, row, device_of, length_in, IsStart, start_state, contents, cell_at}
-use Rattle.kernel_tree.specs.Faults.{IsFaultless}
-use Rattle.kernel_tree.specs.Bound.{bound}
-use Rattle.kernel_tree.proofs.Bound.{within_bound}
+use Rattle.kernel_tree.specs.Device.{Cell, State, row, length_in, contents}
 use Rattle.ndrange_machine.specs.declared.machine.Machine.{Machine}
-use Rattle.ndrange_machine.specs.Memory.{held, cell_in}
-use Rattle.ndrange_machine.specs.Lines.{lines_at, size, IsAt}
+use Rattle.ndrange_machine.specs.Changes.{start_view}
+use Rattle.ndrange_machine.specs.ItemView.{ItemView}
+use Rattle.ndrange_machine.specs.Memory.{held, held_at, homes, cell_in, rows_at, rows_of}
+use Rattle.ndrange_machine.specs.Lines.{lines_at, size, depth, IsAt}
 use Rattle.ndrange_machine.specs.Wants.{text_of}
-use Rattle.ndrange_machine.specs.Stands.{Holds, StandsFor, AreOutputs}
-use Rattle.ndrange_machine.proofs.Rows.{rows_of, cell_is, is_some-get, get_is, index_is, same_bound}
-
-divides_one : (q n : ℕ) → 0 < n → 1 ≡ q * n → n ≡ 1
-divides_one zero n p e = absurd (omega arith)
-divides_one (suc q) n p e = omega arith
-
--- a launch of one item has one group of one
-local_is : (l : Launch) → IsWhole l → l.global ≡ 1 → l.local ≡ 1
-local_is l w one = divides_one (l.global / l.local) l.local w.positive (sym one ∙ w.divides)
+use Rattle.ndrange_machine.specs.Stands.{HoldsItem, Holds, StandsFor, AreOutputs}
+use Rattle.ndrange_machine.proofs.Rows.{cell_is, is_some-get, get_is, index_is, same_bound, get_replicate, length_row, word_in_row}
+use Rattle.ndrange_machine.proofs.Cells.{Rows, no_cell}
 
 at_start : (code : Code) (vars : List ℕ) → IsAt (lines_at 0 code) 0 (item code [] vars)
 at_start code vars = record { end = size code; counts = omega arith; from = sym (append-nil (lines_at 0 code)); loops = tt }
 
-module _ (k : Kernel) (l : Launch) (c : Cells) (m : Machine) (whole : IsWhole l) (one : l.global ≡ 1) (ins : rows_of m.memory.ins.items ≡ c.ins) (outs : rows_of m.memory.outs.items ≡ c.outs) where
-  row_there : (rows : List (Vec ℕ _)) (cs : List (List ℕ)) → rows_of rows ≡ cs → (a i : ℕ) → is_some (cell_in rows a i) ≡ nat_lt i (length (row cs a))
+item_at_start : (code : Code) (variables word : ℕ) → HoldsItem (lines_at 0 code) (start_view (depth code) variables word) (item code [] (replicate variables word))
+item_at_start code variables word = record { place = at_start code (replicate variables word); turns = refl; numbered = tt; room = omega arith; rooms = tt }
+
+-- rows that are the same at each home
+rows_are : (all : List Rows) (count : ℕ) (rows : List (List ℕ)) → map (λ r. rows_of r.items) all ≡ replicate count rows → (h : ℕ) → h < count → rows_of (rows_at all h) ≡ rows
+rows_are [] zero rows e h lt = absurd (omega arith)
+rows_are [] (suc count) rows e h lt = cc
+rows_are (r ∷ all) zero rows e h lt = absurd (omega arith)
+rows_are (r ∷ all) (suc count) rows e zero lt = cc
+rows_are (r ∷ all) (suc count) rows e (suc h) lt = rows_are all count rows (cc) h (omega arith)
+
+words_are : (all : List Rows) (count w : ℕ) (ns : List ℕ) → map (λ r. rows_of r.items) all ≡ replicate count (map (λ n. replicate n w) ns) → (h a i x : ℕ) → cell_in (rows_at all h) a i ≡ Some x → w ≡ x
+words_are [] count w ns e h a i x q = let n : None ≡ Some x = sym (no_cell a i) ∙ q in cc
+words_are (r ∷ all) zero w ns e h a i x q = cc
+words_are (r ∷ all) (suc count) w ns e zero a i x q =
+    let same : rows_of r.items ≡ map (λ n. replicate n w) ns = cc in
+    word_in_row ns w a i x (ap (λ z. slice_get (row z a) i) (sym same) ∙ sym (cell_is r.items a i) ∙ q)
+words_are (r ∷ all) (suc count) w ns e (suc h) a i x q = words_are all count w ns (cc) h a i x q
+
+module _ (k : Kernel) (l : Launch) (c : Cells) (m : Machine) (ins : rows_of m.memory.ins.items ≡ c.ins) (outs : rows_of m.memory.outs.items ≡ c.outs)
+    (locals : map (λ r. rows_of r.items) m.memory.locals.items ≡ replicate (group_count l) (map (λ n. replicate n c.rest) k.locals))
+    (privates : map (λ r. rows_of r.items) m.memory.privates.items ≡ replicate (item_count l) (map (λ n. replicate n c.rest) k.privates)) where
+  row_there : (rows : List (Vec ℕ Global)) (cs : List (List ℕ)) → rows_of rows ≡ cs → (a i : ℕ) → is_some (cell_in rows a i) ≡ nat_lt i (length (row cs a))
   row_there rows cs e a i = ap is_some (cell_is rows a i ∙ ap (λ z. slice_get (row z a) i) e) ∙ is_some-get (row cs a) i
 
-  row_holds : (rows : List (Vec ℕ _)) (cs : List (List ℕ)) → rows_of rows ≡ cs → (a i x : ℕ) → cell_in rows a i ≡ Some x → slice_index (row cs a) i ≡ x
+  row_holds : (rows : List (Vec ℕ Global)) (cs : List (List ℕ)) → rows_of rows ≡ cs → (a i x : ℕ) → cell_in rows a i ≡ Some x → slice_index (row cs a) i ≡ x
   row_holds rows cs e a i x h = index_is (row cs a) i x (sym (cell_is rows a i ∙ ap (λ z. slice_get (row z a) i) e) ∙ h)
 
-  there : (a : held_array.Array) (i : ℕ) → is_some (held m.memory a i) ≡ nat_lt i (length_in k c (array_of a))
-  there (Input a) i = row_there m.memory.ins.items c.ins ins a i
-  there (Output a) i = row_there m.memory.outs.items c.outs outs a i
+  own_there : (all : List Rows) (count : ℕ) (ns : List ℕ) → map (λ r. rows_of r.items) all ≡ replicate count (map (λ n. replicate n c.rest) ns) → (h a i : ℕ) → h < count → is_some (cell_in (rows_at all h) a i) ≡ nat_lt i (slice_index ns a)
+  own_there all count ns e h a i lt =
+      row_there (rows_at all h) (map (λ n. replicate n c.rest) ns) (rows_are all count (map (λ n. replicate n c.rest) ns) e h lt) a i ∙ ap (nat_lt i) (length_row ns c.rest a)
 
-  cells : (a : held_array.Array) (i x : ℕ) → held m.memory a i ≡ Some x → contents c (cell_at l 0 (array_of a) i) ≡ x
-  cells (Input a) i x h = row_holds m.memory.ins.items c.ins ins a i x h
-  cells (Output a) i x h = row_holds m.memory.outs.items c.outs outs a i x h
+  there : (a : Array) (h i : ℕ) → h < homes l a → is_some (held m.memory (record { array = a; home = h; index = i })) ≡ nat_lt i (length_in k c a)
+  there (Input a) h i lt = let z : h ≡ 0 = omega arith in ap (λ n. is_some (if n == 0 then cell_in m.memory.ins.items a i else None)) z ∙ row_there m.memory.ins.items c.ins ins a i
+  there (Output a) h i lt = let z : h ≡ 0 = omega arith in ap (λ n. is_some (if n == 0 then cell_in m.memory.outs.items a i else None)) z ∙ row_there m.memory.outs.items c.outs outs a i
+  there (Local a) h i lt = own_there m.memory.locals.items (group_count l) k.locals locals h a i lt
+  there (Private a) h i lt = own_there m.memory.privates.items (item_count l) k.privates privates h a i lt
 
-  pub begun : map text_of m.lines.items ≡ lines_at 0 k.code → m.sizes.items ≡ l.sizes → m.item.line ≡ 0 → m.item.loops ≡ [] → length m.lines.items ≤ m.item.room → m.item.vars ≡ replicate k.variables c.rest → StandsFor k l c m []
-  begun text sizes line loops room vars = record {
+  at_home : (rows : List (Vec ℕ Global)) (h a i x : ℕ) → (if h == 0 then cell_in rows a i else None) ≡ Some x → cell_in rows a i ≡ Some x
+  at_home rows h a i x = by_test (h == 0)
+    where
+      by_test : (b : Bool) → (if b then cell_in rows a i else None) ≡ Some x → cell_in rows a i ≡ Some x
+      by_test true q = q
+      by_test false q = cc
+
+  cells : (d : Cell) (x : ℕ) → held m.memory d ≡ Some x → contents c d ≡ x
+  cells d x = by_array d.array
+    where
+      by_array : (a : Array) → held_at m.memory a d.home d.index ≡ Some x → contents c (record { array = a; home = d.home; index = d.index }) ≡ x
+      by_array (Input a) h = row_holds m.memory.ins.items c.ins ins a d.index x (at_home m.memory.ins.items d.home a d.index x h)
+      by_array (Output a) h = row_holds m.memory.outs.items c.outs outs a d.index x (at_home m.memory.outs.items d.home a d.index x h)
+      by_array (Local a) h = words_are m.memory.locals.items (group_count l) c.rest k.locals locals d.home a d.index x h
+      by_array (Private a) h = words_are m.memory.privates.items (item_count l) c.rest k.privates privates d.home a d.index x h
+
+  pub begun : IsWhole l → map text_of m.lines.items ≡ lines_at 0 k.code → m.launch ≡ l → m.items.items ≡ replicate (item_count l) (start_view (depth k.code) k.variables c.rest) → StandsFor k l c m []
+  begun whole text launch items = record {
     is_run = record { enabled = tt; none_after_fault = λ front last e. let n = ap length e in let a = length-append front (last ∷ []) in absurd (omega arith) };
-    one_item = one;
-    one_group = local_is l whole one;
     holds = record {
       text = text;
-      sizes = sizes;
-      place = rw line (at_start k.code (replicate k.variables c.rest));
-      loops = loops;
-      room = room;
+      launch = launch;
+      whole = whole;
+      count = ap length items ∙ length-replicate (item_count l) (start_view (depth k.code) k.variables c.rest);
+      items = λ j it e. subst (λ v. HoldsItem (lines_at 0 k.code) v (item k.code [] (replicate k.variables c.rest))) (is j it e) (item_at_start k.code k.variables c.rest);
       there = there;
       cells = cells;
       outs = sym (length-map m.memory.outs.items (λ r. r.items)) ∙ ap length outs;
     };
-    vars = λ _. vars;
+    vars = λ _ j it e. sym (ap (λ (v : ItemView). v.vars) (is j it e));
   }
+    where
+      is : (j : ℕ) (it : ItemView) → slice_get m.items.items j ≡ Some it → start_view (depth k.code) k.variables c.rest ≡ it
+      is j it e = get_replicate (item_count l) j (start_view (depth k.code) k.variables c.rest) it (ap (λ z. slice_get z j) (sym items) ∙ e)
 
 module _ (k : Kernel) (l : Launch) (c : Cells) (m : Machine) (s : State) (h : Holds k l c m s) where
   same_length : (a : ℕ) → length (row (rows_of m.memory.outs.items) a) ≡ length (row c.outs a)
-  same_length a = same_bound _ _ (λ i. sym (ap is_some (cell_is m.memory.outs.items a i) ∙ is_some-get (row (rows_of m.memory.outs.items) a) i) ∙ h.there (Output a) i)
+  same_length a = same_bound _ _ (λ i. sym (ap is_some (cell_is m.memory.outs.items a i) ∙ is_some-get (row (rows_of m.memory.outs.items) a) i) ∙ h.there (Output a) 0 i (omega arith))
 
   pub given_out : AreOutputs k l c s (rows_of m.memory.outs.items)
   given_out = record {
     count = length-map m.memory.outs.items (λ r. r.items) ∙ h.outs;
     lengths = same_length;
-    words = λ a i lt. sym (h.cells (Output a) i _ (cell_is m.memory.outs.items a i ∙ get_is (row (rows_of m.memory.outs.items) a) i lt));
+    words = λ a i lt. sym (h.cells (record { array = Output a; home = 0; index = i }) _ (cell_is m.memory.outs.items a i ∙ get_is (row (rows_of m.memory.outs.items) a) i lt));
   }
-
-starts : (k : Kernel) (l : Launch) (c : Cells) → IsStart k l c (start_state k c)
-starts k l c = record {
-  vars = λ j. replicate k.variables c.rest;
-  long = λ j lt. length-replicate k.variables c.rest;
-  items = λ j lt. refl;
-  inputs = λ a i lt. refl;
-  epochs = λ g f. refl;
-}
-
-pub few_events : (k : Kernel) (l : Launch) (c : Cells) (m : Machine) (es : List Event) → StandsFor k l c m es → IsFaultless (device_of k l c) (start_state k c) es → length es ≤ bound k l
-few_events k l c m es st clean =
-    let one = st.one_item in
-    let alone = st.one_group in
-    let whole : IsWhole l = record { positive = omega arith; divides = one ∙ sym (ap (λ n. (l.global / n) * n) alone ∙ ap (λ n. (n / 1) * 1) one) } in
-    within_bound k l c (start_state k c) es whole (starts k l c) st.is_run.enabled clean.no_failure

@@ -34,11 +34,13 @@ size_past (stmt.Assign v e) rest = omega arith
 size_past (stmt.Load v a i) rest = omega arith
 size_past (stmt.Store a i e) rest = omega arith
 size_past (stmt.Loop' s b c shape body) rest = omega arith
+size_past (stmt.Barrier p q) rest = omega arith
 
 lines_past : (n : ℕ) (s : Stmt) (rest : Code) → lines_at n (before s rest) ≡ lines_at n (before s End) ++ lines_at (n + size (before s End)) rest
 lines_past n (stmt.Assign v e) rest = ap (λ m. text.Assign v (formula_of e) ∷ lines_at m rest) (sym (add-one n))
 lines_past n (stmt.Load v a i) rest = ap (λ m. text.Load v (array_of a) (formula_of i) ∷ lines_at m rest) (sym (add-one n))
 lines_past n (stmt.Store a i e) rest = ap (λ m. text.Store (array_of a) (formula_of i) (formula_of e) ∷ lines_at m rest) (sym (add-one n))
+lines_past n (stmt.Barrier p q) rest = ap (λ m. text.Barrier p q ∷ lines_at m rest) (sym (add-one n))
 lines_past n (stmt.Loop' s b c shape body) rest =
     let h = Head (start_of s) (formula_of b) (stride_of c) (exit_of n (code_of body)) in
     let inner = lines_at (suc n) (code_of body) in
@@ -85,6 +87,7 @@ text-with_exit (held_line.Load v a i) exit = refl
 text-with_exit (held_line.Store a i e) exit = refl
 text-with_exit (held_line.Head s b c old) exit = refl
 text-with_exit (held_line.Tail head) exit = refl
+text-with_exit (held_line.Barrier p q) exit = refl
 
 map-get_or : {A B : Type 0} (f : A → B) (xs : List A) (n : ℕ) (d : A) → f (get_or xs n d) ≡ get_or (map f xs) n (f d)
 map-get_or f [] n d = refl

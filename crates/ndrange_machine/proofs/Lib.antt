@@ -1,7 +1,11 @@
 pub mod Beginning
+pub mod Cells
+pub mod Depth
 pub mod Laying
 pub mod Next
+pub mod Passing
 pub mod Places
+pub mod Releasing
 pub mod Rows
 pub mod Standing
 pub mod Stepping

@@ -1,10 +1,10 @@
 -- How a work-item's place in the lines moves.
-use Rattle.std.proofs.Common.{◌≡◌, ℕ, ◌+◌, ◌<◌, ◌≤◌, zero, suc, List, [], ◌∷◌, ◌++◌, length, drop, Some, refl, sym, ap, ◌∙◌, subst, arith, append_assoc, length-append, length-drop, add-zero}
+use Rattle.std.proofs.Common.{◌≡◌, ℕ, ◌+◌, ◌<◌, ◌≤◌, zero, suc, List, [], ◌∷◌, ◌++◌, length, drop, Some, refl, sym, ap, ◌∙◌, subst, arith, append_assoc, length-drop, add-zero}
 use Rattle.std.specs.Prelude.{slice_get}
 use Rattle.std.proofs.lemmas.List.{drop-drop, drop_at}
 use Rattle.kernel_tree.specs.Formula.{Formula}
 use Rattle.kernel_tree.specs.Code.{Start, Stride, Code, End, Loops}
-use Rattle.kernel_tree.specs.Item.{Frame, item, loop_variables}
+use Rattle.kernel_tree.specs.Item.{Frame, item}
 use Rattle.ndrange_machine.specs.Lines.{Line, Head, Tail, size, exit_of, lines_at, head_of, lines_after, AreLoops, IsAt}
 use Rattle.ndrange_machine.proofs.Laying.{length-lines_at}
 
@@ -85,30 +85,6 @@ module _ (lines : List Line) where
 
     pub here : slice_get lines n ≡ Some (Head s b c (exit_of n body))
     here = drop_here lines n (Head s b c (exit_of n body)) _ at.from
-
-    -- an item is in fewer loops than there are lines
-    pub room : length (loop_variables fs) < length lines
-    room =
-        let a = ap length at.from in
-        let b = length-drop n lines in
-        let c = length-append (lines_at n (Loops s b' c' body after)) (lines_after at.end fs) in
-        let d = many at.end fs in
-        let e = count fs in
-        omega arith
-      where
-        b' : Formula
-        b' = b
-
-        c' : Stride
-        c' = c
-
-        many : (m : ℕ) (gs : List Frame) → length gs ≤ length (lines_after m gs)
-        many m [] = omega arith
-        many m (g ∷ gs) = let a = length-append (lines_at (suc m) g.after) (lines_after (suc m + size g.after) gs) in let b = many (suc m + size g.after) gs in omega arith
-
-        count : (gs : List Frame) → length (loop_variables gs) ≡ length gs
-        count [] = refl
-        count (g ∷ gs) = length-append (loop_variables gs) (g.variable ∷ []) ∙ (let a = count gs in omega arith)
 
   module _ (n : ℕ) (f : Frame) (fs : List Frame) (vars : List ℕ) (at : IsAt lines n (item End (f ∷ fs) vars)) where
     is_end : at.end ≡ n

@@ -1,11 +1,59 @@
--- The rows of cells that the machine holds.
-use Rattle.std.proofs.Common.{◌≡◌, ℕ, ◌<◌, zero, suc, List, [], ◌∷◌, length, Some, true, false, refl, sym, ap, ◌∙◌, ⊎_elim, arith}
+-- Rows of cells, and lists of them.
+use Rattle.std.proofs.Common.{◌≡◌, ◌≢◌, ℕ, ◌<◌, ◌≤◌, zero, suc, List, [], ◌∷◌, length, Some, None, true, false, refl, sym, ap, ◌∙◌, ⊎_elim, arith}
 use Rattle.std.specs.Global.{Global}
-use Rattle.std.specs.Prelude.{Vec, map, is_some, nat_lt, slice_get, slice_index}
+use Rattle.std.specs.Prelude.{Vec, map, is_some, nat_lt, replicate, slice_get, slice_index, slice_index_or, slice_set, ◌==◌, if◌then◌else◌}
 use Rattle.std.proofs.lemmas.Bool.{cases_lt, lt-ltb, le-ltb}
+use Rattle.std.proofs.lemmas.Bool.Decides.{eqb_tells}
 use Rattle.kernel_tree.specs.Device.{row}
-use Rattle.ndrange_machine.specs.Memory.{cell_in}
-use Rattle.ndrange_machine.proofs.Next.{get_beyond}
+use Rattle.ndrange_machine.specs.Memory.{cell_in, rows_of}
+
+pub get_beyond : {A : Type 0} (xs : List A) (n : ℕ) → length xs ≤ n → slice_get xs n ≡ None
+get_beyond [] zero h = refl
+get_beyond [] (suc n) h = refl
+get_beyond (x ∷ xs) zero h = absurd (omega arith)
+get_beyond (x ∷ xs) (suc n) h = get_beyond xs n (omega arith)
+
+pub get_there : {A : Type 0} (xs : List A) (n : ℕ) → n < length xs → (x : A) × (slice_get xs n ≡ Some x)
+get_there [] n h = absurd (omega arith)
+get_there (x ∷ xs) zero h = (x, refl)
+get_there (x ∷ xs) (suc n) h = get_there xs n (omega arith)
+
+pub get_within : {A : Type 0} (xs : List A) (n : ℕ) (x : A) → slice_get xs n ≡ Some x → n < length xs
+get_within [] zero x h = cc
+get_within [] (suc n) x h = cc
+get_within (y ∷ xs) zero x h = omega arith
+get_within (y ∷ xs) (suc n) x h = let lt = get_within xs n x h in omega arith
+
+pub get_or_is : {A : Type 0} (xs : List A) (n : ℕ) (x : A) → n < length xs → x ≡ slice_index_or xs n x → slice_get xs n ≡ Some x
+get_or_is [] n x h e = absurd (omega arith)
+get_or_is (y ∷ xs) zero x h e = ap Some (sym e)
+get_or_is (y ∷ xs) (suc n) x h e = get_or_is xs n x (omega arith) e
+
+set_same : {A : Type 0} (xs : List A) (n : ℕ) (x : A) → n < length xs → slice_get (slice_set xs n x) n ≡ Some x
+set_same [] n x h = absurd (omega arith)
+set_same (y ∷ xs) zero x h = refl
+set_same (y ∷ xs) (suc n) x h = set_same xs n x (omega arith)
+
+set_other : {A : Type 0} (xs : List A) (n : ℕ) (x : A) (i : ℕ) → i ≢ n → slice_get (slice_set xs n x) i ≡ slice_get xs i
+set_other [] zero x i ne = refl
+set_other [] (suc n) x i ne = refl
+set_other (y ∷ xs) zero x zero ne = absurd (ne refl)
+set_other (y ∷ xs) zero x (suc i) ne = refl
+set_other (y ∷ xs) (suc n) x zero ne = refl
+set_other (y ∷ xs) (suc n) x (suc i) ne = set_other xs n x i (λ e. ne (ap suc e))
+
+pub get_set : {A : Type 0} (xs : List A) (n : ℕ) (x : A) (i : ℕ) → n < length xs → slice_get (slice_set xs n x) i ≡ (if i == n then Some x else slice_get xs i)
+get_set xs n x i h =
+    ⊎_elim
+    (λ e. ap (slice_get (slice_set xs n x)) e.1 ∙ set_same xs n x h ∙ ap (λ b. if b then Some x else slice_get xs i) (sym e.0))
+    (λ e. set_other xs n x i e.1 ∙ ap (λ b. if b then Some x else slice_get xs i) (sym e.0))
+    (eqb_tells i n)
+
+pub get_replicate : {A : Type 0} (n i : ℕ) (x y : A) → slice_get (replicate n x) i ≡ Some y → x ≡ y
+get_replicate zero zero x y h = cc
+get_replicate zero (suc i) x y h = cc
+get_replicate (suc n) zero x y h = cc
+get_replicate (suc n) (suc i) x y h = get_replicate n i x y h
 
 pub get_is : (xs : List ℕ) (i : ℕ) → i < length xs → slice_get xs i ≡ Some (slice_index xs i)
 get_is [] i h = absurd (omega arith)
@@ -20,16 +68,16 @@ is_some-get xs i =
     (cases_lt i (length xs))
 
 pub index_is : (xs : List ℕ) (i x : ℕ) → slice_get xs i ≡ Some x → slice_index xs i ≡ x
-index_is [] i x h = cc
+index_is [] zero x h = cc
+index_is [] (suc i) x h = cc
 index_is (y ∷ xs) zero x h = cc
 index_is (y ∷ xs) (suc i) x h = index_is xs i x h
 
--- what the vectors hold
-abbrev pub rows_of : List (Vec ℕ Global) → List (List ℕ)
-rows_of = map (λ r. r.items)
-
 pub cell_is : (rows : List (Vec ℕ Global)) (a i : ℕ) → cell_in rows a i ≡ slice_get (row (rows_of rows) a) i
-cell_is [] a i = refl
+cell_is [] zero zero = refl
+cell_is [] zero (suc i) = refl
+cell_is [] (suc a) zero = refl
+cell_is [] (suc a) (suc i) = refl
 cell_is (r ∷ rows) zero i = refl
 cell_is (r ∷ rows) (suc a) i = cell_is rows a i
 
@@ -42,3 +90,21 @@ same_bound m n h =
     (λ ge. omega arith)
     (cases_lt n m))
     (cases_lt m n)
+
+pub length_row : (ns : List ℕ) (w a : ℕ) → length (row (map (λ n. replicate n w) ns) a) ≡ slice_index ns a
+length_row [] w zero = refl
+length_row [] w (suc a) = refl
+length_row (n ∷ ns) w zero = length_replicate n w
+  where
+    length_replicate : (m v : ℕ) → length (replicate m v) ≡ m
+    length_replicate zero v = refl
+    length_replicate (suc m) v = ap suc (length_replicate m v)
+length_row (n ∷ ns) w (suc a) = length_row ns w a
+
+pub word_in_row : (ns : List ℕ) (w a i x : ℕ) → slice_get (row (map (λ n. replicate n w) ns) a) i ≡ Some x → w ≡ x
+word_in_row [] w zero zero x h = cc
+word_in_row [] w zero (suc i) x h = cc
+word_in_row [] w (suc a) zero x h = cc
+word_in_row [] w (suc a) (suc i) x h = cc
+word_in_row (n ∷ ns) w zero i x h = get_replicate n i w x h
+word_in_row (n ∷ ns) w (suc a) i x h = word_in_row ns w a i x h

@@ -1,8 +1,9 @@
 -- A work-item of the machine as contracts see it.
 use Rattle.std.specs.Prelude.{ℕ, List}
+use Rattle.ndrange_machine.specs.declared.turn.Turn.{Turn}
 
 pub record ItemView : Type 0 where
   pub line : ℕ
-  pub loops : List ℕ  -- the variables of the loops around it, outermost first
-  pub room : ℕ  -- for how many loop variables there is room
+  pub turns : List Turn  -- of the loops around it, outermost first
+  pub room : ℕ  -- for the turns of so many loops
   pub vars : List ℕ

@@ -1,5 +1,5 @@
 -- The lines of a kernel's text, and where in them a work-item stands.
-use Rattle.std.specs.Prelude.{◌≡◌, ℕ, ◌+◌, ◌-◌, ◌≤◌, suc, Bool, List, [], ◌∷◌, ◌++◌, Some, drop, slice_get}
+use Rattle.std.specs.Prelude.{◌≡◌, ℕ, ◌+◌, ◌-◌, ◌≤◌, suc, max, Bool, List, [], ◌∷◌, ◌++◌, Some, length, drop, slice_get}
 use Rattle.kernel_tree.specs.Formula.{Formula}
 use Rattle.kernel_tree.specs.Code.{Array, Start, Stride, Code, End, Assigns, Loads, Stores, Loops, Syncs}
 use Rattle.kernel_tree.specs.Item.{Frame, Item}
@@ -21,6 +21,21 @@ size (Loads v a i after) = suc (size after)
 size (Stores a i e after) = suc (size after)
 size (Loops s b c body after) = suc (size body + suc (size after))
 size (Syncs on_local on_global after) = suc (size after)
+
+-- how many loops stand around one another at most
+abbrev pub depth : Code → ℕ
+depth End = 0
+depth (Assigns v e after) = depth after
+depth (Loads v a i after) = depth after
+depth (Stores a i e after) = depth after
+depth (Loops s b c body after) = max (suc (depth body)) (depth after)
+depth (Syncs on_local on_global after) = depth after
+
+-- in how many loops an item is past the line, which was in so many
+abbrev pub past_line : Line → (inside : ℕ) → ℕ
+past_line (Head s b c exit) inside = inside + 1
+past_line (Tail head) inside = inside - 1
+past_line _ inside = inside
 
 -- the line after a loop whose head is at line n
 abbrev pub exit_of : ℕ → Code → ℕ
@@ -61,3 +76,13 @@ pub record IsAt (lines : List Line) (n : ℕ) (x : Item) : Type 0 where
   pub counts : end ≡ n + size x.code
   pub from : drop n lines ≡ lines_at n x.code ++ lines_after end x.frames
   pub loops : AreLoops lines end x.frames
+
+-- there is room for the turns of all loops that an item in these loops may still enter
+abbrev pub HaveRoom : (room : ℕ) → List Frame → Type 0
+HaveRoom room [] = Unit {0}
+HaveRoom room (f ∷ fs) = (suc (length fs) + depth f.body ≤ room) × (length fs + depth f.after ≤ room) × HaveRoom room fs
+
+-- no turn's number is above its variable
+abbrev pub AreNumbered : List Frame → Type 0
+AreNumbered [] = Unit {0}
+AreNumbered (f ∷ fs) = (f.turn ≤ f.variable) × AreNumbered fs

@@ -1,9 +1,14 @@
 -- What the machine holds in its cells.
 use Rattle.std.specs.Global.{Global}
-use Rattle.std.specs.Prelude.{Vec, ℕ, Bool, false, ◌==◌, List, Option, Some, None, slice_get}
-use Rattle.kernel_tree.specs.declared.tree.Array.{Array}
-use Rattle.kernel_tree.specs.declared.tree.Array.TheVariants.{Input, Output}
+use Rattle.std.specs.Prelude.{Vec, ℕ, List, [], ◌∷◌, Option, Some, None, zero, suc, map, slice_get, ◌==◌, if◌then◌else◌}
+use Rattle.kernel_tree.specs.Code.{Array, Input, Output, Local, Private}
+use Rattle.kernel_tree.specs.Launch.{Launch, item_count, group_count}
+use Rattle.kernel_tree.specs.Device.{Cell}
 use Rattle.ndrange_machine.specs.declared.memory.Memory.{Memory}
+
+-- what vectors hold
+abbrev pub rows_of : List (Vec ℕ Global) → List (List ℕ)
+rows_of rows = map (λ row. row.items) rows
 
 abbrev pub in_row : Option (Vec ℕ Global) → ℕ → Option ℕ
 in_row None i = None
@@ -12,12 +17,25 @@ in_row (Some row) i = slice_get row.items i
 abbrev pub cell_in : List (Vec ℕ Global) → ℕ → ℕ → Option ℕ
 cell_in rows a i = in_row (slice_get rows a) i
 
--- the word in a cell; none outside the array
-abbrev pub held : Memory → Array → ℕ → Option ℕ
-held m (Input a) i = cell_in m.ins.items a i
-held m (Output a) i = cell_in m.outs.items a i
+-- the rows of one home
+abbrev pub rows_at : List (Vec (Vec ℕ Global) Global) → (home : ℕ) → List (Vec ℕ Global)
+rows_at [] h = []
+rows_at (rows ∷ more) zero = rows.items
+rows_at (rows ∷ more) (suc h) = rows_at more h
 
-abbrev pub same_place : Array → Array → Bool
-same_place (Input a) (Input b) = a == b
-same_place (Output a) (Output b) = a == b
-same_place _ _ = false
+-- the word in a cell; none outside the array. Inputs and outputs have one home, which is 0
+abbrev pub held_at : Memory → Array → (home index : ℕ) → Option ℕ
+held_at m (Input a) h i = if h == 0 then cell_in m.ins.items a i else None
+held_at m (Output a) h i = if h == 0 then cell_in m.outs.items a i else None
+held_at m (Local a) h i = cell_in (rows_at m.locals.items h) a i
+held_at m (Private a) h i = cell_in (rows_at m.privates.items h) a i
+
+abbrev pub held : Memory → Cell → Option ℕ
+held m c = held_at m c.array c.home c.index
+
+-- how many homes an array has
+abbrev pub homes : Launch → Array → ℕ
+homes l (Input a) = 1
+homes l (Output a) = 1
+homes l (Local a) = group_count l
+homes l (Private a) = item_count l

@@ -1,16 +1,24 @@
-// A work-item of the machine.
+//! A work-item of the machine.
 
-ghost use Rattle.std.specs.Prelude.{◌≡◌};
-ghost use Rattle.ndrange_machine.specs.Changes.{changed};
+ghost use Rattle.std.specs.Prelude.{◌≡◌, ℕ, IfOk, replicate, length, ◌≤◌};
+ghost use Rattle.ndrange_machine.specs.Changes.{changed, start_view};
+ghost use Rattle.ndrange_machine.specs.Known.{known};
+ghost use Rattle.ndrange_machine.specs.Wants.{wanted};
 
+use crate::ids::Ids;
+use crate::line::Line;
+use crate::turn::Turn;
+use crate::want::{Want, want_at};
+use std::alloc::{AllocError, Global};
 use std::marker::Model;
 
-/// A work-item: the number of its line, the variables of the loops around it, outermost first, and its private variables.
+/// A work-item: the number of its line, the turns of the loops around it, outermost first, and its
+/// private variables.
 #[derive(Drop)]
 pub struct Item {
-    pub line: usize,
-    pub loops: Vec<u32>,
-    pub vars: Vec<u32>,
+    line: usize,
+    turns: Vec<Turn>,
+    vars: Vec<u32>,
 }
 
 impl Model for Item {
@@ -19,7 +27,12 @@ impl Model for Item {
 
     ghost Value = { ItemView };
 
-    ghost view = { λ x. record { line = x.line; loops = x.loops.items; room = vec_capacity x.loops; vars = x.vars.items } };
+    ghost view = { λ x. record {
+      line = x.line;
+      turns = x.turns.items;
+      room = vec_capacity x.turns;
+      vars = x.vars.items;
+    } };
 }
 
 /// What an event changes in its work-item, beside the line.
@@ -27,10 +40,10 @@ impl Model for Item {
 pub enum Change {
     /// A private variable gets a word.
     Sets(u32, u32),
-    /// A loop begins, its variable at this word.
-    Begins(u32),
-    /// The innermost loop has another turn, its variable at this word.
-    Repeats(u32),
+    /// A loop begins with this turn.
+    Begins(Turn),
+    /// The innermost loop has another turn, which is this one.
+    Repeats(Turn),
     /// The innermost loop is over.
     Leaves,
     /// Nothing.
@@ -38,6 +51,18 @@ pub enum Change {
 }
 
 impl Item {
+    /// A work-item at the first line, with room for the turns of so many loops and so many private
+    /// variables, each of which holds the word.
+    pub fn start(alloc: Global, depth: usize, variables: u32, word: u32) -> Result<Item, AllocError>
+        ensures { IfOk result (λ it. it ≡ start_view depth variables word) }
+    {
+        Ok(Item {
+            line: 0,
+            turns: Vec::with_capacity(alloc, depth)?,
+            vars: vec![in alloc; word; variables as usize]?,
+        })
+    }
+
     /// The number of its line.
     pub fn line(&self) -> usize
         ensures { result ≡ self.now.line }
@@ -45,7 +70,15 @@ impl Item {
         self.line
     }
 
-    /// Makes the change, and goes to the line. It takes no memory: a loop begins only where there is room for its variable.
+    /// What it wants, where it knows this.
+    pub fn want(&self, lines: &[Line], ids: Ids, sizes: &[u32]) -> Want
+        ensures { result ≡ wanted lines.now (known ids sizes.now) self.now }
+    {
+        want_at(lines, ids, sizes, self.line, &self.turns, &self.vars)
+    }
+
+    /// Makes the change, and goes to the line. It takes no memory: a loop begins only where there is
+    /// room for its turn.
     pub fn change(&mut self, change: Change, line: usize)
         ensures { self.new ≡ changed self.old change line }
     {
@@ -55,18 +88,18 @@ impl Item {
                     *place = word;
                 }
             }
-            Change::Begins(word) => {
-                if self.loops.len() < self.loops.capacity() {
-                    self.loops.push_reserved(word);
+            Change::Begins(turn) => {
+                if self.turns.len() < self.turns.capacity() {
+                    self.turns.push_reserved(turn);
                 }
             }
-            Change::Repeats(word) => {
-                if let Some(variable) = self.loops.last_mut() {
-                    *variable = word;
+            Change::Repeats(turn) => {
+                if let Some(last) = self.turns.last_mut() {
+                    *last = turn;
                 }
             }
             Change::Leaves => {
-                let _ = self.loops.pop();
+                let _ = self.turns.pop();
             }
             Change::Keeps => {}
         }

@@ -1,9 +1,9 @@
-// The kernel's text, line by line.
+//! The kernel's text, line by line.
 
-ghost use Rattle.std.specs.Prelude.{◌≡◌, ◌++◌, map, length, OnOk};
-ghost use Rattle.kernel_tree.specs.Code.{End};
+ghost use Rattle.std.specs.Prelude.{◌≡◌, ◌+◌, ◌<◌, ◌^◌, ◌++◌, map, length, OnOk};
+ghost use Rattle.kernel_tree.specs.Code.{Code, End};
 ghost use Rattle.kernel_tree.specs.Tree.{before, code_then};
-ghost use Rattle.ndrange_machine.specs.Lines.{lines_at};
+ghost use Rattle.ndrange_machine.specs.Lines.{lines_at, depth, past_line};
 ghost use Rattle.ndrange_machine.specs.Wants.{text_of, with_exit};
 
 use kernel_tree::tree::{Array, Expr, Start, Stmt, Stride};
@@ -22,6 +22,8 @@ pub enum Line {
     Head(Start, Expr, Stride, usize),
     /// The end of a loop's body, with the number of the loop's head.
     Tail(usize),
+    /// A barrier, with its flags.
+    Barrier { on_local: bool, on_global: bool },
 }
 
 impl Line {
@@ -38,7 +40,8 @@ impl Line {
 /// Puts the lines of a block after those that are there.
 #[cycle(laying)]
 pub fn lay(alloc: Global, lines: &mut Vec<Line>, block: Vec<Stmt>) -> Result<(), AllocError>
-    ensures { OnOk result (map text_of lines.new.items ≡ map text_of lines.old.items ++ lines_at (length lines.old.items) (code_then block.items End)) }
+    ensures { OnOk result (map text_of lines.new.items
+        ≡ map text_of lines.old.items ++ lines_at (length lines.old.items) (code_then block.items End)) }
 {
     for statement in block {
         lay_one(alloc, lines, statement)?;
@@ -48,7 +51,8 @@ pub fn lay(alloc: Global, lines: &mut Vec<Line>, block: Vec<Stmt>) -> Result<(),
 
 #[cycle(laying)]
 fn lay_one(alloc: Global, lines: &mut Vec<Line>, statement: Stmt) -> Result<(), AllocError>
-    ensures { OnOk result (map text_of lines.new.items ≡ map text_of lines.old.items ++ lines_at (length lines.old.items) (before statement End)) }
+    ensures { OnOk result (map text_of lines.new.items
+        ≡ map text_of lines.old.items ++ lines_at (length lines.old.items) (before statement End)) }
 {
     match statement {
         Stmt::Assign(v, e) => lines.push(Line::Assign(v, e))?,
@@ -62,6 +66,38 @@ fn lay_one(alloc: Global, lines: &mut Vec<Line>, statement: Stmt) -> Result<(), 
             let exit = lines.len();
             lines[head].set_exit(exit);
         }
+        Stmt::Barrier {
+            on_local,
+            on_global,
+        } => lines.push(Line::Barrier {
+            on_local,
+            on_global,
+        })?,
     }
     Ok(())
+}
+
+/// How many loops a work-item may be in at once.
+pub fn depth_of(lines: &[Line]) -> usize
+    ensures { (code : Code) → map text_of lines.now ≡ lines_at 0 code → result ≡ depth code }
+{
+    let mut inside = 0usize;
+    let mut most = 0usize;
+    for line in lines {
+        inside = loops_past(line, inside);
+        most = most.max(inside);
+    }
+    most
+}
+
+// In how many loops a work-item is past the line.
+fn loops_past(line: &Line, inside: usize) -> usize
+    requires { inside + 1 < 2 ^ 64 }
+    ensures { result ≡ past_line (text_of line.now) inside }
+{
+    match line {
+        Line::Head(..) => inside + 1,
+        Line::Tail(_) => inside.saturating_sub(1),
+        _ => inside,
+    }
 }

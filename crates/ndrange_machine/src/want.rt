@@ -1,22 +1,29 @@
-// What a work-item does in its next event.
+//! What a work-item does in its next event.
 
-ghost use Rattle.std.specs.Prelude.{◌≡◌, []};
-ghost use Rattle.kernel_tree.specs.Code.{start_value, stride_value};
-ghost use Rattle.kernel_tree.specs.Formula.{sizes_alone};
-ghost use Rattle.kernel_tree.specs.Tree.{start_of, stride_of};
-ghost use Rattle.ndrange_machine.specs.Wants.{want_tail, wanted};
+ghost use Rattle.std.specs.Prelude.{◌≡◌, ◌+◌, ◌<◌, ◌^◌};
+ghost use Rattle.ndrange_machine.specs.Known.{known};
+ghost use Rattle.ndrange_machine.specs.Wants.{want_head, want_tail, want_line};
+ghost use Rattle.kernel_tree.specs.Tree.{formula_of, start_of};
 
+use crate::ids::Ids;
 use crate::item::Change;
 use crate::line::Line;
-use crate::value::value_of;
+use crate::turn::Turn;
+use crate::value::{bound_of, value_of};
 use kernel_tree::events::FaultKind;
-use kernel_tree::tree::{Array, Start, Stride};
+use kernel_tree::tree::{Array, Expr, Start};
 
 /// What a work-item does next, with the number of its line after that.
 #[derive(Clone, Copy)]
 pub enum Want {
     /// It has ended.
     Ends,
+    /// It stands at a barrier.
+    Waits {
+        on_local: bool,
+        on_global: bool,
+        next: usize,
+    },
     /// It fails.
     Fails(FaultKind),
     /// It changes itself alone.
@@ -27,53 +34,80 @@ pub enum Want {
     Writes(Array, u32, u32, usize),
 }
 
-/// What an item wants that stands at this line, with these loop variables and private variables.
-pub fn want_at(lines: &[Line], sizes: &[u32], at: usize, loops: &[u32], vars: &[u32]) -> Want
-    ensures { result ≡ wanted lines.now sizes.now at loops.now vars.now }
+/// What an item wants that stands at this line, in these turns, with these private variables.
+pub fn want_at(
+    lines: &[Line],
+    ids: Ids,
+    sizes: &[u32],
+    at: usize,
+    turns: &[Turn],
+    vars: &[u32],
+) -> Want
+    ensures { result ≡ want_line lines.now (known ids sizes.now) at turns.now vars.now }
 {
     match lines.get(at) {
         None => Want::Ends,
-        Some(Line::Assign(v, e)) => match value_of(sizes, loops, vars, e) {
+        Some(Line::Assign(v, e)) => match value_of(ids, sizes, turns, vars, e) {
             Some(word) => Want::Changes(Change::Sets(*v, word), at + 1),
             None => Want::Fails(FaultKind::ZeroDivisor),
         },
-        Some(Line::Load(v, array, i)) => match value_of(sizes, loops, vars, i) {
+        Some(Line::Load(v, array, i)) => match value_of(ids, sizes, turns, vars, i) {
             Some(index) => Want::Reads(*v, *array, index, at + 1),
             None => Want::Fails(FaultKind::ZeroDivisor),
         },
-        Some(Line::Store(array, i, e)) => match value_of(sizes, loops, vars, i) {
-            Some(index) => match value_of(sizes, loops, vars, e) {
+        Some(Line::Store(array, i, e)) => match value_of(ids, sizes, turns, vars, i) {
+            Some(index) => match value_of(ids, sizes, turns, vars, e) {
                 Some(word) => Want::Writes(*array, index, word, at + 1),
                 None => Want::Fails(FaultKind::ZeroDivisor),
             },
             None => Want::Fails(FaultKind::ZeroDivisor),
         },
-        Some(Line::Head(start, bound, _, exit)) => match value_of(sizes, &[], &[], bound) {
-            Some(bound) => {
-                let first = start_word(*start);
-                if first < bound {
-                    Want::Changes(Change::Begins(first), at + 1)
-                } else {
-                    Want::Changes(Change::Keeps, *exit)
-                }
-            }
-            None => Want::Fails(FaultKind::ZeroDivisor),
+        Some(Line::Head(start, bound, _, exit)) => want_at_head(
+            ids, sizes, *start, bound, at, *exit,
+        ),
+        Some(Line::Tail(head)) => want_at_tail(lines, ids, sizes, *head, turns),
+        Some(
+            Line::Barrier {
+                on_local,
+                on_global,
+            },
+        ) => Want::Waits {
+            on_local: *on_local,
+            on_global: *on_global,
+            next: at + 1,
         },
-        Some(Line::Tail(head)) => want_at_tail(lines, sizes, *head, loops),
+    }
+}
+
+// What an item wants at a loop's head, on the line `at`.
+fn want_at_head(ids: Ids, sizes: &[u32], start: Start, bound: &Expr, at: usize, exit: usize) -> Want
+    requires { at + 1 < 2 ^ 64 }
+    ensures { result ≡ want_head (known ids sizes.now) (start_of start) (formula_of bound.now) at exit }
+{
+    match bound_of(sizes, bound) {
+        Some(bound) => {
+            let variable = ids.start(start);
+            if variable < bound {
+                Want::Changes(Change::Begins(Turn::first(variable)), at + 1)
+            } else {
+                Want::Changes(Change::Keeps, exit)
+            }
+        }
+        None => Want::Fails(FaultKind::ZeroDivisor),
     }
 }
 
 // What an item wants at the end of the body of the loop whose head is this line.
-fn want_at_tail(lines: &[Line], sizes: &[u32], head: usize, loops: &[u32]) -> Want
-    ensures { result ≡ want_tail lines.now sizes.now head loops.now }
+fn want_at_tail(lines: &[Line], ids: Ids, sizes: &[u32], head: usize, turns: &[Turn]) -> Want
+    ensures { result ≡ want_tail lines.now (known ids sizes.now) head turns.now }
 {
-    match (lines.get(head), loops.last()) {
-        (Some(Line::Head(_, bound, stride, exit)), Some(variable)) => {
-            match value_of(sizes, &[], &[], bound) {
-                Some(bound) => match variable.checked_add(stride_word(*stride)) {
-                    Some(next) => {
-                        if next < bound {
-                            Want::Changes(Change::Repeats(next), head + 1)
+    match (lines.get(head), turns.last()) {
+        (Some(Line::Head(_, bound, stride, exit)), Some(turn)) => {
+            match bound_of(sizes, bound) {
+                Some(bound) => match turn.variable.checked_add(ids.stride(*stride)) {
+                    Some(variable) => {
+                        if variable < bound {
+                            Want::Changes(Change::Repeats(turn.next(variable)), head + 1)
                         } else {
                             Want::Changes(Change::Leaves, *exit)
                         }
@@ -84,21 +118,5 @@ fn want_at_tail(lines: &[Line], sizes: &[u32], head: usize, loops: &[u32]) -> Wa
             }
         }
         _ => Want::Ends,
-    }
-}
-
-fn start_word(start: Start) -> u32
-    ensures { result ≡ start_value (sizes_alone []) (start_of start) }
-{
-    match start {
-        Start::Zero => 0,
-    }
-}
-
-fn stride_word(stride: Stride) -> u32
-    ensures { result ≡ stride_value (sizes_alone []) (stride_of stride) }
-{
-    match stride {
-        Stride::One => 1,
     }
 }

@@ -5,3 +5,5 @@
 mod barriers;
 #[cfg(test)]
 mod indices;
+#[cfg(test)]
+mod spelling;

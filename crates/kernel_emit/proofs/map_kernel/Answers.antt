@@ -5,7 +5,7 @@ use Rattle.kernel_emit.proofs.map_kernel.Goals as goal
 
 pub invariant_of-result : goal.invariant_of-result
 invariant_of-result c =
-    record { in_grammar = ap is_kernel (kernel_is _ c.args.addend c.in_ok-body.ensures) ∙ of_grammar c.args.addend c.ranges.addend.fits }
+    record { in_grammar = ap is_kernel (kernel_is _ _ _ c.args.addend c.new.ensures.items c.new-2.ensures.items c.in_ok-body.ensures) ∙ of_grammar c.args.addend c.ranges.addend.fits }
 
 pub returns : goal.returns
-returns c = kernel_is _ c.args.addend c.in_ok-body.ensures
+returns c = kernel_is _ _ _ c.args.addend c.new.ensures.items c.new-2.ensures.items c.in_ok-body.ensures

@@ -20,9 +20,9 @@ print_statement-print_block-requires t c =
     let q = c.in-Loop in
     let h = c.requires.of_kernel in
     let k = h.1.0 in
-    let whole : before c.args.statement.now h.0 ≡ Loops (start_of q._start) (formula_of q.bound) (stride_of q._stride) (code_then q.body.items End) h.0 =
-    ap (λ z. before z h.0) q.is ∙ c.blocks-in-Loop.ensures.loops q._start q.bound q._stride q.body h.0 in
-    let body = body_of k l (start_of q._start) (formula_of q.bound) (stride_of q._stride) (code_then q.body.items End) h.0 (subst (λ z. are_statements k l z ≡ true) whole h.1.1) in
+    let whole : before c.args.statement.now h.0 ≡ Loops (start_of q.start) (formula_of q.bound) (stride_of q.stride) (code_then q.body.items End) h.0 =
+    ap (λ z. before z h.0) q.is ∙ c.blocks-in-Loop.ensures.loops q.start q.bound q.stride q.body h.0 in
+    let body = body_of k l (start_of q.start) (formula_of q.bound) (stride_of q.stride) (code_then q.body.items End) h.0 (subst (λ z. are_statements k l z ≡ true) whole h.1.1) in
     let deeper : suc l ≡ l + 1 = omega arith in
     let less : l < 1024 = body.0 in
     let deep : l + 1 ≤ 1024 = omega (arith, less) in
@@ -46,12 +46,12 @@ print_statement-returns-in_ok-print_end-in-Loop t c = λ after.
     let body = q.body.items in
     let headed = c.print_loop.new.text.items in
     let deeper : suc l ≡ l + 1 = omega arith in
-    let inner : write_code (suc l) (write_loop l old (formula_of q.bound)) (code_then body End) ≡ c.print_end.new.text.items =
+    let inner : write_code (suc l) (write_loop l old (start_of q.start) (formula_of q.bound) (stride_of q.stride)) (code_then body End) ≡ c.print_end.new.text.items =
     ap (λ z. write_code (suc l) z (code_then body End)) (sym c.in_ok-print_loop-in-Loop.ensures)
     ∙ ap (λ m. write_code m headed (code_then body End)) deeper
     ∙ ap (λ z. write_code (l + 1) headed (code_then z End)) (sym c.deref.ensures.value)
     ∙ c.in_ok-print_block-in-Loop.ensures End
     ∙ sym c.in_ok-print_end-in-Loop.ensures in
     ap (λ z. write_code l old (before z after)) q.is
-    ∙ ap (write_code l old) (c.blocks-in-Loop.ensures.loops q._start q.bound q._stride q.body after)
+    ∙ ap (write_code l old) (c.blocks-in-Loop.ensures.loops q.start q.bound q.stride q.body after)
     ∙ ap (λ z. write_code l z after) inner

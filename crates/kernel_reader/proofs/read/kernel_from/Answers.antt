@@ -1,4 +1,6 @@
-use Rattle.std.proofs.Common.{◌∙◌}
+use Rattle.std.proofs.Common.{◌∙◌, subst, []}
+use Rattle.readings.specs.Readings.{Reads}
+use Rattle.kernel_tree.specs.KernelText.{kernels, start, nothing}
 use Rattle.kernel_reader.specs.Noted.{notes_of}
 use Rattle.kernel_reader.proofs.Found.{no_rest}
 use Rattle.kernel_reader.proofs.Whole.{some_block, is_made}
@@ -18,4 +20,5 @@ pub invariant_of-result : goal.invariant_of-result
 invariant_of-result c =
     let r = c.requires in
     let made = is_made c.args.made c.in-Some.block c.pop_front.new.self.items c.in_ok-body.body.items (c.whole_readings.ensures.made r.0 (notes_of c.args.made) r.1) c.in-Some.ensures.items c.in_ok-body.ensures in
-    record { in_grammar = c.whole_readings.ensures.in_grammar r.0 (notes_of c.args.made) _ r.1 made }
+    let text = c.whole_readings.ensures.has_text r.0 _ (subst (λ n. Reads kernels start nothing r.0 [] n) made r.1) in
+    record { in_grammar = text.in_grammar; few_arrays = (text.locals, text.privates) }

@@ -1,8 +1,9 @@
-use Rattle.std.proofs.Common.{◌∙◌, ap, sym, subst, map, take, length, arith, rules, ◌<◌, ◌^◌}
+use Rattle.std.proofs.Common.{◌∙◌, ap, sym, subst, map, take, length, arith, rules, ◌<◌, ◌^◌, []}
 use Rattle.std.specs.List.{sum_by}
 use Rattle.std.proofs.lemmas.List.{take-map}
+use Rattle.readings.specs.Readings.{Reads}
 use Rattle.kernel_tree.specs.Pieces.{joined}
-use Rattle.kernel_tree.specs.KernelText.{IsKernelText}
+use Rattle.kernel_tree.specs.KernelText.{IsKernelText, all_of, kernels, start, nothing}
 use Rattle.kernel_reader.specs.Views.{bytes_of}
 use Rattle.kernel_reader.proofs.Found.{lengths, whole_length, from_nothing, stops_at, not_read, reading_of}
 use Rattle.kernel_reader.proofs.read.read_kernel.Goals as goal
@@ -16,7 +17,7 @@ offset_of-requires-clause-fits c =
     subst (λ n. n < 2 ^ 64) (sym (same ∙ w)) short
 
 pub returns-in-Err-Refused-clause-only : goal.returns-in-Err-Refused-clause-only
-returns-in-Err-Refused-clause-only c = λ k h. not_read h.1 _ c.in-Err-Refused.taken c.in-Err-Refused.field-0-is (c.in-Err-Refused.ensures.only h.1 (reading_of c.one_cut.ensures.one c.args.bytes.now k _ _ c.in_ok-pieces.pieces.items c.first.ensures c.deref.ensures.value c.in_ok-pieces.ensures h))
+returns-in-Err-Refused-clause-only c = λ k h. not_read (all_of k) _ c.in-Err-Refused.taken c.in-Err-Refused.field-0-is (c.in-Err-Refused.ensures.only (all_of k) (reading_of c.one_cut.ensures.one c.args.bytes.now k _ _ c.in_ok-pieces.pieces.items c.first.ensures c.deref.ensures.value c.in_ok-pieces.ensures h))
 
 pub returns-in-Err-Refused-clause-back : goal.returns-in-Err-Refused-clause-back
 returns-in-Err-Refused-clause-back c = λ k t e. returns-in-Err-Refused-clause-only c k (subst (λ z. IsKernelText z k) (sym e) (c.one_text.ensures.taken k t))
@@ -42,7 +43,8 @@ kernel_from-requires c = (map bytes_of c.in_ok-pieces.pieces.items, from_nothing
 pub returns-clause-found : goal.returns-clause-found
 returns-clause-found c =
     let ps = c.in_ok-pieces.pieces.items in
-    (map bytes_of ps, _, c.in_ok-pieces.ensures, from_nothing _ _ _ ps c.first.ensures c.deref.ensures.value c.in-Ok.ensures.found, c.in_ok-kernel_from.ensures)
+    let read = from_nothing _ _ _ ps c.first.ensures c.deref.ensures.value c.in-Ok.ensures.found in
+    (map bytes_of ps, c.in_ok-pieces.ensures, subst (λ n. Reads kernels start nothing (map bytes_of ps) [] n) c.in_ok-kernel_from.ensures read)
 
 pub returns-clause-only : goal.returns-clause-only
 returns-clause-only c = λ k h. c.one_kernel.ensures c.args.bytes.now _ k (returns-clause-found c) h

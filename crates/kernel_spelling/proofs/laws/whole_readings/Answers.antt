@@ -3,4 +3,4 @@ use Rattle.kernel_spelling.proofs.Whole.{made_whole}
 use Rattle.kernel_spelling.proofs.laws.whole_readings.Goals as goal
 
 pub returns : goal.returns
-returns c = record { made = whole_kernel; in_grammar = λ ps n k r made. (made_whole ps n k r made).0 }
+returns c = record { made = whole_kernel; has_text = λ ps k r. (made_whole ps k r).0 }

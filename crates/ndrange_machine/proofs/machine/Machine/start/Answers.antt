@@ -1,21 +1,39 @@
-use Rattle.std.proofs.Common.{◌≡◌, ◌++◌, length, map, replicate, ap, ◌∙◌, refl, rules, ◌≤◌}
-use Rattle.std.specs.Prelude.{vec_capacity}
+use Rattle.std.proofs.Common.{◌≡◌, ◌/◌, ◌++◌, length, map, replicate, ap, ◌∙◌, refl}
 use Rattle.kernel_tree.specs.Code.{End}
+use Rattle.kernel_tree.specs.Launch.{Launch}
 use Rattle.kernel_tree.specs.Tree.{code_then}
 use Rattle.kernel_tree.specs.Kernels.{kernel_of}
-use Rattle.ndrange_machine.specs.Lines.{lines_at}
+use Rattle.ndrange_machine.specs.Changes.{start_view}
+use Rattle.ndrange_machine.specs.Lines.{lines_at, depth}
+use Rattle.ndrange_machine.specs.Memory.{rows_of}
 use Rattle.ndrange_machine.specs.Wants.{text_of}
-use Rattle.ndrange_machine.proofs.Rows.{rows_of}
 use Rattle.ndrange_machine.proofs.Beginning.{begun}
 use Rattle.ndrange_machine.proofs.machine.Machine.start.Goals as goal
 
 pub returns : goal.returns
 returns c =
+    let k = kernel_of c.args.kernel in
+    let l = c.launch.inside in
+    let cells = c.cells.inside in
+    let given = c.args.cells in
     let text : map text_of c.lay.new.lines.items ≡ lines_at 0 (code_then c.args.kernel.body.items End) =
     c.in_ok-lay.ensures ∙ ap (λ xs. map text_of xs ++ lines_at (length xs) (code_then c.args.kernel.body.items End)) c.new-lines.ensures.items in
-    let ins : rows_of c.cells.inside.ins.items ≡ c.args.cells.ins = ap (λ v. v.ins) c.cells.view_is in
-    let outs : rows_of c.cells.inside.outs.items ≡ c.args.cells.outs = ap (λ v. v.outs) c.cells.view_is in
-    let rest : c.cells.inside.rest ≡ c.args.cells.rest = ap (λ v. v.rest) c.cells.view_is in
-    let room : length c.lay.new.lines.items ≤ vec_capacity c.in_ok-loops.loops = search rules in
-    begun (kernel_of c.args.kernel) c.args.launch c.args.cells _ c.requires.may_start.whole c.requires.one_item ins outs text (ap (λ v. v.sizes) c.launch.view_is) refl c.in_ok-loops.ensures.items room
-    (c.in_ok-vars.ensures.items_if_clones_equal (λ y e. e) ∙ ap (replicate c.args.kernel.variables) rest)
+    let ins : rows_of cells.ins.items ≡ given.ins = ap (λ v. v.ins) c.cells.view_is in
+    let outs : rows_of cells.outs.items ≡ given.outs = ap (λ v. v.outs) c.cells.view_is in
+    let rest : cells.rest ≡ given.rest = ap (λ v. v.rest) c.cells.view_is in
+    let locals =
+    c.in_ok-locals.ensures
+    ∙ ap (λ ns. replicate (l.global / l.local) (map (λ n. replicate n cells.rest) ns)) c.deref.ensures.value
+    ∙ ap (λ w. replicate (l.global / l.local) (map (λ n. replicate n w) k.locals)) rest
+    ∙ ap (λ (z : Launch). replicate (z.global / z.local) (map (λ n. replicate n given.rest) k.locals)) c.launch.view_is in
+    let privates =
+    c.in_ok-privates.ensures
+    ∙ ap (λ ns. replicate l.global (map (λ n. replicate n cells.rest) ns)) c.deref-2.ensures.value
+    ∙ ap (λ w. replicate l.global (map (λ n. replicate n w) k.privates)) rest
+    ∙ ap (λ (z : Launch). replicate z.global (map (λ n. replicate n given.rest) k.privates)) c.launch.view_is in
+    let items =
+    c.in_ok-items.ensures
+    ∙ ap (λ n. replicate l.global (start_view n k.variables cells.rest)) (c.depth_of.ensures k.code (ap (map text_of) c.deref-3.ensures.value ∙ text))
+    ∙ ap (λ w. replicate l.global (start_view (depth k.code) k.variables w)) rest
+    ∙ ap (λ (z : Launch). replicate z.global (start_view (depth k.code) k.variables given.rest)) c.launch.view_is in
+    begun k c.args.launch given _ ins outs locals privates c.requires.may_start.whole text refl items

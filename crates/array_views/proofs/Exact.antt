@@ -1,0 +1,176 @@
+-- The values of indices through layouts and in row-major order: no operation in them wraps.
+use Rattle.std.proofs.Common.{◌≡◌, ℕ, ℤ, pos, ◌+◌, ◌*◌, ◌-◌, ◌/◌, ◌%◌, ◌<◌, ◌≤◌, ◌^◌, ◌-ℤ◌, Bool, List, [], ◌∷◌, refl, sym, ap, ◌∙◌, subst, min, max, arith}
+use Rattle.std.specs.Prelude.{unsigned_abs}
+use Rattle.std.specs.Int.{int_min, int_max}
+use Rattle.std.proofs.lemmas.Int.{ints, clamps}
+use Rattle.std.proofs.Math.Nat.{div-le_self, mod-le, mul-le-mul_left}
+use Rattle.lift_ir.specs.Types.{Shape, Ty, Scalar, PairOf, ArrayOf, measured, size, flat, IsPosition, IsFlat, IsShort}
+use Rattle.lift_ir.specs.Layouts.{Layout, Split, Join, Transpose, Slide, Pad, operand_position, result_position, IsInvertible}
+use Rattle.lift_ir.proofs.Positions.{operand_in, join_in}
+use Rattle.lift_ir.proofs.Numbers.{flat_below}
+use Rattle.index_expr.specs.declared.operation.Operation.{Operation}
+use Rattle.index_expr.specs.declared.operation.Operation.TheVariants.{Sum, Difference, Product, Quotient, Remainder, Least, Greatest}
+use Rattle.index_expr.specs.Expression.{Expression, Literal, Binary}
+use Rattle.index_expr.specs.Values.{exact, operate, Divides, WantsWords, IsWord}
+use Rattle.array_views.specs.Layouts.{flattened, parted, swapped, clamped, to_operand, to_result}
+use Rattle.array_views.specs.Accesses.{row_major, row_major_from}
+use Rattle.array_views.specs.Cells.{number_at, IsIndex, AreIndices, HasLengths, Leads}
+
+word_of : (z : ℤ) (n : ℕ) → z ≡ pos n → n < 2 ^ 32 → IsWord z
+word_of z n e lt = subst IsWord (sym e) (omega (arith, ints), omega (arith, ints))
+
+word_below : (n : ℕ) → IsWord (pos n) → n < 2 ^ 32
+word_below n w = let a = w.1 in omega (arith, ints)
+
+max_is : (x y : ℕ) → int_max (pos x) (pos y) ≡ pos (max x y)
+max_is x y = omega (arith, ints, clamps)
+
+min_is : (x y : ℕ) → int_min (pos x) (pos y) ≡ pos (min x y)
+min_is x y = omega (arith, ints, clamps)
+
+less_is : (x y : ℕ) → y ≤ x → pos x -ℤ pos y ≡ pos (x - y)
+less_is x y le = omega (arith, ints)
+
+module _ (sizes variables : List ℕ) where
+  abbrev num : Expression → ℕ
+  num = number_at sizes variables
+
+  pub fits : (e : Expression) (n : ℕ) → IsIndex sizes variables e n → n < 2 ^ 32
+  fits e n h = word_below n (subst IsWord h.value h.ranged.1)
+
+  literal : (n : ℕ) → n < 2 ^ 32 → IsIndex sizes variables (Literal n) n
+  literal n lt = record { value = refl; ranged = (tt, word_of (pos n) n refl lt); divisors = tt }
+
+  -- an operation that may wrap, where it doesn't
+  plain : (o : Operation) (a b : Expression) (m n k : ℕ) → (WantsWords o → ⊥) → (Divides o → ⊥) → IsIndex sizes variables a m → IsIndex sizes variables b n → operate o (pos m) (pos n) ≡ pos k → k < 2 ^ 32 → IsIndex sizes variables (Binary o a b) k
+  plain o a b m n k words divides x y e lt =
+      let value : operate o (exact sizes variables a) (exact sizes variables b) ≡ pos k = ap (λ z. operate o z (exact sizes variables b)) x.value ∙ ap (λ z. operate o (pos m) z) y.value ∙ e in
+      record { value = value; ranged = ((λ w. absurd (words w), x.ranged.0, y.ranged.0), word_of _ k value lt); divisors = (λ d. absurd (divides d), x.divisors, y.divisors) }
+
+  -- one of words
+  of_words : (o : Operation) (a b : Expression) (m n k : ℕ) → (Divides o → 0 < n) → IsIndex sizes variables a m → IsIndex sizes variables b n → operate o (pos m) (pos n) ≡ pos k → k < 2 ^ 32 → IsIndex sizes variables (Binary o a b) k
+  of_words o a b m n k some x y e lt =
+      let value : operate o (exact sizes variables a) (exact sizes variables b) ≡ pos k = ap (λ z. operate o z (exact sizes variables b)) x.value ∙ ap (λ z. operate o (pos m) z) y.value ∙ e in
+      record {
+        value = value;
+        ranged = ((λ w. (x.ranged.1, y.ranged.1), x.ranged.0, y.ranged.0), word_of _ k value lt);
+        divisors = (λ d zero. (let h = some d in let same : n ≡ 0 = ap unsigned_abs (sym y.value ∙ zero) in absurd (omega arith)), x.divisors, y.divisors);
+      }
+
+  -- a step of an index: i * m + j
+  step : (f g h : Expression) (i m j : ℕ) → IsIndex sizes variables f i → IsIndex sizes variables g m → IsIndex sizes variables h j → i * m + j < 2 ^ 32 → IsIndex sizes variables (Binary Sum (Binary Product f g) h) (i * m + j)
+  step f g h i m j a b c lt = plain Sum (Binary Product f g) h (i * m) j (i * m + j) (λ w. w) (λ d. d) (plain Product f g i m (i * m) (λ w. w) (λ d. d) a b refl (omega arith)) c refl lt
+
+  parts : (f g : Expression) (i m : ℕ) → 0 < m → IsIndex sizes variables f i → IsIndex sizes variables g m → IsIndex sizes variables (Binary Quotient f g) (i / m) × IsIndex sizes variables (Binary Remainder f g) (i % m)
+  parts f g i m some a b =
+      let lt = fits f i a in
+      let q = div-le_self i m in
+      let r = mod-le i m in
+      (of_words Quotient f g i m (i / m) (λ d. some) a b refl (omega arith), of_words Remainder f g i m (i % m) (λ d. some) a b refl (omega arith))
+
+  clamp : (f g : Expression) (i l n : ℕ) → IsIndex sizes variables f i → IsIndex sizes variables g n → l < 2 ^ 32 → 0 < n → IsIndex sizes variables (Binary Least (Binary Difference (Binary Greatest f (Literal l)) (Literal l)) (Binary Difference g (Literal 1))) (min (max i l - l) (n - 1))
+  clamp f g i l n a b small some =
+      let x = fits f i a in
+      let y = fits g n b in
+      let left = literal l small in
+      let past = of_words Greatest f (Literal l) i l (max i l) (λ d. absurd d) a left (max_is i l) (omega arith) in
+      let back = plain Difference (Binary Greatest f (Literal l)) (Literal l) (max i l) l (max i l - l) (λ w. w) (λ d. d) past left (less_is (max i l) l (omega arith)) (omega arith) in
+      let last = plain Difference g (Literal 1) n 1 (n - 1) (λ w. w) (λ d. d) b (literal 1 (omega arith)) (less_is n 1 (omega arith)) (omega arith) in
+      of_words Least (Binary Difference (Binary Greatest f (Literal l)) (Literal l)) (Binary Difference g (Literal 1)) (max i l - l) (n - 1) (min (max i l - l) (n - 1)) (λ d. absurd d) back last (min_is (max i l - l) (n - 1)) (omega arith)
+
+  -- indices of a position in the result are, in the operand, those of the position there
+  pub operand_exact : (y : Layout Expression) (t u : Ty) (cs : List Bool) (is : List Expression) (q : List ℕ) → Leads sizes variables y t u → IsPosition u cs q → AreIndices sizes variables is q → AreIndices sizes variables (to_operand y is) (operand_position num y q)
+  operand_exact (Split m) (ArrayOf n t) u cs is q a w g = go is q (subst (λ z. IsPosition z cs q) a.shapes.2 w) g
+    where
+      go : (is : List Expression) (q : List ℕ) → IsPosition (ArrayOf (n / num m) (ArrayOf (num m) t)) cs q → AreIndices sizes variables is q → AreIndices sizes variables (flattened m is) (operand_position num (Split m) q)
+      go is [] w g = absurd w
+      go is (i ∷ []) w g = absurd w.1
+      go [] (i ∷ j ∷ q) w g = absurd g
+      go (f ∷ []) (i ∷ j ∷ q) w g = absurd g.1
+      go (f ∷ h ∷ fs) (i ∷ j ∷ q) w g =
+          let b = operand_in num (Split m) (ArrayOf n t) (ArrayOf (n / num m) (ArrayOf (num m) t)) cs (i ∷ j ∷ q) (a.shapes.0, a.shapes.1, refl) w in
+          (step f m h i (num m) j g.0 a.lengths g.1.0 (let x = b.0 in let z = a.operand.0 in omega arith), g.1.1)
+  operand_exact (Join m) (ArrayOf n (ArrayOf k t)) u cs is q a w g = go is q (subst (λ z. IsPosition z cs q) a.shapes.2 w) g
+    where
+      go : (is : List Expression) (q : List ℕ) → IsPosition (ArrayOf (n * num m) t) cs q → AreIndices sizes variables is q → AreIndices sizes variables (parted m is) (operand_position num (Join m) q)
+      go is [] w g = absurd w
+      go [] (i ∷ q) w g = absurd g
+      go (f ∷ fs) (i ∷ q) w g = let p = parts f m i (num m) a.shapes.0 g.0 a.lengths in (p.0, (p.1, g.1))
+  operand_exact Transpose (ArrayOf n (ArrayOf m t)) u cs is q a w g = go is q (subst (λ z. IsPosition z cs q) a.shapes.1 w) g
+    where
+      go : (is : List Expression) (q : List ℕ) → IsPosition (ArrayOf m (ArrayOf n t)) cs q → AreIndices sizes variables is q → AreIndices sizes variables (swapped is) (operand_position num Transpose q)
+      go is [] w g = absurd w
+      go is (i ∷ []) w g = absurd w.1
+      go [] (i ∷ j ∷ q) w g = absurd g
+      go (f ∷ []) (i ∷ j ∷ q) w g = absurd g.1
+      go (f ∷ h ∷ fs) (i ∷ j ∷ q) w g = (g.1.0, (g.0, g.1.1))
+  operand_exact (Slide s k) (ArrayOf n t) u cs is q a w g = go is q (subst (λ z. IsPosition z cs q) a.shapes.3 w) g
+    where
+      go : (is : List Expression) (q : List ℕ) → IsPosition (ArrayOf ((n - s) / k + 1) (ArrayOf s t)) cs q → AreIndices sizes variables is q → AreIndices sizes variables (flattened (Literal k) is) (operand_position num (Slide s k) q)
+      go is [] w g = absurd w
+      go is (i ∷ []) w g = absurd w.1
+      go [] (i ∷ j ∷ q) w g = absurd g
+      go (f ∷ []) (i ∷ j ∷ q) w g = absurd g.1
+      go (f ∷ h ∷ fs) (i ∷ j ∷ q) w g =
+          let b = operand_in num (Slide s k) (ArrayOf n t) (ArrayOf ((n - s) / k + 1) (ArrayOf s t)) cs (i ∷ j ∷ q) (a.shapes.0, a.shapes.1, a.shapes.2, refl) w in
+          (step f (Literal k) h i k j g.0 (literal k a.step) g.1.0 (let x = b.0 in let z = a.operand.0 in omega arith), g.1.1)
+  operand_exact (Pad x y k) (ArrayOf n t) u cs is q a w g = go is q w g
+    where
+      go : (is : List Expression) (q : List ℕ) → IsPosition u cs q → AreIndices sizes variables is q → AreIndices sizes variables (clamped (Literal x) k is) (operand_position num (Pad x y k) q)
+      go is [] w g = absurd (subst (λ z. IsPosition z cs []) a.shapes.2 w)
+      go [] (i ∷ q) w g = absurd g
+      go (f ∷ fs) (i ∷ q) w g =
+          let short = subst IsShort a.shapes.2 a.result in
+          (clamp f k i x (num k) g.0 a.lengths (let z = short.0 in omega arith) (let p = a.shapes.0 in let e = a.shapes.1 in omega arith), g.1)
+  operand_exact _ t u cs is q a w g = absurd a.shapes
+
+  -- and back, in writing
+  pub result_exact : (y : Layout Expression) (t u : Ty) (cs : List Bool) (is : List Expression) (q : List ℕ) → IsInvertible y → Leads sizes variables y t u → IsPosition t cs q → AreIndices sizes variables is q → AreIndices sizes variables (to_result y is) (result_position num y q)
+  result_exact (Split m) (ArrayOf n t) u cs is [] z a w g = absurd w
+  result_exact (Split m) (ArrayOf n t) u cs [] (i ∷ q) z a w g = absurd g
+  result_exact (Split m) (ArrayOf n t) u cs (f ∷ fs) (i ∷ q) z a w g = let p = parts f m i (num m) a.shapes.0 g.0 a.lengths in (p.0, (p.1, g.1))
+  result_exact (Join m) (ArrayOf n (ArrayOf k t)) u cs is [] z a w g = absurd w
+  result_exact (Join m) (ArrayOf n (ArrayOf k t)) u cs is (i ∷ []) z a w g = absurd w.1
+  result_exact (Join m) (ArrayOf n (ArrayOf k t)) u cs [] (i ∷ j ∷ q) z a w g = absurd g
+  result_exact (Join m) (ArrayOf n (ArrayOf k t)) u cs (f ∷ []) (i ∷ j ∷ q) z a w g = absurd g.1
+  result_exact (Join m) (ArrayOf n (ArrayOf k t)) u cs (f ∷ h ∷ fs) (i ∷ j ∷ q) z a w g =
+      let s = subst IsShort a.shapes.2 a.result in
+      let e = a.shapes.1 in
+      let lt = join_in i j (num m) n w.0 (let b = w.1.0 in omega arith) in
+      (step f m h i (num m) j g.0 a.lengths g.1.0 (let c = s.0 in omega arith), g.1.1)
+  result_exact Transpose (ArrayOf n (ArrayOf m t)) u cs is [] z a w g = absurd w
+  result_exact Transpose (ArrayOf n (ArrayOf m t)) u cs is (i ∷ []) z a w g = absurd w.1
+  result_exact Transpose (ArrayOf n (ArrayOf m t)) u cs [] (i ∷ j ∷ q) z a w g = absurd g
+  result_exact Transpose (ArrayOf n (ArrayOf m t)) u cs (f ∷ []) (i ∷ j ∷ q) z a w g = absurd g.1
+  result_exact Transpose (ArrayOf n (ArrayOf m t)) u cs (f ∷ h ∷ fs) (i ∷ j ∷ q) z a w g = (g.1.0, (g.0, g.1.1))
+  result_exact (Slide s k) t u cs is q z a w g = absurd z
+  result_exact (Pad x y k) t u cs is q z a w g = absurd z
+  result_exact _ t u cs is q z a w g = absurd a.shapes
+
+  -- ---- the number of a scalar
+  regroup : (i m j s f : ℕ) → (i * m + j) * s + f ≡ i * (m * s) + (j * s + f)
+  regroup i m j s f = let e : (i * m + j) * s ≡ i * (m * s) + j * s = grind arith in omega arith
+
+  size_pos : (t : Ty) (cs : List Bool) (q : List ℕ) → IsFlat t → IsPosition t cs q → 1 ≤ size t
+  size_pos t cs q f w = let a = flat_below t cs q f w in omega arith
+
+  from_exact : (f : Expression) (i : ℕ) (s : Shape Expression) (cs : List Bool) (is : List Expression) (q : List ℕ) → IsFlat (measured num s) → HasLengths sizes variables s → IsPosition (measured num s) cs q → IsIndex sizes variables f i → i * size (measured num s) + flat (measured num s) q < 2 ^ 32 → AreIndices sizes variables is q → IsIndex sizes variables (row_major_from f s is) (i * size (measured num s) + flat (measured num s) q)
+  from_exact f i Scalar cs is q e h w a lt g = subst (IsIndex sizes variables f) (let one : i ≡ i * 1 + 0 = omega arith in one) a
+  from_exact f i (PairOf x y) cs is q e h w a lt g = subst (IsIndex sizes variables f) (let one : i ≡ i * 1 + 0 = omega arith in one) a
+  from_exact f i (ArrayOf m t) cs is [] e h w a lt g = absurd w
+  from_exact f i (ArrayOf m t) cs [] (j ∷ q) e h w a lt g = absurd g
+  from_exact f i (ArrayOf m t) cs (k ∷ fs) (j ∷ q) e h w a lt g =
+      let same = regroup i (num m) j (size (measured num t)) (flat (measured num t) q) in
+      let n = i * num m + j in
+      let more = mul-le-mul_left {m = 1} {n = size (measured num t)} n (size_pos (measured num t) cs q e w.1) in
+      subst (IsIndex sizes variables (row_major_from f (ArrayOf m t) (k ∷ fs))) same
+      (from_exact (Binary Sum (Binary Product f m) k) n t cs fs q e h.1 w.1 (step f m k i (num m) j a h.0 g.0 (omega arith)) (omega arith) g.1)
+
+  pub row_major_exact : (s : Shape Expression) (cs : List Bool) (is : List Expression) (q : List ℕ) → IsFlat (measured num s) → size (measured num s) < 2 ^ 31 → HasLengths sizes variables s → IsPosition (measured num s) cs q → AreIndices sizes variables is q → IsIndex sizes variables (row_major s is) (flat (measured num s) q)
+  row_major_exact Scalar cs is q e small h w g = literal 0 (omega arith)
+  row_major_exact (PairOf a b) cs is q e small h w g = literal 0 (omega arith)
+  row_major_exact (ArrayOf n t) cs is [] e small h w g = absurd w
+  row_major_exact (ArrayOf n t) cs [] (i ∷ q) e small h w g = absurd g
+  row_major_exact (ArrayOf n t) cs (f ∷ fs) (i ∷ q) e small h w g =
+      let below = flat_below (measured num (ArrayOf n t)) cs (i ∷ q) e w in
+      from_exact f i t cs fs q e h.1 w.1 g.0 (omega arith) g.1

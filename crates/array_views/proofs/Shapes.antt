@@ -1,0 +1,72 @@
+-- Types and layouts whose lengths are spelled.
+use Rattle.std.proofs.Common.{◌≡◌, ℕ, ◌+◌, ◌≤◌, Bool, true, false, List, [], ◌∷◌, refl, ap, ◌∙◌, arith}
+use Rattle.std.proofs.Math.Path.{fun_ext}
+use Rattle.kernel_tree.specs.Formula as formula
+use Rattle.kernel_tree.specs.Formula.{Formula}
+use Rattle.kernel_tree.specs.Code.{Array}
+use Rattle.scalar_ops.specs.declared.op.Op.TheVariants.{Add, Mul}
+use Rattle.lift_ir.specs.Types.{Shape, Scalar, PairOf, ArrayOf, width, component}
+use Rattle.lift_ir.specs.Layouts.{Layout, Split, Join, Transpose, Slide, Pad}
+use Rattle.printed_form.specs.Views.{Read, placed_view, index_from, index_in, operand_indices, result_indices}
+use Rattle.index_expr.specs.Expression.{Expression}
+use Rattle.length_spelling.specs.Formulas.{index_formula}
+use Rattle.array_views.specs.Arrays.{spelled_shape}
+use Rattle.array_views.specs.Layouts.{spelled_layout}
+
+pub some_width : {A : Type 0} (t : Shape A) → 1 ≤ width t
+some_width Scalar = omega arith
+some_width (PairOf a b) = let x = some_width a in omega arith
+some_width (ArrayOf n t) = some_width t
+
+module _ {A : Type 0} (spell : A → Expression) where
+  abbrev spelled_so : A → Formula
+  spelled_so n = index_formula (spell n)
+
+  pub width_spelled : (t : Shape A) → width (spelled_shape spell t) ≡ width t
+  width_spelled Scalar = refl
+  width_spelled (PairOf a b) = let x = width_spelled a in let y = width_spelled b in omega arith
+  width_spelled (ArrayOf n t) = width_spelled t
+
+  component_spelled : (t : Shape A) (cs : List Bool) → component (spelled_shape spell t) cs ≡ component t cs
+  component_spelled Scalar cs = refl
+  component_spelled (PairOf a b) [] = refl
+  component_spelled (PairOf a b) (false ∷ cs) = component_spelled a cs
+  component_spelled (PairOf a b) (true ∷ cs) = let x = width_spelled a in let y = component_spelled b cs in omega arith
+  component_spelled (ArrayOf n t) cs = component_spelled t cs
+
+  from_spelled : (i : Formula) (t : Shape A) (is : List Formula) → index_from index_formula i (spelled_shape spell t) is ≡ index_from spelled_so i t is
+  from_spelled i Scalar is = refl
+  from_spelled i (PairOf a b) is = refl
+  from_spelled i (ArrayOf n t) [] = refl
+  from_spelled i (ArrayOf n t) (j ∷ is) = from_spelled (formula.Binary Add (formula.Binary Mul i (spelled_so n)) j) t is
+
+  in_spelled : (t : Shape A) (is : List Formula) → index_in index_formula (spelled_shape spell t) is ≡ index_in spelled_so t is
+  in_spelled Scalar is = refl
+  in_spelled (PairOf a b) is = refl
+  in_spelled (ArrayOf n t) [] = refl
+  in_spelled (ArrayOf n t) (i ∷ is) = from_spelled i t is
+
+  pub placed_spelled : (form : ℕ → Array) (first : ℕ) (t : Shape A) → placed_view index_formula form first (spelled_shape spell t) ≡ placed_view spelled_so form first t
+  placed_spelled form first t = fun_ext (λ cs. fun_ext (λ is. ap (λ c. Read (form (first + c)) (index_in index_formula (spelled_shape spell t) is)) (component_spelled t cs) ∙ ap (Read (form (first + component t cs))) (in_spelled t is)))
+
+  pub operand_spelled : (y : Layout A) (is : List Formula) → operand_indices index_formula (spelled_layout spell y) is ≡ operand_indices spelled_so y is
+  operand_spelled (Split m) [] = refl
+  operand_spelled (Split m) (i ∷ []) = refl
+  operand_spelled (Split m) (i ∷ j ∷ is) = refl
+  operand_spelled (Join m) [] = refl
+  operand_spelled (Join m) (i ∷ is) = refl
+  operand_spelled Transpose [] = refl
+  operand_spelled Transpose (i ∷ []) = refl
+  operand_spelled Transpose (i ∷ j ∷ is) = refl
+  operand_spelled (Slide s t) [] = refl
+  operand_spelled (Slide s t) (i ∷ []) = refl
+  operand_spelled (Slide s t) (i ∷ j ∷ is) = refl
+  operand_spelled (Pad l r n) [] = refl
+  operand_spelled (Pad l r n) (i ∷ is) = refl
+
+  pub result_spelled : (y : Layout A) (is : List Formula) → result_indices index_formula (spelled_layout spell y) is ≡ result_indices spelled_so y is
+  result_spelled (Split m) is = operand_spelled (Join m) is
+  result_spelled (Join m) is = operand_spelled (Split m) is
+  result_spelled Transpose is = operand_spelled Transpose is
+  result_spelled (Slide s t) is = refl
+  result_spelled (Pad l r n) is = refl

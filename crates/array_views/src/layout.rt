@@ -1,0 +1,185 @@
+// Layouts, as functions on stacks of indices.
+
+ghost use Rattle.std.specs.Prelude.{◌≡◌, IfOk, OnOk};
+ghost use Rattle.lift_tree.specs.declared.term.UnaryForm.{UnaryForm};
+ghost use Rattle.lift_tree.specs.Types.{ty_of};
+ghost use Rattle.lift_ir.specs.AtLaunch.{inner_of, layout_of, outer_of};
+ghost use Rattle.index_expr.specs.Expression.{Literal, expression_of};
+ghost use Rattle.length_spelling.specs.Formulas.{spelled_length};
+ghost use Rattle.array_views.specs.Stacks.{indices_in};
+ghost use Rattle.array_views.specs.Layouts.{layout_in, spelled_layout, flattened, parted, swapped, clamped, to_operand, to_result};
+
+use crate::extent::flat_index;
+use crate::stack::IndexStack;
+use index_expr::{Index, Operation};
+use length_spelling::spelled_length;
+use lift_tree::term::UnaryForm;
+use lift_tree::ty::Ty;
+use size_arith::Names;
+use std::alloc::{AllocError, Global};
+
+/// A layout, its lengths index expressions.
+#[derive(Drop)]
+pub enum Layout {
+    /// In rows of this length.
+    Split(Index),
+    /// The rows, of this length, one after another.
+    Join(Index),
+    Transpose,
+    /// Pieces of this size, which begin at the multiples of the step.
+    Slide {
+        size: u32,
+        step: u32,
+    },
+    /// So many copies of the first element before, and of the last after; the operand has this length.
+    Pad {
+        left: u32,
+        right: u32,
+        length: Index,
+    },
+}
+
+impl Layout {
+    /// The layout of a form, of a type over an operand's; any form that is no layout is taken for transpose.
+    pub fn of_form(
+        alloc: Global,
+        names: &Names,
+        form: &UnaryForm,
+        ty: &Ty,
+        operand: &Ty,
+    ) -> Result<Self, AllocError>
+        ensures { IfOk result (λ y. layout_in y ≡ spelled_layout (spelled_length names.now)
+            (layout_of form.now (ty_of ty.now) (ty_of operand.now))) }
+    {
+        match form {
+            UnaryForm::Split(_) => Ok(Layout::Split(inner_length(alloc, names, ty)?)),
+            UnaryForm::Join => Ok(Layout::Join(inner_length(alloc, names, operand)?)),
+            UnaryForm::Slide(size, step) => Ok(Layout::Slide {
+                size: *size,
+                step: *step,
+            }),
+            UnaryForm::Pad(left, right) => Ok(Layout::Pad {
+                left: *left,
+                right: *right,
+                length: outer_length(alloc, names, operand)?,
+            }),
+            _ => Ok(Layout::Transpose),
+        }
+    }
+
+    /// Makes of indices in the result those in the operand.
+    pub fn to_operand(&self, alloc: Global, indices: &mut IndexStack) -> Result<(), AllocError>
+        ensures { OnOk result (indices_in indices.new
+            ≡ to_operand (layout_in self.now) (indices_in indices.old)) }
+    {
+        match self {
+            Layout::Split(length) => flatten(alloc, length, indices),
+            Layout::Join(length) => part(alloc, length, indices),
+            Layout::Transpose => swap(indices),
+            Layout::Slide { step, .. } => flatten(alloc, &Index::Literal(*step), indices),
+            Layout::Pad { left, length, .. } => clamp(alloc, *left, length, indices),
+        }
+    }
+
+    /// Makes of indices in the operand those in the result, for join, split and transpose.
+    pub fn to_result(&self, alloc: Global, indices: &mut IndexStack) -> Result<(), AllocError>
+        ensures { OnOk result (indices_in indices.new
+            ≡ to_result (layout_in self.now) (indices_in indices.old)) }
+    {
+        match self {
+            Layout::Split(length) => part(alloc, length, indices),
+            Layout::Join(length) => flatten(alloc, length, indices),
+            Layout::Transpose => swap(indices),
+            Layout::Slide { .. } | Layout::Pad { .. } => Ok(()),
+        }
+    }
+}
+
+// The length of an array's rows; 0 where there are none.
+fn inner_length(alloc: Global, names: &Names, ty: &Ty) -> Result<Index, AllocError>
+    ensures { IfOk result (λ n. expression_of n
+        ≡ spelled_length names.now (inner_of (ty_of ty.now))) }
+{
+    match ty {
+        Ty::Array(rows, _) => outer_length(alloc, names, rows),
+        Ty::Number | Ty::Pair(_, _) => Ok(Index::Literal(0)),
+    }
+}
+
+// The length of an array; 0 of what is none.
+fn outer_length(alloc: Global, names: &Names, ty: &Ty) -> Result<Index, AllocError>
+    ensures { IfOk result (λ n. expression_of n
+        ≡ spelled_length names.now (outer_of (ty_of ty.now))) }
+{
+    match ty {
+        Ty::Array(_, length) => spelled_length(alloc, length, names),
+        Ty::Number | Ty::Pair(_, _) => Ok(Index::Literal(0)),
+    }
+}
+
+// Row and index in it become the index in all rows.
+fn flatten(alloc: Global, length: &Index, indices: &mut IndexStack) -> Result<(), AllocError>
+    ensures { OnOk result (indices_in indices.new
+        ≡ flattened (expression_of length.now) (indices_in indices.old)) }
+{
+    let Some(row) = indices.pop() else {
+        return Ok(());
+    };
+    match indices.pop() {
+        None => indices.push(row),
+        Some(index) => indices.push(flat_index(alloc, row, length, index)?),
+    }
+}
+
+// An index becomes the row and the index in it.
+fn part(alloc: Global, length: &Index, indices: &mut IndexStack) -> Result<(), AllocError>
+    ensures { OnOk result (indices_in indices.new
+        ≡ parted (expression_of length.now) (indices_in indices.old)) }
+{
+    let Some(index) = indices.pop() else {
+        return Ok(());
+    };
+    let row = Index::binary(
+        alloc,
+        Operation::Quotient,
+        index.copy(alloc)?,
+        length.copy(alloc)?,
+    )?;
+    indices.push(Index::binary(alloc, Operation::Remainder, index, length.copy(alloc)?)?)?;
+    indices.push(row)
+}
+
+fn swap(indices: &mut IndexStack) -> Result<(), AllocError>
+    ensures { OnOk result (indices_in indices.new ≡ swapped (indices_in indices.old)) }
+{
+    let Some(row) = indices.pop() else {
+        return Ok(());
+    };
+    match indices.pop() {
+        None => indices.push(row),
+        Some(index) => {
+            indices.push(row)?;
+            indices.push(index)
+        }
+    }
+}
+
+// The index without so many in front, and not past the last.
+fn clamp(
+    alloc: Global,
+    left: u32,
+    length: &Index,
+    indices: &mut IndexStack,
+) -> Result<(), AllocError>
+    ensures { OnOk result (indices_in indices.new
+        ≡ clamped (Literal left) (expression_of length.now) (indices_in indices.old)) }
+{
+    let Some(index) = indices.pop() else {
+        return Ok(());
+    };
+    let past = Index::binary(alloc, Operation::Greatest, index, Index::Literal(left))?;
+    let past = Index::binary(alloc, Operation::Difference, past, Index::Literal(left))?;
+    let last = length.copy(alloc)?;
+    let last = Index::binary(alloc, Operation::Difference, last, Index::Literal(1))?;
+    indices.push(Index::binary(alloc, Operation::Least, past, last)?)
+}

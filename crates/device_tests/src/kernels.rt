@@ -1,0 +1,214 @@
+//! Kernels of one output and no size, to be run.
+
+ghost use Rattle.std.specs.Prelude.{◌≡◌, IfOk};
+
+use kernel_tree::tree::{Array, Comparison, Expr, IdForm, Kernel, Start, Stmt, Stride};
+use scalar_ops::op::Op;
+use std::alloc::{AllocError, Global};
+
+/// `l0[0u] = 5u; barrier(local); v0 = l0[0u]; barrier(global); o0[0u] = v0;`
+pub fn two_barriers(alloc: Global) -> Result<Kernel, AllocError>
+    ensures inputs { IfOk result (λ kernel. kernel.inputs ≡ 0) }
+    ensures outputs { IfOk result (λ kernel. kernel.outputs ≡ 1) }
+    ensures sizes { IfOk result (λ kernel. kernel.sizes ≡ 0) }
+{
+    let locals = vec![in alloc; 1]?;
+    let body = vec![in alloc;
+        Stmt::Store(Array::Local(0), Expr::Number(0), Expr::Number(5)),
+        Stmt::Barrier {
+            on_local: true,
+            on_global: false
+        },
+        Stmt::Load(0, Array::Local(0), Expr::Number(0)),
+        Stmt::Barrier {
+            on_local: false,
+            on_global: true
+        },
+        Stmt::Store(Array::Output(0), Expr::Number(0), Expr::Variable(0)),
+    ]?;
+    Ok(Kernel {
+        inputs: 0,
+        outputs: 1,
+        sizes: 0,
+        locals,
+        privates: Vec::new(alloc),
+        variables: 1,
+        body,
+    })
+}
+
+/// `p0[1u] = 7u; v0 = p0[1u]; o0[0u] = v0; v0 = p0[0u]; o0[1u] = v0;` with two cells of `p0`
+pub fn private_cells(alloc: Global) -> Result<Kernel, AllocError>
+    ensures inputs { IfOk result (λ kernel. kernel.inputs ≡ 0) }
+    ensures outputs { IfOk result (λ kernel. kernel.outputs ≡ 1) }
+    ensures sizes { IfOk result (λ kernel. kernel.sizes ≡ 0) }
+{
+    let privates = vec![in alloc; 2]?;
+    let body = vec![in alloc;
+        Stmt::Store(Array::Private(0), Expr::Number(1), Expr::Number(7)),
+        Stmt::Load(0, Array::Private(0), Expr::Number(1)),
+        Stmt::Store(Array::Output(0), Expr::Number(0), Expr::Variable(0)),
+        Stmt::Load(0, Array::Private(0), Expr::Number(0)),
+        Stmt::Store(Array::Output(0), Expr::Number(1), Expr::Variable(0)),
+    ]?;
+    Ok(Kernel {
+        inputs: 0,
+        outputs: 1,
+        sizes: 0,
+        locals: Vec::new(alloc),
+        privates,
+        variables: 1,
+        body,
+    })
+}
+
+/// `for (i0 = local id; i0 < 2u; i0 += local size) { barrier(local); o0[i0] = global size; }`
+pub fn barriers_in_a_loop(alloc: Global) -> Result<Kernel, AllocError>
+    ensures inputs { IfOk result (λ kernel. kernel.inputs ≡ 0) }
+    ensures outputs { IfOk result (λ kernel. kernel.outputs ≡ 1) }
+    ensures sizes { IfOk result (λ kernel. kernel.sizes ≡ 0) }
+{
+    let inner = vec![in alloc;
+        Stmt::Barrier {
+            on_local: true,
+            on_global: false
+        },
+        Stmt::Store(
+            Array::Output(0),
+            Expr::LoopVariable(0),
+            Expr::Id(IdForm::GlobalSize)
+        ),
+    ]?;
+    let body = vec![in alloc;
+        Stmt::Loop(Start::LocalId, Expr::Number(2), Stride::LocalSize, inner),
+    ]?;
+    Ok(Kernel {
+        inputs: 0,
+        outputs: 1,
+        sizes: 0,
+        locals: Vec::new(alloc),
+        privates: Vec::new(alloc),
+        variables: 0,
+        body,
+    })
+}
+
+/// `o0[0u] = (0u < 1u ? (1u - 2u) : (1u / 0u));`
+pub fn chosen(alloc: Global) -> Result<Kernel, AllocError>
+    ensures inputs { IfOk result (λ kernel. kernel.inputs ≡ 0) }
+    ensures outputs { IfOk result (λ kernel. kernel.outputs ≡ 1) }
+    ensures sizes { IfOk result (λ kernel. kernel.sizes ≡ 0) }
+{
+    let below = Expr::Binary(
+        Op::Sub,
+        Box::new(alloc, Expr::Number(1))?,
+        Box::new(alloc, Expr::Number(2))?,
+    );
+    let quotient = Expr::Binary(
+        Op::Div,
+        Box::new(alloc, Expr::Number(1))?,
+        Box::new(alloc, Expr::Number(0))?,
+    );
+    let value = Expr::Choose(
+        Comparison::Less,
+        Box::new(alloc, Expr::Number(0))?,
+        Box::new(alloc, Expr::Number(1))?,
+        Box::new(alloc, below)?,
+        Box::new(alloc, quotient)?,
+    );
+    let body = vec![in alloc; Stmt::Store(Array::Output(0), Expr::Number(0), value)]?;
+    Ok(Kernel {
+        inputs: 0,
+        outputs: 1,
+        sizes: 0,
+        locals: Vec::new(alloc),
+        privates: Vec::new(alloc),
+        variables: 0,
+        body,
+    })
+}
+
+/// `o0[0u] = 3u; o0[9u] = (1u / 0u);`
+pub fn quotient_by_zero(alloc: Global) -> Result<Kernel, AllocError>
+    ensures inputs { IfOk result (λ kernel. kernel.inputs ≡ 0) }
+    ensures outputs { IfOk result (λ kernel. kernel.outputs ≡ 1) }
+    ensures sizes { IfOk result (λ kernel. kernel.sizes ≡ 0) }
+{
+    let value = Expr::Binary(
+        Op::Div,
+        Box::new(alloc, Expr::Number(1))?,
+        Box::new(alloc, Expr::Number(0))?,
+    );
+    let body = vec![in alloc;
+        Stmt::Store(Array::Output(0), Expr::Number(0), Expr::Number(3)),
+        Stmt::Store(Array::Output(0), Expr::Number(9), value),
+    ]?;
+    Ok(Kernel {
+        inputs: 0,
+        outputs: 1,
+        sizes: 0,
+        locals: Vec::new(alloc),
+        privates: Vec::new(alloc),
+        variables: 0,
+        body,
+    })
+}
+
+/// `o0[1u] = 1u;`
+pub fn past_the_output(alloc: Global) -> Result<Kernel, AllocError>
+    ensures inputs { IfOk result (λ kernel. kernel.inputs ≡ 0) }
+    ensures outputs { IfOk result (λ kernel. kernel.outputs ≡ 1) }
+    ensures sizes { IfOk result (λ kernel. kernel.sizes ≡ 0) }
+{
+    let body = vec![in alloc; Stmt::Store(Array::Output(0), Expr::Number(1), Expr::Number(1))]?;
+    Ok(Kernel {
+        inputs: 0,
+        outputs: 1,
+        sizes: 0,
+        locals: Vec::new(alloc),
+        privates: Vec::new(alloc),
+        variables: 0,
+        body,
+    })
+}
+
+/// `l0[0u] = 1u; v0 = l0[1u];` with one cell of `l0`
+pub fn past_a_local_array(alloc: Global) -> Result<Kernel, AllocError>
+    ensures inputs { IfOk result (λ kernel. kernel.inputs ≡ 0) }
+    ensures outputs { IfOk result (λ kernel. kernel.outputs ≡ 1) }
+    ensures sizes { IfOk result (λ kernel. kernel.sizes ≡ 0) }
+{
+    let locals = vec![in alloc; 1]?;
+    let body = vec![in alloc;
+        Stmt::Store(Array::Local(0), Expr::Number(0), Expr::Number(1)),
+        Stmt::Load(0, Array::Local(0), Expr::Number(1)),
+    ]?;
+    Ok(Kernel {
+        inputs: 0,
+        outputs: 1,
+        sizes: 0,
+        locals,
+        privates: Vec::new(alloc),
+        variables: 1,
+        body,
+    })
+}
+
+/// `p0[2u] = 1u;` with two cells of `p0`
+pub fn past_a_private_array(alloc: Global) -> Result<Kernel, AllocError>
+    ensures inputs { IfOk result (λ kernel. kernel.inputs ≡ 0) }
+    ensures outputs { IfOk result (λ kernel. kernel.outputs ≡ 1) }
+    ensures sizes { IfOk result (λ kernel. kernel.sizes ≡ 0) }
+{
+    let privates = vec![in alloc; 2]?;
+    let body = vec![in alloc; Stmt::Store(Array::Private(0), Expr::Number(2), Expr::Number(1))]?;
+    Ok(Kernel {
+        inputs: 0,
+        outputs: 1,
+        sizes: 0,
+        locals: Vec::new(alloc),
+        privates,
+        variables: 0,
+        body,
+    })
+}

@@ -1,0 +1,9 @@
+//! Tests of the device: kernels of the whole language, run by one work-item along schedules.
+#![tactic(auto)]
+
+#[cfg(test)]
+mod kernels;
+#[cfg(test)]
+mod runs;
+#[cfg(test)]
+mod schedules;

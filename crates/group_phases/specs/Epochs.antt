@@ -1,0 +1,42 @@
+-- In which of a group's epochs each phase of a body runs, by what stands before each phase; `fence n` closes a body of n phases.
+use Rattle.std.specs.Prelude.{◌≡◌, ℕ, zero, suc, ◌+◌, ◌*◌, ◌%◌, ◌==◌, ◌<◌, ◌≤◌, Bool, true, false, List}
+use Rattle.kernel_tree.specs.Code.{Code, Syncs}
+use Rattle.barrier_placement.specs.declared.touches.Touch.{Touch}
+use Rattle.barrier_placement.specs.Conflicts.{Local, Conflict}
+use Rattle.barrier_placement.specs.Fencing.{Fencing, Open, Fenced, orders}
+use Rattle.barrier_placement.specs.Separates.{bit}
+
+-- the code before what stands there, and the code after it
+abbrev pub IsPast : Fencing → (before after : Code) → Type 0
+IsPast Open before after = before ≡ after
+IsPast (Fenced on_local on_global) before after = before ≡ Syncs on_local on_global after
+
+-- how many of what stands at the first p places are barriers for local memory
+abbrev pub passed : (ℕ → Fencing) → ℕ → ℕ
+passed fence zero = 0
+passed fence (suc p) = bit (orders Local (fence p)) + passed fence p
+
+-- how many there are in a turn
+abbrev pub each_turn : (ℕ → Fencing) → (n : ℕ) → ℕ
+each_turn fence n = passed fence (suc n)
+
+-- the group's epoch for local memory in phase q of its turn t
+abbrev pub epoch_in : (ℕ → Fencing) → (n t q : ℕ) → ℕ
+epoch_in fence n t q = t * each_turn fence n + passed fence (suc q)
+
+-- `runs_in e q` holds in each epoch e in which phase q runs, and in none in which a later phase in conflict with it does; `turns g` is how many turns group g has
+pub record KeepsApart (touches : List Touch) (n : ℕ) (fence : ℕ → Fencing) (turns : ℕ → ℕ) (runs_in : (epoch phase : ℕ) → Bool) : Type 0 where
+  pub runs : (g t q : ℕ) → t < turns g → q < n → runs_in (epoch_in fence n t q) q ≡ true
+  pub apart : (g t w q : ℕ) → t < turns g → w < q → q < n → Conflict touches Local w q → runs_in (epoch_in fence n t q) w ≡ false
+
+-- of many turns
+abbrev pub runs_by_turns : (ℕ → Fencing) → (n : ℕ) → (epoch phase : ℕ) → Bool
+runs_by_turns fence n e q = (e % each_turn fence n) == (passed fence (suc q) % each_turn fence n)
+
+-- of one turn
+abbrev pub runs_once : (ℕ → Fencing) → (epoch phase : ℕ) → Bool
+runs_once fence e q = e == passed fence (suc q)
+
+-- each two phases in conflict on local memory have a barrier for it between them, in a turn
+abbrev pub SeparatesOnce : List Touch → (n : ℕ) → (ℕ → Fencing) → Type 0
+SeparatesOnce touches n fence = (p q : ℕ) → p < q → q < n → Conflict touches Local p q → (r : ℕ) × (p < r) × (r ≤ q) × (orders Local (fence r) ≡ true)

@@ -1,0 +1,15 @@
+pub mod Lists
+pub mod Named
+pub mod Seen
+pub mod Sight
+pub mod Counters
+pub mod Uses
+pub mod Phased
+pub mod Form
+pub mod Copies
+pub mod Outputs
+pub mod Whole
+pub mod Theorem
+pub mod Needed
+pub mod Worked
+pub mod Programs

@@ -1,0 +1,121 @@
+-- Kernels printed for a program's typed term that is a map over work-groups keep what they owe, at every admissible launch.
+use Rattle.std.proofs.Common.{◌≡◌, ℕ, zero, suc, ◌*◌, ◌/◌, ◌%◌, ◌<◌, ◌≤◌, Bool, List, [], ◌∷◌, length, Some, refl, sym, ap, ◌∙◌, subst, pos, ◌≤ℤ◌, arith}
+use Rattle.std.specs.Prelude.{map, slice_get}
+use Rattle.size_arith.specs.declared.names.Name.{Name}
+use Rattle.size_arith.specs.declared.poly.Monomial.{Monomial}
+use Rattle.size_arith.specs.Polynomial.{value_at}
+use Rattle.size_arith.specs.Shown.{ShownAtLeast}
+use Rattle.size_arith.proofs.Soundness.{shown_at_least}
+use Rattle.lift_tree.specs.Tree.{Tree}
+use Rattle.lift_tree.specs.Types.{PlainTy}
+use Rattle.lift_tree.specs.Typing.{Declared, IsDeclared, IsAdmissible}
+use Rattle.lift_tree.specs.Values.{nth}
+use Rattle.lift_tree.specs.Annotations.{Annotation, type_in}
+use Rattle.lift_tree.specs.Meaning.{World, meaning}
+use Rattle.lift_tree.specs.Launches as launches
+use Rattle.lift_tree.specs.Launches.{IsAdmissibleLaunch}
+use Rattle.kernel_tree.specs.Code.{Kernel}
+use Rattle.kernel_tree.specs.Launch.{Launch, Cells, IsWhole}
+use Rattle.kernel_tree.specs.Device.{Cell}
+use Rattle.lift_ir.specs.Types.{Ty, measured, IsFlat}
+use Rattle.lift_ir.specs.Terms.{HasType, no_type}
+use Rattle.lift_ir.specs.Scalars.{Scalars, HasScalars, scalars_in, scalars_of, no_scalars, lists_of}
+use Rattle.lift_ir.specs.AtLaunch.{length_at, ty_at, shape_of}
+use Rattle.lift_ir.specs.Lowering.{Written, Lowered}
+use Rattle.lift_ir.specs.Sources.{Lowers}
+use Rattle.lift_ir.proofs.Lists.{are_lists, lists_long}
+use Rattle.lift_ir.proofs.Lowering.{lowers_is}
+use Rattle.lift_ir.proofs.Meaning.{means}
+use Rattle.lift_ir.proofs.Typed.{has_is, output_flat}
+use Rattle.lift_ir.proofs.Values.{shape_is, same_lists}
+use Rattle.printed_form.specs.Headline.{EveryRunKeeps}
+use Rattle.printed_form.specs.Printer.{input_marks}
+use Rattle.printed_form.specs.Programs.{input_shape, first_buffer, lowered_root, cell_owner, IsLaunchOf, AreBuffersOf}
+use Rattle.printed_form.proofs.Programs.{input_has, input_given}
+use Rattle.group_phases.specs.Outcome.{BarriersServeAll}
+use Rattle.group_terms.specs.Theorem.{IsPrintedOverGroups, IsKeptApart}
+use Rattle.group_terms.specs.Programs.{PrintsGroups, IsGroupProgram, PrintedGroupProgramsKeep, PrintedGroupProgramsServe}
+use Rattle.group_terms.proofs.Theorem.{needed_keep_apart, needed_groups_keep, separated_groups_serve}
+
+shape_at : (tys : List PlainTy) (i : ℕ) (a : PlainTy) → slice_get tys i ≡ Some a → input_shape tys i ≡ shape_of a
+shape_at [] i a e = absurd (cc)
+shape_at (b ∷ tys) zero a e = ap shape_of (same b a e)
+  where
+    same : (b a : PlainTy) → Some b ≡ Some a → b ≡ a
+    same b a e = cc
+shape_at (b ∷ tys) (suc i) a e = shape_at tys i a e
+
+whole : (l : Launch) (is_task : Bool) (names : List Name) (bases : List ℕ) → IsAdmissibleLaunch names is_task bases l.global l.local → IsWhole l
+whole l is_task names bases h = let a = h.local_least in let b = h.divides in record { positive = omega arith; divides = parts l.global l.local b (omega arith) }
+  where
+    parts : (g n : ℕ) → g % n ≡ 0 → 0 < n → g ≡ g / n * n
+    parts g n e h = omega arith
+
+shown : (d : Declared) (is_task : Bool) (bases : List ℕ) (l : Launch) → IsDeclared d → IsLaunchOf d is_task bases l → (j : ℕ) (p : List Monomial) → ShownAtLeast j d.names p → pos j ≤ℤ value_at bases p
+shown d is_task bases l declared launch j p s = shown_at_least d.names bases declared.names launch.admissible.sizes j p s
+
+module _ (d : Declared) (is_task : Bool) (w : World) (t : Tree) (a : Annotation) (l : Launch) (k : Kernel) (c : Cells) (program : IsGroupProgram d w.bases t a) (ok : IsAdmissible d w) (launch : IsLaunchOf d is_task w.bases l) (buffers : AreBuffersOf d w t a c) (printed : PrintsGroups d w.bases t a l k) where
+  abbrev num : List Monomial → ℕ
+  num = length_at w.bases
+
+  abbrev result : Ty
+  result = ty_at w.bases (type_in a)
+
+  abbrev src : ℕ → Ty
+  src v = measured (length_at w.bases) (input_shape d.inputs v)
+
+  abbrev sources : ℕ → Scalars
+  sources v = scalars_in (src v) (nth w.inputs v)
+
+  abbrev low : Lowered
+  low = lowered_root t a
+
+  source_is : (i : ℕ) (b : PlainTy) → slice_get d.inputs i ≡ Some b → ty_at w.bases b ≡ src i
+  source_is i b e = sym (ap (measured (length_at w.bases)) (shape_at d.inputs i b e) ∙ shape_is w.bases b)
+
+  lowers : Lowers num w 0 (length d.inputs) t low
+  lowers = lowers_is d w ok program.lowerable.declared.few t Written [] a 0 refl program.lowerable.nodes program.lowerable.lowerable
+
+  has : HasType num src no_type low result
+  has = has_is d w.bases (shown d is_task w.bases l program.lowerable.declared launch) program.lowerable.declared.inputs src source_is t Written [] a tt program.lowerable.nodes program.lowerable.lowerable
+
+  flat_type : IsFlat result
+  flat_type = output_flat w.bases (type_in a) program.lowerable.output
+
+  given : (v : ℕ) → v < length d.inputs → HasScalars (src v) (nth w.inputs v) (sources v)
+  given = input_has d w program.lowerable.declared ok c buffers.inputs
+
+  valued : HasScalars result (meaning w [] t) (scalars_of num sources no_scalars low)
+  valued = means num w src sources (length d.inputs) given low 0 t no_type [] no_scalars result lowers has (λ i lt. absurd (omega arith))
+
+  is_printed : IsPrintedOverGroups l num src (input_marks num (first_buffer d.inputs) (input_shape d.inputs)) sources printed.fence low result k c
+  is_printed = record {
+    whole = whole l is_task d.names w.bases launch.admissible;
+    some = let z = launch.admissible.global_least in omega arith;
+    few = let z = launch.admissible.global_most in omega arith;
+    stands = program.stands;
+    typed = has;
+    flat_type = flat_type;
+    code = printed.code;
+    variables = printed.variables;
+    locals = printed.locals;
+    privates = printed.privates;
+    outputs = buffers.outputs ∙ ap (map length) (same_lists w.bases (type_in a) (meaning w [] t)) ∙ lists_long result (meaning w [] t) (scalars_of num sources no_scalars low) flat_type valued;
+    inputs = input_given d w program.lowerable.declared ok c buffers.inputs;
+  }
+
+  keeps : EveryRunKeeps k l c (cell_owner w.bases l t a) (launches.lists_of (type_in a) (meaning w [] t))
+  keeps =
+      subst (EveryRunKeeps k l c (cell_owner w.bases l t a)) (sym (same_lists w.bases (type_in a) (meaning w [] t)))
+      (needed_groups_keep (List Monomial) num l w t (length d.inputs) src (input_marks num (first_buffer d.inputs) (input_shape d.inputs)) sources printed.fence low result k c lowers given is_printed printed.needed)
+
+  serves : (filler : Cell → ℕ) × BarriersServeAll k l c filler
+  serves =
+      separated_groups_serve (List Monomial) num l src (input_marks num (first_buffer d.inputs) (input_shape d.inputs)) sources printed.fence low result k c (lists_of result (meaning w [] t)) is_printed
+      (needed_keep_apart (List Monomial) low printed.fence program.stands printed.needed) (lists_long result (meaning w [] t) (scalars_of num sources no_scalars low) flat_type valued ∙ sym is_printed.outputs) (are_lists result (meaning w [] t) (scalars_of num sources no_scalars low) flat_type valued)
+
+pub group_programs_keep : PrintedGroupProgramsKeep
+group_programs_keep d is_task w t a l k c program ok launch buffers printed = keeps d is_task w t a l k c program ok launch buffers printed
+
+pub group_programs_serve : PrintedGroupProgramsServe
+group_programs_serve d is_task w t a l k c program ok launch buffers printed = serves d is_task w t a l k c program ok launch buffers printed

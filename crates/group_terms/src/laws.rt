@@ -1,0 +1,35 @@
+// Laws of maps over work-groups, each carried by a function that does nothing.
+
+ghost use Rattle.size_arith.specs.declared.poly.Monomial.{Monomial};
+ghost use Rattle.std.specs.Prelude.{List};
+ghost use Rattle.group_terms.specs.Worked.{AddedTilesKeep, SummedTilesKeep, SixKeep, UnnamedCopiesAreUnused};
+ghost use Rattle.group_terms.specs.Programs.{PrintedGroupProgramsKeep, PrintedGroupProgramsServe};
+ghost use Rattle.group_terms.specs.Theorem.{NeededKeepApart, NeededGroupsKeep, SeparatedGroupsKeep, SeparatedGroupsServe, UsesTellBarriers, AlignedNeedNone};
+
+/// At every launch, on all inputs, every run of a kernel that is printed for a map over work-groups with the needed barriers keeps what it owes: the source value's lists, each cell by its owner. With any barriers that keep conflicting phases apart it leaves the term's scalars, and its barriers serve.
+pub fn printed_groups_keep()
+    ensures needed { NeededGroupsKeep (List Monomial) }
+    ensures separated { SeparatedGroupsKeep (List Monomial) }
+    ensures serve { SeparatedGroupsServe (List Monomial) }
+    ensures apart { NeededKeepApart (List Monomial) }
+{}
+
+/// The needed barriers hang on which uses there are alone; where all are aligned none is needed.
+pub fn uses_tell_barriers()
+    ensures told { UsesTellBarriers }
+    ensures aligned { AlignedNeedNone }
+{}
+
+/// At every admissible launch, on all inputs, every run of a kernel that is printed for a program's typed term, a map over work-groups, with the needed barriers keeps what the kernel owes: the source value's lists, each cell by its owner. And its barriers serve.
+pub fn printed_group_programs_keep()
+    ensures keep { PrintedGroupProgramsKeep }
+    ensures serve { PrintedGroupProgramsServe }
+{}
+
+/// Worked terms by way of local memory, at every launch: where each item reads what it copied, no barrier is needed; where it reads its neighbours', one is needed between the phases and one that closes the body.
+pub fn worked_groups_keep()
+    ensures added { AddedTilesKeep }
+    ensures summed { SummedTilesKeep }
+    ensures six { SixKeep }
+    ensures unnamed { UnnamedCopiesAreUnused }
+{}

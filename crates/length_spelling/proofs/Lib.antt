@@ -1,0 +1,4 @@
+pub mod Lengths
+pub mod Bounds
+pub mod Values
+pub mod Words

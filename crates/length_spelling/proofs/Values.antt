@@ -1,0 +1,101 @@
+-- A spelled index expression has its value on words.
+use Rattle.std.proofs.Common.{◌≡◌, ◌≢◌, ◌∙◌, ℕ, zero, suc, ℤ, pos, ◌<◌, ◌^◌, Bool, true, false, Some, None, List, [], ◌∷◌, refl, sym, ap, subst, ⊎_elim, arith}
+use Rattle.std.specs.Prelude.{unsigned_abs, ◌==◌, ◌&&◌, if◌then◌else◌}
+use Rattle.std.proofs.Math.Nat.{mod-eq_of_lt}
+use Rattle.std.proofs.lemmas.Bool.{cases_Bool, eqb-true}
+use Rattle.std.proofs.lemmas.Int.{ints}
+use Rattle.scalar_ops.specs.Operators.{apply_op}
+use Rattle.size_arith.specs.declared.names.Name.{Name}
+use Rattle.size_arith.specs.declared.poly.Monomial.{Monomial}
+use Rattle.size_arith.specs.Ranges.{AreNames, Admissible, sizes_at}
+use Rattle.size_arith.specs.Polynomial.{value_at}
+use Rattle.index_expr.specs.declared.operation.Operation.{Operation}
+use Rattle.index_expr.specs.declared.operation.Operation.TheVariants.{Sum, Difference, Product, Quotient, Remainder, Least, Greatest}
+use Rattle.index_expr.specs.Expression as index
+use Rattle.index_expr.specs.Expression.{Expression}
+use Rattle.index_expr.specs.Values.{exact, wrapped, operate_words, Divides, IsWord, IsRangedAt, HasNoZeroDivisorAt, HasNoZeroDivisorInWordsAt}
+use Rattle.index_expr.specs.Lengths.{length_expression}
+use Rattle.kernel_tree.specs.Formula.{Ids, operate, with_both, value}
+use Rattle.kernel_tree.specs.Grammar.{is_constant}
+use Rattle.length_spelling.specs.Formulas.{in_words, index_formula, operator_of}
+use Rattle.length_spelling.specs.Laws.{AreWords, IndicesAreSpelled, LengthsAreSpelled}
+use Rattle.length_spelling.proofs.Bounds.{lengths_are_constant}
+
+nonzero : (n : ℕ) → n ≢ 0 → (n == 0) ≡ false
+nonzero n h = ⊎_elim (λ t. absurd (h (eqb-true n 0 t))) (λ f. f) (cases_Bool (n == 0))
+
+operates : (o : Operation) (x y : ℕ) → (Divides o → y ≢ 0) → operate (operator_of o) x y ≡ Some (operate_words o x y)
+operates Sum x y h = refl
+operates Difference x y h = refl
+operates Product x y h = refl
+operates Quotient x y h = ap (λ (b : Bool). if b then None else Some (apply_op (operator_of Quotient) x y)) (nonzero y (h tt))
+operates Remainder x y h = ap (λ (b : Bool). if b then None else Some (apply_op (operator_of Remainder) x y)) (nonzero y (h tt))
+operates Least x y h = refl
+operates Greatest x y h = refl
+
+module _ (ids : Ids) (loops vars : List ℕ) (sizes_fit : AreWords ids.sizes) (loops_fit : AreWords loops) where
+  spelled : (e : Expression) → HasNoZeroDivisorInWordsAt ids.sizes loops e → value ids loops vars (index_formula (in_words e)) ≡ Some (wrapped ids.sizes loops e)
+  spelled (index.Variable k l g) h = ap Some (sym (mod-eq_of_lt (loops_fit k)))
+  spelled (index.Literal n) h = refl
+  spelled (index.Size k) h = ap Some (sym (mod-eq_of_lt (sizes_fit k)))
+  spelled (index.Binary o a b) h =
+      ap (λ z. with_both (operate (operator_of o)) z (value ids loops vars (index_formula (in_words b)))) (spelled a h.1)
+      ∙ ap (λ z. with_both (operate (operator_of o)) (Some (wrapped ids.sizes loops a)) z) (spelled b h.2)
+      ∙ operates o (wrapped ids.sizes loops a) (wrapped ids.sizes loops b) h.0
+
+pub indices_are_spelled : IndicesAreSpelled
+indices_are_spelled ids loops vars e sizes_fit loops_fit h = spelled ids loops vars sizes_fit loops_fit e h
+
+-- ---- lengths
+sizes_fit : (names : List Name) (bases : List ℕ) → AreNames names → Admissible names bases → AreWords (sizes_at names bases)
+sizes_fit [] bases are ok k = omega arith
+sizes_fit (n ∷ names) [] are ok k = absurd ok
+sizes_fit (n ∷ names) (y ∷ bases) are ok zero = let l = are.0.limit in let m = ok.0.1 in omega arith
+sizes_fit (n ∷ names) (y ∷ bases) are ok (suc k) = sizes_fit names bases are.1 ok.1 k
+
+none_fit : AreWords []
+none_fit k = omega arith
+
+is_word : (z : ℤ) (n : ℕ) → z ≡ pos n → n < 2 ^ 32 → IsWord z
+is_word z n e lt = (omega (arith, ints), omega (arith, ints))
+
+first_of : (a b : Bool) → (a && b) ≡ true → a ≡ true
+first_of true b h = refl
+first_of false b h = absurd (cc)
+
+second_of : (a b : Bool) → (a && b) ≡ true → b ≡ true
+second_of true b h = h
+second_of false b h = absurd (cc)
+
+-- what has no variables has its value in whatever loops
+module _ (ids : Ids) (loops vars : List ℕ) where
+  constant_value : (e : Expression) → is_constant (index_formula (in_words e)) ≡ true → value ids loops vars (index_formula (in_words e)) ≡ value ids [] [] (index_formula (in_words e))
+  constant_value (index.Variable k l g) h = absurd (cc)
+  constant_value (index.Literal n) h = refl
+  constant_value (index.Size k) h = refl
+  constant_value (index.Binary o a b) h =
+      ap (λ z. with_both (operate (operator_of o)) z (value ids loops vars (index_formula (in_words b)))) (constant_value a (first_of (is_constant (index_formula (in_words a))) (is_constant (index_formula (in_words b))) h))
+      ∙ ap (λ z. with_both (operate (operator_of o)) (value ids [] [] (index_formula (in_words a))) z) (constant_value b (second_of (is_constant (index_formula (in_words a))) (is_constant (index_formula (in_words b))) h))
+
+-- what is known of lengths as index expressions
+pub record Exact : Type 0 where
+  pub value : (names : List Name) (bases variables : List ℕ) (p : List Monomial) → AreNames names → Admissible names bases → exact (sizes_at names bases) variables (length_expression names p) ≡ value_at bases p
+  pub ranged : (names : List Name) (bases variables : List ℕ) (p : List Monomial) → AreNames names → Admissible names bases → IsWord (value_at bases p) → IsRangedAt (sizes_at names bases) variables (length_expression names p)
+  pub divisors : (names : List Name) (bases variables : List ℕ) (p : List Monomial) → AreNames names → HasNoZeroDivisorAt (sizes_at names bases) variables (length_expression names p)
+  pub words : (sizes variables : List ℕ) (e : Expression) → IsRangedAt sizes variables e → pos (wrapped sizes variables e) ≡ exact sizes variables e
+  pub divisors_in_words : (sizes variables : List ℕ) (e : Expression) → IsRangedAt sizes variables e → HasNoZeroDivisorAt sizes variables e → HasNoZeroDivisorInWordsAt sizes variables e
+
+same_number : (m n : ℕ) → pos m ≡ pos n → m ≡ n
+same_number m n e = ap unsigned_abs e
+
+pub lengths_are_spelled : Exact → LengthsAreSpelled
+lengths_are_spelled known names bases ids loops vars p n are ok sizes is lt =
+    let sized = sizes_at names bases in
+    let e = length_expression names p in
+    let ranged = known.ranged names bases [] p are ok (is_word (value_at bases p) n is lt) in
+    let at = known.words sized [] e ranged ∙ known.value names bases [] p are ok ∙ is in
+    let divisors = known.divisors_in_words sized [] e ranged (known.divisors names bases [] p are) in
+    constant_value ids loops vars e (lengths_are_constant names p)
+    ∙ spelled ids [] [] (subst AreWords (sym sizes) (sizes_fit names bases are ok)) none_fit e (subst (λ s. HasNoZeroDivisorInWordsAt s [] e) (sym sizes) divisors)
+    ∙ ap (λ s. Some (wrapped s [] e)) sizes
+    ∙ ap Some (same_number (wrapped sized [] e) n at)

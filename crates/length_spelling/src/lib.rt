@@ -1,0 +1,7 @@
+//! How index expressions and lengths are spelled in a kernel.
+#![tactic(auto)]
+
+pub mod laws;
+pub mod spelling;
+
+pub use spelling::{operator_of, spell_index, spell_length, spelled_length};

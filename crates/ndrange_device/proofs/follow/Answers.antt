@@ -1,0 +1,55 @@
+use Rattle.std.proofs.Common.{◌≡◌, ◌+◌, ◌≤◌, [], sym, subst, ◌∙◌, arith}
+use Rattle.kernel_tree.specs.Bound.{bound}
+use Rattle.kernel_tree.specs.Kernels.{kernel_of}
+use Rattle.kernel_tree.specs.Schedule.{schedule_of}
+use Rattle.ndrange_device.proofs.Running.{RunsAlong, runs_none, few_events, runs_on, refuses, ends_under}
+use Rattle.ndrange_device.proofs.follow.Goals as goal
+
+pub loop-enabled-init : goal.loop-enabled-init
+loop-enabled-init g c =
+    let k = kernel_of c.args.kernel in
+    let l = c.args.launch in
+    let b = c.args.cells in
+    let stands = c.in_ok-machine.ensures in
+    runs_none (schedule_of c.args.schedule.now) k l b c.in_ok-machine.machine c.start-progress.result c.new-steps.result c.enabled-enabled.result stands c.start-progress.ensures c.new-steps.ensures (c.enabled-enabled.ensures k l b [] stands)
+
+pub loop-enabled-preserved : goal.loop-enabled-preserved
+loop-enabled-preserved g c =
+    let k = kernel_of c.args.kernel in
+    let l = c.args.launch in
+    let b = c.args.cells in
+    let schedule = schedule_of c.args.schedule.now in
+    let h = c.loop-enabled.invariant in
+    let more = c.enabled-enabled-in-loop-enabled.result in
+    subst (λ s. RunsAlong schedule k l b c.step-seen.new.self c.count.new.self s more) (sym c.tick.ensures)
+    (runs_on schedule k l b c.loop-enabled.machine c.loop-enabled.progress c.loop-enabled.steps c.loop-enabled.enabled c.number.result h c.loop-enabled-test.true (c.number.ensures h.events h.come) c.nth_enabled-event.result
+    (λ es all stands are lt. c.nth_enabled-event.ensures k l b es all stands are lt)
+    c.step-seen.new.self c.step-seen.result c.step-seen.ensures.takes c.step-seen.ensures.release c.count.new.self c.count.ensures more
+    (sym c.refusal.ensures ∙ c.in_default.is)
+    (λ es stands. c.enabled-enabled-in-loop-enabled.ensures k l b es stands))
+
+pub loop-enabled-smaller : goal.loop-enabled-smaller
+loop-enabled-smaller g c =
+    let few : c.loop-enabled.steps ≤ bound (kernel_of c.args.kernel) c.args.launch =
+    few_events (schedule_of c.args.schedule.now) (kernel_of c.args.kernel) c.args.launch c.args.cells c.loop-enabled.machine c.loop-enabled.progress c.loop-enabled.steps c.loop-enabled.enabled c.loop-enabled.invariant in
+    let one : c.tick.new.self ≡ c.loop-enabled.steps + 1 = c.tick.ensures in
+    omega arith
+
+pub returns-in-Some-clause-refusal : goal.returns-in-Some-clause-refusal
+returns-in-Some-clause-refusal g c =
+    let k = kernel_of c.args.kernel in
+    let l = c.args.launch in
+    let b = c.args.cells in
+    let h = c.loop-enabled.invariant in
+    refuses (schedule_of c.args.schedule.now) k l b c.loop-enabled.machine c.loop-enabled.progress c.loop-enabled.steps c.loop-enabled.enabled c.number.result h c.loop-enabled-test.true (c.number.ensures h.events h.come) c.nth_enabled-event.result
+    (λ es all stands are lt. c.nth_enabled-event.ensures k l b es all stands are lt)
+    c.step-seen.new.self c.step-seen.result c.step-seen.ensures.takes c.step-seen.ensures.release c.count.new.self c.count.ensures c.in-Some.no
+    (sym c.refusal.ensures ∙ c.in-Some.is)
+
+pub returns-clause-outcome : goal.returns-clause-outcome
+returns-clause-outcome g c =
+    let k = kernel_of c.args.kernel in
+    let l = c.args.launch in
+    let b = c.args.cells in
+    ends_under (schedule_of c.args.schedule.now) k l b c.loop-enabled.machine c.loop-enabled.progress c.loop-enabled.steps c.loop-enabled.enabled _ c.loop-enabled.invariant c.loop-enabled-test.false
+    (λ es stands. c.outputs.ensures k l b es stands)

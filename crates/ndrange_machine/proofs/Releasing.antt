@@ -1,0 +1,137 @@
+-- The machine after the release of a group.
+use Rattle.std.proofs.Common.{◌≡◌, ℕ, ◌+◌, ◌*◌, ◌/◌, ◌^◌, ◌<◌, ◌≤◌, suc, List, length, Option, Some, None, Bool, true, false, refl, sym, ap, ◌∙◌, subst, ⊎_elim, arith}
+use Rattle.std.specs.Prelude.{map, is_some, slice_get, option_map, nat_le, nat_lt, ◌&&◌, if◌then◌else◌}
+use Rattle.std.proofs.lemmas.Bool.{cases_lt, lt-ltb, le-leb, ltb-true, leb-true, cases_Bool}
+use Rattle.std.proofs.lemmas.Bool.Decides.{eqb_tells}
+use Rattle.std.proofs.Math.Nat.{div-lt_iff_lt-mul}
+use Rattle.kernel_tree.specs.declared.events.Event.{Event}
+use Rattle.kernel_tree.specs.declared.events.Event.TheVariants.{Release}
+use Rattle.kernel_tree.specs.Code.{Kernel}
+use Rattle.kernel_tree.specs.Launch.{Launch, Cells, IsWhole, group_count, group_of, first_item, ids_of}
+use Rattle.kernel_tree.specs.Item.{Item, Wants}
+use Rattle.kernel_tree.specs.Device.{Memory, State, device_of, start_state, wants, Enabled, taken, after}
+use Rattle.kernel_tree.specs.Faults.{accesses_of, failure_of, RacesAfter, IsFaultless}
+use Rattle.ndrange_machine.specs.declared.machine.Machine.{Machine}
+use Rattle.ndrange_machine.specs.declared.want.Want.{Want}
+use Rattle.ndrange_machine.specs.declared.want.Want.TheVariants as want
+use Rattle.ndrange_machine.specs.declared.item.Change.TheVariants.{Keeps}
+use Rattle.ndrange_machine.specs.ItemView.{ItemView}
+use Rattle.ndrange_machine.specs.Changes.{changed}
+use Rattle.ndrange_machine.specs.Lines.{Line}
+use Rattle.ndrange_machine.specs.Memory.{held}
+use Rattle.ndrange_machine.specs.Wants.{text_of, wanted}
+use Rattle.ndrange_machine.specs.Stands.{HoldsItem, Holds, StandsFor, state_after}
+use Rattle.ndrange_machine.specs.Takes.{Took, Passes, past, past_want}
+use Rattle.ndrange_machine.proofs.Next.{IsNext, Stands}
+use Rattle.ndrange_machine.proofs.Standing.{IsWaiting, here, stand_waits, one_there, alone_there, only_group}
+use Rattle.ndrange_machine.proofs.Stepping.{stands_on, no_divergence_here}
+
+-- past a barrier, if it stands there
+passes_by : (lines : List Line) (l : Launch) (j : ℕ) (it : ItemView) (v : Want) (w : Wants) (m : Memory) (y : Item) → IsNext lines it v w → IsWaiting w → Stands lines (past_want it v) (taken l j w m y)
+passes_by lines l j it want.Ends w m y h waits = absurd (subst IsWaiting h.0 waits)
+passes_by lines l j it (want.Waits p q to) w m y h waits = subst (λ z. Stands lines (changed it Keeps to) (taken l j z m y)) (sym h.1) h.2
+passes_by lines l j it (want.Fails kind) w m y h waits = absurd (subst IsWaiting h.0 waits)
+passes_by lines l j it (want.Changes c to) w m y h waits = absurd (subst IsWaiting h.1 waits)
+passes_by lines l j it (want.Reads v a i to) w m y h waits = absurd (subst IsWaiting h.1 waits)
+passes_by lines l j it (want.Writes a i x to) w m y h waits = absurd (subst IsWaiting h.1 waits)
+
+-- the items of a group, by their numbers
+module _ (l : Launch) (whole : IsWhole l) (g : ℕ) where
+  in_range : (i : ℕ) → group_of l i ≡ g → (nat_le (g * l.local) i && nat_lt i (g * l.local + l.local)) ≡ true
+  in_range i e =
+      let low : g * l.local ≤ i = ⊎_elim (λ lt. let less = (div-lt_iff_lt-mul whole.positive).1 lt in absurd (omega arith)) (λ le. le) (cases_lt i (g * l.local)) in
+      let top : i < suc g * l.local = (div-lt_iff_lt-mul whole.positive).0 (let q : i / l.local ≡ g = e in omega arith) in
+      let high : i < g * l.local + l.local = omega arith in
+      ap (λ b. b && nat_lt i (g * l.local + l.local)) (le-leb (g * l.local) i low) ∙ lt-ltb i (g * l.local + l.local) high
+
+  in_group : (i : ℕ) → (nat_le (g * l.local) i && nat_lt i (g * l.local + l.local)) ≡ true → group_of l i ≡ g
+  in_group i e =
+      let b = both_true (nat_le (g * l.local) i) (nat_lt i (g * l.local + l.local)) e in
+      let low : g * l.local ≤ i = leb-true (g * l.local) i b.0 in
+      let high : i < g * l.local + l.local = ltb-true i (g * l.local + l.local) b.1 in
+      let top : i < suc g * l.local = omega arith in
+      let below : i / l.local < suc g = (div-lt_iff_lt-mul whole.positive).1 top in
+      ⊎_elim (λ lt. let less : i < g * l.local = (div-lt_iff_lt-mul whole.positive).0 lt in absurd (omega arith)) (λ le. omega arith) (cases_lt (i / l.local) g)
+    where
+      both_true : (p q : Bool) → (p && q) ≡ true → (p ≡ true) × (q ≡ true)
+      both_true true q h = (refl, h)
+      both_true false q h = cc
+
+module _ (k : Kernel) (l : Launch) (c : Cells) (m : Machine) (es : List Event) (st : StandsFor k l c m es) (clean : IsFaultless (device_of k l c) (start_state k c) es) (g : ℕ) (en : Enabled (device_of k l c) (state_after k l c es) (Release g)) (n : Machine) (ps : Passes m n (g * m.launch.local) (g * m.launch.local + m.launch.local)) where
+  abbrev now : State
+  now = state_after k l c es
+
+  abbrev later : State
+  later = after (device_of k l c) (state_after k l c es) (Release g)
+
+  moved_later : (i : ℕ) → group_of l i ≡ g → later.items i ≡ taken l i (wants (device_of k l c) now i) now.memory (now.items i)
+  unfolding after
+  moved_later i e = ⊎_elim (λ q. ap (λ t. if t then taken l i (wants (device_of k l c) now i) now.memory (now.items i) else now.items i) q.0) (λ q. absurd (q.1 e)) (eqb_tells (group_of l i) g)
+
+  kept_later : (i : ℕ) → (group_of l i ≡ g → ⊥) → later.items i ≡ now.items i
+  unfolding after
+  kept_later i ne = ⊎_elim (λ q. absurd (ne q.1)) (λ q. ap (λ t. if t then taken l i (wants (device_of k l c) now i) now.memory (now.items i) else now.items i) q.0) (eqb_tells (group_of l i) g)
+
+  memory_later : later.memory ≡ now.memory
+  unfolding after
+  memory_later = refl
+
+  new_items : (i : ℕ) → slice_get n.items.items i ≡ (if nat_le (g * l.local) i && nat_lt i (g * l.local + l.local) then option_map (past m i) (slice_get m.items.items i) else slice_get m.items.items i)
+  new_items i = ps.items i ∙ ap (λ (z : Launch). if nat_le (g * z.local) i && nat_lt i (g * z.local + z.local) then option_map (past m i) (slice_get m.items.items i) else slice_get m.items.items i) st.holds.launch
+
+  stands_later : (i : ℕ) (x : ItemView) → slice_get n.items.items i ≡ Some x → Stands (map text_of m.lines.items) x (later.items i)
+  stands_later i x e = ⊎_elim (λ q. by_moved (in_group l st.holds.whole g i q) q) (λ q. by_kept (λ r. let both : true ≡ false = sym (in_range l st.holds.whole g i r) ∙ q in cc) q) (cases_Bool (nat_le (g * l.local) i && nat_lt i (g * l.local + l.local)))
+    where
+      by_moved : group_of l i ≡ g → (nat_le (g * l.local) i && nat_lt i (g * l.local + l.local)) ≡ true → Stands (map text_of m.lines.items) x (later.items i)
+      by_moved r t = of_old (slice_get m.items.items i) refl (sym (new_items i ∙ ap (λ z. if z then option_map (past m i) (slice_get m.items.items i) else slice_get m.items.items i) t) ∙ e)
+        where
+          of_old : (o : Option ItemView) → slice_get m.items.items i ≡ o → option_map (past m i) (slice_get m.items.items i) ≡ Some x → Stands (map text_of m.lines.items) x (later.items i)
+          of_old None q h = let both : None ≡ Some x = sym (ap (option_map (past m i)) q) ∙ h in cc
+          of_old (Some it) q h =
+              let both : Some (past m i it) ≡ Some x = sym (ap (option_map (past m i)) q) ∙ h in
+              let is : past m i it ≡ x = cc in
+              let vars = st.vars clean.no_failure i it q in
+              let waits = stand_waits (wants (device_of k l c) now (first_item l g)) (wants (device_of k l c) now i) (en.1 i r) in
+              let s = passes_by (map text_of m.lines.items) l i it (wanted m.lines.items (ids_of m.launch i) it) (wants (device_of k l c) now i) now.memory (now.items i) (here k l c m now st.holds i it q vars) waits in
+              subst (λ z. Stands (map text_of m.lines.items) z (later.items i)) is (subst (Stands (map text_of m.lines.items) (past m i it)) (sym (moved_later i r)) s)
+
+      by_kept : (group_of l i ≡ g → ⊥) → (nat_le (g * l.local) i && nat_lt i (g * l.local + l.local)) ≡ false → Stands (map text_of m.lines.items) x (later.items i)
+      by_kept r t =
+          let old : slice_get m.items.items i ≡ Some x = sym (new_items i ∙ ap (λ z. if z then option_map (past m i) (slice_get m.items.items i) else slice_get m.items.items i) t) ∙ e in
+          let s : Stands (map text_of m.lines.items) x (now.items i) = record { holds = subst (λ z. HoldsItem z x (now.items i)) (sym st.holds.text) (st.holds.items i x old); vars = st.vars clean.no_failure i x old } in
+          subst (Stands (map text_of m.lines.items) x) (sym (kept_later i r)) s
+
+  holds_later : Holds k l c n later
+  holds_later = record {
+    text = ap (map text_of) ps.lines ∙ st.holds.text;
+    launch = ps.launch ∙ st.holds.launch;
+    whole = st.holds.whole;
+    count = ps.count ∙ st.holds.count;
+    items = λ i x e. subst (λ z. HoldsItem z x (later.items i)) st.holds.text (stands_later i x e).holds;
+    there = λ a h i lt. ap (λ z. is_some (held z (record { array = a; home = h; index = i }))) ps.memory ∙ st.holds.there a h i lt;
+    cells = λ d x q. ap (λ f. f d) memory_later ∙ st.holds.cells d x (ap (λ z. held z d) (sym ps.memory) ∙ q);
+    outs = ap (λ z. length z.outs.items) ps.memory ∙ st.holds.outs;
+  }
+
+  no_failure : failure_of (device_of k l c) now (Release g) ≡ None
+  unfolding failure_of
+  no_failure = refl
+
+  no_race : RacesAfter (device_of k l c) (start_state k c) es (Release g) → ⊥
+  unfolding accesses_of
+  no_race h = h.3
+
+  pub took_release : Took k l c es (Release g) n (record { event = Release g; access = None; fault = None })
+  took_release = record {
+    stands = stands_on k l c m es st clean (Release g) en n holds_later (λ _ i x e. (stands_later i x e).vars);
+    tells = (None, (no_failure, no_race, no_divergence_here k l c m es st clean (Release g) en), refl);
+  }
+
+-- a group of one lies in the words
+pub small_group : (k : Kernel) (l : Launch) (c : Cells) (m : Machine) (s : State) → Holds k l c m s → (g : ℕ) → g < group_count l → g * m.launch.local + m.launch.local < 2 ^ 32
+small_group k l c m s h g lt =
+    let one = one_there k l c m s h in
+    let alone = alone_there k l c m s h in
+    let g_is : g ≡ 0 = only_group (device_of k l c) s one alone g lt in
+    let local_is : m.launch.local ≡ 1 = ap (λ z. z.local) h.launch ∙ alone in
+    subst (λ n. n * m.launch.local + m.launch.local < 2 ^ 32) (sym g_is) (omega arith)

@@ -1,0 +1,68 @@
+-- What a machine is and tells after an event.
+use Rattle.std.specs.Prelude.{◌≡◌, ℕ, Bool, true, false, Option, List, [], ◌∷◌, ◌++◌, length, Some, option_map, slice_get, nat_le, nat_lt, ◌==◌, ◌&&◌, if◌then◌else◌}
+use Rattle.kernel_tree.specs.declared.events.Event.{Event}
+use Rattle.kernel_tree.specs.declared.events.Seen.{Seen}
+use Rattle.kernel_tree.specs.Code.{Kernel}
+use Rattle.kernel_tree.specs.Launch.{Launch, Cells, ids_of}
+use Rattle.kernel_tree.specs.Device.{device_of, start_state, Enabled}
+use Rattle.kernel_tree.specs.Faults.{IsFaultless}
+use Rattle.kernel_tree.specs.Seen.{IsSeen}
+use Rattle.ndrange_machine.specs.declared.machine.Machine.{Machine}
+use Rattle.ndrange_machine.specs.declared.item.Change.{Change}
+use Rattle.ndrange_machine.specs.declared.item.Change.TheVariants.{Keeps}
+use Rattle.ndrange_machine.specs.declared.line.Line.{Line}
+use Rattle.ndrange_machine.specs.declared.line.Line.TheVariants.{Barrier}
+use Rattle.ndrange_machine.specs.declared.want.Want.{Want}
+use Rattle.ndrange_machine.specs.declared.want.Want.TheVariants.{Waits}
+use Rattle.ndrange_machine.specs.Changes.{changed}
+use Rattle.ndrange_machine.specs.ItemView.{ItemView}
+use Rattle.ndrange_machine.specs.Stands.{StandsFor, state_after}
+use Rattle.ndrange_machine.specs.Wants.{wanted}
+
+-- the machine stands for the run with the event added, and this is what is seen of the event
+pub record Took (k : Kernel) (l : Launch) (c : Cells) (es : List Event) (e : Event) (new : Machine) (seen : Seen) : Type 0 where
+  pub stands : StandsFor k l c new (es ++ e ∷ [])
+  pub tells : IsSeen (device_of k l c) (start_state k c) es e seen
+
+-- of every run for which it stood, where it has no fault and the event is enabled
+abbrev pub Takes : (old : Machine) → Event → (new : Machine) → Seen → Type 0
+Takes old e new seen = (k : Kernel) (l : Launch) (c : Cells) (es : List Event)
+    → StandsFor k l c old es
+    → IsFaultless (device_of k l c) (start_state k c) es
+    → Enabled (device_of k l c) (state_after k l c es) e
+    → Took k l c es e new seen
+
+-- this is what the j-th work-item wants
+abbrev pub IsWanted : Machine → (j : ℕ) → Want → Type 0
+IsWanted m j w = (it : ItemView) → slice_get m.items.items j ≡ Some it → w ≡ wanted m.lines.items (ids_of m.launch j) it
+
+abbrev pub is_barrier : Option Line → Bool
+is_barrier (Some (Barrier on_local on_global)) = true
+is_barrier _ = false
+
+-- whether the j-th work-item stands at a barrier
+abbrev pub IsAtBarrier : Machine → (j : ℕ) → Bool → Type 0
+IsAtBarrier m j b = (it : ItemView) → slice_get m.items.items j ≡ Some it → b ≡ is_barrier (slice_get m.lines.items it.line)
+
+-- the machine with one work-item changed, but for memory
+pub record Changes (m n : Machine) (j : ℕ) (c : Change) (line : ℕ) : Type 0 where
+  pub lines : n.lines.items ≡ m.lines.items
+  pub launch : n.launch ≡ m.launch
+  pub count : length n.items.items ≡ length m.items.items
+  pub items : (i : ℕ) → slice_get n.items.items i ≡ (if i == j then option_map (λ it. changed it c line) (slice_get m.items.items i) else slice_get m.items.items i)
+
+-- a work-item past the barrier at which it stands, if it does
+abbrev pub past_want : ItemView → Want → ItemView
+past_want it (Waits on_local on_global next) = changed it Keeps next
+past_want it _ = it
+
+abbrev pub past : Machine → (j : ℕ) → ItemView → ItemView
+past m j it = past_want it (wanted m.lines.items (ids_of m.launch j) it)
+
+-- the machine with the work-items from the first on, up to the end, past their barriers
+pub record Passes (m n : Machine) (first end : ℕ) : Type 0 where
+  pub lines : n.lines.items ≡ m.lines.items
+  pub launch : n.launch ≡ m.launch
+  pub count : length n.items.items ≡ length m.items.items
+  pub memory : n.memory ≡ m.memory
+  pub items : (i : ℕ) → slice_get n.items.items i ≡ (if nat_le first i && nat_lt i end then option_map (past m i) (slice_get m.items.items i) else slice_get m.items.items i)

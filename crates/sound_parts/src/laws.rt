@@ -1,0 +1,13 @@
+//! Laws of legal terms, each carried by a function that does nothing.
+
+ghost use Rattle.sound_parts.specs.Laws.{LeastSizesAreAdmissible, TermsHaveSoundParts};
+
+/// A legal term that can be printed has sound parts.
+pub fn terms_have_sound_parts()
+    ensures { TermsHaveSoundParts }
+{}
+
+/// Sizes may all be at their least.
+pub fn least_sizes_are_admissible()
+    ensures { LeastSizesAreAdmissible }
+{}
