@@ -3,3 +3,9 @@ pub mod Printed
 pub mod MapRuns
 pub mod OneProof
 pub mod FromHistories
+pub mod Blocks
+pub mod Scopes
+pub mod Sizes
+pub mod Lists
+pub mod Copies
+pub mod Kernels

@@ -1,3 +1,10 @@
 pub mod Headline
 pub mod MapKernel
 pub mod FromHistories
+pub mod Blocks
+pub mod Scopes
+pub mod Parts
+pub mod Copies
+pub mod Inputs
+pub mod Emittable
+pub mod Nodes

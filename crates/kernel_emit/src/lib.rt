@@ -7,7 +7,17 @@ ghost use Rattle.kernel_tree.specs.Code.{End};
 ghost use Rattle.kernel_tree.specs.Tree.{code_then};
 ghost use Rattle.kernel_emit.specs.MapKernel.{MapKernelKeeps, map_kernel, map_turn};
 
+mod accesses;
+mod arguments;
+mod block;
+mod counts;
+mod elements;
+mod expressions;
+pub mod kernel;
 pub mod laws;
+mod lengths;
+mod scope;
+mod statements;
 
 use kernel_tree::tree::{Array, Expr, Kernel, Start, Stmt, Stride};
 use scalar_ops::op::Op;
@@ -43,8 +53,7 @@ fn map_body(alloc: Global, addend: u32) -> Result<Vec<Stmt>, AllocError>
 fn map_turn(alloc: Global, addend: u32) -> Result<Vec<Stmt>, AllocError>
     ensures { IfOk result (λ body. code_then body.items End ≡ map_turn addend) }
 {
-    let element = Expr::Variable(0);
-    let sum = Expr::binary(alloc, Op::Add, element, Expr::Number(addend))?;
+    let sum = Expr::binary(alloc, Op::Add, Expr::Variable(0), Expr::Number(addend))?;
     let mut body = Vec::new(alloc);
     body.push(Stmt::Load(0, Array::Input(0), Expr::LoopVariable(0)))?;
     body.push(Stmt::Store(Array::Output(0), Expr::LoopVariable(0), sum))?;

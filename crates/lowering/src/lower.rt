@@ -1,0 +1,303 @@
+//! Lowering.
+
+ghost use Rattle.std.specs.Prelude.{◌≡◌, [], IfOk};
+ghost use Rattle.lift_tree.specs.Annotations.{annotation_of, type_in};
+ghost use Rattle.lift_tree.specs.Meaning.{scalar_op};
+ghost use Rattle.lift_tree.specs.Tree.{tree_of};
+ghost use Rattle.lift_tree.specs.Types.{ty_of};
+ghost use Rattle.lift_ir.specs.AtLaunch as at;
+ghost use Rattle.lift_ir.specs.Terms as terms;
+ghost use Rattle.lift_tree.specs.declared.term.Operator.TheVariants as operator;
+ghost use Rattle.lift_ir.specs.Lowering as spec;
+ghost use Rattle.lowering.specs.Places.{place_of};
+ghost use Rattle.lowering.specs.Terms.{kind_of, term_of};
+
+use crate::loads::loads;
+use crate::place::{Place, is_element};
+use crate::term::{Kind, Layout, Space, Term};
+use lift_tree::term::{BinaryForm, MapKind, Operator, Term as Source, UnaryForm};
+use lift_tree::ty::Ty;
+use lift_tree::typed::NodeTypes;
+use scalar_ops::op::{Op, Reducer};
+use size_arith::Poly;
+use std::alloc::{AllocError, Global};
+
+fn op_of(reducer: Reducer) -> Op
+    ensures { result ≡ scalar_op (operator.Regrouping reducer) }
+{
+    match reducer {
+        Reducer::Add => Op::Add,
+        Reducer::Mul => Op::Mul,
+        Reducer::Min => Op::Min,
+        Reducer::Max => Op::Max,
+        Reducer::And => Op::And,
+        Reducer::Or => Op::Or,
+        Reducer::Xor => Op::Xor,
+    }
+}
+
+fn operation(operator: Operator) -> Op
+    ensures { result ≡ scalar_op operator }
+{
+    match operator {
+        Operator::Regrouping(reducer) => op_of(reducer),
+        Operator::Sub => Op::Sub,
+        Operator::Shl => Op::Shl,
+        Operator::Shr => Op::Shr,
+        Operator::Lt => Op::Lt,
+        Operator::Eq => Op::Eq,
+    }
+}
+
+fn kind(kind: MapKind) -> Kind
+    ensures { kind_of result ≡ spec.kind_of kind }
+{
+    match kind {
+        MapKind::Global => Kind::Global,
+        MapKind::WorkGroup => Kind::WorkGroup,
+        MapKind::Local => Kind::Local,
+        MapKind::Plain | MapKind::Sequential => Kind::Sequential,
+    }
+}
+
+// The type of an array's elements; of what is no array, its own.
+fn elements(ty: &Ty) -> &Ty
+    ensures { ty_of result.now ≡ spec.element_of (ty_of ty.now) }
+{
+    match ty {
+        Ty::Array(element, _) => element,
+        Ty::Number | Ty::Pair(_, _) => ty,
+    }
+}
+
+// The length of an array; of what is no array, 0.
+fn length(alloc: Global, ty: &Ty) -> Result<Poly, AllocError>
+    ensures { IfOk result (λ n. n ≡ at.outer_of (ty_of ty.now)) }
+{
+    match ty {
+        Ty::Array(_, length) => length.copy(alloc),
+        Ty::Number | Ty::Pair(_, _) => Ok(Poly::zero(alloc)),
+    }
+}
+
+fn reshaped(
+    alloc: Global,
+    form: &UnaryForm,
+    ty: &Ty,
+    operand_ty: &Ty,
+    operand: Box<Term>,
+) -> Result<Term, AllocError>
+    ensures { IfOk result (λ t. term_of t ≡ terms.Reshape
+        (at.layout_of form.now (ty_of ty.now) (ty_of operand_ty.now)) (term_of operand.value)) }
+{
+    let layout = Layout {
+        form: form.copy(alloc)?,
+        ty: ty.copy(alloc)?,
+        operand: operand_ty.copy(alloc)?,
+    };
+    Ok(Term::Reshape(layout, operand))
+}
+
+// An element term of this type where it stands: where it is written it is stored.
+fn placed(alloc: Global, place: Place, ty: &Ty, term: Term) -> Result<Term, AllocError>
+    ensures { IfOk result
+        (λ t. term_of t ≡ spec.placed (place_of place) (ty_of ty.now) (term_of term)) }
+{
+    match place {
+        Place::Written => {
+            let term = Box::new(alloc, term)?;
+            Ok(Term::Store(ty.copy(alloc)?, term))
+        }
+        Place::Argument | Place::Element => Ok(term),
+    }
+}
+
+// The same where the type may be an array's.
+fn placed_element(alloc: Global, place: Place, ty: &Ty, term: Term) -> Result<Term, AllocError>
+    ensures { IfOk result
+        (λ t. term_of t ≡ spec.placed_element (place_of place) (ty_of ty.now) (term_of term)) }
+{
+    if is_element(ty) {
+        placed(alloc, place, ty, term)
+    } else {
+        Ok(term)
+    }
+}
+
+// A form of this type over an operand of that type.
+fn formed(
+    alloc: Global,
+    place: Place,
+    form: &UnaryForm,
+    ty: &Ty,
+    operand_ty: &Ty,
+    operand: Box<Term>,
+) -> Result<Term, AllocError>
+    ensures { IfOk result (λ t. term_of t ≡ spec.lower_unary (place_of place) form.now
+        (ty_of ty.now) (ty_of operand_ty.now) (term_of operand.value)) }
+{
+    match form {
+        UnaryForm::Div(n) => placed(alloc, place, ty, Term::ApplyNumber(Op::Div, *n, operand)),
+        UnaryForm::Rem(n) => placed(alloc, place, ty, Term::ApplyNumber(Op::Rem, *n, operand)),
+        UnaryForm::First => placed(alloc, place, ty, Term::First(operand)),
+        UnaryForm::Second => placed(alloc, place, ty, Term::Second(operand)),
+        UnaryForm::ToPrivate => Ok(Term::Copy(Space::Private, ty.copy(alloc)?, operand)),
+        UnaryForm::ToLocal => Ok(Term::Copy(Space::Local, ty.copy(alloc)?, operand)),
+        UnaryForm::Join
+        | UnaryForm::Transpose
+        | UnaryForm::Split(_)
+        | UnaryForm::Slide(_, _)
+        | UnaryForm::Pad(_, _) => reshaped(alloc, form, ty, operand_ty, operand),
+    }
+}
+
+// A form of two operands.
+fn joined(
+    alloc: Global,
+    place: Place,
+    form: BinaryForm,
+    ty: &Ty,
+    left: Box<Term>,
+    right: Box<Term>,
+) -> Result<Term, AllocError>
+    ensures { IfOk result (λ t. term_of t ≡ spec.lower_binary (place_of place) form
+        (ty_of ty.now) (term_of left.value) (term_of right.value)) }
+{
+    match form {
+        BinaryForm::Operator(operator) => {
+            placed(
+                alloc,
+                place,
+                ty,
+                Term::Apply(operation(operator), left, right),
+            )
+        }
+        BinaryForm::Pair => placed(alloc, place, ty, Term::Pair(left, right)),
+        BinaryForm::Zip => Ok(Term::Zip(left, right)),
+        BinaryForm::Reduce(_) => Ok(Term::Literal(0)),
+    }
+}
+
+// A let of a value of this type.
+fn bound(alloc: Global, ty: &Ty, value: Box<Term>, body: Box<Term>) -> Result<Term, AllocError>
+    ensures { IfOk result (λ t. term_of t
+        ≡ spec.lower_let (ty_of ty.now) (term_of value.value) (term_of body.value)) }
+{
+    if is_element(ty) {
+        Ok(Term::LetElement(ty.copy(alloc)?, value, body))
+    } else {
+        Ok(Term::LetArray(value, body))
+    }
+}
+
+// A map over an array of this type, whose body stands in the source so.
+fn mapped(
+    alloc: Global,
+    map_kind: MapKind,
+    ty: &Ty,
+    source: &Source,
+    array: Box<Term>,
+    body: Box<Term>,
+) -> Result<Term, AllocError>
+    ensures { IfOk result (λ t. term_of t ≡ terms.Map (spec.kind_of map_kind) (at.outer_of (ty_of ty.now))
+        (spec.named 0 (spec.element_of (ty_of ty.now)) [] (tree_of source.now))
+        (term_of array.value) (term_of body.value)) }
+{
+    let loads = loads(alloc, elements(ty), source)?;
+    let length = length(alloc, ty)?;
+    Ok(Term::Map(kind(map_kind), length, loads, array, body))
+}
+
+// A fold over an array of this type with an accumulator of that type, whose body stands in the source so.
+fn folded(
+    alloc: Global,
+    ty: &Ty,
+    accumulator: &Ty,
+    source: &Source,
+    array: Box<Term>,
+    start: Box<Term>,
+    body: Box<Term>,
+) -> Result<Term, AllocError>
+    ensures { IfOk result (λ t. term_of t ≡ terms.Fold (at.outer_of (ty_of ty.now))
+        (spec.named 0 (spec.element_of (ty_of ty.now)) [] (tree_of source.now))
+        (spec.element_ty (ty_of accumulator.now))
+        (term_of array.value) (term_of start.value) (term_of body.value)) }
+{
+    let loads = loads(alloc, elements(ty), source)?;
+    let length = length(alloc, ty)?;
+    let accumulator = accumulator.copy(alloc)?;
+    Ok(Term::Fold(length, loads, accumulator, array, start, body))
+}
+
+#[cycle(lowering)]
+fn boxed(
+    alloc: Global,
+    place: Place,
+    term: &Source,
+    types: &NodeTypes,
+) -> Result<Box<Term>, AllocError>
+    ensures { IfOk result (λ t. term_of t.value
+        ≡ spec.lower (place_of place) (tree_of term.now) (annotation_of types.now)) }
+{
+    Ok(Box::new(alloc, lower_at(alloc, place, term, types)?)?)
+}
+
+// The term that a term of these types is lowered to where it stands.
+#[cycle(lowering)]
+fn lower_at(
+    alloc: Global,
+    place: Place,
+    term: &Source,
+    types: &NodeTypes,
+) -> Result<Term, AllocError>
+    ensures { IfOk result (λ t. term_of t
+        ≡ spec.lower (place_of place) (tree_of term.now) (annotation_of types.now)) }
+{
+    match (term, types) {
+        (Source::Variable(v), _) => placed(alloc, place, types.own_type(), Term::Bound(*v)),
+        (Source::Number(n), _) => placed(alloc, place, types.own_type(), Term::Literal(*n)),
+        (Source::Input(number), _) => Ok(Term::Source(*number)),
+        (Source::Unary(form, a), NodeTypes::One(ty, n)) => {
+            let operand = boxed(alloc, place.of_operand(form), a, n)?;
+            formed(alloc, place, form, ty, n.own_type(), operand)
+        }
+        (Source::Binary(form, a, b), NodeTypes::Two(ty, n, m)) => {
+            let below = Place::of_operands(*form);
+            let left = boxed(alloc, below, a, n)?;
+            let right = boxed(alloc, below, b, m)?;
+            joined(alloc, place, *form, ty, left, right)
+        }
+        (Source::Select(a, b, c), NodeTypes::Three(ty, n, m, k)) => {
+            let condition = boxed(alloc, Place::Element, a, n)?;
+            let yes = boxed(alloc, Place::Element, b, m)?;
+            let no = boxed(alloc, Place::Element, c, k)?;
+            placed(alloc, place, ty, Term::Select(condition, yes, no))
+        }
+        (Source::Let(a, b), NodeTypes::Two(ty, n, m)) => {
+            let value = boxed(alloc, Place::of_value(n.own_type()), a, n)?;
+            let body = boxed(alloc, place.of_body(ty), b, m)?;
+            let whole = bound(alloc, n.own_type(), value, body)?;
+            placed_element(alloc, place, ty, whole)
+        }
+        (Source::Map(map_kind, a, b), NodeTypes::Two(_, n, m)) => {
+            let array = boxed(alloc, Place::Argument, a, n)?;
+            let body = boxed(alloc, Place::Written, b, m)?;
+            mapped(alloc, *map_kind, n.own_type(), b, array, body)
+        }
+        (Source::Fold(_, a, b, c), NodeTypes::Three(_, n, m, k)) => {
+            let array = boxed(alloc, Place::Argument, a, n)?;
+            let start = boxed(alloc, Place::Element, b, m)?;
+            let body = boxed(alloc, Place::Element, c, k)?;
+            folded(alloc, n.own_type(), m.own_type(), c, array, start, body)
+        }
+        _ => Ok(Term::Literal(0)),
+    }
+}
+
+/// The term that a term of these types is lowered to, the whole of which is written.
+pub fn lower(alloc: Global, term: &Source, types: &NodeTypes) -> Result<Term, AllocError>
+    ensures { IfOk result (λ t. term_of t
+        ≡ spec.lower spec.Written (tree_of term.now) (annotation_of types.now)) }
+{
+    lower_at(alloc, Place::Written, term, types)
+}

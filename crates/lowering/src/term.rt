@@ -1,0 +1,74 @@
+//! The intermediate representation as a tree.
+
+use lift_tree::term::UnaryForm;
+use lift_tree::ty::Ty;
+use scalar_ops::op::Op;
+use size_arith::Poly;
+
+/// How a map is run.
+#[derive(Clone, Copy, PartialEq, Eq)]
+pub enum Kind {
+    /// Over the launch.
+    Global,
+    /// Over its work-groups.
+    WorkGroup,
+    /// Over the work-items of a group.
+    Local,
+    /// By one work-item.
+    Sequential,
+}
+
+/// Where a copy lies, after the address spaces of OpenCL C 1.2, section 6.5.
+#[derive(Clone, Copy, PartialEq, Eq)]
+pub enum Space {
+    Local,
+    Private,
+}
+
+/// Which scalars of a bound element are loaded into private variables.
+#[derive(Drop)]
+pub enum LoadSet {
+    Skip,
+    Take,
+    /// Of a pair, so of each part.
+    Each(Box<LoadSet>, Box<LoadSet>),
+}
+
+/// A layout of an array: a form that is one, of this type over an operand of that type.
+#[derive(Drop)]
+pub struct Layout {
+    pub form: UnaryForm,
+    pub ty: Ty,
+    pub operand: Ty,
+}
+
+/// A term. A binder is counted from the nearest, which is 0; a fold binds the element, then the accumulator.
+#[derive(Drop)]
+pub enum Term {
+    Literal(u32),
+    Bound(u32),
+    /// The input of this number.
+    Source(u32),
+    Apply(Op, Box<Term>, Box<Term>),
+    /// The quotient or remainder by a number.
+    ApplyNumber(Op, u32, Box<Term>),
+    /// The second where the first isn't 0, else the third.
+    Select(Box<Term>, Box<Term>, Box<Term>),
+    Pair(Box<Term>, Box<Term>),
+    Zip(Box<Term>, Box<Term>),
+    First(Box<Term>),
+    Second(Box<Term>),
+    Reshape(Layout, Box<Term>),
+    /// The value, an array, and the body under one binder.
+    LetArray(Box<Term>, Box<Term>),
+    /// The value, an element of this type, and the body under one binder.
+    LetElement(Ty, Box<Term>, Box<Term>),
+    /// Over an array of this length: the array, and the body under one binder.
+    Map(Kind, Poly, LoadSet, Box<Term>, Box<Term>),
+    /// Over an array of this length, with an accumulator of this type: the array, the start, and the body under two binders.
+    Fold(Poly, LoadSet, Ty, Box<Term>, Box<Term>, Box<Term>),
+    /// An element of this type, in writing position.
+    Store(Ty, Box<Term>),
+    /// A copy of a value of this type, whose lengths name no size.
+    Copy(Space, Ty, Box<Term>),
+}
