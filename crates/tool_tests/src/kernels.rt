@@ -112,3 +112,70 @@ fn a_thousand_numbers_have_3001_events(rt: HostRuntime) -> Result<(), Fail> {
     assert!(rt; thousand.ends(rt.alloc(), &RUN, 0, line.as_str(), "")?);
     Ok(())
 }
+
+// Programs with scripts, launch files and the lines of their runs, worked out by hand.
+const RUNS: [(&str, &str, &str, &str); 6] = [
+    // a transposed array
+    (
+        "input xs: [[u32; 3]; 2]; output map(\\r. map(\\x. x, r), transpose(xs))",
+        "at 1 to-seq\nat . to-seq",
+        "{\"global\":1,\"local\":1,\"sizes\":{},\"inputs\":{\"xs\":[[1,2,3],[4,5,6]]}}",
+        "{\"value\":[[1,4],[2,5],[3,6]],\"events\":25,\"releases\":0}\n",
+    ),
+    // pairs, in two buffers
+    (
+        "input xs: [u32; 2]; input ys: [u32; 2]; output map(\\p. p, zip(xs, ys))",
+        "at . to-seq",
+        "{\"global\":1,\"local\":1,\"sizes\":{},\"inputs\":{\"xs\":[1,2],\"ys\":[3,4]}}",
+        "{\"value\":[[1,3],[2,4]],\"events\":11,\"releases\":0}\n",
+    ),
+    // a sum of partial sums; the start is used once
+    (
+        "input xs: [u32; 4]; output reduce(add, 5, xs)",
+        "at . split-reduce 2\nat . reduce-fold\nat 0.0.1 reduce-fold\nat 0.0.1 fold-seq\nat 0.0 to-seq\nat 0 private\nat . fold-seq",
+        "{\"global\":1,\"local\":1,\"sizes\":{},\"inputs\":{\"xs\":[1,2,3,4]}}",
+        "{\"value\":[15],\"events\":30,\"releases\":0}\n",
+    ),
+    // the least of the columns' least
+    (
+        "input xs: [u32; 8]; output reduce(min, 4294967295, xs)",
+        "at . stride-reduce 4\nat . reduce-fold\nat 0.0.1 reduce-fold\nat 0.0.1 fold-seq\nat 0.0 to-seq\nat 0 private\nat . fold-seq",
+        "{\"global\":1,\"local\":1,\"sizes\":{},\"inputs\":{\"xs\":[9,8,7,6,5,4,3,2]}}",
+        "{\"value\":[2],\"events\":56,\"releases\":0}\n",
+    ),
+    // an accumulator of two components, through temporaries
+    (
+        "input xs: [u32; 3]; output fold(\\a x. pair(second(a), add(first(a), x)), pair(0, 1), xs)",
+        "at . fold-seq",
+        "{\"global\":1,\"local\":1,\"sizes\":{},\"inputs\":{\"xs\":[5,6,7]}}",
+        "{\"value\":[[7,12]],\"events\":23,\"releases\":0}\n",
+    ),
+    // a size that has a divisor: 2 turns of 2 statements, 3 tests
+    (
+        "size N multiple 2 from 2 to 8; input xs: [u32; N]; output map(\\x. mul(x, x), xs)",
+        "at . to-seq",
+        "{\"global\":1,\"local\":1,\"sizes\":{\"N\":2},\"inputs\":{\"xs\":[3,65536]}}",
+        "{\"value\":[9,0],\"events\":7,\"releases\":0}\n",
+    ),
+];
+
+fn runs(alloc: Global) -> Result<bool, AllocError> {
+    for (program, script, launch, line) in RUNS {
+        let call = Call {
+            program,
+            script,
+            launch,
+            ..FIRST
+        };
+        if !call.ends(alloc, &RUN, 0, line, "")? {
+            return Ok(false);
+        }
+    }
+    Ok(true)
+}
+
+#[test]
+fn kernels_leave_the_value_after_so_many_events(rt: HostRuntime) -> Result<(), Fail> {
+    assert!(rt; runs(rt.alloc())?);
+    Ok(())
+}

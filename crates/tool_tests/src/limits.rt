@@ -1,5 +1,5 @@
 //! Limits, each with its count.
-use crate::call::{Call, FIRST, RESULT, RUN, SCRIPT, STEPS, repeated};
+use crate::call::{COMPILE, Call, FIRST, RESULT, RUN, SCRIPT, STEPS, repeated};
 use std::alloc::{AllocError, Global};
 use std::test::Fail;
 
@@ -134,5 +134,50 @@ fn the_bytes_of_a_file_are_limited(rt: HostRuntime) -> Result<(), Fail> {
         ..FIRST
     };
     assert!(rt; is_limit(rt.alloc(), call, &RUN, "lift: limit bytes: 16777217\n")?);
+    Ok(())
+}
+
+// Copies so many numbers to private memory.
+fn copies(alloc: Global, cells: usize, status: u8, line: &str) -> Result<bool, AllocError> {
+    let program = format!(in alloc; "input xs: [u32; {cells}]; output map(\\x. x, xs)")?;
+    let call = Call {
+        program: program.as_str(),
+        script: "at 0 private-copy\nat . to-seq",
+        ..FIRST
+    };
+    call.ends(alloc, &COMPILE, status, "", line)
+}
+
+#[test]
+fn private_cells_are_limited(rt: HostRuntime) -> Result<(), Fail> {
+    assert!(rt; copies(rt.alloc(), 257, 10, "lift: limit private: 257\n")?);
+    Ok(())
+}
+
+// Two numbers through so many pairs of layouts.
+fn layouts(alloc: Global, pairs: usize) -> Result<String, AllocError> {
+    let opened = repeated(alloc, "join(split(1, ", pairs, "xs")?;
+    let closed = repeated(alloc, "))", pairs, ", xs)")?;
+    format!(in alloc; "input xs: [u32; 2]; output map(\\p. add(first(p), second(p)), zip({opened}{closed}))")
+}
+
+#[test]
+fn layouts_are_limited(rt: HostRuntime) -> Result<(), Fail> {
+    let launch = "{\"global\":1,\"local\":1,\"sizes\":{},\"inputs\":{\"xs\":[3,4]}}";
+    let most = layouts(rt.alloc(), 11)?;
+    let call = Call {
+        program: most.as_str(),
+        launch,
+        ..FIRST
+    };
+    let line = "{\"value\":[6,8],\"events\":9,\"releases\":0}\n";
+    assert!(rt; call.ends(rt.alloc(), &RUN, 0, line, "")?);
+    let more = layouts(rt.alloc(), 12)?;
+    let call = Call {
+        program: more.as_str(),
+        launch,
+        ..FIRST
+    };
+    assert!(rt; is_limit(rt.alloc(), call, &RUN, "lift: limit layouts: 25\n")?);
     Ok(())
 }

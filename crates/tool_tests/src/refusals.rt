@@ -247,37 +247,6 @@ const PROGRAMS: [(&str, &str); 6] = [
     ),
 ];
 
-const UNPRINTED: [(&str, &str); 7] = [
-    (
-        "size N from 1 to 1000; input xs: [u32; N]; output map(\\x. mul(x, 1), xs)",
-        "lift: nest: N0 at .\n",
-    ),
-    (
-        "size N from 1 to 1000; input xs: [u32; N]; output map(\\x. add(1, x), xs)",
-        "lift: nest: N0 at .\n",
-    ),
-    (
-        "size N multiple 2 from 2 to 1000; input xs: [u32; N]; output map(\\x. add(x, 1), xs)",
-        "lift: nest: N0 at .\n",
-    ),
-    (
-        "input xs: [u32; 3]; output map(\\x. add(x, 1), xs)",
-        "lift: nest: N0 at .\n",
-    ),
-    (
-        "size N from 1 to 1000; input xs: [u32; 1*N]; output map(\\x. add(x, 1), xs)",
-        "lift: nest: N0 at .\n",
-    ),
-    (
-        "size N from 1 to 1000; input xs: [u32; N]; input ys: [u32; N]; output map(\\x. add(x, 1), xs)",
-        "lift: nest: N0 at .\n",
-    ),
-    (
-        "size N from 1 to 1000; input xs: [u32; N]; output map(\\x. add(x, 1), join(split(1, xs)))",
-        "lift: nest: N0 at .\n",
-    ),
-];
-
 const NESTS: [(&str, &str); 7] = [
     ("", "lift: nest: N1 at .\n"),
     ("# nothing\n", "lift: nest: N1 at .\n"),
@@ -320,7 +289,6 @@ fn mapped_end(alloc: Global) -> Result<bool, AllocError> {
 #[test]
 fn nests_are_refused_by_the_first_broken_rule(rt: HostRuntime) -> Result<(), Fail> {
     assert!(rt; programs_end(rt.alloc(), &RUN, 11, &PROGRAMS)?);
-    assert!(rt; programs_end(rt.alloc(), &RUN, 11, &UNPRINTED)?);
     assert!(rt; scripts_end(rt.alloc(), &COMPILE, 11, &NESTS)?);
     assert!(rt; mapped_end(rt.alloc())?);
     Ok(())
