@@ -1,8 +1,4 @@
 pub mod Rows
-pub mod Printed
-pub mod MapRuns
-pub mod OneProof
-pub mod FromHistories
 pub mod Blocks
 pub mod Scopes
 pub mod Sizes

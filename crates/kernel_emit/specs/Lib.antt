@@ -1,6 +1,3 @@
-pub mod Headline
-pub mod MapKernel
-pub mod FromHistories
 pub mod Blocks
 pub mod Scopes
 pub mod Parts
