@@ -1,0 +1,5 @@
+pub mod Tests
+pub mod Parts
+pub mod Values
+pub mod Shapes
+pub mod Operations

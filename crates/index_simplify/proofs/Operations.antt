@@ -1,0 +1,129 @@
+-- An operation on two simplified expressions, by a law or as it is, is simplified.
+use Rattle.std.proofs.Common.{◌≡◌, ◌≢◌, ℕ, ℤ, pos, Bool, true, false, Option, Some, None, List, refl, sym, ap, ◌∙◌, subst, arith}
+use Rattle.index_expr.specs.declared.operation.Operation.{Operation}
+use Rattle.index_expr.specs.Expression.{Expression, Variable, Literal, Size, Binary}
+use Rattle.index_expr.specs.Values.{operate, exact, EachOperation, Divides, WantsWords, IsWord, HasWordArgumentsAt, HasNoZeroDivisorAt, IsRangedAt}
+use Rattle.index_simplify.specs.declared.ranges.Ranges.{Ranges}
+use Rattle.index_simplify.specs.declared.law.Law.{Law}
+use Rattle.index_simplify.specs.declared.law.Law.TheVariants.{Computed, PlusZero, ZeroPlus, MinusZero, MinusItself, TimesOne, OneTimes, TimesZero, ZeroTimes, OverOne, ModuloOne, RowOfCell, ColumnOfCell, CellOfParts}
+use Rattle.index_simplify.specs.declared.law.TheConstants.{LAWS}
+use Rattle.index_simplify.specs.Laws.{first_part, second_part, applies, applied}
+use Rattle.index_simplify.specs.Tests.{is_leaf}
+use Rattle.index_simplify.specs.Operations.{first_law, by_law, operation_on}
+use Rattle.index_simplify.specs.Ranges.{AreBelowLengths, AreWithin, IsPoint}
+use Rattle.index_simplify.specs.Shapes.{IsSimple}
+use Rattle.index_simplify.specs.Simplified.{StandsFor, IsNoLarger, IsSimplified}
+use Rattle.index_simplify.proofs.Parts.{first_operations, second_operations, first_within, second_within, same_small, then_small, joined_small, applied_small, applied_simple}
+use Rattle.index_simplify.proofs.Values.{law_value}
+use Rattle.index_simplify.proofs.Shapes.{found_applies, no_law_is_plain}
+
+-- ---- what holds of each operation, and of each variable, holds in what a law leaves
+applied_operations : (P : Operation → Expression → Expression → Type 0) (law : Law) (o : Operation) (a b : Expression) → EachOperation P a → EachOperation P b → EachOperation P (applied law o a b)
+applied_operations P Computed o a b x y = tt
+applied_operations P PlusZero o a b x y = x
+applied_operations P ZeroPlus o a b x y = y
+applied_operations P MinusZero o a b x y = x
+applied_operations P MinusItself o a b x y = tt
+applied_operations P TimesOne o a b x y = x
+applied_operations P OneTimes o a b x y = y
+applied_operations P TimesZero o a b x y = tt
+applied_operations P ZeroTimes o a b x y = tt
+applied_operations P OverOne o a b x y = x
+applied_operations P ModuloOne o a b x y = tt
+applied_operations P RowOfCell o a b x y = first_operations P (first_part a) (first_operations P a x)
+applied_operations P ColumnOfCell o a b x y = second_operations P a x
+applied_operations P CellOfParts o a b x y = first_operations P (first_part a) (first_operations P a x)
+
+applied_within : (variables : List ℕ) (law : Law) (o : Operation) (a b : Expression) → AreWithin variables a → AreWithin variables b → AreWithin variables (applied law o a b)
+applied_within variables Computed o a b x y = tt
+applied_within variables PlusZero o a b x y = x
+applied_within variables ZeroPlus o a b x y = y
+applied_within variables MinusZero o a b x y = x
+applied_within variables MinusItself o a b x y = tt
+applied_within variables TimesOne o a b x y = x
+applied_within variables OneTimes o a b x y = y
+applied_within variables TimesZero o a b x y = tt
+applied_within variables ZeroTimes o a b x y = tt
+applied_within variables OverOne o a b x y = x
+applied_within variables ModuloOne o a b x y = tt
+applied_within variables RowOfCell o a b x y = first_within variables (first_part a) (first_within variables a x)
+applied_within variables ColumnOfCell o a b x y = second_within variables a x
+applied_within variables CellOfParts o a b x y = first_within variables (first_part a) (first_within variables a x)
+
+module _ (sizes variables : List ℕ) where
+  stands_by : (e s : Expression) → exact sizes variables s ≡ exact sizes variables e → (HasWordArgumentsAt sizes variables e → HasWordArgumentsAt sizes variables s) → (HasNoZeroDivisorAt sizes variables e → HasNoZeroDivisorAt sizes variables s) → AreWithin variables s → StandsFor sizes variables e s
+  stands_by e s value words divisors own = record {
+    value = value;
+    words = words;
+    ranged = λ h. (words h.0, subst IsWord (sym value) h.1);
+    divisors = divisors;
+    own = own;
+  }
+
+  pub stands_itself : (e : Expression) → AreWithin variables e → StandsFor sizes variables e e
+  stands_itself e own = stands_by e e refl (λ h. h) (λ h. h) own
+
+  stands_then : (e f g : Expression) → StandsFor sizes variables e f → StandsFor sizes variables f g → StandsFor sizes variables e g
+  stands_then e f g x y = stands_by e g (y.value ∙ x.value) (λ h. y.words (x.words h)) (λ h. y.divisors (x.divisors h)) y.own
+
+  stands_joined : (o : Operation) (a b c d : Expression) → StandsFor sizes variables a c → StandsFor sizes variables b d → StandsFor sizes variables (Binary o a b) (Binary o c d)
+  stands_joined o a b c d x y =
+      stands_by (Binary o a b) (Binary o c d)
+      (ap (λ z. operate o z (exact sizes variables d)) x.value ∙ ap (operate o (exact sizes variables a)) y.value)
+      (λ h. ((λ w. (subst IsWord (sym x.value) (h.0 w).0, subst IsWord (sym y.value) (h.0 w).1)), x.words h.1, y.words h.2))
+      (λ h. ((λ w e. h.0 w (sym y.value ∙ e)), x.divisors h.1, y.divisors h.2))
+      (x.own, y.own)
+
+  law_stands : (r : Ranges) → AreBelowLengths r sizes variables → (law : Law) (o : Operation) (a b : Expression) → AreWithin variables a → AreWithin variables b → applies r law o a b ≡ true → StandsFor sizes variables (Binary o a b) (applied law o a b)
+  law_stands r loops law o a b x y h =
+      stands_by (Binary o a b) (applied law o a b)
+      (law_value sizes variables r loops law o a b x h)
+      (λ w. applied_operations (λ q c d. WantsWords q → IsWord (exact sizes variables c) × IsWord (exact sizes variables d)) law o a b w.1 w.2)
+      (λ w. applied_operations (λ q c d. Divides q → exact sizes variables d ≢ pos 0) law o a b w.1 w.2)
+      (applied_within variables law o a b x y)
+
+module _ (r : Ranges) (o : Operation) (a b c d : Expression) (x : IsSimplified r a c) (y : IsSimplified r b d) where
+  first_stands : (sizes variables : List ℕ) → IsPoint r sizes variables (Binary o a b) → StandsFor sizes variables a c
+  first_stands sizes variables p = x.stands sizes variables (record { loops = p.loops; own = p.own.0 })
+
+  second_stands : (sizes variables : List ℕ) → IsPoint r sizes variables (Binary o a b) → StandsFor sizes variables b d
+  second_stands sizes variables p = y.stands sizes variables (record { loops = p.loops; own = p.own.1 })
+
+  by_stands : (found : Option Law) → first_law r o c d LAWS ≡ found → (sizes variables : List ℕ) → IsPoint r sizes variables (Binary o a b) → StandsFor sizes variables (Binary o a b) (by_law found o c d)
+  by_stands None e sizes variables p = stands_joined sizes variables o a b c d (first_stands sizes variables p) (second_stands sizes variables p)
+  by_stands (Some law) e sizes variables p =
+      let first = first_stands sizes variables p in
+      let second = second_stands sizes variables p in
+      stands_then sizes variables (Binary o a b) (Binary o c d) (applied law o c d)
+      (stands_joined sizes variables o a b c d first second)
+      (law_stands sizes variables r p.loops law o c d first.own second.own (found_applies r o c d LAWS law e))
+
+  by_small : (found : Option Law) → IsNoLarger (Binary o a b) (by_law found o c d)
+  by_small None = joined_small o a b c d x.small y.small
+  by_small (Some law) = then_small (Binary o a b) (Binary o c d) (applied law o c d) (joined_small o a b c d x.small y.small) (applied_small law o c d)
+
+  by_simple : (found : Option Law) → first_law r o c d LAWS ≡ found → IsSimple (by_law found o c d)
+  by_simple None e = (no_law_is_plain r o c d e, x.simple, y.simple)
+  by_simple (Some law) e = applied_simple law o c d x.simple y.simple
+
+  operation_simplified : IsSimplified r (Binary o a b) (operation_on r o c d)
+  operation_simplified = record {
+    stands = by_stands (first_law r o c d LAWS) refl;
+    small = by_small (first_law r o c d LAWS);
+    simple = by_simple (first_law r o c d LAWS) refl;
+  }
+
+pub is_simplified : (r : Ranges) (o : Operation) (a b c d s : Expression) → IsSimplified r a c → IsSimplified r b d → s ≡ operation_on r o c d → IsSimplified r (Binary o a b) s
+is_simplified r o a b c d s x y e = subst (IsSimplified r (Binary o a b)) (sym e) (operation_simplified r o a b c d x y)
+
+itself : (r : Ranges) (e : Expression) → IsSimple e → IsSimplified r e e
+itself r e h = record { stands = λ sizes variables p. stands_itself sizes variables e p.own; small = same_small e; simple = h }
+
+leaf_simple : (e : Expression) → is_leaf e ≡ true → IsSimple e
+leaf_simple (Variable k l g) h = tt
+leaf_simple (Literal n) h = tt
+leaf_simple (Size k) h = tt
+leaf_simple (Binary o a b) h = absurd (cc h)
+
+pub leaf_simplified : (r : Ranges) (e s : Expression) → is_leaf e ≡ true → s ≡ e → IsSimplified r e s
+leaf_simplified r e s h same = subst (IsSimplified r e) (sym same) (itself r e (leaf_simple e h))

@@ -1,0 +1,40 @@
+-- What a simplified expression has in common with the one that it is made of, and what more.
+use Rattle.std.specs.Prelude.{ℕ, suc, ◌≡◌, ◌≤◌, ◌&&◌, max, Bool, true, List}
+use Rattle.index_expr.specs.Expression.{Expression, Variable, Literal, Size, Binary, nodes}
+use Rattle.index_expr.specs.Values.{exact, IsRangedAt, HasWordArgumentsAt, HasNoZeroDivisorAt}
+use Rattle.index_simplify.specs.declared.ranges.Ranges.{Ranges}
+use Rattle.index_simplify.specs.Ranges.{AreWithin, IsPoint}
+use Rattle.index_simplify.specs.Shapes.{IsSimple}
+
+-- how many nodes stand one in another
+abbrev pub height : Expression → ℕ
+height (Variable k l g) = 1
+height (Literal n) = 1
+height (Size k) = 1
+height (Binary o a b) = suc (max (height a) (height b))
+
+-- all its variables and sizes are of these
+abbrev pub names_are : (variable size : ℕ → Bool) → Expression → Bool
+names_are variable size (Variable k l g) = variable k
+names_are variable size (Literal n) = true
+names_are variable size (Size k) = size k
+names_are variable size (Binary o a b) = names_are variable size a && names_are variable size b
+
+-- at this point the second stands for the first
+pub record StandsFor (sizes variables : List ℕ) (e s : Expression) : Type 0 where
+  pub value : exact sizes variables s ≡ exact sizes variables e
+  pub words : HasWordArgumentsAt sizes variables e → HasWordArgumentsAt sizes variables s
+  pub ranged : IsRangedAt sizes variables e → IsRangedAt sizes variables s
+  pub divisors : HasNoZeroDivisorAt sizes variables e → HasNoZeroDivisorAt sizes variables s
+  pub own : AreWithin variables s
+
+-- the second is no larger and has no other names
+pub record IsNoLarger (e s : Expression) : Type 0 where
+  pub nodes : nodes s ≤ nodes e
+  pub height : height s ≤ height e
+  pub names : (variable size : ℕ → Bool) → names_are variable size e ≡ true → names_are variable size s ≡ true
+
+pub record IsSimplified (r : Ranges) (e s : Expression) : Type 0 where
+  pub stands : (sizes variables : List ℕ) → IsPoint r sizes variables e → StandsFor sizes variables e s
+  pub small : IsNoLarger e s
+  pub simple : IsSimple s
