@@ -1,7 +1,7 @@
 -- An operation on two simplified expressions, by a law or as it is, is simplified.
 use Rattle.std.proofs.Common.{◌≡◌, ◌≢◌, ℕ, ℤ, pos, Bool, true, false, Option, Some, None, List, refl, sym, ap, ◌∙◌, subst, arith}
 use Rattle.index_expr.specs.declared.operation.Operation.{Operation}
-use Rattle.index_expr.specs.Expression.{Expression, Variable, Literal, Size, Binary}
+use Rattle.index_expr.specs.Expression.{Expression, Variable, Literal, Size, Binary, expression_of}
 use Rattle.index_expr.specs.Values.{operate, exact, EachOperation, Divides, WantsWords, IsWord, HasWordArgumentsAt, HasNoZeroDivisorAt, IsRangedAt}
 use Rattle.index_simplify.specs.declared.ranges.Ranges.{Ranges}
 use Rattle.index_simplify.specs.declared.law.Law.{Law}
@@ -13,6 +13,9 @@ use Rattle.index_simplify.specs.Operations.{first_law, by_law, operation_on}
 use Rattle.index_simplify.specs.Ranges.{AreBelowLengths, AreWithin, IsPoint}
 use Rattle.index_simplify.specs.Shapes.{IsSimple}
 use Rattle.index_simplify.specs.Simplified.{StandsFor, IsNoLarger, IsSimplified}
+use Rattle.std.specs.Prelude.{Result, Ok, Err, IfOk}
+use Rattle.std.specs.declared.alloc.AllocError.{AllocError}
+use Rattle.index_expr.specs.declared.index.Index.{Index}
 use Rattle.index_simplify.proofs.Parts.{first_operations, second_operations, first_within, second_within, same_small, then_small, joined_small, applied_small, applied_simple}
 use Rattle.index_simplify.proofs.Values.{law_value}
 use Rattle.index_simplify.proofs.Shapes.{found_applies, no_law_is_plain}
@@ -127,3 +130,7 @@ leaf_simple (Binary o a b) h = absurd (cc h)
 
 pub leaf_simplified : (r : Ranges) (e s : Expression) → is_leaf e ≡ true → s ≡ e → IsSimplified r e s
 leaf_simplified r e s h same = subst (IsSimplified r e) (sym same) (itself r e (leaf_simple e h))
+
+pub ok_simplified : (r : Ranges) (e : Expression) (o : Operation) (a b c d : Expression) (result : Result Index AllocError) → e ≡ Binary o a b → IsSimplified r a c → IsSimplified r b d → IfOk result (λ s. expression_of s ≡ operation_on r o c d) → IfOk result (λ s. IsSimplified r e (expression_of s))
+ok_simplified r e o a b c d (Err err) same x y h = h
+ok_simplified r e o a b c d (Ok s) same x y h = subst (λ f. IsSimplified r f (expression_of s)) (sym same) (is_simplified r o a b c d (expression_of s) x y h)
