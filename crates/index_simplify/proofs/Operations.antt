@@ -9,7 +9,7 @@ use Rattle.index_simplify.specs.declared.law.Law.TheVariants.{Computed, PlusZero
 use Rattle.index_simplify.specs.declared.law.TheConstants.{LAWS}
 use Rattle.index_simplify.specs.Laws.{first_part, second_part, applies, applied}
 use Rattle.index_simplify.specs.Tests.{is_leaf}
-use Rattle.index_simplify.specs.Operations.{first_law, by_law, operation_on}
+use Rattle.index_simplify.specs.Operations.{first_law, by_law, operation_on, simple}
 use Rattle.index_simplify.specs.Ranges.{AreBelowLengths, AreWithin, IsPoint}
 use Rattle.index_simplify.specs.Shapes.{IsSimple}
 use Rattle.index_simplify.specs.Simplified.{StandsFor, IsNoLarger, IsSimplified}
@@ -116,21 +116,15 @@ module _ (r : Ranges) (o : Operation) (a b c d : Expression) (x : IsSimplified r
     simple = by_simple (first_law r o c d LAWS) refl;
   }
 
-pub is_simplified : (r : Ranges) (o : Operation) (a b c d s : Expression) → IsSimplified r a c → IsSimplified r b d → s ≡ operation_on r o c d → IsSimplified r (Binary o a b) s
-is_simplified r o a b c d s x y e = subst (IsSimplified r (Binary o a b)) (sym e) (operation_simplified r o a b c d x y)
-
 itself : (r : Ranges) (e : Expression) → IsSimple e → IsSimplified r e e
 itself r e h = record { stands = λ sizes variables p. stands_itself sizes variables e p.own; small = same_small e; simple = h }
 
-leaf_simple : (e : Expression) → is_leaf e ≡ true → IsSimple e
-leaf_simple (Variable k l g) h = tt
-leaf_simple (Literal n) h = tt
-leaf_simple (Size k) h = tt
-leaf_simple (Binary o a b) h = absurd (cc h)
+pub simple_is_simplified : (r : Ranges) (e : Expression) → IsSimplified r e (simple r e)
+simple_is_simplified r (Variable k l g) = itself r (Variable k l g) tt
+simple_is_simplified r (Literal n) = itself r (Literal n) tt
+simple_is_simplified r (Size k) = itself r (Size k) tt
+simple_is_simplified r (Binary o a b) = operation_simplified r o a b (simple r a) (simple r b) (simple_is_simplified r a) (simple_is_simplified r b)
 
-pub leaf_simplified : (r : Ranges) (e s : Expression) → is_leaf e ≡ true → s ≡ e → IsSimplified r e s
-leaf_simplified r e s h same = subst (IsSimplified r e) (sym same) (itself r e (leaf_simple e h))
-
-pub ok_simplified : (r : Ranges) (e : Expression) (o : Operation) (a b c d : Expression) (result : Result Index AllocError) → e ≡ Binary o a b → IsSimplified r a c → IsSimplified r b d → IfOk result (λ s. expression_of s ≡ operation_on r o c d) → IfOk result (λ s. IsSimplified r e (expression_of s))
-ok_simplified r e o a b c d (Err err) same x y h = h
-ok_simplified r e o a b c d (Ok s) same x y h = subst (λ f. IsSimplified r f (expression_of s)) (sym same) (is_simplified r o a b c d (expression_of s) x y h)
+pub all_simplified : (r : Ranges) (e : Expression) (result : Result Index AllocError) → IfOk result (λ s. expression_of s ≡ simple r e) → IfOk result (λ s. IsSimplified r e (expression_of s))
+all_simplified r e (Err x) h = h
+all_simplified r e (Ok s) same = subst (IsSimplified r e) (sym same) (simple_is_simplified r e)

@@ -9,7 +9,7 @@ use Rattle.index_simplify.specs.declared.law.Law.{Law}
 use Rattle.index_simplify.specs.declared.law.Law.TheVariants as law
 use Rattle.index_simplify.specs.declared.law.TheConstants.{LAWS}
 use Rattle.index_simplify.specs.Literals.{word}
-use Rattle.index_simplify.specs.Tests.{has_length}
+use Rattle.index_simplify.specs.Tests.{is_loop_within}
 use Rattle.index_simplify.specs.Laws.{applies}
 use Rattle.index_simplify.specs.Operations.{first_law}
 use Rattle.index_simplify.specs.Shapes as shape

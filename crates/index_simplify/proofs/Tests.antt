@@ -2,7 +2,7 @@
 use Rattle.std.proofs.Common.{◌≡◌, ℕ, ℤ, pos, negsuc, ◌+◌, ◌*◌, ◌<◌, ◌≤◌, ◌+ℤ◌, ◌-ℤ◌, ◌*ℤ◌, Bool, true, false, Option, Some, None, List, refl, sym, ap, ◌∙◌, subst, arith}
 use Rattle.std.specs.Prelude.{◌==◌, ◌&&◌, ◌||◌, ◌<ℤ◌, nat_lt, slice_get, slice_index, int_div, int_rem, ◌⊎◌}
 use Rattle.std.proofs.Common.{inl, inr}
-use Rattle.std.proofs.lemmas.Bool.{eqb-true, ltb-true}
+use Rattle.std.proofs.lemmas.Bool.{eqb-true, ltb-true, leb-true}
 use Rattle.std.proofs.lemmas.Int.{ints, quot-rem}
 use Rattle.std.proofs.lemmas.Nat.{div-mul-add, mod-mul-add}
 use Rattle.index_expr.specs.declared.operation.Operation.{Operation}
@@ -11,7 +11,7 @@ use Rattle.index_expr.specs.declared.index.Index.{Index}
 use Rattle.index_expr.specs.Expression.{Expression, Variable, Literal, Size, Binary, expression_of}
 use Rattle.index_expr.specs.Values.{operate, exact}
 use Rattle.index_simplify.specs.declared.ranges.Ranges.{Ranges}
-use Rattle.index_simplify.specs.Tests.{same_operation, same_variable, is_number, same_size, same, is_above, is_length, has_length, is_below, is_leaf, is_begin, is_cell, is_quotient, is_rounded, are_parts}
+use Rattle.index_simplify.specs.Tests.{same_operation, same_variable, is_number, same_size, same, is_above, is_at_least, is_no_longer, is_known_within, is_loop_within, is_below, is_leaf, is_begin, is_cell, is_quotient, is_rounded, are_parts}
 use Rattle.index_simplify.specs.Laws.{first_part, second_part}
 use Rattle.index_simplify.specs.Ranges.{AreBelowLengths, AreWithin}
 
@@ -82,23 +82,39 @@ module _ (sizes variables : List ℕ) where
   above_number k l g (Literal n) le h = let lt = ltb-true g n h in record { at = slice_index variables k; count = n; column_is = refl; length_is = refl; below = omega arith }
   above_number k l g _ le h = absurd (cc h)
 
-  counted : (v : ℕ) (z : ℤ) → pos v <ℤ z → (n : ℕ) × (z ≡ pos n) × (v < n)
+  -- a natural number below the value
+  abbrev IsAbove : ℕ → ℤ → Type 0
+  IsAbove v z = (n : ℕ) × (z ≡ pos n) × (v < n)
+
+  counted : (v : ℕ) (z : ℤ) → pos v <ℤ z → IsAbove v z
   counted v (pos n) lt = (n, refl, omega (arith, ints))
   counted v (negsuc n) lt = absurd (omega (arith, ints))
 
+  counted_same : (v : ℕ) (known n : Expression) → pos v <ℤ exact sizes variables known → same known n ≡ true → IsAbove v (exact sizes variables n)
+  counted_same v known n lt h = subst (IsAbove v) (same_value known n h) (counted v (exact sizes variables known) lt)
+
+  counted_least : (v m : ℕ) (n : Expression) → pos v <ℤ pos m → is_at_least n m ≡ true → IsAbove v (exact sizes variables n)
+  counted_least v m (Literal n) lt h = let le = leb-true m n h in (n, refl, omega (arith, ints))
+  counted_least v m _ lt h = absurd (cc h)
+
+  counted_longer : (v : ℕ) (known n : Expression) → pos v <ℤ exact sizes variables known → is_no_longer known n ≡ true → IsAbove v (exact sizes variables n)
+  counted_longer v (Literal m) n lt h = counted_least v m n lt h
+  counted_longer v (Variable k l g) n lt h = counted_same v (Variable k l g) n lt h
+  counted_longer v (Size k) n lt h = counted_same v (Size k) n lt h
+  counted_longer v (Binary o a b) n lt h = counted_same v (Binary o a b) n lt h
+
   module _ (r : Ranges) (loops : AreBelowLengths r sizes variables) where
-    below_known : (k l g : ℕ) (n : Expression) (known : Option Index) → slice_get r.lengths.items k ≡ known → is_length known n ≡ true → IsColumn (Variable k l g) n
+    below_known : (k l g : ℕ) (n : Expression) (known : Option Index) → slice_get r.lengths.items k ≡ known → is_known_within known n ≡ true → IsColumn (Variable k l g) n
     below_known k l g n None at h = absurd (cc h)
     below_known k l g n (Some known) at h =
-        let value = same_value (expression_of known) n h in
-        let count = counted (slice_index variables k) (exact sizes variables (expression_of known)) (loops k known at) in
-        record { at = slice_index variables k; count = count.0; column_is = refl; length_is = sym value ∙ count.1; below = count.2 }
+        let count = counted_longer (slice_index variables k) (expression_of known) n (loops k known at) h in
+        record { at = slice_index variables k; count = count.0; column_is = refl; length_is = count.1; below = count.2 }
 
     column_of : (e n : Expression) → AreWithin variables e → is_below r e n ≡ true → IsColumn e n
     column_of (Variable k l g) n own h =
-        elim (one_of (is_above n g) (has_length r k n) h) [
-          inl a ↦ above_number k l g n own.1 a
-        | inr b ↦ below_known k l g n (slice_get r.lengths.items k) refl b
+        elim (one_of (is_above n g) (is_loop_within r k n) h) [
+          | inl a ↦ above_number k l g n own.1 a
+          | inr b ↦ below_known k l g n (slice_get r.lengths.items k) refl b
         ]
     column_of _ n own h = absurd (cc h)
 

@@ -1,7 +1,7 @@
--- The operation on two simplified expressions.
+-- What an expression is simplified to.
 use Rattle.std.specs.Prelude.{List, [], ◌∷◌, Option, Some, None, if◌then◌else◌}
 use Rattle.index_expr.specs.declared.operation.Operation.{Operation}
-use Rattle.index_expr.specs.Expression.{Expression, Binary}
+use Rattle.index_expr.specs.Expression.{Expression, Variable, Literal, Size, Binary}
 use Rattle.index_simplify.specs.declared.ranges.Ranges.{Ranges}
 use Rattle.index_simplify.specs.declared.law.Law.{Law}
 use Rattle.index_simplify.specs.declared.law.TheConstants.{LAWS}
@@ -19,3 +19,10 @@ by_law (Some law) o a b = applied law o a b
 -- by the first law of the table that is of it, if there is any
 abbrev pub operation_on : Ranges → Operation → Expression → Expression → Expression
 operation_on r o a b = by_law (first_law r o a b LAWS) o a b
+
+-- each operation on what its arguments are simplified to
+abbrev pub simple : Ranges → Expression → Expression
+simple r (Variable k l g) = Variable k l g
+simple r (Literal n) = Literal n
+simple r (Size k) = Size k
+simple r (Binary o a b) = operation_on r o (simple r a) (simple r b)

@@ -1,5 +1,5 @@
 -- Tests on index expressions.
-use Rattle.std.specs.Prelude.{ℕ, ◌==◌, ◌&&◌, ◌||◌, nat_lt, Bool, true, false, Option, Some, None, slice_get}
+use Rattle.std.specs.Prelude.{ℕ, ◌==◌, ◌&&◌, ◌||◌, nat_lt, nat_le, Bool, true, false, Option, Some, None, slice_get}
 use Rattle.index_expr.specs.declared.operation.Operation.{Operation}
 use Rattle.index_expr.specs.declared.operation.Operation.TheVariants.{Sum, Difference, Product, Quotient, Remainder, Least, Greatest}
 use Rattle.index_expr.specs.declared.index.Index.{Index}
@@ -41,17 +41,27 @@ abbrev pub is_above : Expression → ℕ → Bool
 is_above (Literal n) g = nat_lt g n
 is_above _ g = false
 
-abbrev pub is_length : Option Index → Expression → Bool
-is_length None n = false
-is_length (Some known) n = same (expression_of known) n
+-- a number, and at least this one
+abbrev pub is_at_least : Expression → ℕ → Bool
+is_at_least (Literal n) m = nat_le m n
+is_at_least _ m = false
 
--- the loop of this variable has this length
-abbrev pub has_length : Ranges → ℕ → Expression → Bool
-has_length r k n = is_length (slice_get r.lengths.items k) n
+-- a length that is the other, or both are numbers and it is no greater
+abbrev pub is_no_longer : (known length : Expression) → Bool
+is_no_longer (Literal m) n = is_at_least n m
+is_no_longer known n = same known n
 
--- a variable that stays below a length: by its own range below a number, or by its loop's length
+abbrev pub is_known_within : Option Index → Expression → Bool
+is_known_within None n = false
+is_known_within (Some known) n = is_no_longer (expression_of known) n
+
+-- the loop of this variable is no longer than this
+abbrev pub is_loop_within : Ranges → ℕ → Expression → Bool
+is_loop_within r k n = is_known_within (slice_get r.lengths.items k) n
+
+-- a variable that stays below a length: by its own range below a number, or because its loop is no longer
 abbrev pub is_below : Ranges → (column length : Expression) → Bool
-is_below r (Variable k l g) n = is_above n g || has_length r k n
+is_below r (Variable k l g) n = is_above n g || is_loop_within r k n
 is_below r _ n = false
 
 -- an expression without operations

@@ -15,36 +15,58 @@ pub struct Ranges {
 }
 
 impl Ranges {
-    // Whether the loop of this variable has this length.
-    fn has_length(&self, variable: u32, length: &Index) -> bool
-        ensures { result ≡ spec.has_length self.now variable (expression_of length.now) }
+    // Whether the loop of this variable is no longer than this.
+    fn is_loop_within(&self, variable: u32, length: &Index) -> bool
+        ensures { result ≡ spec.is_loop_within self.now variable (expression_of length.now) }
     {
         match self.lengths.get(variable as usize) {
             None => false,
-            Some(known) => same(known, length),
+            Some(known) => is_no_longer(known, length),
         }
     }
 
-    /// Whether a column is a variable that stays below a length: by its own range below a number, or by its loop's length.
+    /// Whether an expression is a variable that stays below a length: by its own range below a number, or because its loop is no longer.
     pub fn is_below(&self, column: &Index, length: &Index) -> bool
-        ensures { result ≡ spec.is_below self.now (expression_of column.now) (expression_of length.now) }
+        ensures { result
+            ≡ spec.is_below self.now (expression_of column.now) (expression_of length.now) }
     {
         match column {
             Index::Variable {
                 number,
                 greatest,
                 ..
-            } => is_above(length, *greatest) || self.has_length(*number, length),
+            } => is_above(length, *greatest) || self.is_loop_within(*number, length),
             Index::Literal(_) | Index::Size(_) | Index::Binary(_, _, _) => false,
         }
     }
 }
 
+// Whether it is a number above this one.
 fn is_above(length: &Index, greatest: u32) -> bool
     ensures { result ≡ spec.is_above (expression_of length.now) greatest }
 {
     match length {
         Index::Literal(n) => greatest < *n,
         Index::Variable { .. } | Index::Size(_) | Index::Binary(_, _, _) => false,
+    }
+}
+
+// Whether it is a number, and at least this one.
+fn is_at_least(length: &Index, least: u32) -> bool
+    ensures { result ≡ spec.is_at_least (expression_of length.now) least }
+{
+    match length {
+        Index::Literal(n) => least <= *n,
+        Index::Variable { .. } | Index::Size(_) | Index::Binary(_, _, _) => false,
+    }
+}
+
+// Whether a length is the other, or both are numbers and it is no greater.
+fn is_no_longer(known: &Index, length: &Index) -> bool
+    ensures { result ≡ spec.is_no_longer (expression_of known.now) (expression_of length.now) }
+{
+    match known {
+        Index::Literal(n) => is_at_least(length, *n),
+        Index::Variable { .. } | Index::Size(_) | Index::Binary(_, _, _) => same(known, length),
     }
 }

@@ -47,17 +47,27 @@ fn operation_on(
     }
 }
 
-/// An expression that has the value of this one at every point of the ranges, and is ranged wherever it is; none of its nodes has a shape that something simpler has the value of, and it has no more of them.
-#[tactic(auto, using(crate::proofs::Operations::is_simplified, crate::proofs::Operations::leaf_simplified))]
-pub fn simplified(alloc: Global, index: &Index, ranges: &Ranges) -> Result<Index, AllocError>
-    ensures { IfOk result (λ e. IsSimplified ranges.now (expression_of index.now) (expression_of e)) }
+fn simple(alloc: Global, index: &Index, ranges: &Ranges) -> Result<Index, AllocError>
+    ensures { IfOk result (λ e. expression_of e ≡ spec.simple ranges.now (expression_of index.now)) }
 {
     match index {
         Index::Binary(operation, a, b) => {
-            let a = simplified(alloc, a, ranges)?;
-            let b = simplified(alloc, b, ranges)?;
+            let a = simple(alloc, a, ranges)?;
+            let b = simple(alloc, b, ranges)?;
             operation_on(alloc, *operation, a, b, ranges)
         }
         Index::Variable { .. } | Index::Literal(_) | Index::Size(_) => index.copy(alloc),
     }
+}
+
+/// An expression with the value of this one at every point of the ranges, ranged wherever it is; it has no more nodes, and none of a shape that something simpler has the value of.
+///
+/// It is found in one pass, from the leaves up, and in memory of its own. Its work is of as many steps as the expression has nodes.
+pub fn simplified(alloc: Global, index: &Index, ranges: &Ranges) -> Result<Index, AllocError>
+    ensures function { IfOk result
+        (λ e. expression_of e ≡ spec.simple ranges.now (expression_of index.now)) }
+    ensures simplified { IfOk result
+        (λ e. IsSimplified ranges.now (expression_of index.now) (expression_of e)) }
+{
+    simple(alloc, index, ranges)
 }
