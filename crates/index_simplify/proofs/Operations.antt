@@ -1,16 +1,17 @@
 -- An operation on two simplified expressions, by a law or as it is, is simplified.
 use Rattle.std.proofs.Common.{◌≡◌, ◌≢◌, ℕ, ℤ, pos, Bool, true, false, Option, Some, None, List, refl, sym, ap, ◌∙◌, subst, arith}
 use Rattle.index_expr.specs.declared.operation.Operation.{Operation}
+use Rattle.index_expr.specs.declared.operation.Operation.TheVariants.{Product}
 use Rattle.index_expr.specs.Expression.{Expression, Variable, Literal, Size, Binary, expression_of}
 use Rattle.index_expr.specs.Values.{operate, exact, EachOperation, Divides, WantsWords, IsWord, HasWordArgumentsAt, HasNoZeroDivisorAt, IsRangedAt}
 use Rattle.index_simplify.specs.declared.ranges.Ranges.{Ranges}
 use Rattle.index_simplify.specs.declared.law.Law.{Law}
-use Rattle.index_simplify.specs.declared.law.Law.TheVariants.{Computed, PlusZero, ZeroPlus, MinusZero, MinusItself, TimesOne, OneTimes, TimesZero, ZeroTimes, OverOne, ModuloOne, RowOfCell, ColumnOfCell, CellOfParts}
+use Rattle.index_simplify.specs.declared.law.Law.TheVariants.{Computed, PlusZero, ZeroPlus, MinusZero, MinusItself, TimesOne, OneTimes, TimesZero, ZeroTimes, OverOne, ModuloOne, WholeSize, ScaledSize, RowOfCell, ColumnOfCell, CellOfParts}
 use Rattle.index_simplify.specs.declared.law.TheConstants.{LAWS}
-use Rattle.index_simplify.specs.Laws.{first_part, second_part, applies, applied}
+use Rattle.index_simplify.specs.Laws.{first_part, second_part, scaled, applies, applied}
 use Rattle.index_simplify.specs.Tests.{is_leaf}
 use Rattle.index_simplify.specs.Operations.{first_law, by_law, operation_on, simple}
-use Rattle.index_simplify.specs.Ranges.{AreBelowLengths, AreWithin, IsPoint}
+use Rattle.index_simplify.specs.Ranges.{AreBelowLengths, AreMultiples, AreWithin, IsPoint}
 use Rattle.index_simplify.specs.Shapes.{IsSimple}
 use Rattle.index_simplify.specs.Simplified.{StandsFor, IsNoLarger, IsSimplified}
 use Rattle.std.specs.Prelude.{Result, Ok, Err, IfOk}
@@ -21,21 +22,35 @@ use Rattle.index_simplify.proofs.Values.{law_value}
 use Rattle.index_simplify.proofs.Shapes.{found_applies, no_law_is_plain}
 
 -- ---- what holds of each operation, and of each variable, holds in what a law leaves
-applied_operations : (P : Operation → Expression → Expression → Type 0) (law : Law) (o : Operation) (a b : Expression) → EachOperation P a → EachOperation P b → EachOperation P (applied law o a b)
-applied_operations P Computed o a b x y = tt
-applied_operations P PlusZero o a b x y = x
-applied_operations P ZeroPlus o a b x y = y
-applied_operations P MinusZero o a b x y = x
-applied_operations P MinusItself o a b x y = tt
-applied_operations P TimesOne o a b x y = x
-applied_operations P OneTimes o a b x y = y
-applied_operations P TimesZero o a b x y = tt
-applied_operations P ZeroTimes o a b x y = tt
-applied_operations P OverOne o a b x y = x
-applied_operations P ModuloOne o a b x y = tt
-applied_operations P RowOfCell o a b x y = first_operations P (first_part a) (first_operations P a x)
-applied_operations P ColumnOfCell o a b x y = second_operations P a x
-applied_operations P CellOfParts o a b x y = first_operations P (first_part a) (first_operations P a x)
+scaled_operations : (P : Operation → Expression → Expression → Type 0) → ((a b : Expression) → P Product a b) → (a b : Expression) → EachOperation P b → EachOperation P (scaled a b)
+scaled_operations P products a (Variable k l g) y = y
+scaled_operations P products a (Literal n) y = y
+scaled_operations P products a (Size k) y = y
+scaled_operations P products a (Binary o size d) y = (products _ _, tt, y.1)
+
+scaled_within : (variables : List ℕ) (a b : Expression) → AreWithin variables b → AreWithin variables (scaled a b)
+scaled_within variables a (Variable k l g) y = y
+scaled_within variables a (Literal n) y = y
+scaled_within variables a (Size k) y = y
+scaled_within variables a (Binary o size d) y = (tt, y.0)
+
+applied_operations : (P : Operation → Expression → Expression → Type 0) → ((a b : Expression) → P Product a b) → (law : Law) (o : Operation) (a b : Expression) → EachOperation P a → EachOperation P b → EachOperation P (applied law o a b)
+applied_operations P products Computed o a b x y = tt
+applied_operations P products PlusZero o a b x y = x
+applied_operations P products ZeroPlus o a b x y = y
+applied_operations P products MinusZero o a b x y = x
+applied_operations P products MinusItself o a b x y = tt
+applied_operations P products TimesOne o a b x y = x
+applied_operations P products OneTimes o a b x y = y
+applied_operations P products TimesZero o a b x y = tt
+applied_operations P products ZeroTimes o a b x y = tt
+applied_operations P products OverOne o a b x y = x
+applied_operations P products ModuloOne o a b x y = tt
+applied_operations P products WholeSize o a b x y = first_operations P b y
+applied_operations P products ScaledSize o a b x y = scaled_operations P products a b y
+applied_operations P products RowOfCell o a b x y = first_operations P (first_part a) (first_operations P a x)
+applied_operations P products ColumnOfCell o a b x y = second_operations P a x
+applied_operations P products CellOfParts o a b x y = first_operations P (first_part a) (first_operations P a x)
 
 applied_within : (variables : List ℕ) (law : Law) (o : Operation) (a b : Expression) → AreWithin variables a → AreWithin variables b → AreWithin variables (applied law o a b)
 applied_within variables Computed o a b x y = tt
@@ -49,6 +64,8 @@ applied_within variables TimesZero o a b x y = tt
 applied_within variables ZeroTimes o a b x y = tt
 applied_within variables OverOne o a b x y = x
 applied_within variables ModuloOne o a b x y = tt
+applied_within variables WholeSize o a b x y = first_within variables b y
+applied_within variables ScaledSize o a b x y = scaled_within variables a b y
 applied_within variables RowOfCell o a b x y = first_within variables (first_part a) (first_within variables a x)
 applied_within variables ColumnOfCell o a b x y = second_within variables a x
 applied_within variables CellOfParts o a b x y = first_within variables (first_part a) (first_within variables a x)
@@ -77,20 +94,20 @@ module _ (sizes variables : List ℕ) where
       (λ h. ((λ w e. h.0 w (sym y.value ∙ e)), x.divisors h.1, y.divisors h.2))
       (x.own, y.own)
 
-  law_stands : (r : Ranges) → AreBelowLengths r sizes variables → (law : Law) (o : Operation) (a b : Expression) → AreWithin variables a → AreWithin variables b → applies r law o a b ≡ true → StandsFor sizes variables (Binary o a b) (applied law o a b)
-  law_stands r loops law o a b x y h =
+  law_stands : (r : Ranges) → AreBelowLengths r sizes variables → AreMultiples r sizes → (law : Law) (o : Operation) (a b : Expression) → AreWithin variables a → AreWithin variables b → applies r law o a b ≡ true → StandsFor sizes variables (Binary o a b) (applied law o a b)
+  law_stands r loops all law o a b x y h =
       stands_by (Binary o a b) (applied law o a b)
-      (law_value sizes variables r loops law o a b x h)
-      (λ w. applied_operations (λ q c d. WantsWords q → IsWord (exact sizes variables c) × IsWord (exact sizes variables d)) law o a b w.1 w.2)
-      (λ w. applied_operations (λ q c d. Divides q → exact sizes variables d ≢ pos 0) law o a b w.1 w.2)
+      (law_value sizes variables r loops all law o a b x h)
+      (λ w. applied_operations (λ q c d. WantsWords q → IsWord (exact sizes variables c) × IsWord (exact sizes variables d)) (λ c d w. absurd w) law o a b w.1 w.2)
+      (λ w. applied_operations (λ q c d. Divides q → exact sizes variables d ≢ pos 0) (λ c d w. absurd w) law o a b w.1 w.2)
       (applied_within variables law o a b x y)
 
 module _ (r : Ranges) (o : Operation) (a b c d : Expression) (x : IsSimplified r a c) (y : IsSimplified r b d) where
   first_stands : (sizes variables : List ℕ) → IsPoint r sizes variables (Binary o a b) → StandsFor sizes variables a c
-  first_stands sizes variables p = x.stands sizes variables (record { loops = p.loops; own = p.own.0 })
+  first_stands sizes variables p = x.stands sizes variables (record { loops = p.loops; multiples = p.multiples; own = p.own.0 })
 
   second_stands : (sizes variables : List ℕ) → IsPoint r sizes variables (Binary o a b) → StandsFor sizes variables b d
-  second_stands sizes variables p = y.stands sizes variables (record { loops = p.loops; own = p.own.1 })
+  second_stands sizes variables p = y.stands sizes variables (record { loops = p.loops; multiples = p.multiples; own = p.own.1 })
 
   by_stands : (found : Option Law) → first_law r o c d LAWS ≡ found → (sizes variables : List ℕ) → IsPoint r sizes variables (Binary o a b) → StandsFor sizes variables (Binary o a b) (by_law found o c d)
   by_stands None e sizes variables p = stands_joined sizes variables o a b c d (first_stands sizes variables p) (second_stands sizes variables p)
@@ -99,7 +116,7 @@ module _ (r : Ranges) (o : Operation) (a b c d : Expression) (x : IsSimplified r
       let second = second_stands sizes variables p in
       stands_then sizes variables (Binary o a b) (Binary o c d) (applied law o c d)
       (stands_joined sizes variables o a b c d first second)
-      (law_stands sizes variables r p.loops law o c d first.own second.own (found_applies r o c d LAWS law e))
+      (law_stands sizes variables r p.loops p.multiples law o c d first.own second.own (found_applies r o c d LAWS law e))
 
   by_small : (found : Option Law) → IsNoLarger (Binary o a b) (by_law found o c d)
   by_small None = joined_small o a b c d x.small y.small
@@ -107,7 +124,7 @@ module _ (r : Ranges) (o : Operation) (a b c d : Expression) (x : IsSimplified r
 
   by_simple : (found : Option Law) → first_law r o c d LAWS ≡ found → IsSimple (by_law found o c d)
   by_simple None e = (no_law_is_plain r o c d e, x.simple, y.simple)
-  by_simple (Some law) e = applied_simple law o c d x.simple y.simple
+  by_simple (Some law) e = applied_simple r law o c d (found_applies r o c d LAWS law e) x.simple y.simple
 
   operation_simplified : IsSimplified r (Binary o a b) (operation_on r o c d)
   operation_simplified = record {

@@ -82,9 +82,11 @@ module _ (r : Ranges) (o : Operation) (a b : Expression) where
   fails_each h law.ZeroTimes = h.1.1.1.1.1.1.1.1.0
   fails_each h law.OverOne = h.1.1.1.1.1.1.1.1.1.0
   fails_each h law.ModuloOne = h.1.1.1.1.1.1.1.1.1.1.0
-  fails_each h law.RowOfCell = h.1.1.1.1.1.1.1.1.1.1.1.0
-  fails_each h law.ColumnOfCell = h.1.1.1.1.1.1.1.1.1.1.1.1.0
-  fails_each h law.CellOfParts = h.1.1.1.1.1.1.1.1.1.1.1.1.1.0
+  fails_each h law.WholeSize = h.1.1.1.1.1.1.1.1.1.1.1.0
+  fails_each h law.ScaledSize = h.1.1.1.1.1.1.1.1.1.1.1.1.0
+  fails_each h law.RowOfCell = h.1.1.1.1.1.1.1.1.1.1.1.1.1.0
+  fails_each h law.ColumnOfCell = h.1.1.1.1.1.1.1.1.1.1.1.1.1.1.0
+  fails_each h law.CellOfParts = h.1.1.1.1.1.1.1.1.1.1.1.1.1.1.1.0
 
   clash : (t : Bool) → t ≡ true → t ≡ false → ⊥
   clash t x y = absurd (cc (x, y))

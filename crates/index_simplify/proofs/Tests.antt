@@ -1,19 +1,20 @@
 -- What the tests on expressions mean for their values.
-use Rattle.std.proofs.Common.{◌≡◌, ℕ, ℤ, pos, negsuc, ◌+◌, ◌*◌, ◌<◌, ◌≤◌, ◌+ℤ◌, ◌-ℤ◌, ◌*ℤ◌, Bool, true, false, Option, Some, None, List, refl, sym, ap, ◌∙◌, subst, arith}
-use Rattle.std.specs.Prelude.{◌==◌, ◌&&◌, ◌||◌, ◌<ℤ◌, nat_lt, slice_get, slice_index, int_div, int_rem, ◌⊎◌}
+use Rattle.std.proofs.Common.{◌≡◌, ℕ, ℤ, pos, negsuc, ◌+◌, ◌*◌, ◌/◌, ◌%◌, ◌<◌, ◌≤◌, ◌+ℤ◌, ◌-ℤ◌, ◌*ℤ◌, Bool, true, false, Option, Some, None, List, refl, sym, ap, ◌∙◌, subst, arith}
+use Rattle.std.specs.Prelude.{◌==◌, ◌&&◌, ◌||◌, ◌<ℤ◌, nat_lt, slice_get, slice_index, unsigned_abs, int_div, int_rem, ◌⊎◌}
 use Rattle.std.proofs.Common.{inl, inr}
 use Rattle.std.proofs.lemmas.Bool.{eqb-true, ltb-true, leb-true}
 use Rattle.std.proofs.lemmas.Int.{ints, quot-rem}
 use Rattle.std.proofs.lemmas.Nat.{div-mul-add, mod-mul-add}
+use Rattle.std.proofs.Math.Nat.{div-add-mod, mul_assoc, mul_comm}
 use Rattle.index_expr.specs.declared.operation.Operation.{Operation}
 use Rattle.index_expr.specs.declared.operation.Operation.TheVariants.{Sum, Difference, Product, Quotient, Remainder, Least, Greatest}
 use Rattle.index_expr.specs.declared.index.Index.{Index}
 use Rattle.index_expr.specs.Expression.{Expression, Variable, Literal, Size, Binary, expression_of}
 use Rattle.index_expr.specs.Values.{operate, exact}
 use Rattle.index_simplify.specs.declared.ranges.Ranges.{Ranges}
-use Rattle.index_simplify.specs.Tests.{same_operation, same_variable, is_number, same_size, same, is_above, is_at_least, is_no_longer, is_known_within, is_loop_within, is_below, is_leaf, is_begin, is_cell, is_quotient, is_rounded, are_parts}
-use Rattle.index_simplify.specs.Laws.{first_part, second_part}
-use Rattle.index_simplify.specs.Ranges.{AreBelowLengths, AreWithin}
+use Rattle.index_simplify.specs.Tests.{same_operation, same_variable, is_number, same_size, same, is_above, is_at_least, is_no_longer, is_known_within, is_loop_within, is_below, is_leaf, is_begin, is_cell, is_quotient, is_rounded, are_parts, is_known_multiple, is_multiple_at, is_multiple, is_part_of, is_base, is_part_base, is_whole_size, is_scaled_size}
+use Rattle.index_simplify.specs.Laws.{first_part, second_part, scaled}
+use Rattle.index_simplify.specs.Ranges.{AreBelowLengths, AreMultiples, AreWithin}
 
 pub both : (a b : Bool) → (a && b) ≡ true → (a ≡ true) × (b ≡ true)
 both true b e = (refl, e)
@@ -153,6 +154,76 @@ module _ (sizes variables : List ℕ) where
     column_value e m own h =
         let c = cell_of e m own h in
         sym (column_from _ _ _ _ c.row_at c.within.at c.within.count c.row_is c.within.length_is c.within.column_is c.cell_is c.within.below)
+
+  multiple_value : (r : Ranges) (k : ℕ) (d : Expression) (known : Option ℕ) → AreMultiples r sizes → slice_get r.multiples.items k ≡ known → is_known_multiple known d ≡ true → (m : ℕ) × (exact sizes variables d ≡ pos m) × (slice_index sizes k % m ≡ 0)
+  multiple_value r k d None all at h = absurd (cc h)
+  multiple_value r k d (Some m) all at h = (m, sym (number_value m d h), all k m at)
+
+  -- the values of a size and of a divisor that it is a multiple of
+  record IsMultipleOf (size divisor : Expression) : Type 0 where
+    size_at : ℕ
+    divisor_at : ℕ
+    size_is : exact sizes variables size ≡ pos size_at
+    divisor_is : exact sizes variables divisor ≡ pos divisor_at
+    rest : size_at % divisor_at ≡ 0
+
+  multiple_of : (r : Ranges) (size d : Expression) → AreMultiples r sizes → is_multiple r size d ≡ true → IsMultipleOf size d
+  multiple_of r (Size k) d all h =
+      let found = multiple_value r k d (slice_get r.multiples.items k) all refl h in
+      record { size_at = slice_index sizes k; divisor_at = found.0; size_is = refl; divisor_is = found.1; rest = found.2 }
+  multiple_of r _ d all h = absurd (cc h)
+
+  -- a multiple is its divisor times what it is over it
+  whole : (s d : ℕ) → s % d ≡ 0 → d * (s / d) ≡ s
+  whole s d e = let same = div-add-mod s d in omega arith
+
+  whole_from : (S D C : ℤ) (s d : ℕ) → S ≡ pos s → D ≡ pos d → C ≡ D → s % d ≡ 0 → S ≡ C *ℤ int_div S D
+  whole_from S D C s d a b c e = rw (c, a, b) (ap pos (sym (whole s d e)))
+
+  base_value : (r : Ranges) (c : ℕ) (b : Expression) → AreMultiples r sizes → is_base r c b ≡ true → exact sizes variables (first_part b) ≡ pos c *ℤ exact sizes variables b
+  base_value r c (Binary Quotient size d) all h =
+      let parts = both (is_number c d) (is_multiple r size d) h in
+      let m = multiple_of r size d all parts.1 in
+      whole_from (exact sizes variables size) (exact sizes variables d) (pos c) m.size_at m.divisor_at m.size_is m.divisor_is (number_value c d parts.0) m.rest
+  base_value r c _ all h = absurd (cc h)
+
+  pub whole_size_value : (r : Ranges) (a b : Expression) → AreMultiples r sizes → is_whole_size r a b ≡ true → exact sizes variables (first_part b) ≡ exact sizes variables a *ℤ exact sizes variables b
+  whole_size_value r (Literal c) b all h = base_value r c b all h
+  whole_size_value r _ b all h = absurd (cc h)
+
+  -- a number of which a lesser one is a divisor
+  pub record IsPartOf (c : ℕ) (e : Expression) : Type 0 where
+    pub part : ℕ
+    pub literal : e ≡ Literal part
+    pub below : part < c
+    pub rest : c % part ≡ 0
+
+  pub part_of : (c : ℕ) (e : Expression) → is_part_of c e ≡ true → IsPartOf c e
+  part_of c (Literal d) h =
+      let parts = both (nat_lt 0 d && nat_lt d c) (c % d == 0) h in
+      let front = both (nat_lt 0 d) (nat_lt d c) parts.0 in
+      record { part = d; literal = refl; below = ltb-true d c front.1; rest = eqb-true (c % d) 0 parts.1 }
+  part_of c _ h = absurd (cc h)
+
+  scaled_number : (c s d : ℕ) → c % d ≡ 0 → s % d ≡ 0 → (c / d) * s ≡ c * (s / d)
+  scaled_number c s d e f =
+      ap (λ x. (c / d) * x) (sym (whole s d f)) ∙ sym (mul_assoc (c / d) d (s / d)) ∙ ap (λ x. x * (s / d)) (mul_comm (c / d) d ∙ whole c d e)
+
+  scaled_from : (S D : ℤ) (c s d : ℕ) → S ≡ pos s → D ≡ pos d → c % d ≡ 0 → s % d ≡ 0 → pos (c / d) *ℤ S ≡ pos c *ℤ int_div S D
+  scaled_from S D c s d a b e f = rw (a, b) (ap pos (scaled_number c s d e f))
+
+  part_base_value : (r : Ranges) (c : ℕ) (b : Expression) → AreMultiples r sizes → is_part_base r c b ≡ true → exact sizes variables (scaled (Literal c) b) ≡ pos c *ℤ exact sizes variables b
+  part_base_value r c (Binary Quotient size (Literal d)) all h =
+      let parts = both (is_part_of c (Literal d)) (is_multiple r size (Literal d)) h in
+      let m = multiple_of r size (Literal d) all parts.1 in
+      let front = both (nat_lt 0 d && nat_lt d c) (c % d == 0) parts.0 in
+      let same : d ≡ m.divisor_at = ap unsigned_abs m.divisor_is in
+      scaled_from (exact sizes variables size) (pos d) c m.size_at d m.size_is refl (eqb-true (c % d) 0 front.1) (subst (λ x. m.size_at % x ≡ 0) (sym same) m.rest)
+  part_base_value r c _ all h = absurd (cc h)
+
+  pub scaled_size_value : (r : Ranges) (a b : Expression) → AreMultiples r sizes → is_scaled_size r a b ≡ true → exact sizes variables (scaled a b) ≡ exact sizes variables a *ℤ exact sizes variables b
+  scaled_size_value r (Literal c) b all h = part_base_value r c b all h
+  scaled_size_value r _ b all h = absurd (cc h)
 
   quotient_value : (q d m : Expression) → is_quotient q d m ≡ true → (exact sizes variables q ≡ int_div (exact sizes variables d) (exact sizes variables m)) × (exact sizes variables (first_part q) ≡ exact sizes variables d)
   quotient_value (Binary Quotient e n) d m h =

@@ -11,12 +11,12 @@ use Rattle.index_expr.specs.Expression.{Expression, Variable, Literal, Size, Bin
 use Rattle.index_expr.specs.Values.{operate, exact}
 use Rattle.index_simplify.specs.declared.ranges.Ranges.{Ranges}
 use Rattle.index_simplify.specs.declared.law.Law.{Law}
-use Rattle.index_simplify.specs.declared.law.Law.TheVariants.{Computed, PlusZero, ZeroPlus, MinusZero, MinusItself, TimesOne, OneTimes, TimesZero, ZeroTimes, OverOne, ModuloOne, RowOfCell, ColumnOfCell, CellOfParts}
+use Rattle.index_simplify.specs.declared.law.Law.TheVariants.{Computed, PlusZero, ZeroPlus, MinusZero, MinusItself, TimesOne, OneTimes, TimesZero, ZeroTimes, OverOne, ModuloOne, WholeSize, ScaledSize, RowOfCell, ColumnOfCell, CellOfParts}
 use Rattle.index_simplify.specs.Literals.{word, difference, computed_from, computed_with, computed}
-use Rattle.index_simplify.specs.Tests.{same_operation, is_number, same, is_cell, are_parts}
-use Rattle.index_simplify.specs.Laws.{first_part, second_part, applies, applied}
-use Rattle.index_simplify.specs.Ranges.{AreBelowLengths, AreWithin}
-use Rattle.index_simplify.proofs.Tests.{both, is_operation, number_value, same_value, row_value, column_value, parts_value}
+use Rattle.index_simplify.specs.Tests.{same_operation, is_number, same, is_cell, are_parts, is_whole_size, is_scaled_size}
+use Rattle.index_simplify.specs.Laws.{first_part, second_part, scaled, applies, applied}
+use Rattle.index_simplify.specs.Ranges.{AreBelowLengths, AreMultiples, AreWithin}
+use Rattle.index_simplify.proofs.Tests.{both, is_operation, number_value, same_value, row_value, column_value, parts_value, whole_size_value, scaled_size_value}
 
 -- ---- the laws over the whole numbers
 plus_zero : (z : ℤ) → z ≡ z +ℤ pos 0
@@ -108,18 +108,20 @@ module _ (sizes variables : List ℕ) where
       let parts = both (same_operation o p) t h in
       e parts.1 ∙ ap (λ q. operate q (exact sizes variables a) (exact sizes variables b)) (sym (is_operation o p parts.0))
 
-  pub law_value : (r : Ranges) → AreBelowLengths r sizes variables → (law : Law) (o : Operation) (a b : Expression) → AreWithin variables a → applies r law o a b ≡ true → exact sizes variables (applied law o a b) ≡ operate o (exact sizes variables a) (exact sizes variables b)
-  law_value r loops Computed o a b own h = computed_value o a b h
-  law_value r loops PlusZero o a b own h = by_second o Sum 0 a b a h (plus_zero (exact sizes variables a))
-  law_value r loops ZeroPlus o a b own h = by_first o Sum 0 a b b h (zero_plus (exact sizes variables b))
-  law_value r loops MinusZero o a b own h = by_second o Difference 0 a b a h (minus_zero (exact sizes variables a))
-  law_value r loops MinusItself o a b own h = by_test o Difference (same a b) a b (Literal 0) h (λ t. minus_itself (exact sizes variables a) ∙ ap (λ z. exact sizes variables a -ℤ z) (same_value sizes variables a b t))
-  law_value r loops TimesOne o a b own h = by_second o Product 1 a b a h (times_one (exact sizes variables a))
-  law_value r loops OneTimes o a b own h = by_first o Product 1 a b b h (one_times (exact sizes variables b))
-  law_value r loops TimesZero o a b own h = by_second o Product 0 a b (Literal 0) h (times_zero (exact sizes variables a))
-  law_value r loops ZeroTimes o a b own h = by_first o Product 0 a b (Literal 0) h (zero_times (exact sizes variables b))
-  law_value r loops OverOne o a b own h = by_second o Quotient 1 a b a h (over_one (exact sizes variables a))
-  law_value r loops ModuloOne o a b own h = by_second o Remainder 1 a b (Literal 0) h (modulo_one (exact sizes variables a))
-  law_value r loops RowOfCell o a b own h = by_test o Quotient (is_cell r a b) a b (first_part (first_part a)) h (row_value sizes variables r loops a b own)
-  law_value r loops ColumnOfCell o a b own h = by_test o Remainder (is_cell r a b) a b (second_part a) h (column_value sizes variables r loops a b own)
-  law_value r loops CellOfParts o a b own h = by_test o Sum (are_parts a b) a b (first_part (first_part a)) h (parts_value sizes variables a b)
+  pub law_value : (r : Ranges) → AreBelowLengths r sizes variables → AreMultiples r sizes → (law : Law) (o : Operation) (a b : Expression) → AreWithin variables a → applies r law o a b ≡ true → exact sizes variables (applied law o a b) ≡ operate o (exact sizes variables a) (exact sizes variables b)
+  law_value r loops all Computed o a b own h = computed_value o a b h
+  law_value r loops all PlusZero o a b own h = by_second o Sum 0 a b a h (plus_zero (exact sizes variables a))
+  law_value r loops all ZeroPlus o a b own h = by_first o Sum 0 a b b h (zero_plus (exact sizes variables b))
+  law_value r loops all MinusZero o a b own h = by_second o Difference 0 a b a h (minus_zero (exact sizes variables a))
+  law_value r loops all MinusItself o a b own h = by_test o Difference (same a b) a b (Literal 0) h (λ t. minus_itself (exact sizes variables a) ∙ ap (λ z. exact sizes variables a -ℤ z) (same_value sizes variables a b t))
+  law_value r loops all TimesOne o a b own h = by_second o Product 1 a b a h (times_one (exact sizes variables a))
+  law_value r loops all OneTimes o a b own h = by_first o Product 1 a b b h (one_times (exact sizes variables b))
+  law_value r loops all TimesZero o a b own h = by_second o Product 0 a b (Literal 0) h (times_zero (exact sizes variables a))
+  law_value r loops all ZeroTimes o a b own h = by_first o Product 0 a b (Literal 0) h (zero_times (exact sizes variables b))
+  law_value r loops all OverOne o a b own h = by_second o Quotient 1 a b a h (over_one (exact sizes variables a))
+  law_value r loops all ModuloOne o a b own h = by_second o Remainder 1 a b (Literal 0) h (modulo_one (exact sizes variables a))
+  law_value r loops all WholeSize o a b own h = by_test o Product (is_whole_size r a b) a b (first_part b) h (whole_size_value sizes variables r a b all)
+  law_value r loops all ScaledSize o a b own h = by_test o Product (is_scaled_size r a b) a b (scaled a b) h (scaled_size_value sizes variables r a b all)
+  law_value r loops all RowOfCell o a b own h = by_test o Quotient (is_cell r a b) a b (first_part (first_part a)) h (row_value sizes variables r loops a b own)
+  law_value r loops all ColumnOfCell o a b own h = by_test o Remainder (is_cell r a b) a b (second_part a) h (column_value sizes variables r loops a b own)
+  law_value r loops all CellOfParts o a b own h = by_test o Sum (are_parts a b) a b (first_part (first_part a)) h (parts_value sizes variables a b)

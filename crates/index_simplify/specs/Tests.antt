@@ -1,5 +1,5 @@
 -- Tests on index expressions.
-use Rattle.std.specs.Prelude.{ℕ, ◌==◌, ◌&&◌, ◌||◌, nat_lt, nat_le, Bool, true, false, Option, Some, None, slice_get}
+use Rattle.std.specs.Prelude.{ℕ, ◌==◌, ◌%◌, ◌&&◌, ◌||◌, nat_lt, nat_le, Bool, true, false, Option, Some, None, slice_get}
 use Rattle.index_expr.specs.declared.operation.Operation.{Operation}
 use Rattle.index_expr.specs.declared.operation.Operation.TheVariants.{Sum, Difference, Product, Quotient, Remainder, Least, Greatest}
 use Rattle.index_expr.specs.declared.index.Index.{Index}
@@ -63,6 +63,43 @@ is_loop_within r k n = is_known_within (slice_get r.lengths.items k) n
 abbrev pub is_below : Ranges → (column length : Expression) → Bool
 is_below r (Variable k l g) n = is_above n g || is_loop_within r k n
 is_below r _ n = false
+
+abbrev pub is_known_multiple : Option ℕ → Expression → Bool
+is_known_multiple None n = false
+is_known_multiple (Some m) n = is_number m n
+
+abbrev pub is_multiple_at : Ranges → ℕ → Expression → Bool
+is_multiple_at r k n = is_known_multiple (slice_get r.multiples.items k) n
+
+-- a size, and the number that it is a multiple of
+abbrev pub is_multiple : Ranges → (size divisor : Expression) → Bool
+is_multiple r (Size k) n = is_multiple_at r k n
+is_multiple r _ n = false
+
+-- a divisor of this number, and below it
+abbrev pub is_part_of : ℕ → Expression → Bool
+is_part_of c (Literal d) = nat_lt 0 d && nat_lt d c && (c % d == 0)
+is_part_of c _ = false
+
+-- a size over the number that it is a multiple of, which is this one
+abbrev pub is_base : Ranges → ℕ → Expression → Bool
+is_base r c (Binary Quotient size d) = is_number c d && is_multiple r size d
+is_base r c _ = false
+
+-- a size over the number that it is a multiple of, which is a part of this one
+abbrev pub is_part_base : Ranges → ℕ → Expression → Bool
+is_part_base r c (Binary Quotient size d) = is_part_of c d && is_multiple r size d
+is_part_base r c _ = false
+
+-- a literal and a size over it
+abbrev pub is_whole_size : Ranges → Expression → Expression → Bool
+is_whole_size r (Literal c) b = is_base r c b
+is_whole_size r _ b = false
+
+-- a literal and a size over a part of it
+abbrev pub is_scaled_size : Ranges → Expression → Expression → Bool
+is_scaled_size r (Literal c) b = is_part_base r c b
+is_scaled_size r _ b = false
 
 -- an expression without operations
 abbrev pub is_leaf : Expression → Bool

@@ -35,6 +35,10 @@ pub enum Law {
     OverOne,
     /// `e mod 1` is 0.
     ModuloOne,
+    /// `d * (s / d)` is `s`, a size that is a multiple of `d`.
+    WholeSize,
+    /// `c * (s / d)` is `(c / d) * s`, where the size `s` and the greater `c` are multiples of `d`.
+    ScaledSize,
     /// `(i * n + j) / n` is `i`, where `j` is below `n`.
     RowOfCell,
     /// `(i * n + j) mod n` is `j`, where `j` is below `n`.
@@ -44,7 +48,7 @@ pub enum Law {
 }
 
 /// The laws that are tried, in this order.
-pub const LAWS: [Law; 14] = [
+pub const LAWS: [Law; 16] = [
     Law::Computed,
     Law::PlusZero,
     Law::ZeroPlus,
@@ -56,6 +60,8 @@ pub const LAWS: [Law; 14] = [
     Law::ZeroTimes,
     Law::OverOne,
     Law::ModuloOne,
+    Law::WholeSize,
+    Law::ScaledSize,
     Law::RowOfCell,
     Law::ColumnOfCell,
     Law::CellOfParts,
@@ -124,6 +130,83 @@ fn are_parts(a: &Index, b: &Index) -> bool
     }
 }
 
+// Whether it is a divisor of this number, and below it.
+fn is_part_of(number: u32, divisor: &Index) -> bool
+    ensures { result ≡ tests.is_part_of number (expression_of divisor.now) }
+{
+    match divisor {
+        Index::Literal(d) => 0 < *d && *d < number && number % *d == 0,
+        Index::Variable { .. } | Index::Size(_) | Index::Binary(_, _, _) => false,
+    }
+}
+
+// Whether it is a size over this number, of which it is a multiple.
+fn is_base(e: &Index, divisor: u32, ranges: &Ranges) -> bool
+    ensures { result ≡ tests.is_base ranges.now divisor (expression_of e.now) }
+{
+    match e {
+        Index::Binary(Operation::Quotient, size, d) => {
+            is_number(divisor, d) && ranges.is_multiple(size, d)
+        }
+        _ => false,
+    }
+}
+
+// Whether it is a size over a part of this number, of which it is a multiple.
+fn is_part_base(e: &Index, number: u32, ranges: &Ranges) -> bool
+    ensures { result ≡ tests.is_part_base ranges.now number (expression_of e.now) }
+{
+    match e {
+        Index::Binary(Operation::Quotient, size, d) => {
+            is_part_of(number, d) && ranges.is_multiple(size, d)
+        }
+        _ => false,
+    }
+}
+
+// Whether they are a literal and a size over it.
+fn is_whole_size(a: &Index, b: &Index, ranges: &Ranges) -> bool
+    ensures { result
+        ≡ tests.is_whole_size ranges.now (expression_of a.now) (expression_of b.now) }
+{
+    match a {
+        Index::Literal(number) => is_base(b, *number, ranges),
+        Index::Variable { .. } | Index::Size(_) | Index::Binary(_, _, _) => false,
+    }
+}
+
+// Whether they are a literal and a size over a part of it.
+fn is_scaled_size(a: &Index, b: &Index, ranges: &Ranges) -> bool
+    ensures { result
+        ≡ tests.is_scaled_size ranges.now (expression_of a.now) (expression_of b.now) }
+{
+    match a {
+        Index::Literal(number) => is_part_base(b, *number, ranges),
+        Index::Variable { .. } | Index::Size(_) | Index::Binary(_, _, _) => false,
+    }
+}
+
+// How often one number is in another; 0 for any other expressions.
+fn ratio(a: &Index, b: &Index) -> u32
+    ensures { result ≡ spec.ratio (expression_of a.now) (expression_of b.now) }
+{
+    computed(Operation::Quotient, a, b).unwrap_or(0)
+}
+
+// A number times a quotient, the quotient's divisor divided out of the number.
+fn scaled(number: Index, quotient: Index) -> Index
+    ensures { expression_of result
+        ≡ spec.scaled (expression_of number) (expression_of quotient) }
+{
+    match quotient {
+        Index::Binary(_, size, mut divisor) => {
+            *divisor = Index::Literal(ratio(&number, &divisor));
+            Index::Binary(Operation::Product, divisor, size)
+        }
+        leaf => leaf,
+    }
+}
+
 // What stands first in an operation.
 fn first_part(e: Index) -> Index
     ensures { expression_of result ≡ spec.first_part (expression_of e) }
@@ -161,6 +244,12 @@ impl Law {
             Law::ZeroTimes => same_operation(operation, Operation::Product) && is_number(0, a),
             Law::OverOne => same_operation(operation, Operation::Quotient) && is_number(1, b),
             Law::ModuloOne => same_operation(operation, Operation::Remainder) && is_number(1, b),
+            Law::WholeSize => {
+                same_operation(operation, Operation::Product) && is_whole_size(a, b, ranges)
+            }
+            Law::ScaledSize => {
+                same_operation(operation, Operation::Product) && is_scaled_size(a, b, ranges)
+            }
             Law::RowOfCell => {
                 same_operation(operation, Operation::Quotient) && is_cell(a, b, ranges)
             }
@@ -182,6 +271,8 @@ impl Law {
             Law::MinusItself | Law::TimesZero | Law::ZeroTimes | Law::ModuloOne => Index::Literal(
                 0,
             ),
+            Law::WholeSize => first_part(b),
+            Law::ScaledSize => scaled(a, b),
             Law::RowOfCell | Law::CellOfParts => first_part(first_part(a)),
             Law::ColumnOfCell => second_part(a),
         }

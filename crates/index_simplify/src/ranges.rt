@@ -4,14 +4,16 @@ ghost use Rattle.std.specs.Prelude.{◌≡◌};
 ghost use Rattle.index_expr.specs.Expression.{expression_of};
 ghost use Rattle.index_simplify.specs.Tests as spec;
 
-use crate::same::same;
+use crate::same::{is_number, same};
 use index_expr::Index;
 
-/// What is known of the loops around a place, besides the ranges that variables carry.
+/// What is known of loops and sizes at a place, besides the ranges that variables carry.
 #[derive(Drop)]
 pub struct Ranges {
-    /// The length of each loop, the outermost first: its variable stays below it.
+    /// The length of each loop around, the outermost first: its variable stays below it.
     pub lengths: Vec<Index>,
+    /// For each size a number that it is a multiple of, in the order of their declarations.
+    pub multiples: Vec<u32>,
 }
 
 impl Ranges {
@@ -37,6 +39,27 @@ impl Ranges {
                 ..
             } => is_above(length, *greatest) || self.is_loop_within(*number, length),
             Index::Literal(_) | Index::Size(_) | Index::Binary(_, _, _) => false,
+        }
+    }
+
+    // Whether this is the number that the size is a multiple of.
+    fn is_multiple_at(&self, size: u32, divisor: &Index) -> bool
+        ensures { result ≡ spec.is_multiple_at self.now size (expression_of divisor.now) }
+    {
+        match self.multiples.get(size as usize) {
+            None => false,
+            Some(multiple) => is_number(*multiple, divisor),
+        }
+    }
+
+    /// Whether an expression is a size, and the other the number that it is a multiple of.
+    pub fn is_multiple(&self, size: &Index, divisor: &Index) -> bool
+        ensures { result
+            ≡ spec.is_multiple self.now (expression_of size.now) (expression_of divisor.now) }
+    {
+        match size {
+            Index::Size(number) => self.is_multiple_at(*number, divisor),
+            Index::Variable { .. } | Index::Literal(_) | Index::Binary(_, _, _) => false,
         }
     }
 }
