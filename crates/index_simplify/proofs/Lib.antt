@@ -3,3 +3,4 @@ pub mod Parts
 pub mod Values
 pub mod Shapes
 pub mod Operations
+pub mod Short

@@ -19,6 +19,7 @@ use Rattle.std.specs.declared.alloc.AllocError.{AllocError}
 use Rattle.index_expr.specs.declared.index.Index.{Index}
 use Rattle.index_simplify.proofs.Parts.{first_operations, second_operations, first_within, second_within, same_small, then_small, joined_small, applied_small, applied_simple}
 use Rattle.index_simplify.proofs.Values.{law_value}
+use Rattle.index_simplify.proofs.Short.{simple_is_short}
 use Rattle.index_simplify.proofs.Shapes.{found_applies, no_law_is_plain}
 
 -- ---- what holds of each operation, and of each variable, holds in what a law leaves
@@ -102,7 +103,13 @@ module _ (sizes variables : List ℕ) where
       (λ w. applied_operations (λ q c d. Divides q → exact sizes variables d ≢ pos 0) (λ c d w. absurd w) law o a b w.1 w.2)
       (applied_within variables law o a b x y)
 
-module _ (r : Ranges) (o : Operation) (a b c d : Expression) (x : IsSimplified r a c) (y : IsSimplified r b d) where
+-- all that a simplified expression is, but for its nodes counted in short
+record IsKept (r : Ranges) (e s : Expression) : Type 0 where
+  stands : (sizes variables : List ℕ) → IsPoint r sizes variables e → StandsFor sizes variables e s
+  small : IsNoLarger e s
+  simple : IsSimple s
+
+module _ (r : Ranges) (o : Operation) (a b c d : Expression) (x : IsKept r a c) (y : IsKept r b d) where
   first_stands : (sizes variables : List ℕ) → IsPoint r sizes variables (Binary o a b) → StandsFor sizes variables a c
   first_stands sizes variables p = x.stands sizes variables (record { loops = p.loops; multiples = p.multiples; own = p.own.0 })
 
@@ -126,21 +133,26 @@ module _ (r : Ranges) (o : Operation) (a b c d : Expression) (x : IsSimplified r
   by_simple None e = (no_law_is_plain r o c d e, x.simple, y.simple)
   by_simple (Some law) e = applied_simple r law o c d (found_applies r o c d LAWS law e) x.simple y.simple
 
-  operation_simplified : IsSimplified r (Binary o a b) (operation_on r o c d)
-  operation_simplified = record {
+  operation_kept : IsKept r (Binary o a b) (operation_on r o c d)
+  operation_kept = record {
     stands = by_stands (first_law r o c d LAWS) refl;
     small = by_small (first_law r o c d LAWS);
     simple = by_simple (first_law r o c d LAWS) refl;
   }
 
-itself : (r : Ranges) (e : Expression) → IsSimple e → IsSimplified r e e
+itself : (r : Ranges) (e : Expression) → IsSimple e → IsKept r e e
 itself r e h = record { stands = λ sizes variables p. stands_itself sizes variables e p.own; small = same_small e; simple = h }
 
-pub simple_is_simplified : (r : Ranges) (e : Expression) → IsSimplified r e (simple r e)
-simple_is_simplified r (Variable k l g) = itself r (Variable k l g) tt
-simple_is_simplified r (Literal n) = itself r (Literal n) tt
-simple_is_simplified r (Size k) = itself r (Size k) tt
-simple_is_simplified r (Binary o a b) = operation_simplified r o a b (simple r a) (simple r b) (simple_is_simplified r a) (simple_is_simplified r b)
+simple_is_kept : (r : Ranges) (e : Expression) → IsKept r e (simple r e)
+simple_is_kept r (Variable k l g) = itself r (Variable k l g) tt
+simple_is_kept r (Literal n) = itself r (Literal n) tt
+simple_is_kept r (Size k) = itself r (Size k) tt
+simple_is_kept r (Binary o a b) = operation_kept r o a b (simple r a) (simple r b) (simple_is_kept r a) (simple_is_kept r b)
+
+simple_is_simplified : (r : Ranges) (e : Expression) → IsSimplified r e (simple r e)
+simple_is_simplified r e =
+    let kept = simple_is_kept r e in
+    record { stands = kept.stands; small = kept.small; short = simple_is_short r e; simple = kept.simple }
 
 pub all_simplified : (r : Ranges) (e : Expression) (result : Result Index AllocError) → IfOk result (λ s. expression_of s ≡ simple r e) → IfOk result (λ s. IsSimplified r e (expression_of s))
 all_simplified r e (Err x) h = h

@@ -57,7 +57,7 @@ module _ (r : Ranges) (o : Operation) (a b : Expression) where
   found_applies [] law e = absurd (cc e)
   found_applies (x ∷ laws) law e = is_found x law (first_law r o a b laws) (applies r x o a b) refl (found_applies laws law) e
 
-  abbrev NoneApplies : List Law → Type 0
+  abbrev pub NoneApplies : List Law → Type 0
   NoneApplies [] = Unit {0}
   NoneApplies (x ∷ laws) = (applies r x o a b ≡ false) × NoneApplies laws
 
@@ -65,12 +65,12 @@ module _ (r : Ranges) (o : Operation) (a b : Expression) where
   is_none x laws true passes later e = absurd (cc e)
   is_none x laws false fails later e = (fails, later e)
 
-  none_applies : (laws : List Law) → first_law r o a b laws ≡ None → NoneApplies laws
+  pub none_applies : (laws : List Law) → first_law r o a b laws ≡ None → NoneApplies laws
   none_applies [] e = tt
   none_applies (x ∷ laws) e = is_none x laws (applies r x o a b) refl (none_applies laws) e
 
   -- the table has each law
-  fails_each : NoneApplies LAWS → (law : Law) → applies r law o a b ≡ false
+  pub fails_each : NoneApplies LAWS → (law : Law) → applies r law o a b ≡ false
   fails_each h law.Computed = h.0
   fails_each h law.PlusZero = h.1.0
   fails_each h law.ZeroPlus = h.1.1.0
@@ -88,7 +88,7 @@ module _ (r : Ranges) (o : Operation) (a b : Expression) where
   fails_each h law.ColumnOfCell = h.1.1.1.1.1.1.1.1.1.1.1.1.1.1.0
   fails_each h law.CellOfParts = h.1.1.1.1.1.1.1.1.1.1.1.1.1.1.1.0
 
-  clash : (t : Bool) → t ≡ true → t ≡ false → ⊥
+  pub clash : (t : Bool) → t ≡ true → t ≡ false → ⊥
   clash t x y = absurd (cc (x, y))
 
   pub no_law_is_plain : first_law r o a b LAWS ≡ None → IsPlain (Binary o a b)

@@ -322,6 +322,86 @@ const WHOLE: [(Tree, &str); 4] = [
     ),
 ];
 
+// Lengths over s0, a multiple of 2, s1, a multiple of 3, and s2, of which nothing is known.
+const SIZES: [(Tree, &str); 9] = [
+    (
+        Tree::Binary(
+            Product,
+            &Tree::Number(2),
+            &Tree::Binary(Quotient, &Tree::Size(0), &Tree::Number(2)),
+        ),
+        "s0",
+    ),
+    (
+        Tree::Binary(
+            Product,
+            &Tree::Number(4),
+            &Tree::Binary(Quotient, &Tree::Size(0), &Tree::Number(2)),
+        ),
+        "(2 * s0)",
+    ),
+    (
+        Tree::Binary(
+            Product,
+            &Tree::Number(3),
+            &Tree::Binary(Quotient, &Tree::Size(0), &Tree::Number(2)),
+        ),
+        "(3 * (s0 / 2))",
+    ),
+    (
+        Tree::Binary(
+            Product,
+            &Tree::Number(4),
+            &Tree::Binary(Quotient, &Tree::Size(1), &Tree::Number(2)),
+        ),
+        "(4 * (s1 / 2))",
+    ),
+    (
+        Tree::Binary(
+            Product,
+            &Tree::Number(2),
+            &Tree::Binary(Quotient, &Tree::Size(2), &Tree::Number(2)),
+        ),
+        "(2 * (s2 / 2))",
+    ),
+    (
+        Tree::Binary(
+            Product,
+            &Tree::Binary(Quotient, &Tree::Size(0), &Tree::Number(2)),
+            &Tree::Number(2),
+        ),
+        "((s0 / 2) * 2)",
+    ),
+    (
+        Tree::Binary(
+            Sum,
+            &Tree::Binary(
+                Product,
+                &I,
+                &Tree::Binary(
+                    Product,
+                    &Tree::Number(2),
+                    &Tree::Binary(Quotient, &Tree::Size(0), &Tree::Number(2)),
+                ),
+            ),
+            &J,
+        ),
+        "((i0 * s0) + i1)",
+    ),
+    (
+        Tree::Binary(
+            Product,
+            &Tree::Number(6),
+            &Tree::Binary(Quotient, &Tree::Size(1), &Tree::Number(3)),
+        ),
+        "(2 * s1)",
+    ),
+    (
+        Tree::Binary(Quotient, &Tree::Size(0), &Tree::Number(1)),
+        "s0",
+    ),
+];
+
 // The lengths of the loops around, an expression, and what it is simplified to.
 const LOOPS: [(&[Tree], Tree, &str); 8] = [
     (
@@ -461,9 +541,13 @@ const LOOPS: [(&[Tree], Tree, &str); 8] = [
     ),
 ];
 // The first row that is simplified to something else.
-fn first_wrong(alloc: Global, rows: &[(Tree, &str)]) -> Result<Option<usize>, AllocError> {
+fn first_wrong(
+    alloc: Global,
+    multiples: &[u32],
+    rows: &[(Tree, &str)],
+) -> Result<Option<usize>, AllocError> {
     for (row, (tree, expected)) in rows.iter().enumerate() {
-        if simplified_text(alloc, &[], tree)?.as_str() != *expected {
+        if simplified_text(alloc, &[], multiples, tree)?.as_str() != *expected {
             return Ok(Some(row));
         }
     }
@@ -473,11 +557,12 @@ fn first_wrong(alloc: Global, rows: &[(Tree, &str)]) -> Result<Option<usize>, Al
 #[test]
 fn rows_are_simplified(rt: HostRuntime) -> Result<(), Fail> {
     let alloc = rt.alloc();
-    assert_eq!(rt; first_wrong(alloc, &UNITS)?, None);
-    assert_eq!(rt; first_wrong(alloc, &LITERALS)?, None);
-    assert_eq!(rt; first_wrong(alloc, &CELLS)?, None);
-    assert_eq!(rt; first_wrong(alloc, &PARTS)?, None);
-    assert_eq!(rt; first_wrong(alloc, &WHOLE)?, None);
+    assert_eq!(rt; first_wrong(alloc, &[], &UNITS)?, None);
+    assert_eq!(rt; first_wrong(alloc, &[], &LITERALS)?, None);
+    assert_eq!(rt; first_wrong(alloc, &[], &CELLS)?, None);
+    assert_eq!(rt; first_wrong(alloc, &[], &PARTS)?, None);
+    assert_eq!(rt; first_wrong(alloc, &[], &WHOLE)?, None);
+    assert_eq!(rt; first_wrong(alloc, &[2, 3], &SIZES)?, None);
     Ok(())
 }
 
@@ -485,7 +570,10 @@ fn rows_are_simplified(rt: HostRuntime) -> Result<(), Fail> {
 fn loops_tell_what_is_below(rt: HostRuntime) -> Result<(), Fail> {
     let alloc = rt.alloc();
     for (lengths, tree, expected) in LOOPS {
-        assert_eq!(rt; simplified_text(alloc, lengths, &tree)?.as_str(), expected);
+        assert_eq!(rt;
+            simplified_text(alloc, lengths, &[], &tree)?.as_str(),
+            expected
+        );
     }
     Ok(())
 }

@@ -52,10 +52,16 @@ fn text(alloc: Global, index: &Index) -> Result<String, AllocError> {
     }
 }
 
-/// The text of what an expression is simplified to, in loops of these lengths.
-pub fn simplified_text(alloc: Global, lengths: &[Tree], tree: &Tree) -> Result<String, AllocError> {
+/// The text of what an expression is simplified to, in loops of these lengths, where sizes are multiples of these numbers.
+pub fn simplified_text(
+    alloc: Global,
+    lengths: &[Tree],
+    multiples: &[u32],
+    tree: &Tree,
+) -> Result<String, AllocError> {
     let mut ranges = Ranges {
         lengths: Vec::new(alloc),
+        multiples: Vec::from_slice(alloc, multiples)?,
     };
     for length in lengths {
         ranges.lengths.push(index_of(alloc, length)?)?;
