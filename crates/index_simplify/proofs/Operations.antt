@@ -1,15 +1,14 @@
 -- An operation on two simplified expressions, by a law or as it is, is simplified.
-use Rattle.std.proofs.Common.{◌≡◌, ◌≢◌, ℕ, ℤ, pos, Bool, true, false, Option, Some, None, List, refl, sym, ap, ◌∙◌, subst, arith}
+use Rattle.std.proofs.Common.{◌≡◌, ◌≢◌, ℕ, pos, true, Option, Some, None, List, refl, sym, ap, ◌∙◌, subst}
 use Rattle.index_expr.specs.declared.operation.Operation.{Operation}
 use Rattle.index_expr.specs.declared.operation.Operation.TheVariants.{Product}
 use Rattle.index_expr.specs.Expression.{Expression, Variable, Literal, Size, Binary, expression_of}
-use Rattle.index_expr.specs.Values.{operate, exact, EachOperation, Divides, WantsWords, IsWord, HasWordArgumentsAt, HasNoZeroDivisorAt, IsRangedAt}
+use Rattle.index_expr.specs.Values.{operate, exact, EachOperation, Divides, WantsWords, IsWord, HasWordArgumentsAt, HasNoZeroDivisorAt}
 use Rattle.index_simplify.specs.declared.ranges.Ranges.{Ranges}
 use Rattle.index_simplify.specs.declared.law.Law.{Law}
 use Rattle.index_simplify.specs.declared.law.Law.TheVariants.{Computed, PlusZero, ZeroPlus, MinusZero, MinusItself, TimesOne, OneTimes, TimesZero, ZeroTimes, OverOne, ModuloOne, WholeSize, ScaledSize, RowOfCell, ColumnOfCell, CellOfParts}
 use Rattle.index_simplify.specs.declared.law.TheConstants.{LAWS}
-use Rattle.index_simplify.specs.Laws.{first_part, second_part, scaled, applies, applied}
-use Rattle.index_simplify.specs.Tests.{is_leaf}
+use Rattle.index_simplify.specs.Laws.{first_part, scaled, applies, applied}
 use Rattle.index_simplify.specs.Operations.{first_law, by_law, operation_on, simple}
 use Rattle.index_simplify.specs.Ranges.{AreBelowLengths, AreMultiples, AreWithin, IsPoint}
 use Rattle.index_simplify.specs.Shapes.{IsSimple}

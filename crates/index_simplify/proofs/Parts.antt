@@ -1,6 +1,6 @@
 -- What stands first and second in an expression has no more than the whole.
-use Rattle.std.proofs.Common.{◌≡◌, ℕ, zero, suc, ◌+◌, ◌*◌, ◌/◌, ◌%◌, ◌<◌, ◌≤◌, Bool, true, false, List, refl, sym, ap, ◌∙◌, subst, arith}
-use Rattle.std.specs.Prelude.{◌&&◌, ◌==◌, nat_lt, max}
+use Rattle.std.proofs.Common.{◌≡◌, ℕ, zero, suc, ◌*◌, ◌/◌, ◌%◌, ◌<◌, ◌≤◌, Bool, true, false, List, refl, arith}
+use Rattle.std.specs.Prelude.{◌&&◌, ◌==◌, nat_lt}
 use Rattle.std.proofs.lemmas.Bool.{eqb-true, ltb-true}
 use Rattle.std.proofs.Math.Nat.{div-add-mod}
 use Rattle.index_expr.specs.declared.operation.Operation.{Operation}
@@ -9,8 +9,7 @@ use Rattle.index_expr.specs.Expression.{Expression, Variable, Literal, Size, Bin
 use Rattle.index_expr.specs.Values.{EachOperation}
 use Rattle.index_simplify.specs.declared.law.Law.{Law}
 use Rattle.index_simplify.specs.declared.law.Law.TheVariants.{Computed, PlusZero, ZeroPlus, MinusZero, MinusItself, TimesOne, OneTimes, TimesZero, ZeroTimes, OverOne, ModuloOne, WholeSize, ScaledSize, RowOfCell, ColumnOfCell, CellOfParts}
-use Rattle.index_simplify.specs.Literals.{computed}
-use Rattle.index_simplify.specs.Laws.{first_part, second_part, ratio, scaled, applies, applied}
+use Rattle.index_simplify.specs.Laws.{first_part, second_part, scaled, applies, applied}
 use Rattle.index_simplify.specs.Ranges.{AreWithin}
 use Rattle.index_simplify.specs.declared.ranges.Ranges.{Ranges}
 use Rattle.index_simplify.specs.Tests.{same_operation, is_multiple, is_part_of, is_part_base, is_scaled_size}

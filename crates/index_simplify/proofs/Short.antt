@@ -1,17 +1,17 @@
 -- Where the divisors of sizes are as they are declared, a simplified expression has no more nodes than the expression counted in short.
-use Rattle.std.proofs.Common.{◌≡◌, ℕ, zero, suc, ◌+◌, ◌*◌, ◌/◌, ◌%◌, ◌<◌, ◌≤◌, Bool, true, false, Option, Some, None, List, refl, sym, ap, ◌∙◌, subst, arith}
-use Rattle.std.specs.Prelude.{◌==◌, ◌&&◌, nat_lt, if◌then◌else◌, ◌⊎◌}
+use Rattle.std.proofs.Common.{◌≡◌, ℕ, zero, suc, ◌+◌, ◌*◌, ◌/◌, ◌%◌, ◌<◌, ◌≤◌, Bool, true, false, Option, Some, None, refl, sym, ap, ◌∙◌, subst, arith}
+use Rattle.std.specs.Prelude.{◌==◌, ◌&&◌, nat_lt, if◌then◌else◌}
 use Rattle.std.proofs.Common.{⊎_elim}
-use Rattle.std.proofs.lemmas.Bool.{cases_Bool, eqb-true, eq-eqb, ne_eqb, ltb-true, lt-ltb}
+use Rattle.std.proofs.lemmas.Bool.{cases_Bool, eqb-true, eq-eqb, ltb-true, lt-ltb}
 use Rattle.std.proofs.Math.Nat.{div-add-mod}
 use Rattle.index_expr.specs.declared.operation.Operation.{Operation}
-use Rattle.index_expr.specs.declared.operation.Operation.TheVariants.{Sum, Difference, Product, Quotient, Remainder, Least, Greatest}
-use Rattle.index_expr.specs.Expression.{Expression, Variable, Literal, Size, Binary, nodes, divisor_of, scaled_nodes, short_operation, short_nodes}
+use Rattle.index_expr.specs.declared.operation.Operation.TheVariants.{Product, Quotient}
+use Rattle.index_expr.specs.Expression.{Expression, Variable, Literal, Size, Binary, nodes, divisor_of, scaled_nodes, short_nodes}
 use Rattle.index_simplify.specs.declared.ranges.Ranges.{Ranges}
 use Rattle.index_simplify.specs.declared.law.Law.{Law}
 use Rattle.index_simplify.specs.declared.law.Law.TheVariants as law
 use Rattle.index_simplify.specs.declared.law.TheConstants.{LAWS}
-use Rattle.index_simplify.specs.Tests.{is_number, is_multiple, is_part_of}
+use Rattle.index_simplify.specs.Tests.{is_multiple, is_part_of}
 use Rattle.index_simplify.specs.Laws.{applies, applied}
 use Rattle.index_simplify.specs.Operations.{first_law, by_law, operation_on, simple}
 use Rattle.index_simplify.specs.Simplified.{AreDeclared}

@@ -1,5 +1,5 @@
 -- The table of laws: which operations each is of, and what it leaves of them.
-use Rattle.std.specs.Prelude.{ℕ, ◌&&◌, Bool, true, false, Option, is_some, unwrap_or}
+use Rattle.std.specs.Prelude.{ℕ, ◌&&◌, Bool, is_some, unwrap_or}
 use Rattle.index_expr.specs.declared.operation.Operation.{Operation}
 use Rattle.index_expr.specs.declared.operation.Operation.TheVariants.{Sum, Difference, Product, Quotient, Remainder}
 use Rattle.index_expr.specs.Expression.{Expression, Literal, Binary}
