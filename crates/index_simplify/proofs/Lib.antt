@@ -4,3 +4,4 @@ pub mod Values
 pub mod Shapes
 pub mod Operations
 pub mod Short
+pub mod Words

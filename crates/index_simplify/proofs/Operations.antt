@@ -19,6 +19,7 @@ use Rattle.index_expr.specs.declared.index.Index.{Index}
 use Rattle.index_simplify.proofs.Parts.{first_operations, second_operations, first_within, second_within, same_small, then_small, joined_small, applied_small, applied_simple}
 use Rattle.index_simplify.proofs.Values.{law_value}
 use Rattle.index_simplify.proofs.Short.{simple_is_short}
+use Rattle.index_simplify.proofs.Words.{simple_words}
 use Rattle.index_simplify.proofs.Shapes.{found_applies, no_law_is_plain}
 
 -- ---- what holds of each operation, and of each variable, holds in what a law leaves
@@ -151,7 +152,7 @@ simple_is_kept r (Binary o a b) = operation_kept r o a b (simple r a) (simple r 
 simple_is_simplified : (r : Ranges) (e : Expression) → IsSimplified r e (simple r e)
 simple_is_simplified r e =
     let kept = simple_is_kept r e in
-    record { stands = kept.stands; small = kept.small; short = simple_is_short r e; simple = kept.simple }
+    record { stands = kept.stands; small = kept.small; literals = simple_words r e; short = simple_is_short r e; simple = kept.simple }
 
 pub all_simplified : (r : Ranges) (e : Expression) (result : Result Index AllocError) → IfOk result (λ s. expression_of s ≡ simple r e) → IfOk result (λ s. IsSimplified r e (expression_of s))
 all_simplified r e (Err x) h = h

@@ -1,5 +1,5 @@
 -- What a simplified expression has in common with the one that it is made of, and what more.
-use Rattle.std.specs.Prelude.{ℕ, suc, ◌≡◌, ◌≤◌, ◌&&◌, max, Bool, true, List}
+use Rattle.std.specs.Prelude.{ℕ, suc, ◌≡◌, ◌^◌, ◌<◌, ◌≤◌, ◌&&◌, max, Bool, true, List}
 use Rattle.index_expr.specs.declared.operation.Operation.{Operation}
 use Rattle.index_expr.specs.declared.operation.Operation.TheVariants.{Quotient}
 use Rattle.index_expr.specs.Expression.{Expression, Variable, Literal, Size, Binary, nodes, short_nodes}
@@ -22,6 +22,13 @@ names_are variable size (Variable k l g) = variable k
 names_are variable size (Literal n) = true
 names_are variable size (Size k) = size k
 names_are variable size (Binary o a b) = names_are variable size a && names_are variable size b
+
+-- all its literals are words
+abbrev pub HasWordLiterals : Expression → Type 0
+HasWordLiterals (Variable k l g) = Unit {0}
+HasWordLiterals (Literal n) = n < 2 ^ 32
+HasWordLiterals (Size k) = Unit {0}
+HasWordLiterals (Binary o a b) = HasWordLiterals a × HasWordLiterals b
 
 -- at this point the second stands for the first
 pub record StandsFor (sizes variables : List ℕ) (e s : Expression) : Type 0 where
@@ -48,5 +55,6 @@ AreDeclared r e = EachOperation (λ o a b. is_declared r o a b ≡ true) e
 pub record IsSimplified (r : Ranges) (e s : Expression) : Type 0 where
   pub stands : (sizes variables : List ℕ) → IsPoint r sizes variables e → StandsFor sizes variables e s
   pub small : IsNoLarger e s
+  pub literals : HasWordLiterals e → HasWordLiterals s
   pub short : AreDeclared r e → nodes s ≤ short_nodes e
   pub simple : IsSimple s
