@@ -149,7 +149,7 @@ simple_is_kept r (Literal n) = itself r (Literal n) tt
 simple_is_kept r (Size k) = itself r (Size k) tt
 simple_is_kept r (Binary o a b) = operation_kept r o a b (simple r a) (simple r b) (simple_is_kept r a) (simple_is_kept r b)
 
-simple_is_simplified : (r : Ranges) (e : Expression) → IsSimplified r e (simple r e)
+pub simple_is_simplified : (r : Ranges) (e : Expression) → IsSimplified r e (simple r e)
 simple_is_simplified r e =
     let kept = simple_is_kept r e in
     record { stands = kept.stands; small = kept.small; literals = simple_words r e; short = simple_is_short r e; simple = kept.simple }
