@@ -1,0 +1,28 @@
+-- What an expression is simplified to.
+use Rattle.std.specs.Prelude.{List, [], ◌∷◌, Option, Some, None, if◌then◌else◌}
+use Rattle.index_expr.specs.declared.operation.Operation.{Operation}
+use Rattle.index_expr.specs.Expression.{Expression, Variable, Literal, Size, Binary}
+use Rattle.index_simplify.specs.declared.ranges.Ranges.{Ranges}
+use Rattle.index_simplify.specs.declared.law.Law.{Law}
+use Rattle.index_simplify.specs.declared.law.TheConstants.{LAWS}
+use Rattle.index_simplify.specs.Laws.{applies, applied}
+
+-- the first of the laws that is of the operation on these expressions
+abbrev pub first_law : Ranges → Operation → Expression → Expression → List Law → Option Law
+first_law r o a b [] = None
+first_law r o a b (law ∷ laws) = if applies r law o a b then Some law else first_law r o a b laws
+
+abbrev pub by_law : Option Law → Operation → Expression → Expression → Expression
+by_law None o a b = Binary o a b
+by_law (Some law) o a b = applied law o a b
+
+-- by the first law of the table that is of it, if there is any
+abbrev pub operation_on : Ranges → Operation → Expression → Expression → Expression
+operation_on r o a b = by_law (first_law r o a b LAWS) o a b
+
+-- each operation on what its arguments are simplified to
+abbrev pub simple : Ranges → Expression → Expression
+simple r (Variable k l g) = Variable k l g
+simple r (Literal n) = Literal n
+simple r (Size k) = Size k
+simple r (Binary o a b) = operation_on r o (simple r a) (simple r b)

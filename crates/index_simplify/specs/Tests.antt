@@ -1,0 +1,132 @@
+-- Tests on index expressions.
+use Rattle.std.specs.Prelude.{ℕ, ◌==◌, ◌%◌, ◌&&◌, ◌||◌, nat_lt, nat_le, Bool, true, false, Option, Some, None, slice_get}
+use Rattle.index_expr.specs.declared.operation.Operation.{Operation}
+use Rattle.index_expr.specs.declared.operation.Operation.TheVariants.{Sum, Difference, Product, Quotient, Remainder, Least, Greatest}
+use Rattle.index_expr.specs.declared.index.Index.{Index}
+use Rattle.index_expr.specs.Expression.{Expression, Variable, Literal, Size, Binary, expression_of}
+use Rattle.index_simplify.specs.declared.ranges.Ranges.{Ranges}
+
+abbrev pub same_operation : Operation → Operation → Bool
+same_operation Sum Sum = true
+same_operation Difference Difference = true
+same_operation Product Product = true
+same_operation Quotient Quotient = true
+same_operation Remainder Remainder = true
+same_operation Least Least = true
+same_operation Greatest Greatest = true
+same_operation _ _ = false
+
+abbrev pub same_variable : ℕ → Expression → Bool
+same_variable k (Variable j l g) = k == j
+same_variable k _ = false
+
+abbrev pub is_number : ℕ → Expression → Bool
+is_number n (Literal m) = n == m
+is_number n _ = false
+
+abbrev pub same_size : ℕ → Expression → Bool
+same_size k (Size j) = k == j
+same_size k _ = false
+
+-- the same but for the ranges that their variables carry
+abbrev pub same : Expression → Expression → Bool
+same (Variable k l g) e = same_variable k e
+same (Literal n) e = is_number n e
+same (Size k) e = same_size k e
+same (Binary o a b) (Binary p c d) = same_operation o p && same a c && same b d
+same (Binary o a b) _ = false
+
+-- a number above this one
+abbrev pub is_above : Expression → ℕ → Bool
+is_above (Literal n) g = nat_lt g n
+is_above _ g = false
+
+-- a number, and at least this one
+abbrev pub is_at_least : Expression → ℕ → Bool
+is_at_least (Literal n) m = nat_le m n
+is_at_least _ m = false
+
+-- a length that is the other, or both are numbers and it is no greater
+abbrev pub is_no_longer : (known length : Expression) → Bool
+is_no_longer (Literal m) n = is_at_least n m
+is_no_longer known n = same known n
+
+abbrev pub is_known_within : Option Index → Expression → Bool
+is_known_within None n = false
+is_known_within (Some known) n = is_no_longer (expression_of known) n
+
+-- the loop of this variable is no longer than this
+abbrev pub is_loop_within : Ranges → ℕ → Expression → Bool
+is_loop_within r k n = is_known_within (slice_get r.lengths.items k) n
+
+-- a variable that stays below a length: by its own range below a number, or because its loop is no longer
+abbrev pub is_below : Ranges → (column length : Expression) → Bool
+is_below r (Variable k l g) n = is_above n g || is_loop_within r k n
+is_below r _ n = false
+
+abbrev pub is_known_multiple : Option ℕ → Expression → Bool
+is_known_multiple None n = false
+is_known_multiple (Some m) n = is_number m n
+
+abbrev pub is_multiple_at : Ranges → ℕ → Expression → Bool
+is_multiple_at r k n = is_known_multiple (slice_get r.multiples.items k) n
+
+-- a size, and the number that it is a multiple of
+abbrev pub is_multiple : Ranges → (size divisor : Expression) → Bool
+is_multiple r (Size k) n = is_multiple_at r k n
+is_multiple r _ n = false
+
+-- a divisor of this number, and below it
+abbrev pub is_part_of : ℕ → Expression → Bool
+is_part_of c (Literal d) = nat_lt 0 d && nat_lt d c && (c % d == 0)
+is_part_of c _ = false
+
+-- a size over the number that it is a multiple of, which is this one
+abbrev pub is_base : Ranges → ℕ → Expression → Bool
+is_base r c (Binary Quotient size d) = is_number c d && is_multiple r size d
+is_base r c _ = false
+
+-- a size over the number that it is a multiple of, which is a part of this one
+abbrev pub is_part_base : Ranges → ℕ → Expression → Bool
+is_part_base r c (Binary Quotient size d) = is_part_of c d && is_multiple r size d
+is_part_base r c _ = false
+
+-- a literal and a size over it
+abbrev pub is_whole_size : Ranges → Expression → Expression → Bool
+is_whole_size r (Literal c) b = is_base r c b
+is_whole_size r _ b = false
+
+-- a literal and a size over a part of it
+abbrev pub is_scaled_size : Ranges → Expression → Expression → Bool
+is_scaled_size r (Literal c) b = is_part_base r c b
+is_scaled_size r _ b = false
+
+-- an expression without operations
+abbrev pub is_leaf : Expression → Bool
+is_leaf (Binary o a b) = false
+is_leaf _ = true
+
+-- a literal, a size or a variable times this length
+abbrev pub is_begin : Expression → (length : Expression) → Bool
+is_begin (Binary Product row n) m = same n m && is_leaf row
+is_begin _ m = false
+
+-- the cell of a row of this length and of a column in it
+abbrev pub is_cell : Ranges → Expression → (length : Expression) → Bool
+is_cell r (Binary Sum begin column) m = is_begin begin m && is_below r column m
+is_cell r _ m = false
+
+-- e / m
+abbrev pub is_quotient : Expression → (dividend divisor : Expression) → Bool
+is_quotient (Binary Quotient e n) d m = same n m && same e d
+is_quotient _ d m = false
+
+-- (e / m) * m
+abbrev pub is_rounded : Expression → (dividend divisor : Expression) → Bool
+is_rounded (Binary Product q n) d m = same n m && is_quotient q d m
+is_rounded _ d m = false
+
+-- (e / m) * m beside e mod m
+abbrev pub are_parts : Expression → Expression → Bool
+are_parts a (Binary Remainder d m) = is_rounded a d m
+are_parts a _ = false

@@ -1,0 +1,71 @@
+// Index expressions as constants, and their texts.
+
+use index_expr::{Index, Operation};
+use index_simplify::{Ranges, simplified};
+use std::alloc::{AllocError, Global};
+
+/// An index expression as a constant.
+#[derive(Clone, Copy)]
+pub enum Tree {
+    /// A variable and the greatest of its values.
+    Variable(u32, u32),
+    Number(u32),
+    Size(u32),
+    Binary(Operation, &'static Tree, &'static Tree),
+}
+
+fn index_of(alloc: Global, tree: &Tree) -> Result<Index, AllocError> {
+    match tree {
+        Tree::Variable(number, greatest) => Ok(Index::Variable {
+            number: *number,
+            least: 0,
+            greatest: *greatest,
+        }),
+        Tree::Number(n) => Ok(Index::Literal(*n)),
+        Tree::Size(number) => Ok(Index::Size(*number)),
+        Tree::Binary(operation, a, b) => {
+            let a = index_of(alloc, a)?;
+            let b = index_of(alloc, b)?;
+            Index::binary(alloc, *operation, a, b)
+        }
+    }
+}
+
+fn text(alloc: Global, index: &Index) -> Result<String, AllocError> {
+    match index {
+        Index::Variable { number, .. } => format!(in alloc; "i{number}"),
+        Index::Literal(n) => format!(in alloc; "{n}"),
+        Index::Size(number) => format!(in alloc; "s{number}"),
+        Index::Binary(operation, a, b) => {
+            let a = text(alloc, a)?;
+            let b = text(alloc, b)?;
+            match operation {
+                Operation::Sum => format!(in alloc; "({a} + {b})"),
+                Operation::Difference => format!(in alloc; "({a} - {b})"),
+                Operation::Product => format!(in alloc; "({a} * {b})"),
+                Operation::Quotient => format!(in alloc; "({a} / {b})"),
+                Operation::Remainder => format!(in alloc; "({a} % {b})"),
+                Operation::Least => format!(in alloc; "min({a}, {b})"),
+                Operation::Greatest => format!(in alloc; "max({a}, {b})"),
+            }
+        }
+    }
+}
+
+/// The text of what an expression is simplified to, in loops of these lengths, where sizes are multiples of these numbers.
+pub fn simplified_text(
+    alloc: Global,
+    lengths: &[Tree],
+    multiples: &[u32],
+    tree: &Tree,
+) -> Result<String, AllocError> {
+    let mut ranges = Ranges {
+        lengths: Vec::new(alloc),
+        multiples: Vec::from_slice(alloc, multiples)?,
+    };
+    for length in lengths {
+        ranges.lengths.push(index_of(alloc, length)?)?;
+    }
+    let index = index_of(alloc, tree)?;
+    text(alloc, &simplified(alloc, &index, &ranges)?)
+}

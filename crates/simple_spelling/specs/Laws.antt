@@ -1,0 +1,35 @@
+-- What simplified spellings are worth, and how large they are.
+use Rattle.std.specs.Prelude.{ℕ, ◌≡◌, ◌≤◌, pos, true, List, Some}
+use Rattle.index_expr.specs.Expression.{Expression}
+use Rattle.index_expr.specs.Values.{exact, IsRangedAt, HasNoZeroDivisorAt}
+use Rattle.kernel_tree.specs.Formula.{Formula, Ids, value}
+use Rattle.kernel_tree.specs.Code.{Kernel}
+use Rattle.kernel_tree.specs.Grammar.{height, is_constant, names_declared}
+use Rattle.length_spelling.specs.Formulas.{index_formula}
+use Rattle.length_spelling.specs.Laws.{AreWords}
+use Rattle.index_simplify.specs.declared.ranges.Ranges.{Ranges}
+use Rattle.index_simplify.specs.Ranges.{IsPoint}
+use Rattle.index_simplify.specs.Simplified.{HasWordLiterals}
+use Rattle.simple_spelling.specs.Formulas.{formula_nodes, simple_formula}
+use Rattle.simple_spelling.specs.Redundant.{IsIrredundant}
+
+-- among words, at a point of the ranges at which the expression is ranged and divides by no 0
+abbrev pub SimpleFormulasHaveTheValues : Type 0
+SimpleFormulasHaveTheValues =
+    (r : Ranges) (ids : Ids) (loops variables : List ℕ) (e : Expression) (n : ℕ)
+    → AreWords ids.sizes → AreWords loops → HasWordLiterals e → IsPoint r ids.sizes loops e
+    → IsRangedAt ids.sizes loops e → HasNoZeroDivisorAt ids.sizes loops e → exact ids.sizes loops e ≡ pos n
+    → value ids loops variables (simple_formula r e) ≡ Some n
+
+-- the second is of the kernel grammar where the first is, and no larger
+pub record IsNoLarger (one other : Formula) : Type 0 where
+  pub declared : (k : Kernel) (loops : ℕ) → names_declared k loops one ≡ true → names_declared k loops other ≡ true
+  pub constant : is_constant one ≡ true → is_constant other ≡ true
+  pub low : height other ≤ height one
+  pub nodes : formula_nodes other ≤ formula_nodes one
+
+abbrev pub SimpleFormulasAreNoLarger : Type 0
+SimpleFormulasAreNoLarger = (r : Ranges) (e : Expression) → IsNoLarger (index_formula e) (simple_formula r e)
+
+abbrev pub SimpleFormulasAreIrredundant : Type 0
+SimpleFormulasAreIrredundant = (r : Ranges) (e : Expression) → IsIrredundant (simple_formula r e)
