@@ -1,9 +1,10 @@
 -- A map over work-groups of sound parts is printed within the kernel grammar.
 use Rattle.std.proofs.Common.{ℕ, ◌<◌, List, length, refl, arith}
 use Rattle.size_arith.specs.declared.poly.Monomial.{Monomial}
+use Rattle.size_arith.specs.Ranges.{leasts}
 use Rattle.lift_tree.specs.Lists.{Every}
 use Rattle.lift_tree.specs.Tree.{Tree}
-use Rattle.lift_tree.specs.Typing.{Declared}
+use Rattle.lift_tree.specs.Typing.{Declared, declared_by}
 use Rattle.lift_tree.specs.Annotations.{Annotation, type_in}
 use Rattle.kernel_tree.specs.Code.{Kernel}
 use Rattle.barrier_placement.specs.Fencing.{Fencing}
@@ -18,7 +19,11 @@ use Rattle.printable_terms.specs.Sound.{IsHeld, IsHeldType}
 use Rattle.printable_terms.proofs.Grammar.{lengths_wider, sound_wider, input_is_held}
 use Rattle.group_terms.specs.Uses.{phase_count, group_touches}
 use Rattle.group_grammar.specs.Law.{GroupKernelsAreOfTheGrammar, NeededAreFlagged}
-use Rattle.printable_groups.specs.Laws.{kernel_of_groups, GroupsCanBeWritten, GroupKernelsAreInTheGrammar}
+use Rattle.sound_parts.specs.Laws.{LoweredTermsHaveSoundParts}
+use Rattle.sound_parts.proofs.Leasts.{leasts_are_admissible}
+use Rattle.nest_premises.specs.Laws.{LegalTermsCanBeLowered}
+use Rattle.group_premises.specs.Laws.{LegalGroupsStandOverGroups}
+use Rattle.printable_groups.specs.Laws.{kernel_of_groups, GroupsCanBeWritten, GroupKernelsAreInTheGrammar, LegalGroupKernelsAreInTheGrammar}
 
 module _ (bounds : LengthsAreBounds) (d : Declared) (fence : ℕ → Fencing) (t : Tree) (n : Annotation) where
   abbrev kernel : Kernel
@@ -59,3 +64,10 @@ in_the_grammar grammar flags writable bounds nests d fence t n typed output stag
       lengths = lengths_wider IsHeld (Spelled bounds d fence t n) (spelled bounds d fence t n) (shape_of (type_in n)) sound.output.lengths;
       few = sound.output.few;
     })
+
+pub legal_in_the_grammar : GroupKernelsAreInTheGrammar → LegalGroupsStandOverGroups → LegalTermsCanBeLowered → LoweredTermsHaveSoundParts → LegalGroupKernelsAreInTheGrammar
+legal_in_the_grammar grammar stand lower sound p fence t n legal copies words kind needed few low =
+    let d = declared_by p in
+    let printable = stand p t n legal copies kind in
+    let program = printable.program (leasts d.names) (leasts_are_admissible d.names legal.declared.names) in
+    grammar d fence t n legal.nodes legal.output printable.staged program.stands needed few low (sound p t n legal words (lower p t n legal copies))

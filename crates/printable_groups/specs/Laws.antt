@@ -22,6 +22,7 @@ use Rattle.printed_form.specs.Programs.{IsLaunchOf, AreBuffersOf, lowered_root, 
 use Rattle.printed_grammar.specs.Sound.{CanBeWritten}
 use Rattle.length_spelling.specs.Formulas.{length_formula}
 use Rattle.printable_terms.specs.Sound.{HasSoundParts}
+use Rattle.sound_parts.specs.Words.{FormsHaveWords}
 use Rattle.nest_premises.specs.Legal.{CopiesArrays, IsLegalTerm}
 use Rattle.nest_premises.specs.Kind.{nest_kind}
 use Rattle.nest_premises.specs.declared.kind.NestKind.TheVariants.{OverGroups}
@@ -57,6 +58,14 @@ GroupTermsArePrinted =
     (d : Declared) (bases : List ℕ) (fence : ℕ → Fencing) (t : Tree) (n : Annotation) (l : Launch)
     → IsGroupPrintable d t n → IsLaunchOf d (is_task t) bases l → AreNeeded fence t n
     → PrintsGroups d bases t n l (kernel_of_groups d fence t n)
+
+-- of a legal term within the limits on layouts and height it is of the kernel grammar
+abbrev pub LegalGroupKernelsAreInTheGrammar : Type 0
+LegalGroupKernelsAreInTheGrammar =
+    (p : PlainProgram) (fence : ℕ → Fencing) (t : Tree) (n : Annotation)
+    → IsLegalTerm p t n → CopiesArrays t n → FormsHaveWords t → nest_kind t ≡ OverGroups → AreNeeded fence t n
+    → layouts t n ≤ 24 → height t ≤ 512
+    → is_kernel (kernel_of_groups (declared_by p) fence t n) ≡ true
 
 -- of a legal term every run there keeps what the kernel owes, with the source value
 abbrev pub LegalGroupsKeep : Type 0

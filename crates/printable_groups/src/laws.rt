@@ -2,13 +2,15 @@
 
 ghost use Rattle.size_arith.specs.declared.poly.Monomial.{Monomial};
 ghost use Rattle.std.specs.Prelude.{List};
-ghost use Rattle.printable_groups.specs.Laws.{GroupKernelsAreInTheGrammar, GroupsCanBeWritten, GroupTermsArePrinted, LegalGroupsKeep};
+ghost use Rattle.printable_groups.specs.Laws.{GroupKernelsAreInTheGrammar, GroupsCanBeWritten, GroupTermsArePrinted, LegalGroupKernelsAreInTheGrammar, LegalGroupsKeep};
 
 use group_grammar::laws::{group_kernels_are_of_the_grammar, needed_are_flagged};
 use group_premises::laws::legal_groups_stand_over_groups;
 use group_terms::laws::{printed_group_programs_keep, the_group_printer_prints};
 use kernel_limits::laws::{terms_can_be_written, terms_nest_within};
 use length_spelling::laws::{lengths_are_bounds, lengths_are_spelled};
+use nest_premises::laws::legal_terms_can_be_lowered;
+use sound_parts::laws::lowered_terms_have_sound_parts;
 
 /// A map over work-groups can be written.
 pub fn groups_can_be_written()
@@ -36,6 +38,17 @@ pub fn group_terms_are_printed()
 {
     lengths_are_spelled();
     the_group_printer_prints();
+}
+
+/// The kernel of a legal map over work-groups, of at most 24 layouts and at most 512 high, is of
+/// the kernel grammar.
+pub fn legal_group_kernels_are_in_the_grammar()
+    ensures { LegalGroupKernelsAreInTheGrammar }
+{
+    group_kernels_are_in_the_grammar();
+    legal_groups_stand_over_groups();
+    legal_terms_can_be_lowered();
+    lowered_terms_have_sound_parts();
 }
 
 /// Every run of the kernel of a legal map over work-groups, at each admissible launch, keeps what
