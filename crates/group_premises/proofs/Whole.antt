@@ -18,10 +18,10 @@ use Rattle.nest_premises.proofs.Stands.{written_stands}
 use Rattle.nest_premises.proofs.Launches.{over_launch}
 use Rattle.nest_premises.proofs.Top.{over_of, over_no_task, global_parallel, group_parallel}
 use Rattle.nest_premises.proofs.OfKinds.{shown_groups, shown_launch}
-use Rattle.nest_premises.proofs.Whole.{no_element, legal_terms_can_be_lowered, kinds_tell_tasks}
+use Rattle.nest_premises.proofs.Whole.{no_element, legal_terms_can_be_lowered, kinds_tell_tasks, ungrouped_terms_are_printable}
 use Rattle.group_terms.specs.Forms.{StandsOverGroups}
-use Rattle.group_premises.specs.Stands.{StandsAs}
-use Rattle.group_premises.specs.Laws.{LegalNestsStand, LegalGroupsStandOverGroups}
+use Rattle.group_premises.specs.Stands.{StandsAs, IsPrintableAs}
+use Rattle.group_premises.specs.Laws.{LegalNestsStand, LegalGroupsStandOverGroups, LegalTermsArePrintable}
 use Rattle.group_premises.proofs.Groups.{over_groups}
 
 module _ (p : PlainProgram) (t : Tree) (n : Annotation) (r : IsLegalTerm p t n) (copies : CopiesArrays t n) where
@@ -66,3 +66,17 @@ legal_groups_stand_over_groups p t n r copies e =
       program = λ bases ok. record { lowerable = l.lowerable bases ok; stands = groups p t n r copies e };
       fits = l.fits;
     }
+
+pub legal_terms_are_printable : LegalTermsArePrintable
+legal_terms_are_printable p t n r copies = go (nest_kind t) refl
+  where
+    go : (k : NestKind) → nest_kind t ≡ k → IsPrintableAs k (declared_by p) t n
+    go Task e = ungrouped_terms_are_printable p t n r copies (λ f. clash e f)
+      where
+        clash : nest_kind t ≡ Task → nest_kind t ≡ OverGroups → ⊥
+        clash e f = absurd (cc)
+    go OverLaunch e = ungrouped_terms_are_printable p t n r copies (λ f. clash e f)
+      where
+        clash : nest_kind t ≡ OverLaunch → nest_kind t ≡ OverGroups → ⊥
+        clash e f = absurd (cc)
+    go OverGroups e = legal_groups_stand_over_groups p t n r copies e

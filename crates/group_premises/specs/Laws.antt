@@ -8,7 +8,7 @@ use Rattle.printed_form.specs.Programs.{lowered_root}
 use Rattle.nest_premises.specs.Legal.{CopiesArrays, IsLegalTerm}
 use Rattle.nest_premises.specs.Kind.{nest_kind}
 use Rattle.nest_premises.specs.declared.kind.NestKind.TheVariants.{OverGroups}
-use Rattle.group_premises.specs.Stands.{StandsAs, IsGroupPrintable}
+use Rattle.group_premises.specs.Stands.{StandsAs, IsGroupPrintable, IsPrintableAs}
 
 -- what a legal term is lowered to stands as the term's kind says
 abbrev pub LegalNestsStand : Type 0
@@ -17,3 +17,7 @@ LegalNestsStand = (p : PlainProgram) (t : Tree) (n : Annotation) → IsLegalTerm
 -- a legal term with a map over work-groups on top can be printed as such
 abbrev pub LegalGroupsStandOverGroups : Type 0
 LegalGroupsStandOverGroups = (p : PlainProgram) (t : Tree) (n : Annotation) → IsLegalTerm p t n → CopiesArrays t n → nest_kind t ≡ OverGroups → IsGroupPrintable (declared_by p) t n
+
+-- each legal term can be printed as its kind says
+abbrev pub LegalTermsArePrintable : Type 0
+LegalTermsArePrintable = (p : PlainProgram) (t : Tree) (n : Annotation) → IsLegalTerm p t n → CopiesArrays t n → IsPrintableAs (nest_kind t) (declared_by p) t n

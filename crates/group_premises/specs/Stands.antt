@@ -10,6 +10,7 @@ use Rattle.lift_ir.specs.Lowerable.{IsStaged}
 use Rattle.printed_form.specs.Programs.{FitsBuffers}
 use Rattle.group_terms.specs.Forms.{StandsOverGroups}
 use Rattle.group_terms.specs.Programs.{IsGroupProgram}
+use Rattle.nest_premises.specs.Printable.{IsPrintable}
 use Rattle.nest_premises.specs.declared.kind.NestKind.{NestKind}
 use Rattle.nest_premises.specs.declared.kind.NestKind.TheVariants.{Task, OverLaunch, OverGroups}
 
@@ -24,3 +25,9 @@ pub record IsGroupPrintable (d : Declared) (t : Tree) (n : Annotation) : Type 0 
   pub staged : IsStaged Written t n
   pub program : (bases : List ℕ) → Admissible d.names bases → IsGroupProgram d bases t n
   pub fits : (bases : List ℕ) → Admissible d.names bases → FitsBuffers d bases n
+
+-- by one work-item, by all of them, or by work-groups
+abbrev pub IsPrintableAs : NestKind → Declared → Tree → Annotation → Type 0
+IsPrintableAs Task d t n = IsPrintable d t n
+IsPrintableAs OverLaunch d t n = IsPrintable d t n
+IsPrintableAs OverGroups d t n = IsGroupPrintable d t n

@@ -1,6 +1,6 @@
 //! Laws of legal nests, each carried by a function that does nothing.
 
-ghost use Rattle.group_premises.specs.Laws.{LegalGroupsStandOverGroups, LegalNestsStand};
+ghost use Rattle.group_premises.specs.Laws.{LegalGroupsStandOverGroups, LegalNestsStand, LegalTermsArePrintable};
 
 /// What a legal term is lowered to is for one work-item, over all of them, or over work-groups, as its kind says.
 pub fn legal_nests_stand()
@@ -10,4 +10,10 @@ pub fn legal_nests_stand()
 /// A legal term with a map over work-groups on top can be printed as such.
 pub fn legal_groups_stand_over_groups()
     ensures { LegalGroupsStandOverGroups }
+{}
+
+/// Each legal term can be printed, for one work-item, for all of them, or for work-groups, as its
+/// kind says.
+pub fn legal_terms_are_printable()
+    ensures { LegalTermsArePrintable }
 {}

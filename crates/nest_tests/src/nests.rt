@@ -5,6 +5,7 @@ use address_spaces::spaces;
 use lowered_tree::around::AddressSpace;
 use lowered_tree::lowered::Mapped;
 use lowered_tree::rule::NestRule;
+use nest_premises::kind::{NestKind, nest_kind};
 use std::alloc::Global;
 use std::test::Fail;
 use thread_mapping::{NestNo, first_unprinted, judge};
@@ -79,6 +80,26 @@ const LEGAL: [(&str, &str, &str); 6] = [
     (ROWS, "at 1 to-seq\nat . to-glb", "ggg"),
     (SUM, SUMMED, "gpp"),
     (WINDOWS, TILED, "ggllg"),
+];
+
+// A program, a script, and who runs its last term.
+const KINDS: [(&str, &str, NestKind); 8] = [
+    (ADDED, "at . to-seq", NestKind::Task),
+    (SUM, SUMMED, NestKind::Task),
+    (ADDED, "at . to-glb", NestKind::OverLaunch),
+    (ROWS, "at 1 to-seq\nat . to-glb", NestKind::OverLaunch),
+    (
+        "input xs: [u32; 4]; output transpose(split(2, map(\\x. x, xs)))",
+        "at 0.0 to-glb",
+        NestKind::OverLaunch,
+    ),
+    (
+        "input xs: [u32; 4]; output let ys = split(2, xs) in map(\\r. map(\\x. x, r), ys)",
+        "at 1.1 to-lcl\nat 1 to-wrg",
+        NestKind::OverGroups,
+    ),
+    (ROWS, "at 1 to-lcl\nat . to-wrg", NestKind::OverGroups),
+    (WINDOWS, TILED, NestKind::OverGroups),
 ];
 
 // What is judged of it.
@@ -172,6 +193,21 @@ fn the_first_node_that_is_not_printed_is_told(rt: HostRuntime) -> Result<(), Fai
             is_unprinted_at(rt.alloc(), program, script, want)?,
             "{script}"
         );
+    }
+    Ok(())
+}
+
+fn is_run_by(alloc: Global, program: &str, script: &str, want: NestKind) -> Result<bool, Fail> {
+    match lowered_last(alloc, program, script)? {
+        Some(lowered) => Ok(nest_kind(&lowered.term) == want),
+        None => Ok(false),
+    }
+}
+
+#[test]
+fn the_map_on_top_tells_who_runs_a_term(rt: HostRuntime) -> Result<(), Fail> {
+    for (program, script, want) in KINDS {
+        assert!(rt; is_run_by(rt.alloc(), program, script, want)?, "{script}");
     }
     Ok(())
 }

@@ -22,7 +22,7 @@ use Rattle.printable_terms.specs.Laws.{kernel_of_term, KernelsAreInTheGrammar}
 
 -- ---- sound by one measure, sound by a wider one
 module _ {A : Type 0} (P R : A → Type 0) (wider : (n : A) → P n → R n) where
-  lengths_wider : (s : Shape A) → AllLengths P s → AllLengths R s
+  pub lengths_wider : (s : Shape A) → AllLengths P s → AllLengths R s
   lengths_wider Scalar h = tt
   lengths_wider (PairOf a b) h = (lengths_wider a h.0, lengths_wider b h.1)
   lengths_wider (ArrayOf n a) h = (wider n h.0, lengths_wider a h.1)
@@ -35,7 +35,7 @@ module _ {A : Type 0} (P R : A → Type 0) (wider : (n : A) → P n → R n) whe
   layout_wider (Pad l r n) h = (h.0, wider n h.1)
 
   module _ (Q S : ℕ → Type 0) (sources : (s : ℕ) → Q s → S s) where
-    sound_wider : (t : Term A) → IsSound P Q t → IsSound R S t
+    pub sound_wider : (t : Term A) → IsSound P Q t → IsSound R S t
     sound_wider (Literal c) h = h
     sound_wider (Bound v) h = tt
     sound_wider (Source s) h = sources s h
@@ -53,7 +53,7 @@ module _ {A : Type 0} (P R : A → Type 0) (wider : (n : A) → P n → R n) whe
     sound_wider (Copy space ty a) h = (h.0, h.1, sound_wider a h.2, h.3, h.4)
 
 -- ---- inputs
-input_is_held : (tys : List PlainTy) (s : ℕ) → Every IsHeldType tys → s < length tys → (a : PlainTy) × (input_shape tys s ≡ shape_of a) × IsHeldType a
+pub input_is_held : (tys : List PlainTy) (s : ℕ) → Every IsHeldType tys → s < length tys → (a : PlainTy) × (input_shape tys s ≡ shape_of a) × IsHeldType a
 input_is_held [] s h lt = absurd (omega arith)
 input_is_held (a ∷ tys) zero h lt = (a, refl, h.0)
 input_is_held (a ∷ tys) (suc s) h lt = input_is_held tys s h.1 (omega arith)

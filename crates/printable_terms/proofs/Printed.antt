@@ -16,7 +16,7 @@ natural_length : (z : ℤ) → natural z < 2 ^ 31 → z ≡ pos (natural z)
 natural_length (pos m) h = refl
 natural_length (negsuc m) h = absurd (omega arith)
 
-spelling : LengthsAreSpelled → (names : List Name) (bases : List ℕ) (l : Launch) → AreNames names → Admissible names bases → l.sizes ≡ sizes_at names bases → IsSpelling (length_formula names) bases l
+pub spelling : LengthsAreSpelled → (names : List Name) (bases : List ℕ) (l : Launch) → AreNames names → Admissible names bases → l.sizes ≡ sizes_at names bases → IsSpelling (length_formula names) bases l
 spelling spelled names bases l are ok sizes n short =
     let at = natural_length (value_at bases n) short in
     let word : length_at bases n < 2 ^ 32 = omega arith in (

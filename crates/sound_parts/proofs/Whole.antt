@@ -1,20 +1,23 @@
--- A legal term that can be printed has sound parts.
+-- A legal term that can be lowered has sound parts.
 use Rattle.std.proofs.Common.{[]}
 use Rattle.size_arith.specs.Ranges.{leasts}
 use Rattle.lift_tree.specs.Typing.{declared_by}
-use Rattle.sound_parts.specs.Laws.{TermsHaveSoundParts}
+use Rattle.sound_parts.specs.Laws.{LoweredTermsHaveSoundParts, TermsHaveSoundParts}
 use Rattle.sound_parts.proofs.Leasts.{leasts_are_admissible}
 use Rattle.sound_parts.proofs.Types.{all_good, good_in, inputs_held}
 use Rattle.sound_parts.proofs.Parts.{sound_written}
 
-pub terms_have_sound_parts : TermsHaveSoundParts
-terms_have_sound_parts p t n legal words printable =
+pub lowered_terms_have_sound_parts : LoweredTermsHaveSoundParts
+lowered_terms_have_sound_parts p t n legal words lowered =
     let d = declared_by p in
     let held = inputs_held d.names p.inputs legal.within.inputs in
     let good = all_good d.names d.inputs legal.declared.inputs held in
-    let lowerable = printable.lowerable (leasts d.names) (leasts_are_admissible d.names legal.declared.names) in
+    let lowerable = lowered.lowerable (leasts d.names) (leasts_are_admissible d.names legal.declared.names) in
     record {
       inputs = held;
       output = (good_in d good [] t n tt legal.nodes legal.within.nodes).held;
-      parts = sound_written d good [] t n tt legal.nodes legal.within.nodes words lowerable.lowerable printable.staged;
+      parts = sound_written d good [] t n tt legal.nodes legal.within.nodes words lowerable.lowerable lowered.staged;
     }
+
+pub terms_have_sound_parts : TermsHaveSoundParts
+terms_have_sound_parts p t n legal words printable = lowered_terms_have_sound_parts p t n legal words (record { staged = printable.staged; lowerable = printable.lowerable; fits = printable.fits })

@@ -7,11 +7,18 @@ use Rattle.lift_tree.specs.Programs.{PlainProgram}
 use Rattle.lift_tree.specs.Typing.{declared_by}
 use Rattle.lift_tree.specs.Annotations.{Annotation}
 use Rattle.nest_premises.specs.Legal.{IsLegalTerm}
-use Rattle.nest_premises.specs.Printable.{IsPrintable}
+use Rattle.nest_premises.specs.Printable.{CanBeLowered, IsPrintable}
 use Rattle.printable_terms.specs.Sound.{HasSoundParts}
 use Rattle.sound_parts.specs.Words.{FormsHaveWords}
 
--- a typed term of a program, within the limits on types, that can be printed
+-- a typed term of a program, within the limits on types, that can be lowered
+abbrev pub LoweredTermsHaveSoundParts : Type 0
+LoweredTermsHaveSoundParts =
+    (p : PlainProgram) (t : Tree) (n : Annotation)
+    → IsLegalTerm p t n → FormsHaveWords t → CanBeLowered (declared_by p) t n
+    → HasSoundParts (declared_by p) t n
+
+-- or printed
 abbrev pub TermsHaveSoundParts : Type 0
 TermsHaveSoundParts =
     (p : PlainProgram) (t : Tree) (n : Annotation)

@@ -1,6 +1,11 @@
 //! Laws of legal terms, each carried by a function that does nothing.
 
-ghost use Rattle.sound_parts.specs.Laws.{LeastSizesAreAdmissible, TermsHaveSoundParts};
+ghost use Rattle.sound_parts.specs.Laws.{LeastSizesAreAdmissible, LoweredTermsHaveSoundParts, TermsHaveSoundParts};
+
+/// A legal term that can be lowered has sound parts.
+pub fn lowered_terms_have_sound_parts()
+    ensures { LoweredTermsHaveSoundParts }
+{}
 
 /// A legal term that can be printed has sound parts.
 pub fn terms_have_sound_parts()

@@ -1,0 +1,5 @@
+use Rattle.declared_arrays.proofs.Whole.{declared_are_few}
+use Rattle.declared_arrays.proofs.laws.declared_are_few.Goals as goal
+
+pub returns : goal.returns
+returns c = declared_are_few

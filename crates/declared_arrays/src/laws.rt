@@ -1,0 +1,13 @@
+//! Laws of a kernel's arrays, each carried by a function that does nothing.
+
+ghost use Rattle.declared_arrays.specs.Laws.{AllocatedAreDeclared, DeclaredAreFew};
+
+/// A term of sound parts has the arrays that are allocated for it, in their order.
+pub fn allocated_are_declared()
+    ensures { AllocatedAreDeclared }
+{}
+
+/// Where no limit is passed, the arrays are few and small.
+pub fn declared_are_few()
+    ensures { DeclaredAreFew }
+{}

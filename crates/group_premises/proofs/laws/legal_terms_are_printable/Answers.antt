@@ -1,0 +1,5 @@
+use Rattle.group_premises.proofs.Whole.{legal_terms_are_printable}
+use Rattle.group_premises.proofs.laws.legal_terms_are_printable.Goals as goal
+
+pub returns : goal.returns
+returns c = legal_terms_are_printable

@@ -1,0 +1,3 @@
+pub mod Written
+pub mod Grammar
+pub mod Printed

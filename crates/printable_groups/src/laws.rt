@@ -1,0 +1,62 @@
+//! Laws of the kernels that maps over work-groups are printed as, each carried by a function that does nothing.
+
+ghost use Rattle.size_arith.specs.declared.poly.Monomial.{Monomial};
+ghost use Rattle.std.specs.Prelude.{List};
+ghost use Rattle.printable_groups.specs.Laws.{GroupKernelsAreInTheGrammar, GroupsCanBeWritten, GroupTermsArePrinted, LegalGroupKernelsAreInTheGrammar, LegalGroupsKeep};
+
+use group_grammar::laws::{group_kernels_are_of_the_grammar, needed_are_flagged};
+use group_premises::laws::legal_groups_stand_over_groups;
+use group_terms::laws::{printed_group_programs_keep, the_group_printer_prints};
+use kernel_limits::laws::{terms_can_be_written, terms_nest_within};
+use length_spelling::laws::{lengths_are_bounds, lengths_are_spelled};
+use nest_premises::laws::legal_terms_can_be_lowered;
+use sound_parts::laws::lowered_terms_have_sound_parts;
+
+/// A map over work-groups can be written.
+pub fn groups_can_be_written()
+    ensures { GroupsCanBeWritten (List Monomial) }
+{
+    terms_can_be_written();
+}
+
+/// A map over work-groups of sound parts, of at most 24 layouts and at most 512 high, is printed
+/// with its needed barriers as a kernel of the kernel grammar.
+pub fn group_kernels_are_in_the_grammar()
+    ensures { GroupKernelsAreInTheGrammar }
+{
+    group_kernels_are_of_the_grammar();
+    needed_are_flagged();
+    groups_can_be_written();
+    lengths_are_bounds();
+    terms_nest_within();
+}
+
+/// The kernel that a map over work-groups is printed as, with its needed barriers, is printed for
+/// it, at each admissible launch.
+pub fn group_terms_are_printed()
+    ensures { GroupTermsArePrinted }
+{
+    lengths_are_spelled();
+    the_group_printer_prints();
+}
+
+/// The kernel of a legal map over work-groups, of at most 24 layouts and at most 512 high, is of
+/// the kernel grammar.
+pub fn legal_group_kernels_are_in_the_grammar()
+    ensures { LegalGroupKernelsAreInTheGrammar }
+{
+    group_kernels_are_in_the_grammar();
+    legal_groups_stand_over_groups();
+    legal_terms_can_be_lowered();
+    lowered_terms_have_sound_parts();
+}
+
+/// Every run of the kernel of a legal map over work-groups, at each admissible launch, keeps what
+/// the kernel owes, with the source value.
+pub fn legal_groups_keep()
+    ensures { LegalGroupsKeep }
+{
+    legal_groups_stand_over_groups();
+    group_terms_are_printed();
+    printed_group_programs_keep();
+}
