@@ -1,6 +1,6 @@
 //! Runs of many work-items.
 
-ghost use Rattle.std.specs.Prelude.{◌≡◌, ◌*◌, ◌/◌, ◌<◌, ◌≤◌};
+ghost use Rattle.std.specs.Prelude.{◌≡◌, ◌*◌, ◌/◌, ◌<◌, ◌≤◌, IfOk, length};
 
 use crate::kernels::{a_barrier_for_some, one_store, strided_sums, two_barriers};
 use crate::runs::leaves;
@@ -28,6 +28,39 @@ fn words_from(alloc: Global, first: u32, count: u32) -> Result<Vec<u32>, AllocEr
     Ok(words)
 }
 
+fn one_size(alloc: Global, size: u32) -> Result<Vec<u32>, AllocError>
+    ensures { IfOk result (λ sizes. length sizes.items ≡ 1) }
+{
+    Ok(vec![in alloc; size]?)
+}
+
+// The words from 1 on as the input, and as many cells of the output.
+fn sum_cells(alloc: Global, count: u32) -> Result<Cells, AllocError>
+    ensures ins { IfOk result (λ cells. length cells.ins ≡ 1) }
+    ensures outs { IfOk result (λ cells. length cells.outs ≡ 1) }
+{
+    let words = words_from(alloc, 1, count)?;
+    let blank = vec![in alloc; 0; count as usize]?;
+    Ok(Cells {
+        ins: vec![in alloc; words]?,
+        outs: vec![in alloc; blank]?,
+        rest: 9,
+    })
+}
+
+// One cell of the output.
+fn one_cell(alloc: Global) -> Result<Cells, AllocError>
+    ensures ins { IfOk result (λ cells. length cells.ins ≡ 0) }
+    ensures outs { IfOk result (λ cells. length cells.outs ≡ 1) }
+{
+    let cell = vec![in alloc; 0]?;
+    Ok(Cells {
+        ins: Vec::new(alloc),
+        outs: vec![in alloc; cell]?,
+        rest: 9,
+    })
+}
+
 // The kernel that adds 1 to each word, on the words from 1 on, by so many work-items.
 fn run_sums(
     alloc: Global,
@@ -42,15 +75,13 @@ fn run_sums(
     requires few { global ≤ 65536 }
 {
     let kernel = strided_sums(alloc)?;
-    let ins = vec![in alloc; words_from(alloc, 1, count)?]?;
-    let outs = vec![in alloc; vec![in alloc; 0; count as usize]?]?;
-    let sizes = vec![in alloc; count]?;
+    let cells = sum_cells(alloc, count)?;
     let launch_of = Launch {
         global,
         local,
-        sizes,
+        sizes: one_size(alloc, count)?,
     };
-    launch(alloc, kernel, launch_of, Cells { ins, outs, rest: 9 }, schedule)
+    launch(alloc, kernel, launch_of, cells, schedule)
 }
 
 // A kernel of one output of one cell, by two work-items.
@@ -62,16 +93,11 @@ fn run_two(alloc: Global, kernel: Kernel, local: u32) -> Result<Outcome, DeviceN
     requires whole { 2 ≡ 2 / local * local }
     requires small { local ≤ 2 }
 {
-    let outs = vec![in alloc; vec![in alloc; 0]?]?;
+    let cells = one_cell(alloc)?;
     let launch_of = Launch {
         global: 2,
         local,
         sizes: Vec::new(alloc),
-    };
-    let cells = Cells {
-        ins: Vec::new(alloc),
-        outs,
-        rest: 9,
     };
     launch(alloc, kernel, launch_of, cells, &Schedule::Numbers(Vec::new(alloc)))
 }
@@ -166,15 +192,11 @@ fn take(machine: &mut Machine, k: u32) -> Option<Seen> {
 
 fn start_sums(alloc: Global) -> Result<Machine, AllocError> {
     let kernel = strided_sums(alloc)?;
+    let cells = sum_cells(alloc, 5)?;
     let launch = Launch {
         global: 4,
         local: 2,
-        sizes: vec![in alloc; 5]?,
-    };
-    let cells = Cells {
-        ins: vec![in alloc; words_from(alloc, 1, 5)?]?,
-        outs: vec![in alloc; vec![in alloc; 0; 5]?]?,
-        rest: 9,
+        sizes: one_size(alloc, 5)?,
     };
     Machine::start(alloc, kernel, launch, cells)
 }
