@@ -2,3 +2,4 @@ pub mod Inputs
 pub mod Bodies
 pub mod Groups
 pub mod Whole
+pub mod Phases

@@ -1,10 +1,11 @@
 -- Each legal nest is for one work-item, over all of them, or over work-groups.
-use Rattle.std.specs.Prelude.{◌≡◌}
-use Rattle.lift_tree.specs.Tree.{Tree}
+use Rattle.std.specs.Prelude.{◌≡◌, ◌≤◌}
+use Rattle.lift_tree.specs.Tree.{Tree, nodes}
 use Rattle.lift_tree.specs.Typing.{declared_by}
 use Rattle.lift_tree.specs.Programs.{PlainProgram}
 use Rattle.lift_tree.specs.Annotations.{Annotation}
 use Rattle.printed_form.specs.Programs.{lowered_root}
+use Rattle.group_terms.specs.Uses.{phase_count}
 use Rattle.nest_premises.specs.Legal.{CopiesArrays, IsLegalTerm}
 use Rattle.nest_premises.specs.Kind.{nest_kind}
 use Rattle.nest_premises.specs.declared.kind.NestKind.TheVariants.{OverGroups}
@@ -21,3 +22,7 @@ LegalGroupsStandOverGroups = (p : PlainProgram) (t : Tree) (n : Annotation) → 
 -- each legal term can be printed as its kind says
 abbrev pub LegalTermsArePrintable : Type 0
 LegalTermsArePrintable = (p : PlainProgram) (t : Tree) (n : Annotation) → IsLegalTerm p t n → CopiesArrays t n → IsPrintableAs (nest_kind t) (declared_by p) t n
+
+-- a term has no more phases than nodes
+abbrev pub PhasesAreFew : Type 0
+PhasesAreFew = (t : Tree) (n : Annotation) → phase_count (lowered_root t n) ≤ nodes t

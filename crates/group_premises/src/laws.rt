@@ -1,6 +1,6 @@
 //! Laws of legal nests, each carried by a function that does nothing.
 
-ghost use Rattle.group_premises.specs.Laws.{LegalGroupsStandOverGroups, LegalNestsStand, LegalTermsArePrintable};
+ghost use Rattle.group_premises.specs.Laws.{LegalGroupsStandOverGroups, LegalNestsStand, LegalTermsArePrintable, PhasesAreFew};
 
 /// What a legal term is lowered to is for one work-item, over all of them, or over work-groups, as its kind says.
 pub fn legal_nests_stand()
@@ -16,4 +16,9 @@ pub fn legal_groups_stand_over_groups()
 /// kind says.
 pub fn legal_terms_are_printable()
     ensures { LegalTermsArePrintable }
+{}
+
+/// A term has no more phases than nodes.
+pub fn phases_are_few()
+    ensures { PhasesAreFew }
 {}
