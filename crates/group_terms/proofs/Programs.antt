@@ -1,7 +1,6 @@
 -- Kernels printed for a program's typed term that is a map over work-groups keep what they owe, at every admissible launch.
-use Rattle.std.proofs.Common.{◌≡◌, ℕ, ◌*◌, ◌/◌, ◌%◌, ◌<◌, Bool, List, [], length, refl, sym, ap, ◌∙◌, subst, arith}
+use Rattle.std.proofs.Common.{ℕ, ◌<◌, Bool, List, [], length, refl, sym, ap, ◌∙◌, subst, arith}
 use Rattle.std.specs.Prelude.{map}
-use Rattle.size_arith.specs.declared.names.Name.{Name}
 use Rattle.size_arith.specs.declared.poly.Monomial.{Monomial}
 use Rattle.lift_tree.specs.Tree.{Tree}
 use Rattle.lift_tree.specs.Typing.{Declared, IsAdmissible}
@@ -9,9 +8,10 @@ use Rattle.lift_tree.specs.Values.{nth}
 use Rattle.lift_tree.specs.Annotations.{Annotation, type_in}
 use Rattle.lift_tree.specs.Meaning.{World, meaning}
 use Rattle.lift_tree.specs.Launches as launches
+use Rattle.lift_tree.proofs.Members.{length-map}
 use Rattle.lift_tree.specs.Launches.{IsAdmissibleLaunch}
 use Rattle.kernel_tree.specs.Code.{Kernel}
-use Rattle.kernel_tree.specs.Launch.{Launch, Cells, IsWhole}
+use Rattle.kernel_tree.specs.Launch.{Launch, Cells}
 use Rattle.kernel_tree.specs.Device.{Cell}
 use Rattle.lift_ir.specs.Types.{Ty, measured, IsFlat}
 use Rattle.lift_ir.specs.Terms.{HasType, no_type}
@@ -27,18 +27,12 @@ use Rattle.lift_ir.proofs.Values.{same_lists}
 use Rattle.printed_form.specs.Headline.{EveryRunKeeps}
 use Rattle.printed_form.specs.Printer.{input_marks}
 use Rattle.printed_form.specs.Programs.{input_shape, first_buffer, lowered_root, cell_owner, IsLaunchOf, AreBuffersOf}
-use Rattle.printed_form.proofs.Programs.{input_has, input_given}
+use Rattle.printed_form.proofs.Programs.{lists_length, buffers_count, whole, sizes_count, input_has, input_given}
 use Rattle.group_phases.specs.Outcome.{BarriersServeAll}
 use Rattle.group_terms.specs.Theorem.{IsPrintedOverGroups}
-use Rattle.group_terms.specs.Programs.{PrintsGroups, IsGroupProgram, PrintedGroupProgramsKeep, PrintedGroupProgramsServe}
+use Rattle.group_terms.specs.Programs.{PrintsGroups, IsGroupProgram, PrintedGroupProgramsKeep, PrintedGroupProgramsServe, PrintedGroupProgramsStart}
 use Rattle.group_terms.proofs.Typing.{lowered_has}
 use Rattle.group_terms.proofs.Theorem.{needed_keep_apart, needed_groups_keep, separated_groups_serve}
-
-whole : (l : Launch) (is_task : Bool) (names : List Name) (bases : List ℕ) → IsAdmissibleLaunch names is_task bases l.global l.local → IsWhole l
-whole l is_task names bases h = let a = h.local_least in let b = h.divides in record { positive = omega arith; divides = parts l.global l.local b (omega arith) }
-  where
-    parts : (g n : ℕ) → g % n ≡ 0 → 0 < n → g ≡ g / n * n
-    parts g n e h = omega arith
 
 module _ (d : Declared) (is_task : Bool) (w : World) (t : Tree) (a : Annotation) (l : Launch) (k : Kernel) (c : Cells) (program : IsGroupProgram d w.bases t a) (ok : IsAdmissible d w) (launch : IsLaunchOf d is_task w.bases l) (buffers : AreBuffersOf d w t a c) (printed : PrintsGroups d w.bases t a l k) where
   abbrev num : List Monomial → ℕ
@@ -102,3 +96,15 @@ group_programs_keep d is_task w t a l k c program ok launch buffers printed = ke
 
 pub group_programs_serve : PrintedGroupProgramsServe
 group_programs_serve d is_task w t a l k c program ok launch buffers printed = serves d is_task w t a l k c program ok launch buffers printed
+
+pub group_programs_start : PrintedGroupProgramsStart
+group_programs_start d is_task w t a l k c program ok launch buffers printed =
+    let lowerable = program.lowerable in
+    record {
+      whole = whole l is_task d.names w.bases launch.admissible;
+      small_groups = launch.admissible.local_most;
+      few_items = launch.admissible.global_most;
+      sizes = ap length launch.sizes ∙ sizes_count d.names w.bases launch.admissible.sizes ∙ sym printed.sizes;
+      ins = ap length buffers.inputs ∙ buffers_count w.bases d.inputs w.inputs lowerable.declared.arrays ok.inputs ∙ sym printed.inputs;
+      outs = sym (length-map length c.outs) ∙ ap length buffers.outputs ∙ length-map length (launches.lists_of (type_in a) (meaning w [] t)) ∙ lists_length w.bases (type_in a) (meaning w [] t) ∙ sym printed.outputs;
+    }

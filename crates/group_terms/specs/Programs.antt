@@ -6,7 +6,7 @@ use Rattle.lift_tree.specs.Annotations.{Annotation, type_in}
 use Rattle.lift_tree.specs.Meaning.{World, meaning}
 use Rattle.lift_tree.specs.Launches.{lists_of}
 use Rattle.kernel_tree.specs.Code.{Kernel}
-use Rattle.kernel_tree.specs.Launch.{Launch, Cells}
+use Rattle.kernel_tree.specs.Launch.{Launch, Cells, MayStart}
 use Rattle.kernel_tree.specs.Device.{Cell}
 use Rattle.barrier_placement.specs.Fencing.{Fencing}
 use Rattle.barrier_placement.specs.Needed.{Needed}
@@ -53,3 +53,9 @@ PrintedGroupProgramsServe =
     (d : Declared) (is_task : Bool) (w : World) (t : Tree) (a : Annotation) (l : Launch) (k : Kernel) (c : Cells)
     → IsGroupProgram d w.bases t a → IsAdmissible d w → IsLaunchOf d is_task w.bases l → AreBuffersOf d w t a c → PrintsGroups d w.bases t a l k
     → (filler : Cell → ℕ) × BarriersServeAll k l c filler
+
+-- and it may be started there
+abbrev pub PrintedGroupProgramsStart : Type 0
+PrintedGroupProgramsStart =
+    (d : Declared) (is_task : Bool) (w : World) (t : Tree) (a : Annotation) (l : Launch) (k : Kernel) (c : Cells)
+    → IsGroupProgram d w.bases t a → IsAdmissible d w → IsLaunchOf d is_task w.bases l → AreBuffersOf d w t a c → PrintsGroups d w.bases t a l k → MayStart k l c

@@ -4,7 +4,7 @@ ghost use Rattle.size_arith.specs.declared.poly.Monomial.{Monomial};
 ghost use Rattle.std.specs.Prelude.{List};
 ghost use Rattle.group_terms.specs.Worked.{AddedTilesKeep, SummedTilesKeep, SixKeep, UnnamedCopiesAreUnused};
 ghost use Rattle.group_terms.specs.Printer.{GroupPrinterPrints, GroupProgramsArePrinted};
-ghost use Rattle.group_terms.specs.Programs.{PrintedGroupProgramsKeep, PrintedGroupProgramsServe};
+ghost use Rattle.group_terms.specs.Programs.{PrintedGroupProgramsKeep, PrintedGroupProgramsServe, PrintedGroupProgramsStart};
 ghost use Rattle.group_terms.specs.Theorem.{NeededKeepApart, NeededGroupsKeep, SeparatedGroupsKeep, SeparatedGroupsServe, UsesTellBarriers, AlignedNeedNone, GroupUsesCanBePlaced};
 
 /// At every launch, on all inputs, every run of a kernel that is printed for a map over work-groups with the needed barriers keeps what it owes: the source value's lists, each cell by its owner. With any barriers that keep conflicting phases apart it leaves the term's scalars, and its barriers serve.
@@ -26,6 +26,11 @@ pub fn uses_tell_barriers()
 pub fn printed_group_programs_keep()
     ensures keep { PrintedGroupProgramsKeep }
     ensures serve { PrintedGroupProgramsServe }
+{}
+
+/// A kernel that is printed for a program's typed term, a map over work-groups, may be started at each admissible launch.
+pub fn printed_group_programs_start()
+    ensures { PrintedGroupProgramsStart }
 {}
 
 /// Worked terms by way of local memory, at every launch: where each item reads what it copied, no barrier is needed; where it reads its neighbours', one is needed between the phases and one that closes the body.

@@ -9,7 +9,7 @@ use Rattle.lift_tree.specs.Annotations.{Annotation, Annotates, type_in}
 use Rattle.lift_tree.specs.Meaning.{World, meaning}
 use Rattle.kernel_tree.specs.Code.{Kernel}
 use Rattle.kernel_tree.specs.Grammar.{is_kernel}
-use Rattle.kernel_tree.specs.Launch.{Launch, Cells}
+use Rattle.kernel_tree.specs.Launch.{Launch, Cells, MayStart}
 use Rattle.barrier_placement.specs.Fencing.{Fencing}
 use Rattle.barrier_placement.specs.Needed.{Needed}
 use Rattle.lift_ir.specs.Lowering.{Written}
@@ -74,3 +74,11 @@ LegalGroupsKeep =
     → IsLegalTerm p t n → CopiesArrays t n → nest_kind t ≡ OverGroups → AreNeeded fence t n
     → IsAdmissible (declared_by p) w → IsLaunchOf (declared_by p) (is_task t) w.bases l → AreBuffersOf (declared_by p) w t n c
     → EveryRunKeeps (kernel_of_groups (declared_by p) fence t n) l c (cell_owner w.bases l t n) (lists_of (type_in n) (meaning w [] t))
+
+-- and it may be started there
+abbrev pub LegalGroupsStart : Type 0
+LegalGroupsStart =
+    (p : PlainProgram) (fence : ℕ → Fencing) (w : World) (t : Tree) (n : Annotation) (l : Launch) (c : Cells)
+    → IsLegalTerm p t n → CopiesArrays t n → nest_kind t ≡ OverGroups → AreNeeded fence t n
+    → IsAdmissible (declared_by p) w → IsLaunchOf (declared_by p) (is_task t) w.bases l → AreBuffersOf (declared_by p) w t n c
+    → MayStart (kernel_of_groups (declared_by p) fence t n) l c

@@ -2,11 +2,13 @@
 
 ghost use Rattle.size_arith.specs.declared.poly.Monomial.{Monomial};
 ghost use Rattle.std.specs.Prelude.{List};
-ghost use Rattle.printable_groups.specs.Laws.{GroupKernelsAreInTheGrammar, GroupsCanBeWritten, GroupTermsArePrinted, LegalGroupKernelsAreInTheGrammar, LegalGroupsKeep};
+ghost use Rattle.printable_groups.specs.Laws.{GroupKernelsAreInTheGrammar, GroupsCanBeWritten, GroupTermsArePrinted, LegalGroupKernelsAreInTheGrammar, LegalGroupsKeep, LegalGroupsStart};
 
 use group_grammar::laws::{group_kernels_are_of_the_grammar, needed_are_flagged};
 use group_premises::laws::legal_groups_stand_over_groups;
-use group_terms::laws::{printed_group_programs_keep, the_group_printer_prints};
+use group_terms::laws::{
+    printed_group_programs_keep, printed_group_programs_start, the_group_printer_prints,
+};
 use kernel_limits::laws::{terms_can_be_written, terms_nest_within};
 use length_spelling::laws::{lengths_are_bounds, lengths_are_spelled};
 use nest_premises::laws::legal_terms_can_be_lowered;
@@ -59,4 +61,13 @@ pub fn legal_groups_keep()
     legal_groups_stand_over_groups();
     group_terms_are_printed();
     printed_group_programs_keep();
+}
+
+/// It may be started there.
+pub fn legal_groups_start()
+    ensures { LegalGroupsStart }
+{
+    legal_groups_stand_over_groups();
+    group_terms_are_printed();
+    printed_group_programs_start();
 }

@@ -98,7 +98,7 @@ input_is_array ys types.U32 i h = i
 input_is_array ys (types.PairOf a b) i h = i
 input_is_array ys (types.ArrayOf a n) i h = no_word h.0 h.1
 
-lists_length : (ys : List ℕ) (a : PlainTy) (v : Value) → length (launches.lists_of a v) ≡ width (shape_of a)
+pub lists_length : (ys : List ℕ) (a : PlainTy) (v : Value) → length (launches.lists_of a v) ≡ width (shape_of a)
 lists_length ys a v = ap length (same_lists ys a v) ∙ lists_count (ty_at ys a) v ∙ width_is ys a
 
 -- an input's buffers are its value's lists
@@ -120,7 +120,7 @@ row_is ys (b ∷ tys) (v ∷ vs) (suc i) a c all h e lt =
     ∙ ap (λ k. get_or (buffers_of tys vs) k []) (let z : width (shape_of b) + first_buffer tys i + c - length (launches.lists_of b v) ≡ first_buffer tys i + c = omega arith in z)
     ∙ row_is ys tys vs i a c all.1 (λ n x y. h (suc n) x y) e lt
 
-buffers_count : (ys : List ℕ) (tys : List PlainTy) (vs : List Value) → Every IsInput tys → HaveTypes ys tys vs → length (buffers_of tys vs) ≡ buffer_count tys
+pub buffers_count : (ys : List ℕ) (tys : List PlainTy) (vs : List Value) → Every IsInput tys → HaveTypes ys tys vs → length (buffers_of tys vs) ≡ buffer_count tys
 buffers_count ys [] vs all h = refl
 buffers_count ys (b ∷ tys) [] all h = absurd (input_is_array ys b all.0 (h 0 b refl))
 buffers_count ys (b ∷ tys) (v ∷ vs) all h =
@@ -131,13 +131,13 @@ buffers_count ys (b ∷ tys) (v ∷ vs) all h =
 
 -- launches
 
-whole : (l : Launch) (is_task : Bool) (names : List Name) (bases : List ℕ) → IsAdmissibleLaunch names is_task bases l.global l.local → IsWhole l
+pub whole : (l : Launch) (is_task : Bool) (names : List Name) (bases : List ℕ) → IsAdmissibleLaunch names is_task bases l.global l.local → IsWhole l
 whole l is_task names bases h = let a = h.local_least in let b = h.divides in record { positive = omega arith; divides = parts l.global l.local b (omega arith) }
   where
     parts : (g n : ℕ) → g % n ≡ 0 → 0 < n → g ≡ g / n * n
     parts g n e h = omega arith
 
-sizes_count : (names : List Name) (ys : List ℕ) → Admissible names ys → length (sizes_at names ys) ≡ length names
+pub sizes_count : (names : List Name) (ys : List ℕ) → Admissible names ys → length (sizes_at names ys) ≡ length names
 sizes_count [] ys h = refl
 sizes_count (n ∷ names) [] h = absurd h
 sizes_count (n ∷ names) (y ∷ ys) h = let e = sizes_count names ys h.1 in omega arith
