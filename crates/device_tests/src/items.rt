@@ -99,7 +99,13 @@ fn run_two(alloc: Global, kernel: Kernel, local: u32) -> Result<Outcome, DeviceN
         local,
         sizes: Vec::new(alloc),
     };
-    launch(alloc, kernel, launch_of, cells, &Schedule::Numbers(Vec::new(alloc)))
+    launch(
+        alloc,
+        kernel,
+        launch_of,
+        cells,
+        &Schedule::Numbers(Vec::new(alloc)),
+    )
 }
 
 fn fails(ran: &Result<Outcome, DeviceNo>, want: (FaultKind, u64, u32, Option<Cell>)) -> bool {

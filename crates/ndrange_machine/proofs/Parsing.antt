@@ -39,7 +39,7 @@ same_code n End (Stores a2 i2 e2 r2) xs ys cx cy h = unclosed xs _ cx h (λ z. z
 same_code n End (Loops s2 p2 c2 m2 r2) xs ys cx cy h = unclosed xs _ cx h (λ z. z)
 same_code n End (Syncs x2 y2 r2) xs ys cx cy h = unclosed xs _ cx h (λ z. z)
 same_code n (Assigns v1 e1 r1) End xs ys cx cy h = unclosed ys _ cy (sym h) (λ z. z)
-same_code n (Assigns v1 e1 r1) (Assigns v2 e2 r2) xs ys cx cy h = 
+same_code n (Assigns v1 e1 r1) (Assigns v2 e2 r2) xs ys cx cy h =
     let tails : lines_at (suc n) r1 ++ xs ≡ lines_at (suc n) r2 ++ ys = cc in
     let rest = same_code (suc n) r1 r2 xs ys cx cy tails in
     let of_v : v1 ≡ v2 = cc in
@@ -51,7 +51,7 @@ same_code n (Assigns v1 e1 r1) (Loops s2 p2 c2 m2 r2) xs ys cx cy h = cc
 same_code n (Assigns v1 e1 r1) (Syncs x2 y2 r2) xs ys cx cy h = cc
 same_code n (Loads v1 a1 e1 r1) End xs ys cx cy h = unclosed ys _ cy (sym h) (λ z. z)
 same_code n (Loads v1 a1 e1 r1) (Assigns v2 e2 r2) xs ys cx cy h = cc
-same_code n (Loads v1 a1 e1 r1) (Loads v2 a2 e2 r2) xs ys cx cy h = 
+same_code n (Loads v1 a1 e1 r1) (Loads v2 a2 e2 r2) xs ys cx cy h =
     let tails : lines_at (suc n) r1 ++ xs ≡ lines_at (suc n) r2 ++ ys = cc in
     let rest = same_code (suc n) r1 r2 xs ys cx cy tails in
     let of_v : v1 ≡ v2 = cc in
@@ -64,7 +64,7 @@ same_code n (Loads v1 a1 e1 r1) (Syncs x2 y2 r2) xs ys cx cy h = cc
 same_code n (Stores a1 i1 e1 r1) End xs ys cx cy h = unclosed ys _ cy (sym h) (λ z. z)
 same_code n (Stores a1 i1 e1 r1) (Assigns v2 e2 r2) xs ys cx cy h = cc
 same_code n (Stores a1 i1 e1 r1) (Loads v2 a2 e2 r2) xs ys cx cy h = cc
-same_code n (Stores a1 i1 e1 r1) (Stores a2 i2 e2 r2) xs ys cx cy h = 
+same_code n (Stores a1 i1 e1 r1) (Stores a2 i2 e2 r2) xs ys cx cy h =
     let tails : lines_at (suc n) r1 ++ xs ≡ lines_at (suc n) r2 ++ ys = cc in
     let rest = same_code (suc n) r1 r2 xs ys cx cy tails in
     let of_a : a1 ≡ a2 = cc in
@@ -77,7 +77,7 @@ same_code n (Loops s1 p1 c1 m1 r1) End xs ys cx cy h = unclosed ys _ cy (sym h) 
 same_code n (Loops s1 p1 c1 m1 r1) (Assigns v2 e2 r2) xs ys cx cy h = cc
 same_code n (Loops s1 p1 c1 m1 r1) (Loads v2 a2 e2 r2) xs ys cx cy h = cc
 same_code n (Loops s1 p1 c1 m1 r1) (Stores a2 i2 e2 r2) xs ys cx cy h = cc
-same_code n (Loops s1 p1 c1 m1 r1) (Loops s2 p2 c2 m2 r2) xs ys cx cy h = 
+same_code n (Loops s1 p1 c1 m1 r1) (Loops s2 p2 c2 m2 r2) xs ys cx cy h =
     let left = sym (append_assoc (lines_at (suc n) m1) (Tail n ∷ lines_at (exit_of n m1) r1) xs) in
     let right = append_assoc (lines_at (suc n) m2) (Tail n ∷ lines_at (exit_of n m2) r2) ys in
     let heads : Head s1 p1 c1 (exit_of n m1) ≡ Head s2 p2 c2 (exit_of n m2) = cc in
@@ -96,16 +96,12 @@ same_code n (Syncs x1 y1 r1) (Assigns v2 e2 r2) xs ys cx cy h = cc
 same_code n (Syncs x1 y1 r1) (Loads v2 a2 e2 r2) xs ys cx cy h = cc
 same_code n (Syncs x1 y1 r1) (Stores a2 i2 e2 r2) xs ys cx cy h = cc
 same_code n (Syncs x1 y1 r1) (Loops s2 p2 c2 m2 r2) xs ys cx cy h = cc
-same_code n (Syncs x1 y1 r1) (Syncs x2 y2 r2) xs ys cx cy h = 
+same_code n (Syncs x1 y1 r1) (Syncs x2 y2 r2) xs ys cx cy h =
     let tails : lines_at (suc n) r1 ++ xs ≡ lines_at (suc n) r2 ++ ys = cc in
     let rest = same_code (suc n) r1 r2 xs ys cx cy tails in
     let of_x : x1 ≡ x2 = cc in
     let of_y : y1 ≡ y2 = cc in
     (ap (λ z. Syncs z y1 r1) of_x ∙ ap (λ z. Syncs x2 z r1) of_y ∙ ap (λ z. Syncs x2 y2 z) rest.0, rest.1)
-
-
-
-
 
 abbrev turn_numbers : List Frame → List ℕ
 turn_numbers fs = map (λ f. f.turn) fs

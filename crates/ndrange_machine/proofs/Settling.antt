@@ -72,9 +72,10 @@ module _ (m : Machine) (g : ℕ) (lt : g < m.launch.global / m.launch.local) whe
     not_alike : (j : ℕ) → g * m.launch.local ≤ j → j < g * m.launch.local + m.launch.local → ((a b : ItemView) → slice_get m.items.items (g * m.launch.local) ≡ Some a → slice_get m.items.items j ≡ Some b → IsTrue false ↔ SamePlace a b) → IsTrue false ↔ AllTogether (device_of k l c) s g
     not_alike j low high told =
         let mine : group_of l j ≡ g = between l h.whole g j (subst (λ (z : Launch). g * z.local ≤ j) h.launch low) (subst (λ (z : Launch). j < g * z.local + z.local) h.launch high) in
-        let other = its_item k l c m s h j (in_launch l h.whole g j there mine) in
-        (λ e. no_true e,
-        λ all. (told first_there.0 other.0 (ap (slice_get m.items.items) first_is ∙ first_there.1) other.1).1 (if_stand k l c m s h (first_item l g) j first_there.0 other.0 first_there.1 other.1 (all j mine)))
+        let other = its_item k l c m s h j (in_launch l h.whole g j there mine) in (
+          λ e. no_true e,
+          λ all. (told first_there.0 other.0 (ap (slice_get m.items.items) first_is ∙ first_there.1) other.1).1 (if_stand k l c m s h (first_item l g) j first_there.0 other.0 first_there.1 other.1 (all j mine)),
+        )
 
     all_alike : IsAtBarrier m (g * m.launch.local) true → (i : ℕ) → g * m.launch.local + m.launch.local ≤ i → AlikeUpTo i → IsTrue true ↔ AllTogether (device_of k l c) s g
     all_alike at i end alike = (
@@ -92,9 +93,10 @@ module _ (m : Machine) (g : ℕ) (lt : g < m.launch.global / m.launch.local) whe
     one_going : (j : ℕ) → g * m.launch.local ≤ j → j < g * m.launch.local + m.launch.local → ((a : ItemView) → slice_get m.items.items j ≡ Some a → IsTrue false ↔ length m.lines.items ≤ a.line) → IsTrue false ↔ AllOver (device_of k l c) s g
     one_going j low high told =
         let mine : group_of l j ≡ g = between l h.whole g j (subst (λ (z : Launch). g * z.local ≤ j) h.launch low) (subst (λ (z : Launch). j < g * z.local + z.local) h.launch high) in
-        let it = its_item k l c m s h j (in_launch l h.whole g j there mine) in
-        (λ e. no_true e,
-        λ all. ⊎_elim (λ less. absurd (goes_on k l c m s h j it.0 it.1 less (all j mine))) (λ le. (told it.0 it.1).1 le) (cases_lt it.0.line (length m.lines.items)))
+        let it = its_item k l c m s h j (in_launch l h.whole g j there mine) in (
+          λ e. no_true e,
+          λ all. ⊎_elim (λ less. absurd (goes_on k l c m s h j it.0 it.1 less (all j mine))) (λ le. (told it.0 it.1).1 le) (cases_lt it.0.line (length m.lines.items)),
+        )
 
     all_over : (i : ℕ) → g * m.launch.local + m.launch.local ≤ i → OverUpTo i → IsTrue true ↔ AllOver (device_of k l c) s g
     all_over i end over = (

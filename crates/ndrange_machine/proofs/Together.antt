@@ -218,9 +218,10 @@ module _ (d : Device) (whole : IsWhole d.launch) (s : State) (j : ℕ) (v : Flag
 
     pub some_go : (NoneSteps (unset v.groups) (group_of d.launch j) → ⊥) → Settled d (after d s (Step j)) (unset v.groups) false
     some_go more = record {
-      flags = flags_with v.groups (λ g ne. refl)
-          (λ t. absurd (never_together ((h.flags.releases (group_of d.launch j) within).0 t)),
-          λ all. absurd (more (none_steps v.groups (λ k q can. stands_or_steps _ _ can (all k q)))));
+      flags = flags_with v.groups (λ g ne. refl) (
+        λ t. absurd (never_together ((h.flags.releases (group_of d.launch j) within).0 t)),
+        λ all. absurd (more (none_steps v.groups (λ k q can. stands_or_steps _ _ can (all k q)))),
+      );
       apart = (λ q. absurd (let both : false ≡ true = q in let n : ⊥ = cc in n), λ x. absurd (calm_after d s (Step j) whole h.steady (λ y. more (none_steps v.groups y.stopped)) x));
     }
 
