@@ -4,6 +4,7 @@ ghost use Rattle.std.specs.Prelude.{◌≡◌};
 ghost use Rattle.index_expr.specs.Expression.{expression_of};
 ghost use Rattle.index_simplify.specs.Tests as tests;
 ghost use Rattle.index_simplify.specs.Laws as spec;
+ghost use Rattle.index_simplify.specs.PlainRanges.{ranges_of};
 
 use crate::literals::computed;
 use crate::ranges::Ranges;
@@ -88,7 +89,7 @@ fn is_begin(e: &Index, length: &Index) -> bool
 
 // Whether it is the cell of a row of this length and of a column in it.
 fn is_cell(e: &Index, length: &Index, ranges: &Ranges) -> bool
-    ensures { result ≡ tests.is_cell ranges.now (expression_of e.now) (expression_of length.now) }
+    ensures { result ≡ tests.is_cell (ranges_of ranges.now) (expression_of e.now) (expression_of length.now) }
 {
     match e {
         Index::Binary(Operation::Sum, begin, column) => {
@@ -142,7 +143,7 @@ fn is_part_of(number: u32, divisor: &Index) -> bool
 
 // Whether it is a size over this number, of which it is a multiple.
 fn is_base(e: &Index, divisor: u32, ranges: &Ranges) -> bool
-    ensures { result ≡ tests.is_base ranges.now divisor (expression_of e.now) }
+    ensures { result ≡ tests.is_base (ranges_of ranges.now) divisor (expression_of e.now) }
 {
     match e {
         Index::Binary(Operation::Quotient, size, d) => {
@@ -154,7 +155,7 @@ fn is_base(e: &Index, divisor: u32, ranges: &Ranges) -> bool
 
 // Whether it is a size over a part of this number, of which it is a multiple.
 fn is_part_base(e: &Index, number: u32, ranges: &Ranges) -> bool
-    ensures { result ≡ tests.is_part_base ranges.now number (expression_of e.now) }
+    ensures { result ≡ tests.is_part_base (ranges_of ranges.now) number (expression_of e.now) }
 {
     match e {
         Index::Binary(Operation::Quotient, size, d) => {
@@ -167,7 +168,7 @@ fn is_part_base(e: &Index, number: u32, ranges: &Ranges) -> bool
 // Whether they are a literal and a size over it.
 fn is_whole_size(a: &Index, b: &Index, ranges: &Ranges) -> bool
     ensures { result
-        ≡ tests.is_whole_size ranges.now (expression_of a.now) (expression_of b.now) }
+        ≡ tests.is_whole_size (ranges_of ranges.now) (expression_of a.now) (expression_of b.now) }
 {
     match a {
         Index::Literal(number) => is_base(b, *number, ranges),
@@ -178,7 +179,7 @@ fn is_whole_size(a: &Index, b: &Index, ranges: &Ranges) -> bool
 // Whether they are a literal and a size over a part of it.
 fn is_scaled_size(a: &Index, b: &Index, ranges: &Ranges) -> bool
     ensures { result
-        ≡ tests.is_scaled_size ranges.now (expression_of a.now) (expression_of b.now) }
+        ≡ tests.is_scaled_size (ranges_of ranges.now) (expression_of a.now) (expression_of b.now) }
 {
     match a {
         Index::Literal(number) => is_part_base(b, *number, ranges),
@@ -230,7 +231,7 @@ fn second_part(e: Index) -> Index
 impl Law {
     /// Whether the law is of the operation on these expressions.
     pub fn applies(self, operation: Operation, a: &Index, b: &Index, ranges: &Ranges) -> bool
-        ensures { result ≡ spec.applies ranges.now self operation (expression_of a.now) (expression_of b.now) }
+        ensures { result ≡ spec.applies (ranges_of ranges.now) self operation (expression_of a.now) (expression_of b.now) }
     {
         match self {
             Law::Computed => computed(operation, a, b).is_some(),

@@ -1,3 +1,4 @@
 pub mod Sizes
 pub mod Values
 pub mod Shapes
+pub mod Exact

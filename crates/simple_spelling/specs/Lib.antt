@@ -1,3 +1,4 @@
 pub mod Formulas
 pub mod Redundant
 pub mod Laws
+pub mod Exact
