@@ -1,4 +1,3 @@
 pub mod Sizes
 pub mod Values
 pub mod Shapes
-pub mod Exact

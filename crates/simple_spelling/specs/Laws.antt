@@ -10,7 +10,6 @@ use Rattle.length_spelling.specs.Laws.{AreWords}
 use Rattle.index_simplify.specs.PlainRanges.{PlainRanges}
 use Rattle.index_simplify.specs.Ranges.{IsPoint}
 use Rattle.index_simplify.specs.Simplified.{HasWordLiterals}
-use Rattle.simple_spelling.specs.Exact.{IsExact}
 use Rattle.simple_spelling.specs.Formulas.{formula_nodes, simple_formula}
 use Rattle.simple_spelling.specs.Redundant.{IsIrredundant}
 
@@ -20,14 +19,6 @@ SimpleFormulasHaveTheValues =
     (r : PlainRanges) (ids : Ids) (loops variables : List ℕ) (e : Expression) (n : ℕ)
     → AreWords ids.sizes → AreWords loops → HasWordLiterals e → IsPoint r ids.sizes loops e
     → IsRangedAt ids.sizes loops e → HasNoZeroDivisorAt ids.sizes loops e → exact ids.sizes loops e ≡ pos n
-    → value ids loops variables (simple_formula r e) ≡ Some n
-
--- among words, at a point of the ranges at which no operation of the plain spelling wraps, the value is that of the plain spelling
-abbrev pub SimpleFormulasKeepTheValues : Type 0
-SimpleFormulasKeepTheValues =
-    (r : PlainRanges) (ids : Ids) (loops variables : List ℕ) (e : Expression) (n : ℕ)
-    → AreWords ids.sizes → AreWords loops → HasWordLiterals e → IsPoint r ids.sizes loops e
-    → IsExact ids loops variables (index_formula e) → value ids loops variables (index_formula e) ≡ Some n
     → value ids loops variables (simple_formula r e) ≡ Some n
 
 -- the second is of the kernel grammar where the first is, and no larger

@@ -1,4 +1,3 @@
 pub mod Formulas
 pub mod Redundant
 pub mod Laws
-pub mod Exact

@@ -1,15 +1,10 @@
 //! Laws of simplified spellings, each carried by a function that does nothing.
 
-ghost use Rattle.simple_spelling.specs.Laws.{SimpleFormulasHaveTheValues, SimpleFormulasKeepTheValues, SimpleFormulasAreNoLarger, SimpleFormulasAreIrredundant};
+ghost use Rattle.simple_spelling.specs.Laws.{SimpleFormulasHaveTheValues, SimpleFormulasAreNoLarger, SimpleFormulasAreIrredundant};
 
 /// At a point of the ranges at which an index expression is ranged, it is spelled with its exact value.
 pub fn simple_formulas_have_the_values()
     ensures { SimpleFormulasHaveTheValues }
-{}
-
-/// At a point of the ranges at which no operation of an index expression's spelling wraps, the spelling of the simplified one has the same value.
-pub fn simple_formulas_keep_the_values()
-    ensures { SimpleFormulasKeepTheValues }
 {}
 
 /// A simplified index expression is spelled by an expression of the kernel grammar wherever it is so without that: of the same names, no higher, with no more nodes.
