@@ -1,9 +1,9 @@
 -- What the tests on expressions mean for their values.
-use Rattle.std.proofs.Common.{◌≡◌, ℕ, ℤ, pos, negsuc, ◌*◌, ◌/◌, ◌%◌, ◌<◌, ◌≤◌, ◌+ℤ◌, ◌*ℤ◌, Bool, true, false, Option, Some, None, List, refl, sym, ap, ◌∙◌, subst, arith}
+use Rattle.std.proofs.Common.{◌≡◌, ℕ, zero, suc, ℤ, pos, negsuc, ◌+◌, ◌*◌, ◌/◌, ◌%◌, ◌<◌, ◌≤◌, ◌+ℤ◌, ◌*ℤ◌, min, max, Bool, true, false, Option, Some, None, List, refl, sym, ap, ◌∙◌, subst, arith}
 use Rattle.std.specs.Prelude.{◌==◌, ◌&&◌, ◌||◌, ◌<ℤ◌, nat_lt, slice_get, slice_index, unsigned_abs, int_div, int_rem, ◌⊎◌}
 use Rattle.std.proofs.Common.{inl, inr}
 use Rattle.std.proofs.lemmas.Bool.{eqb-true, ltb-true, leb-true}
-use Rattle.std.proofs.lemmas.Int.{ints, quot-rem}
+use Rattle.std.proofs.lemmas.Int.{ints, clamps, quot-rem}
 use Rattle.std.proofs.lemmas.Nat.{div-mul-add, mod-mul-add}
 use Rattle.std.proofs.Math.Nat.{div-add-mod, mul_assoc, mul_comm}
 use Rattle.index_expr.specs.declared.operation.Operation.{Operation}
@@ -11,7 +11,7 @@ use Rattle.index_expr.specs.declared.operation.Operation.TheVariants.{Sum, Diffe
 use Rattle.index_expr.specs.Expression.{Expression, Variable, Literal, Size, Binary}
 use Rattle.index_expr.specs.Values.{operate, exact}
 use Rattle.index_simplify.specs.PlainRanges.{PlainRanges}
-use Rattle.index_simplify.specs.Tests.{same_operation, same_variable, is_number, same_size, same, is_above, is_at_least, is_no_longer, is_known_within, is_loop_within, is_below, is_leaf, is_cell, is_quotient, is_rounded, are_parts, is_known_multiple, is_multiple, is_part_of, is_base, is_part_base, is_whole_size, is_scaled_size}
+use Rattle.index_simplify.specs.Tests.{same_operation, same_variable, is_number, same_size, same, is_above, is_at_least, is_no_longer, is_known_within, is_loop_within, is_below, is_count, is_cell, is_quotient, is_rounded, are_parts, is_known_multiple, is_multiple, is_part_of, is_base, is_part_base, is_whole_size, is_scaled_size}
 use Rattle.index_simplify.specs.Laws.{first_part, second_part, scaled}
 use Rattle.index_simplify.specs.Ranges.{AreBelowLengths, AreMultiples, AreWithin}
 
@@ -64,11 +64,41 @@ module _ (sizes variables : List ℕ) where
   abbrev IsNatural : Expression → Type 0
   IsNatural e = (v : ℕ) × (exact sizes variables e ≡ pos v)
 
-  leaf_value : (e : Expression) → is_leaf e ≡ true → IsNatural e
-  leaf_value (Variable k l g) h = (slice_index variables k, refl)
-  leaf_value (Literal n) h = (n, refl)
-  leaf_value (Size k) h = (slice_index sizes k, refl)
-  leaf_value (Binary o a b) h = absurd (cc h)
+  natural_result : (o : Operation) (x y : ℕ) → (same_operation o Difference ≡ false) → (v : ℕ) × (operate o (pos x) (pos y) ≡ pos v)
+  natural_result Sum x y h = (x + y, refl)
+  natural_result Difference x y h = absurd (cc h)
+  natural_result Product x y h = (x * y, refl)
+  natural_result Quotient x y h = (x / y, refl)
+  natural_result Remainder x y h = (x % y, refl)
+  natural_result Least x y h = (min x y, omega (arith, ints, clamps))
+  natural_result Greatest x y h = (max x y, omega (arith, ints, clamps))
+
+  natural_of : (o : Operation) (a b : Expression) → (same_operation o Difference ≡ false) → IsNatural a → IsNatural b → IsNatural (Binary o a b)
+  natural_of o a b h x y =
+      let z = natural_result o x.0 y.0 h in
+      (z.0, ap (λ v. operate o v (exact sizes variables b)) x.1 ∙ ap (operate o (pos x.0)) y.1 ∙ z.1)
+
+  count_value : (depth : ℕ) (e : Expression) → is_count depth e ≡ true → IsNatural e
+  count_value depth (Variable k l g) h = (slice_index variables k, refl)
+  count_value depth (Literal n) h = (n, refl)
+  count_value depth (Size k) h = (slice_index sizes k, refl)
+  count_value zero (Binary o a b) h = none o h
+    where
+      none : (o : Operation) → is_count zero (Binary o a b) ≡ true → IsNatural (Binary o a b)
+      none Sum h = absurd (cc h)
+      none Difference h = absurd (cc h)
+      none Product h = absurd (cc h)
+      none Quotient h = absurd (cc h)
+      none Remainder h = absurd (cc h)
+      none Least h = absurd (cc h)
+      none Greatest h = absurd (cc h)
+  count_value (suc depth) (Binary Difference a b) h = absurd (cc h)
+  count_value (suc depth) (Binary Sum a b) h = let parts = both (is_count depth a) (is_count depth b) h in natural_of Sum a b refl (count_value depth a parts.0) (count_value depth b parts.1)
+  count_value (suc depth) (Binary Product a b) h = let parts = both (is_count depth a) (is_count depth b) h in natural_of Product a b refl (count_value depth a parts.0) (count_value depth b parts.1)
+  count_value (suc depth) (Binary Quotient a b) h = let parts = both (is_count depth a) (is_count depth b) h in natural_of Quotient a b refl (count_value depth a parts.0) (count_value depth b parts.1)
+  count_value (suc depth) (Binary Remainder a b) h = let parts = both (is_count depth a) (is_count depth b) h in natural_of Remainder a b refl (count_value depth a parts.0) (count_value depth b parts.1)
+  count_value (suc depth) (Binary Least a b) h = let parts = both (is_count depth a) (is_count depth b) h in natural_of Least a b refl (count_value depth a parts.0) (count_value depth b parts.1)
+  count_value (suc depth) (Binary Greatest a b) h = let parts = both (is_count depth a) (is_count depth b) h in natural_of Greatest a b refl (count_value depth a parts.0) (count_value depth b parts.1)
 
   -- the values of a column and of a length above it
   record IsColumn (column length : Expression) : Type 0 where
@@ -127,9 +157,9 @@ module _ (sizes variables : List ℕ) where
 
     cell_of : (e m : Expression) → AreWithin variables e → is_cell r e m ≡ true → IsCellOf e m (first_part (first_part e)) (second_part e)
     cell_of (Binary Sum (Binary Product row n) column) m own h =
-        let parts = both (same n m && is_leaf row) (is_below r column m) h in
-        let front = both (same n m) (is_leaf row) parts.0 in
-        let number = leaf_value row front.1 in
+        let parts = both (same n m && is_count 3 row) (is_below r column m) h in
+        let front = both (same n m) (is_count 3 row) parts.0 in
+        let number = count_value 3 row front.1 in
         record {
           row_at = number.0;
           row_is = number.1;

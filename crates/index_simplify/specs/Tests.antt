@@ -1,5 +1,5 @@
 -- Tests on index expressions.
-use Rattle.std.specs.Prelude.{ℕ, ◌==◌, ◌%◌, ◌&&◌, ◌||◌, nat_lt, nat_le, Bool, true, false, Option, Some, None, slice_get}
+use Rattle.std.specs.Prelude.{ℕ, zero, suc, ◌==◌, ◌%◌, ◌&&◌, ◌||◌, nat_lt, nat_le, Bool, true, false, Option, Some, None, slice_get}
 use Rattle.index_expr.specs.declared.operation.Operation.{Operation}
 use Rattle.index_expr.specs.declared.operation.Operation.TheVariants.{Sum, Difference, Product, Quotient, Remainder, Least, Greatest}
 use Rattle.index_expr.specs.Expression.{Expression, Variable, Literal, Size, Binary}
@@ -100,14 +100,18 @@ abbrev pub is_scaled_size : PlainRanges → Expression → Expression → Bool
 is_scaled_size r (Literal c) b = is_part_base r c b
 is_scaled_size r _ b = false
 
--- an expression without operations
-abbrev pub is_leaf : Expression → Bool
-is_leaf (Binary o a b) = false
-is_leaf _ = true
+-- nothing is taken away in it, as far as so many operations deep tell
+abbrev pub is_count : ℕ → Expression → Bool
+is_count depth (Variable k l g) = true
+is_count depth (Literal n) = true
+is_count depth (Size k) = true
+is_count depth (Binary Difference a b) = false
+is_count zero (Binary o a b) = false
+is_count (suc depth) (Binary o a b) = is_count depth a && is_count depth b
 
--- a literal, a size or a variable times this length
+-- a row that is never below 0, times this length
 abbrev pub is_begin : Expression → (length : Expression) → Bool
-is_begin (Binary Product row n) m = same n m && is_leaf row
+is_begin (Binary Product row n) m = same n m && is_count 3 row
 is_begin _ m = false
 
 -- the cell of a row of this length and of a column in it

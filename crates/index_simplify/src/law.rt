@@ -40,9 +40,9 @@ pub enum Law {
     WholeSize,
     /// `c * (s / d)` is `(c / d) * s`, where the size `s` and the greater `c` are multiples of `d`.
     ScaledSize,
-    /// `(i * n + j) / n` is `i`, where `j` is below `n`.
+    /// `(e * n + j) / n` is `e`, where `j` is below `n` and nothing is taken away in `e`.
     RowOfCell,
-    /// `(i * n + j) mod n` is `j`, where `j` is below `n`.
+    /// `(e * n + j) mod n` is `j`, where `j` is below `n` and nothing is taken away in `e`.
     ColumnOfCell,
     /// `(e / n) * n + e mod n` is `e`.
     CellOfParts,
@@ -68,21 +68,26 @@ pub const LAWS: [Law; 16] = [
     Law::CellOfParts,
 ];
 
-fn is_leaf(e: &Index) -> bool
-    ensures { result ≡ tests.is_leaf (expression_of e.now) }
+// How many operations deep a row is looked into, so that the work at each node stays within a bound.
+const DEEPEST: u32 = 3;
+
+// Whether nothing is taken away in it, as far as so many operations deep tell. Then it is never below 0.
+fn is_count(e: &Index, depth: u32) -> bool
+    ensures { result ≡ tests.is_count depth (expression_of e.now) }
 {
     match e {
         Index::Variable { .. } | Index::Literal(_) | Index::Size(_) => true,
-        Index::Binary(_, _, _) => false,
+        Index::Binary(Operation::Difference, _, _) => false,
+        Index::Binary(_, a, b) => depth > 0 && is_count(a, depth - 1) && is_count(b, depth - 1),
     }
 }
 
-// Whether it is a leaf times this length.
+// Whether it is a row that is never below 0, times this length.
 fn is_begin(e: &Index, length: &Index) -> bool
     ensures { result ≡ tests.is_begin (expression_of e.now) (expression_of length.now) }
 {
     match e {
-        Index::Binary(Operation::Product, row, n) => same(n, length) && is_leaf(row),
+        Index::Binary(Operation::Product, row, n) => same(n, length) && is_count(row, DEEPEST),
         _ => false,
     }
 }
