@@ -5,3 +5,4 @@ pub mod Shapes
 pub mod Operations
 pub mod Short
 pub mod Words
+pub mod Known

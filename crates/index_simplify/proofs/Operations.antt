@@ -4,7 +4,7 @@ use Rattle.index_expr.specs.declared.operation.Operation.{Operation}
 use Rattle.index_expr.specs.declared.operation.Operation.TheVariants.{Product}
 use Rattle.index_expr.specs.Expression.{Expression, Variable, Literal, Size, Binary, expression_of}
 use Rattle.index_expr.specs.Values.{operate, exact, EachOperation, Divides, WantsWords, IsWord, HasWordArgumentsAt, HasNoZeroDivisorAt}
-use Rattle.index_simplify.specs.declared.ranges.Ranges.{Ranges}
+use Rattle.index_simplify.specs.PlainRanges.{PlainRanges}
 use Rattle.index_simplify.specs.declared.law.Law.{Law}
 use Rattle.index_simplify.specs.declared.law.Law.TheVariants.{Computed, PlusZero, ZeroPlus, MinusZero, MinusItself, TimesOne, OneTimes, TimesZero, ZeroTimes, OverOne, ModuloOne, WholeSize, ScaledSize, RowOfCell, ColumnOfCell, CellOfParts}
 use Rattle.index_simplify.specs.declared.law.TheConstants.{LAWS}
@@ -95,7 +95,7 @@ module _ (sizes variables : List ℕ) where
       (λ h. ((λ w e. h.0 w (sym y.value ∙ e)), x.divisors h.1, y.divisors h.2))
       (x.own, y.own)
 
-  law_stands : (r : Ranges) → AreBelowLengths r sizes variables → AreMultiples r sizes → (law : Law) (o : Operation) (a b : Expression) → AreWithin variables a → AreWithin variables b → applies r law o a b ≡ true → StandsFor sizes variables (Binary o a b) (applied law o a b)
+  law_stands : (r : PlainRanges) → AreBelowLengths r sizes variables → AreMultiples r sizes → (law : Law) (o : Operation) (a b : Expression) → AreWithin variables a → AreWithin variables b → applies r law o a b ≡ true → StandsFor sizes variables (Binary o a b) (applied law o a b)
   law_stands r loops all law o a b x y h =
       stands_by (Binary o a b) (applied law o a b)
       (law_value sizes variables r loops all law o a b x h)
@@ -104,12 +104,12 @@ module _ (sizes variables : List ℕ) where
       (applied_within variables law o a b x y)
 
 -- all that a simplified expression is, but for its nodes counted in short
-record IsKept (r : Ranges) (e s : Expression) : Type 0 where
+record IsKept (r : PlainRanges) (e s : Expression) : Type 0 where
   stands : (sizes variables : List ℕ) → IsPoint r sizes variables e → StandsFor sizes variables e s
   small : IsNoLarger e s
   simple : IsSimple s
 
-module _ (r : Ranges) (o : Operation) (a b c d : Expression) (x : IsKept r a c) (y : IsKept r b d) where
+module _ (r : PlainRanges) (o : Operation) (a b c d : Expression) (x : IsKept r a c) (y : IsKept r b d) where
   first_stands : (sizes variables : List ℕ) → IsPoint r sizes variables (Binary o a b) → StandsFor sizes variables a c
   first_stands sizes variables p = x.stands sizes variables (record { loops = p.loops; multiples = p.multiples; own = p.own.0 })
 
@@ -140,20 +140,20 @@ module _ (r : Ranges) (o : Operation) (a b c d : Expression) (x : IsKept r a c) 
     simple = by_simple (first_law r o c d LAWS) refl;
   }
 
-itself : (r : Ranges) (e : Expression) → IsSimple e → IsKept r e e
+itself : (r : PlainRanges) (e : Expression) → IsSimple e → IsKept r e e
 itself r e h = record { stands = λ sizes variables p. stands_itself sizes variables e p.own; small = same_small e; simple = h }
 
-simple_is_kept : (r : Ranges) (e : Expression) → IsKept r e (simple r e)
+simple_is_kept : (r : PlainRanges) (e : Expression) → IsKept r e (simple r e)
 simple_is_kept r (Variable k l g) = itself r (Variable k l g) tt
 simple_is_kept r (Literal n) = itself r (Literal n) tt
 simple_is_kept r (Size k) = itself r (Size k) tt
 simple_is_kept r (Binary o a b) = operation_kept r o a b (simple r a) (simple r b) (simple_is_kept r a) (simple_is_kept r b)
 
-pub simple_is_simplified : (r : Ranges) (e : Expression) → IsSimplified r e (simple r e)
+pub simple_is_simplified : (r : PlainRanges) (e : Expression) → IsSimplified r e (simple r e)
 simple_is_simplified r e =
     let kept = simple_is_kept r e in
     record { stands = kept.stands; small = kept.small; literals = simple_words r e; short = simple_is_short r e; simple = kept.simple }
 
-pub all_simplified : (r : Ranges) (e : Expression) (result : Result Index AllocError) → IfOk result (λ s. expression_of s ≡ simple r e) → IfOk result (λ s. IsSimplified r e (expression_of s))
+pub all_simplified : (r : PlainRanges) (e : Expression) (result : Result Index AllocError) → IfOk result (λ s. expression_of s ≡ simple r e) → IfOk result (λ s. IsSimplified r e (expression_of s))
 all_simplified r e (Err x) h = h
 all_simplified r e (Ok s) same = subst (IsSimplified r e) (sym same) (simple_is_simplified r e)

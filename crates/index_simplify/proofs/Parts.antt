@@ -11,7 +11,7 @@ use Rattle.index_simplify.specs.declared.law.Law.{Law}
 use Rattle.index_simplify.specs.declared.law.Law.TheVariants.{Computed, PlusZero, ZeroPlus, MinusZero, MinusItself, TimesOne, OneTimes, TimesZero, ZeroTimes, OverOne, ModuloOne, WholeSize, ScaledSize, RowOfCell, ColumnOfCell, CellOfParts}
 use Rattle.index_simplify.specs.Laws.{first_part, second_part, scaled, applies, applied}
 use Rattle.index_simplify.specs.Ranges.{AreWithin}
-use Rattle.index_simplify.specs.declared.ranges.Ranges.{Ranges}
+use Rattle.index_simplify.specs.PlainRanges.{PlainRanges}
 use Rattle.index_simplify.specs.Tests.{same_operation, is_multiple, is_part_of, is_part_base, is_scaled_size}
 use Rattle.index_simplify.specs.Shapes as shape
 use Rattle.index_simplify.specs.Shapes.{IsRedundant, UndoesCell, EachNode, IsPlain, IsSimple}
@@ -205,26 +205,26 @@ more_than_one c d lt e = let same = div-add-mod c d in let fits : d * (c / d) �
 scaled_plain : (q k : ℕ) → 1 < q → IsPlain (Binary Product (Literal q) (Size k))
 scaled_plain q k more = record { irredundant = λ h. let small = redundant_small (Binary Product (Literal q) (Size k)) h in absurd (omega arith); no_cell = λ h. cell_small (Binary Product (Literal q) (Size k)) h }
 
-base_simple : (r : Ranges) (c k : ℕ) (d : Expression) → is_part_of c d ≡ true → IsSimple (scaled (Literal c) (Binary Quotient (Size k) d))
+base_simple : (r : PlainRanges) (c k : ℕ) (d : Expression) → is_part_of c d ≡ true → IsSimple (scaled (Literal c) (Binary Quotient (Size k) d))
 base_simple r c k (Literal d) h =
     let parts = both (nat_lt 0 d && nat_lt d c) (c % d == 0) h in
     let front = both (nat_lt 0 d) (nat_lt d c) parts.0 in
     (scaled_plain (c / d) k (more_than_one c d (ltb-true d c front.1) (eqb-true (c % d) 0 parts.1)), tt, tt)
 base_simple r c k _ h = absurd (cc h)
 
-size_simple : (r : Ranges) (c : ℕ) (size d : Expression) → is_part_of c d ≡ true → is_multiple r size d ≡ true → IsSimple (scaled (Literal c) (Binary Quotient size d))
+size_simple : (r : PlainRanges) (c : ℕ) (size d : Expression) → is_part_of c d ≡ true → is_multiple r size d ≡ true → IsSimple (scaled (Literal c) (Binary Quotient size d))
 size_simple r c (Size k) d h m = base_simple r c k d h
 size_simple r c _ d h m = absurd (cc m)
 
-part_simple : (r : Ranges) (c : ℕ) (b : Expression) → is_part_base r c b ≡ true → IsSimple (scaled (Literal c) b)
+part_simple : (r : PlainRanges) (c : ℕ) (b : Expression) → is_part_base r c b ≡ true → IsSimple (scaled (Literal c) b)
 part_simple r c (Binary Quotient size d) h = let parts = both (is_part_of c d) (is_multiple r size d) h in size_simple r c size d parts.0 parts.1
 part_simple r c _ h = absurd (cc h)
 
-scaled_simple : (r : Ranges) (a b : Expression) → is_scaled_size r a b ≡ true → IsSimple (scaled a b)
+scaled_simple : (r : PlainRanges) (a b : Expression) → is_scaled_size r a b ≡ true → IsSimple (scaled a b)
 scaled_simple r (Literal c) b h = part_simple r c b h
 scaled_simple r _ b h = absurd (cc h)
 
-pub applied_simple : (r : Ranges) (law : Law) (o : Operation) (a b : Expression) → applies r law o a b ≡ true → IsSimple a → IsSimple b → IsSimple (applied law o a b)
+pub applied_simple : (r : PlainRanges) (law : Law) (o : Operation) (a b : Expression) → applies r law o a b ≡ true → IsSimple a → IsSimple b → IsSimple (applied law o a b)
 applied_simple r Computed o a b h x y = tt
 applied_simple r PlusZero o a b h x y = x
 applied_simple r ZeroPlus o a b h x y = y

@@ -4,7 +4,7 @@ use Rattle.std.specs.Prelude.{◌==◌, is_some, if◌then◌else◌}
 use Rattle.std.proofs.lemmas.Bool.{eq-eqb, lt-ltb}
 use Rattle.index_expr.specs.declared.operation.Operation.{Operation}
 use Rattle.index_expr.specs.Expression.{Expression, Binary}
-use Rattle.index_simplify.specs.declared.ranges.Ranges.{Ranges}
+use Rattle.index_simplify.specs.PlainRanges.{PlainRanges}
 use Rattle.index_simplify.specs.declared.law.Law.{Law}
 use Rattle.index_simplify.specs.declared.law.Law.TheVariants as law
 use Rattle.index_simplify.specs.declared.law.TheConstants.{LAWS}
@@ -20,11 +20,11 @@ same_number n = eq-eqb n n refl
 word_fits : (n : ℕ) → n < 2 ^ 32 → is_some (word n) ≡ true
 word_fits n lt = ap (λ (b : Bool). is_some (if b then Some n else None)) (lt-ltb n (2 ^ 32) lt)
 
-abbrev HasLaw : Ranges → Expression → Type 0
+abbrev HasLaw : PlainRanges → Expression → Type 0
 HasLaw r (Binary o a b) = (law : Law) × (applies r law o a b ≡ true)
 HasLaw r _ = Unit {0}
 
-redundant_law : (r : Ranges) (e : Expression) → IsRedundant e → HasLaw r e
+redundant_law : (r : PlainRanges) (e : Expression) → IsRedundant e → HasLaw r e
 redundant_law r _ (shape.SumOfLiterals m n lt) = (law.Computed, word_fits (m + n) lt)
 redundant_law r _ (shape.ProductOfLiterals m n lt) = (law.Computed, word_fits (m * n) lt)
 redundant_law r _ (shape.LeastOfLiterals m n lt) = (law.Computed, refl)
@@ -42,12 +42,12 @@ redundant_law r _ (shape.OverOne e) = (law.OverOne, refl)
 redundant_law r _ (shape.ModuloOne e) = (law.ModuloOne, refl)
 redundant_law r _ (shape.CellOfParts k l g m h n) = (law.CellOfParts, rw (same_number n, same_number k) refl)
 
-cell_law : (r : Ranges) (e : Expression) → UndoesCell e → HasLaw r e
+cell_law : (r : PlainRanges) (e : Expression) → UndoesCell e → HasLaw r e
 cell_law r _ (shape.RowOfCell k l g j m h n lt) = (law.RowOfCell, rw (same_number n, lt-ltb h n lt) refl)
 cell_law r _ (shape.ColumnOfCell k l g j m h n lt) = (law.ColumnOfCell, rw (same_number n, lt-ltb h n lt) refl)
 
 -- ---- the first law of a list that is of an operation
-module _ (r : Ranges) (o : Operation) (a b : Expression) where
+module _ (r : PlainRanges) (o : Operation) (a b : Expression) where
   is_found : (x law : Law) (rest : Option Law) (t : Bool) → applies r x o a b ≡ t → (rest ≡ Some law → applies r law o a b ≡ true) → (if t then Some x else rest) ≡ Some law → applies r law o a b ≡ true
   is_found x law rest true passes later e = let same : x ≡ law = cc e in subst (λ y. applies r y o a b ≡ true) same passes
   is_found x law rest false fails later e = later e

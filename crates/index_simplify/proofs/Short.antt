@@ -7,7 +7,7 @@ use Rattle.std.proofs.Math.Nat.{div-add-mod}
 use Rattle.index_expr.specs.declared.operation.Operation.{Operation}
 use Rattle.index_expr.specs.declared.operation.Operation.TheVariants.{Product, Quotient}
 use Rattle.index_expr.specs.Expression.{Expression, Variable, Literal, Size, Binary, nodes, divisor_of, scaled_nodes, short_nodes}
-use Rattle.index_simplify.specs.declared.ranges.Ranges.{Ranges}
+use Rattle.index_simplify.specs.PlainRanges.{PlainRanges}
 use Rattle.index_simplify.specs.declared.law.Law.{Law}
 use Rattle.index_simplify.specs.declared.law.Law.TheVariants as law
 use Rattle.index_simplify.specs.declared.law.TheConstants.{LAWS}
@@ -31,7 +31,7 @@ above : (c d : ℕ) → 0 < d → c % d ≡ 0 → (c ≡ d → ⊥) → (c ≡ 0
 above c d some rest other many = let same = div-add-mod c d in let fits : d * (c / d) ≡ c = omega arith in above_times c d (c / d) some fits other many
 
 -- a number times a size over its divisor
-module _ (r : Ranges) (c k d : ℕ) where
+module _ (r : PlainRanges) (c k d : ℕ) where
   abbrev Base : Expression
   Base = Binary Quotient (Size k) (Literal d)
 
@@ -98,7 +98,7 @@ module _ (r : Ranges) (c k d : ℕ) where
       go None e = absurd (clash r Product (Literal c) Base (applies r l Product (Literal c) Base) h (fails_each r Product (Literal c) Base (none_applies r Product (Literal c) Base LAWS e) l))
       go (Some m) e = each m (found_applies r Product (Literal c) Base LAWS m e)
 
-module _ (r : Ranges) where
+module _ (r : PlainRanges) where
   no_more : (o : Operation) (a b : Expression) → nodes (operation_on r o a b) ≤ nodes a + nodes b + 1
   no_more o a b = go (first_law r o a b LAWS)
     where

@@ -1,18 +1,17 @@
 -- What the tests on expressions mean for their values.
-use Rattle.std.proofs.Common.{◌≡◌, ℕ, ℤ, pos, negsuc, ◌*◌, ◌/◌, ◌%◌, ◌<◌, ◌≤◌, ◌+ℤ◌, ◌*ℤ◌, Bool, true, false, Option, Some, None, List, refl, sym, ap, ◌∙◌, subst, arith}
+use Rattle.std.proofs.Common.{◌≡◌, ℕ, zero, suc, ℤ, pos, negsuc, ◌+◌, ◌*◌, ◌/◌, ◌%◌, ◌<◌, ◌≤◌, ◌+ℤ◌, ◌*ℤ◌, min, max, Bool, true, false, Option, Some, None, List, refl, sym, ap, ◌∙◌, subst, arith}
 use Rattle.std.specs.Prelude.{◌==◌, ◌&&◌, ◌||◌, ◌<ℤ◌, nat_lt, slice_get, slice_index, unsigned_abs, int_div, int_rem, ◌⊎◌}
 use Rattle.std.proofs.Common.{inl, inr}
 use Rattle.std.proofs.lemmas.Bool.{eqb-true, ltb-true, leb-true}
-use Rattle.std.proofs.lemmas.Int.{ints, quot-rem}
+use Rattle.std.proofs.lemmas.Int.{ints, clamps, quot-rem}
 use Rattle.std.proofs.lemmas.Nat.{div-mul-add, mod-mul-add}
 use Rattle.std.proofs.Math.Nat.{div-add-mod, mul_assoc, mul_comm}
 use Rattle.index_expr.specs.declared.operation.Operation.{Operation}
 use Rattle.index_expr.specs.declared.operation.Operation.TheVariants.{Sum, Difference, Product, Quotient, Remainder, Least, Greatest}
-use Rattle.index_expr.specs.declared.index.Index.{Index}
-use Rattle.index_expr.specs.Expression.{Expression, Variable, Literal, Size, Binary, expression_of}
+use Rattle.index_expr.specs.Expression.{Expression, Variable, Literal, Size, Binary}
 use Rattle.index_expr.specs.Values.{operate, exact}
-use Rattle.index_simplify.specs.declared.ranges.Ranges.{Ranges}
-use Rattle.index_simplify.specs.Tests.{same_operation, same_variable, is_number, same_size, same, is_above, is_at_least, is_no_longer, is_known_within, is_loop_within, is_below, is_leaf, is_cell, is_quotient, is_rounded, are_parts, is_known_multiple, is_multiple, is_part_of, is_base, is_part_base, is_whole_size, is_scaled_size}
+use Rattle.index_simplify.specs.PlainRanges.{PlainRanges}
+use Rattle.index_simplify.specs.Tests.{same_operation, same_variable, is_number, same_size, same, is_above, is_at_least, is_no_longer, is_known_within, is_loop_within, is_below, is_count, is_cell, is_quotient, is_rounded, are_parts, is_known_multiple, is_multiple, is_part_of, is_base, is_part_base, is_whole_size, is_scaled_size}
 use Rattle.index_simplify.specs.Laws.{first_part, second_part, scaled}
 use Rattle.index_simplify.specs.Ranges.{AreBelowLengths, AreMultiples, AreWithin}
 
@@ -65,11 +64,41 @@ module _ (sizes variables : List ℕ) where
   abbrev IsNatural : Expression → Type 0
   IsNatural e = (v : ℕ) × (exact sizes variables e ≡ pos v)
 
-  leaf_value : (e : Expression) → is_leaf e ≡ true → IsNatural e
-  leaf_value (Variable k l g) h = (slice_index variables k, refl)
-  leaf_value (Literal n) h = (n, refl)
-  leaf_value (Size k) h = (slice_index sizes k, refl)
-  leaf_value (Binary o a b) h = absurd (cc h)
+  natural_result : (o : Operation) (x y : ℕ) → (same_operation o Difference ≡ false) → (v : ℕ) × (operate o (pos x) (pos y) ≡ pos v)
+  natural_result Sum x y h = (x + y, refl)
+  natural_result Difference x y h = absurd (cc h)
+  natural_result Product x y h = (x * y, refl)
+  natural_result Quotient x y h = (x / y, refl)
+  natural_result Remainder x y h = (x % y, refl)
+  natural_result Least x y h = (min x y, omega (arith, ints, clamps))
+  natural_result Greatest x y h = (max x y, omega (arith, ints, clamps))
+
+  natural_of : (o : Operation) (a b : Expression) → (same_operation o Difference ≡ false) → IsNatural a → IsNatural b → IsNatural (Binary o a b)
+  natural_of o a b h x y =
+      let z = natural_result o x.0 y.0 h in
+      (z.0, ap (λ v. operate o v (exact sizes variables b)) x.1 ∙ ap (operate o (pos x.0)) y.1 ∙ z.1)
+
+  count_value : (depth : ℕ) (e : Expression) → is_count depth e ≡ true → IsNatural e
+  count_value depth (Variable k l g) h = (slice_index variables k, refl)
+  count_value depth (Literal n) h = (n, refl)
+  count_value depth (Size k) h = (slice_index sizes k, refl)
+  count_value zero (Binary o a b) h = none o h
+    where
+      none : (o : Operation) → is_count zero (Binary o a b) ≡ true → IsNatural (Binary o a b)
+      none Sum h = absurd (cc h)
+      none Difference h = absurd (cc h)
+      none Product h = absurd (cc h)
+      none Quotient h = absurd (cc h)
+      none Remainder h = absurd (cc h)
+      none Least h = absurd (cc h)
+      none Greatest h = absurd (cc h)
+  count_value (suc depth) (Binary Difference a b) h = absurd (cc h)
+  count_value (suc depth) (Binary Sum a b) h = let parts = both (is_count depth a) (is_count depth b) h in natural_of Sum a b refl (count_value depth a parts.0) (count_value depth b parts.1)
+  count_value (suc depth) (Binary Product a b) h = let parts = both (is_count depth a) (is_count depth b) h in natural_of Product a b refl (count_value depth a parts.0) (count_value depth b parts.1)
+  count_value (suc depth) (Binary Quotient a b) h = let parts = both (is_count depth a) (is_count depth b) h in natural_of Quotient a b refl (count_value depth a parts.0) (count_value depth b parts.1)
+  count_value (suc depth) (Binary Remainder a b) h = let parts = both (is_count depth a) (is_count depth b) h in natural_of Remainder a b refl (count_value depth a parts.0) (count_value depth b parts.1)
+  count_value (suc depth) (Binary Least a b) h = let parts = both (is_count depth a) (is_count depth b) h in natural_of Least a b refl (count_value depth a parts.0) (count_value depth b parts.1)
+  count_value (suc depth) (Binary Greatest a b) h = let parts = both (is_count depth a) (is_count depth b) h in natural_of Greatest a b refl (count_value depth a parts.0) (count_value depth b parts.1)
 
   -- the values of a column and of a length above it
   record IsColumn (column length : Expression) : Type 0 where
@@ -104,18 +133,18 @@ module _ (sizes variables : List ℕ) where
   counted_longer v (Size k) n lt h = counted_same v (Size k) n lt h
   counted_longer v (Binary o a b) n lt h = counted_same v (Binary o a b) n lt h
 
-  module _ (r : Ranges) (loops : AreBelowLengths r sizes variables) where
-    below_known : (k l g : ℕ) (n : Expression) (known : Option Index) → slice_get r.lengths.items k ≡ known → is_known_within known n ≡ true → IsColumn (Variable k l g) n
+  module _ (r : PlainRanges) (loops : AreBelowLengths r sizes variables) where
+    below_known : (k l g : ℕ) (n : Expression) (known : Option Expression) → slice_get r.lengths k ≡ known → is_known_within known n ≡ true → IsColumn (Variable k l g) n
     below_known k l g n None at h = absurd (cc h)
     below_known k l g n (Some known) at h =
-        let count = counted_longer (slice_index variables k) (expression_of known) n (loops k known at) h in
+        let count = counted_longer (slice_index variables k) known n (loops k known at) h in
         record { at = slice_index variables k; count = count.0; column_is = refl; length_is = count.1; below = count.2 }
 
     column_of : (e n : Expression) → AreWithin variables e → is_below r e n ≡ true → IsColumn e n
     column_of (Variable k l g) n own h =
         elim (one_of (is_above n g) (is_loop_within r k n) h) [
           | inl a ↦ above_number k l g n own.1 a
-          | inr b ↦ below_known k l g n (slice_get r.lengths.items k) refl b
+          | inr b ↦ below_known k l g n (slice_get r.lengths k) refl b
         ]
     column_of _ n own h = absurd (cc h)
 
@@ -128,9 +157,9 @@ module _ (sizes variables : List ℕ) where
 
     cell_of : (e m : Expression) → AreWithin variables e → is_cell r e m ≡ true → IsCellOf e m (first_part (first_part e)) (second_part e)
     cell_of (Binary Sum (Binary Product row n) column) m own h =
-        let parts = both (same n m && is_leaf row) (is_below r column m) h in
-        let front = both (same n m) (is_leaf row) parts.0 in
-        let number = leaf_value row front.1 in
+        let parts = both (same n m && is_count 3 row) (is_below r column m) h in
+        let front = both (same n m) (is_count 3 row) parts.0 in
+        let number = count_value 3 row front.1 in
         record {
           row_at = number.0;
           row_is = number.1;
@@ -155,7 +184,7 @@ module _ (sizes variables : List ℕ) where
         let c = cell_of e m own h in
         sym (column_from _ _ _ _ c.row_at c.within.at c.within.count c.row_is c.within.length_is c.within.column_is c.cell_is c.within.below)
 
-  multiple_value : (r : Ranges) (k : ℕ) (d : Expression) (known : Option ℕ) → AreMultiples r sizes → slice_get r.multiples.items k ≡ known → is_known_multiple known d ≡ true → (m : ℕ) × (exact sizes variables d ≡ pos m) × (slice_index sizes k % m ≡ 0)
+  multiple_value : (r : PlainRanges) (k : ℕ) (d : Expression) (known : Option ℕ) → AreMultiples r sizes → slice_get r.multiples k ≡ known → is_known_multiple known d ≡ true → (m : ℕ) × (exact sizes variables d ≡ pos m) × (slice_index sizes k % m ≡ 0)
   multiple_value r k d None all at h = absurd (cc h)
   multiple_value r k d (Some m) all at h = (m, sym (number_value m d h), all k m at)
 
@@ -167,9 +196,9 @@ module _ (sizes variables : List ℕ) where
     divisor_is : exact sizes variables divisor ≡ pos divisor_at
     rest : size_at % divisor_at ≡ 0
 
-  multiple_of : (r : Ranges) (size d : Expression) → AreMultiples r sizes → is_multiple r size d ≡ true → IsMultipleOf size d
+  multiple_of : (r : PlainRanges) (size d : Expression) → AreMultiples r sizes → is_multiple r size d ≡ true → IsMultipleOf size d
   multiple_of r (Size k) d all h =
-      let found = multiple_value r k d (slice_get r.multiples.items k) all refl h in
+      let found = multiple_value r k d (slice_get r.multiples k) all refl h in
       record { size_at = slice_index sizes k; divisor_at = found.0; size_is = refl; divisor_is = found.1; rest = found.2 }
   multiple_of r _ d all h = absurd (cc h)
 
@@ -180,14 +209,14 @@ module _ (sizes variables : List ℕ) where
   whole_from : (S D C : ℤ) (s d : ℕ) → S ≡ pos s → D ≡ pos d → C ≡ D → s % d ≡ 0 → S ≡ C *ℤ int_div S D
   whole_from S D C s d a b c e = rw (c, a, b) (ap pos (sym (whole s d e)))
 
-  base_value : (r : Ranges) (c : ℕ) (b : Expression) → AreMultiples r sizes → is_base r c b ≡ true → exact sizes variables (first_part b) ≡ pos c *ℤ exact sizes variables b
+  base_value : (r : PlainRanges) (c : ℕ) (b : Expression) → AreMultiples r sizes → is_base r c b ≡ true → exact sizes variables (first_part b) ≡ pos c *ℤ exact sizes variables b
   base_value r c (Binary Quotient size d) all h =
       let parts = both (is_number c d) (is_multiple r size d) h in
       let m = multiple_of r size d all parts.1 in
       whole_from (exact sizes variables size) (exact sizes variables d) (pos c) m.size_at m.divisor_at m.size_is m.divisor_is (number_value c d parts.0) m.rest
   base_value r c _ all h = absurd (cc h)
 
-  pub whole_size_value : (r : Ranges) (a b : Expression) → AreMultiples r sizes → is_whole_size r a b ≡ true → exact sizes variables (first_part b) ≡ exact sizes variables a *ℤ exact sizes variables b
+  pub whole_size_value : (r : PlainRanges) (a b : Expression) → AreMultiples r sizes → is_whole_size r a b ≡ true → exact sizes variables (first_part b) ≡ exact sizes variables a *ℤ exact sizes variables b
   whole_size_value r (Literal c) b all h = base_value r c b all h
   whole_size_value r _ b all h = absurd (cc h)
 
@@ -212,7 +241,7 @@ module _ (sizes variables : List ℕ) where
   scaled_from : (S D : ℤ) (c s d : ℕ) → S ≡ pos s → D ≡ pos d → c % d ≡ 0 → s % d ≡ 0 → pos (c / d) *ℤ S ≡ pos c *ℤ int_div S D
   scaled_from S D c s d a b e f = rw (a, b) (ap pos (scaled_number c s d e f))
 
-  part_base_value : (r : Ranges) (c : ℕ) (b : Expression) → AreMultiples r sizes → is_part_base r c b ≡ true → exact sizes variables (scaled (Literal c) b) ≡ pos c *ℤ exact sizes variables b
+  part_base_value : (r : PlainRanges) (c : ℕ) (b : Expression) → AreMultiples r sizes → is_part_base r c b ≡ true → exact sizes variables (scaled (Literal c) b) ≡ pos c *ℤ exact sizes variables b
   part_base_value r c (Binary Quotient size (Literal d)) all h =
       let parts = both (is_part_of c (Literal d)) (is_multiple r size (Literal d)) h in
       let m = multiple_of r size (Literal d) all parts.1 in
@@ -221,7 +250,7 @@ module _ (sizes variables : List ℕ) where
       scaled_from (exact sizes variables size) (pos d) c m.size_at d m.size_is refl (eqb-true (c % d) 0 front.1) (subst (λ x. m.size_at % x ≡ 0) (sym same) m.rest)
   part_base_value r c _ all h = absurd (cc h)
 
-  pub scaled_size_value : (r : Ranges) (a b : Expression) → AreMultiples r sizes → is_scaled_size r a b ≡ true → exact sizes variables (scaled a b) ≡ exact sizes variables a *ℤ exact sizes variables b
+  pub scaled_size_value : (r : PlainRanges) (a b : Expression) → AreMultiples r sizes → is_scaled_size r a b ≡ true → exact sizes variables (scaled a b) ≡ exact sizes variables a *ℤ exact sizes variables b
   scaled_size_value r (Literal c) b all h = part_base_value r c b all h
   scaled_size_value r _ b all h = absurd (cc h)
 

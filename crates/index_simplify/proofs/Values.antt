@@ -9,7 +9,7 @@ use Rattle.index_expr.specs.declared.operation.Operation.{Operation}
 use Rattle.index_expr.specs.declared.operation.Operation.TheVariants.{Sum, Difference, Product, Quotient, Remainder, Least, Greatest}
 use Rattle.index_expr.specs.Expression.{Expression, Literal}
 use Rattle.index_expr.specs.Values.{operate, exact}
-use Rattle.index_simplify.specs.declared.ranges.Ranges.{Ranges}
+use Rattle.index_simplify.specs.PlainRanges.{PlainRanges}
 use Rattle.index_simplify.specs.declared.law.Law.{Law}
 use Rattle.index_simplify.specs.declared.law.Law.TheVariants.{Computed, PlusZero, ZeroPlus, MinusZero, MinusItself, TimesOne, OneTimes, TimesZero, ZeroTimes, OverOne, ModuloOne, WholeSize, ScaledSize, RowOfCell, ColumnOfCell, CellOfParts}
 use Rattle.index_simplify.specs.Literals.{word, difference, computed_from, computed_with, computed}
@@ -108,7 +108,7 @@ module _ (sizes variables : List ℕ) where
       let parts = both (same_operation o p) t h in
       e parts.1 ∙ ap (λ q. operate q (exact sizes variables a) (exact sizes variables b)) (sym (is_operation o p parts.0))
 
-  pub law_value : (r : Ranges) → AreBelowLengths r sizes variables → AreMultiples r sizes → (law : Law) (o : Operation) (a b : Expression) → AreWithin variables a → applies r law o a b ≡ true → exact sizes variables (applied law o a b) ≡ operate o (exact sizes variables a) (exact sizes variables b)
+  pub law_value : (r : PlainRanges) → AreBelowLengths r sizes variables → AreMultiples r sizes → (law : Law) (o : Operation) (a b : Expression) → AreWithin variables a → applies r law o a b ≡ true → exact sizes variables (applied law o a b) ≡ operate o (exact sizes variables a) (exact sizes variables b)
   law_value r loops all Computed o a b own h = computed_value o a b h
   law_value r loops all PlusZero o a b own h = by_second o Sum 0 a b a h (plus_zero (exact sizes variables a))
   law_value r loops all ZeroPlus o a b own h = by_first o Sum 0 a b b h (zero_plus (exact sizes variables b))

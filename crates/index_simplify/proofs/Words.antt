@@ -6,7 +6,7 @@ use Rattle.std.proofs.lemmas.Bool.{ltb-true}
 use Rattle.index_expr.specs.declared.operation.Operation.{Operation}
 use Rattle.index_expr.specs.declared.operation.Operation.TheVariants.{Sum, Difference, Product, Quotient, Remainder, Least, Greatest}
 use Rattle.index_expr.specs.Expression.{Expression, Variable, Literal, Size, Binary}
-use Rattle.index_simplify.specs.declared.ranges.Ranges.{Ranges}
+use Rattle.index_simplify.specs.PlainRanges.{PlainRanges}
 use Rattle.index_simplify.specs.declared.law.Law.{Law}
 use Rattle.index_simplify.specs.declared.law.Law.TheVariants as law
 use Rattle.index_simplify.specs.declared.law.TheConstants.{LAWS}
@@ -88,7 +88,7 @@ by_words : (found : Option Law) (o : Operation) (a b : Expression) → HasWordLi
 by_words None o a b x y = (x, y)
 by_words (Some l) o a b x y = applied_words l o a b x y
 
-pub simple_words : (r : Ranges) (e : Expression) → HasWordLiterals e → HasWordLiterals (simple r e)
+pub simple_words : (r : PlainRanges) (e : Expression) → HasWordLiterals e → HasWordLiterals (simple r e)
 simple_words r (Variable k l g) h = h
 simple_words r (Literal n) h = h
 simple_words r (Size k) h = h

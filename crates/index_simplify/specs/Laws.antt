@@ -3,7 +3,7 @@ use Rattle.std.specs.Prelude.{ℕ, ◌&&◌, Bool, is_some, unwrap_or}
 use Rattle.index_expr.specs.declared.operation.Operation.{Operation}
 use Rattle.index_expr.specs.declared.operation.Operation.TheVariants.{Sum, Difference, Product, Quotient, Remainder}
 use Rattle.index_expr.specs.Expression.{Expression, Literal, Binary}
-use Rattle.index_simplify.specs.declared.ranges.Ranges.{Ranges}
+use Rattle.index_simplify.specs.PlainRanges.{PlainRanges}
 use Rattle.index_simplify.specs.declared.law.Law.{Law}
 use Rattle.index_simplify.specs.declared.law.Law.TheVariants.{Computed, PlusZero, ZeroPlus, MinusZero, MinusItself, TimesOne, OneTimes, TimesZero, ZeroTimes, OverOne, ModuloOne, WholeSize, ScaledSize, RowOfCell, ColumnOfCell, CellOfParts}
 use Rattle.index_simplify.specs.Literals.{computed}
@@ -27,7 +27,7 @@ scaled c (Binary o size d) = Binary Product (Literal (ratio c d)) size
 scaled c e = e
 
 -- the law is of the operation on these expressions
-abbrev pub applies : Ranges → Law → Operation → Expression → Expression → Bool
+abbrev pub applies : PlainRanges → Law → Operation → Expression → Expression → Bool
 applies r Computed o a b = is_some (computed o a b)
 applies r PlusZero o a b = same_operation o Sum && is_number 0 b
 applies r ZeroPlus o a b = same_operation o Sum && is_number 0 a

@@ -1,3 +1,4 @@
+pub mod PlainRanges
 pub mod Tests
 pub mod Literals
 pub mod Laws

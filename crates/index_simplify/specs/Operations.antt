@@ -2,13 +2,13 @@
 use Rattle.std.specs.Prelude.{List, [], ◌∷◌, Option, Some, None, if◌then◌else◌}
 use Rattle.index_expr.specs.declared.operation.Operation.{Operation}
 use Rattle.index_expr.specs.Expression.{Expression, Variable, Literal, Size, Binary}
-use Rattle.index_simplify.specs.declared.ranges.Ranges.{Ranges}
+use Rattle.index_simplify.specs.PlainRanges.{PlainRanges}
 use Rattle.index_simplify.specs.declared.law.Law.{Law}
 use Rattle.index_simplify.specs.declared.law.TheConstants.{LAWS}
 use Rattle.index_simplify.specs.Laws.{applies, applied}
 
 -- the first of the laws that is of the operation on these expressions
-abbrev pub first_law : Ranges → Operation → Expression → Expression → List Law → Option Law
+abbrev pub first_law : PlainRanges → Operation → Expression → Expression → List Law → Option Law
 first_law r o a b [] = None
 first_law r o a b (law ∷ laws) = if applies r law o a b then Some law else first_law r o a b laws
 
@@ -17,11 +17,11 @@ by_law None o a b = Binary o a b
 by_law (Some law) o a b = applied law o a b
 
 -- by the first law of the table that is of it, if there is any
-abbrev pub operation_on : Ranges → Operation → Expression → Expression → Expression
+abbrev pub operation_on : PlainRanges → Operation → Expression → Expression → Expression
 operation_on r o a b = by_law (first_law r o a b LAWS) o a b
 
 -- each operation on what its arguments are simplified to
-abbrev pub simple : Ranges → Expression → Expression
+abbrev pub simple : PlainRanges → Expression → Expression
 simple r (Variable k l g) = Variable k l g
 simple r (Literal n) = Literal n
 simple r (Size k) = Size k

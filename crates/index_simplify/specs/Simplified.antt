@@ -4,7 +4,7 @@ use Rattle.index_expr.specs.declared.operation.Operation.{Operation}
 use Rattle.index_expr.specs.declared.operation.Operation.TheVariants.{Quotient}
 use Rattle.index_expr.specs.Expression.{Expression, Variable, Literal, Size, Binary, nodes, short_nodes}
 use Rattle.index_expr.specs.Values.{EachOperation, exact, IsRangedAt, HasWordArgumentsAt, HasNoZeroDivisorAt}
-use Rattle.index_simplify.specs.declared.ranges.Ranges.{Ranges}
+use Rattle.index_simplify.specs.PlainRanges.{PlainRanges}
 use Rattle.index_simplify.specs.Tests.{is_multiple}
 use Rattle.index_simplify.specs.Ranges.{AreWithin, IsPoint}
 use Rattle.index_simplify.specs.Shapes.{IsSimple}
@@ -45,14 +45,14 @@ pub record IsNoLarger (e s : Expression) : Type 0 where
   pub names : (variable size : ℕ → Bool) → names_are variable size e ≡ true → names_are variable size s ≡ true
 
 -- sizes are divided by the numbers that they are known to be multiples of
-abbrev pub is_declared : Ranges → Operation → Expression → Expression → Bool
+abbrev pub is_declared : PlainRanges → Operation → Expression → Expression → Bool
 is_declared r Quotient (Size k) (Literal d) = is_multiple r (Size k) (Literal d)
 is_declared r _ _ _ = true
 
-abbrev pub AreDeclared : Ranges → Expression → Type 0
+abbrev pub AreDeclared : PlainRanges → Expression → Type 0
 AreDeclared r e = EachOperation (λ o a b. is_declared r o a b ≡ true) e
 
-pub record IsSimplified (r : Ranges) (e s : Expression) : Type 0 where
+pub record IsSimplified (r : PlainRanges) (e s : Expression) : Type 0 where
   pub stands : (sizes variables : List ℕ) → IsPoint r sizes variables e → StandsFor sizes variables e s
   pub small : IsNoLarger e s
   pub literals : HasWordLiterals e → HasWordLiterals s

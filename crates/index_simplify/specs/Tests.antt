@@ -1,10 +1,9 @@
 -- Tests on index expressions.
-use Rattle.std.specs.Prelude.{ℕ, ◌==◌, ◌%◌, ◌&&◌, ◌||◌, nat_lt, nat_le, Bool, true, false, Option, Some, None, slice_get}
+use Rattle.std.specs.Prelude.{ℕ, zero, suc, ◌==◌, ◌%◌, ◌&&◌, ◌||◌, nat_lt, nat_le, Bool, true, false, Option, Some, None, slice_get}
 use Rattle.index_expr.specs.declared.operation.Operation.{Operation}
 use Rattle.index_expr.specs.declared.operation.Operation.TheVariants.{Sum, Difference, Product, Quotient, Remainder, Least, Greatest}
-use Rattle.index_expr.specs.declared.index.Index.{Index}
-use Rattle.index_expr.specs.Expression.{Expression, Variable, Literal, Size, Binary, expression_of}
-use Rattle.index_simplify.specs.declared.ranges.Ranges.{Ranges}
+use Rattle.index_expr.specs.Expression.{Expression, Variable, Literal, Size, Binary}
+use Rattle.index_simplify.specs.PlainRanges.{PlainRanges}
 
 abbrev pub same_operation : Operation → Operation → Bool
 same_operation Sum Sum = true
@@ -51,16 +50,16 @@ abbrev pub is_no_longer : (known length : Expression) → Bool
 is_no_longer (Literal m) n = is_at_least n m
 is_no_longer known n = same known n
 
-abbrev pub is_known_within : Option Index → Expression → Bool
+abbrev pub is_known_within : Option Expression → Expression → Bool
 is_known_within None n = false
-is_known_within (Some known) n = is_no_longer (expression_of known) n
+is_known_within (Some known) n = is_no_longer known n
 
 -- the loop of this variable is no longer than this
-abbrev pub is_loop_within : Ranges → ℕ → Expression → Bool
-is_loop_within r k n = is_known_within (slice_get r.lengths.items k) n
+abbrev pub is_loop_within : PlainRanges → ℕ → Expression → Bool
+is_loop_within r k n = is_known_within (slice_get r.lengths k) n
 
 -- a variable that stays below a length: by its own range below a number, or because its loop is no longer
-abbrev pub is_below : Ranges → (column length : Expression) → Bool
+abbrev pub is_below : PlainRanges → (column length : Expression) → Bool
 is_below r (Variable k l g) n = is_above n g || is_loop_within r k n
 is_below r _ n = false
 
@@ -68,11 +67,11 @@ abbrev pub is_known_multiple : Option ℕ → Expression → Bool
 is_known_multiple None n = false
 is_known_multiple (Some m) n = is_number m n
 
-abbrev pub is_multiple_at : Ranges → ℕ → Expression → Bool
-is_multiple_at r k n = is_known_multiple (slice_get r.multiples.items k) n
+abbrev pub is_multiple_at : PlainRanges → ℕ → Expression → Bool
+is_multiple_at r k n = is_known_multiple (slice_get r.multiples k) n
 
 -- a size, and the number that it is a multiple of
-abbrev pub is_multiple : Ranges → (size divisor : Expression) → Bool
+abbrev pub is_multiple : PlainRanges → (size divisor : Expression) → Bool
 is_multiple r (Size k) n = is_multiple_at r k n
 is_multiple r _ n = false
 
@@ -82,37 +81,41 @@ is_part_of c (Literal d) = nat_lt 0 d && nat_lt d c && (c % d == 0)
 is_part_of c _ = false
 
 -- a size over the number that it is a multiple of, which is this one
-abbrev pub is_base : Ranges → ℕ → Expression → Bool
+abbrev pub is_base : PlainRanges → ℕ → Expression → Bool
 is_base r c (Binary Quotient size d) = is_number c d && is_multiple r size d
 is_base r c _ = false
 
 -- a size over the number that it is a multiple of, which is a part of this one
-abbrev pub is_part_base : Ranges → ℕ → Expression → Bool
+abbrev pub is_part_base : PlainRanges → ℕ → Expression → Bool
 is_part_base r c (Binary Quotient size d) = is_part_of c d && is_multiple r size d
 is_part_base r c _ = false
 
 -- a literal and a size over it
-abbrev pub is_whole_size : Ranges → Expression → Expression → Bool
+abbrev pub is_whole_size : PlainRanges → Expression → Expression → Bool
 is_whole_size r (Literal c) b = is_base r c b
 is_whole_size r _ b = false
 
 -- a literal and a size over a part of it
-abbrev pub is_scaled_size : Ranges → Expression → Expression → Bool
+abbrev pub is_scaled_size : PlainRanges → Expression → Expression → Bool
 is_scaled_size r (Literal c) b = is_part_base r c b
 is_scaled_size r _ b = false
 
--- an expression without operations
-abbrev pub is_leaf : Expression → Bool
-is_leaf (Binary o a b) = false
-is_leaf _ = true
+-- nothing is taken away in it, as far as so many operations deep tell
+abbrev pub is_count : ℕ → Expression → Bool
+is_count depth (Variable k l g) = true
+is_count depth (Literal n) = true
+is_count depth (Size k) = true
+is_count depth (Binary Difference a b) = false
+is_count zero (Binary o a b) = false
+is_count (suc depth) (Binary o a b) = is_count depth a && is_count depth b
 
--- a literal, a size or a variable times this length
+-- a row that is never below 0, times this length
 abbrev pub is_begin : Expression → (length : Expression) → Bool
-is_begin (Binary Product row n) m = same n m && is_leaf row
+is_begin (Binary Product row n) m = same n m && is_count 3 row
 is_begin _ m = false
 
 -- the cell of a row of this length and of a column in it
-abbrev pub is_cell : Ranges → Expression → (length : Expression) → Bool
+abbrev pub is_cell : PlainRanges → Expression → (length : Expression) → Bool
 is_cell r (Binary Sum begin column) m = is_begin begin m && is_below r column m
 is_cell r _ m = false
 

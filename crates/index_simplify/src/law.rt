@@ -4,6 +4,7 @@ ghost use Rattle.std.specs.Prelude.{◌≡◌};
 ghost use Rattle.index_expr.specs.Expression.{expression_of};
 ghost use Rattle.index_simplify.specs.Tests as tests;
 ghost use Rattle.index_simplify.specs.Laws as spec;
+ghost use Rattle.index_simplify.specs.PlainRanges.{ranges_of};
 
 use crate::literals::computed;
 use crate::ranges::Ranges;
@@ -39,9 +40,9 @@ pub enum Law {
     WholeSize,
     /// `c * (s / d)` is `(c / d) * s`, where the size `s` and the greater `c` are multiples of `d`.
     ScaledSize,
-    /// `(i * n + j) / n` is `i`, where `j` is below `n`.
+    /// `(e * n + j) / n` is `e`, where `j` is below `n` and nothing is taken away in `e`.
     RowOfCell,
-    /// `(i * n + j) mod n` is `j`, where `j` is below `n`.
+    /// `(e * n + j) mod n` is `j`, where `j` is below `n` and nothing is taken away in `e`.
     ColumnOfCell,
     /// `(e / n) * n + e mod n` is `e`.
     CellOfParts,
@@ -67,28 +68,33 @@ pub const LAWS: [Law; 16] = [
     Law::CellOfParts,
 ];
 
-fn is_leaf(e: &Index) -> bool
-    ensures { result ≡ tests.is_leaf (expression_of e.now) }
+// How many operations deep a row is looked into, so that the work at each node stays within a bound.
+const DEEPEST: u32 = 3;
+
+// Whether nothing is taken away in it, as far as so many operations deep tell. Then it is never below 0.
+fn is_count(e: &Index, depth: u32) -> bool
+    ensures { result ≡ tests.is_count depth (expression_of e.now) }
 {
     match e {
         Index::Variable { .. } | Index::Literal(_) | Index::Size(_) => true,
-        Index::Binary(_, _, _) => false,
+        Index::Binary(Operation::Difference, _, _) => false,
+        Index::Binary(_, a, b) => depth > 0 && is_count(a, depth - 1) && is_count(b, depth - 1),
     }
 }
 
-// Whether it is a leaf times this length.
+// Whether it is a row that is never below 0, times this length.
 fn is_begin(e: &Index, length: &Index) -> bool
     ensures { result ≡ tests.is_begin (expression_of e.now) (expression_of length.now) }
 {
     match e {
-        Index::Binary(Operation::Product, row, n) => same(n, length) && is_leaf(row),
+        Index::Binary(Operation::Product, row, n) => same(n, length) && is_count(row, DEEPEST),
         _ => false,
     }
 }
 
 // Whether it is the cell of a row of this length and of a column in it.
 fn is_cell(e: &Index, length: &Index, ranges: &Ranges) -> bool
-    ensures { result ≡ tests.is_cell ranges.now (expression_of e.now) (expression_of length.now) }
+    ensures { result ≡ tests.is_cell (ranges_of ranges.now) (expression_of e.now) (expression_of length.now) }
 {
     match e {
         Index::Binary(Operation::Sum, begin, column) => {
@@ -142,7 +148,7 @@ fn is_part_of(number: u32, divisor: &Index) -> bool
 
 // Whether it is a size over this number, of which it is a multiple.
 fn is_base(e: &Index, divisor: u32, ranges: &Ranges) -> bool
-    ensures { result ≡ tests.is_base ranges.now divisor (expression_of e.now) }
+    ensures { result ≡ tests.is_base (ranges_of ranges.now) divisor (expression_of e.now) }
 {
     match e {
         Index::Binary(Operation::Quotient, size, d) => {
@@ -154,7 +160,7 @@ fn is_base(e: &Index, divisor: u32, ranges: &Ranges) -> bool
 
 // Whether it is a size over a part of this number, of which it is a multiple.
 fn is_part_base(e: &Index, number: u32, ranges: &Ranges) -> bool
-    ensures { result ≡ tests.is_part_base ranges.now number (expression_of e.now) }
+    ensures { result ≡ tests.is_part_base (ranges_of ranges.now) number (expression_of e.now) }
 {
     match e {
         Index::Binary(Operation::Quotient, size, d) => {
@@ -167,7 +173,7 @@ fn is_part_base(e: &Index, number: u32, ranges: &Ranges) -> bool
 // Whether they are a literal and a size over it.
 fn is_whole_size(a: &Index, b: &Index, ranges: &Ranges) -> bool
     ensures { result
-        ≡ tests.is_whole_size ranges.now (expression_of a.now) (expression_of b.now) }
+        ≡ tests.is_whole_size (ranges_of ranges.now) (expression_of a.now) (expression_of b.now) }
 {
     match a {
         Index::Literal(number) => is_base(b, *number, ranges),
@@ -178,7 +184,7 @@ fn is_whole_size(a: &Index, b: &Index, ranges: &Ranges) -> bool
 // Whether they are a literal and a size over a part of it.
 fn is_scaled_size(a: &Index, b: &Index, ranges: &Ranges) -> bool
     ensures { result
-        ≡ tests.is_scaled_size ranges.now (expression_of a.now) (expression_of b.now) }
+        ≡ tests.is_scaled_size (ranges_of ranges.now) (expression_of a.now) (expression_of b.now) }
 {
     match a {
         Index::Literal(number) => is_part_base(b, *number, ranges),
@@ -230,7 +236,7 @@ fn second_part(e: Index) -> Index
 impl Law {
     /// Whether the law is of the operation on these expressions.
     pub fn applies(self, operation: Operation, a: &Index, b: &Index, ranges: &Ranges) -> bool
-        ensures { result ≡ spec.applies ranges.now self operation (expression_of a.now) (expression_of b.now) }
+        ensures { result ≡ spec.applies (ranges_of ranges.now) self operation (expression_of a.now) (expression_of b.now) }
     {
         match self {
             Law::Computed => computed(operation, a, b).is_some(),

@@ -4,6 +4,7 @@ ghost use Rattle.std.specs.Prelude.{◌≡◌, IfOk};
 ghost use Rattle.index_expr.specs.Expression.{expression_of};
 ghost use Rattle.index_simplify.specs.Operations as spec;
 ghost use Rattle.index_simplify.specs.Simplified.{IsSimplified};
+ghost use Rattle.index_simplify.specs.PlainRanges.{ranges_of};
 
 use crate::law::{LAWS, Law};
 use crate::ranges::Ranges;
@@ -18,7 +19,7 @@ fn first_law(
     b: &Index,
     ranges: &Ranges,
 ) -> Option<Law>
-    ensures { result ≡ spec.first_law ranges.now operation (expression_of a.now) (expression_of b.now) laws.now }
+    ensures { result ≡ spec.first_law (ranges_of ranges.now) operation (expression_of a.now) (expression_of b.now) laws.now }
 {
     match laws {
         [] => None,
@@ -39,7 +40,7 @@ fn operation_on(
     b: Index,
     ranges: &Ranges,
 ) -> Result<Index, AllocError>
-    ensures { IfOk result (λ e. expression_of e ≡ spec.operation_on ranges.now operation (expression_of a) (expression_of b)) }
+    ensures { IfOk result (λ e. expression_of e ≡ spec.operation_on (ranges_of ranges.now) operation (expression_of a) (expression_of b)) }
 {
     match first_law(&LAWS, operation, &a, &b, ranges) {
         None => Index::binary(alloc, operation, a, b),
@@ -48,7 +49,7 @@ fn operation_on(
 }
 
 fn simple(alloc: Global, index: &Index, ranges: &Ranges) -> Result<Index, AllocError>
-    ensures { IfOk result (λ e. expression_of e ≡ spec.simple ranges.now (expression_of index.now)) }
+    ensures { IfOk result (λ e. expression_of e ≡ spec.simple (ranges_of ranges.now) (expression_of index.now)) }
 {
     match index {
         Index::Binary(operation, a, b) => {
@@ -65,9 +66,9 @@ fn simple(alloc: Global, index: &Index, ranges: &Ranges) -> Result<Index, AllocE
 /// It is found in one pass, from the leaves up, and in memory of its own. Its work is of as many steps as the expression has nodes.
 pub fn simplified(alloc: Global, index: &Index, ranges: &Ranges) -> Result<Index, AllocError>
     ensures function { IfOk result
-        (λ e. expression_of e ≡ spec.simple ranges.now (expression_of index.now)) }
+        (λ e. expression_of e ≡ spec.simple (ranges_of ranges.now) (expression_of index.now)) }
     ensures simplified { IfOk result
-        (λ e. IsSimplified ranges.now (expression_of index.now) (expression_of e)) }
+        (λ e. IsSimplified (ranges_of ranges.now) (expression_of index.now) (expression_of e)) }
 {
     simple(alloc, index, ranges)
 }

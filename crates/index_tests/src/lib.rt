@@ -1,7 +1,9 @@
-//! Tests of simplified index expressions, over public items alone.
+//! Tests of simplified index expressions and of their spelling, over public items alone.
 #![tactic(auto)]
 
 #[cfg(test)]
 mod rows;
+#[cfg(test)]
+mod spelled;
 #[cfg(test)]
 mod trees;

@@ -95,7 +95,35 @@ const LITERALS: [(Tree, &str); 14] = [
 ];
 
 // A row, or a column below the row's length, of their cell; a column that may reach the length, and two lengths.
-const CELLS: [(Tree, &str); 7] = [
+const CELLS: [(Tree, &str); 9] = [
+    (
+        Tree::Binary(
+            Quotient,
+            &Tree::Binary(
+                Sum,
+                &Tree::Binary(
+                    Product,
+                    &Tree::Binary(Sum, &Tree::Binary(Product, &I, &Tree::Number(4)), &J),
+                    &Tree::Number(2),
+                ),
+                &Tree::Variable(2, 1),
+            ),
+            &Tree::Number(2),
+        ),
+        "((i0 * 4) + i1)",
+    ),
+    (
+        Tree::Binary(
+            Quotient,
+            &Tree::Binary(
+                Sum,
+                &Tree::Binary(Product, &Tree::Binary(Difference, &I, &J), &Tree::Number(2)),
+                &Tree::Variable(2, 1),
+            ),
+            &Tree::Number(2),
+        ),
+        "((((i0 - i1) * 2) + i2) / 2)",
+    ),
     (
         Tree::Binary(
             Quotient,

@@ -14,7 +14,8 @@ pub enum Tree {
     Binary(Operation, &'static Tree, &'static Tree),
 }
 
-fn index_of(alloc: Global, tree: &Tree) -> Result<Index, AllocError> {
+/// The expression in memory.
+pub fn index_of(alloc: Global, tree: &Tree) -> Result<Index, AllocError> {
     match tree {
         Tree::Variable(number, greatest) => Ok(Index::Variable {
             number: *number,

@@ -1,5 +1,5 @@
 -- Where an expression is spelled in a redundant shape, it has that shape itself.
-use Rattle.std.proofs.Common.{◌≡◌, ℕ, ◌+◌, ◌*◌, ◌^◌, ◌<◌, refl, sym, ap, ◌∙◌, subst, arith}
+use Rattle.std.proofs.Common.{◌≡◌, ℕ, refl, sym, ap, ◌∙◌, subst}
 use Rattle.scalar_ops.specs.declared.op.Op.{Op}
 use Rattle.scalar_ops.specs.declared.op.Op.TheVariants.{Add, Sub, Mul, Min, Max, Div, Rem}
 use Rattle.index_expr.specs.declared.operation.Operation.{Operation}
@@ -8,12 +8,10 @@ use Rattle.index_expr.specs.Expression.{Expression, Variable, Literal, Size, Bin
 use Rattle.kernel_tree.specs.Formula as formula
 use Rattle.kernel_tree.specs.Formula.{Formula}
 use Rattle.length_spelling.specs.Formulas.{index_formula, operator_of}
-use Rattle.index_simplify.specs.declared.ranges.Ranges.{Ranges}
 use Rattle.index_simplify.specs.Operations.{simple}
 use Rattle.index_simplify.specs.Shapes as shape
 use Rattle.index_simplify.specs.Shapes.{EachNode, IsPlain}
 use Rattle.index_simplify.proofs.Operations.{simple_is_simplified}
-use Rattle.simple_spelling.specs.Formulas.{simple_formula}
 use Rattle.simple_spelling.specs.Redundant.{IsRedundant, SumOfNumbers, ProductOfNumbers, LeastOfNumbers, GreatestOfNumbers, QuotientOfNumbers, RemainderOfNumbers, PlusZero, ZeroPlus, MinusZero, TimesOne, OneTimes, TimesZero, ZeroTimes, OverOne, ModuloOne, CellOfParts, IsIrredundant}
 use Rattle.simple_spelling.specs.Laws.{SimpleFormulasAreIrredundant}
 

@@ -1,6 +1,6 @@
 -- A simplified expression's spelling is of the kernel grammar where the expression's is, and no larger.
-use Rattle.std.proofs.Common.{◌≡◌, ℕ, suc, ◌+◌, ◌^◌, ◌<◌, ◌≤◌, Bool, true, false, refl, sym, ap, ◌∙◌, subst, arith}
-use Rattle.std.specs.Prelude.{◌&&◌, nat_lt, max}
+use Rattle.std.proofs.Common.{◌≡◌, ℕ, ◌^◌, Bool, true, false, refl, sym, ◌∙◌, arith}
+use Rattle.std.specs.Prelude.{◌&&◌, nat_lt}
 use Rattle.std.proofs.lemmas.Bool.{ltb-true, lt-ltb}
 use Rattle.index_expr.specs.declared.operation.Operation.{Operation}
 use Rattle.index_expr.specs.declared.operation.Operation.TheVariants.{Sum, Difference, Product, Quotient, Remainder, Least, Greatest}
@@ -9,12 +9,11 @@ use Rattle.kernel_tree.specs.Code.{Kernel}
 use Rattle.kernel_tree.specs.Grammar as grammar
 use Rattle.kernel_tree.specs.Grammar.{is_constant, is_operator, names_declared}
 use Rattle.length_spelling.specs.Formulas.{index_formula, operator_of}
-use Rattle.index_simplify.specs.declared.ranges.Ranges.{Ranges}
 use Rattle.index_simplify.specs.Operations.{simple}
 use Rattle.index_simplify.specs.Simplified.{height, names_are, HasWordLiterals}
 use Rattle.index_simplify.proofs.Operations.{simple_is_simplified}
-use Rattle.simple_spelling.specs.Formulas.{formula_nodes, simple_formula}
-use Rattle.simple_spelling.specs.Laws.{IsNoLarger, SimpleFormulasAreNoLarger}
+use Rattle.simple_spelling.specs.Formulas.{formula_nodes}
+use Rattle.simple_spelling.specs.Laws.{SimpleFormulasAreNoLarger}
 
 both : (a b : Bool) → (a && b) ≡ true → (a ≡ true) × (b ≡ true)
 both true b e = (refl, e)

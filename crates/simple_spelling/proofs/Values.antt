@@ -1,20 +1,16 @@
 -- A simplified expression is spelled with the exact value.
-use Rattle.std.proofs.Common.{◌≡◌, ℕ, ℤ, pos, ◌%◌, ◌^◌, ◌<◌, List, Some, refl, sym, ap, ◌∙◌, subst, arith}
+use Rattle.std.proofs.Common.{◌≡◌, pos, Some, refl, sym, ap, ◌∙◌}
 use Rattle.std.specs.Prelude.{unsigned_abs}
 use Rattle.std.proofs.Math.Nat.{mod-eq_of_lt}
 use Rattle.index_expr.specs.Expression.{Expression, Variable, Literal, Size, Binary}
-use Rattle.index_expr.specs.Values.{exact, wrapped, IsRangedAt, HasNoZeroDivisorAt}
+use Rattle.index_expr.specs.Values.{wrapped}
 use Rattle.index_expr.proofs.Words.{ranged_is_exact, ranged_divisors}
-use Rattle.kernel_tree.specs.Formula.{Ids, value}
+use Rattle.kernel_tree.specs.Formula.{value}
 use Rattle.length_spelling.specs.Formulas.{in_words, index_formula}
-use Rattle.length_spelling.specs.Laws.{AreWords}
 use Rattle.length_spelling.proofs.Values.{indices_are_spelled}
-use Rattle.index_simplify.specs.declared.ranges.Ranges.{Ranges}
 use Rattle.index_simplify.specs.Operations.{simple}
-use Rattle.index_simplify.specs.Ranges.{IsPoint}
 use Rattle.index_simplify.specs.Simplified.{HasWordLiterals}
 use Rattle.index_simplify.proofs.Operations.{simple_is_simplified}
-use Rattle.simple_spelling.specs.Formulas.{simple_formula}
 use Rattle.simple_spelling.specs.Laws.{SimpleFormulasHaveTheValues}
 
 of_words : (e : Expression) → HasWordLiterals e → in_words e ≡ e

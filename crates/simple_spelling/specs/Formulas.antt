@@ -1,12 +1,12 @@
 -- Simplified index expressions as expressions of a kernel.
 use Rattle.std.specs.Prelude.{ℕ, ◌+◌}
 use Rattle.index_expr.specs.Expression.{Expression}
-use Rattle.kernel_tree.specs.Formula.{Formula, Number, Variable, LoopVariable, Size, Id, Binary, Choose}
+use Rattle.kernel_tree.specs.Formula.{Formula, Binary, Choose}
 use Rattle.length_spelling.specs.Formulas.{index_formula}
-use Rattle.index_simplify.specs.declared.ranges.Ranges.{Ranges}
+use Rattle.index_simplify.specs.PlainRanges.{PlainRanges}
 use Rattle.index_simplify.specs.Operations.{simple}
 
-abbrev pub simple_formula : Ranges → Expression → Formula
+abbrev pub simple_formula : PlainRanges → Expression → Formula
 simple_formula r e = index_formula (simple r e)
 
 abbrev pub formula_nodes : Formula → ℕ

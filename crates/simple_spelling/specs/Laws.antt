@@ -7,7 +7,7 @@ use Rattle.kernel_tree.specs.Code.{Kernel}
 use Rattle.kernel_tree.specs.Grammar.{height, is_constant, names_declared}
 use Rattle.length_spelling.specs.Formulas.{index_formula}
 use Rattle.length_spelling.specs.Laws.{AreWords}
-use Rattle.index_simplify.specs.declared.ranges.Ranges.{Ranges}
+use Rattle.index_simplify.specs.PlainRanges.{PlainRanges}
 use Rattle.index_simplify.specs.Ranges.{IsPoint}
 use Rattle.index_simplify.specs.Simplified.{HasWordLiterals}
 use Rattle.simple_spelling.specs.Formulas.{formula_nodes, simple_formula}
@@ -16,7 +16,7 @@ use Rattle.simple_spelling.specs.Redundant.{IsIrredundant}
 -- among words, at a point of the ranges at which the expression is ranged and divides by no 0
 abbrev pub SimpleFormulasHaveTheValues : Type 0
 SimpleFormulasHaveTheValues =
-    (r : Ranges) (ids : Ids) (loops variables : List ℕ) (e : Expression) (n : ℕ)
+    (r : PlainRanges) (ids : Ids) (loops variables : List ℕ) (e : Expression) (n : ℕ)
     → AreWords ids.sizes → AreWords loops → HasWordLiterals e → IsPoint r ids.sizes loops e
     → IsRangedAt ids.sizes loops e → HasNoZeroDivisorAt ids.sizes loops e → exact ids.sizes loops e ≡ pos n
     → value ids loops variables (simple_formula r e) ≡ Some n
@@ -29,7 +29,7 @@ pub record IsNoLarger (one other : Formula) : Type 0 where
   pub nodes : formula_nodes other ≤ formula_nodes one
 
 abbrev pub SimpleFormulasAreNoLarger : Type 0
-SimpleFormulasAreNoLarger = (r : Ranges) (e : Expression) → IsNoLarger (index_formula e) (simple_formula r e)
+SimpleFormulasAreNoLarger = (r : PlainRanges) (e : Expression) → IsNoLarger (index_formula e) (simple_formula r e)
 
 abbrev pub SimpleFormulasAreIrredundant : Type 0
-SimpleFormulasAreIrredundant = (r : Ranges) (e : Expression) → IsIrredundant (simple_formula r e)
+SimpleFormulasAreIrredundant = (r : PlainRanges) (e : Expression) → IsIrredundant (simple_formula r e)

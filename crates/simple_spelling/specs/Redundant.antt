@@ -1,7 +1,7 @@
 -- The shapes that no index and no bound of a kernel has a part of: something simpler has their value, whatever the ranges.
 use Rattle.std.specs.Prelude.{ℕ, ◌+◌, ◌*◌, ◌^◌, ◌<◌, min, max}
 use Rattle.scalar_ops.specs.declared.op.Op.TheVariants.{Add, Sub, Mul, Min, Max, Div, Rem}
-use Rattle.kernel_tree.specs.Formula.{Formula, Number, Variable, LoopVariable, Size, Id, Binary, Choose}
+use Rattle.kernel_tree.specs.Formula.{Formula, Number, LoopVariable, Binary, Choose}
 
 pub data IsRedundant : Formula → Type 0 where
   SumOfNumbers : (m n : ℕ) → m + n < 2 ^ 32 → IsRedundant (Binary Add (Number m) (Number n))

@@ -4,6 +4,7 @@ ghost use Rattle.std.specs.Prelude.{◌≡◌, IfOk};
 ghost use Rattle.index_expr.specs.Expression.{expression_of};
 ghost use Rattle.kernel_tree.specs.Tree.{formula_of};
 ghost use Rattle.simple_spelling.specs.Formulas.{simple_formula};
+ghost use Rattle.index_simplify.specs.PlainRanges.{ranges_of};
 
 use index_expr::Index;
 use index_simplify::{Ranges, simplified};
@@ -14,7 +15,7 @@ use std::alloc::{AllocError, Global};
 /// An index expression, simplified at a place with these ranges: its variables are those of the enclosing loops.
 pub fn spell_simplified(alloc: Global, index: &Index, ranges: &Ranges) -> Result<Expr, AllocError>
     ensures { IfOk result
-        (λ e. formula_of e ≡ simple_formula ranges.now (expression_of index.now)) }
+        (λ e. formula_of e ≡ simple_formula (ranges_of ranges.now) (expression_of index.now)) }
 {
     let index = simplified(alloc, index, ranges)?;
     spell_index(alloc, &index)
