@@ -135,9 +135,6 @@ module _ (p : PlainProgram) (output : PlainTy) (is_task : Bool) (addend : ℕ) (
       let launched : l ≡ task_launch (length (first_input (world_given g))) = launch ∙ launch_is in
       rw (kernel, launched, cells) (admissible addend (first_input (world_given g)))
 
-  pub one_item_as_made : (l : Launch) → l ≡ g.launch → l.global ≡ 1
-  one_item_as_made l launch = ap (λ (x : Launch). x.global) (launch ∙ launch_is)
-
   module _ (meets : MeetsSource p output is_task (map_kernel addend)) where
     pub clean_as_made : (k : Kernel) (l : Launch) (c : Cells) → k ≡ map_kernel addend → l ≡ g.launch → c ≡ zeroed (first_input (world_given g))
         → (kind : FaultKind) (event item : ℕ) (cell : Option seen.Cell) → FaultsUnder in_order k l c kind event item cell → ⊥

@@ -299,9 +299,7 @@ pub fn one_store(alloc: Global) -> Result<Kernel, AllocError>
     ensures outputs { IfOk result (λ kernel. kernel.outputs ≡ 1) }
     ensures sizes { IfOk result (λ kernel. kernel.sizes ≡ 0) }
 {
-    let body = vec![in alloc;
-        Stmt::Store(Array::Output(0), Expr::Number(0), Expr::Number(1)),
-    ]?;
+    let body = vec![in alloc; Stmt::Store(Array::Output(0), Expr::Number(0), Expr::Number(1))]?;
     Ok(Kernel {
         inputs: 0,
         outputs: 1,
@@ -325,9 +323,7 @@ pub fn a_barrier_for_some(alloc: Global) -> Result<Kernel, AllocError>
             on_global: false
         },
     ]?;
-    let body = vec![in alloc;
-        Stmt::Loop(Start::LocalId, Expr::Number(1), Stride::One, inner),
-    ]?;
+    let body = vec![in alloc; Stmt::Loop(Start::LocalId, Expr::Number(1), Stride::One, inner)]?;
     Ok(Kernel {
         inputs: 0,
         outputs: 1,
