@@ -1,12 +1,10 @@
 -- One text at one line: what is left to do there is told by the lines.
-use Rattle.std.proofs.Common.{◌≡◌, ℕ, ◌+◌, ◌-◌, ◌<◌, ◌≤◌, zero, suc, List, [], ◌∷◌, ◌++◌, length, drop, Some, refl, sym, ap, ◌∙◌, subst, arith, append_assoc, length-append, length-drop}
+use Rattle.std.proofs.Common.{◌≡◌, ℕ, ◌+◌, ◌-◌, ◌<◌, suc, List, [], ◌∷◌, ◌++◌, length, drop, Some, refl, sym, ap, ◌∙◌, subst, arith, append_assoc, length-append, length-drop}
 use Rattle.std.specs.Prelude.{map, slice_get}
 use Rattle.std.proofs.lemmas.List.{map-append}
-use Rattle.kernel_tree.specs.Formula.{Formula}
-use Rattle.kernel_tree.specs.Code.{Start, Stride, Code, End, Assigns, Loads, Stores, Loops, Syncs}
+use Rattle.kernel_tree.specs.Code.{Code, End, Assigns, Loads, Stores, Loops, Syncs}
 use Rattle.kernel_tree.specs.Item.{Frame, Item}
 use Rattle.kernel_tree.specs.Device.{still}
-use Rattle.ndrange_machine.specs.declared.turn.Turn.{Turn}
 use Rattle.ndrange_machine.specs.Known.{turn_of, turns_of, numbers}
 use Rattle.ndrange_machine.specs.Lines.{Line, Assign, Load, Store, Head, Tail, Barrier, size, exit_of, lines_at, head_of, lines_after, IsLoop, AreLoops, IsAt}
 use Rattle.ndrange_machine.proofs.Laying.{length-lines_at}
@@ -39,7 +37,7 @@ same_code n End (Stores a2 i2 e2 r2) xs ys cx cy h = unclosed xs _ cx h (λ z. z
 same_code n End (Loops s2 p2 c2 m2 r2) xs ys cx cy h = unclosed xs _ cx h (λ z. z)
 same_code n End (Syncs x2 y2 r2) xs ys cx cy h = unclosed xs _ cx h (λ z. z)
 same_code n (Assigns v1 e1 r1) End xs ys cx cy h = unclosed ys _ cy (sym h) (λ z. z)
-same_code n (Assigns v1 e1 r1) (Assigns v2 e2 r2) xs ys cx cy h = 
+same_code n (Assigns v1 e1 r1) (Assigns v2 e2 r2) xs ys cx cy h =
     let tails : lines_at (suc n) r1 ++ xs ≡ lines_at (suc n) r2 ++ ys = cc in
     let rest = same_code (suc n) r1 r2 xs ys cx cy tails in
     let of_v : v1 ≡ v2 = cc in
@@ -51,7 +49,7 @@ same_code n (Assigns v1 e1 r1) (Loops s2 p2 c2 m2 r2) xs ys cx cy h = cc
 same_code n (Assigns v1 e1 r1) (Syncs x2 y2 r2) xs ys cx cy h = cc
 same_code n (Loads v1 a1 e1 r1) End xs ys cx cy h = unclosed ys _ cy (sym h) (λ z. z)
 same_code n (Loads v1 a1 e1 r1) (Assigns v2 e2 r2) xs ys cx cy h = cc
-same_code n (Loads v1 a1 e1 r1) (Loads v2 a2 e2 r2) xs ys cx cy h = 
+same_code n (Loads v1 a1 e1 r1) (Loads v2 a2 e2 r2) xs ys cx cy h =
     let tails : lines_at (suc n) r1 ++ xs ≡ lines_at (suc n) r2 ++ ys = cc in
     let rest = same_code (suc n) r1 r2 xs ys cx cy tails in
     let of_v : v1 ≡ v2 = cc in
@@ -64,7 +62,7 @@ same_code n (Loads v1 a1 e1 r1) (Syncs x2 y2 r2) xs ys cx cy h = cc
 same_code n (Stores a1 i1 e1 r1) End xs ys cx cy h = unclosed ys _ cy (sym h) (λ z. z)
 same_code n (Stores a1 i1 e1 r1) (Assigns v2 e2 r2) xs ys cx cy h = cc
 same_code n (Stores a1 i1 e1 r1) (Loads v2 a2 e2 r2) xs ys cx cy h = cc
-same_code n (Stores a1 i1 e1 r1) (Stores a2 i2 e2 r2) xs ys cx cy h = 
+same_code n (Stores a1 i1 e1 r1) (Stores a2 i2 e2 r2) xs ys cx cy h =
     let tails : lines_at (suc n) r1 ++ xs ≡ lines_at (suc n) r2 ++ ys = cc in
     let rest = same_code (suc n) r1 r2 xs ys cx cy tails in
     let of_a : a1 ≡ a2 = cc in
@@ -77,7 +75,7 @@ same_code n (Loops s1 p1 c1 m1 r1) End xs ys cx cy h = unclosed ys _ cy (sym h) 
 same_code n (Loops s1 p1 c1 m1 r1) (Assigns v2 e2 r2) xs ys cx cy h = cc
 same_code n (Loops s1 p1 c1 m1 r1) (Loads v2 a2 e2 r2) xs ys cx cy h = cc
 same_code n (Loops s1 p1 c1 m1 r1) (Stores a2 i2 e2 r2) xs ys cx cy h = cc
-same_code n (Loops s1 p1 c1 m1 r1) (Loops s2 p2 c2 m2 r2) xs ys cx cy h = 
+same_code n (Loops s1 p1 c1 m1 r1) (Loops s2 p2 c2 m2 r2) xs ys cx cy h =
     let left = sym (append_assoc (lines_at (suc n) m1) (Tail n ∷ lines_at (exit_of n m1) r1) xs) in
     let right = append_assoc (lines_at (suc n) m2) (Tail n ∷ lines_at (exit_of n m2) r2) ys in
     let heads : Head s1 p1 c1 (exit_of n m1) ≡ Head s2 p2 c2 (exit_of n m2) = cc in
@@ -96,16 +94,12 @@ same_code n (Syncs x1 y1 r1) (Assigns v2 e2 r2) xs ys cx cy h = cc
 same_code n (Syncs x1 y1 r1) (Loads v2 a2 e2 r2) xs ys cx cy h = cc
 same_code n (Syncs x1 y1 r1) (Stores a2 i2 e2 r2) xs ys cx cy h = cc
 same_code n (Syncs x1 y1 r1) (Loops s2 p2 c2 m2 r2) xs ys cx cy h = cc
-same_code n (Syncs x1 y1 r1) (Syncs x2 y2 r2) xs ys cx cy h = 
+same_code n (Syncs x1 y1 r1) (Syncs x2 y2 r2) xs ys cx cy h =
     let tails : lines_at (suc n) r1 ++ xs ≡ lines_at (suc n) r2 ++ ys = cc in
     let rest = same_code (suc n) r1 r2 xs ys cx cy tails in
     let of_x : x1 ≡ x2 = cc in
     let of_y : y1 ≡ y2 = cc in
     (ap (λ z. Syncs z y1 r1) of_x ∙ ap (λ z. Syncs x2 z r1) of_y ∙ ap (λ z. Syncs x2 y2 z) rest.0, rest.1)
-
-
-
-
 
 abbrev turn_numbers : List Frame → List ℕ
 turn_numbers fs = map (λ f. f.turn) fs

@@ -1,5 +1,5 @@
 -- The machine's flags: of one group, at the start, and after a step.
-use Rattle.std.proofs.Common.{◌≡◌, ◌≢◌, ◌↔◌, ℕ, ◌+◌, ◌-◌, ◌*◌, ◌/◌, ◌<◌, ◌≤◌, suc, List, length, set, Option, Some, None, Bool, true, false, refl, sym, ap, ◌∙◌, subst, ⊎_elim, inl, inr, ◌⊎◌, arith}
+use Rattle.std.proofs.Common.{◌≡◌, ◌≢◌, ◌↔◌, ℕ, ◌+◌, ◌-◌, ◌*◌, ◌/◌, ◌<◌, ◌≤◌, suc, length, set, Some, Bool, true, false, refl, sym, ap, ◌∙◌, subst, ⊎_elim, inl, inr, ◌⊎◌, arith}
 use Rattle.std.specs.Prelude.{not, slice_get, slice_index_or, IsTrue}
 use Rattle.std.proofs.lemmas.Bool.{cases_eq, cases_lt}
 use Rattle.std.proofs.lemmas.List.{get_or-set_same, get_or-set_other}
@@ -8,21 +8,18 @@ use Rattle.std.proofs.Math.Nat.{div-lt_iff_lt-mul}
 use Rattle.kernel_tree.specs.declared.events.Event.TheVariants.{Step}
 use Rattle.kernel_tree.specs.Code.{Kernel}
 use Rattle.kernel_tree.specs.Launch.{Launch, Cells, IsWhole, item_count, group_count, group_of, first_item}
-use Rattle.kernel_tree.specs.Item.{Ends}
-use Rattle.kernel_tree.specs.Device.{Device, State, device_of, wants, CanStep, StandTogether, AllTogether, after}
+use Rattle.kernel_tree.specs.Device.{Device, State, device_of, wants, CanStep, AllTogether, after}
 use Rattle.kernel_tree.proofs.Grouping.{first_of_group, first_in_launch, group_in_launch, in_launch}
-use Rattle.enabled_events.specs.Listed.{Flags, AreFlags}
+use Rattle.enabled_events.specs.Listed.{Flags}
 use Rattle.enabled_events.specs.Flags.{NoneSteps}
-use Rattle.ndrange_machine.specs.declared.line.Line as held
 use Rattle.ndrange_machine.specs.declared.machine.Machine.{Machine}
 use Rattle.ndrange_machine.specs.ItemView.{ItemView}
 use Rattle.ndrange_machine.specs.Stands.{Holds}
-use Rattle.ndrange_machine.specs.Takes.{is_barrier, is_going, IsAtBarrier, IsGoing, SameCore}
-use Rattle.ndrange_machine.specs.Groups.{SamePlace, AllOver, TellsTogether, TellsEnded, SetsFlag, Refreshed, Refreshes, Begins, Met, Meets, Settled, Stepped, Settles}
-use Rattle.ndrange_machine.proofs.Standing.{its_item, going_is, waits_there, waits_nowhere, ended_there, goes_on, stand_if, if_stand}
+use Rattle.ndrange_machine.specs.Takes.{is_going, IsAtBarrier, IsGoing, SameCore}
+use Rattle.ndrange_machine.specs.Groups.{SamePlace, AllOver, TellsTogether, TellsEnded, SetsFlag, Refreshed, Refreshes, Begins, Met, Settled, Stepped, Settles}
+use Rattle.ndrange_machine.proofs.Standing.{its_item, going_is, waits_nowhere, ended_there, goes_on, stand_if, if_stand}
 use Rattle.ndrange_machine.proofs.Stepping.{same_holds}
 use Rattle.ndrange_machine.proofs.Together.{first_waits, goes, some_go, met}
-use Rattle.ndrange_machine.proofs.Waiting.{IsWaiting}
 
 no_true : {A : Type 0} → false ≡ true → A
 no_true e = cc
@@ -72,9 +69,10 @@ module _ (m : Machine) (g : ℕ) (lt : g < m.launch.global / m.launch.local) whe
     not_alike : (j : ℕ) → g * m.launch.local ≤ j → j < g * m.launch.local + m.launch.local → ((a b : ItemView) → slice_get m.items.items (g * m.launch.local) ≡ Some a → slice_get m.items.items j ≡ Some b → IsTrue false ↔ SamePlace a b) → IsTrue false ↔ AllTogether (device_of k l c) s g
     not_alike j low high told =
         let mine : group_of l j ≡ g = between l h.whole g j (subst (λ (z : Launch). g * z.local ≤ j) h.launch low) (subst (λ (z : Launch). j < g * z.local + z.local) h.launch high) in
-        let other = its_item k l c m s h j (in_launch l h.whole g j there mine) in
-        (λ e. no_true e,
-        λ all. (told first_there.0 other.0 (ap (slice_get m.items.items) first_is ∙ first_there.1) other.1).1 (if_stand k l c m s h (first_item l g) j first_there.0 other.0 first_there.1 other.1 (all j mine)))
+        let other = its_item k l c m s h j (in_launch l h.whole g j there mine) in (
+          λ e. no_true e,
+          λ all. (told first_there.0 other.0 (ap (slice_get m.items.items) first_is ∙ first_there.1) other.1).1 (if_stand k l c m s h (first_item l g) j first_there.0 other.0 first_there.1 other.1 (all j mine)),
+        )
 
     all_alike : IsAtBarrier m (g * m.launch.local) true → (i : ℕ) → g * m.launch.local + m.launch.local ≤ i → AlikeUpTo i → IsTrue true ↔ AllTogether (device_of k l c) s g
     all_alike at i end alike = (
@@ -92,9 +90,10 @@ module _ (m : Machine) (g : ℕ) (lt : g < m.launch.global / m.launch.local) whe
     one_going : (j : ℕ) → g * m.launch.local ≤ j → j < g * m.launch.local + m.launch.local → ((a : ItemView) → slice_get m.items.items j ≡ Some a → IsTrue false ↔ length m.lines.items ≤ a.line) → IsTrue false ↔ AllOver (device_of k l c) s g
     one_going j low high told =
         let mine : group_of l j ≡ g = between l h.whole g j (subst (λ (z : Launch). g * z.local ≤ j) h.launch low) (subst (λ (z : Launch). j < g * z.local + z.local) h.launch high) in
-        let it = its_item k l c m s h j (in_launch l h.whole g j there mine) in
-        (λ e. no_true e,
-        λ all. ⊎_elim (λ less. absurd (goes_on k l c m s h j it.0 it.1 less (all j mine))) (λ le. (told it.0 it.1).1 le) (cases_lt it.0.line (length m.lines.items)))
+        let it = its_item k l c m s h j (in_launch l h.whole g j there mine) in (
+          λ e. no_true e,
+          λ all. ⊎_elim (λ less. absurd (goes_on k l c m s h j it.0 it.1 less (all j mine))) (λ le. (told it.0 it.1).1 le) (cases_lt it.0.line (length m.lines.items)),
+        )
 
     all_over : (i : ℕ) → g * m.launch.local + m.launch.local ≤ i → OverUpTo i → IsTrue true ↔ AllOver (device_of k l c) s g
     all_over i end over = (

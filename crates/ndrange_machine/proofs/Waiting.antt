@@ -52,4 +52,3 @@ stand_waits (Moves x) w h = absurd h
 stand_waits (Reads a n f) w h = absurd h
 stand_waits (Writes a n v x) w h = absurd h
 stand_waits (Fails f) w h = absurd h
-

@@ -503,7 +503,8 @@ impl Machine {
             on_local,
             on_global,
             ..
-        } = want {
+        } = want
+        {
             self.marks.release(group, on_local, on_global);
         }
     }
