@@ -1,17 +1,17 @@
 -- Marks of cells in rows along a run.
-use Rattle.std.proofs.Common.{◌≡◌, ◌≢◌, ◌↔◌, ◌<◌, ◌++◌, ◌∷◌, ℕ, zero, suc, Bool, true, false, List, [], length, map, set, replicate, Option, Some, None, refl, sym, ap, ◌∙◌, subst, ⊎_elim, inl, inr, ◌⊎◌, arith}
+use Rattle.std.proofs.Common.{◌≡◌, ◌↔◌, ◌<◌, ◌++◌, ◌∷◌, ℕ, Bool, true, false, List, [], length, map, set, replicate, Option, Some, None, refl, sym, ap, ◌∙◌, subst, arith}
 use Rattle.std.specs.Prelude.{◌&&◌, nat_lt, slice_index, slice_index_or, if◌then◌else◌, IsTrue}
 use Rattle.std.proofs.Math.ListN.{length-set}
-use Rattle.std.proofs.lemmas.Bool.{cases_Bool, lt-ltb}
+use Rattle.std.proofs.lemmas.Bool.{lt-ltb}
 use Rattle.std.proofs.lemmas.List.{length-map, length-replicate}
 use Rattle.kernel_tree.specs.declared.events.Event.{Event}
 use Rattle.kernel_tree.specs.declared.events.Event.TheVariants.{Step, Release}
 use Rattle.kernel_tree.specs.Code.{Array, Input, Output, Local, Private}
 use Rattle.kernel_tree.specs.Launch.{group_count, first_item}
-use Rattle.kernel_tree.specs.Device.{Device, Cell, Fence, LocalFence, GlobalFence, fence_of, fence_of_array, State, home, has_flag, is_flagged, wants, run}
+use Rattle.kernel_tree.specs.Device.{Device, Cell, Fence, LocalFence, GlobalFence, fence_of, fence_of_array, State, has_flag, is_flagged, wants, run}
 use Rattle.kernel_tree.specs.Faults.{Access, Among, accesses_of, RacesAfter}
 use Rattle.race_marks.specs.Marks.{Mark, Untouched, races, noted, released}
-use Rattle.race_marks.specs.Tells.{TellsOfRun, TellAll, HasPlaces, LeavesKnown, marks_released}
+use Rattle.race_marks.specs.Tells.{TellsOfRun, TellAll, HasPlaces, LeavesKnown}
 use Rattle.race_marks.specs.declared.marks.Touch.{Touch}
 use Rattle.race_marks.proofs.All.{all_begin, all_step, all_access, all_release}
 use Rattle.race_marks.proofs.Own.{own_clear}

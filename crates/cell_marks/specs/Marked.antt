@@ -1,7 +1,7 @@
 -- The marks of all shared cells, and what they tell of a run.
 use Rattle.std.specs.Prelude.{◌≡◌, ◌↔◌, ℕ, ◌<◌, ◌∷◌, ◌++◌, Bool, false, List, [], Option, Some, None, length, slice_index, IsTrue}
 use Rattle.kernel_tree.specs.declared.events.Event.{Event}
-use Rattle.kernel_tree.specs.Code.{Array, Input, Output, Local, Private}
+use Rattle.kernel_tree.specs.Code.{Array, Input, Output, Local}
 use Rattle.kernel_tree.specs.Launch.{group_count}
 use Rattle.kernel_tree.specs.Device.{Device, Cell, State, home, run}
 use Rattle.kernel_tree.specs.Faults.{Access, Among, accesses_of, RacesAfter}

@@ -1,5 +1,5 @@
 -- Rows of cells in one list.
-use Rattle.std.specs.Prelude.{◌≡◌, ℕ, zero, suc, ◌+◌, ◌*◌, ◌<◌, ◌^◌, ◌&&◌, Bool, List, [], ◌∷◌, Option, Some, length, map, slice_get, slice_index, nat_lt}
+use Rattle.std.specs.Prelude.{◌≡◌, ℕ, zero, suc, ◌+◌, ◌*◌, ◌<◌, ◌^◌, ◌&&◌, Bool, List, [], ◌∷◌, Some, length, map, slice_get, slice_index, nat_lt}
 use Rattle.cell_marks.specs.declared.rows.Row.{Row}
 
 -- rows of these lengths, each cell once for each of so many homes

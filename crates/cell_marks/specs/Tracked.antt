@@ -1,8 +1,8 @@
 -- The marks of rows of cells.
-use Rattle.std.specs.Prelude.{◌≡◌, ℕ, ◌&&◌, Bool, List, length, map, slice_index_or, slice_set, if◌then◌else◌}
+use Rattle.std.specs.Prelude.{ℕ, ◌&&◌, Bool, List, map, slice_index_or, slice_set, if◌then◌else◌}
 use Rattle.race_marks.specs.Marks.{Mark, Untouched, races, noted, released}
 use Rattle.race_marks.specs.declared.marks.Touch.{Touch}
-use Rattle.cell_marks.specs.Rows.{Shape, cell_count, is_placed, place_at}
+use Rattle.cell_marks.specs.Rows.{Shape, is_placed, place_at}
 
 -- cells in rows, that items of so many groups touch
 pub record Kept : Type 0 where

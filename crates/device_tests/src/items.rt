@@ -122,28 +122,45 @@ fn fails(ran: &Result<Outcome, DeviceNo>, want: (FaultKind, u64, u32, Option<Cel
     }
 }
 
+// The five words of the kernel that adds 1, by four work-items in groups of two.
+fn sums_hold_along(alloc: Global, schedule: &Schedule) -> bool {
+    leaves(&run_sums(alloc, 5, 4, 2, schedule), &[2, 3, 4, 5, 6], 19, 0)
+}
+
 #[test]
-fn one_result_under_every_schedule(rt: HostRuntime) {
+fn in_order_the_sums_hold(rt: HostRuntime) {
+    let alloc = rt.alloc();
+    assert!(rt; sums_hold_along(alloc, &Schedule::Numbers(Vec::new(alloc))));
+}
+
+#[test]
+fn along_a_list_the_sums_hold(rt: HostRuntime) {
     let alloc = rt.alloc();
     let numbers = vec![in alloc; 3, 2, 1, 0].expect(&rt, "memory");
-    let schedules = [
-        Schedule::Numbers(Vec::new(alloc)),
-        Schedule::Numbers(numbers),
-        Schedule::Seed(7),
-        Schedule::Seed(8),
-    ];
-    for schedule in &schedules {
-        assert!(rt; leaves(&run_sums(alloc, 5, 4, 2, schedule), &[2, 3, 4, 5, 6], 19, 0));
-    }
+    assert!(rt; sums_hold_along(alloc, &Schedule::Numbers(numbers)));
+}
+
+#[test]
+fn from_a_seed_the_sums_hold(rt: HostRuntime) {
+    assert!(rt; sums_hold_along(rt.alloc(), &Schedule::Seed(7)));
+}
+
+// The sums of the first words by as many work-items as a launch may have.
+fn most_items_sum(alloc: Global, want: &[u32]) -> bool {
+    let schedule = Schedule::Numbers(Vec::new(alloc));
+    leaves(
+        &run_sums(alloc, 1000, 65536, 256, &schedule),
+        want,
+        68536,
+        0,
+    )
 }
 
 #[test]
 fn many_items_take_one_event_more_each(rt: HostRuntime) {
     let alloc = rt.alloc();
     let want = words_from(alloc, 2, 1000).expect(&rt, "memory");
-    let schedule = Schedule::Numbers(Vec::new(alloc));
-    let ran = run_sums(alloc, 1000, 65536, 256, &schedule);
-    assert!(rt; leaves(&ran, want.as_slice(), 68536, 0));
+    assert!(rt; most_items_sum(alloc, want.as_slice()));
 }
 
 #[test]

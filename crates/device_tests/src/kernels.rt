@@ -274,7 +274,11 @@ pub fn strided_sums(alloc: Global) -> Result<Kernel, AllocError>
     ensures outputs { IfOk result (λ kernel. kernel.outputs ≡ 1) }
     ensures sizes { IfOk result (λ kernel. kernel.sizes ≡ 1) }
 {
-    let sum = Expr::binary(alloc, Op::Add, Expr::Variable(0), Expr::Number(1))?;
+    let sum = Expr::Binary(
+        Op::Add,
+        Box::new(alloc, Expr::Variable(0))?,
+        Box::new(alloc, Expr::Number(1))?,
+    );
     let inner = vec![in alloc;
         Stmt::Load(0, Array::Input(0), Expr::LoopVariable(0)),
         Stmt::Store(Array::Output(0), Expr::LoopVariable(0), sum),

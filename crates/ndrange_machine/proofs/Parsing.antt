@@ -1,12 +1,10 @@
 -- One text at one line: what is left to do there is told by the lines.
-use Rattle.std.proofs.Common.{◌≡◌, ℕ, ◌+◌, ◌-◌, ◌<◌, ◌≤◌, zero, suc, List, [], ◌∷◌, ◌++◌, length, drop, Some, refl, sym, ap, ◌∙◌, subst, arith, append_assoc, length-append, length-drop}
+use Rattle.std.proofs.Common.{◌≡◌, ℕ, ◌+◌, ◌-◌, ◌<◌, suc, List, [], ◌∷◌, ◌++◌, length, drop, Some, refl, sym, ap, ◌∙◌, subst, arith, append_assoc, length-append, length-drop}
 use Rattle.std.specs.Prelude.{map, slice_get}
 use Rattle.std.proofs.lemmas.List.{map-append}
-use Rattle.kernel_tree.specs.Formula.{Formula}
-use Rattle.kernel_tree.specs.Code.{Start, Stride, Code, End, Assigns, Loads, Stores, Loops, Syncs}
+use Rattle.kernel_tree.specs.Code.{Code, End, Assigns, Loads, Stores, Loops, Syncs}
 use Rattle.kernel_tree.specs.Item.{Frame, Item}
 use Rattle.kernel_tree.specs.Device.{still}
-use Rattle.ndrange_machine.specs.declared.turn.Turn.{Turn}
 use Rattle.ndrange_machine.specs.Known.{turn_of, turns_of, numbers}
 use Rattle.ndrange_machine.specs.Lines.{Line, Assign, Load, Store, Head, Tail, Barrier, size, exit_of, lines_at, head_of, lines_after, IsLoop, AreLoops, IsAt}
 use Rattle.ndrange_machine.proofs.Laying.{length-lines_at}

@@ -1,5 +1,5 @@
 -- The machine's flags: of one group, at the start, and after a step.
-use Rattle.std.proofs.Common.{◌≡◌, ◌≢◌, ◌↔◌, ℕ, ◌+◌, ◌-◌, ◌*◌, ◌/◌, ◌<◌, ◌≤◌, suc, List, length, set, Option, Some, None, Bool, true, false, refl, sym, ap, ◌∙◌, subst, ⊎_elim, inl, inr, ◌⊎◌, arith}
+use Rattle.std.proofs.Common.{◌≡◌, ◌≢◌, ◌↔◌, ℕ, ◌+◌, ◌-◌, ◌*◌, ◌/◌, ◌<◌, ◌≤◌, suc, length, set, Some, Bool, true, false, refl, sym, ap, ◌∙◌, subst, ⊎_elim, inl, inr, ◌⊎◌, arith}
 use Rattle.std.specs.Prelude.{not, slice_get, slice_index_or, IsTrue}
 use Rattle.std.proofs.lemmas.Bool.{cases_eq, cases_lt}
 use Rattle.std.proofs.lemmas.List.{get_or-set_same, get_or-set_other}
@@ -8,21 +8,18 @@ use Rattle.std.proofs.Math.Nat.{div-lt_iff_lt-mul}
 use Rattle.kernel_tree.specs.declared.events.Event.TheVariants.{Step}
 use Rattle.kernel_tree.specs.Code.{Kernel}
 use Rattle.kernel_tree.specs.Launch.{Launch, Cells, IsWhole, item_count, group_count, group_of, first_item}
-use Rattle.kernel_tree.specs.Item.{Ends}
-use Rattle.kernel_tree.specs.Device.{Device, State, device_of, wants, CanStep, StandTogether, AllTogether, after}
+use Rattle.kernel_tree.specs.Device.{Device, State, device_of, wants, CanStep, AllTogether, after}
 use Rattle.kernel_tree.proofs.Grouping.{first_of_group, first_in_launch, group_in_launch, in_launch}
-use Rattle.enabled_events.specs.Listed.{Flags, AreFlags}
+use Rattle.enabled_events.specs.Listed.{Flags}
 use Rattle.enabled_events.specs.Flags.{NoneSteps}
-use Rattle.ndrange_machine.specs.declared.line.Line as held
 use Rattle.ndrange_machine.specs.declared.machine.Machine.{Machine}
 use Rattle.ndrange_machine.specs.ItemView.{ItemView}
 use Rattle.ndrange_machine.specs.Stands.{Holds}
-use Rattle.ndrange_machine.specs.Takes.{is_barrier, is_going, IsAtBarrier, IsGoing, SameCore}
-use Rattle.ndrange_machine.specs.Groups.{SamePlace, AllOver, TellsTogether, TellsEnded, SetsFlag, Refreshed, Refreshes, Begins, Met, Meets, Settled, Stepped, Settles}
-use Rattle.ndrange_machine.proofs.Standing.{its_item, going_is, waits_there, waits_nowhere, ended_there, goes_on, stand_if, if_stand}
+use Rattle.ndrange_machine.specs.Takes.{is_going, IsAtBarrier, IsGoing, SameCore}
+use Rattle.ndrange_machine.specs.Groups.{SamePlace, AllOver, TellsTogether, TellsEnded, SetsFlag, Refreshed, Refreshes, Begins, Met, Settled, Stepped, Settles}
+use Rattle.ndrange_machine.proofs.Standing.{its_item, going_is, waits_nowhere, ended_there, goes_on, stand_if, if_stand}
 use Rattle.ndrange_machine.proofs.Stepping.{same_holds}
 use Rattle.ndrange_machine.proofs.Together.{first_waits, goes, some_go, met}
-use Rattle.ndrange_machine.proofs.Waiting.{IsWaiting}
 
 no_true : {A : Type 0} → false ≡ true → A
 no_true e = cc

@@ -1,20 +1,16 @@
 -- What the machine tells of the state that it holds: which events are enabled, and whether all items have ended.
-use Rattle.std.proofs.Common.{◌≡◌, ℕ, ◌+◌, ◌*◌, ◌/◌, ◌^◌, ◌<◌, ◌≤◌, zero, suc, List, [], ◌∷◌, length, Option, Some, None, Bool, true, false, refl, sym, ap, ◌∙◌, subst, ⊎_elim, inl, inr, arith, ◌⊎◌, ◌↔◌}
+use Rattle.std.proofs.Common.{◌≡◌, ℕ, ◌+◌, ◌*◌, ◌^◌, ◌<◌, ◌≤◌, List, length, Option, Some, None, Bool, true, false, refl, sym, ap, ◌∙◌, subst, ⊎_elim, arith, ◌↔◌}
 use Rattle.std.specs.Prelude.{map, not, slice_get, slice_index_or, nat_lt, if◌then◌else◌, IsTrue}
 use Rattle.std.proofs.lemmas.List.{length-map}
 use Rattle.std.proofs.lemmas.Bool.{cases_lt}
-use Rattle.kernel_tree.specs.declared.events.Event.{Event}
-use Rattle.kernel_tree.specs.declared.events.Event.TheVariants.{Step, Release}
 use Rattle.kernel_tree.specs.Code.{Kernel, Stride, ByOne, ByGlobalSize, ByGroupCount, ByLocalSize, start_value, stride_value}
 use Rattle.kernel_tree.specs.Formula.{Formula, Ids, value, bound_value}
 use Rattle.kernel_tree.specs.Tree.{formula_of, start_of, stride_of}
 use Rattle.kernel_tree.specs.declared.events.FaultKind.TheVariants.{LoopWrap}
 use Rattle.kernel_tree.specs.declared.tree.Stride as held_stride
-use Rattle.kernel_tree.specs.Launch.{Launch, Cells, IsWhole, ids_of, item_count, group_count, group_of, first_item}
-use Rattle.kernel_tree.specs.Item.{Wants, Ends, Waits, Moves, Reads, Writes, Fails, next}
-use Rattle.kernel_tree.specs.Device.{Device, State, device_of, wants, CanStep, StandTogether, Enabled, AllEnded}
-use Rattle.kernel_tree.specs.Faults.{SomeDiverges}
-use Rattle.kernel_tree.specs.Schedule.{AreEnabled, place_of}
+use Rattle.kernel_tree.specs.Launch.{Launch, Cells, IsWhole, ids_of, item_count, group_count}
+use Rattle.kernel_tree.specs.Item.{Wants, Ends, Waits, Moves, Fails, next}
+use Rattle.kernel_tree.specs.Device.{State, device_of, wants, CanStep, StandTogether, AllEnded}
 use Rattle.ndrange_machine.specs.declared.line.Line as held
 use Rattle.ndrange_machine.specs.declared.line.Line.TheVariants as line
 use Rattle.ndrange_machine.specs.declared.machine.Machine.{Machine}
@@ -25,9 +21,9 @@ use Rattle.ndrange_machine.specs.declared.want.Want.{Want}
 use Rattle.ndrange_machine.specs.declared.want.Want.TheVariants as want
 use Rattle.ndrange_machine.specs.ItemView.{ItemView}
 use Rattle.ndrange_machine.specs.Lines.{Line, lines_at, IsAt}
-use Rattle.ndrange_machine.specs.Stands.{HoldsItem, Holds, CountsEnabled}
-use Rattle.ndrange_machine.specs.Groups.{SamePlace, AllOver, TellsTogether, TellsEnded}
-use Rattle.ndrange_machine.specs.Takes.{is_barrier, is_going, IsAtBarrier, IsGoing}
+use Rattle.ndrange_machine.specs.Stands.{HoldsItem, Holds}
+use Rattle.ndrange_machine.specs.Groups.{SamePlace}
+use Rattle.ndrange_machine.specs.Takes.{is_barrier, is_going, IsGoing}
 use Rattle.ndrange_machine.specs.Wants.{text_of, turn_after, want_if, want_in, want_last, want_back, last_of, wanted}
 use Rattle.ndrange_machine.proofs.Next.{IsNext, next_is}
 use Rattle.ndrange_machine.proofs.Waiting.{IsWaiting, steps_or_not, not_both, stand_waits}

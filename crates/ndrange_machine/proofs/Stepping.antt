@@ -4,7 +4,7 @@ use Rattle.std.specs.Prelude.{map, is_some, nat_lt, slice_get, option_map, â—Œâ†
 use Rattle.std.proofs.lemmas.Bool.{ne_eqb, ltb-true}
 use Rattle.std.proofs.lemmas.Bool.Decides.{eqb_tells}
 use Rattle.kernel_tree.specs.declared.events.Event.{Event}
-use Rattle.kernel_tree.specs.declared.events.Event.TheVariants.{Step, Release}
+use Rattle.kernel_tree.specs.declared.events.Event.TheVariants.{Step}
 use Rattle.kernel_tree.specs.declared.events.Access as held_access
 use Rattle.kernel_tree.specs.declared.events.Access.TheVariants.{Read, Write}
 use Rattle.kernel_tree.specs.declared.events.Cell as seen_cell
@@ -15,8 +15,8 @@ use Rattle.kernel_tree.specs.declared.tree.Array as held_array
 use Rattle.kernel_tree.specs.Code.{Array, Input, Output, Local, Private, Kernel}
 use Rattle.kernel_tree.specs.Tree.{array_of}
 use Rattle.kernel_tree.specs.Launch.{Launch, Cells, group_of, first_item, ids_of}
-use Rattle.kernel_tree.specs.Item.{Item, next, Wants, Ends, Waits, Moves, Reads, Writes, Fails}
-use Rattle.kernel_tree.specs.Device.{Cell, Device, State, device_of, start_state, length_in, home, cell_at, same_cell, write, wants, CanStep, StandTogether, Enabled, taken, stored, after, run, IsRun}
+use Rattle.kernel_tree.specs.Item.{next, Wants, Ends, Waits, Moves, Reads, Writes, Fails}
+use Rattle.kernel_tree.specs.Device.{Cell, Device, State, device_of, start_state, length_in, home, cell_at, same_cell, write, wants, CanStep, StandTogether, Enabled, taken, stored, after, run}
 use Rattle.kernel_tree.specs.Faults.{Access, access_at, accessed, accesses_of, accesses, Among, failure, failure_of, RacesAfter, SomeDiverges, FaultIs, NoFailure, NoRace, NoDivergence, IsFaultless}
 use Rattle.kernel_tree.specs.Seen.{shared_cell, cell_wanted, access_wanted, fault_of, seen_of}
 use Rattle.kernel_tree.proofs.EveryRun.{run-append, accesses-append, is_run-append}
@@ -40,7 +40,7 @@ use Rattle.ndrange_machine.specs.Takes.{Took, IsWanted, SameCore, Changes}
 use Rattle.kernel_tree.proofs.Confluence.{same_cell-true, not_true, among-left, among-right}
 use Rattle.kernel_tree.proofs.Grouping.{group_in_launch}
 use Rattle.ndrange_machine.proofs.Cells.{Puts}
-use Rattle.ndrange_machine.proofs.Next.{IsNext, IsOwnFault, Stands}
+use Rattle.ndrange_machine.proofs.Next.{IsNext, IsOwnFault}
 use Rattle.ndrange_machine.proofs.Standing.{here, its_item}
 
 -- the last event of a run, and the rest

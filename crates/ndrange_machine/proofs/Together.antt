@@ -1,25 +1,25 @@
 -- Which groups stand together, and which diverge.
-use Rattle.std.proofs.Common.{◌≡◌, ◌≢◌, ◌↔◌, ℕ, ◌+◌, ◌*◌, ◌/◌, ◌^◌, ◌<◌, ◌≤◌, zero, suc, List, [], ◌∷◌, length, set, Option, Some, None, Bool, true, false, refl, sym, ap, ◌∙◌, subst, ⊎_elim, inl, inr, ◌⊎◌, arith}
-use Rattle.std.specs.Prelude.{map, nat_lt, slice_get, slice_index_or, slice_set, if◌then◌else◌, IsTrue, ◌==◌}
+use Rattle.std.proofs.Common.{◌≡◌, ◌≢◌, ◌↔◌, ℕ, ◌+◌, ◌/◌, ◌^◌, ◌<◌, List, [], ◌∷◌, length, set, Option, Some, None, Bool, true, false, refl, sym, ap, ◌∙◌, subst, ⊎_elim, inl, inr, ◌⊎◌, arith}
+use Rattle.std.specs.Prelude.{map, nat_lt, slice_index_or, slice_set, if◌then◌else◌, ◌==◌}
 use Rattle.std.proofs.Math.ListN.{length-set}
-use Rattle.std.proofs.lemmas.Bool.{cases_eq, cases_lt, ne_eqb, eqb-true}
+use Rattle.std.proofs.lemmas.Bool.{cases_eq, ne_eqb, eqb-true}
 use Rattle.std.proofs.lemmas.Bool.Decides.{eqb_tells}
 use Rattle.std.proofs.lemmas.List.{get_or-set_same, get_or-set_other}
 use Rattle.kernel_tree.specs.declared.events.Event.{Event}
 use Rattle.kernel_tree.specs.declared.events.Event.TheVariants.{Step, Release}
 use Rattle.kernel_tree.specs.declared.events.FaultKind.TheVariants.{LoopWrap}
-use Rattle.kernel_tree.specs.Formula.{Formula, Ids, value, bound_value}
+use Rattle.kernel_tree.specs.Formula.{Ids, value, bound_value}
 use Rattle.kernel_tree.specs.Code.{Code, End, Assigns, Loads, Stores, Loops, Syncs, start_value, stride_value}
 use Rattle.kernel_tree.specs.Item.{Frame, Item, item, loop_variables, Wants, Ends, Waits, Moves, Reads, Writes, Fails, with_value, tested, next_turn, next_at, next}
-use Rattle.kernel_tree.specs.Launch.{Launch, IsWhole, item_count, group_count, group_of, first_item, ids_of}
+use Rattle.kernel_tree.specs.Launch.{Launch, IsWhole, group_count, group_of, first_item, ids_of}
 use Rattle.kernel_tree.specs.Device.{Device, Memory, State, still, wants, CanStep, StandTogether, AllTogether, moves, taken, after}
 use Rattle.kernel_tree.specs.Faults.{Diverges, SomeDiverges}
 use Rattle.kernel_tree.proofs.Confluence.{stands_or_steps, wants_kept, not_true}
 use Rattle.kernel_tree.proofs.Grouping.{first_of_group, group_in_launch, in_launch}
-use Rattle.enabled_events.specs.Listed.{Flags, AreFlags, Follows, group_moved}
+use Rattle.enabled_events.specs.Listed.{Flags, AreFlags, group_moved}
 use Rattle.enabled_events.specs.Flags.{NoneSteps}
 use Rattle.enabled_events.proofs.Follows.{flags_after}
-use Rattle.ndrange_machine.specs.Groups.{AllOver, Refreshed, Met, Settled, Stepped}
+use Rattle.ndrange_machine.specs.Groups.{Refreshed, Met, Settled, Stepped}
 use Rattle.ndrange_machine.proofs.Waiting.{IsWaiting, steps_or_not, not_both, stand_waits}
 
 -- what is next, by the code

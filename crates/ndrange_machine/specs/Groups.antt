@@ -1,10 +1,10 @@
 -- What the machine tells and keeps of its work-groups.
-use Rattle.std.specs.Prelude.{◌≡◌, ◌≢◌, ◌↔◌, ℕ, ◌<◌, Bool, true, false, List, ◌∷◌, ◌++◌, [], length, slice_index_or, slice_set, IsTrue}
+use Rattle.std.specs.Prelude.{◌≡◌, ◌≢◌, ◌↔◌, ℕ, ◌<◌, Bool, true, false, List, ◌∷◌, ◌++◌, [], slice_index_or, slice_set, IsTrue}
 use Rattle.kernel_tree.specs.declared.events.Event.{Event}
 use Rattle.kernel_tree.specs.declared.events.Event.TheVariants.{Step, Release}
 use Rattle.kernel_tree.specs.Code.{Kernel}
 use Rattle.kernel_tree.specs.Item.{Ends}
-use Rattle.kernel_tree.specs.Launch.{Launch, Cells, item_count, group_count, group_of, first_item}
+use Rattle.kernel_tree.specs.Launch.{Launch, Cells, item_count, group_of, first_item}
 use Rattle.kernel_tree.specs.Device.{Device, Fence, State, device_of, wants, CanStep, AllTogether, has_flag, is_flagged, after, run}
 use Rattle.kernel_tree.specs.Faults.{SomeDiverges}
 use Rattle.enabled_events.specs.Listed.{Flags, AreFlags}

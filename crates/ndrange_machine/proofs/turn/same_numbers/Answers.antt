@@ -1,6 +1,5 @@
-use Rattle.std.proofs.Common.{◌≡◌, ◌<◌, ◌+◌, length, take, refl, sym, ap, ◌∙◌, subst, arith}
-use Rattle.ndrange_machine.specs.Known.{numbers}
-use Rattle.ndrange_machine.proofs.Numbers.{differ, same_more, same_all}
+use Rattle.std.proofs.Common.{arith}
+use Rattle.ndrange_machine.proofs.Numbers.{differ, same_more}
 use Rattle.ndrange_machine.proofs.turn.same_numbers.Goals as goal
 
 pub returns-then-turns-i : goal.returns-then-turns-i

@@ -1,4 +1,4 @@
-use Rattle.std.proofs.Common.{◌≡◌, ℕ, ap, ◌∙◌, refl, replicate}
+use Rattle.std.proofs.Common.{ℕ, ap, ◌∙◌, refl, replicate}
 use Rattle.std.specs.Prelude.{slice_index}
 use Rattle.race_marks.specs.Marks.{Untouched}
 use Rattle.cell_marks.specs.Rows.{Shape, cell_count}

@@ -1,4 +1,4 @@
-use Rattle.std.proofs.Common.{◌++◌, ◌∷◌, [], sym, subst, refl}
+use Rattle.std.proofs.Common.{sym, subst, refl}
 use Rattle.cell_marks.specs.Rows.{AreLaid}
 use Rattle.cell_marks.proofs.Laid.{laid_on}
 use Rattle.cell_marks.proofs.rows.Rows.push.Goals as goal

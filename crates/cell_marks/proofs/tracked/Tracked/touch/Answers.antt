@@ -1,4 +1,4 @@
-use Rattle.std.proofs.Common.{◌≡◌, ◌<◌, ◌∙◌, sym, arith}
+use Rattle.std.proofs.Common.{◌∙◌, sym, arith}
 use Rattle.cell_marks.proofs.Laid.{within, told_within}
 use Rattle.cell_marks.proofs.tracked.Tracked.touch.Goals as goal
 

@@ -1,4 +1,4 @@
-use Rattle.std.proofs.Common.{◌≡◌, ◌↔◌, ◌<◌, ◌∙◌, length, subst, ap, arith}
+use Rattle.std.proofs.Common.{◌≡◌, ◌↔◌, ◌<◌, length, subst, ap, arith}
 use Rattle.std.specs.Prelude.{IsTrue, slice_index, nat_eq}
 use Rattle.std.proofs.lemmas.List.{get_or_read}
 use Rattle.enabled_events.specs.Flags.{NoneSteps}

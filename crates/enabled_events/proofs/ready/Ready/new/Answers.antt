@@ -1,4 +1,4 @@
-use Rattle.std.proofs.Common.{◌≡◌, ◌≤◌, ◌/◌, ◌^◌, ◌∙◌, replicate, false, ap, sym, subst, max, arith, length}
+use Rattle.std.proofs.Common.{◌/◌, replicate, false, sym, subst, arith}
 use Rattle.std.proofs.lemmas.Nat.{pow_pos}
 use Rattle.enabled_events.specs.Flags.{CountSteps}
 use Rattle.enabled_events.proofs.Counts.{none_set}

@@ -1,4 +1,4 @@
-use Rattle.std.proofs.Common.{◌≤◌, arith}
+use Rattle.std.proofs.Common.{arith}
 use Rattle.ndrange_machine.proofs.Settling.{begun_none, begun_more, begins}
 use Rattle.ndrange_machine.proofs.machine.Machine.begin.Goals as goal
 

@@ -1,4 +1,3 @@
-use Rattle.std.proofs.Common.{refl}
 use Rattle.enabled_events.specs.Listed.{flagged_events}
 use Rattle.enabled_events.proofs.Listed.{enabled_list}
 use Rattle.kernel_tree.specs.Device.{device_of}

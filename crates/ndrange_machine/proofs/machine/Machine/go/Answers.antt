@@ -1,5 +1,5 @@
-use Rattle.std.proofs.Common.{refl, sym, subst, ◌∙◌, Some, None}
-use Rattle.ndrange_machine.specs.Takes.{IsWanted, Took}
+use Rattle.std.proofs.Common.{refl, subst, None}
+use Rattle.ndrange_machine.specs.Takes.{IsWanted}
 use Rattle.ndrange_machine.proofs.Stepping.{as_seen, as_seen_kind, took_change, took_fault, never_ends, never_waits}
 use Rattle.ndrange_machine.proofs.machine.Machine.go.Goals as goal
 

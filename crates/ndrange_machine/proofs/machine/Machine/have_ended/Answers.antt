@@ -1,4 +1,4 @@
-use Rattle.std.proofs.Common.{◌≡◌, ◌≤◌, ◌*◌, ◌<◌, ◌+◌, Some, length, subst, arith}
+use Rattle.std.proofs.Common.{◌≡◌, ◌≤◌, Some, length, subst, arith}
 use Rattle.std.specs.Prelude.{◌↔◌, slice_get, IsTrue}
 use Rattle.ndrange_machine.specs.ItemView.{ItemView}
 use Rattle.ndrange_machine.proofs.Settling.{tells_going, tells_over, over_more}

@@ -1,4 +1,4 @@
-use Rattle.std.proofs.Common.{◌∙◌, Some, None, sym, refl}
+use Rattle.std.proofs.Common.{◌∙◌, Some, sym, refl}
 use Rattle.kernel_tree.specs.declared.events.FaultKind.TheVariants.{OutOfRange}
 use Rattle.ndrange_machine.proofs.Stepping.{as_seen_kind, took_read, took_read_outside}
 use Rattle.ndrange_machine.proofs.machine.Machine.load.Goals as goal

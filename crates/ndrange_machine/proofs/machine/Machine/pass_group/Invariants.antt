@@ -1,4 +1,3 @@
-use Rattle.std.proofs.Common.{◌*◌}
 use Rattle.ndrange_machine.specs.Takes.{Passes}
 use Rattle.ndrange_machine.proofs.machine.Machine.pass_group.Given as goal
 

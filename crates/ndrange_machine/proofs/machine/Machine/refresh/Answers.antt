@@ -1,4 +1,4 @@
-use Rattle.std.proofs.Common.{◌≡◌, ◌+◌, ◌*◌, subst, arith}
+use Rattle.std.proofs.Common.{subst, arith}
 use Rattle.ndrange_machine.proofs.Settling.{SetUpTo, set_none, set_more, refreshes}
 use Rattle.ndrange_machine.proofs.machine.Machine.refresh.Goals as goal
 

@@ -1,5 +1,5 @@
 use Rattle.std.proofs.Common.{subst}
-use Rattle.ndrange_machine.specs.Takes.{IsWanted, Passes}
+use Rattle.ndrange_machine.specs.Takes.{IsWanted}
 use Rattle.ndrange_machine.proofs.Releasing.{took_release}
 use Rattle.ndrange_machine.proofs.machine.Machine.release.Goals as goal
 

@@ -1,4 +1,4 @@
-use Rattle.std.proofs.Common.{◌<◌, ◌/◌, ap, subst, arith}
+use Rattle.std.proofs.Common.{◌/◌, ap, arith}
 use Rattle.kernel_tree.specs.Launch.{Launch}
 use Rattle.ndrange_machine.proofs.machine.Machine.release_group.Goals as goal
 

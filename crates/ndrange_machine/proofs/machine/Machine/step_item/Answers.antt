@@ -1,4 +1,4 @@
-use Rattle.std.proofs.Common.{◌<◌, ◌≤◌, ap, subst, arith}
+use Rattle.std.proofs.Common.{◌≤◌, ap, subst, arith}
 use Rattle.kernel_tree.specs.Launch.{Launch}
 use Rattle.ndrange_machine.specs.declared.machine.Machine.{Machine}
 use Rattle.ndrange_machine.proofs.machine.Machine.step_item.Goals as goal
