@@ -267,3 +267,70 @@ pub fn nested(alloc: Global) -> Result<Kernel, AllocError>
         body,
     })
 }
+
+/// `for (i0 = global id; i0 < s0; i0 += global size) { v0 = a0[i0]; o0[i0] = v0 + 1u; }`
+pub fn strided_sums(alloc: Global) -> Result<Kernel, AllocError>
+    ensures inputs { IfOk result (λ kernel. kernel.inputs ≡ 1) }
+    ensures outputs { IfOk result (λ kernel. kernel.outputs ≡ 1) }
+    ensures sizes { IfOk result (λ kernel. kernel.sizes ≡ 1) }
+{
+    let sum = Expr::binary(alloc, Op::Add, Expr::Variable(0), Expr::Number(1))?;
+    let inner = vec![in alloc;
+        Stmt::Load(0, Array::Input(0), Expr::LoopVariable(0)),
+        Stmt::Store(Array::Output(0), Expr::LoopVariable(0), sum),
+    ]?;
+    let body = vec![in alloc;
+        Stmt::Loop(Start::GlobalId, Expr::Size(0), Stride::GlobalSize, inner),
+    ]?;
+    Ok(Kernel {
+        inputs: 1,
+        outputs: 1,
+        sizes: 1,
+        locals: Vec::new(alloc),
+        privates: Vec::new(alloc),
+        variables: 1,
+        body,
+    })
+}
+
+/// `o0[0u] = 1u;`
+pub fn one_store(alloc: Global) -> Result<Kernel, AllocError>
+    ensures inputs { IfOk result (λ kernel. kernel.inputs ≡ 0) }
+    ensures outputs { IfOk result (λ kernel. kernel.outputs ≡ 1) }
+    ensures sizes { IfOk result (λ kernel. kernel.sizes ≡ 0) }
+{
+    let body = vec![in alloc; Stmt::Store(Array::Output(0), Expr::Number(0), Expr::Number(1))]?;
+    Ok(Kernel {
+        inputs: 0,
+        outputs: 1,
+        sizes: 0,
+        locals: Vec::new(alloc),
+        privates: Vec::new(alloc),
+        variables: 0,
+        body,
+    })
+}
+
+/// `for (i0 = local id; i0 < 1u; i0 += 1u) { barrier(local); }`
+pub fn a_barrier_for_some(alloc: Global) -> Result<Kernel, AllocError>
+    ensures inputs { IfOk result (λ kernel. kernel.inputs ≡ 0) }
+    ensures outputs { IfOk result (λ kernel. kernel.outputs ≡ 1) }
+    ensures sizes { IfOk result (λ kernel. kernel.sizes ≡ 0) }
+{
+    let inner = vec![in alloc;
+        Stmt::Barrier {
+            on_local: true,
+            on_global: false
+        },
+    ]?;
+    let body = vec![in alloc; Stmt::Loop(Start::LocalId, Expr::Number(1), Stride::One, inner)]?;
+    Ok(Kernel {
+        inputs: 0,
+        outputs: 1,
+        sizes: 0,
+        locals: Vec::new(alloc),
+        privates: Vec::new(alloc),
+        variables: 0,
+        body,
+    })
+}

@@ -1,6 +1,9 @@
-//! Tests of the device: kernels of the whole language, run by one work-item along schedules.
+//! Tests of the device: kernels of the whole language, run by one work-item and by many, along
+//! schedules.
 #![tactic(auto)]
 
+#[cfg(test)]
+mod items;
 #[cfg(test)]
 mod kernels;
 #[cfg(test)]

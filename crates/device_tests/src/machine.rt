@@ -62,7 +62,7 @@ fn start_sums(alloc: Global, words: &[u32]) -> Result<Machine, AllocError> {
 // Takes the first enabled event until there is none, and counts.
 fn run(machine: &mut Machine) -> u32 {
     for events in 0..10_000 {
-        if machine.finished() {
+        if machine.enabled() == 0 {
             return events;
         }
         let event = machine.nth_enabled(0);
@@ -78,13 +78,16 @@ fn leaves(machine: Machine, want: &[u32]) -> bool {
 
 // The next event is the first work-item's, and this is seen of it.
 fn sees(machine: &mut Machine, access: Option<Access>, fault: Option<Fault>) -> bool {
+    if machine.enabled() != 1 {
+        return false;
+    }
     let event = machine.nth_enabled(0);
     let want = Seen {
         event: Event::Step(0),
         access,
         fault,
     };
-    machine.enabled() == 1 && machine.step(event) == want
+    machine.step(event) == want
 }
 
 fn sums_are(alloc: Global, words: &[u32], want: &[u32], events: u32) -> Result<bool, AllocError> {

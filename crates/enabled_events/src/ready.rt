@@ -1,7 +1,7 @@
 //! Flags of work-items and work-groups, and the events that they enable.
 
-ghost use Rattle.std.specs.Prelude.{◌≡◌, ◌+◌, ◌*◌, ◌/◌, ◌^◌, ◌<◌, ◌≤◌, ℕ, Bool, false, Some, length, replicate, is_some, slice_get, slice_set, IfOk};
-ghost use Rattle.enabled_events.specs.Flags.{Counted};
+ghost use Rattle.std.specs.Prelude.{◌≡◌, ◌↔◌, ◌+◌, ◌-◌, ◌*◌, ◌/◌, ◌^◌, ◌<◌, ◌≤◌, ℕ, Bool, false, Some, length, replicate, is_some, slice_get, slice_index, slice_set, if◌then◌else◌, IfOk, IsTrue};
+ghost use Rattle.enabled_events.specs.Flags.{Counted, CountSteps, NoneSteps};
 ghost use Rattle.enabled_events.specs.Listed.{Flags, event_at, flagged_events};
 
 use count_tree::places::Places;
@@ -11,13 +11,15 @@ use std::alloc::{AllocError, Global};
 use std::marker::{Brand, Model};
 use std::sync::ledger::{Blank, Ledger};
 
-/// Which work-items have an event of their own, and which work-groups a release, counted in a tree.
+/// Which work-items have an event of their own, and which work-groups a release, counted in a tree;
+/// and how many items of each group have one.
 #[derive(Drop)]
 pub struct Ready {
     local: u32,
     items: Vec<bool>,
     groups: Vec<bool>,
     places: Places,
+    steps: Vec<u32>,
 }
 
 impl Model for Ready {
@@ -29,13 +31,13 @@ impl Model for Ready {
       groups = r.groups.items;
     } };
 
-    ghost invariant = { λ r. Counted r.local r.items.items r.groups.items r.places };
+    ghost invariant = { λ r. Counted r.local r.items.items r.groups.items r.places
+        × CountSteps r.local r.items.items r.groups.items r.steps.items };
 }
 
 impl Ready {
     /// Nothing is enabled yet, of so many work-items in groups of `local`. All memory is taken here.
     pub fn new(alloc: Global, items: u32, local: u32) -> Result<Ready, AllocError>
-        requires some { 0 < items }
         requires few { items ≤ 65536 }
         requires local { 0 < local }
         requires whole { items ≡ items / local * local }
@@ -50,7 +52,8 @@ impl Ready {
             local,
             items: vec![in alloc; false; items as usize]?,
             groups: vec![in alloc; false; groups as usize]?,
-            places: Places::new(alloc, items)?,
+            places: Places::new(alloc, items.max(1))?,
+            steps: vec![in alloc; 0u32; groups as usize]?,
         })
     }
 
@@ -84,6 +87,14 @@ impl Ready {
         nth_from::<Brand>(self, k, Blank::new(1))
     }
 
+    /// Whether no item of a group can step.
+    pub fn has_stopped(&self, group: u32) -> bool
+        requires { group < length self.now.groups }
+        ensures { IsTrue result ↔ NoneSteps self.now group }
+    {
+        self.steps[group as usize] == 0
+    }
+
     /// Whether an item can step from now on.
     pub fn set_item(&mut self, item: u32, steps: bool)
         requires { item < length self.old.items }
@@ -93,6 +104,8 @@ impl Ready {
           groups = self.old.groups;
         } }
     {
+        let group = (item / self.local) as usize;
+        self.steps[group] = recounted(self.steps[group], self.items[item as usize], steps);
         self.items[item as usize] = steps;
         let flag = stands(&self.items, &self.groups, self.local, item);
         self.places.set(item, flag);
@@ -123,6 +136,18 @@ fn nth_from<L: Ledger>(ready: &Ready, k: u32, blank: Blank) -> Event
 {
     let mut steps = Steps::<L>::new(blank);
     ready.nth_enabled_counted(k, &mut steps)
+}
+
+// The count of a group's items that step, after one of them is set.
+fn recounted(count: u32, before: bool, now: bool) -> u32
+    ensures { (if before then 1 else 0) ≤ count → count < 2 ^ 32 - 1
+        → result + (if before then 1 else 0) ≡ count + (if now then 1 else 0) }
+{
+    match (before, now) {
+        (true, false) => count.saturating_sub(1),
+        (false, true) => count.saturating_add(1),
+        _ => count,
+    }
 }
 
 // Whether an event stands at an item.

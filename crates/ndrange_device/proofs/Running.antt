@@ -19,7 +19,7 @@ use Rattle.kernel_tree.specs.Seen.{seen_of, fault_of}
 use Rattle.kernel_tree.proofs.Bound.{within_bound}
 use Rattle.kernel_tree.proofs.EveryRun.{no_failure-append, accesses-append}
 use Rattle.ndrange_machine.specs.declared.machine.Machine.{Machine}
-use Rattle.ndrange_machine.specs.Stands.{StandsFor, CountsEnabled, AreOutputs, state_after}
+use Rattle.ndrange_machine.specs.Stands.{StandsFor, CountsEnabled, enabled_count, AreOutputs, state_after}
 use Rattle.ndrange_machine.specs.Takes.{Took, Takes}
 use Rattle.ndrange_device.specs.declared.outcome.DeviceNo.{DeviceNo}
 use Rattle.ndrange_device.specs.declared.outcome.DeviceNo.TheVariants as no
@@ -37,6 +37,7 @@ pub record RunsAlong (schedule : Schedule) (k : Kernel) (l : Launch) (c : Cells)
   pub come : HasCome schedule events p
   pub counted : steps ≡ length events
   pub enabled : CountsEnabled (device_of k l c) (state_after k l c events) many
+  pub told : many ≡ enabled_count m
 
 among_place : (all : List Event) (i : ℕ) (e : Event) → slice_get all i ≡ Some e → Among e all
 among_place [] zero e h = cc
@@ -108,8 +109,8 @@ starts k l c = record {
 
 module _ (schedule : Schedule) (k : Kernel) (l : Launch) (c : Cells) where
   -- the start
-  pub runs_none : (m : Machine) (p : Progress) (steps enabled : ℕ) → StandsFor k l c m [] → HasCome schedule [] p → steps ≡ 0 → CountsEnabled (device_of k l c) (state_after k l c []) enabled → RunsAlong schedule k l c m p steps enabled
-  runs_none m p steps enabled st come counted counts = record {
+  pub runs_none : (m : Machine) (p : Progress) (steps enabled : ℕ) → StandsFor k l c m [] → HasCome schedule [] p → steps ≡ 0 → CountsEnabled (device_of k l c) (state_after k l c []) enabled → enabled ≡ enabled_count m → RunsAlong schedule k l c m p steps enabled
+  runs_none m p steps enabled st come counted counts told = record {
     events = [];
     stands = st;
     faultless = record { no_failure = tt; no_race = λ a b x y r. x; no_divergence = tt };
@@ -117,6 +118,7 @@ module _ (schedule : Schedule) (k : Kernel) (l : Launch) (c : Cells) where
     come = come;
     counted = counted;
     enabled = counts;
+    told = told;
   }
 
   -- no more events than the text allows
@@ -127,7 +129,7 @@ module _ (schedule : Schedule) (k : Kernel) (l : Launch) (c : Cells) where
       omega arith
 
   module _ (m : Machine) (p : Progress) (steps enabled number : ℕ) (h : RunsAlong schedule k l c m p steps enabled) (some : 0 < enabled) (number_is : number ≡ number_at schedule (length h.events)) (e : Event)
-      (nth : (es all : List Event) → StandsFor k l c m es → AreEnabled (device_of k l c) (state_after k l c es) all → number % enabled < length all → slice_get all (number % enabled) ≡ Some e) where
+      (nth : (es all : List Event) → StandsFor k l c m es → AreEnabled (device_of k l c) (state_after k l c es) all → slice_get all (number % enabled) ≡ Some e) where
     d : Device
     d = device_of k l c
 
@@ -137,11 +139,8 @@ module _ (schedule : Schedule) (k : Kernel) (l : Launch) (c : Cells) where
     count : enabled ≡ length h.enabled.0
     count = h.enabled.2
 
-    within : number % enabled < length h.enabled.0
-    within = let n = h.enabled.2 in omega arith
-
     chosen : slice_get h.enabled.0 (number % enabled) ≡ Some e
-    chosen = nth h.events h.enabled.0 h.stands h.enabled.1 within
+    chosen = nth h.events h.enabled.0 h.stands h.enabled.1
 
     pub chooses : Chooses schedule (length h.events) (device_of k l c) (state_after k l c h.events) e
     chooses = (h.enabled.0, h.enabled.1, ap (slice_get h.enabled.0) (ap (λ n. n % length h.enabled.0) (sym number_is) ∙ ap (λ n. number % n) (sym count)) ∙ chosen)
@@ -157,8 +156,8 @@ module _ (schedule : Schedule) (k : Kernel) (l : Launch) (c : Cells) where
       took = takes k l c h.events h.stands h.faultless is_enabled
 
       -- one event more
-      pub runs_on : (more : ℕ) → refusal_of e seen q.events ≡ None → ((es : List Event) → StandsFor k l c n es → CountsEnabled (device_of k l c) (state_after k l c es) more) → RunsAlong schedule k l c n q (steps + 1) more
-      runs_on more ok counts = record {
+      pub runs_on : (more : ℕ) → refusal_of e seen q.events ≡ None → ((es : List Event) → StandsFor k l c n es → CountsEnabled (device_of k l c) (state_after k l c es) more) → more ≡ enabled_count n → RunsAlong schedule k l c n q (steps + 1) more
+      runs_on more ok counts told = record {
         events = h.events ++ e ∷ [];
         stands = took.stands;
         faultless = faultless_on (device_of k l c) (start_state k c) h.events e h.faultless (no_fault took.tells.0 took.tells.1 (ap (λ z. z.fault) (sym took.tells.2) ∙ clean e refl));
@@ -166,6 +165,7 @@ module _ (schedule : Schedule) (k : Kernel) (l : Launch) (c : Cells) where
         come = came schedule h.events h.come;
         counted = (let a = h.counted in let b = length-append h.events (e ∷ []) in omega arith);
         enabled = counts (h.events ++ e ∷ []) took.stands;
+        told = told;
       }
         where
           clean : (x : Event) → e ≡ x → seen.fault ≡ None

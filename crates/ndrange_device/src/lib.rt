@@ -23,7 +23,7 @@ use std::marker::Brand;
 use std::sync::ledger::{Blank, Ledger};
 
 /// Runs a kernel: of the enabled events, in the order of the work-items, the schedule says which
-/// comes next, until there is none or one is a fault. So far it is for one work-item.
+/// comes next, until there is none or one is a fault.
 pub fn launch(
     alloc: Global,
     kernel: Kernel,
@@ -32,7 +32,6 @@ pub fn launch(
     schedule: &Schedule,
 ) -> Result<Outcome, DeviceNo>
     requires may_start { seen.MayStart (kernel_of kernel) launch cells }
-    requires one_item { launch.global ≡ 1 }
     ensures outcome { IfOk result (λ o. EndsUnder (schedule_of schedule.now) (kernel_of kernel)
         launch cells (map (λ row. row.items) o.outputs.items) o.events o.releases) }
     ensures refusal { IfErr result (Refuses (schedule_of schedule.now) (kernel_of kernel) launch cells) }
@@ -49,7 +48,6 @@ pub fn run_in_order(
     cells: Cells,
 ) -> Result<Outcome, DeviceNo>
     requires may_start { seen.MayStart (kernel_of kernel) launch cells }
-    requires one_item { launch.global ≡ 1 }
     ensures outcome { IfOk result (λ o. EndsUnder in_order (kernel_of kernel)
         launch cells (map (λ row. row.items) o.outputs.items) o.events o.releases) }
     ensures refusal { IfErr result (Refuses in_order (kernel_of kernel) launch cells) }
@@ -71,7 +69,6 @@ fn follow<L: Ledger>(
     requires parts { blank.parts ≡ L.parts }
     requires some { 0 < blank.parts }
     requires may_start { seen.MayStart (kernel_of kernel) launch cells }
-    requires one_item { launch.global ≡ 1 }
     ensures outcome { IfOk result (λ o. EndsUnder (schedule_of schedule.now) (kernel_of kernel)
         launch cells (map (λ row. row.items) o.outputs.items) o.events o.releases) }
     ensures refusal { IfErr result (Refuses (schedule_of schedule.now) (kernel_of kernel) launch cells) }

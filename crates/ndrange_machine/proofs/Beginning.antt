@@ -6,7 +6,8 @@ use Rattle.std.proofs.lemmas.List.{append-nil, length-map, length-replicate}
 use Rattle.kernel_tree.specs.Code.{Array, Input, Output, Local, Private, Code, Kernel}
 use Rattle.kernel_tree.specs.Launch.{Launch, Cells, IsWhole, item_count, group_count}
 use Rattle.kernel_tree.specs.Item.{item}
-use Rattle.kernel_tree.specs.Device.{Cell, State, row, length_in, contents}
+use Rattle.kernel_tree.specs.Device.{Cell, State, row, device_of, start_state, length_in, contents}
+use Rattle.cell_marks.specs.Marked.{MarksTell}
 use Rattle.ndrange_machine.specs.declared.machine.Machine.{Machine}
 use Rattle.ndrange_machine.specs.Changes.{start_view}
 use Rattle.ndrange_machine.specs.ItemView.{ItemView}
@@ -14,6 +15,10 @@ use Rattle.ndrange_machine.specs.Memory.{held, held_at, homes, cell_in, rows_at,
 use Rattle.ndrange_machine.specs.Lines.{lines_at, size, depth, IsAt}
 use Rattle.ndrange_machine.specs.Wants.{text_of}
 use Rattle.ndrange_machine.specs.Stands.{HoldsItem, Holds, StandsFor, AreOutputs}
+use Rattle.ndrange_machine.specs.Takes.{SameCore}
+use Rattle.ndrange_machine.specs.Groups.{Begins}
+use Rattle.ndrange_machine.proofs.Stepping.{same_holds}
+use Rattle.ndrange_machine.proofs.Together.{alike_calm}
 use Rattle.ndrange_machine.proofs.Rows.{cell_is, is_some-get, get_is, index_is, same_bound, get_replicate, length_row, word_in_row}
 use Rattle.ndrange_machine.proofs.Cells.{Rows, no_cell}
 
@@ -74,24 +79,40 @@ module _ (k : Kernel) (l : Launch) (c : Cells) (m : Machine) (ins : rows_of m.me
       by_array (Local a) h = words_are m.memory.locals.items (group_count l) c.rest k.locals locals d.home a d.index x h
       by_array (Private a) h = words_are m.memory.privates.items (item_count l) c.rest k.privates privates d.home a d.index x h
 
-  pub begun : IsWhole l → map text_of m.lines.items ≡ lines_at 0 k.code → m.launch ≡ l → m.items.items ≡ replicate (item_count l) (start_view (depth k.code) k.variables c.rest) → StandsFor k l c m []
-  begun whole text launch items = record {
+  pub begun : IsWhole l → map text_of m.lines.items ≡ lines_at 0 k.code → m.launch ≡ l → m.items.items ≡ replicate (item_count l) (start_view (depth k.code) k.variables c.rest) → MarksTell (device_of k l c) (start_state k c) [] m.marks → (n : Machine) → SameCore m n → n.marks ≡ m.marks → Begins m n → StandsFor k l c n []
+  begun whole text launch items marks n core same begins = record {
     is_run = record { enabled = tt; none_after_fault = λ front last e. let n = ap length e in let a = length-append front (last ∷ []) in absurd (omega arith) };
-    holds = record {
-      text = text;
-      launch = launch;
-      whole = whole;
-      count = ap length items ∙ length-replicate (item_count l) (start_view (depth k.code) k.variables c.rest);
-      items = λ j it e. subst (λ v. HoldsItem (lines_at 0 k.code) v (item k.code [] (replicate k.variables c.rest))) (is j it e) (item_at_start k.code k.variables c.rest);
-      there = there;
-      cells = cells;
-      outs = sym (length-map m.memory.outs.items (λ r. r.items)) ∙ ap length outs;
-    };
-    vars = λ _ j it e. sym (ap (λ (v : ItemView). v.vars) (is j it e));
+    holds = same_holds k l c m n (start_state k c) core holds;
+    flags = begins k l c (start_state k c) holds;
+    vars = λ _ j it e. sym (ap (λ (v : ItemView). v.vars) (is j it (ap (λ z. slice_get z j) (sym core.items) ∙ e)));
+    marks = λ _. subst (MarksTell (device_of k l c) (start_state k c) []) (sym same) marks;
+    steady = λ _ v. alike_calm (device_of k l c) (start_state k c) v.0 whole (λ j q. (refl, refl)) v.1;
   }
     where
       is : (j : ℕ) (it : ItemView) → slice_get m.items.items j ≡ Some it → start_view (depth k.code) k.variables c.rest ≡ it
       is j it e = get_replicate (item_count l) j (start_view (depth k.code) k.variables c.rest) it (ap (λ z. slice_get z j) (sym items) ∙ e)
+
+      holds : Holds k l c m (start_state k c)
+      holds = record {
+        text = text;
+        launch = launch;
+        whole = whole;
+        count = ap length items ∙ length-replicate (item_count l) (start_view (depth k.code) k.variables c.rest);
+        items = λ j it e. subst (λ v. HoldsItem (lines_at 0 k.code) v (item k.code [] (replicate k.variables c.rest))) (is j it e) (item_at_start k.code k.variables c.rest);
+        there = there;
+        cells = cells;
+        outs = sym (length-map m.memory.outs.items (λ r. r.items)) ∙ ap length outs;
+      }
+
+-- the lengths of rows
+pub lengths_are : (rows : List (Vec ℕ Global)) (cs : List (List ℕ)) → rows_of rows ≡ cs → (a : ℕ) → slice_index (map (λ (r : Vec ℕ Global). length r.items) rows) a ≡ length (row cs a)
+lengths_are rows cs e a = by_row rows a ∙ ap (λ z. length (row z a)) e
+  where
+    by_row : (rs : List (Vec ℕ Global)) (n : ℕ) → slice_index (map (λ (r : Vec ℕ Global). length r.items) rs) n ≡ length (row (rows_of rs) n)
+    by_row [] zero = refl
+    by_row [] (suc n) = refl
+    by_row (r ∷ rs) zero = refl
+    by_row (r ∷ rs) (suc n) = by_row rs n
 
 module _ (k : Kernel) (l : Launch) (c : Cells) (m : Machine) (s : State) (h : Holds k l c m s) where
   same_length : (a : ℕ) → length (row (rows_of m.memory.outs.items) a) ≡ length (row c.outs a)

@@ -49,16 +49,20 @@ passes_none m first = record {
   launch = refl;
   count = refl;
   memory = refl;
+  marks = refl;
+  ready = refl;
   items = λ i. ap (λ b. if b then option_map (past m i) (slice_get m.items.items i) else slice_get m.items.items i) (sym (⊎_elim (λ lt. below first first i lt) (λ le. above first first i le) (cases_lt i first)));
 }
 
 -- an item that waits
-pub passes_one : (m n : Machine) (j to : ℕ) (p q : Bool) → IsWanted m j (Waits p q to) → takes.Changes m n j Keeps to → n.memory ≡ m.memory → Passes m n j (j + 1)
-passes_one m n j to p q w cs mem = record {
+pub passes_one : (m n : Machine) (j to : ℕ) (p q : Bool) → IsWanted m j (Waits p q to) → takes.Changes m n j Keeps to → n.memory ≡ m.memory → n.marks ≡ m.marks → n.ready ≡ m.ready → Passes m n j (j + 1)
+passes_one m n j to p q w cs mem marks ready = record {
   lines = cs.lines;
   launch = cs.launch;
   count = cs.count;
   memory = mem;
+  marks = marks;
+  ready = ready;
   items = λ i. cs.items i ∙ by_test i (i == j) refl ∙ ap (λ b. if b then option_map (past m i) (slice_get m.items.items i) else slice_get m.items.items i) (sym (one_within j i));
 }
   where
@@ -82,6 +86,8 @@ passes_not m j v w stays = record {
   launch = refl;
   count = refl;
   memory = refl;
+  marks = refl;
+  ready = refl;
   items = λ i. by_test i (i == j) refl ∙ ap (λ b. if b then option_map (past m i) (slice_get m.items.items i) else slice_get m.items.items i) (sym (one_within j i));
 }
   where
@@ -105,6 +111,8 @@ passes_more m a b first i le h g = record {
   launch = g.launch ∙ h.launch;
   count = g.count ∙ h.count;
   memory = g.memory ∙ h.memory;
+  marks = g.marks ∙ h.marks;
+  ready = g.ready ∙ h.ready;
   items = by_place;
 }
   where

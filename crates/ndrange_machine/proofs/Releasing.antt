@@ -1,5 +1,5 @@
 -- The machine after the release of a group.
-use Rattle.std.proofs.Common.{◌≡◌, ℕ, ◌+◌, ◌*◌, ◌/◌, ◌^◌, ◌<◌, ◌≤◌, suc, List, length, Option, Some, None, Bool, true, false, refl, sym, ap, ◌∙◌, subst, ⊎_elim, arith}
+use Rattle.std.proofs.Common.{◌≡◌, ℕ, ◌+◌, ◌*◌, ◌/◌, ◌^◌, ◌<◌, ◌≤◌, suc, List, [], ◌∷◌, ◌++◌, length, Option, Some, None, Bool, true, false, refl, sym, ap, ◌∙◌, subst, ⊎_elim, arith}
 use Rattle.std.specs.Prelude.{map, is_some, slice_get, option_map, nat_le, nat_lt, ◌&&◌, if◌then◌else◌}
 use Rattle.std.proofs.lemmas.Bool.{cases_lt, lt-ltb, le-leb, ltb-true, leb-true, cases_Bool}
 use Rattle.std.proofs.lemmas.Bool.Decides.{eqb_tells}
@@ -8,9 +8,14 @@ use Rattle.kernel_tree.specs.declared.events.Event.{Event}
 use Rattle.kernel_tree.specs.declared.events.Event.TheVariants.{Release}
 use Rattle.kernel_tree.specs.Code.{Kernel}
 use Rattle.kernel_tree.specs.Launch.{Launch, Cells, IsWhole, group_count, group_of, first_item, ids_of}
-use Rattle.kernel_tree.specs.Item.{Item, Wants}
-use Rattle.kernel_tree.specs.Device.{Memory, State, device_of, start_state, wants, Enabled, taken, after}
-use Rattle.kernel_tree.specs.Faults.{accesses_of, failure_of, RacesAfter, IsFaultless}
+use Rattle.kernel_tree.specs.Item.{Item, Wants, Waits}
+use Rattle.kernel_tree.proofs.Grouping.{first_of_group, first_in_launch}
+use Rattle.enabled_events.specs.Listed.{AreFlags}
+use Rattle.cell_marks.specs.Marked.{MarksTell}
+use Rattle.ndrange_machine.specs.Groups.{Refreshed, Refreshes, MarksRelease}
+use Rattle.ndrange_machine.specs.Sights.{seen_as}
+use Rattle.kernel_tree.specs.Device.{Memory, State, still, device_of, start_state, wants, Enabled, taken, has_flag, after}
+use Rattle.kernel_tree.specs.Faults.{accesses_of, failure_of, RacesAfter, SomeDiverges, IsFaultless}
 use Rattle.ndrange_machine.specs.declared.machine.Machine.{Machine}
 use Rattle.ndrange_machine.specs.declared.want.Want.{Want}
 use Rattle.ndrange_machine.specs.declared.want.Want.TheVariants as want
@@ -21,10 +26,12 @@ use Rattle.ndrange_machine.specs.Lines.{Line}
 use Rattle.ndrange_machine.specs.Memory.{held}
 use Rattle.ndrange_machine.specs.Wants.{text_of, wanted}
 use Rattle.ndrange_machine.specs.Stands.{HoldsItem, Holds, StandsFor, state_after}
-use Rattle.ndrange_machine.specs.Takes.{Took, Passes, past, past_want}
+use Rattle.ndrange_machine.specs.Takes.{Took, IsWanted, SameCore, Passes, past, past_want}
 use Rattle.ndrange_machine.proofs.Next.{IsNext, Stands}
-use Rattle.ndrange_machine.proofs.Standing.{IsWaiting, here, stand_waits, one_there, alone_there, only_group}
-use Rattle.ndrange_machine.proofs.Stepping.{stands_on, no_divergence_here}
+use Rattle.ndrange_machine.proofs.Standing.{here, its_item}
+use Rattle.ndrange_machine.proofs.Waiting.{IsWaiting, stand_waits}
+use Rattle.ndrange_machine.proofs.Together.{alike_calm, taken_alike, calm_after, refreshed}
+use Rattle.ndrange_machine.proofs.Stepping.{stands_on, same_holds}
 
 -- past a barrier, if it stands there
 passes_by : (lines : List Line) (l : Launch) (j : ℕ) (it : ItemView) (v : Want) (w : Wants) (m : Memory) (y : Item) → IsNext lines it v w → IsWaiting w → Stands lines (past_want it v) (taken l j w m y)
@@ -34,6 +41,15 @@ passes_by lines l j it (want.Fails kind) w m y h waits = absurd (subst IsWaiting
 passes_by lines l j it (want.Changes c to) w m y h waits = absurd (subst IsWaiting h.1 waits)
 passes_by lines l j it (want.Reads v a i to) w m y h waits = absurd (subst IsWaiting h.1 waits)
 passes_by lines l j it (want.Writes a i x to) w m y h waits = absurd (subst IsWaiting h.1 waits)
+
+-- what an item wants that waits
+waiting_want : (lines : List Line) (it : ItemView) (v : Want) (w : Wants) → IsNext lines it v w → IsWaiting w → (p : Bool) × (q : Bool) × (to : ℕ) × (v ≡ want.Waits p q to) × (x : Item) × (w ≡ Waits p q x)
+waiting_want lines it want.Ends w h waits = absurd (subst IsWaiting h.0 waits)
+waiting_want lines it (want.Waits p q to) w h waits = (p, q, to, refl, h.0, h.1)
+waiting_want lines it (want.Fails kind) w h waits = absurd (subst IsWaiting h.0 waits)
+waiting_want lines it (want.Changes c to) w h waits = absurd (subst IsWaiting h.1 waits)
+waiting_want lines it (want.Reads v a i to) w h waits = absurd (subst IsWaiting h.1 waits)
+waiting_want lines it (want.Writes a i x to) w h waits = absurd (subst IsWaiting h.1 waits)
 
 -- the items of a group, by their numbers
 module _ (l : Launch) (whole : IsWhole l) (g : ℕ) where
@@ -121,17 +137,59 @@ module _ (k : Kernel) (l : Launch) (c : Cells) (m : Machine) (es : List Event) (
   unfolding accesses_of
   no_race h = h.3
 
-  pub took_release : Took k l c es (Release g) n (record { event = Release g; access = None; fault = None })
-  took_release = record {
-    stands = stands_on k l c m es st clean (Release g) en n holds_later (λ _ i x e. (stands_later i x e).vars);
-    tells = (None, (no_failure, no_race, no_divergence_here k l c m es st clean (Release g) en), refl);
-  }
+  waits_at_first : IsWaiting (wants (device_of k l c) now (first_item l g))
+  waits_at_first = stand_waits _ _ (en.1 (first_item l g) (first_of_group l st.holds.whole g))
 
--- a group of one lies in the words
-pub small_group : (k : Kernel) (l : Launch) (c : Cells) (m : Machine) (s : State) → Holds k l c m s → (g : ℕ) → g < group_count l → g * m.launch.local + m.launch.local < 2 ^ 32
-small_group k l c m s h g lt =
-    let one = one_there k l c m s h in
-    let alone = alone_there k l c m s h in
-    let g_is : g ≡ 0 = only_group (device_of k l c) s one alone g lt in
-    let local_is : m.launch.local ≡ 1 = ap (λ z. z.local) h.launch ∙ alone in
-    subst (λ n. n * m.launch.local + m.launch.local < 2 ^ 32) (sym g_is) (omega arith)
+  -- all of the group have the same left to do
+  alike_later : (j : ℕ) → group_of l j ≡ g → ((later.items (first_item l g)).code ≡ (later.items j).code) × (map still (later.items (first_item l g)).frames ≡ map still (later.items j).frames)
+  alike_later j q =
+      let first = moved_later (first_item l g) (first_of_group l st.holds.whole g) in
+      let other = moved_later j q in
+      let same = taken_alike l (first_item l g) j (wants (device_of k l c) now (first_item l g)) (wants (device_of k l c) now j) now.memory (now.items (first_item l g)) (now.items j) (en.1 j q) in
+      (ap (λ (x : Item). x.code) first ∙ same.0 ∙ ap (λ (x : Item). x.code) (sym other), ap (λ (x : Item). map still x.frames) first ∙ same.1 ∙ ap (λ (x : Item). map still x.frames) (sym other))
+
+  calm : SomeDiverges (device_of k l c) later → ⊥
+  calm = calm_after (device_of k l c) now (Release g) st.holds.whole (st.steady clean) (alike_calm (device_of k l c) later g st.holds.whole alike_later)
+
+  -- the machine with its marks, and then its flags
+  module _ (want_now : Want) (w : IsWanted m (g * m.launch.local) want_now) (a z : Machine) (core1 : SameCore n a) (ready1 : a.ready ≡ n.ready) (told : MarksRelease n a g want_now) (core2 : SameCore a z) (marks2 : z.marks ≡ a.marks) (told2 : Refreshes a z g) where
+    abbrev first : ℕ
+    first = first_item l g
+
+    first_is : g * m.launch.local ≡ first_item l g
+    first_is = ap (λ (x : Launch). g * x.local) st.holds.launch
+
+    its : (it : ItemView) × (slice_get m.items.items (first_item l g) ≡ Some it)
+    its = its_item k l c m now st.holds (first_item l g) (first_in_launch l st.holds.whole g en.0)
+
+    next_first : IsNext (map text_of m.lines.items) its.0 want_now (wants (device_of k l c) now (first_item l g))
+    next_first =
+        subst (λ v. IsNext (map text_of m.lines.items) its.0 v (wants (device_of k l c) now (first_item l g))) (sym (w its.0 (ap (slice_get m.items.items) first_is ∙ its.1) ∙ ap (λ x. wanted m.lines.items (ids_of m.launch x) its.0) first_is))
+        (here k l c m now st.holds (first_item l g) its.0 its.1 (st.vars clean.no_failure (first_item l g) its.0 its.1))
+
+    marks_later : MarksTell (device_of k l c) (start_state k c) (es ++ Release g ∷ []) z.marks
+    marks_later =
+        let b = waiting_want (map text_of m.lines.items) its.0 want_now (wants (device_of k l c) now (first_item l g)) next_first waits_at_first in
+        subst (MarksTell (device_of k l c) (start_state k c) (es ++ Release g ∷ [])) (sym marks2)
+        (told b.0 b.1 b.2 b.3 (device_of k l c) (start_state k c) es (subst (MarksTell (device_of k l c) (start_state k c) es) (sym ps.marks) (st.marks clean)) (λ f. ap (λ x. has_flag x f) b.5))
+
+    holds_marked : Holds k l c a later
+    holds_marked = same_holds k l c n a later core1 holds_later
+
+    holds_end : Holds k l c z later
+    holds_end = same_holds k l c a z later core2 holds_marked
+
+    flags_later : AreFlags (device_of k l c) later z.ready
+    flags_later =
+        refreshed (device_of k l c) st.holds.whole now g m.ready z.ready st.flags
+        (z.ready_local ∙ ap (λ (x : Launch). x.local) (holds_end.launch ∙ sym st.holds.launch) ∙ sym m.ready_local)
+        (z.ready_items ∙ ap (λ (x : Launch). x.global) (holds_end.launch ∙ sym st.holds.launch) ∙ sym m.ready_items)
+        (subst (λ v. Refreshed (device_of k l c) later g v z.ready) (ready1 ∙ ps.ready) (told2 k l c later holds_marked))
+
+    pub took_release : Took k l c es (Release g) z (seen_as (Release g) None None)
+    took_release = record {
+      stands = stands_on k l c m es st clean (Release g) en z holds_end flags_later
+          (λ _ i x e. (stands_later i x (ap (λ v. slice_get v i) (sym (core2.items ∙ core1.items)) ∙ e)).vars)
+          (λ _ _. marks_later);
+      tells = (None, (no_failure, no_race, calm), refl);
+    }

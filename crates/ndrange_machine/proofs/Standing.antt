@@ -1,6 +1,6 @@
 -- What the machine tells of the state that it holds: which events are enabled, and whether all items have ended.
 use Rattle.std.proofs.Common.{◌≡◌, ℕ, ◌+◌, ◌*◌, ◌/◌, ◌^◌, ◌<◌, ◌≤◌, zero, suc, List, [], ◌∷◌, length, Option, Some, None, Bool, true, false, refl, sym, ap, ◌∙◌, subst, ⊎_elim, inl, inr, arith, ◌⊎◌, ◌↔◌}
-use Rattle.std.specs.Prelude.{map, slice_get, slice_index_or, nat_lt, if◌then◌else◌, IsTrue}
+use Rattle.std.specs.Prelude.{map, not, slice_get, slice_index_or, nat_lt, if◌then◌else◌, IsTrue}
 use Rattle.std.proofs.lemmas.List.{length-map}
 use Rattle.std.proofs.lemmas.Bool.{cases_lt}
 use Rattle.kernel_tree.specs.declared.events.Event.{Event}
@@ -20,20 +20,20 @@ use Rattle.ndrange_machine.specs.declared.line.Line.TheVariants as line
 use Rattle.ndrange_machine.specs.declared.machine.Machine.{Machine}
 use Rattle.ndrange_machine.specs.declared.item.Change.TheVariants as change
 use Rattle.ndrange_machine.specs.declared.turn.Turn.{Turn}
-use Rattle.ndrange_machine.specs.Known.{variables}
+use Rattle.ndrange_machine.specs.Known.{variables, numbers}
 use Rattle.ndrange_machine.specs.declared.want.Want.{Want}
 use Rattle.ndrange_machine.specs.declared.want.Want.TheVariants as want
 use Rattle.ndrange_machine.specs.ItemView.{ItemView}
-use Rattle.ndrange_machine.specs.Lines.{Line}
+use Rattle.ndrange_machine.specs.Lines.{Line, lines_at, IsAt}
 use Rattle.ndrange_machine.specs.Stands.{HoldsItem, Holds, CountsEnabled}
-use Rattle.ndrange_machine.specs.Takes.{is_barrier, IsAtBarrier}
+use Rattle.ndrange_machine.specs.Groups.{SamePlace, AllOver, TellsTogether, TellsEnded}
+use Rattle.ndrange_machine.specs.Takes.{is_barrier, is_going, IsAtBarrier, IsGoing}
 use Rattle.ndrange_machine.specs.Wants.{text_of, turn_after, want_if, want_in, want_last, want_back, last_of, wanted}
 use Rattle.ndrange_machine.proofs.Next.{IsNext, next_is}
+use Rattle.ndrange_machine.proofs.Waiting.{IsWaiting, steps_or_not, not_both, stand_waits}
+use Rattle.ndrange_machine.proofs.Parsing.{same_rest, same_place}
+use Rattle.ndrange_machine.proofs.Together.{first_waits, rest_together, together_rest}
 use Rattle.ndrange_machine.proofs.Rows.{get_there, get_within, get_or_is}
-
-abbrev pub IsWaiting : Wants → Type 0
-IsWaiting (Waits p q x) = Unit {0}
-IsWaiting _ = ⊥
 
 abbrev pub is_waiting : Want → Bool
 is_waiting (want.Waits p q to) = true
@@ -197,175 +197,55 @@ module _ (k : Kernel) (l : Launch) (c : Cells) (m : Machine) (s : State) (h : Ho
     λ all. refl,
   )
 
--- an item steps, waits or has ended
-steps_or_not : (w : Wants) → CanStep w ⊎ (IsWaiting w ⊎ (w ≡ Ends))
-steps_or_not Ends = inr (inr refl)
-steps_or_not (Waits p q x) = inr (inl tt)
-steps_or_not (Moves x) = inl tt
-steps_or_not (Reads a n f) = inl tt
-steps_or_not (Writes a n v x) = inl tt
-steps_or_not (Fails f) = inl tt
-
-not_both : (w : Wants) → CanStep w → IsWaiting w → ⊥
-not_both (Waits p q x) a b = a
-not_both Ends a b = a
-not_both (Moves x) a b = b
-not_both (Reads x n f) a b = b
-not_both (Writes x n v y) a b = b
-not_both (Fails f) a b = b
-
-alone_together : (w : Wants) → IsWaiting w → StandTogether w w
-alone_together Ends h = absurd h
-alone_together (Waits p q x) h = (refl, refl, refl, refl)
-alone_together (Moves x) h = absurd h
-alone_together (Reads a n f) h = absurd h
-alone_together (Writes a n v x) h = absurd h
-alone_together (Fails f) h = absurd h
-
-together_waits : (w : Wants) → StandTogether w w → IsWaiting w
-together_waits Ends h = absurd h
-together_waits (Waits p q x) h = tt
-together_waits (Moves x) h = absurd h
-together_waits (Reads a n f) h = absurd h
-together_waits (Writes a n v x) h = absurd h
-together_waits (Fails f) h = absurd h
-
-pub stand_waits : (v w : Wants) → StandTogether v w → IsWaiting w
-stand_waits (Waits p q x) (Waits a b y) h = tt
-stand_waits (Waits p q x) Ends h = absurd h
-stand_waits (Waits p q x) (Moves y) h = absurd h
-stand_waits (Waits p q x) (Reads a n f) h = absurd h
-stand_waits (Waits p q x) (Writes a n v y) h = absurd h
-stand_waits (Waits p q x) (Fails f) h = absurd h
-stand_waits Ends w h = absurd h
-stand_waits (Moves x) w h = absurd h
-stand_waits (Reads a n f) w h = absurd h
-stand_waits (Writes a n v x) w h = absurd h
-stand_waits (Fails f) w h = absurd h
-
--- One work-item
-
-divides_one : (q n : ℕ) → 0 < n → 1 ≡ q * n → n ≡ 1
-divides_one zero n p e = absurd (omega arith)
-divides_one (suc q) n p e = omega arith
-
-pub local_is : (l : Launch) → IsWhole l → l.global ≡ 1 → l.local ≡ 1
-local_is l w one = divides_one (l.global / l.local) l.local w.positive (sym one ∙ w.divides)
-
-module _ (d : Device) (s : State) (one : d.launch.global ≡ 1) (alone : d.launch.local ≡ 1) where
-  pub only_group : (g : ℕ) → g < group_count d.launch → g ≡ 0
-  only_group g lt = let e : group_count d.launch ≡ 1 = ap (λ n. n / d.launch.local) one ∙ ap (λ n. 1 / n) alone in omega arith
-
-  its_group : (j : ℕ) → group_of d.launch j ≡ j
-  its_group j = ap (λ n. j / n) alone ∙ omega arith
-
-  -- a group of one doesn't diverge
-  pub no_divergence : SomeDiverges d s → ⊥
-  no_divergence v =
-      let g = only_group v.0 v.1.within in
-      let at : (j : ℕ) → group_of d.launch j ≡ v.0 → j ≡ 0 = λ j q. sym (its_group j) ∙ q ∙ g in
-      ⊎_elim
-      (λ go. v.1.stopped 0 (its_group 0 ∙ sym g) go)
-      (⊎_elim
-      (λ waits. v.1.not_together (λ j q. let e : j ≡ 0 = at j q in let f : first_item d.launch v.0 ≡ 0 = ap (λ n. n * d.launch.local) g ∙ omega arith in subst (λ i. StandTogether (wants d s (first_item d.launch v.0)) (wants d s i)) (sym e) (subst (λ i. StandTogether (wants d s i) (wants d s 0)) (sym f) (alone_together (wants d s 0) waits))))
-      (λ end. v.1.not_ended (λ j q. subst (λ i. wants d s i ≡ Ends) (sym (at j q)) end)))
-      (steps_or_not (wants d s 0))
-
-  -- the one item steps or its group is released
-  only_event : (e : Event) → Enabled d s e → ((e ≡ Step 0) × CanStep (wants d s 0)) ⊎ ((e ≡ Release 0) × IsWaiting (wants d s 0))
-  only_event (Step j) en = let lt = en.0 in let e : j ≡ 0 = omega arith in inl (ap Step e, subst (λ i. CanStep (wants d s i)) e en.1)
-  only_event (Release g) en =
-      let e = only_group g en.0 in
-      let f : first_item d.launch g ≡ 0 = ap (λ n. n * d.launch.local) e ∙ omega arith in
-      inr (ap Release e, together_waits (wants d s 0) (subst (λ j. StandTogether (wants d s j) (wants d s 0)) f (en.1 0 (its_group 0 ∙ sym e))))
-
-  place_is : (e : Event) → Enabled d s e → place_of d.launch e ≡ 0
-  place_is e en = ⊎_elim (λ a. ap (place_of d.launch) a.0) (λ a. ap (place_of d.launch) a.0 ∙ omega arith) (only_event e en)
-
-  none_enabled : wants d s 0 ≡ Ends → AreEnabled d s []
-  none_enabled end = record {
-    enabled = λ e a. absurd a;
-    all = λ e en. ⊎_elim (λ a. subst CanStep end a.1) (λ a. subst IsWaiting end a.1) (only_event e en);
-    ordered = λ n lt. absurd (omega arith);
-  }
-
-  step_enabled : CanStep (wants d s 0) → AreEnabled d s (Step 0 ∷ [])
-  step_enabled go = record {
-    enabled = λ e a. ⊎_elim (λ q. let lt : 0 < d.launch.global = omega arith in subst (Enabled d s) (sym q) (lt, go)) (λ z. absurd z) a;
-    all = λ e en. ⊎_elim (λ a. inl a.0) (λ a. absurd (not_both (wants d s 0) go a.1)) (only_event e en);
-    ordered = λ n lt. absurd (omega arith);
-  }
-
-  release_enabled : IsWaiting (wants d s 0) → AreEnabled d s (Release 0 ∷ [])
-  release_enabled waits = record {
-    enabled = λ e a. ⊎_elim (λ q. subst (Enabled d s) (sym q) (some, λ j r. subst (λ i. StandTogether (wants d s i) (wants d s j)) (sym first) (subst (λ i. StandTogether (wants d s 0) (wants d s i)) (sym (sym (its_group j) ∙ r)) (alone_together (wants d s 0) waits)))) (λ z. absurd z) a;
-    all = λ e en. ⊎_elim (λ a. absurd (not_both (wants d s 0) a.1 waits)) (λ a. inl a.0) (only_event e en);
-    ordered = λ n lt. absurd (omega arith);
-  }
+-- where the state that it holds lets an item step
+module _ (k : Kernel) (l : Launch) (c : Cells) (m : Machine) (s : State) (h : Holds k l c m s) (j : ℕ) where
+  pub going_is : (b : Bool) → IsGoing m j b → (it : ItemView) → slice_get m.items.items j ≡ Some it → IsTrue b ↔ CanStep (wants (device_of k l c) s j)
+  going_is b told it e = by_line (slice_get m.lines.items it.line) refl
     where
-      some : 0 < group_count d.launch
-      some = let e : group_count d.launch ≡ 1 = ap (λ n. n / d.launch.local) one ∙ ap (λ n. 1 / n) alone in omega arith
+      w : Wants
+      w = wants (device_of k l c) s j
 
-      first : first_item d.launch 0 ≡ 0
-      first = omega arith
+      is : b ≡ is_going (slice_get m.lines.items it.line)
+      is = told it e
 
-  all_ended : wants d s 0 ≡ Ends → AllEnded d s
-  all_ended end j lt = let e : j ≡ 0 = omega arith in subst (λ i. wants d s i ≡ Ends) (sym e) end
+      steps : is_barrier (slice_get m.lines.items it.line) ≡ false → it.line < length m.lines.items → CanStep (wants (device_of k l c) s j)
+      steps off lt = ⊎_elim (λ can. can) (⊎_elim (λ x. absurd (waits_nowhere k l c m s h j it e off x)) (λ x. absurd (goes_on k l c m s h j it e lt x))) (steps_or_not (wants (device_of k l c) s j))
 
-  pub counted : (b : Bool) → (IsTrue b ↔ AllEnded d s) → CountsEnabled d s (if b then 0 else 1)
-  counted true h = ([], none_enabled (h.0 refl 0 (omega arith)), refl)
-  counted false h =
-      ⊎_elim
-      (λ go. (Step 0 ∷ [], step_enabled go, refl))
-      (⊎_elim
-      (λ waits. (Release 0 ∷ [], release_enabled waits, refl))
-      (λ end. let e : false ≡ true = h.1 (all_ended end) in cc))
-      (steps_or_not (wants d s 0))
+      by_line : (o : Option held.Line) → slice_get m.lines.items it.line ≡ o → IsTrue b ↔ CanStep (wants (device_of k l c) s j)
+      by_line None q = (
+        λ t. absurd (let both : true ≡ false = sym t ∙ is ∙ ap is_going q in let n : ⊥ = cc in n),
+        λ can. absurd (subst CanStep (ended_there k l c m s h j it e (⊎_elim (λ lt. let there = get_there m.lines.items it.line lt in let both : None ≡ Some there.0 = sym q ∙ there.1 in absurd (cc)) (λ le. le) (cases_lt it.line (length m.lines.items)))) can),
+      )
+      by_line (Some line) q = (
+        λ t. steps (by_not (is_barrier (Some line)) (sym (ap is_going q) ∙ sym is ∙ t) (ap is_barrier q)) (get_within m.lines.items it.line line q),
+        λ can. is ∙ ap is_going q ∙ on_not (is_barrier (Some line)) (λ t. not_both (wants (device_of k l c) s j) can (waits_there k l c m s h j it e (ap is_barrier q ∙ t))),
+      )
+        where
+          by_not : (x : Bool) → not x ≡ true → is_barrier (slice_get m.lines.items it.line) ≡ x → is_barrier (slice_get m.lines.items it.line) ≡ false
+          by_not true n z = cc
+          by_not false n z = z
 
-  pub at_most_one : (all : List Event) → AreEnabled d s all → length all ≤ 1
-  at_most_one [] a = omega arith
-  at_most_one (e ∷ []) a = omega arith
-  at_most_one (e ∷ f ∷ rest) a =
-      let low = a.ordered 0 (omega arith) in
-      let p = place_is e (a.enabled e (inl refl)) in
-      let q = place_is f (a.enabled f (inr (inl refl))) in
-      absurd (omega arith)
+          on_not : (x : Bool) → (x ≡ true → ⊥) → not x ≡ true
+          on_not true n = absurd (n refl)
+          on_not false n = refl
 
-  pub nth_is : (b : Bool) → (b ≡ true → IsWaiting (wants d s 0)) → (b ≡ false → IsWaiting (wants d s 0) → ⊥) → (all : List Event) → AreEnabled d s all → (n : ℕ) → n < length all → slice_get all n ≡ Some (if b then Release n else Step n)
-  nth_is b if_true if_false [] a n lt = absurd (omega arith)
-  nth_is b if_true if_false (e ∷ []) a zero lt = ap Some (⊎_elim (λ q. q.0 ∙ steps b if_true q.1) (λ q. q.0 ∙ releases b if_false q.1) (only_event e (a.enabled e (inl refl))))
-    where
-      steps : (t : Bool) → (t ≡ true → IsWaiting (wants d s 0)) → CanStep (wants d s 0) → Step 0 ≡ (if t then Release 0 else Step 0)
-      steps true y go = absurd (not_both (wants d s 0) go (y refl))
-      steps false y go = refl
+-- two items of one group
+module _ (k : Kernel) (l : Launch) (c : Cells) (m : Machine) (s : State) (h : Holds k l c m s) (i j : ℕ) (a b : ItemView) (at : slice_get m.items.items i ≡ Some a) (bt : slice_get m.items.items j ≡ Some b) where
+  pub stand_if : SamePlace a b → is_barrier (slice_get m.lines.items a.line) ≡ true → StandTogether (wants (device_of k l c) s i) (wants (device_of k l c) s j)
+  stand_if same barrier =
+      let x = h.items i a at in
+      let y = h.items j b bt in
+      let rest = same_rest (lines_at 0 k.code) a.line (s.items i) (s.items j) x.place (subst (λ n. IsAt (lines_at 0 k.code) n (s.items j)) (sym same.0) y.place) (ap numbers (sym x.turns) ∙ same.1 ∙ ap numbers y.turns) in
+      rest_together (s.items i) (s.items j) (ids_of l i) (ids_of l j) rest.0 rest.1 (waits_there k l c m s h i a at barrier)
 
-      releases : (t : Bool) → (t ≡ false → IsWaiting (wants d s 0) → ⊥) → IsWaiting (wants d s 0) → Release 0 ≡ (if t then Release 0 else Step 0)
-      releases true n waits = refl
-      releases false n waits = absurd (n refl waits)
-  nth_is b if_true if_false (e ∷ []) a (suc n) lt = absurd (omega arith)
-  nth_is b if_true if_false (e ∷ f ∷ rest) a n lt = let few = at_most_one (e ∷ f ∷ rest) a in absurd (omega arith)
-
--- what the machine of one work-item tells
-module _ (k : Kernel) (l : Launch) (c : Cells) (m : Machine) (s : State) (h : Holds k l c m s) where
-  pub one_there : l.global ≡ 1
-  one_there = ap (λ z. z.global) (sym h.launch) ∙ m.one_item
-
-  pub alone_there : l.local ≡ 1
-  alone_there = local_is l h.whole one_there
-
-  -- the event of the number n, if the item of that number stands at a barrier or not
-  pub event_is : (n : ℕ) (b : Bool) → IsAtBarrier m n b → (all : List Event) → AreEnabled (device_of k l c) s all → n < length all → slice_get all n ≡ Some (if b then Release n else Step n)
-  event_is n b at all are lt =
-      nth_is (device_of k l c) s one_there alone_there b
-      (λ q. waits_there k l c m s h 0 first.0 first.1 (sym told ∙ q))
-      (λ q. waits_nowhere k l c m s h 0 first.0 first.1 (sym told ∙ q))
-      all are n lt
-    where
-      n_is : n ≡ 0
-      n_is = let few = at_most_one (device_of k l c) s one_there alone_there all are in omega arith
-
-      first : (it : ItemView) × (slice_get m.items.items 0 ≡ Some it)
-      first = let one = one_there in its_item k l c m s h 0 (omega arith)
-
-      told : b ≡ is_barrier (slice_get m.lines.items first.0.line)
-      told = at first.0 (ap (slice_get m.items.items) n_is ∙ first.1)
+  pub if_stand : StandTogether (wants (device_of k l c) s i) (wants (device_of k l c) s j) → SamePlace a b
+  if_stand t =
+      let x = h.items i a at in
+      let y = h.items j b bt in
+      let rest = together_rest (s.items i) (s.items j) (ids_of l i) (ids_of l j) t in
+      let same = length-map m.lines.items text_of in
+      let lines = ap length h.text in
+      let low : a.line < length m.lines.items = ⊎_elim (λ lt. lt) (λ le. absurd (subst IsWaiting (ended_there k l c m s h i a at le) (first_waits (wants (device_of k l c) s i) (wants (device_of k l c) s j) t))) (cases_lt a.line (length m.lines.items)) in
+      let high : b.line < length m.lines.items = ⊎_elim (λ lt. lt) (λ le. absurd (subst IsWaiting (ended_there k l c m s h j b bt le) (stand_waits (wants (device_of k l c) s i) (wants (device_of k l c) s j) t))) (cases_lt b.line (length m.lines.items)) in
+      let place = same_place (lines_at 0 k.code) a.line b.line (s.items i) (s.items j) x.place y.place (omega arith) (omega arith) rest.0 rest.1 in
+      (place.0, ap numbers x.turns ∙ place.1 ∙ ap numbers (sym y.turns))

@@ -26,3 +26,6 @@ turns_of (f ∷ fs) = turns_of fs ++ turn_of f ∷ []
 
 abbrev pub variables : List Turn → List ℕ
 variables turns = map (λ t. t.variable) turns
+
+abbrev pub numbers : List Turn → List ℕ
+numbers turns = map (λ t. t.number) turns

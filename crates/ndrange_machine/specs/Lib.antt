@@ -1,8 +1,10 @@
 pub mod Changes
+pub mod Groups
 pub mod ItemView
 pub mod Known
 pub mod Lines
 pub mod Memory
+pub mod Sights
 pub mod Stands
 pub mod Takes
 pub mod Wants

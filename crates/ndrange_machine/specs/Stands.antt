@@ -5,8 +5,10 @@ use Rattle.kernel_tree.specs.Code.{Array, Kernel, Output}
 use Rattle.kernel_tree.specs.Launch.{Launch, Cells, IsWhole, item_count}
 use Rattle.kernel_tree.specs.Item.{Item}
 use Rattle.kernel_tree.specs.Device.{Cell, Device, State, row, device_of, length_in, start_state, cell_at, run}
-use Rattle.kernel_tree.specs.Faults.{NoFailure, Run}
+use Rattle.kernel_tree.specs.Faults.{NoFailure, SomeDiverges, IsFaultless, Run}
 use Rattle.kernel_tree.specs.Schedule.{AreEnabled}
+use Rattle.enabled_events.specs.Listed.{AreFlags, flagged_events}
+use Rattle.cell_marks.specs.Marked.{MarksTell}
 use Rattle.ndrange_machine.specs.declared.machine.Machine.{Machine}
 use Rattle.ndrange_machine.specs.ItemView.{ItemView}
 use Rattle.ndrange_machine.specs.Known.{turns_of}
@@ -37,11 +39,18 @@ pub record Holds (k : Kernel) (l : Launch) (c : Cells) (m : Machine) (s : State)
   pub cells : (d : Cell) (x : ℕ) → held m.memory d ≡ Some x → s.memory d ≡ x
   pub outs : length m.memory.outs.items ≡ length c.outs
 
--- the machine stands for a run of the kernel on these cells. After an event that failed, which is the last of its run, it no longer has the private variables
+-- the machine stands for a run of the kernel on these cells. After an event that failed, which is the last of its run, it no longer has the private variables, and after a fault its marks count no more
 pub record StandsFor (k : Kernel) (l : Launch) (c : Cells) (m : Machine) (es : List Event) : Type 0 where
   pub is_run : Run (device_of k l c) (start_state k c) es
   pub holds : Holds k l c m (state_after k l c es)
+  pub flags : AreFlags (device_of k l c) (state_after k l c es) m.ready
   pub vars : NoFailure (device_of k l c) (start_state k c) es → (j : ℕ) (it : ItemView) → slice_get m.items.items j ≡ Some it → it.vars ≡ ((state_after k l c es).items j).vars
+  pub marks : IsFaultless (device_of k l c) (start_state k c) es → MarksTell (device_of k l c) (start_state k c) es m.marks
+  pub steady : IsFaultless (device_of k l c) (start_state k c) es → SomeDiverges (device_of k l c) (state_after k l c es) → ⊥
+
+-- how many events the machine has as enabled
+abbrev pub enabled_count : Machine → ℕ
+enabled_count m = length (flagged_events m.ready)
 
 -- as many events are enabled
 abbrev pub CountsEnabled : Device → State → ℕ → Type 0

@@ -1,5 +1,5 @@
 -- What a machine is and tells after an event.
-use Rattle.std.specs.Prelude.{◌≡◌, ℕ, Bool, true, false, Option, List, [], ◌∷◌, ◌++◌, length, Some, option_map, slice_get, nat_le, nat_lt, ◌==◌, ◌&&◌, if◌then◌else◌}
+use Rattle.std.specs.Prelude.{◌≡◌, ℕ, Bool, true, false, not, Option, List, [], ◌∷◌, ◌++◌, length, None, Some, option_map, slice_get, nat_le, nat_lt, ◌==◌, ◌&&◌, if◌then◌else◌}
 use Rattle.kernel_tree.specs.declared.events.Event.{Event}
 use Rattle.kernel_tree.specs.declared.events.Seen.{Seen}
 use Rattle.kernel_tree.specs.Code.{Kernel}
@@ -40,11 +40,26 @@ abbrev pub is_barrier : Option Line → Bool
 is_barrier (Some (Barrier on_local on_global)) = true
 is_barrier _ = false
 
+abbrev pub is_going : Option Line → Bool
+is_going None = false
+is_going (Some l) = not (is_barrier (Some l))
+
+-- whether the j-th work-item has neither ended nor stands at a barrier
+abbrev pub IsGoing : Machine → (j : ℕ) → Bool → Type 0
+IsGoing m j b = (it : ItemView) → slice_get m.items.items j ≡ Some it → b ≡ is_going (slice_get m.lines.items it.line)
+
 -- whether the j-th work-item stands at a barrier
 abbrev pub IsAtBarrier : Machine → (j : ℕ) → Bool → Type 0
 IsAtBarrier m j b = (it : ItemView) → slice_get m.items.items j ≡ Some it → b ≡ is_barrier (slice_get m.lines.items it.line)
 
--- the machine with one work-item changed, but for memory
+-- the same machine but for flags and marks
+pub record SameCore (m n : Machine) : Type 0 where
+  pub lines : n.lines ≡ m.lines
+  pub launch : n.launch ≡ m.launch
+  pub memory : n.memory ≡ m.memory
+  pub items : n.items.items ≡ m.items.items
+
+-- the machine with one work-item changed, but for memory, flags and marks
 pub record Changes (m n : Machine) (j : ℕ) (c : Change) (line : ℕ) : Type 0 where
   pub lines : n.lines.items ≡ m.lines.items
   pub launch : n.launch ≡ m.launch
@@ -65,4 +80,6 @@ pub record Passes (m n : Machine) (first end : ℕ) : Type 0 where
   pub launch : n.launch ≡ m.launch
   pub count : length n.items.items ≡ length m.items.items
   pub memory : n.memory ≡ m.memory
+  pub marks : n.marks ≡ m.marks
+  pub ready : n.ready ≡ m.ready
   pub items : (i : ℕ) → slice_get n.items.items i ≡ (if nat_le first i && nat_lt i end then option_map (past m i) (slice_get m.items.items i) else slice_get m.items.items i)

@@ -1,13 +1,14 @@
 //! A work-item of the machine.
 
-ghost use Rattle.std.specs.Prelude.{◌≡◌, ℕ, IfOk, replicate, length, ◌≤◌};
+ghost use Rattle.std.specs.Prelude.{◌≡◌, ◌↔◌, ℕ, IfOk, IsTrue, replicate, length, ◌≤◌};
+ghost use Rattle.ndrange_machine.specs.Groups.{SamePlace};
 ghost use Rattle.ndrange_machine.specs.Changes.{changed, start_view};
 ghost use Rattle.ndrange_machine.specs.Known.{known};
 ghost use Rattle.ndrange_machine.specs.Wants.{wanted};
 
 use crate::ids::Ids;
 use crate::line::Line;
-use crate::turn::Turn;
+use crate::turn::{Turn, same_numbers};
 use crate::want::{Want, want_at};
 use std::alloc::{AllocError, Global};
 use std::marker::Model;
@@ -68,6 +69,13 @@ impl Item {
         ensures { result ≡ self.now.line }
     {
         self.line
+    }
+
+    /// Whether it stands where the other does, in turns of the same numbers.
+    pub fn stands_with(&self, other: &Item) -> bool
+        ensures { IsTrue result ↔ SamePlace self.now other.now }
+    {
+        self.line == other.line && same_numbers(&self.turns, &other.turns)
     }
 
     /// What it wants, where it knows this.

@@ -1,6 +1,7 @@
 //! Turns of loops.
 
-ghost use Rattle.std.specs.Prelude.{◌≡◌, ◌+◌, ◌%◌, ◌^◌};
+ghost use Rattle.std.specs.Prelude.{◌≡◌, ◌↔◌, ◌+◌, ◌%◌, ◌^◌, IsTrue};
+ghost use Rattle.ndrange_machine.specs.Known.{numbers};
 
 /// A turn of a loop: its number, from 0, and the loop variable's value.
 #[derive(Clone, Copy, PartialEq, Eq)]
@@ -29,4 +30,19 @@ impl Turn {
             variable,
         }
     }
+}
+
+/// Whether the turns have the same numbers.
+pub fn same_numbers(turns: &[Turn], others: &[Turn]) -> bool
+    ensures { IsTrue result ↔ numbers turns.now ≡ numbers others.now }
+{
+    if turns.len() != others.len() {
+        return false;
+    }
+    for i in 0..turns.len() {
+        if turns[i].number != others[i].number {
+            return false;
+        }
+    }
+    true
 }

@@ -11,7 +11,7 @@ loop-enabled-init g c =
     let l = c.args.launch in
     let b = c.args.cells in
     let stands = c.in_ok-machine.ensures in
-    runs_none (schedule_of c.args.schedule.now) k l b c.in_ok-machine.machine c.start-progress.result c.new-steps.result c.enabled-enabled.result stands c.start-progress.ensures c.new-steps.ensures (c.enabled-enabled.ensures k l b [] stands)
+    runs_none (schedule_of c.args.schedule.now) k l b c.in_ok-machine.machine c.start-progress.result c.new-steps.result c.enabled-enabled.result stands c.start-progress.ensures c.new-steps.ensures (c.enabled-enabled.ensures.counts k l b [] stands) c.enabled-enabled.ensures.number
 
 pub loop-enabled-preserved : goal.loop-enabled-preserved
 loop-enabled-preserved g c =
@@ -23,10 +23,10 @@ loop-enabled-preserved g c =
     let more = c.enabled-enabled-in-loop-enabled.result in
     subst (λ s. RunsAlong schedule k l b c.step-seen.new.self c.count.new.self s more) (sym c.tick.ensures)
     (runs_on schedule k l b c.loop-enabled.machine c.loop-enabled.progress c.loop-enabled.steps c.loop-enabled.enabled c.number.result h c.loop-enabled-test.true (c.number.ensures h.events h.come) c.nth_enabled-event.result
-    (λ es all stands are lt. c.nth_enabled-event.ensures k l b es all stands are lt)
+    (λ es all stands are. c.nth_enabled-event.ensures k l b es all stands are)
     c.step-seen.new.self c.step-seen.result c.step-seen.ensures.takes c.step-seen.ensures.release c.count.new.self c.count.ensures more
     (sym c.refusal.ensures ∙ c.in_default.is)
-    (λ es stands. c.enabled-enabled-in-loop-enabled.ensures k l b es stands))
+    (λ es stands. c.enabled-enabled-in-loop-enabled.ensures.counts k l b es stands) c.enabled-enabled-in-loop-enabled.ensures.number)
 
 pub loop-enabled-smaller : goal.loop-enabled-smaller
 loop-enabled-smaller g c =
@@ -42,7 +42,7 @@ returns-in-Some-clause-refusal g c =
     let b = c.args.cells in
     let h = c.loop-enabled.invariant in
     refuses (schedule_of c.args.schedule.now) k l b c.loop-enabled.machine c.loop-enabled.progress c.loop-enabled.steps c.loop-enabled.enabled c.number.result h c.loop-enabled-test.true (c.number.ensures h.events h.come) c.nth_enabled-event.result
-    (λ es all stands are lt. c.nth_enabled-event.ensures k l b es all stands are lt)
+    (λ es all stands are. c.nth_enabled-event.ensures k l b es all stands are)
     c.step-seen.new.self c.step-seen.result c.step-seen.ensures.takes c.step-seen.ensures.release c.count.new.self c.count.ensures c.in-Some.no
     (sym c.refusal.ensures ∙ c.in-Some.is)
 
@@ -53,3 +53,9 @@ returns-clause-outcome g c =
     let b = c.args.cells in
     ends_under (schedule_of c.args.schedule.now) k l b c.loop-enabled.machine c.loop-enabled.progress c.loop-enabled.steps c.loop-enabled.enabled _ c.loop-enabled.invariant c.loop-enabled-test.false
     (λ es stands. c.outputs.ensures k l b es stands)
+
+pub nth_enabled-event-requires : goal.nth_enabled-event-requires
+nth_enabled-event-requires g c =
+    let some = c.loop-enabled-test.true in
+    let told = c.loop-enabled.invariant.told in
+    omega arith

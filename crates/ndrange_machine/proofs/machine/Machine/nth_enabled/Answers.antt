@@ -1,14 +1,13 @@
-use Rattle.std.proofs.Common.{true, false, subst}
-use Rattle.ndrange_machine.specs.Takes.{IsAtBarrier}
-use Rattle.ndrange_machine.proofs.Standing.{event_is}
+use Rattle.std.proofs.Common.{ap, ◌∙◌}
+use Rattle.std.specs.Prelude.{slice_get}
+use Rattle.kernel_tree.specs.Device.{device_of}
+use Rattle.kernel_tree.proofs.Scheduled.{one_list}
+use Rattle.enabled_events.specs.Listed.{flagged_events}
+use Rattle.enabled_events.proofs.Listed.{enabled_list}
+use Rattle.ndrange_machine.specs.Stands.{state_after}
 use Rattle.ndrange_machine.proofs.machine.Machine.nth_enabled.Goals as goal
 
-pub returns-then-is_at_barrier : goal.returns-then-is_at_barrier
-returns-then-is_at_barrier c = λ k l d es all st are lt.
-    let m = c.args.self.now in
-    event_is k l d m _ st.holds c.args.k true (subst (IsAtBarrier m c.args.k) c.if-is_at_barrier.true c.is_at_barrier.ensures) all are lt
-
-pub returns-else-is_at_barrier : goal.returns-else-is_at_barrier
-returns-else-is_at_barrier c = λ k l d es all st are lt.
-    let m = c.args.self.now in
-    event_is k l d m _ st.holds c.args.k false (subst (IsAtBarrier m c.args.k) c.if-is_at_barrier.false c.is_at_barrier.ensures) all are lt
+pub returns : goal.returns
+returns c = λ k l d es all st are.
+    let v = c.args.self.now.ready in
+    ap (λ z. slice_get z c.args.k) (one_list (device_of k l d) (state_after k l d es) all (flagged_events v) are (enabled_list (device_of k l d) (state_after k l d es) v st.holds.whole st.flags)) ∙ c.nth_enabled.ensures

@@ -1,22 +1,10 @@
-use Rattle.std.proofs.Common.{◌≡◌, ◌+◌, ◌*◌, ◌<◌, ◌^◌, subst, arith}
-use Rattle.ndrange_machine.specs.Takes.{Passes}
-use Rattle.ndrange_machine.proofs.Passing.{passes_none, passes_more}
+use Rattle.std.proofs.Common.{subst}
+use Rattle.ndrange_machine.specs.Takes.{IsWanted, Passes}
+use Rattle.ndrange_machine.proofs.Releasing.{took_release}
 use Rattle.ndrange_machine.proofs.machine.Machine.release.Goals as goal
 
-pub loop-item-init : goal.loop-item-init
-loop-item-init c = passes_none c.args.self.now _
-
-pub loop-item-preserved : goal.loop-item-preserved
-loop-item-preserved c = passes_more c.args.self.now c.loop-item.self c.pass.new.self _ c.loop-item.item c.loop-item.auto.item c.loop-item.invariant c.pass.ensures
-
 pub returns : goal.returns
-returns c =
+returns c = λ k l d es st clean en.
     let m = c.args.self.now in
-    let n = c.loop-item.self in
-    let g = c.args.group in
-    subst (λ local. g * local + local < 2 ^ 32 → Passes m n (g * local) (g * local + local)) c.local_size-local.ensures
-    (λ lt.
-    let local = c.local_size-local.result in
-    let first : c.saturating_mul-first.result ≡ g * local = omega arith in
-    let end : c.loop-item.item ≡ g * local + local = omega arith in
-    subst (λ a. Passes m n a (g * local + local)) first (subst (Passes m n c.saturating_mul-first.result) end c.loop-item.invariant))
+    took_release k l d m es st clean c.args.group en c.pass_group.new.self c.pass_group.ensures c.want-want.result (subst (λ j. IsWanted m j c.want-want.result) c.first_of.ensures c.want-want.ensures)
+    c.release_marks.new.self c.refresh.new.self c.release_marks.ensures.core c.release_marks.ensures.ready c.release_marks.ensures.marks c.refresh.ensures.core c.refresh.ensures.marks c.refresh.ensures.flags

@@ -1,0 +1,3 @@
+pub mod Marked
+pub mod Rows
+pub mod Tracked

@@ -1,0 +1,18 @@
+use Rattle.std.proofs.Common.{◌≤◌, arith}
+use Rattle.ndrange_machine.proofs.Settling.{begun_none, begun_more, begins}
+use Rattle.ndrange_machine.proofs.machine.Machine.begin.Goals as goal
+
+pub loop-group-init : goal.loop-group-init
+loop-group-init c = begun_none c.args.self.now
+
+pub loop-group-preserved : goal.loop-group-preserved
+loop-group-preserved c = begun_more c.args.self.now c.loop-group.self c.refresh.new.self c.loop-group.group c.loop-group.invariant c.refresh.ensures.core c.refresh.ensures.marks c.refresh.ensures.flags
+
+pub returns-clause-core : goal.returns-clause-core
+returns-clause-core c = c.loop-group.invariant.core
+
+pub returns-clause-marks : goal.returns-clause-marks
+returns-clause-marks c = c.loop-group.invariant.marks
+
+pub returns-clause-flags : goal.returns-clause-flags
+returns-clause-flags c = begins c.args.self.now c.loop-group.self c.loop-group.group c.loop-group.invariant (let e = c.group_count-group-end.ensures in let far = c.loop-group-test.false in omega arith)

@@ -1,5 +1,0 @@
-use Rattle.ndrange_machine.specs.Takes.{Passes}
-use Rattle.ndrange_machine.proofs.machine.Machine.release.Given as goal
-
-abbrev pub invariant-loop-item : goal.invariant-loop-item
-invariant-loop-item l = Passes l.initial.self l.self l.first l.item
