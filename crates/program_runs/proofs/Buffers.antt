@@ -1,5 +1,5 @@
 -- The inputs in their buffers.
-use Rattle.std.proofs.Common.{◌≡◌, ◌∙◌, ◌++◌, ◌-◌, ◌≤◌, ℕ, List, [], ◌∷◌, append_assoc, append-nil, ap, ap₂, arith, drop, get_or, length, map, refl, subst, sym, take}
+use Rattle.std.proofs.Common.{◌≡◌, ◌∙◌, ◌++◌, ◌-◌, ◌≤◌, ◌<◌, ℕ, List, [], ◌∷◌, append_assoc, append-nil, ap, ap₂, arith, drop, get_or, length, map, refl, subst, sym, take}
 use Rattle.std.proofs.lemmas.List.{take_rest}
 use Rattle.size_arith.specs.declared.names.Name.{Name}
 use Rattle.lift_tree.specs.Launches.{buffers_of, lists_of}
@@ -37,15 +37,18 @@ first_and_rest law names inputs values i v some more old once whole one rest =
     ∙ ap₂ (λ (is : List Input) (vs : List Val). old ++ held names is vs) (sym (cut inputs i some)) (sym (cut values v more))
 
 -- where either list is empty, nothing is held
-pub none_held : (names : List Name) (inputs : List Input) (values : List Val) (old : List (List ℕ)) → length inputs ≡ 0 → old ≡ old ++ held names inputs values
+pub none_held : (names : List Name) (inputs : List Input) (values : List Val) (old : List (List ℕ)) → length inputs < 1 → old ≡ old ++ held names inputs values
 none_held names [] values old h = sym (append-nil old)
 none_held names (i ∷ is) values old h = absurd (omega (arith, h))
 
-pub none_held_of_values : (names : List Name) (inputs : List Input) (values : List Val) (old : List (List ℕ)) → length values ≡ 0 → old ≡ old ++ held names inputs values
+pub none_held_of_values : (names : List Name) (inputs : List Input) (values : List Val) (old : List (List ℕ)) → length values < 1 → old ≡ old ++ held names inputs values
 none_held_of_values names [] values old h = sym (append-nil old)
 none_held_of_values names (i ∷ is) [] old h = sym (append-nil old)
 none_held_of_values names (i ∷ is) (v ∷ vs) old h = absurd (omega (arith, h))
 
+-- what may be held where the lists of inputs or values end
+pub ruleset holding = (none_held, none_held_of_values)
+
 -- from no lists on, they are what the buffers hold
-pub held_first : {L : Type 0} {f : L → List ℕ} (names : List Name) (old new : List L) (is js : List Input) (vs ws : List Val) → old ≡ [] → is ≡ js → vs ≡ ws → map f new ≡ map f old ++ held names is vs → map f new ≡ held names js ws
-held_first {f = f} names old new is js vs ws none inputs values h = h ∙ ap (λ ls. map f ls ++ held names is vs) none ∙ ap₂ (held names) inputs values
+pub held_first : {L : Type 0} (f : L → List ℕ) (names : List Name) (old new : List L) (is js : List Input) (vs ws : List Val) → old ≡ [] → is ≡ js → vs ≡ ws → map f new ≡ map f old ++ held names is vs → map f new ≡ held names js ws
+held_first f names old new is js vs ws none inputs values h = h ∙ ap (λ ls. map f ls ++ held names is vs) none ∙ ap₂ (held names) inputs values

@@ -20,6 +20,7 @@ use value_lists::laws::ways_are_components;
 use value_lists::{add_lists, blank_lists};
 
 // Adds the lists of the inputs' values.
+#[tactic(auto, using(crate::proofs::Buffers::holding))]
 fn add_inputs(
     alloc: Global,
     inputs: &[Input],

@@ -26,5 +26,5 @@ blank_lists-requires-clause-few c =
 pub returns : goal.returns
 returns c =
     let names = map range_of c.args.compiled.now.program.sizes.items in
-    let made = held_first names _ _ _ _ _ _ c.new-ins.ensures.items c.deref.ensures.value c.deref-2.ensures.value (c.in_ok-add_inputs.ensures names) in
+    let made = held_first _ names _ _ _ _ _ _ c.new-ins.ensures.items c.deref.ensures.value c.deref-2.ensures.value (c.in_ok-add_inputs.ensures names) in
     λ i. record { ins = made i; outs = c.in_ok-outs.ensures i; rest = 0 }

@@ -23,5 +23,5 @@ returns c =
       run = c.in_ok-outcome.ensures.run;
       written = h ∙ ∥∥₁_elim compiled.text_for (Prim.hlevel props) (λ t.
           value_told (program_of compiled.program) (ty_of compiled.output) compiled.is_task compiled.text.items (given_by c.args.file.now) c.values_have_their_types.ensures c.requires t
-          c.lists_hold_one_value.ensures _ _ _ c.in_ok-outcome.ensures.left (cc (c.in_ok-value.ensures, c.deref.ensures.value)));
+          c.lists_hold_one_value.ensures _ _ (Some (c.in_ok-outcome.outcome.events, c.in_ok-outcome.outcome.releases)) c.in_ok-outcome.ensures.left (cc (c.in_ok-value.ensures, c.deref.ensures.value)));
     }) c.result_text.ensures
