@@ -1,5 +1,5 @@
 -- What is compiled of the last term of a program and a script.
-use Rattle.std.proofs.Common.{◌≡◌, ◌∙◌, ◌≤◌, List, ℕ, [], ◌∷◌, Ok, Result, Bool, true, ap, length, map, subst, sym, inl, inr, refl, arith}
+use Rattle.std.proofs.Common.{◌≡◌, ◌∙◌, List, ℕ, [], Ok, Bool, true, ap, length, map, subst, sym, inl, inr}
 use Rattle.kernel_tree.specs.Code.{Kernel}
 use Rattle.kernel_tree.specs.KernelText.{IsKernelText}
 use Rattle.kernel_tree.specs.Launch.{Launch, Cells}
@@ -19,7 +19,7 @@ use Rattle.printed_form.specs.Programs.{AreBuffersOf, IsLaunchOf, PrintedProgram
 use Rattle.rewriting.specs.Keeps.{Keeps}
 use Rattle.strategy_script.specs.Steps.{State, state_of}
 use Rattle.fault_lines.specs.declared.refusal.Refusal.{Refusal}
-use Rattle.program_source.specs.Program.{IsRead, OnProgram, StopsFor, source_value}
+use Rattle.program_source.specs.Program.{OnProgram, StopsFor, source_value}
 use Rattle.program_source.specs.SourceTerms.{IsLastTerm}
 use Rattle.program_source.specs.Terms.{TermsOf}
 use Rattle.program_source.proofs.FewNodes.{few_inputs}
@@ -85,13 +85,14 @@ compiled_found program script t output task text k start keep same alone last co
     })
 
 -- what a type keeps of it
-pub text_for : (program script : List ℕ) (t : Typed) (output : PlainTy) (text : List ℕ) (k : Kernel) → PrintedProgramsStart → PrintedProgramsKeep → output ≡ type_in (annotation_of t.types)
-    → IsLastTerm program script t → CanBeLaidOut (program_of t.program) (type_in (annotation_of t.types)) → IsPrintable (declared_by (program_of t.program)) (tree_of t.term) (annotation_of t.types)
+pub text_for : (program script : List ℕ) (t : Typed) (output : PlainTy) (task : Bool) (text : List ℕ) (k : Kernel) → PrintedProgramsStart → PrintedProgramsKeep → output ≡ type_in (annotation_of t.types)
+    → is_task (tree_of t.term) ≡ task → IsLastTerm program script t → CanBeLaidOut (program_of t.program) (type_in (annotation_of t.types)) → IsPrintable (declared_by (program_of t.program)) (tree_of t.term) (annotation_of t.types)
     → PrintsAtAll (program_of t.program) (state_of t) k → IsKernelText text k → is_task (tree_of t.term) ≡ true
-    → IsTextFor (program_of t.program) output (is_task (tree_of t.term)) text
-text_for program script t output text k start keep same last laid_out printable prints written alone =
+    → IsTextFor (program_of t.program) output task text
+text_for program script t output task text k start keep same told last laid_out printable prints written alone =
     let p = program_of t.program in
-    subst (λ (a : PlainTy). IsTextFor p a (is_task (tree_of t.term)) text) (sym same)
+    subst (λ (b : Bool). IsTextFor p output b text) told
+    (subst (λ (a : PlainTy). IsTextFor p a (is_task (tree_of t.term)) text) (sym same)
     (record {
       typed = last.output;
       laid_out = laid_out;
@@ -100,7 +101,7 @@ text_for program script t output text k start keep same last laid_out printable 
       starts = starts p (state_of t) k printable last.term.keeps prints start;
       leaves = leaves p (type_in (annotation_of t.types)) (state_of t) k (meets p (state_of t) k printable last.term.keeps prints keep);
       alone = alone;
-    })
+    }))
 
 -- what stops the terms stops what is compiled of them
 pub terms_first : (text script : List ℕ) (why : Refusal) → StopsFor (OnProgram text (λ p. TermsOf p script)) why → StopsFor (OnProgram text (λ p. LegalOf p script)) why

@@ -1,5 +1,5 @@
 -- The kernel that is emitted for a legal term.
-use Rattle.std.proofs.Common.{◌≡◌, ◌∙◌, ◌+◌, ◌*◌, ◌<◌, ◌≤◌, ◌^◌, ◌++◌, ◌∷◌, ℕ, List, [], Bool, true, false, cond, Option, None, Some, inl, inr, refl, sym, ap, ap₂, subst, arith, pos, negsuc, ℤ, ◌≤ℤ◌, ◌⊎◌}
+use Rattle.std.proofs.Common.{◌≡◌, ◌+◌, ◌*◌, ◌<◌, ◌≤◌, ◌^◌, ◌++◌, ◌∷◌, ℕ, List, [], Bool, true, false, cond, Option, None, Some, inl, inr, refl, sym, ap, ap₂, subst, arith, pos, negsuc, ℤ, ◌≤ℤ◌, ◌⊎◌}
 use Rattle.std.specs.Prelude.{if◌then◌else◌, nat_abs, nat_lt}
 use Rattle.std.proofs.lemmas.Bool.{ltb-false}
 use Rattle.std.proofs.lemmas.Int.{ints}

@@ -1,5 +1,5 @@
 -- Compiling comes to one end.
-use Rattle.std.proofs.Common.{◌≡◌, ◌∙◌, ℕ, List, [], ◌∷◌, ap, sym, refl, Result, Ok, Err}
+use Rattle.std.proofs.Common.{◌∙◌, ℕ, List, ap, sym, refl, Ok, Err}
 use Rattle.std.proofs.lemmas.Option.{none-some, same_Some}
 use Rattle.lift_tree.specs.Programs.{PlainProgram}
 use Rattle.strategy_script.specs.Steps.{State}
@@ -7,7 +7,7 @@ use Rattle.lowered_tree.specs.Nest.{LegalWithoutFault}
 use Rattle.thread_mapping.specs.declared.judging.NestNo.TheVariants as nests
 use Rattle.buffer_allocation.specs.declared.buffers.AllocNo.TheVariants as allocations
 use Rattle.fault_lines.specs.declared.refusal.Refusal.TheVariants as told
-use Rattle.program_source.specs.Stages.{As, Gives, IsOne, Then}
+use Rattle.program_source.specs.Stages.{As, IsOne, Then}
 use Rattle.program_source.specs.Terms.{LastOf, TermsOf}
 use Rattle.program_source.proofs.Once.{as_one, gives_one, last_one, terms_one, then_one}
 use Rattle.compilation.specs.Legal.{BuffersOf, CompilesTerm, LegalOf, NestOf, PrintedOf}

@@ -1,5 +1,5 @@
 //! The kernel of a last term.
-ghost use Rattle.std.specs.Prelude.{◌≡◌, IfErr, IfOk, Ok, true};
+ghost use Rattle.std.specs.Prelude.{◌≡◌, ◌<◌, ◌^◌, IfErr, IfOk, Ok, true};
 ghost use Rattle.lift_tree.specs.Annotations.{annotation_of, type_in};
 ghost use Rattle.lift_tree.specs.Programs.{program_of};
 ghost use Rattle.lift_tree.specs.Tree.{tree_of};
@@ -27,6 +27,13 @@ use printable_terms::laws::{kernels_are_in_the_grammar, terms_are_printed};
 use sound_parts::laws::{least_sizes_are_admissible, terms_have_sound_parts};
 use sound_parts::words::forms_have_words;
 use std::alloc::Global;
+
+// Outputs have numbers of 32 bits.
+fn has_few_outputs(kernel: &Kernel)
+    ensures { (kernel_of kernel.now).outputs < 2 ^ 32 }
+{
+    let _count = kernel.outputs;
+}
 
 /// The kernel of a last term, printed for it at each admissible launch. `Nest`, `Unprinted` and
 /// `Alloc` come in this order, for the first rule, node or limit.
@@ -56,5 +63,7 @@ pub fn compiled_kernel(alloc: Global, last: &Typed) -> Result<Kernel, Refusal>
     let mapped = mapped(alloc, last)?;
     judge_printed(alloc, &mapped, last)?;
     let lowered = buffered(alloc, mapped, last)?;
-    Ok(emit(alloc, &lowered)?)
+    let kernel = emit(alloc, &lowered)?;
+    has_few_outputs(&kernel);
+    Ok(kernel)
 }

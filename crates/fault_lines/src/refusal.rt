@@ -204,7 +204,7 @@ fn report_step<E: Sink>(err: &mut E, no: StepNo)
 }
 
 // Writes which rule of the nest is broken, and where.
-fn report_place<E: Sink>(err: &mut E, rule: &[u8], place: &Place)
+fn report_place<E: Sink>(err: &mut E, rule: &'static [u8], place: &Place)
     ensures { TakesLine (E.taken err.old) (E.taken err.new)
         (Rose (E.faults err.old) (E.faults err.new)) (nest_line rule.now place.now) }
 {

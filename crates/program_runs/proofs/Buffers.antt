@@ -1,10 +1,10 @@
 -- The inputs in their buffers.
-use Rattle.std.proofs.Common.{◌≡◌, ◌∙◌, ◌++◌, ◌-◌, ◌≤◌, ◌<◌, ℕ, List, [], ◌∷◌, append_assoc, append-nil, ap, ap₂, arith, drop, get_or, length, map, refl, subst, sym, take}
+use Rattle.std.proofs.Common.{◌≡◌, ◌∙◌, ◌++◌, ◌-◌, ◌≤◌, ◌<◌, ℕ, List, [], ◌∷◌, append_assoc, append-nil, ap, ap₂, arith, drop, get_or, length, map, sym, take}
 use Rattle.std.proofs.lemmas.List.{take_rest}
 use Rattle.size_arith.specs.declared.names.Name.{Name}
 use Rattle.lift_tree.specs.Launches.{buffers_of, lists_of}
 use Rattle.lift_tree.specs.Programs.{input_of}
-use Rattle.lift_tree.specs.Values.{Value, list_of, value_of}
+use Rattle.lift_tree.specs.Values.{list_of, value_of}
 use Rattle.lift_tree.specs.InputTypes.{written_of}
 use Rattle.lift_tree.specs.WorkedOut.{worked_out}
 use Rattle.lift_tree.specs.declared.program.Input.{Input}

@@ -1,13 +1,11 @@
 -- Values laid out in lists.
-use Rattle.std.proofs.Common.{◌≡◌, ◌∙◌, ◌++◌, ◌<◌, ◌≤◌, ◌+◌, ◌*◌, ℕ, zero, suc, List, [], ◌∷◌, length, map, replicate, refl, sym, ap, ap₂, arith, append_assoc, append-nil}
+use Rattle.std.proofs.Common.{◌≡◌, ◌∙◌, ◌<◌, ◌≤◌, ◌*◌, ℕ, zero, suc, List, [], ◌∷◌, length, map, replicate, refl, sym, ap, ap₂, arith}
 use Rattle.std.specs.Prelude.{slice_index}
 use Rattle.std.proofs.Props.{props}
 use Rattle.std.proofs.lemmas.List.{length-map, length-replicate}
 use Rattle.std.proofs.lemmas.Grind.{same_number_lists}
-use Rattle.size_arith.specs.declared.names.Name.{Name}
 use Rattle.kernel_tree.specs.Device.{row}
-use Rattle.lift_tree.specs.Launches.{buffers_of, lists_of}
-use Rattle.lift_tree.specs.Programs.{input_of}
+use Rattle.lift_tree.specs.Launches.{lists_of}
 use Rattle.lift_tree.specs.Types.{PlainTy, U32, PairOf, ArrayOf, HoldsElements, IsElement}
 use Rattle.lift_tree.specs.Limits.{components}
 use Rattle.lift_tree.specs.Values.{Value, list_of}

@@ -1,5 +1,5 @@
 -- Runs and evaluations come to one end.
-use Rattle.std.proofs.Common.{◌≡◌, ◌∙◌, ℕ, List, ap, sym, inl, inr, Result, Ok, Err}
+use Rattle.std.proofs.Common.{◌∙◌, ℕ, List, ap, sym, inl, inr, Ok, Err}
 use Rattle.std.proofs.lemmas.Option.{same_Some}
 use Rattle.lift_reader.specs.ProgramText.{ProgramsMayBeTyped}
 use Rattle.lift_tree.specs.Limits.{HasProperInputs}

@@ -1,5 +1,5 @@
 -- The run of a compiled kernel at what a launch file gives.
-use Rattle.std.proofs.Common.{◌≡◌, ◌∙◌, ◌<◌, ◌≤◌, Bool, true, false, ℕ, List, [], ◌∷◌, ◌++◌, length, map, replicate, refl, sym, ap, subst, arith, Option, Result, Ok, Err}
+use Rattle.std.proofs.Common.{◌≡◌, ◌∙◌, Bool, true, false, ℕ, List, [], ◌∷◌, ◌++◌, length, map, replicate, refl, sym, ap, subst, arith, Option, Result, Ok, Err}
 use Rattle.std.specs.Prelude.{IfOk}
 use Rattle.kernel_tree.specs.declared.events.Event.{Event}
 use Rattle.kernel_tree.specs.declared.events.Seen.{Seen}
@@ -19,7 +19,7 @@ use Rattle.launch_file.specs.ResultLine.{result_line}
 use Rattle.lift_tree.specs.Launches.{lists_of}
 use Rattle.lift_tree.specs.Programs.{PlainProgram}
 use Rattle.lift_tree.specs.Types.{PlainTy, HasType}
-use Rattle.lift_tree.specs.Typing.{IsAdmissible, ValuesHaveTypes, declared_by}
+use Rattle.lift_tree.specs.Typing.{ValuesHaveTypes, declared_by}
 use Rattle.lift_tree.specs.Values.{Value}
 use Rattle.printed_form.specs.Headline.{LeavesWanted}
 use Rattle.value_lists.specs.Lists.{list_lengths, value_in}

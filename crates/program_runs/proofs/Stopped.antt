@@ -1,5 +1,5 @@
 -- Why a launch file stops a call.
-use Rattle.std.proofs.Common.{◌≡◌, ◌≢◌, ℕ, List, refl, inl, inr, Result, Ok}
+use Rattle.std.proofs.Common.{◌≢◌, ℕ, List, refl, inl, inr, Result, Ok}
 use Rattle.lift_tree.specs.Programs.{PlainProgram}
 use Rattle.launch_file.specs.Judged as launches
 use Rattle.launch_file.specs.declared.file.Ask.{Ask}

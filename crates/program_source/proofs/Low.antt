@@ -1,10 +1,9 @@
 -- The term of a program's text is at most 256 high.
-use Rattle.std.proofs.Common.{◌≡◌, ◌∙◌, ◌+◌, ◌<◌, ◌≤◌, ℕ, List, [], ◌∷◌, ap, sym, subst, refl, Option, Some, None, arith}
+use Rattle.std.proofs.Common.{◌≡◌, ◌∙◌, ◌+◌, ◌≤◌, ℕ, List, [], ◌∷◌, ap, sym, subst, refl, Some, arith}
 use Rattle.std.specs.Prelude.{max}
 use Rattle.std.proofs.lemmas.Option.{same_Some}
 use Rattle.readings.specs.Meanings.{AllMean, read_means}
 use Rattle.lift_tree.specs.Programs.{PlainProgram}
-use Rattle.lift_tree.specs.declared.term.UnaryForm.{UnaryForm}
 use Rattle.lift_tree.specs.declared.term.UnaryForm.TheVariants as unaries
 use Rattle.lift_tree.specs.declared.term.MapKind.TheVariants as maps
 use Rattle.lift_tree.specs.declared.term.FoldKind.TheVariants as folds

@@ -2,7 +2,7 @@
 use Rattle.std.proofs.Common.{Bool, true, false, ◌≡◌, ◌⊎◌, ◌∙◌, ◌+◌, ◌<◌, ◌≤◌, take, get_or, ℕ, List, [], ◌∷◌, ◌++◌, length, map, Ok, Err, Result, refl, sym, ap, subst, inl, inr, append_assoc, append-nil, arith}
 use Rattle.std.specs.Prelude.{codes, if◌then◌else◌, nat_lt}
 use Rattle.std.proofs.lemmas.Bool.{ltb-false}
-use Rattle.std.proofs.lemmas.List.{map-append, take_more}
+use Rattle.std.proofs.lemmas.List.{take_more}
 use Rattle.lift_tree.specs.Annotations.{Annotation, IsTyped, annotation_of, type_in}
 use Rattle.lift_tree.specs.Belonging.{IsProper}
 use Rattle.lift_tree.specs.Limits.{IsWithinLimits}
@@ -110,8 +110,8 @@ last_judged p (step ∷ steps) k s last front judged e =
     let first = first_from p steps (k + 1) next.0 more.0 more.1 in
     let after = stepped_judged p step s next.0 (at_step_ok (k + 1) (stepped p step s) next.0 next.1) in
     elim (split_last s more.0 front last (cc (more.2))) as (λ _. program_judged p last.tree ≡ Ok last.types) [
-    | inl none ↦ absurd (cc (none, first.1))
-    | inr found ↦ last_judged p steps (k + 1) next.0 last found.0 after (more.1 ∙ ap Ok found.1)
+      | inl none ↦ absurd (cc (none, first.1))
+      | inr found ↦ last_judged p steps (k + 1) next.0 last found.0 after (more.1 ∙ ap Ok found.1)
     ]
 
 abbrev as_limited : Bool → Fault → Result (Unit {0}) Fault
@@ -143,8 +143,8 @@ last_low p (step ∷ steps) k s last front low e =
     let first = first_from p steps (k + 1) next.0 more.0 more.1 in
     let after = stepped_low p step s next.0 (at_step_ok (k + 1) (stepped p step s) next.0 next.1) in
     elim (split_last s more.0 front last (cc (more.2))) as (λ _. height last.tree ≤ 256) [
-    | inl none ↦ absurd (cc (none, first.1))
-    | inr found ↦ last_low p steps (k + 1) next.0 last found.0 after (more.1 ∙ ap Ok found.1)
+      | inl none ↦ absurd (cc (none, first.1))
+      | inr found ↦ last_low p steps (k + 1) next.0 last found.0 after (more.1 ∙ ap Ok found.1)
     ]
 
 -- ---- types

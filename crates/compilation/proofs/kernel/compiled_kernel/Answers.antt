@@ -1,4 +1,4 @@
-use Rattle.std.proofs.Common.{arith, sym}
+use Rattle.std.proofs.Common.{arith}
 use Rattle.kernel_tree.specs.Kernels.{kernel_of}
 use Rattle.lift_tree.specs.Annotations.{annotation_of}
 use Rattle.lift_tree.specs.Programs.{program_of}
@@ -36,7 +36,7 @@ returns-clause-prints c =
     let last = c.args.last.now in
     let printable = printable_term c.accepted_terms_are_printable.ensures last c.requires c.has_word_steps.ensures c.in_ok-mapped.ensures.legal c.in_ok-judge_printed.ensures.all in
     prints_at_all (program_of last.program) (state_of last) _ c.terms_are_printed.ensures printable
-    (kernel_lowered last _ _ c.in_ok-lowered.ensures.is c.in_ok-emit.ensures)
+    (kernel_lowered last _ _ c.in_ok-lowered.ensures.is c.in_ok-kernel.ensures)
 
 pub returns-clause-compiles : goal.returns-clause-compiles
 returns-clause-compiles c =
@@ -55,7 +55,7 @@ returns-clause-laid_out c =
     let legal = legal_term last c.requires c.has_word_steps.ensures c.in_ok-mapped.ensures.legal in
     let printable = printable_term c.accepted_terms_are_printable.ensures last c.requires c.has_word_steps.ensures c.in_ok-mapped.ensures.legal c.in_ok-judge_printed.ensures.all in
     laid_out p t n legal printable
-    (few_outputs (declared_by p) t n (kernel_of c.in_ok-emit.field-0) (kernel_lowered last _ _ c.in_ok-lowered.ensures.is c.in_ok-emit.ensures) ?)
+    (few_outputs (declared_by p) t n (kernel_of c.in_ok-kernel.kernel) (kernel_lowered last _ _ c.in_ok-lowered.ensures.is c.in_ok-kernel.ensures) c.has_few_outputs.ensures)
 
 pub returns-clause-alone : goal.returns-clause-alone
 returns-clause-alone c =
