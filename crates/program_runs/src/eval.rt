@@ -11,12 +11,12 @@ ghost use Rattle.program_source.specs.Program.{source_value};
 ghost use Rattle.program_runs.specs.Started.{EvalOf, IsValueLine};
 ghost use Rattle.fault_lines.specs.Shown.{failure_of};
 
-use program_source::typed_source;
 use fault_lines::Failure;
 use launch_file::file::{Ask, LaunchFile, read_launch};
 use launch_file::result::result_text;
 use lift_tree::typed::Typed;
 use pattern_value::value_of;
+use program_source::typed_source;
 use std::alloc::{AllocError, Global};
 
 // The result line of the value of a typed program's source at a launch file's sizes and inputs.

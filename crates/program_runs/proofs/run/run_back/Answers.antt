@@ -44,8 +44,8 @@ pub returns-in-Ok-clause-run : goal.returns-in-Ok-clause-run
 returns-in-Ok-clause-run c =
     let compiled = c.args.compiled.now in
     let left = ∥∥₁_elim compiled.text_for (Prim.hlevel props) (λ t.
-        left_as_made (program_of compiled.program) (ty_of compiled.output) compiled.is_task compiled.text.items (given_by c.args.file.now) c.values_have_their_types.ensures c.requires t
-        c.lists_have_lengths.ensures c.one_kernel.ensures _ c.in_ok-kernel.ensures _ _ c.in_ok-at.ensures c.in_ok-cells.ensures _ _ _ _ c.in-Ok.ensures.outcome) in
+    left_as_made (program_of compiled.program) (ty_of compiled.output) compiled.is_task compiled.text.items (given_by c.args.file.now) c.values_have_their_types.ensures c.requires t
+    c.lists_have_lengths.ensures c.one_kernel.ensures _ c.in_ok-kernel.ensures _ _ c.in_ok-at.ensures c.in_ok-cells.ensures _ _ _ _ c.in-Ok.ensures.outcome) in
     let p = program_of compiled.program in
     let output = ty_of compiled.output in
     let g = given_by c.args.file.now in
