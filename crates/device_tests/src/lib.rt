@@ -9,3 +9,5 @@ mod machine;
 mod runs;
 #[cfg(test)]
 mod schedules;
+#[cfg(test)]
+mod traces;

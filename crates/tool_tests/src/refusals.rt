@@ -259,7 +259,11 @@ const NESTS: [(&str, &str); 7] = [
 
 // Programs with scripts of their own.
 const MAPPED: [(&str, &str, &str); 3] = [
-    ("input xs: [u32; 5]; output xs", "", "lift: nest: N11 at .\n"),
+    (
+        "input xs: [u32; 5]; output xs",
+        "",
+        "lift: nest: N11 at .\n",
+    ),
     (
         "input xs: [u32; 5]; output slide(3, 1, map(\\x. x, xs))",
         "at 0 to-seq",
