@@ -38,6 +38,7 @@ fn is_request(request: &Request, name: &str, files: &[&str]) -> bool {
             program,
             script,
             launch,
+            trace: _,
         } => match files {
             [first, rest @ ..] => {
                 name == "run" && program.as_str() == *first && is_pair(script, launch, rest)
@@ -47,9 +48,24 @@ fn is_request(request: &Request, name: &str, files: &[&str]) -> bool {
     }
 }
 
+fn is_traced(request: &Request) -> bool {
+    match request {
+        Request::Run { trace, .. } => *trace,
+        _ => false,
+    }
+}
+
 fn asks(rt: &HostRuntime, words: &[&str], name: &str, files: &[&str]) -> bool {
     match read(rt.alloc(), words) {
         Ok(request) => is_request(&request, name, files),
+        Err(_) => false,
+    }
+}
+
+// The words ask for a run of these files, with its events or without.
+fn runs(rt: &HostRuntime, words: &[&str], files: &[&str], traced: bool) -> bool {
+    match read(rt.alloc(), words) {
+        Ok(request) => is_request(&request, "run", files) && is_traced(&request) == traced,
         Err(_) => false,
     }
 }
@@ -166,7 +182,44 @@ fn refuses_flags(rt: HostRuntime) {
     assert!(rt; is_refused(&rt, ["compile", "-p", "s"].as_slice()));
     assert!(rt; is_refused(&rt, ["compile", "p", "--script=s"].as_slice()));
     assert!(rt; is_refused(&rt, ["--compile", "p", "s"].as_slice()));
-    assert!(rt; is_refused(&rt, ["run", "p", "s", "l", "--trace"].as_slice()));
+    assert!(rt; is_refused(&rt, ["compile", "p", "s", "--trace"].as_slice()));
+    assert!(rt; is_refused(&rt, ["--trace", "run", "p", "s", "l"].as_slice()));
+    assert!(rt; is_refused(&rt, ["run", "p", "s", "l", "--traced"].as_slice()));
+    assert!(rt; is_refused(&rt, ["run", "p", "s", "l", "-t"].as_slice()));
+}
+
+#[test]
+fn traces_where_the_flag_is_set(rt: HostRuntime) {
+    let files = ["p", "s", "l"].as_slice();
+    assert!(rt; runs(&rt, ["run", "p", "s", "l"].as_slice(), files, false));
+    assert!(rt;
+        runs(
+            &rt,
+            ["run", "p", "s", "l", "--trace"].as_slice(),
+            files,
+            true
+        )
+    );
+
+    // The flag may stand anywhere behind the command's name, once and without a value.
+    assert!(rt;
+        runs(
+            &rt,
+            ["run", "--trace", "p", "s", "l"].as_slice(),
+            files,
+            true
+        )
+    );
+    assert!(rt; is_refused(&rt, ["run", "p", "s", "l", "--trace", "--trace"].as_slice()));
+    assert!(rt; is_refused(&rt, ["run", "p", "s", "l", "--trace=true"].as_slice()));
+    assert!(rt; is_refused(&rt, ["run", "p", "s", "--trace"].as_slice()));
+}
+
+#[test]
+fn a_file_may_have_the_name_of_the_flag(rt: HostRuntime) {
+    let words = ["run", "p", "s", "--", "--trace"].as_slice();
+    let files = ["p", "s", "--trace"].as_slice();
+    assert!(rt; runs(&rt, words, files, false));
 }
 
 #[test]

@@ -1,5 +1,5 @@
 -- Each command takes its plain form, and reads just what it says.
-use Rattle.std.proofs.Common.{◌≡◌, ◌∙◌, refl, sym, ap, ap₂, List, [], true, false, Some, Option}
+use Rattle.std.proofs.Common.{◌≡◌, ◌∙◌, refl, sym, ap, ap₂, List, [], ◌++◌, true, false, Some, Option}
 use Rattle.std.specs.Prelude.{find, fold, is_some, option_map}
 use Rattle.std.specs.Option.{option_map_or}
 use Rattle.clap.specs.Words.{App, Shape, Text, Kinds, built, fault_of}
@@ -11,8 +11,8 @@ use Rattle.clap.proofs.FaultLemmas.{stopped_fault}
 use Rattle.clap.proofs.WalkLemmas.{walk_stopped}
 use Rattle.clap.proofs.OnLiterals.{clap_on_literals}
 use Rattle.command_line.specs.App.{lift_command}
-use Rattle.command_line.specs.Requests.{Asks, CommandLine, compile, run, eval, steps, line_at, line_entered, line_in, IsTaken, name_of, files_of, words_of, is_plain}
-use Rattle.command_line.proofs.Plain.{Takes, held_after, end_fault, level-clean, rows-plain}
+use Rattle.command_line.specs.Requests.{Asks, CommandLine, compile, run, eval, steps, line_at, line_entered, line_in, IsTaken, name_of, files_of, flags_of, words_of, is_plain}
+use Rattle.command_line.proofs.Plain.{Takes, end_after, end_fault, level-clean, rows-plain, stands_after}
 
 unfoldable pub lift_built : App
 lift_built = built lift_command
@@ -27,15 +27,17 @@ pub record Form (line : CommandLine) : Type 0 where
   pub turn : turn_fault lift_built.top (names_of lift_built) (walk_from nothing_held) (name_of line) ≡ []
   pub found : find (λ (s : Shape). answers_to (name_of line) (label_of s)) lift_built.subs ≡ Some shape
   pub takes : Takes shape nothing_held 1 (files_of line)
-  pub ends : end_fault shape (held_after shape.rules nothing_held 1 (files_of line)) false ≡ []
-  pub says : line_at shape.name (finished shape.rules (held_after shape.rules nothing_held 1 (files_of line))) ≡ Some line
+  pub flagged : walk_fault shape [] (stands_after shape (files_of line)) (flags_of line) ≡ []
+  pub ends : end_fault shape (end_after shape (files_of line) (flags_of line)) false ≡ []
+  pub says : line_at shape.name (finished shape.rules (end_after shape (files_of line) (flags_of line))) ≡ Some line
 
 forms : (line : CommandLine) → Form line
 unfolding lift_built clap_on_literals
-forms (compile p s) = record { shape = _; met = refl; turn = refl; found = refl; takes = (refl, refl, (refl, refl, tt)); ends = refl; says = refl }
-forms (run p s l) = record { shape = _; met = refl; turn = refl; found = refl; takes = (refl, refl, (refl, refl, (refl, refl, tt))); ends = refl; says = refl }
-forms (eval p l) = record { shape = _; met = refl; turn = refl; found = refl; takes = (refl, refl, (refl, refl, tt)); ends = refl; says = refl }
-forms (steps p s) = record { shape = _; met = refl; turn = refl; found = refl; takes = (refl, refl, (refl, refl, tt)); ends = refl; says = refl }
+forms (compile p s) = record { shape = _; met = refl; turn = refl; found = refl; takes = (refl, refl, (refl, refl, tt)); flagged = refl; ends = refl; says = refl }
+forms (run p s l false) = record { shape = _; met = refl; turn = refl; found = refl; takes = (refl, refl, (refl, refl, (refl, refl, tt))); flagged = refl; ends = refl; says = refl }
+forms (run p s l true) = record { shape = _; met = refl; turn = refl; found = refl; takes = (refl, refl, (refl, refl, (refl, refl, tt))); flagged = refl; ends = refl; says = refl }
+forms (eval p l) = record { shape = _; met = refl; turn = refl; found = refl; takes = (refl, refl, (refl, refl, tt)); flagged = refl; ends = refl; says = refl }
+forms (steps p s) = record { shape = _; met = refl; turn = refl; found = refl; takes = (refl, refl, (refl, refl, tt)); flagged = refl; ends = refl; says = refl }
 
 -- the command itself has no argument, and wants the subcommand that was entered
 top-ends : end_fault lift_built.top nothing_held true ≡ []
@@ -43,30 +45,30 @@ unfolding lift_built clap_on_literals
 top-ends = refl
 
 walk-named : (line : CommandLine) → Form line
-    → walk lift_built.top.rules (names_of lift_built) nothing_held (words_of line) ≡ stopped (name_of line) (files_of line)
+    → walk lift_built.top.rules (names_of lift_built) nothing_held (words_of line) ≡ stopped (name_of line) (files_of line ++ flags_of line)
 walk-named line f =
-    ap (λ (w : Walk). fold (walked lift_built.top.rules (names_of lift_built)) w (files_of line)) f.met
-    ∙ sym (walk_stopped lift_built.top.rules (names_of lift_built) (walk_from nothing_held) (name_of line) [] (files_of line))
+    ap (λ (w : Walk). fold (walked lift_built.top.rules (names_of lift_built)) w (files_of line ++ flags_of line)) f.met
+    ∙ sym (walk_stopped lift_built.top.rules (names_of lift_built) (walk_from nothing_held) (name_of line) [] (files_of line ++ flags_of line))
 
 name-clean : (line : CommandLine) → Form line → walk_fault lift_built.top (names_of lift_built) (walk_from nothing_held) (words_of line) ≡ []
 unfolding walk_fault
 name-clean line f = ap₂ or_else f.turn
-    (ap (λ (w : Walk). walk_fault lift_built.top (names_of lift_built) w (files_of line)) f.met
-    ∙ stopped_fault lift_built.top (names_of lift_built) (walk_from nothing_held) (name_of line, []) (files_of line))
+    (ap (λ (w : Walk). walk_fault lift_built.top (names_of lift_built) w (files_of line ++ flags_of line)) f.met
+    ∙ stopped_fault lift_built.top (names_of lift_built) (walk_from nothing_held) (name_of line, []) (files_of line ++ flags_of line))
 
 -- what is wrong after the command's own words, where the walk over them ended so
 abbrev rest_fault : Walk → Kinds
 rest_fault w = or_else (entered_fault lift_built w.stopped) (end_fault lift_built.top w.held (is_some (entered lift_built w.stopped)))
 
 abbrev below : List Text → Option Shape → Kinds
-below files sub = or_else (option_map_or (λ (s : Shape). level_fault s [] nothing_held files false []) sub [])
-    (end_fault lift_built.top nothing_held (is_some (option_map (λ (s : Shape). rows_at s files) sub)))
+below words sub = or_else (option_map_or (λ (s : Shape). level_fault s [] nothing_held words false []) sub [])
+    (end_fault lift_built.top nothing_held (is_some (option_map (λ (s : Shape). rows_at s words) sub)))
 
 form-clean : (line : CommandLine) → Form line → is_plain line ≡ true → built_fault lift_built nothing_held (words_of line) ≡ []
 form-clean line f e =
     ap₂ or_else (name-clean line f) (ap rest_fault (walk-named line f)
-    ∙ ap (below (files_of line)) f.found
-    ∙ ap₂ or_else (level-clean f.shape (files_of line) e f.takes f.ends) top-ends)
+    ∙ ap (below (files_of line ++ flags_of line)) f.found
+    ∙ ap₂ or_else (level-clean f.shape (files_of line) (flags_of line) e f.takes f.flagged f.ends) top-ends)
 
 plain-taken : (line : CommandLine) → is_plain line ≡ true → IsTaken (words_of line)
 unfolding lift_built
@@ -76,8 +78,8 @@ form-read : (line : CommandLine) → Form line → is_plain line ≡ true
     → line_entered (entered lift_built (stop_after lift_built.top.rules (names_of lift_built) (words_of line))) ≡ Some line
 form-read line f e =
     ap (λ (w : Walk). line_entered (entered lift_built w.stopped)) (walk-named line f)
-    ∙ ap (λ (sub : Option Shape). line_entered (option_map (λ (s : Shape). rows_at s (files_of line)) sub)) f.found
-    ∙ ap (line_at f.shape.name) (rows-plain f.shape (files_of line) e f.takes)
+    ∙ ap (λ (sub : Option Shape). line_entered (option_map (λ (s : Shape). rows_at s (files_of line ++ flags_of line)) sub)) f.found
+    ∙ ap (line_at f.shape.name) (rows-plain f.shape (files_of line) (flags_of line) e f.takes)
     ∙ f.says
 
 plain-read : (line : CommandLine) → is_plain line ≡ true → line_in (words_of line) ≡ Some line

@@ -1,5 +1,5 @@
 -- A subcommand takes words that do not begin with a hyphen, each by the argument whose turn it is.
-use Rattle.std.proofs.Common.{◌≡◌, ◌∙◌, refl, ap, ap₂, List, [], ◌∷◌, ℕ, Bool, true, false, suc, None, Option, ◌==◌}
+use Rattle.std.proofs.Common.{◌≡◌, ◌∙◌, refl, ap, ap₂, List, [], ◌∷◌, ◌++◌, ℕ, Bool, true, false, suc, None, Option, ◌==◌}
 use Rattle.std.specs.Prelude.{◌&&◌, not, fold, option_and_then, if◌then◌else◌}
 use Rattle.std.specs.List.{list_all}
 use Rattle.std.specs.Option.{option_map_or}
@@ -82,31 +82,46 @@ pub right : (a b : Bool) → (a && b) ≡ true → b ≡ true
 right true b h = h
 right false b h = cc
 
-held : (s : Shape) (h : Held) (k : ℕ) (words : List Text) → list_all is_plain_word words ≡ true → Takes s h k words
-    → (fold (walked s.rules []) (ready h k) words).held ≡ held_after s.rules h k words
-held s h k [] e t = refl
-held s h k (word ∷ words) e t =
-    ap (λ (w : Walk). (fold (walked s.rules []) w words).held) (walked-plain s.rules h k word (left _ _ e) ∙ t.1)
-    ∙ held s (given s.rules h k word).held (suc k) words (right (is_plain_word word) _ e) t.2
+-- whose turn it is after them
+abbrev pub turn_after : ℕ → List Text → ℕ
+turn_after k [] = k
+turn_after k (word ∷ words) = turn_after (suc k) words
 
-clean : (s : Shape) (h : Held) (k : ℕ) (words : List Text) → list_all is_plain_word words ≡ true → Takes s h k words
-    → walk_fault s [] (ready h k) words ≡ []
+-- where the walk stands after them
+abbrev pub stands_after : Shape → List Text → Walk
+stands_after s words = ready (held_after s.rules nothing_held 1 words) (turn_after 1 words)
+
+walk-plain : (s : Shape) (h : Held) (k : ℕ) (words more : List Text) → list_all is_plain_word words ≡ true → Takes s h k words
+    → fold (walked s.rules []) (ready h k) (words ++ more) ≡ fold (walked s.rules []) (ready (held_after s.rules h k words) (turn_after k words)) more
+walk-plain s h k [] more e t = refl
+walk-plain s h k (word ∷ words) more e t =
+    ap (λ (w : Walk). fold (walked s.rules []) w (words ++ more)) (walked-plain s.rules h k word (left _ _ e) ∙ t.1)
+    ∙ walk-plain s (given s.rules h k word).held (suc k) words more (right (is_plain_word word) _ e) t.2
+
+clean : (s : Shape) (h : Held) (k : ℕ) (words more : List Text) → list_all is_plain_word words ≡ true → Takes s h k words
+    → walk_fault s [] (ready h k) (words ++ more) ≡ walk_fault s [] (ready (held_after s.rules h k words) (turn_after k words)) more
 unfolding walk_fault
-clean s h k [] e t = refl
-clean s h k (word ∷ words) e t =
+clean s h k [] more e t = refl
+clean s h k (word ∷ words) more e t =
     ap₂ or_else (turn-plain s h k word (left _ _ e) ∙ t.0)
-    (ap (λ (w : Walk). walk_fault s [] w words) (walked-plain s.rules h k word (left _ _ e) ∙ t.1)
-    ∙ clean s (given s.rules h k word).held (suc k) words (right (is_plain_word word) _ e) t.2)
+    (ap (λ (w : Walk). walk_fault s [] w (words ++ more)) (walked-plain s.rules h k word (left _ _ e) ∙ t.1)
+    ∙ clean s (given s.rules h k word).held (suc k) words more (right (is_plain_word word) _ e) t.2)
 
 -- what is wrong once the words are over, where a subcommand was entered or not
 abbrev pub end_fault : Shape → Held → Bool → Kinds
 end_fault s end entered = or_else (settle_fault s.rules s.args_override_self end)
     (or_else (defaults_fault (settled s.rules end).rows s.rules) (check_fault s (finished s.rules end) entered))
 
-pub level-clean : (s : Shape) (words : List Text) → list_all is_plain_word words ≡ true → Takes s nothing_held 1 words
-    → end_fault s (held_after s.rules nothing_held 1 words) false ≡ [] → level_fault s [] nothing_held words false [] ≡ []
-level-clean s words e t f = ap₂ or_else (clean s nothing_held 1 words e t) (ap (λ (end : Held). end_fault s end false) (held s nothing_held 1 words e t) ∙ f)
+-- what is held at the end, after the plain words and more
+abbrev pub end_after : Shape → (words more : List Text) → Held
+end_after s words more = (fold (walked s.rules []) (stands_after s words) more).held
 
-pub rows-plain : (s : Shape) (words : List Text) → list_all is_plain_word words ≡ true → Takes s nothing_held 1 words
-    → rows_after s.rules [] words ≡ finished s.rules (held_after s.rules nothing_held 1 words)
-rows-plain s words e t = ap (finished s.rules) (held s nothing_held 1 words e t)
+pub level-clean : (s : Shape) (words more : List Text) → list_all is_plain_word words ≡ true → Takes s nothing_held 1 words
+    → walk_fault s [] (stands_after s words) more ≡ [] → end_fault s (end_after s words more) false ≡ [] → level_fault s [] nothing_held (words ++ more) false [] ≡ []
+level-clean s words more e t w f =
+    ap₂ or_else (clean s nothing_held 1 words more e t ∙ w)
+    (ap (λ (end : Walk). end_fault s end.held false) (walk-plain s nothing_held 1 words more e t) ∙ f)
+
+pub rows-plain : (s : Shape) (words more : List Text) → list_all is_plain_word words ≡ true → Takes s nothing_held 1 words
+    → rows_after s.rules [] (words ++ more) ≡ finished s.rules (end_after s words more)
+rows-plain s words more e t = ap (λ (end : Walk). finished s.rules end.held) (walk-plain s nothing_held 1 words more e t)

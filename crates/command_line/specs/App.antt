@@ -1,7 +1,7 @@
--- The command of `lift`, as clap sees it: one level of subcommands, whose arguments are file names.
+-- The command of `lift`, as clap sees it: one level of subcommands, whose arguments are file names, and a flag of one of them.
 use Rattle.std.specs.Prelude.{Some, true, codes, List, [], ◌∷◌, fold}
 use Rattle.clap.specs.Words.{App, Rule, Shape, Text, new_app, new_rule, with_rule, with_subcommand}
-use Rattle.clap.specs.declared.builder.ArgAction.TheVariants.{Set}
+use Rattle.clap.specs.declared.builder.ArgAction.TheVariants.{Set, SetTrue}
 
 -- a required argument of one word, the name of a file
 abbrev pub file_rule : Text → Rule
@@ -20,6 +20,17 @@ script = codes "script"
 abbrev pub launch : Text
 launch = codes "launch"
 
+abbrev pub trace : Text
+trace = codes "trace"
+
+-- the flag `--trace`, which may be left out
+abbrev pub trace_rule : Rule
+trace_rule = record (new_rule trace) { long = Some trace; action = Some SetTrue }
+
+-- a run takes three files and the flag
+abbrev pub run_command : App
+run_command = with_rule (file_command (codes "run") (program ∷ script ∷ launch ∷ [])) trace_rule
+
 -- a subcommand is required; there is no help and no version, and the words have no program name
 abbrev pub bare_shape : Shape → Shape
 bare_shape s = record s {
@@ -36,7 +47,7 @@ bare_command = record (new_app (codes "lift")) { top = bare_shape (new_app (code
 abbrev pub subcommands : List App
 subcommands =
     file_command (codes "compile") (program ∷ script ∷ [])
-    ∷ file_command (codes "run") (program ∷ script ∷ launch ∷ [])
+    ∷ run_command
     ∷ file_command (codes "eval") (program ∷ launch ∷ [])
     ∷ file_command (codes "steps") (program ∷ script ∷ []) ∷ []
 

@@ -1,22 +1,23 @@
 -- What the words ask for.
-use Rattle.std.specs.Prelude.{◌≡◌, Some, None, Option, true, Bool, codes, List, [], ◌∷◌, ◌==◌, not, if◌then◌else◌, unwrap_or, option_and_then, string_bytes}
+use Rattle.std.specs.Prelude.{◌≡◌, Some, None, Option, true, false, Bool, codes, List, [], ◌∷◌, ◌++◌, ◌==◌, not, if◌then◌else◌, unwrap_or, option_and_then, string_bytes}
 use Rattle.std.specs.List.{list_all}
 use Rattle.std.specs.Str.{bytes_eq}
-use Rattle.clap.specs.Words.{Row, Text, first_of, subcommand_of, fault_of}
-use Rattle.command_line.specs.App.{lift_command, program, script, launch}
+use Rattle.std.specs.Option.{option_map_or}
+use Rattle.clap.specs.Words.{Row, Text, first_of, one_of, subcommand_of, fault_of}
+use Rattle.command_line.specs.App.{lift_command, program, script, launch, trace}
 use Rattle.command_line.specs.declared.request.Request.{Request}
 use Rattle.command_line.specs.declared.request.Request.TheVariants.{Compile, Run, Eval, Steps}
 
--- a request, with its file names as bytes
+-- a request, with its file names as bytes; a run is told with its events or without
 pub data CommandLine : Type 0 where
   compile : Text → Text → CommandLine
-  run : Text → Text → Text → CommandLine
+  run : Text → Text → Text → (traced : Bool) → CommandLine
   eval : Text → Text → CommandLine
   steps : Text → Text → CommandLine
 
 abbrev pub line_of : Request → CommandLine
 line_of (Compile p s) = compile (string_bytes p) (string_bytes s)
-line_of (Run p s l) = run (string_bytes p) (string_bytes s) (string_bytes l)
+line_of (Run p s l traced) = run (string_bytes p) (string_bytes s) (string_bytes l) traced
 line_of (Eval p l) = eval (string_bytes p) (string_bytes l)
 line_of (Steps p s) = steps (string_bytes p) (string_bytes s)
 
@@ -24,18 +25,24 @@ line_of (Steps p s) = steps (string_bytes p) (string_bytes s)
 
 abbrev pub name_of : CommandLine → Text
 name_of (compile p s) = codes "compile"
-name_of (run p s l) = codes "run"
+name_of (run p s l traced) = codes "run"
 name_of (eval p l) = codes "eval"
 name_of (steps p s) = codes "steps"
 
 abbrev pub files_of : CommandLine → List Text
 files_of (compile p s) = p ∷ s ∷ []
-files_of (run p s l) = p ∷ s ∷ l ∷ []
+files_of (run p s l traced) = p ∷ s ∷ l ∷ []
 files_of (eval p l) = p ∷ l ∷ []
 files_of (steps p s) = p ∷ s ∷ []
 
+abbrev pub flags_of : CommandLine → List Text
+flags_of (compile p s) = []
+flags_of (run p s l traced) = if traced then codes "--trace" ∷ [] else []
+flags_of (eval p l) = []
+flags_of (steps p s) = []
+
 abbrev pub words_of : CommandLine → List Text
-words_of line = name_of line ∷ files_of line
+words_of line = name_of line ∷ files_of line ++ flags_of line
 
 -- the word does not begin with a hyphen (45)
 abbrev pub is_plain_word : Text → Bool
@@ -51,11 +58,15 @@ is_plain line = list_all is_plain_word (files_of line)
 abbrev pub value_of : Text → List Row → Text
 value_of id rows = unwrap_or (first_of id rows) []
 
+-- whether the flag is set; where it is left out, clap gives it the value `false`
+abbrev pub is_set : Text → List Row → Bool
+is_set id rows = option_map_or (bytes_eq (codes "true")) (one_of id rows) false
+
 -- the subcommand of this name, with these matches
 abbrev pub line_at : Text → List Row → Option CommandLine
 line_at name rows =
     if bytes_eq name (codes "compile") then Some (compile (value_of program rows) (value_of script rows))
-    else (if bytes_eq name (codes "run") then Some (run (value_of program rows) (value_of script rows) (value_of launch rows))
+    else (if bytes_eq name (codes "run") then Some (run (value_of program rows) (value_of script rows) (value_of launch rows) (is_set trace rows))
     else (if bytes_eq name (codes "eval") then Some (eval (value_of program rows) (value_of launch rows))
     else (if bytes_eq name (codes "steps") then Some (steps (value_of program rows) (value_of script rows))
     else None)))

@@ -39,6 +39,19 @@ fn file_command<'a>(
     Ok(command)
 }
 
+// The run of three files, which is told with its events where the flag is set.
+fn run_command<'a>(alloc: Global) -> Result<Command<'a>, AllocError>
+    ensures app { IfOk result (λ c. app_of c ≡ spec.run_command) }
+    ensures local { IfOk result (λ c. (out-Command c).has_globals ≡ false) }
+{
+    let command = file_command(alloc, "run", ["program", "script", "launch"].as_slice())?;
+    command.arg(
+        Arg::new(alloc, "trace")
+            .long("trace")
+            .action(ArgAction::SetTrue),
+    )
+}
+
 // The command with one more subcommand.
 fn with_subcommand<'a>(command: Command<'a>, inner: Command<'a>) -> Result<Command<'a>, AllocError>
     requires outer { (out-Command command).has_globals ≡ false }
@@ -63,14 +76,14 @@ fn bare_command<'a>(alloc: Global) -> Command<'a>
         .subcommand_required(true)
 }
 
-/// The command of `lift`: one level of subcommands, each with its file names.
+/// The command of `lift`: one level of subcommands, each with its file names, and the flag of a run.
 pub fn lift_command<'a>(alloc: Global) -> Result<Command<'a>, AllocError>
     ensures { IfOk result (λ c. app_of c ≡ spec.lift_command) }
 {
     let command = bare_command(alloc);
     let compile = file_command(alloc, "compile", ["program", "script"].as_slice())?;
     let command = with_subcommand(command, compile)?;
-    let run = file_command(alloc, "run", ["program", "script", "launch"].as_slice())?;
+    let run = run_command(alloc)?;
     let command = with_subcommand(command, run)?;
     let eval = file_command(alloc, "eval", ["program", "launch"].as_slice())?;
     let command = with_subcommand(command, eval)?;

@@ -1,7 +1,7 @@
 //! The command line of `lift`, read by clap.
 //!
 //! - `lift compile PROGRAM SCRIPT`
-//! - `lift run PROGRAM SCRIPT LAUNCH`
+//! - `lift run PROGRAM SCRIPT LAUNCH [--trace]`
 //! - `lift eval PROGRAM LAUNCH`
 //! - `lift steps PROGRAM SCRIPT`
 //!

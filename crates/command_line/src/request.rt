@@ -4,7 +4,7 @@ ghost use Rattle.std.specs.Prelude.{◌≡◌, ◌≢◌, ◌↔◌, IfOk, optio
 ghost use Rattle.clap.specs.Words.{found_of, kind_of, rows_of, subcommand_rows_of};
 ghost use Rattle.clap.specs.declared.error.kind.ErrorKind.TheVariants as kind;
 ghost use Rattle.command_line.specs.declared.request.WordsNo.TheVariants.{Memory, Refused};
-ghost use Rattle.command_line.specs.Requests.{line_at, line_entered, line_of, value_of};
+ghost use Rattle.command_line.specs.Requests.{is_set, line_at, line_entered, line_of, value_of};
 
 use clap::ArgMatches;
 use clap::error::ErrorKind;
@@ -18,11 +18,13 @@ pub enum Request {
         program: String,
         script: String,
     },
-    /// Run that kernel on the bundled device, as the launch file says.
+    /// Run that kernel on the bundled device, as the launch file says, and write its events where
+    /// they are to be traced.
     Run {
         program: String,
         script: String,
         launch: String,
+        trace: bool,
     },
     /// Write the program's source value at the launch file's sizes and inputs.
     Eval {
@@ -74,6 +76,13 @@ fn value<'w>(matches: &ArgMatches<'w>, id: &str) -> &'w str
     }
 }
 
+// Whether the flag is set.
+fn is_set(matches: &ArgMatches<'_>, id: &str) -> bool
+    ensures { result ≡ is_set id.now (rows_of (found_of matches.now)) }
+{
+    matches.get_one::<bool>(id).unwrap_or(false)
+}
+
 fn file_name(alloc: Global, matches: &ArgMatches<'_>, id: &str) -> Result<String, AllocError>
     ensures { IfOk result (λ name. string_bytes name
         ≡ value_of id.now (rows_of (found_of matches.now))) }
@@ -99,6 +108,7 @@ fn named_request(
             program: file_name(alloc, matches, "program")?,
             script: file_name(alloc, matches, "script")?,
             launch: file_name(alloc, matches, "launch")?,
+            trace: is_set(matches, "trace"),
         },
         "eval" => Request::Eval {
             program: file_name(alloc, matches, "program")?,

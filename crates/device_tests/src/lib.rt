@@ -12,3 +12,5 @@ mod machine;
 mod runs;
 #[cfg(test)]
 mod schedules;
+#[cfg(test)]
+mod traces;

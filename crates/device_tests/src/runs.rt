@@ -6,7 +6,7 @@ use crate::kernels::{
     barriers_in_a_loop, chosen, past_a_local_array, past_a_private_array, past_the_output,
     private_cells, quotient_by_zero, two_barriers,
 };
-use kernel_tree::events::FaultKind;
+use kernel_tree::events::{FaultKind, Seen};
 use kernel_tree::launches::{Cells, Launch, Schedule};
 use kernel_tree::tree::Kernel;
 use ndrange_device::{DeviceNo, Outcome, launch, run_in_order};
@@ -44,7 +44,7 @@ pub fn run(
     requires sizes { kernel.sizes ≡ 0 }
 {
     let cells = cells(alloc, out)?;
-    launch(alloc, kernel, one_item(alloc), cells, schedule)
+    launch(alloc, kernel, one_item(alloc), cells, schedule, None)
 }
 
 fn run_at_once(alloc: Global, kernel: Kernel, out: Vec<u32>) -> Result<Outcome, DeviceNo>
@@ -54,6 +54,28 @@ fn run_at_once(alloc: Global, kernel: Kernel, out: Vec<u32>) -> Result<Outcome, 
 {
     let cells = cells(alloc, out)?;
     run_in_order(alloc, kernel, one_item(alloc), cells)
+}
+
+/// What is seen of the kernel's run in order by one work-item, where all other memory holds 9.
+pub fn sights(alloc: Global, kernel: Kernel, out: Vec<u32>) -> Result<Vec<Seen>, AllocError>
+    requires inputs { kernel.inputs ≡ 0 }
+    requires outputs { kernel.outputs ≡ 1 }
+    requires sizes { kernel.sizes ≡ 0 }
+{
+    let cells = cells(alloc, out)?;
+    let schedule = Schedule::Numbers(Vec::new(alloc));
+    let mut seen = Vec::new(alloc);
+    match launch(
+        alloc,
+        kernel,
+        one_item(alloc),
+        cells,
+        &schedule,
+        Some(&mut seen),
+    ) {
+        Err(DeviceNo::Memory) => Err(AllocError),
+        _ => Ok(seen),
+    }
 }
 
 /// Whether the run ended so.

@@ -6,3 +6,4 @@ pub mod LaunchFile
 pub mod Line
 pub mod ResultLine
 pub mod Shown
+pub mod TraceLines

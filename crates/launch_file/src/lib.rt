@@ -1,5 +1,5 @@
-//! Launch files of programs of the Lift pattern language, and the line that a run or an evaluation
-//! prints.
+//! Launch files of programs of the Lift pattern language, the line that a run or an evaluation
+//! prints, and the lines of a trace.
 #![tactic(auto)]
 
 pub mod file;
@@ -11,4 +11,5 @@ pub mod line;
 pub mod refusal;
 pub mod result;
 mod sizes;
+pub mod trace;
 mod values;

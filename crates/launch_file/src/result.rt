@@ -9,7 +9,7 @@ use lift_tree::value::Val;
 use std::alloc::{AllocError, Global};
 
 // Writes a number in decimal digits behind the text.
-fn push_number(text: &mut Vec<u8>, number: u64) -> Result<(), AllocError>
+pub(crate) fn push_number(text: &mut Vec<u8>, number: u64) -> Result<(), AllocError>
     ensures { OnOk result (text.new.items ≡ text.old.items ++ decimal number) }
 {
     let mut digits = Buffer::new();

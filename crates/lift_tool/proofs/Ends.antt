@@ -27,13 +27,13 @@ use Rattle.lift_tool.specs.Request.{files_of}
 
 texts_cause : StagesEndOnce → (request : CommandLine) (texts : List (List ℕ)) (f g : Failure) → StopsAtText request texts f → StopsAtText request texts g → f ≡ g
 texts_cause law (compile p s) texts f g h k = (law.kernel _ _).cause f g h k
-texts_cause law (run p s l) texts f g h k = (law.run _ _ _).cause f g h k
+texts_cause law (run p s l traced) texts f g h k = (law.run _ _ _).cause f g h k
 texts_cause law (steps p s) texts f g h k = (law.steps _ _).cause f g h k
 texts_cause law (eval p l) texts f g h k = (law.value _ _).cause f g h k
 
 texts_accepted : StagesEndOnce → (request : CommandLine) (texts : List (List ℕ)) (f : Failure) → IsAccepted request texts → StopsAtText request texts f → ⊥
 texts_accepted law (compile p s) texts f ok h = (law.kernel _ _).none f ok h
-texts_accepted law (run p s l) texts f ok h = (law.run _ _ _).none f ok h
+texts_accepted law (run p s l traced) texts f ok h = (law.run _ _ _).none f ok h
 texts_accepted law (steps p s) texts f ok h = (law.steps _ _).none f ok h
 texts_accepted law (eval p l) texts f ok h = (law.value _ _).none f ok h
 
@@ -44,7 +44,7 @@ at_task p a b launch g same is = subst (λ c. IsLaunchFile p (Run c) launch g) (
 -- what was written was accepted
 answer_accepted : (request : CommandLine) (texts : List (List ℕ)) (text : List ℕ) → Answers request texts text → IsAccepted request texts
 answer_accepted (compile p s) texts text h = let c = h.compiled in (h.source, c.read.is, c.read.within, (c.last, c.legal))
-answer_accepted (run p s l) texts text h = let c = h.compiled in (h.source, c.read.is, c.read.within, (h.given, (c.last, c.legal, at_task h.source _ _ _ h.given c.alone h.launch_file)))
+answer_accepted (run p s l traced) texts text h = let c = h.compiled in (h.source, c.read.is, c.read.within, (h.given, (c.last, c.legal, at_task h.source _ _ _ h.given c.alone h.launch_file)))
 answer_accepted (steps p s) texts text h = (h.source, h.read.is, h.read.within, (h.terms, h.made))
 answer_accepted (eval p l) texts text h = (h.source, h.read.is, h.read.within, (h.given, h.started))
 
@@ -172,9 +172,9 @@ text_status (compile p s) texts f (inl (why, h, e)) = source_is f _ e
 text_status (compile p s) texts f (inr (q, read, (why, h, e))) = source_is f why e
 text_status (steps p s) texts f (inl (why, h, e)) = source_is f _ e
 text_status (steps p s) texts f (inr (q, read, (why, h, e))) = source_is f why e
-text_status (run p s l) texts f (inl (why, h, e)) = source_is f _ e
-text_status (run p s l) texts f (inr (q, read, inl (why, h, e))) = source_is f why e
-text_status (run p s l) texts f (inr (q, read, inr (form, is, (why, h, e)))) = launch_is f q why e
+text_status (run p s l traced) texts f (inl (why, h, e)) = source_is f _ e
+text_status (run p s l traced) texts f (inr (q, read, inl (why, h, e))) = source_is f why e
+text_status (run p s l traced) texts f (inr (q, read, inr (form, is, (why, h, e)))) = launch_is f q why e
 text_status (eval p l) texts f (inl (why, h, e)) = source_is f _ e
 text_status (eval p l) texts f (inr (q, read, inl (why, h, e))) = source_is f why e
 text_status (eval p l) texts f (inr (q, read, inr (types, is, (why, h, e)))) = launch_is f q why e

@@ -10,7 +10,7 @@ use Rattle.program_source.specs.StepsText.{IsStepsText}
 use Rattle.program_source.specs.Terms.{TermsOf}
 use Rattle.compilation.specs.Compiled.{IsCompiled}
 use Rattle.compilation.specs.Legal.{LegalOf}
-use Rattle.program_runs.specs.Started.{EvalOf, IsRunLine, IsValueLine, RunOf}
+use Rattle.program_runs.specs.Started.{AreRunLines, EvalOf, IsValueLine, RunOf}
 use Rattle.lift_tool.specs.Files.{AreTexts, StopsAtFile, Told}
 use Rattle.lift_tool.specs.Request.{files_of}
 
@@ -32,7 +32,7 @@ pub record IsKernelOf (program script text : List ℕ) : Type 0 where
 -- what a request writes for the texts of its files
 abbrev pub Answers : CommandLine → List (List ℕ) → List ℕ → Type 0
 Answers (compile p s) texts text = IsKernelOf (text_at texts 0) (text_at texts 1) text
-Answers (run p s l) texts line = IsRunLine (text_at texts 0) (text_at texts 1) (text_at texts 2) line
+Answers (run p s l traced) texts lines = AreRunLines (text_at texts 0) (text_at texts 1) (text_at texts 2) traced lines
 Answers (steps p s) texts text = IsStepsText (text_at texts 0) (text_at texts 1) text
 Answers (eval p l) texts line = IsValueLine (text_at texts 0) (text_at texts 1) line
 
@@ -50,14 +50,14 @@ IsAnswer told request text = (texts : List (List ℕ)) × AreTexts told (files_o
 -- the texts of a request are well formed: the last term is legal and within its limits, or there are terms for steps, or types for an evaluation, and the launch file is for it
 abbrev pub IsAccepted : CommandLine → List (List ℕ) → Type 0
 IsAccepted (compile p s) texts = Accepts (text_at texts 0) (λ q. As Source (LegalOf q (text_at texts 1)))
-IsAccepted (run p s l) texts = Accepts (text_at texts 0) (λ q. RunOf q (text_at texts 1) (text_at texts 2))
+IsAccepted (run p s l traced) texts = Accepts (text_at texts 0) (λ q. RunOf q (text_at texts 1) (text_at texts 2))
 IsAccepted (steps p s) texts = Accepts (text_at texts 0) (λ q. As Source (TermsOf q (text_at texts 1)))
 IsAccepted (eval p l) texts = Accepts (text_at texts 0) (λ q. EvalOf q (text_at texts 1))
 
 -- the first stage that stops for the texts of a request, and why
 abbrev pub StopsAtText : CommandLine → List (List ℕ) → Failure → Type 0
 StopsAtText (compile p s) texts failure = OnSource (text_at texts 0) (λ q. As Source (LegalOf q (text_at texts 1))) (Err failure)
-StopsAtText (run p s l) texts failure = OnSource (text_at texts 0) (λ q. RunOf q (text_at texts 1) (text_at texts 2)) (Err failure)
+StopsAtText (run p s l traced) texts failure = OnSource (text_at texts 0) (λ q. RunOf q (text_at texts 1) (text_at texts 2)) (Err failure)
 StopsAtText (steps p s) texts failure = OnSource (text_at texts 0) (λ q. As Source (TermsOf q (text_at texts 1))) (Err failure)
 StopsAtText (eval p l) texts failure = OnSource (text_at texts 0) (λ q. EvalOf q (text_at texts 1)) (Err failure)
 

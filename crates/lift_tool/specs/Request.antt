@@ -17,6 +17,6 @@ sources p s = (p, source_limit) ∷ (s, source_limit) ∷ []
 -- the files of a request, in order: each name, and the most bytes that its text may have
 abbrev pub files_of : CommandLine → List (List ℕ × ℕ)
 files_of (compile p s) = sources p s
-files_of (run p s l) = (p, source_limit) ∷ (s, source_limit) ∷ (l, launch_limit) ∷ []
+files_of (run p s l traced) = (p, source_limit) ∷ (s, source_limit) ∷ (l, launch_limit) ∷ []
 files_of (steps p s) = sources p s
 files_of (eval p l) = (p, source_limit) ∷ (l, launch_limit) ∷ []

@@ -82,9 +82,9 @@ fn fail<E: Sink>(err: &mut E, failure: Failure) -> u8
 
 /// Does what the words of the command line ask for, and answers the status that the program ends
 /// with. `compile PROGRAM SCRIPT` writes the text of a kernel, `steps PROGRAM SCRIPT` a line for
-/// each term that the script's steps make, and `run PROGRAM SCRIPT LAUNCH` the result line of the
-/// kernel's run. `eval PROGRAM LAUNCH` writes the result line of the value of the program's source
-/// expression.
+/// each term that the script's steps make, and `run PROGRAM SCRIPT LAUNCH [--trace]` the result line
+/// of the kernel's run, and before it, with `--trace`, a line for each event. `eval PROGRAM LAUNCH`
+/// writes the result line of the value of the program's source expression.
 ///
 /// Each file is read, and then its length is judged; all are, before the first is looked at.
 /// Want of memory (status 13) may come at any point.
@@ -95,8 +95,8 @@ pub fn lift_tool<F: Files, O: Sink, E: Sink>(
     out: &mut O,
     err: &mut E,
 ) -> u8
-    // At 0 the output took just the text of the kernel, the lines of the terms, or the result line
-    // of the run or of the source value, and nothing went to `err`.
+    // At 0 the output took just the text of the kernel, the lines of the terms, the lines of the run
+    // or the result line of the source value, and nothing went to `err`.
     ensures done { result ≡ 0
         → OnTexts (F.told files.old) (map string_bytes words.now) (λ request texts.
         (text : List ℕ) × Answers request texts text

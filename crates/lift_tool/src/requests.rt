@@ -95,27 +95,28 @@ fn steps_files<F: Files>(
     Ok(steps_text(alloc, program.as_slice(), script.as_slice())?)
 }
 
-// The result line of the run of the files that a request names.
+// The lines of the run of the files that a request names.
 fn run_files<F: Files>(
     alloc: Global,
     files: &mut F,
     program: String,
     script: String,
     launch: String,
+    trace: bool,
 ) -> Result<Vec<u8>, Failure>
-    ensures ok { IfOk result (λ line. IsAnswer (F.told files.old)
-        (requests.run (string_bytes program) (string_bytes script) (string_bytes launch))
-        line.items) }
+    ensures ok { IfOk result (λ lines. IsAnswer (F.told files.old)
+        (requests.run (string_bytes program) (string_bytes script) (string_bytes launch) trace)
+        lines.items) }
     ensures refused { IfErr result (λ no. FailsFor (F.told files.old)
         (λ n. Rose (F.faults files.old n) (F.faults files.new n))
-        (requests.run (string_bytes program) (string_bytes script) (string_bytes launch))
+        (requests.run (string_bytes program) (string_bytes script) (string_bytes launch) trace)
         (failure_of no)) }
     ensures asks { AsksFirst (F.asked files.old) (F.asked files.new)
         (files_of (requests.run (string_bytes program) (string_bytes script)
-        (string_bytes launch))) }
+        (string_bytes launch) trace)) }
     ensures asks_all { IfOk result (λ _. AsksAll (F.asked files.old) (F.asked files.new)
         (files_of (requests.run (string_bytes program) (string_bytes script)
-        (string_bytes launch)))) }
+        (string_bytes launch) trace))) }
 {
     let (program, script) = read_sources(alloc, files, program, script)?;
     let launch = read_text(alloc, files, launch, LAUNCH_LIMIT)?;
@@ -124,6 +125,7 @@ fn run_files<F: Files>(
         program.as_slice(),
         script.as_slice(),
         launch.as_slice(),
+        trace,
     )
 }
 
@@ -172,7 +174,8 @@ pub fn answer_of<F: Files>(
             program,
             script,
             launch,
-        } => run_files(alloc, files, program, script, launch),
+            trace,
+        } => run_files(alloc, files, program, script, launch, trace),
         Request::Eval { program, launch } => eval_files(alloc, files, program, launch),
     }
 }

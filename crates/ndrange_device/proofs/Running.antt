@@ -1,6 +1,6 @@
 -- A run along a schedule, event by event.
-use Rattle.std.proofs.Common.{◌≡◌, ℕ, zero, suc, ◌+◌, ◌%◌, ◌<◌, ◌≤◌, List, [], ◌∷◌, ◌++◌, length, Option, Some, None, refl, sym, ap, ◌∙◌, subst, ⊎_elim, inl, inr, arith, ◌⊎◌, length-append}
-use Rattle.std.specs.Prelude.{replicate, slice_get, option_map}
+use Rattle.std.proofs.Common.{◌≡◌, ℕ, zero, suc, ◌+◌, ◌%◌, ◌<◌, ◌≤◌, List, [], ◌∷◌, ◌++◌, length, Option, Some, None, refl, sym, ap, ◌∙◌, subst, ⊎_elim, inl, inr, arith, ◌⊎◌, length-append, append_assoc, append-nil}
+use Rattle.std.specs.Prelude.{replicate, slice_get, option_map, Bool, true, if◌then◌else◌, Result, Ok, Err}
 use Rattle.std.proofs.lemmas.List.{length-replicate}
 use Rattle.kernel_tree.specs.declared.events.Event.{Event}
 use Rattle.kernel_tree.specs.declared.events.Event.TheVariants.{Step, Release}
@@ -13,7 +13,7 @@ use Rattle.kernel_tree.specs.Launch.{Launch, Cells, group_of}
 use Rattle.kernel_tree.specs.Item.{Wants, Ends, Waits, Moves, Reads, Writes, Fails}
 use Rattle.kernel_tree.specs.Device.{Device, State, device_of, start_state, wants, Enabled, after, run, IsStart, IsStuck}
 use Rattle.kernel_tree.specs.Bound.{bound}
-use Rattle.kernel_tree.specs.Faults.{Access, Among, accessed, accesses_of, accesses, IsRace, SomeDiverges, FaultIs, NoDivergence, IsFaultless}
+use Rattle.kernel_tree.specs.Faults.{Access, Among, accessed, accesses_of, accesses, IsRace, SomeDiverges, FaultIs, NoDivergence, IsFaultless, Run}
 use Rattle.kernel_tree.specs.Schedule.{Schedule, number_at, AreEnabled, Chooses, Follows, ScheduledRun}
 use Rattle.kernel_tree.specs.Seen.{seen_of, fault_of}
 use Rattle.kernel_tree.proofs.Bound.{within_bound}
@@ -24,7 +24,8 @@ use Rattle.ndrange_machine.specs.Takes.{Took, Takes}
 use Rattle.ndrange_device.specs.declared.outcome.DeviceNo.{DeviceNo}
 use Rattle.ndrange_device.specs.declared.outcome.DeviceNo.TheVariants as no
 use Rattle.ndrange_device.specs.declared.progress.Progress.{Progress}
-use Rattle.ndrange_device.specs.Outcomes.{capped, EndsUnder, FaultsUnder, Refuses}
+use Rattle.ndrange_device.specs.declared.outcome.Outcome.{Outcome}
+use Rattle.ndrange_device.specs.Outcomes.{capped, sights, EndsUnder, FaultsUnder, Gets, Refuses, Sees, SeesFront}
 use Rattle.ndrange_device.specs.Progress.{HasCome, refusal_of}
 use Rattle.ndrange_device.proofs.Counting.{length_push}
 
@@ -38,6 +39,11 @@ pub record RunsAlong (schedule : Schedule) (k : Kernel) (l : Launch) (c : Cells)
   pub counted : steps ≡ length events
   pub enabled : CountsEnabled (device_of k l c) (state_after k l c events) many
   pub told : many ≡ enabled_count m
+
+-- and each of them is noted behind the old list, where the run is traced
+pub record NotesAlong (schedule : Schedule) (k : Kernel) (l : Launch) (c : Cells) (m : Machine) (p : Progress) (steps many : ℕ) (traced : Bool) (old new : List Seen) : Type 0 where
+  pub along : RunsAlong schedule k l c m p steps many
+  pub noted : traced ≡ true → new ≡ old ++ sights (device_of k l c) (start_state k c) along.events
 
 among_place : (all : List Event) (i : ℕ) (e : Event) → slice_get all i ≡ Some e → Among e all
 among_place [] zero e h = cc
@@ -63,6 +69,16 @@ other_way a b r = record {
   write = ⊎_elim (λ w. inr w) (λ w. inl w) r.write;
   together = ⊎_elim (λ n. inl (λ e. n (sym e))) (λ e. inr (sym e)) r.together;
 }
+
+-- one more event is seen
+sights_push : (d : Device) (s : State) (es : List Event) (e : Event) → sights d s (es ++ e ∷ []) ≡ sights d s es ++ seen_of d (run d s es) e None ∷ []
+sights_push d s [] e = refl
+sights_push d s (x ∷ es) e = ap (λ xs. seen_of d s x None ∷ xs) (sights_push d (after d s x) es e)
+
+-- it is noted behind the others
+noted_on : (traced : Bool) (old before new front : List Seen) (seen : Seen) → traced ≡ true → before ≡ old ++ front → new ≡ before ++ (if traced then seen ∷ [] else []) → new ≡ old ++ (front ++ seen ∷ [])
+noted_on traced old before new front seen t b n =
+    n ∙ ap (λ (w : Bool). before ++ (if w then seen ∷ [] else [])) t ∙ ap (λ (xs : List Seen). xs ++ seen ∷ []) b ∙ append_assoc old front (seen ∷ [])
 
 module _ (d : Device) where
   no_divergence-append : (s : State) (es : List Event) (e : Event) → NoDivergence d s es → (SomeDiverges d (after d (run d s es) e) → ⊥) → NoDivergence d s (es ++ e ∷ [])
@@ -107,19 +123,44 @@ starts k l c = record {
   epochs = λ g f. refl;
 }
 
+none_is_faultless : (d : Device) (s : State) → IsFaultless d s []
+none_is_faultless d s = record { no_failure = tt; no_race = λ a b x y r. x; no_divergence = tt }
+
+none_is_run : (d : Device) (s : State) → Run d s []
+none_is_run d s = record { enabled = tt; none_after_fault = λ front last e. absurd (no_last front last e) }
+  where
+    no_last : (front : List Event) (last : Event) → [] ≡ front ++ last ∷ [] → ⊥
+    no_last [] last e = cc
+    no_last (x ∷ front) last e = cc
+
 module _ (schedule : Schedule) (k : Kernel) (l : Launch) (c : Cells) where
+  -- no event is seen before the start
+  pub sees_none : (old new : List Seen) → new ≡ old → Gets (SeesFront schedule k l c) old new
+  sees_none old new same =
+      ([], same ∙ sym (append-nil old), record { front = []; is_run = none_is_run (device_of k l c) (start_state k c); faultless = none_is_faultless (device_of k l c) (start_state k c); follows = tt; sights = refl })
+
   -- the start
   pub runs_none : (m : Machine) (p : Progress) (steps enabled : ℕ) → StandsFor k l c m [] → HasCome schedule [] p → steps ≡ 0 → CountsEnabled (device_of k l c) (state_after k l c []) enabled → enabled ≡ enabled_count m → RunsAlong schedule k l c m p steps enabled
   runs_none m p steps enabled st come counted counts told = record {
     events = [];
     stands = st;
-    faultless = record { no_failure = tt; no_race = λ a b x y r. x; no_divergence = tt };
+    faultless = none_is_faultless (device_of k l c) (start_state k c);
     follows = tt;
     come = come;
     counted = counted;
     enabled = counts;
     told = told;
   }
+
+  pub notes_none : (m : Machine) (p : Progress) (steps enabled : ℕ) (traced : Bool) (old new : List Seen) → StandsFor k l c m [] → HasCome schedule [] p → steps ≡ 0 → CountsEnabled (device_of k l c) (state_after k l c []) enabled → enabled ≡ enabled_count m → new ≡ old
+      → NotesAlong schedule k l c m p steps enabled traced old new
+  unfolding runs_none
+  notes_none m p steps enabled traced old new st come counted counts told same = record { along = runs_none m p steps enabled st come counted counts told; noted = λ t. same ∙ sym (append-nil old) }
+
+  -- what is noted so far
+  pub sees_front : (m : Machine) (p : Progress) (steps enabled : ℕ) (traced : Bool) (old before new : List Seen) → NotesAlong schedule k l c m p steps enabled traced old before → new ≡ before → traced ≡ true → Gets (SeesFront schedule k l c) old new
+  sees_front m p steps enabled traced old before new h same t =
+      (sights (device_of k l c) (start_state k c) h.along.events, same ∙ h.noted t, record { front = h.along.events; is_run = h.along.stands.is_run; faultless = h.along.faultless; follows = h.along.follows; sights = refl })
 
   -- no more events than the text allows
   pub few_events : (m : Machine) (p : Progress) (steps enabled : ℕ) → RunsAlong schedule k l c m p steps enabled → steps ≤ bound k l
@@ -155,34 +196,49 @@ module _ (schedule : Schedule) (k : Kernel) (l : Launch) (c : Cells) where
       took : Took k l c h.events e n seen
       took = takes k l c h.events h.stands h.faultless is_enabled
 
+      none_mapped : (j : ℕ) (o : Option Fault) → option_map (λ f. no.Fault f.kind q.events j f.cell) o ≡ None → o ≡ None
+      none_mapped j None r = refl
+      none_mapped j (Some f) r = cc
+
+      clean : (x : Event) → e ≡ x → refusal_of e seen q.events ≡ None → seen.fault ≡ None
+      clean (Step j) is ok = none_mapped j seen.fault (ap (λ z. refusal_of z seen q.events) (sym is) ∙ ok)
+      clean (Release g) is ok = release g is
+
+      shows_fault : (kind : FaultKind) (x : Event) → (seen_of (device_of k l c) (state_after k l c h.events) x (Some kind)).fault ≡ None → ⊥
+      shows_fault kind (Step j) r = cc
+      shows_fault kind (Release g) r = cc
+
+      -- an event that isn't refused is no fault, and seen as such
+      unrefused : (kind : Option FaultKind) → FaultIs (device_of k l c) (start_state k c) h.events e kind → seen ≡ seen_of (device_of k l c) (state_after k l c h.events) e kind → seen.fault ≡ None
+          → FaultIs (device_of k l c) (start_state k c) h.events e None × (seen ≡ seen_of (device_of k l c) (state_after k l c h.events) e None)
+      unrefused None f is none = (f, is)
+      unrefused (Some kind) f is none = absurd (shows_fault kind e (ap (λ z. z.fault) (sym is) ∙ none))
+
+      passed : refusal_of e seen q.events ≡ None → FaultIs (device_of k l c) (start_state k c) h.events e None × (seen ≡ seen_of (device_of k l c) (state_after k l c h.events) e None)
+      passed ok = unrefused took.tells.0 took.tells.1 took.tells.2 (clean e refl ok)
+
       -- one event more
       pub runs_on : (more : ℕ) → refusal_of e seen q.events ≡ None → ((es : List Event) → StandsFor k l c n es → CountsEnabled (device_of k l c) (state_after k l c es) more) → more ≡ enabled_count n → RunsAlong schedule k l c n q (steps + 1) more
       runs_on more ok counts told = record {
         events = h.events ++ e ∷ [];
         stands = took.stands;
-        faultless = faultless_on (device_of k l c) (start_state k c) h.events e h.faultless (no_fault took.tells.0 took.tells.1 (ap (λ z. z.fault) (sym took.tells.2) ∙ clean e refl));
+        faultless = faultless_on (device_of k l c) (start_state k c) h.events e h.faultless (passed ok).0;
         follows = follows_e;
         come = came schedule h.events h.come;
         counted = (let a = h.counted in let b = length-append h.events (e ∷ []) in omega arith);
         enabled = counts (h.events ++ e ∷ []) took.stands;
         told = told;
       }
-        where
-          clean : (x : Event) → e ≡ x → seen.fault ≡ None
-          clean (Step j) is = none_mapped seen.fault (ap (λ z. refusal_of z seen q.events) (sym is) ∙ ok)
-            where
-              none_mapped : (o : Option Fault) → option_map (λ f. no.Fault f.kind q.events j f.cell) o ≡ None → o ≡ None
-              none_mapped None r = refl
-              none_mapped (Some f) r = cc
-          clean (Release g) is = release g is
 
-          no_fault : (kind : Option FaultKind) → FaultIs (device_of k l c) (start_state k c) h.events e kind → (seen_of (device_of k l c) (state_after k l c h.events) e kind).fault ≡ None → FaultIs (device_of k l c) (start_state k c) h.events e None
-          no_fault None f r = f
-          no_fault (Some kind) f r = absurd (by_event e r)
-            where
-              by_event : (x : Event) → (seen_of (device_of k l c) (state_after k l c h.events) x (Some kind)).fault ≡ None → ⊥
-              by_event (Step j) r2 = cc
-              by_event (Release g) r2 = cc
+      pub notes_on : (more : ℕ) (traced : Bool) (old before new : List Seen) → (traced ≡ true → before ≡ old ++ sights (device_of k l c) (start_state k c) h.events) → new ≡ before ++ (if traced then seen ∷ [] else [])
+          → refusal_of e seen q.events ≡ None → ((es : List Event) → StandsFor k l c n es → CountsEnabled (device_of k l c) (state_after k l c es) more) → more ≡ enabled_count n → NotesAlong schedule k l c n q (steps + 1) more traced old new
+      unfolding runs_on
+      notes_on more traced old before new noted pushed ok counts told = record {
+        along = runs_on more ok counts told;
+        noted = λ t. noted_on traced old before new _ seen t (noted t) pushed
+            ∙ ap (λ (xs : List Seen). old ++ xs) (ap (λ (x : Seen). sights (device_of k l c) (start_state k c) h.events ++ x ∷ []) (passed ok).1
+            ∙ sym (sights_push (device_of k l c) (start_state k c) h.events e));
+      }
 
       -- a fault
       scheduled_to : (kind : FaultKind) → FaultIs (device_of k l c) (start_state k c) h.events e (Some kind) → ScheduledRun schedule (device_of k l c) (start_state k c) (h.events ++ e ∷ [])
@@ -207,10 +263,26 @@ module _ (schedule : Schedule) (k : Kernel) (l : Launch) (c : Cells) where
         seen = refl;
       }
 
-      pub refuses : (refused : DeviceNo) → refusal_of e seen q.events ≡ Some refused → Refuses schedule k l c refused
-      refuses refused is = by_event e refl
+      -- the refusal is the run's, and so is what is seen, the fault last
+      abbrev Refused : DeviceNo → Type 0
+      Refused refused = Refuses schedule k l c refused × ((xs : List Seen) → xs ≡ sights (device_of k l c) (start_state k c) h.events ++ seen ∷ [] → Sees schedule k l c (Err refused) xs)
+
+      refused_at : (j : ℕ) → e ≡ Step j → (kind : FaultKind) → FaultIs (device_of k l c) (start_state k c) h.events e (Some kind) → seen ≡ seen_of (device_of k l c) (state_after k l c h.events) e (Some kind)
+          → Refused (no.Fault kind q.events j (fault_of (wants (device_of k l c) (state_after k l c h.events) j) kind).cell)
+      unfolding faults_at
+      refused_at j at kind f same =
+          let faults = faults_at j at kind f in
+          (faults, λ xs is. record {
+            front = h.events;
+            scheduled = faults.scheduled;
+            fault = faults.fault;
+            sights = is ∙ ap (λ (x : Seen). sights (device_of k l c) (start_state k c) h.events ++ x ∷ []) (same ∙ ap (λ (x : Event). seen_of (device_of k l c) (state_after k l c h.events) x (Some kind)) at);
+          })
+
+      refuses_both : (refused : DeviceNo) → refusal_of e seen q.events ≡ Some refused → Refused refused
+      refuses_both refused is = by_event e refl
         where
-          by_kind : (j : ℕ) → e ≡ Step j → (kind : Option FaultKind) → FaultIs (device_of k l c) (start_state k c) h.events e kind → seen ≡ seen_of (device_of k l c) (state_after k l c h.events) e kind → Refuses schedule k l c refused
+          by_kind : (j : ℕ) → e ≡ Step j → (kind : Option FaultKind) → FaultIs (device_of k l c) (start_state k c) h.events e kind → seen ≡ seen_of (device_of k l c) (state_after k l c h.events) e kind → Refused refused
           by_kind j at None f same =
               let fault : seen.fault ≡ None = ap (λ z. z.fault) (same ∙ ap (λ x. seen_of (device_of k l c) (state_after k l c h.events) x None) at) in
               let none : None ≡ Some refused = sym (ap (λ z. refusal_of z seen q.events) at ∙ ap (option_map (λ (g : Fault). no.Fault g.kind q.events j g.cell)) fault) ∙ is in
@@ -220,27 +292,46 @@ module _ (schedule : Schedule) (k : Kernel) (l : Launch) (c : Cells) where
               let fault : seen.fault ≡ Some (fault_of w kind) = ap (λ z. z.fault) (same ∙ ap (λ x. seen_of (device_of k l c) (state_after k l c h.events) x (Some kind)) at) in
               let some : Some (no.Fault (fault_of w kind).kind q.events j (fault_of w kind).cell) ≡ Some refused = sym (ap (λ z. refusal_of z seen q.events) at ∙ ap (option_map (λ (g : Fault). no.Fault g.kind q.events j g.cell)) fault) ∙ is in
               let one : no.Fault (fault_of w kind).kind q.events j (fault_of w kind).cell ≡ refused = cc in
-              subst (Refuses schedule k l c) (ap (λ z. no.Fault z q.events j (fault_of w kind).cell) (sym (same_kind w kind)) ∙ one) (faults_at j at kind f)
+              subst Refused (ap (λ z. no.Fault z q.events j (fault_of w kind).cell) (sym (same_kind w kind)) ∙ one) (refused_at j at kind f same)
 
-          by_event : (x : Event) → e ≡ x → Refuses schedule k l c refused
+          by_event : (x : Event) → e ≡ x → Refused refused
           by_event (Release g) at = let both : None ≡ Some refused = sym (ap (λ z. refusal_of z seen q.events) at) ∙ is in cc
           by_event (Step j) at = by_kind j at took.tells.0 took.tells.1 took.tells.2
 
+      pub refuses : (refused : DeviceNo) → refusal_of e seen q.events ≡ Some refused → Refuses schedule k l c refused
+      refuses refused is = (refuses_both refused is).0
+
+      pub sees_fault : (refused : DeviceNo) (traced : Bool) (old before new : List Seen) → (traced ≡ true → before ≡ old ++ sights (device_of k l c) (start_state k c) h.events) → new ≡ before ++ (if traced then seen ∷ [] else [])
+          → refusal_of e seen q.events ≡ Some refused → traced ≡ true → Gets (Sees schedule k l c (Err refused)) old new
+      sees_fault refused traced old before new noted pushed is t =
+          (sights (device_of k l c) (start_state k c) h.events ++ seen ∷ [], noted_on traced old before new _ seen t (noted t) pushed, (refuses_both refused is).1 _ refl)
+
   -- the end
-  pub ends_under : (m : Machine) (p : Progress) (steps enabled : ℕ) (outputs : List (List ℕ)) → RunsAlong schedule k l c m p steps enabled → enabled ≤ 0 → ((es : List Event) → StandsFor k l c m es → AreOutputs k l c (state_after k l c es) outputs) → EndsUnder schedule k l c outputs p.events p.releases
-  ends_under m p steps enabled outputs h none outs = record {
-    run = h.events;
-    scheduled = record { is_run = h.stands.is_run; follows = h.follows; over = inl stuck };
-    faultless = h.faultless;
-    over = stuck;
-    counted = h.come.events;
-    released = h.come.releases;
-    left = outs h.events h.stands;
-  }
+  over_so : (m : Machine) (p : Progress) (steps enabled : ℕ) (h : RunsAlong schedule k l c m p steps enabled) → enabled ≤ 0 → IsStuck (device_of k l c) (state_after k l c h.events)
+  over_so m p steps enabled h none e en = empty h.enabled.0 (let n = h.enabled.2 in omega arith) e (h.enabled.1.all e en)
     where
       empty : (all : List Event) → 0 ≡ length all → (e : Event) → Among e all → ⊥
       empty [] q e a = a
       empty (x ∷ all) q e a = omega arith
 
-      stuck : IsStuck (device_of k l c) (state_after k l c h.events)
-      stuck e en = empty h.enabled.0 (let n = h.enabled.2 in omega arith) e (h.enabled.1.all e en)
+  scheduled_so : (m : Machine) (p : Progress) (steps enabled : ℕ) (h : RunsAlong schedule k l c m p steps enabled) → enabled ≤ 0 → ScheduledRun schedule (device_of k l c) (start_state k c) h.events
+  scheduled_so m p steps enabled h none = record { is_run = h.stands.is_run; follows = h.follows; over = inl (over_so m p steps enabled h none) }
+
+  pub ends_under : (m : Machine) (p : Progress) (steps enabled : ℕ) (outputs : List (List ℕ)) → RunsAlong schedule k l c m p steps enabled → enabled ≤ 0 → ((es : List Event) → StandsFor k l c m es → AreOutputs k l c (state_after k l c es) outputs) → EndsUnder schedule k l c outputs p.events p.releases
+  ends_under m p steps enabled outputs h none outs = record {
+    run = h.events;
+    scheduled = scheduled_so m p steps enabled h none;
+    faultless = h.faultless;
+    over = over_so m p steps enabled h none;
+    counted = h.come.events;
+    released = h.come.releases;
+    left = outs h.events h.stands;
+  }
+
+  pub sees_run : (m : Machine) (p : Progress) (steps enabled : ℕ) (outcome : Outcome) (traced : Bool) (old new : List Seen) → NotesAlong schedule k l c m p steps enabled traced old new → enabled ≤ 0 → traced ≡ true → Gets (Sees schedule k l c (Ok outcome)) old new
+  sees_run m p steps enabled outcome traced old new h none t =
+      (sights (device_of k l c) (start_state k c) h.along.events, h.noted t, record {
+        run = h.along.events;
+        scheduled = scheduled_so m p steps enabled h.along none;
+        sights = refl;
+      })

@@ -1,17 +1,22 @@
--- What is left when a run along a schedule is over.
-use Rattle.std.specs.Prelude.{◌≡◌, ℕ, ◌-◌, ◌^◌, suc, min, Bool, true, false, List, [], ◌∷◌, ◌++◌, Option, Some, length, count_by}
+-- What is left when a run along a schedule is over, and what is seen of it.
+use Rattle.std.specs.Prelude.{◌≡◌, ◌⊎◌, ℕ, ◌-◌, ◌^◌, suc, min, Bool, true, false, List, [], ◌∷◌, ◌++◌, Option, Some, None, Result, Ok, Err, Vec, length, count_by}
+use Rattle.std.proofs.Common.{inl, inr}
+use Rattle.std.specs.Borrow.{MutBor}
+use Rattle.std.specs.Global.{Global}
 use Rattle.kernel_tree.specs.declared.events.Cell.{Cell}
 use Rattle.kernel_tree.specs.declared.events.Event.{Event}
 use Rattle.kernel_tree.specs.declared.events.Event.TheVariants.{Step, Release}
 use Rattle.kernel_tree.specs.declared.events.FaultKind.{FaultKind}
+use Rattle.kernel_tree.specs.declared.events.Seen.{Seen}
 use Rattle.kernel_tree.specs.Code.{Kernel}
 use Rattle.kernel_tree.specs.Launch.{Launch, Cells}
-use Rattle.kernel_tree.specs.Device.{device_of, start_state, wants, IsStuck}
-use Rattle.kernel_tree.specs.Faults.{FaultIs, IsFaultless}
-use Rattle.kernel_tree.specs.Schedule.{Schedule, ScheduledRun}
-use Rattle.kernel_tree.specs.Seen.{fault_of}
+use Rattle.kernel_tree.specs.Device.{Device, State, device_of, start_state, wants, after, run, IsStuck}
+use Rattle.kernel_tree.specs.Faults.{FaultIs, IsFaultless, Run}
+use Rattle.kernel_tree.specs.Schedule.{Schedule, Follows, ScheduledRun}
+use Rattle.kernel_tree.specs.Seen.{fault_of, seen_of}
 use Rattle.ndrange_machine.specs.Stands.{AreOutputs, state_after}
 use Rattle.ndrange_device.specs.declared.outcome.DeviceNo.{DeviceNo}
+use Rattle.ndrange_device.specs.declared.outcome.Outcome.{Outcome}
 use Rattle.ndrange_device.specs.declared.outcome.DeviceNo.TheVariants.{Fault, Memory}
 
 -- a count as 64 bits hold it: at its greatest value it stays
@@ -44,3 +49,47 @@ pub record FaultsUnder (schedule : Schedule) (k : Kernel) (l : Launch) (c : Cell
 abbrev pub Refuses : Schedule → Kernel → Launch → Cells → DeviceNo → Type 0
 Refuses schedule k l c (Fault kind event item cell) = FaultsUnder schedule k l c kind event item cell
 Refuses schedule k l c Memory = Unit {0}
+
+-- ---- what is seen
+
+-- of the events of a run without a fault, in turn
+abbrev pub sights : Device → State → List Event → List Seen
+sights d s [] = []
+sights d s (e ∷ es) = seen_of d s e None ∷ sights d (after d s e) es
+
+-- of the first events of the run under the schedule, which are no fault
+pub record SeesFront (schedule : Schedule) (k : Kernel) (l : Launch) (c : Cells) (seen : List Seen) : Type 0 where
+  pub front : List Event
+  pub is_run : Run (device_of k l c) (start_state k c) front
+  pub faultless : IsFaultless (device_of k l c) (start_state k c) front
+  pub follows : Follows schedule 0 (device_of k l c) (start_state k c) front
+  pub sights : seen ≡ sights (device_of k l c) (start_state k c) front
+
+-- of the run under the schedule, which has no fault
+pub record SeesRun (schedule : Schedule) (k : Kernel) (l : Launch) (c : Cells) (seen : List Seen) : Type 0 where
+  pub run : List Event
+  pub scheduled : ScheduledRun schedule (device_of k l c) (start_state k c) run
+  pub sights : seen ≡ sights (device_of k l c) (start_state k c) run
+
+-- of the run under the schedule, which ends in a fault of this kind, the fault last
+pub record SeesFault (schedule : Schedule) (k : Kernel) (l : Launch) (c : Cells) (kind : FaultKind) (item : ℕ) (seen : List Seen) : Type 0 where
+  pub front : List Event
+  pub scheduled : ScheduledRun schedule (device_of k l c) (start_state k c) (front ++ Step item ∷ [])
+  pub fault : FaultIs (device_of k l c) (start_state k c) front (Step item) (Some kind)
+  pub sights : seen ≡ sights (device_of k l c) (start_state k c) front ++ seen_of (device_of k l c) (state_after k l c front) (Step item) (Some kind) ∷ []
+
+-- what a trace gets of a run that ends so: all that is seen, or for want of memory what is seen first
+abbrev pub Sees : Schedule → Kernel → Launch → Cells → Result Outcome DeviceNo → List Seen → Type 0
+Sees schedule k l c (Ok outcome) seen = SeesRun schedule k l c seen
+Sees schedule k l c (Err (Fault kind event item cell)) seen = SeesFault schedule k l c kind item seen
+Sees schedule k l c (Err Memory) seen = SeesFront schedule k l c seen
+
+-- behind a list stands more, which is so
+abbrev pub Gets : (List Seen → Type 0) → (old new : List Seen) → Type 0
+Gets P old new = (seen : List Seen) × (new ≡ old ++ seen) × P seen
+
+-- the same of the list behind a reference, where there is one, as it comes in and as it is left
+abbrev pub GetsIfThere : (List Seen → Type 0) → Option (MutBor (Vec Seen Global)) → Unit {0} ⊎ ((MutBor (Vec Seen Global) × Unit {0}) ⊎ ⊥) → Type 0
+GetsIfThere P (Some trace) (inr (inl left)) = Gets P trace.now.items left.0.now.items
+GetsIfThere P (Some trace) _ = ⊥
+GetsIfThere P None _ = Unit {0}

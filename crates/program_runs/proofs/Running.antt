@@ -1,18 +1,19 @@
 -- The run of a compiled kernel at what a launch file gives.
-use Rattle.std.proofs.Common.{◌≡◌, ◌∙◌, Bool, ℕ, List, [], ◌∷◌, ◌++◌, length, map, replicate, refl, sym, ap, subst, arith, Option, Result, Ok, Err}
+use Rattle.std.proofs.Common.{◌≡◌, ◌∙◌, Bool, true, false, ℕ, List, [], ◌∷◌, ◌++◌, length, map, replicate, refl, sym, ap, subst, arith, Option, Result, Ok, Err}
 use Rattle.std.specs.Prelude.{IfOk}
 use Rattle.kernel_tree.specs.declared.events.Event.{Event}
+use Rattle.kernel_tree.specs.declared.events.Seen.{Seen}
 use Rattle.kernel_tree.specs.Code.{Kernel}
 use Rattle.kernel_tree.specs.KernelText.{IsKernelText}
 use Rattle.kernel_tree.specs.Launch.{Launch, Cells, MayStart}
-use Rattle.kernel_tree.specs.Device.{IsStart, start_state, device_of, IsRun}
+use Rattle.kernel_tree.specs.Device.{Device, State, IsStart, start_state, device_of, IsRun}
 use Rattle.std.proofs.lemmas.List.{length-replicate}
-use Rattle.kernel_tree.specs.Schedule.{Schedule}
+use Rattle.kernel_tree.specs.Schedule.{Schedule, ScheduledRun}
 use Rattle.kernel_tree.proofs.Scheduled.{no_fault}
 use Rattle.kernel_tree.specs.declared.events.Event.TheVariants.{Step}
 use Rattle.kernel_tree.specs.declared.events.FaultKind.{FaultKind}
 use Rattle.kernel_tree.specs.declared.events.Cell as shown
-use Rattle.ndrange_device.specs.Outcomes.{EndsUnder, FaultsUnder}
+use Rattle.ndrange_device.specs.Outcomes.{EndsUnder, FaultsUnder, SeesRun, sights}
 use Rattle.launch_file.specs.LaunchFile.{Given}
 use Rattle.launch_file.specs.ResultLine.{result_line}
 use Rattle.lift_tree.specs.Launches.{lists_of}
@@ -25,7 +26,7 @@ use Rattle.value_lists.specs.Lists.{list_lengths, value_in}
 use Rattle.value_lists.specs.Laws.{ListsHaveLengths, ListsHoldOneValue}
 use Rattle.program_source.specs.Program.{source_value}
 use Rattle.compilation.specs.Meets.{Admits, IsTextFor}
-use Rattle.program_runs.specs.Runs.{IsAdmissibleFor, RunsAsGiven, begun, world_given}
+use Rattle.program_runs.specs.Runs.{IsAdmissibleFor, RunsAsGiven, begun, traced_sights, world_given}
 use Rattle.program_runs.proofs.LaidOut.{blank_lengths, row_lengths, rows_are}
 
 -- each text is of one kernel
@@ -109,6 +110,26 @@ pub run_is : (p : PlainProgram) (output : PlainTy) (g : Given) (k : Kernel) (l :
     → rows ≡ lists_of output (source_value p (world_given g)) → EndsUnder g.schedule k l c rows events releases → RunsAsGiven p output k g events releases
 run_is p output g k l c rows events releases launch cells left e =
     subst (λ x. EndsUnder g.schedule k g.launch (begun p output (world_given g)) x events releases) left (run_as_given g.schedule k l g.launch c (begun p output (world_given g)) rows events releases launch cells e)
+
+-- a schedule makes one run
+abbrev pub OneRun : Type 0
+OneRun = (d : Device) (schedule : Schedule) (s : State) (es fs : List Event) → ScheduledRun schedule d s es → ScheduledRun schedule d s fs → es ≡ fs
+
+seen_of_run : OneRun → (schedule : Schedule) (k : Kernel) (l : Launch) (c : Cells) (traced : Bool) (seen : List Seen) (es : List Event) → ScheduledRun schedule (device_of k l c) (start_state k c) es
+    → (traced ≡ true → SeesRun schedule k l c seen) → (traced ≡ false → seen ≡ []) → seen ≡ traced_sights traced k l c es
+seen_of_run one schedule k l c true seen es run sees none =
+    let s = sees refl in
+    s.sights ∙ ap (sights (device_of k l c) (start_state k c)) (one (device_of k l c) schedule (start_state k c) s.run es s.scheduled run)
+seen_of_run one schedule k l c false seen es run sees none = none refl
+
+-- what is seen is of the run at the launch that is given
+pub seen_is : OneRun → (p : PlainProgram) (output : PlainTy) (g : Given) (k : Kernel) (l : Launch) (c : Cells) (traced : Bool) (seen : List Seen) → l ≡ g.launch → c ≡ begun p output (world_given g)
+    → (traced ≡ true → SeesRun g.schedule k l c seen) → (traced ≡ false → seen ≡ [])
+    → (es : List Event) → ScheduledRun g.schedule (device_of k g.launch (begun p output (world_given g))) (start_state k (begun p output (world_given g))) es
+    → seen ≡ traced_sights traced k g.launch (begun p output (world_given g)) es
+seen_is one p output g k l c traced seen launch cells sees none es run =
+    seen_of_run one g.schedule k g.launch (begun p output (world_given g)) traced seen es run
+    (λ t. subst (λ x. SeesRun g.schedule k g.launch x seen) cells (subst (λ x. SeesRun g.schedule k x c seen) launch (sees t))) none
 
 -- what is made of an answer
 pub made_of : {V E : Type 0} (r : Result V E) (P Q : V → Type 0) → ((v : V) → P v → Q v) → IfOk r P → IfOk r Q

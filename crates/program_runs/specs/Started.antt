@@ -17,7 +17,7 @@ use Rattle.program_source.specs.Stages.{As, Then}
 use Rattle.program_source.specs.Terms.{TermsOf}
 use Rattle.compilation.specs.Compiled.{IsCompiled}
 use Rattle.compilation.specs.Legal.{LegalOf}
-use Rattle.program_runs.specs.Runs.{IsLineOfText, world_given}
+use Rattle.program_runs.specs.Runs.{AreLinesOfText, world_given}
 
 -- what a launch file gives a program, or the first check that it fails
 abbrev pub LaunchOf : PlainProgram → Ask → (launch : List ℕ) → Result Given LaunchNo → Type 0
@@ -39,8 +39,8 @@ pub record StagesEndOnce : Type 0 where
   pub run : (program script launch : List ℕ) → HasOneEnd program (λ p. RunOf p script launch)
   pub value : (program launch : List ℕ) → HasOneEnd program (λ p. EvalOf p launch)
 
--- The line is that of the run of what is read back from the text of the program's kernel: the source's value, and the counts of that run.
-pub record IsRunLine (program script launch line : List ℕ) : Type 0 where
+-- The lines are those of the run of what is read back from the text of the program's kernel: its events, where it is traced, the source's value, and the counts of that run.
+pub record AreRunLines (program script launch : List ℕ) (traced : Bool) (lines : List ℕ) : Type 0 where
   pub source : PlainProgram
   pub output : PlainTy
   pub task : Bool
@@ -48,7 +48,7 @@ pub record IsRunLine (program script launch line : List ℕ) : Type 0 where
   pub compiled : IsCompiled program script source output task text
   pub given : Given
   pub launch_file : IsLaunchFile source (Run task) launch given
-  pub run : IsLineOfText source output text given line
+  pub run : AreLinesOfText source output text given traced lines
 
 -- The line is that of the value of the source expression, at the launch file's sizes and inputs.
 pub record IsValueLine (program launch line : List ℕ) : Type 0 where

@@ -1,28 +1,37 @@
 //! The run of the text of a kernel.
-ghost use Rattle.std.specs.Prelude.{◌≡◌, IfErr, IfOk, map};
+ghost use Rattle.std.specs.Prelude.{◌≡◌, ◌++◌, [], false, true, IfErr, IfOk, Some, map};
 ghost use Rattle.kernel_tree.specs.Kernels.{kernel_of};
 ghost use Rattle.kernel_tree.specs.KernelText.{IsKernelText};
+ghost use Rattle.kernel_tree.specs.Launch as shown;
+ghost use Rattle.kernel_tree.specs.Schedule.{schedule_of};
+ghost use Rattle.ndrange_device.specs.Outcomes.{EndsUnder, Refuses, SeesRun};
 ghost use Rattle.lift_tree.specs.Launches.{lists_of};
 ghost use Rattle.lift_tree.specs.Programs.{program_of};
 ghost use Rattle.lift_tree.specs.Types.{ty_of};
 ghost use Rattle.lift_tree.specs.Values.{value_of};
 ghost use Rattle.value_lists.specs.Lists.{value_in};
 ghost use Rattle.launch_file.specs.LaunchFile.{given_by};
+ghost use Rattle.launch_file.specs.ResultLine.{result_line};
+ghost use Rattle.launch_file.specs.TraceLines.{trace_lines};
 ghost use Rattle.fault_lines.specs.Shown.{failure_of};
 ghost use Rattle.program_source.specs.Ends.{FailsFor, OnSource};
 ghost use Rattle.program_source.specs.Program.{source_value};
-ghost use Rattle.program_runs.specs.Runs.{IsAdmissibleFor, IsLineOfText, RunsText, world_given};
-ghost use Rattle.program_runs.specs.Started.{IsRunLine, RunOf};
+ghost use Rattle.program_runs.specs.Runs.{AreLinesOfText, IsAdmissibleFor, RunsText, world_given};
+ghost use Rattle.program_runs.specs.Started.{AreRunLines, RunOf};
 
 use crate::cells::begun;
 use compilation::{Compiled, compile_text};
 use fault_lines::Failure;
 use kernel_reader::{KernelNo, read_kernel};
 use kernel_spelling::one_kernel;
+use kernel_tree::events::Seen;
 use kernel_tree::launches;
+use kernel_tree::launches::{Cells, Schedule};
+use kernel_tree::laws::one_scheduled_run;
 use kernel_tree::tree::Kernel;
 use launch_file::file::{Ask, LaunchFile, read_launch};
 use launch_file::result::result_text;
+use launch_file::trace::trace_text;
 use lift_reader::program::programs_may_be_typed;
 use lift_tree::laws::values_have_their_types;
 use lift_tree::value::Val;
@@ -54,25 +63,58 @@ fn copied(alloc: Global, launch: &launches::Launch) -> Result<launches::Launch, 
     })
 }
 
-// What the run of what is read back from the text leaves, under the schedule of the file.
-fn run_back(alloc: Global, compiled: &Compiled, file: &LaunchFile) -> Result<Outcome, AllocError>
+// What a run leaves, and what is seen of it, where it is traced.
+fn traced_launch(
+    alloc: Global,
+    kernel: Kernel,
+    at: launches::Launch,
+    cells: Cells,
+    schedule: &Schedule,
+    traced: bool,
+) -> Result<(Outcome, Vec<Seen>), DeviceNo>
+    requires may_start { shown.MayStart (kernel_of kernel) at cells }
+    ensures outcome { IfOk result (λ ran. EndsUnder (schedule_of schedule.now) (kernel_of kernel)
+        at cells (map (λ row. row.items) ran.0.outputs.items) ran.0.events ran.0.releases) }
+    ensures refusal { IfErr result (Refuses (schedule_of schedule.now) (kernel_of kernel) at cells) }
+    ensures traced { IfOk result (λ ran. traced ≡ true
+        → SeesRun (schedule_of schedule.now) (kernel_of kernel) at cells ran.1.items) }
+    ensures untraced { IfOk result (λ ran. traced ≡ false → ran.1.items ≡ []) }
+{
+    let mut seen = Vec::new(alloc);
+    let outcome = if traced {
+        launch(alloc, kernel, at, cells, schedule, Some(&mut seen))?
+    } else {
+        launch(alloc, kernel, at, cells, schedule, None)?
+    };
+    Ok((outcome, seen))
+}
+
+// What the run of what is read back from the text leaves, under the schedule of the file, and what
+// is seen of it, where it is traced.
+fn run_back(
+    alloc: Global,
+    compiled: &Compiled,
+    file: &LaunchFile,
+    traced: bool,
+) -> Result<(Outcome, Vec<Seen>), AllocError>
     requires { IsAdmissibleFor (program_of compiled.now.program) compiled.now.is_task
         (given_by file.now) }
-    ensures left { IfOk result (λ outcome. map (λ l. l.items) outcome.outputs.items
+    ensures left { IfOk result (λ ran. map (λ l. l.items) ran.0.outputs.items
         ≡ lists_of (ty_of compiled.now.output)
         (source_value (program_of compiled.now.program) (world_given (given_by file.now)))) }
-    ensures run { IfOk result (λ outcome. RunsText (program_of compiled.now.program)
-        (ty_of compiled.now.output) compiled.now.text.items (given_by file.now)
-        outcome.events outcome.releases) }
+    ensures run { IfOk result (λ ran. RunsText (program_of compiled.now.program)
+        (ty_of compiled.now.output) compiled.now.text.items (given_by file.now) traced
+        ran.0.events ran.0.releases ran.1.items) }
 {
+    one_scheduled_run();
     lists_have_lengths();
     values_have_their_types();
     one_kernel();
     let kernel = read_back(alloc, compiled)?;
     let at = copied(alloc, &file.launch)?;
     let cells = begun(alloc, compiled, file)?;
-    match launch(alloc, kernel, at, cells, &file.schedule) {
-        Ok(outcome) => Ok(outcome),
+    match traced_launch(alloc, kernel, at, cells, &file.schedule, traced) {
+        Ok(ran) => Ok(ran),
         Err(DeviceNo::Memory) => Err(AllocError),
         Err(DeviceNo::Fault { .. }) => unreachable!(),
     }
@@ -95,37 +137,54 @@ fn value_left(
     value_of_lists(alloc, &compiled.output, &file.sizes, outs)
 }
 
-/// The result line of the run of what is read back from the text, at the launch and on the inputs
-/// of a launch file, which are admissible for the program, under the file's schedule. No run of it
-/// has a fault, and its value is the program's.
+// The lines of what is seen of a run, and then the result line.
+fn lines_of(
+    alloc: Global,
+    seen: &[Seen],
+    value: &Val,
+    counts: (u64, u64),
+) -> Result<Vec<u8>, AllocError>
+    ensures { IfOk result (λ lines. lines.items
+        ≡ trace_lines seen.now ++ result_line (value_of value.now) (Some counts)) }
+{
+    let mut lines = trace_text(alloc, seen)?;
+    lines.extend_from_slice(&result_text(alloc, value, Some(counts))?)?;
+    Ok(lines)
+}
+
+/// The run of what is read back from the text, at the launch and on the inputs of a launch file,
+/// which are admissible for the program, under the file's schedule: with `trace` a line for each
+/// event, and then the result line. No run of it has a fault, and its value is the program's.
 pub fn run_launch(
     alloc: Global,
     compiled: &Compiled,
     file: &LaunchFile,
+    trace: bool,
 ) -> Result<Vec<u8>, AllocError>
     requires { IsAdmissibleFor (program_of compiled.now.program) compiled.now.is_task
         (given_by file.now) }
-    ensures { IfOk result (λ line. IsLineOfText (program_of compiled.now.program)
-        (ty_of compiled.now.output) compiled.now.text.items (given_by file.now) line.items) }
+    ensures { IfOk result (λ lines. AreLinesOfText (program_of compiled.now.program)
+        (ty_of compiled.now.output) compiled.now.text.items (given_by file.now) trace lines.items) }
 {
     lists_hold_one_value();
     values_have_their_types();
-    let outcome = run_back(alloc, compiled, file)?;
+    let (outcome, seen) = run_back(alloc, compiled, file, trace)?;
     let value = value_left(alloc, compiled, file, &outcome.outputs)?;
-    result_text(alloc, &value, Some((outcome.events, outcome.releases)))
+    lines_of(alloc, &seen, &value, (outcome.events, outcome.releases))
 }
 
-/// The result line of a program, a script and a launch file: compiles, and runs what is read back
-/// from the text at the launch that the file gives. A refusal is the first cause in the order of
-/// the stages: those of [`compile_text`], then the launch file's.
+/// The run of a program, a script and a launch file: compiles, runs what is read back from the
+/// text at the launch that the file gives, and tells of it as [`run_launch`] does. A refusal is the
+/// first cause in the order of the stages: those of [`compile_text`], then the launch file's.
 pub fn run_text(
     alloc: Global,
     program: &[u8],
     script: &[u8],
     launch: &[u8],
+    trace: bool,
 ) -> Result<Vec<u8>, Failure>
     ensures found { IfOk result
-        (λ line. IsRunLine program.now script.now launch.now line.items) }
+        (λ lines. AreRunLines program.now script.now launch.now trace lines.items) }
     ensures refused { IfErr result (λ failure. FailsFor
         (OnSource program.now (λ p. RunOf p script.now launch.now)) (failure_of failure)) }
 {
@@ -136,7 +195,7 @@ pub fn run_text(
         task: compiled.is_task,
     };
     match read_launch(alloc, launch, &compiled.program, ask) {
-        Ok(file) => Ok(run_launch(alloc, &compiled, &file)?),
+        Ok(file) => Ok(run_launch(alloc, &compiled, &file, trace)?),
         Err(no) => Err(Failure::Launch {
             program: compiled.program,
             no,

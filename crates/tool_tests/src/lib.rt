@@ -14,4 +14,6 @@ mod refusals;
 #[cfg(test)]
 mod terms;
 #[cfg(test)]
+mod traces;
+#[cfg(test)]
 mod values;

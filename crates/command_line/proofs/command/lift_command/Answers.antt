@@ -11,10 +11,9 @@ both a b outer inner p q = ap₂ with_subcommand p (ap (λ (x : App). x.top) q)
 pub returns : goal.returns
 returns c =
     let compile : app_of c.in_ok-compile.compile ≡ file_command (codes "compile") (program ∷ script ∷ []) = search rules in
-    let run : app_of c.in_ok-run.run' ≡ file_command (codes "run") (program ∷ script ∷ launch ∷ []) = search rules in
     let eval : app_of c.in_ok-eval.eval ≡ file_command (codes "eval") (program ∷ launch ∷ []) = search rules in
     let steps : app_of c.in_ok-steps.steps ≡ file_command (codes "steps") (program ∷ script ∷ []) = search rules in
     let one = c.in_ok-command.ensures.app ∙ both _ _ _ _ c.bare_command-command.ensures.app compile in
-    let two = c.in_ok-command-2.ensures.app ∙ both _ _ _ _ one run in
+    let two = c.in_ok-command-2.ensures.app ∙ both _ _ _ _ one c.in_ok-run.ensures.app in
     let three = c.in_ok-command-3.ensures.app ∙ both _ _ _ _ two eval in
     IfOk-weaker c.with_subcommand-4.result _ _ (λ m h. h ∙ both _ _ _ _ three steps) c.with_subcommand-4.ensures.app

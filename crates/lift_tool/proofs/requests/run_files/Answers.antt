@@ -16,8 +16,8 @@ returns-in_err-program-clause-refused g c =
     let p : List ℕ = string_bytes {Z = Global} c.args.program in
     let s : List ℕ = string_bytes {Z = Global} c.args.script in
     let l : List ℕ = string_bytes {Z = Global} c.args.launch in
-    handed_on (FailsFor told rose (run p s l)) _ _ c.from_residual.ensures.1
-    (files_fail told rose (run p s l) _ (two_unread told rose (p, source_limit) (s, source_limit) ((l, launch_limit) ∷ []) _ c.in_err-program.ensures.cause))
+    handed_on (FailsFor told rose (run p s l c.args.trace)) _ _ c.from_residual.ensures.1
+    (files_fail told rose (run p s l c.args.trace) _ (two_unread told rose (p, source_limit) (s, source_limit) ((l, launch_limit) ∷ []) _ c.in_err-program.ensures.cause))
 
 pub returns-in_err-launch-clause-refused : goal.returns-in_err-launch-clause-refused
 returns-in_err-launch-clause-refused g c =
@@ -28,8 +28,8 @@ returns-in_err-launch-clause-refused g c =
     let p : List ℕ = string_bytes {Z = Global} c.args.program in
     let s : List ℕ = string_bytes {Z = Global} c.args.script in
     let l : List ℕ = string_bytes {Z = Global} c.args.launch in
-    handed_on (FailsFor told rose (run p s l)) _ _ c.from_residual-in_err-launch.ensures.1
-    (files_fail told rose (run p s l) _ (third_unread told rose (p, source_limit) (s, source_limit) (l, launch_limit) _ _ _ c.in_ok-program.ensures.texts
+    handed_on (FailsFor told rose (run p s l c.args.trace)) _ _ c.from_residual-in_err-launch.ensures.1
+    (files_fail told rose (run p s l c.args.trace) _ (third_unread told rose (p, source_limit) (s, source_limit) (l, launch_limit) _ _ _ c.in_ok-program.ensures.texts
     (began_later told later rose rose_later (l, launch_limit) _ c.in_ok-program.ensures.same (λ n. rose_before _ _ _ (c.in_ok-program.ensures.later n)) c.in_err-launch.ensures.cause)))
 
 pub returns-clause-refused : goal.returns-clause-refused
@@ -42,8 +42,8 @@ returns-clause-refused g c =
     let later : Told = g.F.Files.told c.read_sources.new.files in
     let texts = c.in_ok-program.ensures.texts in
     let launch = text_before told later (l, launch_limit) _ c.in_ok-program.ensures.same c.in_ok-launch.ensures.text in
-    let are : AreTexts told (files_of (run p s l)) (c.as_slice.result.now ∷ c.as_slice-2.result.now ∷ c.as_slice-3.result.now ∷ []) = rw (c.as_slice.ensures.value, c.as_slice-2.ensures.value, c.as_slice-3.ensures.value) (texts.0, (texts.1.0, (launch, tt))) in
-    texts_fail_all told rose (run p s l) (c.as_slice.result.now ∷ c.as_slice-2.result.now ∷ c.as_slice-3.result.now ∷ []) _ are c.run_text.ensures.refused
+    let are : AreTexts told (files_of (run p s l c.args.trace)) (c.as_slice.result.now ∷ c.as_slice-2.result.now ∷ c.as_slice-3.result.now ∷ []) = rw (c.as_slice.ensures.value, c.as_slice-2.ensures.value, c.as_slice-3.ensures.value) (texts.0, (texts.1.0, (launch, tt))) in
+    texts_fail_all told rose (run p s l c.args.trace) (c.as_slice.result.now ∷ c.as_slice-2.result.now ∷ c.as_slice-3.result.now ∷ []) _ are c.run_text.ensures.refused
 
 pub returns-clause-ok : goal.returns-clause-ok
 returns-clause-ok g c =
@@ -54,8 +54,8 @@ returns-clause-ok g c =
     let later : Told = g.F.Files.told c.read_sources.new.files in
     let texts = c.in_ok-program.ensures.texts in
     let launch = text_before told later (l, launch_limit) _ c.in_ok-program.ensures.same c.in_ok-launch.ensures.text in
-    let are : AreTexts told (files_of (run p s l)) (c.as_slice.result.now ∷ c.as_slice-2.result.now ∷ c.as_slice-3.result.now ∷ []) = rw (c.as_slice.ensures.value, c.as_slice-2.ensures.value, c.as_slice-3.ensures.value) (texts.0, (texts.1.0, (launch, tt))) in
-    answers_all (λ (v : Vec ℕ Global). v.items) told (run p s l) (c.as_slice.result.now ∷ c.as_slice-2.result.now ∷ c.as_slice-3.result.now ∷ []) _ are c.run_text.ensures.found
+    let are : AreTexts told (files_of (run p s l c.args.trace)) (c.as_slice.result.now ∷ c.as_slice-2.result.now ∷ c.as_slice-3.result.now ∷ []) = rw (c.as_slice.ensures.value, c.as_slice-2.ensures.value, c.as_slice-3.ensures.value) (texts.0, (texts.1.0, (launch, tt))) in
+    answers_all (λ (v : Vec ℕ Global). v.items) told (run p s l c.args.trace) (c.as_slice.result.now ∷ c.as_slice-2.result.now ∷ c.as_slice-3.result.now ∷ []) _ are c.run_text.ensures.found
 
 pub returns-in_err-program-clause-asks : goal.returns-in_err-program-clause-asks
 returns-in_err-program-clause-asks g c =

@@ -8,11 +8,11 @@ use Rattle.ndrange_device.specs.declared.outcome.DeviceNo.{DeviceNo}
 use Rattle.launch_file.specs.LaunchFile.{given_by}
 use Rattle.lift_tree.specs.Programs.{program_of}
 use Rattle.lift_tree.specs.Types.{ty_of}
-use Rattle.program_runs.proofs.Running.{clean_as_made, left_as_made, run_is, starts_as_made}
+use Rattle.program_runs.proofs.Running.{clean_as_made, left_as_made, run_is, seen_is, starts_as_made}
 use Rattle.program_runs.proofs.run.run_back.Goals as goal
 
-pub launch-requires : goal.launch-requires
-launch-requires c =
+pub traced_launch-requires : goal.traced_launch-requires
+traced_launch-requires c =
     let compiled = c.args.compiled.now in
     record {
       may_start = ∥∥₁_elim compiled.text_for (Prim.hlevel props) (λ t.
@@ -41,8 +41,14 @@ returns-in-Ok-clause-run c =
     let left = ∥∥₁_elim compiled.text_for (Prim.hlevel props) (λ t.
     left_as_made (program_of compiled.program) (ty_of compiled.output) compiled.is_task compiled.text.items (given_by c.args.file.now) c.values_have_their_types.ensures c.requires t
     c.lists_have_lengths.ensures c.one_kernel.ensures _ c.in_ok-kernel.ensures _ _ c.in_ok-at.ensures c.in_ok-cells.ensures _ _ _ _ c.in-Ok.ensures.outcome) in
+    let p = program_of compiled.program in
+    let output = ty_of compiled.output in
+    let g = given_by c.args.file.now in
+    let run = run_is p output g _ _ _ _ _ _ c.in_ok-at.ensures c.in_ok-cells.ensures left c.in-Ok.ensures.outcome in
     record {
       kernel = kernel_of c.in_ok-kernel.kernel;
       read = c.in_ok-kernel.ensures;
-      run = run_is (program_of compiled.program) (ty_of compiled.output) (given_by c.args.file.now) _ _ _ _ _ _ c.in_ok-at.ensures c.in_ok-cells.ensures left c.in-Ok.ensures.outcome;
+      run = run;
+      seen_of_it = seen_is c.one_scheduled_run.ensures.run p output g (kernel_of c.in_ok-kernel.kernel) c.in_ok-at.at c.in_ok-cells.cells c.args.traced _ c.in_ok-at.ensures c.in_ok-cells.ensures
+          c.in-Ok.ensures.traced c.in-Ok.ensures.untraced run.run run.scheduled;
     }
