@@ -81,7 +81,7 @@ fn run_sums(
         local,
         sizes: one_size(alloc, count)?,
     };
-    launch(alloc, kernel, launch_of, cells, schedule)
+    launch(alloc, kernel, launch_of, cells, schedule, None)
 }
 
 // A kernel of one output of one cell, by two work-items.
@@ -105,6 +105,7 @@ fn run_two(alloc: Global, kernel: Kernel, local: u32) -> Result<Outcome, DeviceN
         launch_of,
         cells,
         &Schedule::Numbers(Vec::new(alloc)),
+        None,
     )
 }
 

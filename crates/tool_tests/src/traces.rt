@@ -26,6 +26,19 @@ const PAIRS_LAUNCH: &str =
 const PAIRS_TOLD: &str =
     "step 0\nstep 0 reads a0 0\nstep 0 reads a1 0\nstep 0 writes o0 0\nstep 0 writes o1 0\nstep 0\nstep 0 reads a0 1\nstep 0 reads a1 1\nstep 0 writes o0 1\nstep 0 writes o1 1\nstep 0\n{\"value\":[[1,3],[2,4]],\"events\":11,\"releases\":0}\n";
 
+// Five numbers by four work-items in groups of two: the first has two turns, each other one.
+const FOUR_LAUNCH: &str =
+    "{\"global\":4,\"local\":2,\"sizes\":{\"N\":5},\"inputs\":{\"xs\":[1,2,3,4,5]},\"schedule\":[]}";
+
+const IN_ORDER: &str =
+    "step 0\nstep 0 reads a0 0\nstep 0 writes o0 0\nstep 0\nstep 0 reads a0 4\nstep 0 writes o0 4\nstep 0\nstep 1\nstep 1 reads a0 1\nstep 1 writes o0 1\nstep 1\nstep 2\nstep 2 reads a0 2\nstep 2 writes o0 2\nstep 2\nstep 3\nstep 3 reads a0 3\nstep 3 writes o0 3\nstep 3\n{\"value\":[2,3,4,5,6],\"events\":19,\"releases\":0}\n";
+
+const BACKWARDS_LAUNCH: &str =
+    "{\"global\":4,\"local\":2,\"sizes\":{\"N\":5},\"inputs\":{\"xs\":[1,2,3,4,5]},\"schedule\":[3,2,1,0]}";
+
+const BACKWARDS: &str =
+    "step 3\nstep 2\nstep 1\nstep 0\nstep 0 reads a0 0\nstep 0 writes o0 0\nstep 0\nstep 0 reads a0 4\nstep 0 writes o0 4\nstep 0\nstep 1 reads a0 1\nstep 1 writes o0 1\nstep 1\nstep 2 reads a0 2\nstep 2 writes o0 2\nstep 2\nstep 3 reads a0 3\nstep 3 writes o0 3\nstep 3\n{\"value\":[2,3,4,5,6],\"events\":19,\"releases\":0}\n";
+
 fn tells(alloc: Global, program: &str, launch: &str, out: &str) -> Result<bool, AllocError> {
     let call = Call {
         program,
@@ -67,5 +80,22 @@ fn a_write_that_fails_leaves_a_prefix(rt: HostRuntime) -> Result<(), Fail> {
         ..FIRST
     };
     assert!(rt; call.ends(rt.alloc(), &TRACED, 4, "step 0\nstep 0 re", "lift: write\n")?);
+    Ok(())
+}
+
+#[test]
+fn a_map_over_the_launch_is_told_along_its_schedule(rt: HostRuntime) -> Result<(), Fail> {
+    let call = Call {
+        script: "at . to-glb",
+        launch: FOUR_LAUNCH,
+        ..FIRST
+    };
+    assert!(rt; call.ends(rt.alloc(), &TRACED, 0, IN_ORDER, "")?);
+    let call = Call {
+        script: "at . to-glb",
+        launch: BACKWARDS_LAUNCH,
+        ..FIRST
+    };
+    assert!(rt; call.ends(rt.alloc(), &TRACED, 0, BACKWARDS, "")?);
     Ok(())
 }

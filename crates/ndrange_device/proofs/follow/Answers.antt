@@ -2,7 +2,8 @@ use Rattle.std.proofs.Common.{◌≡◌, ◌+◌, ◌≤◌, [], sym, subst, ◌
 use Rattle.kernel_tree.specs.Bound.{bound}
 use Rattle.kernel_tree.specs.Kernels.{kernel_of}
 use Rattle.kernel_tree.specs.Schedule.{schedule_of}
-use Rattle.ndrange_device.specs.Outcomes.{Gets, Sees}
+use Rattle.std.specs.Prelude.{IfErr}
+use Rattle.ndrange_device.specs.Outcomes.{Gets, Refuses, Sees}
 use Rattle.ndrange_device.specs.declared.outcome.DeviceNo.TheVariants.{Memory}
 use Rattle.ndrange_device.proofs.Running.{NotesAlong, notes_none, few_events, notes_on, refuses, ends_under, sees_fault, sees_front, sees_none, sees_run}
 use Rattle.ndrange_device.proofs.follow.Goals as goal
@@ -88,3 +89,21 @@ returns-clause-trace g c =
     sees_run (schedule_of c.args.schedule.now) (kernel_of c.args.kernel) c.args.launch c.args.cells c.loop-enabled.machine c.loop-enabled.progress c.loop-enabled.steps c.loop-enabled.enabled
     (record { outputs = c.outputs.result; events = c.loop-enabled.progress.events; releases = c.loop-enabled.progress.releases })
     c.args.traced c.args.trace.now.items c.loop-enabled.trace.items c.loop-enabled.invariant c.loop-enabled-test.false
+
+pub returns-in_err-note-clause-refusal : goal.returns-in_err-note-clause-refusal
+returns-in_err-note-clause-refusal g c =
+    let told = c.from_residual-in_err-note.ensures in
+    let memory : c.from_residual-in_err-note.result ≡ Err Memory = search rules in
+    subst (λ r. IfErr r (Refuses (schedule_of c.args.schedule.now) (kernel_of c.args.kernel) c.args.launch c.args.cells)) (sym memory) tt
+
+pub returns-in_err-note-clause-trace : goal.returns-in_err-note-clause-trace
+returns-in_err-note-clause-trace g c =
+    let schedule = schedule_of c.args.schedule.now in
+    let k = kernel_of c.args.kernel in
+    let l = c.args.launch in
+    let b = c.args.cells in
+    let old = c.args.trace.now.items in
+    let told = c.from_residual-in_err-note.ensures in
+    let memory : c.from_residual-in_err-note.result ≡ Err Memory = search rules in
+    λ t. subst (λ r. Gets (Sees schedule k l b r) old c.note.new.trace.items) (sym memory)
+    (sees_front schedule k l b c.loop-enabled.machine c.loop-enabled.progress c.loop-enabled.steps c.loop-enabled.enabled c.args.traced old c.loop-enabled.trace.items c.note.new.trace.items c.loop-enabled.invariant c.in_err-note.ensures.err t)
