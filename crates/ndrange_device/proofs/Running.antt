@@ -1,6 +1,6 @@
 -- A run along a schedule, event by event.
 use Rattle.std.proofs.Common.{◌≡◌, ℕ, zero, suc, ◌+◌, ◌%◌, ◌<◌, ◌≤◌, List, [], ◌∷◌, ◌++◌, length, Option, Some, None, refl, sym, ap, ◌∙◌, subst, ⊎_elim, inl, inr, arith, ◌⊎◌, length-append, append_assoc, append-nil}
-use Rattle.std.specs.Prelude.{replicate, slice_get, option_map, Bool, true, if◌then◌else◌, Result, Ok, Err}
+use Rattle.std.specs.Prelude.{replicate, slice_get, option_map, Bool, true, if◌then◌else◌, Ok, Err}
 use Rattle.std.proofs.lemmas.List.{length-replicate}
 use Rattle.kernel_tree.specs.declared.events.Event.{Event}
 use Rattle.kernel_tree.specs.declared.events.Event.TheVariants.{Step, Release}
@@ -271,13 +271,15 @@ module _ (schedule : Schedule) (k : Kernel) (l : Launch) (c : Cells) where
           → Refused (no.Fault kind q.events j (fault_of (wants (device_of k l c) (state_after k l c h.events) j) kind).cell)
       unfolding faults_at
       refused_at j at kind f same =
-          let faults = faults_at j at kind f in
-          (faults, λ xs is. record {
-            front = h.events;
-            scheduled = faults.scheduled;
-            fault = faults.fault;
-            sights = is ∙ ap (λ (x : Seen). sights (device_of k l c) (start_state k c) h.events ++ x ∷ []) (same ∙ ap (λ (x : Event). seen_of (device_of k l c) (state_after k l c h.events) x (Some kind)) at);
-          })
+          let faults = faults_at j at kind f in (
+            faults,
+            λ xs is. record {
+              front = h.events;
+              scheduled = faults.scheduled;
+              fault = faults.fault;
+              sights = is ∙ ap (λ (x : Seen). sights (device_of k l c) (start_state k c) h.events ++ x ∷ []) (same ∙ ap (λ (x : Event). seen_of (device_of k l c) (state_after k l c h.events) x (Some kind)) at);
+            },
+          )
 
       refuses_both : (refused : DeviceNo) → refusal_of e seen q.events ≡ Some refused → Refused refused
       refuses_both refused is = by_event e refl
@@ -329,9 +331,12 @@ module _ (schedule : Schedule) (k : Kernel) (l : Launch) (c : Cells) where
   }
 
   pub sees_run : (m : Machine) (p : Progress) (steps enabled : ℕ) (outcome : Outcome) (traced : Bool) (old new : List Seen) → NotesAlong schedule k l c m p steps enabled traced old new → enabled ≤ 0 → traced ≡ true → Gets (Sees schedule k l c (Ok outcome)) old new
-  sees_run m p steps enabled outcome traced old new h none t =
-      (sights (device_of k l c) (start_state k c) h.along.events, h.noted t, record {
-        run = h.along.events;
-        scheduled = scheduled_so m p steps enabled h.along none;
-        sights = refl;
-      })
+  sees_run m p steps enabled outcome traced old new h none t = (
+    sights (device_of k l c) (start_state k c) h.along.events,
+    h.noted t,
+    record {
+      run = h.along.events;
+      scheduled = scheduled_so m p steps enabled h.along none;
+      sights = refl;
+    },
+  )

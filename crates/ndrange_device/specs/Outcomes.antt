@@ -10,7 +10,7 @@ use Rattle.kernel_tree.specs.declared.events.FaultKind.{FaultKind}
 use Rattle.kernel_tree.specs.declared.events.Seen.{Seen}
 use Rattle.kernel_tree.specs.Code.{Kernel}
 use Rattle.kernel_tree.specs.Launch.{Launch, Cells}
-use Rattle.kernel_tree.specs.Device.{Device, State, device_of, start_state, wants, after, run, IsStuck}
+use Rattle.kernel_tree.specs.Device.{Device, State, device_of, start_state, wants, after, IsStuck}
 use Rattle.kernel_tree.specs.Faults.{FaultIs, IsFaultless, Run}
 use Rattle.kernel_tree.specs.Schedule.{Schedule, Follows, ScheduledRun}
 use Rattle.kernel_tree.specs.Seen.{fault_of, seen_of}

@@ -46,7 +46,9 @@ pub fn launch(
         Some(trace) => follow::<Brand>(alloc, kernel, launch, cells, schedule, true, trace, blank),
         None => {
             let mut none = Vec::new(alloc);
-            follow::<Brand>(alloc, kernel, launch, cells, schedule, false, &mut none, blank)
+            follow::<Brand>(
+                alloc, kernel, launch, cells, schedule, false, &mut none, blank,
+            )
         }
     }
 }
