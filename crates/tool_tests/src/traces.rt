@@ -39,7 +39,12 @@ const BACKWARDS_LAUNCH: &str =
 const BACKWARDS: &str =
     "step 3\nstep 2\nstep 1\nstep 0\nstep 0 reads a0 0\nstep 0 writes o0 0\nstep 0\nstep 0 reads a0 4\nstep 0 writes o0 4\nstep 0\nstep 1 reads a0 1\nstep 1 writes o0 1\nstep 1\nstep 2 reads a0 2\nstep 2 writes o0 2\nstep 2\nstep 3 reads a0 3\nstep 3 writes o0 3\nstep 3\n{\"value\":[2,3,4,5,6],\"events\":19,\"releases\":0}\n";
 
-fn tells(alloc: Global, program: &str, launch: &str, out: &str) -> Result<bool, AllocError> {
+fn tells(
+    alloc: Global,
+    program: &'static str,
+    launch: &'static str,
+    out: &str,
+) -> Result<bool, AllocError> {
     let call = Call {
         program,
         launch,
