@@ -35,7 +35,7 @@ module _ {A : Type 0} where
     written_long (Map Local n loads xs b) env k d direct f = joined (phases_in xs) 1 (argument_uses env k xs) (loop_uses env (origin_of env k xs) loads b d direct ∷ []) (argument_long xs env k f.0) refl
     written_long _ env k d direct f = absurd (assumption)
 
-  pub uses_long : (t : Term A) → StandsOverGroups t → length (group_uses t) ≡ phase_count t
+  uses_long : (t : Term A) → StandsOverGroups t → length (group_uses t) ≡ phase_count t
   uses_long (Reshape y t) f = uses_long t f.1
   uses_long (LetArray v b) f = uses_long b f.1
   uses_long (Map WorkGroup n loads xs b) f = written_long b (λ v. Elsewhere) 0 Outputs false f.1

@@ -1,9 +1,8 @@
 -- A walk that goes on and on.
-use Rattle.std.proofs.Common.{◌≡◌, ℕ, suc, ◌+◌, List, [], ◌∷◌, ◌++◌, length, ap, sym, ◌∙◌, subst, subst₂, arith}
+use Rattle.std.proofs.Common.{◌≡◌, ℕ, suc, ◌+◌, List, [], ◌∷◌, ◌++◌, length, length-append, ap, sym, ◌∙◌, subst, subst₂, arith}
 use Rattle.std.specs.Prelude.{Result, Ok, Err, OnOk}
 use Rattle.std.proofs.lemmas.List.{append_assoc, append-nil}
 use Rattle.group_terms.specs.Uses.{Use, touches_in, numbered}
-use Rattle.group_terms.proofs.Lists.{long_append}
 use Rattle.phase_plan.specs.declared.walk.Walk.{Walk}
 use Rattle.phase_plan.specs.Walks.{GoesOn}
 
@@ -24,7 +23,7 @@ goes_further a b c us vs m n first second =
       touches =
           let by_phase = numbered_append a.phases us (vs b.arrays) in
           second.touches ∙ ap (λ xs. xs ++ numbered b.phases (vs b.arrays)) first.touches ∙ append_assoc a.touches.items (numbered a.phases us) (numbered b.phases (vs b.arrays)) ∙ ap (λ z. a.touches.items ++ (numbered a.phases us ++ numbered z (vs b.arrays))) first.phases ∙ ap (λ xs. a.touches.items ++ xs) (sym by_phase);
-      phases = let l = long_append us (vs b.arrays) in let x = first.phases in let y = second.phases in omega arith;
+      phases = let l = length-append us (vs b.arrays) in let x = first.phases in let y = second.phases in omega arith;
       arrays = let x = first.arrays in let y = second.arrays in omega arith;
     })
 

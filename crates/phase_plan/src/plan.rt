@@ -9,6 +9,7 @@ ghost use Rattle.group_terms.specs.Uses.{group_touches, phase_count};
 
 use crate::walk::Walk;
 use barrier_placement::{Barriers, Touch, place};
+use group_terms::laws::uses_tell_barriers;
 use lowering::term::Term;
 use std::alloc::{AllocError, Global};
 
@@ -51,6 +52,7 @@ pub fn needed_barriers(alloc: Global, root: &Term) -> Result<Barriers, AllocErro
         All (λ b. NeededBy (group_touches (term_of root.now)) (phase_count (term_of root.now))
         (fence (phase_count (term_of root.now)) barriers.items) b.before b.pair) barriers.items) }
 {
+    uses_tell_barriers();
     let plan = Plan::of(alloc, root)?;
     place(alloc, &plan.touches, plan.phases)
 }

@@ -1,6 +1,6 @@
 // The walk through a body, phase by phase.
 
-ghost use Rattle.std.specs.Prelude.{◌≡◌, ◌+◌, ◌++◌, [], ◌∷◌, length, IfOk, OnOk, false, true};
+ghost use Rattle.std.specs.Prelude.{◌≡◌, ◌+◌, ◌++◌, [], ◌∷◌, IfOk, OnOk, false, true};
 ghost use Rattle.lift_tree.specs.Types.{ty_of};
 ghost use Rattle.lift_ir.specs.AtLaunch.{ty_at};
 ghost use Rattle.lift_ir.specs.Types.{width};
@@ -140,6 +140,8 @@ impl Walk {
         ensures goes_on { OnOk result (GoesOn self.old self.new
             (uses.argument_uses (origins_in scope.now) self.old.arrays (term_of term.now))
             (origins.local_count (term_of term.now))) }
+        ensures phases { OnOk result
+            (self.new.phases ≡ self.old.phases + uses.phases_in (term_of term.now)) }
     {
         match term {
             Term::Bound(variable) => match scope.origin(*variable) {
@@ -190,6 +192,8 @@ impl Walk {
             (uses.written_uses (origins_in scope.now) self.old.arrays (term_of term.now)
             (destination_from (self.old.arrays + origins.local_count (term_of term.now)) to.entry) direct)
             (origins.local_count (term_of term.now) + width_of to.entry)) }
+        ensures phases { OnOk result
+            (self.new.phases ≡ self.old.phases + uses.phases_in (term_of term.now)) }
     {
         match term {
             Term::Reshape(_, a) => self.written(alloc, scope, a, to, false),
@@ -223,7 +227,7 @@ impl Walk {
     pub fn through(alloc: Global, root: &Term) -> Result<Self, AllocError>
         requires { StandsOverGroups (term_of root.now) }
         ensures phases { IfOk result
-            (λ walk. walk.phases ≡ length (uses.group_uses (term_of root.now))) }
+            (λ walk. walk.phases ≡ uses.phase_count (term_of root.now)) }
         ensures touches { IfOk result
             (λ walk. walk.touches.items ≡ uses.group_touches (term_of root.now)) }
     {
