@@ -15,9 +15,9 @@ abbrev pub destination_from : ℕ → Destination → uses.Destination
 destination_from first (destination.Locals ty) = uses.Locals first (ty_at [] (ty_of ty.now))
 destination_from first destination.Outputs = uses.Outputs
 
-abbrev pub laid_from : ℕ → Destination → origins.Origin
-laid_from first (destination.Locals ty) = origins.laid_from first (ty_at [] (ty_of ty.now))
-laid_from first destination.Outputs = origins.Elsewhere
+abbrev pub origin_from : ℕ → Destination → origins.Origin
+origin_from first (destination.Locals ty) = origins.laid_from first (ty_at [] (ty_of ty.now))
+origin_from first destination.Outputs = origins.Elsewhere
 
 -- how many local arrays it takes
 abbrev pub width_of : Destination → ℕ

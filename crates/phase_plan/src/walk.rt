@@ -9,7 +9,7 @@ ghost use Rattle.group_terms.specs.Forms.{StandsInGroup, StandsOverGroups};
 ghost use Rattle.group_terms.specs.Origins as origins;
 ghost use Rattle.group_terms.specs.Uses as uses;
 ghost use Rattle.phase_plan.specs.Origins.{origin_in, origins_in};
-ghost use Rattle.phase_plan.specs.Walks.{destination_from, laid_from, width_of, GoesOn};
+ghost use Rattle.phase_plan.specs.Walks.{destination_from, origin_from, width_of, GoesOn};
 
 use crate::named::named_by_map;
 use crate::origin::{Origin, by_side};
@@ -84,7 +84,7 @@ impl Walk {
 
     // Writes a phase's value, and gives where it lies then.
     fn write(&mut self, alloc: Global, to: Destination, direct: bool) -> Result<Origin, AllocError>
-        ensures origin { IfOk result (λ o. origin_in o ≡ laid_from self.old.arrays to.entry) }
+        ensures origin { IfOk result (λ o. origin_in o ≡ origin_from self.old.arrays to.entry) }
         ensures touches { OnOk result (self.new.touches.items ≡ self.old.touches.items
             ++ uses.touches_in self.old.phases (uses.writes_to (destination_from self.old.arrays to.entry) direct)) }
         ensures phases { OnOk result (self.new.phases ≡ self.old.phases) }
@@ -112,7 +112,7 @@ impl Walk {
         to: Destination,
         direct: bool,
     ) -> Result<Origin, AllocError>
-        ensures origin { IfOk result (λ o. origin_in o ≡ laid_from self.old.arrays to.entry) }
+        ensures origin { IfOk result (λ o. origin_in o ≡ origin_from self.old.arrays to.entry) }
         ensures goes_on { OnOk result (GoesOn self.old self.new
             (uses.loop_uses (origins_in scope.now) (origin_in argument.now) (load_set_of loads.now)
             (term_of body.now) (destination_from self.old.arrays to.entry) direct ∷ []) (width_of to.entry)) }
@@ -187,7 +187,7 @@ impl Walk {
     ) -> Result<Origin, AllocError>
         requires { StandsInGroup true (term_of term.now) }
         ensures origin { IfOk result (λ o. origin_in o
-            ≡ laid_from (self.old.arrays + origins.local_count (term_of term.now)) to.entry) }
+            ≡ origin_from (self.old.arrays + origins.local_count (term_of term.now)) to.entry) }
         ensures goes_on { OnOk result (GoesOn self.old self.new
             (uses.written_uses (origins_in scope.now) self.old.arrays (term_of term.now)
             (destination_from (self.old.arrays + origins.local_count (term_of term.now)) to.entry) direct)
