@@ -1,4 +1,4 @@
-use Rattle.std.proofs.Common.{ℕ, ◌+◌, ◌∷◌, [], sym, ap, ◌∙◌, subst, subst₂}
+use Rattle.std.proofs.Common.{◌+◌, ◌∷◌, [], sym, ap, ◌∙◌, subst, subst₂}
 use Rattle.std.proofs.lemmas.Result.{on_ok_weaker}
 use Rattle.lift_ir.specs.Terms.{push}
 use Rattle.lowering.specs.Terms.{load_set_of, term_of}

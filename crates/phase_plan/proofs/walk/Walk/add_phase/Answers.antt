@@ -1,4 +1,4 @@
-use Rattle.std.proofs.Common.{◌≡◌, ◌+◌, ◌++◌, sym, ap, ◌∙◌, arith}
+use Rattle.std.proofs.Common.{◌≡◌, ◌+◌, ◌++◌, ap, ◌∙◌}
 use Rattle.lowering.specs.Terms.{load_set_of, term_of}
 use Rattle.group_terms.specs.Named.{element_ways, named_outside}
 use Rattle.group_terms.specs.Uses.{element_reads, variable_reads, writes_to, touches_in}
