@@ -80,7 +80,6 @@ ROWS = [
     (ROWS_OF + "map(\\r. map(\\x. x, r), xs)", "at 1 to-glb\nat . to-seq", None, 11, "lift: nest: N9 at 1"),
     (ARRAY + "slide(1, 1, map(\\x. x, xs))", "at 0 to-seq", None, 11, "lift: nest: N10 at ."),
     ("input xs: [u32; 5]; output xs", "", None, 11, "lift: nest: N11 at ."),
-    (ADDED, "at . split-map 1\nat 0.1 to-lcl\nat 0 to-wrg", None, 11, "lift: nest: N0 at 0"),
     (ADDED, "at . to-seq", launch()[:-1], 12, "lift: launch: not json"),
     (ADDED, "at . to-seq", launch(local=None), 12, "lift: launch: missing local"),
     (ADDED, "at . to-seq", launch(sizes={}), 12, "lift: launch: missing sizes.N"),

@@ -13,9 +13,8 @@ use Rattle.lift_tree.specs.Typing.{IsAdmissible, declared_by}
 use Rattle.lift_tree.specs.Values.{Value}
 use Rattle.lift_tree.specs.declared.typed.Typed.{Typed}
 use Rattle.lowered_tree.specs.Kinds.{is_task}
-use Rattle.nest_premises.specs.Printable.{IsPrintable}
 use Rattle.printed_form.specs.Headline.{EveryRunKeeps}
-use Rattle.printed_form.specs.Programs.{AreBuffersOf, IsLaunchOf, PrintedProgramsKeep, PrintedProgramsStart, cell_owner}
+use Rattle.printed_form.specs.Programs.{AreBuffersOf, IsLaunchOf, cell_owner}
 use Rattle.rewriting.specs.Keeps.{Keeps}
 use Rattle.strategy_script.specs.Steps.{State, state_of}
 use Rattle.fault_lines.specs.declared.refusal.Refusal.{Refusal}
@@ -23,15 +22,15 @@ use Rattle.program_source.specs.Program.{OnProgram, StopsFor, source_value}
 use Rattle.program_source.specs.SourceTerms.{IsLastTerm}
 use Rattle.program_source.specs.Terms.{TermsOf}
 use Rattle.program_source.proofs.FewNodes.{few_inputs}
-use Rattle.compilation.specs.Compiled.{IsCompiled, PrintsAtAll}
+use Rattle.compilation.specs.Compiled.{IsCompiled, IsKernelFor}
 use Rattle.compilation.specs.Legal.{CompilesTerm, IsTypedLast, LegalOf}
 use Rattle.compilation.specs.Meets.{Admits, CanBeLaidOut, IsTextFor, LeavesSource, MeetsSource, Starts}
 
 -- ---- what is printed for a term that keeps the source's value
 
-module _ (p : PlainProgram) (s : State) (k : Kernel) (printable : IsPrintable (declared_by p) s.tree s.types) (keeps : Keeps (declared_by p) [] p.body s.tree) (prints : PrintsAtAll p s k) where
+module _ (p : PlainProgram) (s : State) (k : Kernel) (for : IsKernelFor p s k) (kept : Keeps (declared_by p) [] p.body s.tree) where
   same_value : (w : World) → IsAdmissible (declared_by p) w → meaning w [] s.tree ≡ source_value p w
-  same_value w ok = keeps.value w [] ok (λ n a e. absurd (cc (e)))
+  same_value w ok = kept.value w [] ok (λ n a e. absurd (cc (e)))
 
   module _ (w : World) (l : Launch) (c : Cells) (a : Admits p (type_in s.types) (is_task s.tree) w l c) where
     launch_of : IsLaunchOf (declared_by p) (is_task s.tree) w.bases l
@@ -40,14 +39,13 @@ module _ (p : PlainProgram) (s : State) (k : Kernel) (printable : IsPrintable (d
     cells_of : AreBuffersOf (declared_by p) w s.tree s.types c
     cells_of = record { inputs = a.inputs; outputs = a.outputs ∙ ap (λ (v : Value). map length (lists_of (type_in s.types) v)) (sym (same_value w a.world)) }
 
-  pub starts : PrintedProgramsStart → Starts p (type_in s.types) (is_task s.tree) k
-  starts law w l c a =
-      law (declared_by p) (is_task s.tree) w s.tree s.types l k c (printable.lowerable w.bases a.world.bases) a.world (launch_of w l c a) (cells_of w l c a) (prints w.bases l (launch_of w l c a))
+  pub starts : Starts p (type_in s.types) (is_task s.tree) k
+  starts w l c a = for.starts w l c a.world (launch_of w l c a) (cells_of w l c a)
 
-  pub meets : PrintedProgramsKeep → MeetsSource p (type_in s.types) s k
-  meets law w l c a =
+  pub meets : MeetsSource p (type_in s.types) s k
+  meets w l c a =
       subst (λ (v : Value). EveryRunKeeps k l c (cell_owner w.bases l s.tree s.types) (lists_of (type_in s.types) v)) (same_value w a.world)
-      (law (declared_by p) (is_task s.tree) w s.tree s.types l k c (printable.lowerable w.bases a.world.bases) a.world (launch_of w l c a) (cells_of w l c a) (prints w.bases l (launch_of w l c a)))
+      (for.keeps w l c a.world (launch_of w l c a) (cells_of w l c a))
 
 -- a kernel that meets its source leaves its value
 pub leaves : (p : PlainProgram) (output : PlainTy) (s : State) (k : Kernel) → MeetsSource p output s k → LeavesSource p output (is_task s.tree) k
@@ -64,10 +62,10 @@ typed_last program script t last = record {
   low = last.low;
 }
 
-pub compiled_found : (program script : List ℕ) (t : Typed) (output : PlainTy) (task : Bool) (text : List ℕ) (k : Kernel) → PrintedProgramsStart → PrintedProgramsKeep → output ≡ type_in (annotation_of t.types)
-    → is_task (tree_of t.term) ≡ task → IsLastTerm program script t → CompilesTerm (state_of t) (Ok (state_of t)) → IsPrintable (declared_by (program_of t.program)) (tree_of t.term) (annotation_of t.types)
-    → PrintsAtAll (program_of t.program) (state_of t) k → IsKernelText text k → IsCompiled program script (program_of t.program) output task text
-compiled_found program script t output task text k start keep same alone last compiles printable prints written =
+pub compiled_found : (program script : List ℕ) (t : Typed) (output : PlainTy) (task : Bool) (text : List ℕ) (k : Kernel) → output ≡ type_in (annotation_of t.types)
+    → is_task (tree_of t.term) ≡ task → IsLastTerm program script t → CompilesTerm (state_of t) (Ok (state_of t))
+    → IsKernelFor (program_of t.program) (state_of t) k → IsKernelText text k → IsCompiled program script (program_of t.program) output task text
+compiled_found program script t output task text k same alone last compiles for written =
     let p = program_of t.program in
     subst (λ (a : PlainTy). IsCompiled program script p a task text) (sym same)
     (record {
@@ -79,17 +77,17 @@ compiled_found program script t output task text k start keep same alone last co
       keeps = last.term.keeps;
       kernel = k;
       written = written;
-      prints = prints;
-      parameters = starts p (state_of t) k printable last.term.keeps prints start;
-      meets = meets p (state_of t) k printable last.term.keeps prints keep;
+      prints = for.prints;
+      parameters = starts p (state_of t) k for last.term.keeps;
+      meets = meets p (state_of t) k for last.term.keeps;
     })
 
 -- what a type keeps of it
-pub text_for : (program script : List ℕ) (t : Typed) (output : PlainTy) (task : Bool) (text : List ℕ) (k : Kernel) → PrintedProgramsStart → PrintedProgramsKeep → output ≡ type_in (annotation_of t.types)
-    → is_task (tree_of t.term) ≡ task → IsLastTerm program script t → CanBeLaidOut (program_of t.program) (type_in (annotation_of t.types)) → IsPrintable (declared_by (program_of t.program)) (tree_of t.term) (annotation_of t.types)
-    → PrintsAtAll (program_of t.program) (state_of t) k → IsKernelText text k
+pub text_for : (program script : List ℕ) (t : Typed) (output : PlainTy) (task : Bool) (text : List ℕ) (k : Kernel) → output ≡ type_in (annotation_of t.types)
+    → is_task (tree_of t.term) ≡ task → IsLastTerm program script t → CanBeLaidOut (program_of t.program) (type_in (annotation_of t.types))
+    → IsKernelFor (program_of t.program) (state_of t) k → IsKernelText text k
     → IsTextFor (program_of t.program) output task text
-text_for program script t output task text k start keep same told last laid_out printable prints written =
+text_for program script t output task text k same told last laid_out for written =
     let p = program_of t.program in
     subst (λ (b : Bool). IsTextFor p output b text) told
     (subst (λ (a : PlainTy). IsTextFor p a (is_task (tree_of t.term)) text) (sym same)
@@ -98,8 +96,8 @@ text_for program script t output task text k start keep same told last laid_out 
       laid_out = laid_out;
       kernel = k;
       written = written;
-      starts = starts p (state_of t) k printable last.term.keeps prints start;
-      leaves = leaves p (type_in (annotation_of t.types)) (state_of t) k (meets p (state_of t) k printable last.term.keeps prints keep);
+      starts = starts p (state_of t) k for last.term.keeps;
+      leaves = leaves p (type_in (annotation_of t.types)) (state_of t) k (meets p (state_of t) k for last.term.keeps);
     }))
 
 -- what stops the terms stops what is compiled of them

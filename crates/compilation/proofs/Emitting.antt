@@ -1,5 +1,5 @@
 -- The kernel that is emitted for a legal term.
-use Rattle.std.proofs.Common.{◌≡◌, ◌+◌, ◌*◌, ◌<◌, ◌≤◌, ◌^◌, ℕ, List, [], Bool, true, false, cond, Option, None, Some, inl, inr, refl, sym, ap, ap₂, subst, arith, pos, negsuc, ℤ, ◌≤ℤ◌, ◌⊎◌}
+use Rattle.std.proofs.Common.{◌≡◌, ◌≢◌, ◌∙◌, ◌+◌, ◌*◌, ◌<◌, ◌≤◌, ◌^◌, ℕ, List, [], Bool, true, false, cond, Option, None, Some, inl, inr, refl, sym, ap₂, subst, arith, pos, negsuc, ℤ, ◌≤ℤ◌, ◌⊎◌}
 use Rattle.std.specs.Prelude.{nat_abs, nat_lt}
 use Rattle.std.proofs.lemmas.Bool.{ltb-false}
 use Rattle.std.proofs.lemmas.Int.{ints}
@@ -30,21 +30,31 @@ use Rattle.lift_ir.specs.Types.{IsShort, measured, size}
 use Rattle.lowered_tree.specs.declared.lowered.Lowered.{Lowered}
 use Rattle.lowered_tree.specs.Kinds.{is_task}
 use Rattle.nest_premises.specs.Legal.{IsLegalTerm}
-use Rattle.nest_premises.specs.Printable.{IsPrintable}
+use Rattle.nest_premises.specs.Kind.{nest_kind}
+use Rattle.nest_premises.specs.Printable.{CanBeLowered, IsPrintable}
+use Rattle.nest_premises.specs.declared.kind.NestKind.{NestKind}
+use Rattle.nest_premises.specs.declared.kind.NestKind.TheVariants.{Task, OverLaunch, OverGroups}
+use Rattle.barrier_placement.specs.Fencing.{Fencing, fence}
+use Rattle.barrier_placement.specs.Needed.{Needed}
+use Rattle.barrier_placement.specs.declared.placing.Barrier.{Barrier}
+use Rattle.group_terms.specs.Forms.{StandsOverGroups}
+use Rattle.group_terms.specs.Uses.{group_touches, phase_count}
+use Rattle.group_premises.specs.Laws.{LegalGroupsStandOverGroups}
+use Rattle.printable_groups.specs.Laws.{AreNeeded, GroupTermsArePrinted, LegalGroupKernelsAreInTheGrammar, LegalGroupsKeep, LegalGroupsStart, kernel_of_groups}
+use Rattle.group_emit.specs.Emittable.{IsGroupEmittable, fence_with}
 use Rattle.buffer_allocation.specs.Layouts.{layouts}
 use Rattle.buffer_allocation.specs.Limits.{passed_limit}
 use Rattle.value_lists.specs.Lists as lists
 use Rattle.value_lists.specs.Lists.{IsSmall}
 use Rattle.kernel_limits.specs.Within.{TermsCanBeWritten}
-use Rattle.printed_form.specs.Programs.{IsLaunchOf, Prints, StandsAt, lowered_root}
+use Rattle.printed_form.specs.Programs.{IsLaunchOf, PrintedProgramsKeep, PrintedProgramsStart, Prints, StandsAt, lowered_root}
 use Rattle.printable_terms.specs.Laws.{KernelsAreInTheGrammar, TermsArePrinted, kernel_of_term}
-use Rattle.printable_terms.specs.Sound.{HasSoundParts}
-use Rattle.sound_parts.specs.Laws.{LeastSizesAreAdmissible}
+use Rattle.sound_parts.specs.Laws.{LeastSizesAreAdmissible, TermsHaveSoundParts}
 use Rattle.kernel_emit.specs.Copies.{HasShortCopies}
 use Rattle.kernel_emit.specs.Emittable.{IsEmittable, declared_of}
-use Rattle.strategy_script.specs.Steps.{State}
-use Rattle.compilation.specs.Compiled.{PrintsAtAll}
-use Rattle.compilation.specs.Legal.{IsLoweredOf}
+use Rattle.strategy_script.specs.Steps.{State, state_of}
+use Rattle.compilation.specs.Compiled.{IsKernelFor, PrintsAs}
+use Rattle.compilation.specs.Legal.{IsAccepted, IsLoweredOf}
 use Rattle.compilation.specs.Meets.{CanBeLaidOut}
 
 -- ---- it can be emitted
@@ -74,41 +84,126 @@ stands_somewhere l t (inr h) = inr h
 abbrev pub CopiesAreShort : Type 0
 CopiesAreShort = (h : ℕ → List Bool → Bool) (t : lowering.Lowered) → LoadsSuffice h t → HasShortCopies t
 
-pub emittable : (p : PlainProgram) (t : Tree) (n : Annotation) → IsLegalTerm p t n → IsPrintable (declared_by p) t n → passed_limit t n ≡ None → height t ≤ 512 → HasSoundParts (declared_by p) t n
+pub emittable : (p : PlainProgram) (t : Tree) (n : Annotation) → IsAccepted p t n → IsPrintable (declared_by p) t n → TermsHaveSoundParts
     → KernelsAreInTheGrammar → LeastSizesAreAdmissible → TermsCanBeWritten (List Monomial) → LoweredTermsServe → CopiesAreShort → IsEmittable (declared_by p) t n
-emittable p t n legal printable within low sound grammar least written serve short =
+emittable p t n accepted printable sound grammar least written serve short =
     let d = declared_by p in
+    let legal = accepted.legal in
     let ok = least d.names legal.declared.names in
     let can = written (lowered_root t n) (stands_somewhere (least_launch d.names) (lowered_root t n) (printable.stands (leasts d.names) (least_launch d.names) (at_least d (is_task t) ok))) in
     let lowerable = printable.lowerable (leasts d.names) ok in
     record {
-      grammar = grammar d t n legal.nodes legal.output printable.staged can (few_layouts t n within) low sound;
+      grammar = grammar d t n legal.nodes legal.output printable.staged can (few_layouts t n accepted.within) accepted.low (sound p t n legal accepted.words printable);
       copies = short _ (lowered_root t n) (serve.loads d (leasts d.names) t n legal.nodes lowerable.lowerable printable.staged);
     }
 
+-- ---- a map over work-groups can
+
+group_emittable : (p : PlainProgram) (t : Tree) (n : Annotation) (barriers : List Barrier) → IsAccepted p t n → nest_kind t ≡ OverGroups → AreNeeded (fence_with barriers t n) t n
+    → LegalGroupKernelsAreInTheGrammar → LegalGroupsStandOverGroups → LeastSizesAreAdmissible → LoweredTermsServe → CopiesAreShort → IsGroupEmittable (declared_by p) barriers t n
+group_emittable p t n barriers accepted kind needed grammar stand least serve short =
+    let d = declared_by p in
+    let legal = accepted.legal in
+    let printable = stand p t n legal accepted.copies kind in
+    let lowerable = (printable.program (leasts d.names) (least d.names legal.declared.names)).lowerable in
+    record {
+      grammar = grammar p (fence_with barriers t n) t n legal accepted.copies accepted.words kind needed (few_layouts t n accepted.within) accepted.low;
+      copies = short _ (lowered_root t n) (serve.loads d (leasts d.names) t n legal.nodes lowerable.lowerable printable.staged);
+    }
+
+-- what it is lowered to stands over groups
+pub over_groups : (p : PlainProgram) (t : Tree) (n : Annotation) → IsAccepted p t n → nest_kind t ≡ OverGroups → LegalGroupsStandOverGroups → LeastSizesAreAdmissible → StandsOverGroups (lowered_root t n)
+over_groups p t n accepted kind stand least =
+    let d = declared_by p in
+    ((stand p t n accepted.legal accepted.copies kind).program (leasts d.names) (least d.names accepted.legal.declared.names)).stands
+
 -- ---- and is printed for the term
 
-pub prints_at_all : (p : PlainProgram) (s : State) (k : Kernel) → TermsArePrinted → IsPrintable (declared_by p) s.tree s.types → k ≡ kernel_of_term (declared_by p) s.tree s.types → PrintsAtAll p s k
-prints_at_all p s k law printable is bases l at =
-    subst (λ (x : Kernel). Prints (declared_by p) bases s.tree s.types l x) (sym is) (law (declared_by p) bases s.tree s.types l printable at)
+-- by items
+as_items : (j : NestKind) → j ≢ OverGroups → (d : Declared) (bases : List ℕ) (t : Tree) (n : Annotation) (l : Launch) (k : Kernel) → Prints d bases t n l k → PrintsAs j d bases t n l k
+as_items Task h d bases t n l k prints = prints
+as_items OverLaunch h d bases t n l k prints = prints
+as_items OverGroups h d bases t n l k prints = absurd (h refl)
+
+pub for_items : (p : PlainProgram) (s : State) (k : Kernel) → IsPrintable (declared_by p) s.tree s.types → nest_kind s.tree ≢ OverGroups → TermsArePrinted → PrintedProgramsStart → PrintedProgramsKeep
+    → k ≡ kernel_of_term (declared_by p) s.tree s.types → IsKernelFor p s k
+for_items p s k printable kind law start keep is =
+    let d = declared_by p in
+    let t = s.tree in
+    let n = s.types in
+    let own = kernel_of_term d t n in
+    subst (IsKernelFor p s) (sym is)
+    (record {
+      prints = λ bases l at. as_items (nest_kind t) kind d bases t n l own (law d bases t n l printable at);
+      starts = λ w l c ok at cells. start d (is_task t) w t n l own c (printable.lowerable w.bases ok.bases) ok at cells (law d w.bases t n l printable at);
+      keeps = λ w l c ok at cells. keep d (is_task t) w t n l own c (printable.lowerable w.bases ok.bases) ok at cells (law d w.bases t n l printable at);
+      outputs = refl;
+    })
+
+-- by groups
+pub for_groups : (p : PlainProgram) (s : State) (k : Kernel) (fence : ℕ → Fencing) → IsAccepted p s.tree s.types → nest_kind s.tree ≡ OverGroups → AreNeeded fence s.tree s.types
+    → LegalGroupsStandOverGroups → GroupTermsArePrinted → LegalGroupsStart → LegalGroupsKeep
+    → k ≡ kernel_of_groups (declared_by p) fence s.tree s.types → IsKernelFor p s k
+for_groups p s k fence accepted kind needed stand law start keep is =
+    let d = declared_by p in
+    let t = s.tree in
+    let n = s.types in
+    let own = kernel_of_groups d fence t n in
+    let legal = accepted.legal in
+    let copies = accepted.copies in
+    subst (IsKernelFor p s) (sym is)
+    (record {
+      prints = λ bases l at. subst (λ (j : NestKind). PrintsAs j d bases t n l own) (sym kind) (law d bases fence t n l (stand p t n legal copies kind) at needed);
+      starts = λ w l c ok at cells. start p fence w t n l c legal copies kind needed ok at cells;
+      keeps = λ w l c ok at cells. keep p fence w t n l c legal copies kind needed ok at cells;
+      outputs = refl;
+    })
 
 -- ---- as it is lowered
 
-pub emittable_lowered : (t : Typed) (l : Lowered) → IsLoweredOf t l → IsEmittable (declared_by (program_of t.program)) (tree_of t.term) (annotation_of t.types) → IsEmittable (declared_of l) (tree_of l.term) (annotation_of l.types)
-emittable_lowered t l is h =
-    subst (λ (d : Declared). IsEmittable d (tree_of l.term) (annotation_of l.types)) (sym is.declared)
-    (subst (λ (u : Tree). IsEmittable (declared_by (program_of t.program)) u (annotation_of l.types)) (sym is.term)
-    (subst (λ (n : Annotation). IsEmittable (declared_by (program_of t.program)) (tree_of t.term) n) (sym is.types) h))
+module _ (t : Typed) (l : Lowered) (is : IsLoweredOf t l) where
+  onto_lowered : (P : Declared → Tree → Annotation → Type 0) → P (declared_by (program_of t.program)) (tree_of t.term) (annotation_of t.types) → P (declared_of l) (tree_of l.term) (annotation_of l.types)
+  onto_lowered P h =
+      subst (λ (d : Declared). P d (tree_of l.term) (annotation_of l.types)) (sym is.declared)
+      (subst (λ (u : Tree). P (declared_by (program_of t.program)) u (annotation_of l.types)) (sym is.term)
+      (subst (λ (n : Annotation). P (declared_by (program_of t.program)) (tree_of t.term) n) (sym is.types) h))
 
-pub kernel_lowered : (t : Typed) (l : Lowered) (k : Kernel) → IsLoweredOf t l → k ≡ kernel_of_term (declared_of l) (tree_of l.term) (annotation_of l.types) → k ≡ kernel_of_term (declared_by (program_of t.program)) (tree_of t.term) (annotation_of t.types)
-kernel_lowered t l k is h =
-    subst (λ (n : Annotation). k ≡ kernel_of_term (declared_by (program_of t.program)) (tree_of t.term) n) is.types
-    (subst (λ (u : Tree). k ≡ kernel_of_term (declared_by (program_of t.program)) u (annotation_of l.types)) is.term
-    (subst (λ (d : Declared). k ≡ kernel_of_term d (tree_of l.term) (annotation_of l.types)) is.declared h))
+  of_lowered : (P : Declared → Tree → Annotation → Type 0) → P (declared_of l) (tree_of l.term) (annotation_of l.types) → P (declared_by (program_of t.program)) (tree_of t.term) (annotation_of t.types)
+  of_lowered P h =
+      subst (λ (n : Annotation). P (declared_by (program_of t.program)) (tree_of t.term) n) is.types
+      (subst (λ (u : Tree). P (declared_by (program_of t.program)) u (annotation_of l.types)) is.term
+      (subst (λ (d : Declared). P d (tree_of l.term) (annotation_of l.types)) is.declared h))
 
--- it has an output for each component of the type
-pub few_outputs : (d : Declared) (t : Tree) (n : Annotation) (k : Kernel) → k ≡ kernel_of_term d t n → k.outputs < 2 ^ 32 → ir.width (shape_of (type_in n)) < 2 ^ 32
-few_outputs d t n k is few = subst (λ (m : ℕ). m < 2 ^ 32) (ap (λ (x : Kernel). x.outputs) is) few
+  pub emittable_lowered : IsEmittable (declared_by (program_of t.program)) (tree_of t.term) (annotation_of t.types) → IsEmittable (declared_of l) (tree_of l.term) (annotation_of l.types)
+  emittable_lowered = onto_lowered IsEmittable
+
+  pub kernel_lowered : (k : Kernel) → k ≡ kernel_of_term (declared_of l) (tree_of l.term) (annotation_of l.types) → k ≡ kernel_of_term (declared_by (program_of t.program)) (tree_of t.term) (annotation_of t.types)
+  kernel_lowered k = of_lowered (λ d u n. k ≡ kernel_of_term d u n)
+
+  module _ (r : lowering.Lowered) (root : r ≡ lowered_root (tree_of l.term) (annotation_of l.types)) where
+    root_is : r ≡ lowered_root (tree_of t.term) (annotation_of t.types)
+    root_is = of_lowered (λ d u n. r ≡ lowered_root u n) root
+
+    pub groups_lowered : StandsOverGroups (lowered_root (tree_of t.term) (annotation_of t.types)) → StandsOverGroups r
+    groups_lowered h = subst StandsOverGroups (sym root_is) h
+
+    needed_lowered : (barriers : List Barrier) → Needed (group_touches r) (phase_count r) (fence (phase_count r) barriers) → AreNeeded (fence_with barriers (tree_of t.term) (annotation_of t.types)) (tree_of t.term) (annotation_of t.types)
+    needed_lowered barriers h = subst (λ (x : lowering.Lowered). Needed (group_touches x) (phase_count x) (fence (phase_count x) barriers)) root_is h
+
+    module _ (accepted : IsAccepted (program_of t.program) (tree_of t.term) (annotation_of t.types)) (kind : nest_kind (tree_of t.term) ≡ OverGroups) (barriers placed : List Barrier) (same : barriers ≡ placed) (needed : Needed (group_touches r) (phase_count r) (fence (phase_count r) placed)) where
+      are_needed : AreNeeded (fence_with barriers (tree_of t.term) (annotation_of t.types)) (tree_of t.term) (annotation_of t.types)
+      are_needed = needed_lowered barriers (subst (λ (bs : List Barrier). Needed (group_touches r) (phase_count r) (fence (phase_count r) bs)) (sym same) needed)
+
+      pub group_emittable_lowered : LegalGroupKernelsAreInTheGrammar → LegalGroupsStandOverGroups → LeastSizesAreAdmissible → LoweredTermsServe → CopiesAreShort → IsGroupEmittable (declared_of l) barriers (tree_of l.term) (annotation_of l.types)
+      group_emittable_lowered grammar stand least serve short =
+          onto_lowered (λ d u n. IsGroupEmittable d barriers u n) (group_emittable (program_of t.program) (tree_of t.term) (annotation_of t.types) barriers accepted kind are_needed grammar stand least serve short)
+
+      pub groups_for : (k : Kernel) → LegalGroupsStandOverGroups → GroupTermsArePrinted → LegalGroupsStart → LegalGroupsKeep
+          → k ≡ kernel_of_groups (declared_of l) (fence_with barriers (tree_of l.term) (annotation_of l.types)) (tree_of l.term) (annotation_of l.types)
+          → IsKernelFor (program_of t.program) (state_of t) k
+      groups_for k stand law start keep is =
+          for_groups (program_of t.program) (state_of t) k (fence_with barriers (tree_of t.term) (annotation_of t.types)) accepted kind are_needed stand law start keep
+          (of_lowered (λ d u n. k ≡ kernel_of_groups d (fence_with barriers u n) u n) is)
 
 -- ---- its output can be laid out
 
@@ -157,15 +252,15 @@ holds_elements U32 h = absurd h
 holds_elements (PairOf a b) h = absurd h
 holds_elements (ArrayOf a n) h = h
 
-pub laid_out : (p : PlainProgram) (t : Tree) (n : Annotation) → IsLegalTerm p t n → IsPrintable (declared_by p) t n → ir.width (shape_of (type_in n)) < 2 ^ 32 → CanBeLaidOut p (type_in n)
-laid_out p t n legal printable few =
+pub laid_out : (p : PlainProgram) (t : Tree) (n : Annotation) (k : Kernel) → IsLegalTerm p t n → CanBeLowered (declared_by p) t n → k.outputs ≡ ir.width (shape_of (type_in n)) → k.outputs < 2 ^ 32 → CanBeLaidOut p (type_in n)
+laid_out p t n k legal lowered told few =
     let d = declared_by p in
     let own = formed d legal.declared.inputs [] t (type_in n) tt (annotated_is_typed d [] t n legal.nodes) in
     record {
       elements = holds_elements (type_in n) legal.output;
-      few = subst (λ w. w < 2 ^ 32) (sym (same_width (type_in n))) few;
+      few = subst (λ w. w < 2 ^ 32) (told ∙ sym (same_width (type_in n))) few;
       small = λ bases ok.
-          let fits = (printable.fits bases ok).0 in
+          let fits = (lowered.fits bases ok).0 in
           let room = fits.small in
           small_of d.names bases legal.declared.names ok 1 (type_in n) (holds_elements (type_in n) legal.output) own fits.short (omega (arith, room));
     }

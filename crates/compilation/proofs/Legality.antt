@@ -1,5 +1,5 @@
 -- Why a last term isn't compiled, and what is known of one that is.
-use Rattle.std.proofs.Common.{◌≡◌, ◌∙◌, List, ℕ, Option, None, Some, Ok, ap₂, inl, inr, map, refl, subst, sym}
+use Rattle.std.proofs.Common.{arith, ◌≡◌, ◌∙◌, List, ℕ, Option, None, Some, Ok, ap₂, inl, inr, map, refl, subst, sym}
 use Rattle.lift_tree.specs.Annotations.{Annotation, annotation_of}
 use Rattle.lift_tree.specs.Programs.{program_of}
 use Rattle.lift_tree.specs.Tree.{Tree, tree_of}
@@ -11,9 +11,9 @@ use Rattle.lowered_tree.specs.Nest.{IsLegalNest, LegalWithoutFault, nest_fault}
 use Rattle.lowered_tree.specs.Printed.{first_unprinted}
 use Rattle.lowered_tree.specs.Inputs.{HasTypedInputs}
 use Rattle.lowered_tree.specs.declared.lowered.Lowered.{Lowered}
-use Rattle.nest_premises.specs.Laws.{AcceptedTermsArePrintable}
+use Rattle.nest_premises.specs.Laws.{AcceptedTermsCopyArrays}
 use Rattle.nest_premises.specs.Legal.{HasWordSteps, IsLegalTerm}
-use Rattle.nest_premises.specs.Printable.{IsPrintable}
+use Rattle.sound_parts.specs.Words.{FormsHaveWords}
 use Rattle.thread_mapping.specs.Found as nest
 use Rattle.thread_mapping.specs.declared.judging.NestNo.{NestNo}
 use Rattle.thread_mapping.specs.declared.judging.NestNo.TheVariants as nests
@@ -24,7 +24,7 @@ use Rattle.fault_lines.specs.declared.refusal.Refusal.{Refusal}
 use Rattle.fault_lines.specs.declared.refusal.Refusal.TheVariants as told
 use Rattle.program_source.specs.Program.{StopsFor}
 use Rattle.program_source.specs.Stages.{As}
-use Rattle.compilation.specs.Legal.{BuffersOf, CompilesTerm, IsLoweredOf, IsTypedLast, NestOf, PrintedOf}
+use Rattle.compilation.specs.Legal.{BuffersOf, CompilesTerm, IsAccepted, IsLoweredOf, IsTypedLast, NestOf, PrintedOf}
 
 pub typed_inputs : (t : Typed) → IsTypedLast t → HasTypedInputs (program_of t.program)
 typed_inputs t last = record { proper = last.proper; declared = last.typed.declared; within = last.within.inputs }
@@ -39,9 +39,17 @@ legal_term t last steps legal = record {
   legal = legal;
 }
 
-pub printable_term : AcceptedTermsArePrintable → (t : Typed) → IsTypedLast t → HasWordSteps (tree_of t.term) → IsLegalNest (tree_of t.term) (annotation_of t.types) → first_unprinted (tree_of t.term) (annotation_of t.types) ≡ None
-    → IsPrintable (declared_by (program_of t.program)) (tree_of t.term) (annotation_of t.types)
-printable_term law t last steps legal printed = law (program_of t.program) (tree_of t.term) (annotation_of t.types) (legal_term t last steps legal) printed
+pub accepted_term : AcceptedTermsCopyArrays → (t : Typed) → IsTypedLast t → HasWordSteps (tree_of t.term) → FormsHaveWords (tree_of t.term) → IsLegalNest (tree_of t.term) (annotation_of t.types)
+    → first_unprinted (tree_of t.term) (annotation_of t.types) ≡ None → limits.passed_limit (tree_of t.term) (annotation_of t.types) ≡ None → IsAccepted (program_of t.program) (tree_of t.term) (annotation_of t.types)
+accepted_term law t last steps words legal printed within =
+    let low = last.low in
+    record {
+      legal = legal_term t last steps legal;
+      copies = law (tree_of t.term) (annotation_of t.types) printed;
+      words = words;
+      within = within;
+      low = omega (arith, low);
+    }
 
 -- ---- each stage, over the term as it is lowered
 

@@ -2,21 +2,54 @@
 use Rattle.std.specs.Prelude.{◌≡◌, ℕ, List, [], Bool, Ok}
 use Rattle.kernel_tree.specs.Code.{Kernel}
 use Rattle.kernel_tree.specs.KernelText.{IsKernelText}
-use Rattle.kernel_tree.specs.Launch.{Launch}
+use Rattle.kernel_tree.specs.Launch.{Cells, Launch, MayStart}
 use Rattle.lift_tree.specs.Programs.{PlainProgram}
 use Rattle.lift_tree.specs.Types.{PlainTy}
-use Rattle.lift_tree.specs.Typing.{HasOutput, declared_by}
+use Rattle.lift_tree.specs.Typing.{Declared, HasOutput, IsAdmissible, declared_by}
+use Rattle.lift_ir.specs.AtLaunch.{shape_of}
+use Rattle.lift_ir.specs.Types.{width}
+use Rattle.lift_tree.specs.Annotations.{Annotation, type_in}
+use Rattle.lift_tree.specs.Launches.{lists_of}
+use Rattle.lift_tree.specs.Meaning.{World, meaning}
+use Rattle.lift_tree.specs.Tree.{Tree}
 use Rattle.lowered_tree.specs.Kinds.{is_task}
-use Rattle.printed_form.specs.Programs.{IsLaunchOf, Prints}
+use Rattle.nest_premises.specs.Kind.{nest_kind}
+use Rattle.nest_premises.specs.declared.kind.NestKind.{NestKind}
+use Rattle.nest_premises.specs.declared.kind.NestKind.TheVariants.{Task, OverLaunch, OverGroups}
+use Rattle.printed_form.specs.Headline.{EveryRunKeeps}
+use Rattle.printed_form.specs.Programs.{AreBuffersOf, IsLaunchOf, Prints, cell_owner}
+use Rattle.group_terms.specs.Programs.{PrintsGroups}
 use Rattle.rewriting.specs.Keeps.{Keeps}
 use Rattle.strategy_script.specs.Steps.{State}
 use Rattle.program_source.specs.Program.{IsRead}
 use Rattle.compilation.specs.Legal.{LegalOf}
 use Rattle.compilation.specs.Meets.{MeetsSource, Starts}
 
--- at each admissible launch the kernel is printed for the term
+-- the kernel is printed for a term of this kind at a launch
+abbrev pub PrintsAs : NestKind → Declared → List ℕ → Tree → Annotation → Launch → Kernel → Type 0
+PrintsAs Task = Prints
+PrintsAs OverLaunch = Prints
+PrintsAs OverGroups = PrintsGroups
+
+-- at each admissible launch the kernel is printed for the term, as its kind says
 abbrev pub PrintsAtAll : PlainProgram → State → Kernel → Type 0
-PrintsAtAll p s k = (bases : List ℕ) (l : Launch) → IsLaunchOf (declared_by p) (is_task s.tree) bases l → Prints (declared_by p) bases s.tree s.types l k
+PrintsAtAll p s k = (bases : List ℕ) (l : Launch) → IsLaunchOf (declared_by p) (is_task s.tree) bases l → PrintsAs (nest_kind s.tree) (declared_by p) bases s.tree s.types l k
+
+-- it may be started there
+abbrev pub StartsTerm : PlainProgram → State → Kernel → Type 0
+StartsTerm p s k = (w : World) (l : Launch) (c : Cells) → IsAdmissible (declared_by p) w → IsLaunchOf (declared_by p) (is_task s.tree) w.bases l → AreBuffersOf (declared_by p) w s.tree s.types c → MayStart k l c
+
+-- and every run there keeps what a kernel owes, with the term's value
+abbrev pub KeepsTerm : PlainProgram → State → Kernel → Type 0
+KeepsTerm p s k = (w : World) (l : Launch) (c : Cells) → IsAdmissible (declared_by p) w → IsLaunchOf (declared_by p) (is_task s.tree) w.bases l → AreBuffersOf (declared_by p) w s.tree s.types c
+    → EveryRunKeeps k l c (cell_owner w.bases l s.tree s.types) (lists_of (type_in s.types) (meaning w [] s.tree))
+
+-- the kernel is the term's: printed for it, with its value, in as many lists as its type has
+pub record IsKernelFor (p : PlainProgram) (s : State) (k : Kernel) : Type 0 where
+  pub prints : PrintsAtAll p s k
+  pub starts : StartsTerm p s k
+  pub keeps : KeepsTerm p s k
+  pub outputs : k.outputs ≡ width (shape_of (type_in s.types))
 
 -- The text is that of a kernel of the grammar, which is printed for the script's last term: a legal one, of the program's type and value. Its parameters are the launch's buffers and sizes in order; and at every admissible launch, on all inputs, whatever other memory holds, every run of it has no fault and at most the bound's events, writes each output cell at most once, by its owner, and can stop only with the program's value, which is of the output's type.
 pub record IsCompiled (program script : List ℕ) (p : PlainProgram) (output : PlainTy) (task : Bool) (text : List ℕ) : Type 0 where

@@ -1,10 +1,10 @@
 -- Which last terms are compiled.
 use Rattle.std.specs.Prelude.{◌≡◌, ◌≤◌, ℕ, List, length, Some, None, Result, Ok, Err}
-use Rattle.lift_tree.specs.Annotations.{IsTyped, annotation_of}
+use Rattle.lift_tree.specs.Annotations.{Annotation, IsTyped, annotation_of}
 use Rattle.lift_tree.specs.Belonging.{IsProper}
 use Rattle.lift_tree.specs.Limits.{IsWithinLimits}
 use Rattle.lift_tree.specs.Programs.{PlainProgram, program_of}
-use Rattle.lift_tree.specs.Tree.{height, tree_of}
+use Rattle.lift_tree.specs.Tree.{Tree, height, tree_of}
 use Rattle.lift_tree.specs.Typing.{declared_by}
 use Rattle.lift_tree.specs.declared.typed.Typed.{Typed}
 use Rattle.lowered_tree.specs.declared.lowered.Lowered.{Lowered}
@@ -12,6 +12,8 @@ use Rattle.kernel_emit.specs.Emittable.{declared_of}
 use Rattle.strategy_script.specs.Steps.{State}
 use Rattle.lowered_tree.specs.Nest.{IsLegalNest, nest_fault}
 use Rattle.lowered_tree.specs.Printed.{first_unprinted}
+use Rattle.nest_premises.specs.Legal.{CopiesArrays, IsLegalTerm}
+use Rattle.sound_parts.specs.Words.{FormsHaveWords}
 use Rattle.thread_mapping.specs.declared.judging.NestNo.{NestNo}
 use Rattle.thread_mapping.specs.declared.judging.NestNo.TheVariants as nests
 use Rattle.buffer_allocation.specs.Limits.{passed_limit}
@@ -30,13 +32,21 @@ pub record IsTypedLast (t : Typed) : Type 0 where
   pub within : IsWithinLimits (program_of t.program) (tree_of t.term) (annotation_of t.types)
   pub low : height (tree_of t.term) ≤ 256
 
+-- a legal term within the limits, which copies nothing but arrays
+pub record IsAccepted (p : PlainProgram) (t : Tree) (n : Annotation) : Type 0 where
+  pub legal : IsLegalTerm p t n
+  pub copies : CopiesArrays t n
+  pub words : FormsHaveWords t
+  pub within : passed_limit t n ≡ None
+  pub low : height t ≤ 512
+
 -- the nest is legal, or this is the first node in preorder at which a rule is broken, and the lowest such rule
 abbrev pub NestOf : State → Result (Unit {0}) NestNo → Type 0
 NestOf s (Ok legal) = IsLegalNest s.tree s.types
 NestOf s (Err (nests.Nest place rule)) = nest_fault s.tree s.types ≡ Some (place, rule)
 NestOf s (Err nests.Memory) = ⊥
 
--- each node is printed so far, or this is the first in preorder that isn't
+-- each node is printed, or this is the first in preorder that isn't
 abbrev pub PrintedOf : State → Result (Unit {0}) (List ℕ) → Type 0
 PrintedOf s (Ok all) = first_unprinted s.tree s.types ≡ None
 PrintedOf s (Err place) = first_unprinted s.tree s.types ≡ Some place

@@ -15,7 +15,6 @@ use lift_tree::program::Program;
 use lift_tree::ty::Ty;
 use lift_tree::typed::NodeTypes;
 use lowered_tree::around::is_task;
-use printed_form::laws::{printed_programs_keep, printed_programs_start};
 use program_source::last_term;
 use std::alloc::Global;
 
@@ -49,7 +48,7 @@ fn own_type(types: NodeTypes) -> Ty
 /// Compiles a program along a script: to the text of one kernel, of which every run at every
 /// admissible launch leaves the program's value. A refusal is the first cause in the order of the
 /// stages: the program's text and its limits, its types, the script's text and its limit, the
-/// steps; then the last term's nest, whether it is printed so far, its layouts, and its local and
+/// steps; then the last term's nest, whether it is printed, its layouts, and its local and
 /// private memory. Want of memory may come at any point.
 pub fn compile_text(alloc: Global, program: &[u8], script: &[u8]) -> Result<Compiled, Refusal>
     ensures found { IfOk result (λ c. IsCompiled program.now script.now (program_of c.program)
@@ -57,8 +56,6 @@ pub fn compile_text(alloc: Global, program: &[u8], script: &[u8]) -> Result<Comp
     ensures refused { IfErr result
         (StopsFor (OnProgram program.now (λ p. LegalOf p script.now))) }
 {
-    printed_programs_keep();
-    printed_programs_start();
     let last = last_term(alloc, program, script)?;
     let kernel = compiled_kernel(alloc, &last)?;
     let text = print(alloc, &kernel)?;

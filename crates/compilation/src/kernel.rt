@@ -1,31 +1,44 @@
 //! The kernel of a last term.
-ghost use Rattle.std.specs.Prelude.{◌<◌, ◌^◌, IfErr, IfOk, Ok};
+ghost use Rattle.std.specs.Prelude.{◌≡◌, ◌≢◌, ◌<◌, ◌^◌, IfErr, IfOk, Ok};
 ghost use Rattle.lift_tree.specs.Annotations.{annotation_of, type_in};
 ghost use Rattle.lift_tree.specs.Programs.{program_of};
 ghost use Rattle.lift_tree.specs.Tree.{tree_of};
-ghost use Rattle.lift_tree.specs.Typing.{declared_by};
 ghost use Rattle.kernel_tree.specs.Kernels.{kernel_of};
 ghost use Rattle.strategy_script.specs.Steps.{state_of};
-ghost use Rattle.nest_premises.specs.Printable.{IsPrintable};
+ghost use Rattle.nest_premises.specs.Kind.{nest_kind};
+ghost use Rattle.nest_premises.specs.declared.kind.NestKind.TheVariants.{OverGroups};
 ghost use Rattle.program_source.specs.Program.{StopsFor};
-ghost use Rattle.compilation.specs.Compiled.{PrintsAtAll};
-ghost use Rattle.compilation.specs.Legal.{CompilesTerm, IsTypedLast};
+ghost use Rattle.compilation.specs.Compiled.{IsKernelFor};
+ghost use Rattle.compilation.specs.Legal.{CompilesTerm, IsAccepted, IsLoweredOf, IsTypedLast};
 ghost use Rattle.compilation.specs.Meets.{CanBeLaidOut};
 
 use crate::legal::{buffered, judge_printed, mapped};
 use fault_lines::Refusal;
+use group_emit::kernel::emit_groups;
+use group_premises::laws::legal_groups_stand_over_groups;
 use kernel_emit::kernel::emit;
 use kernel_emit::laws::copies_are_short;
 use kernel_limits::laws::terms_can_be_written;
 use kernel_tree::tree::Kernel;
 use lift_ir::laws::lowered_terms_serve;
 use lift_tree::typed::Typed;
-use nest_premises::laws::accepted_terms_are_printable;
+use lowered_tree::lowered::Lowered;
+use lowering::lower::lower;
+use nest_premises::kind::{NestKind, nest_kind};
+use nest_premises::laws::{
+    accepted_terms_copy_arrays, legal_terms_can_be_lowered, ungrouped_terms_are_printable,
+};
 use nest_premises::steps::has_word_steps;
+use phase_plan::needed_barriers;
+use printable_groups::laws::{
+    group_terms_are_printed, legal_group_kernels_are_in_the_grammar, legal_groups_keep,
+    legal_groups_start,
+};
 use printable_terms::laws::{kernels_are_in_the_grammar, terms_are_printed};
+use printed_form::laws::{printed_programs_keep, printed_programs_start};
 use sound_parts::laws::{least_sizes_are_admissible, terms_have_sound_parts};
 use sound_parts::words::forms_have_words;
-use std::alloc::Global;
+use std::alloc::{AllocError, Global};
 
 // Outputs have numbers of 32 bits.
 fn has_few_outputs(kernel: &Kernel)
@@ -34,34 +47,84 @@ fn has_few_outputs(kernel: &Kernel)
     let _count = kernel.outputs;
 }
 
-/// The kernel of a last term, printed for it at each admissible launch. `Nest`, `Unprinted` and
-/// `Alloc` come in this order, for the first rule, node or limit.
-pub fn compiled_kernel(alloc: Global, last: &Typed) -> Result<Kernel, Refusal>
-    requires { IsTypedLast last.now }
-    ensures prints { IfOk result (λ k. PrintsAtAll (program_of last.now.program)
+// The kernel of a term that one work-item runs, or all of them.
+fn item_kernel(alloc: Global, last: &Typed, lowered: &Lowered) -> Result<Kernel, AllocError>
+    requires lowered { IsLoweredOf last.now lowered.now }
+    requires accepted { IsAccepted (program_of last.now.program) (tree_of last.now.term)
+        (annotation_of last.now.types) }
+    requires kind { nest_kind (tree_of last.now.term) ≢ OverGroups }
+    ensures { IfOk result (λ k. IsKernelFor (program_of last.now.program)
         (state_of last.now) (kernel_of k)) }
-    ensures compiles { IfOk result (λ _. CompilesTerm (state_of last.now)
-        (Ok (state_of last.now))) }
-    ensures printable { IfOk result (λ _. IsPrintable (declared_by (program_of last.now.program))
-        (tree_of last.now.term) (annotation_of last.now.types)) }
-    ensures laid_out { IfOk result (λ _. CanBeLaidOut (program_of last.now.program)
-        (type_in (annotation_of last.now.types))) }
-    ensures refused { IfErr result (StopsFor (CompilesTerm (state_of last.now))) }
 {
-    accepted_terms_are_printable();
     copies_are_short();
     kernels_are_in_the_grammar();
     least_sizes_are_admissible();
     lowered_terms_serve();
+    printed_programs_keep();
+    printed_programs_start();
     terms_are_printed();
     terms_can_be_written();
     terms_have_sound_parts();
+    ungrouped_terms_are_printable();
+    emit(alloc, lowered)
+}
+
+// The kernel of a term that work-groups run, with the barriers that its phases need.
+fn group_kernel(alloc: Global, last: &Typed, lowered: &Lowered) -> Result<Kernel, AllocError>
+    requires lowered { IsLoweredOf last.now lowered.now }
+    requires accepted { IsAccepted (program_of last.now.program) (tree_of last.now.term)
+        (annotation_of last.now.types) }
+    requires kind { nest_kind (tree_of last.now.term) ≡ OverGroups }
+    ensures { IfOk result (λ k. IsKernelFor (program_of last.now.program)
+        (state_of last.now) (kernel_of k)) }
+{
+    copies_are_short();
+    group_terms_are_printed();
+    least_sizes_are_admissible();
+    legal_group_kernels_are_in_the_grammar();
+    legal_groups_keep();
+    legal_groups_stand_over_groups();
+    legal_groups_start();
+    lowered_terms_serve();
+    let root = lower(alloc, &lowered.term, &lowered.types)?;
+    let barriers = needed_barriers(alloc, &root)?;
+    emit_groups(alloc, lowered, &barriers)
+}
+
+// The kernel of an accepted term, as its kind says.
+fn emitted(alloc: Global, last: &Typed, lowered: &Lowered) -> Result<Kernel, AllocError>
+    requires lowered { IsLoweredOf last.now lowered.now }
+    requires accepted { IsAccepted (program_of last.now.program) (tree_of last.now.term)
+        (annotation_of last.now.types) }
+    ensures { IfOk result (λ k. IsKernelFor (program_of last.now.program)
+        (state_of last.now) (kernel_of k)) }
+{
+    match nest_kind(&last.term) {
+        NestKind::Task | NestKind::OverLaunch => item_kernel(alloc, last, lowered),
+        NestKind::OverGroups => group_kernel(alloc, last, lowered),
+    }
+}
+
+/// The kernel of a last term, printed for it at each admissible launch. `Nest`, `Unprinted` and
+/// `Alloc` come in this order, for the first rule, node or limit.
+pub fn compiled_kernel(alloc: Global, last: &Typed) -> Result<Kernel, Refusal>
+    requires { IsTypedLast last.now }
+    ensures kernel { IfOk result (λ k. IsKernelFor (program_of last.now.program)
+        (state_of last.now) (kernel_of k)) }
+    ensures compiles { IfOk result (λ _. CompilesTerm (state_of last.now)
+        (Ok (state_of last.now))) }
+    ensures laid_out { IfOk result (λ _. CanBeLaidOut (program_of last.now.program)
+        (type_in (annotation_of last.now.types))) }
+    ensures refused { IfErr result (StopsFor (CompilesTerm (state_of last.now))) }
+{
+    accepted_terms_copy_arrays();
+    legal_terms_can_be_lowered();
     forms_have_words(&last.term);
     has_word_steps(&last.term);
     let mapped = mapped(alloc, last)?;
     judge_printed(alloc, &mapped, last)?;
     let lowered = buffered(alloc, mapped, last)?;
-    let kernel = emit(alloc, &lowered)?;
+    let kernel = emitted(alloc, last, &lowered)?;
     has_few_outputs(&kernel);
     Ok(kernel)
 }

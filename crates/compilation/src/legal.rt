@@ -1,4 +1,4 @@
-//! Which last terms are compiled: their nest, whether they are printed so far, and what they need
+//! Which last terms are compiled: their nest, whether they are printed, and what they need
 //! of memory.
 ghost use Rattle.std.specs.Prelude.{◌≡◌, IfErr, IfOk, None};
 ghost use Rattle.lift_tree.specs.Annotations.{annotation_of};
@@ -35,7 +35,7 @@ pub fn mapped(alloc: Global, last: &Typed) -> Result<Mapped, Refusal>
     Ok(judge(alloc, lowered)?)
 }
 
-/// Whether each node of the term is printed so far.
+/// Whether each node of the term is printed.
 pub fn judge_printed(alloc: Global, mapped: &Mapped, last: &Typed) -> Result<(), Refusal>
     requires { IsLoweredOf last.now mapped.now.lowered }
     ensures all { IfOk result (λ _. first_unprinted (tree_of last.now.term)

@@ -56,16 +56,17 @@ fn statements(
     Ok(block.into_statements())
 }
 
-// How many parameters of each kind a kernel has, and how many private variables.
+/// How many parameters of each kind a kernel has, and how many private variables.
 #[derive(Clone, Copy)]
-struct Counts {
-    inputs: u32,
-    outputs: u32,
-    sizes: u32,
-    variables: u32,
+pub struct Counts {
+    pub inputs: u32,
+    pub outputs: u32,
+    pub sizes: u32,
+    pub variables: u32,
 }
 
-fn counted(lowered: &Lowered, term: &Term) -> Result<Counts, AllocError>
+/// The counts of the kernel of this term of a program.
+pub fn counted(lowered: &Lowered, term: &Term) -> Result<Counts, AllocError>
     ensures inputs { IfOk result
         (λ c. c.inputs ≡ programs.buffer_count (map ty_of lowered.now.inputs.items)) }
     ensures outputs { IfOk result

@@ -1,14 +1,14 @@
-//! The kernel of a lowered term.
+//! The kernel of a lowered term that one work-item runs, or a map over the launch. The parts of which it is made are public for kernels of maps over work-groups.
 #![tactic(auto)]
 
-mod accesses;
-mod arguments;
-mod block;
-mod counts;
-mod elements;
-mod expressions;
+pub mod accesses;
+pub mod arguments;
+pub mod block;
+pub mod counts;
+pub mod elements;
+pub mod expressions;
 pub mod kernel;
 pub mod laws;
-mod lengths;
-mod scope;
-mod statements;
+pub mod lengths;
+pub mod scope;
+pub mod statements;

@@ -67,8 +67,8 @@ fn stride_of(kind: Kind) -> Stride
     }
 }
 
-// The element at the turn of the loop that stands within so many others.
-fn at_turn(alloc: Global, array: &View, depth: u32) -> Result<View, AllocError>
+/// The element at the turn of the loop that stands within so many others.
+pub fn at_turn(alloc: Global, array: &View, depth: u32) -> Result<View, AllocError>
     ensures { IfOk result
         (λ v. view_in v ≡ view_at (formula.LoopVariable depth) (view_in array.now)) }
 {

@@ -1,16 +1,15 @@
--- What no kernel is printed of so far.
+-- What no kernel is printed of.
 use Rattle.std.specs.Prelude.{ℕ, Bool, not, ◌&&◌, ◌||◌, List, [], ◌∷◌, Option, Some, None, if◌then◌else◌}
 use Rattle.lift_tree.specs.Tree.{Tree}
 use Rattle.lift_tree.specs.Types.{is_array}
 use Rattle.lift_tree.specs.Annotations.{Annotation, type_in}
 use Rattle.lowered_tree.specs.Around.{at_root}
-use Rattle.lowered_tree.specs.Kinds.{is_local, is_over_groups}
-use Rattle.lowered_tree.specs.Forms.{is_map_of, is_local_copy, is_private_copy}
+use Rattle.lowered_tree.specs.Forms.{is_local_copy, is_private_copy}
 use Rattle.lowered_tree.specs.Nest.{Site, sites}
 
--- a map over work-groups or over a group's items, and a copy of anything but an array
+-- a copy of anything but an array
 abbrev pub is_unprinted : Tree → Annotation → Bool
-is_unprinted t n = is_map_of is_over_groups t || is_map_of is_local t || (is_local_copy t || is_private_copy t) && not (is_array (type_in n))
+is_unprinted t n = (is_local_copy t || is_private_copy t) && not (is_array (type_in n))
 
 abbrev pub is_unprinted_at : Site → Bool
 is_unprinted_at x = is_unprinted x.tree x.types

@@ -1,6 +1,6 @@
 -- Legal terms can be lowered and printed.
 use Rattle.std.proofs.Common.{◌≡◌, ℕ, ◌/◌, ◌<◌, ◌^◌, Bool, true, false, List, [], ◌∷◌, ◌++◌, Option, Some, None, refl, sym, subst, inl, inr, arith, map}
-use Rattle.std.specs.Prelude.{◌↔◌, ◌||◌, if◌then◌else◌}
+use Rattle.std.specs.Prelude.{◌↔◌, if◌then◌else◌}
 use Rattle.std.proofs.Math.Nat.{mul-div-le, mod-eq-sub-mul-div}
 use Rattle.size_arith.specs.declared.names.Name.{Name}
 use Rattle.size_arith.specs.Ranges.{AreNames, IsName, IsAdmissible, Admissible, leasts}
@@ -29,16 +29,16 @@ use Rattle.printed_form.specs.Programs.{IsLaunchOf, lowered_root, StandsAt}
 use Rattle.lowered_tree.specs.declared.around.Around.{Around}
 use Rattle.lowered_tree.specs.Around.{at_root}
 use Rattle.lowered_tree.specs.Elements.{is_element}
-use Rattle.lowered_tree.specs.Kinds.{is_global, is_local, is_over_groups, is_task}
+use Rattle.lowered_tree.specs.Kinds.{is_global, is_over_groups, is_task}
 use Rattle.lowered_tree.specs.Nest.{Site, sites, under, in_child}
 use Rattle.lowered_tree.specs.Printed.{is_unprinted_at, first_place}
 use Rattle.nest_premises.specs.Legal.{FormCopiesArrays, CopiesArrays, shows_global_map, IsLegalTerm}
 use Rattle.nest_premises.specs.Kind.{nest_kind}
 use Rattle.nest_premises.specs.declared.kind.NestKind.TheVariants.{Task}
 use Rattle.nest_premises.specs.Printable.{CanBeLowered, IsPrintable}
-use Rattle.nest_premises.specs.Laws.{LegalTermsCanBeLowered, KindsTellTasks, UngroupedTermsArePrintable, TasksArePrintable, LaunchesArePrintable, AcceptedTermsArePrintable}
+use Rattle.nest_premises.specs.Laws.{LegalTermsCanBeLowered, KindsTellTasks, UngroupedTermsArePrintable, TasksArePrintable, LaunchesArePrintable, AcceptedTermsCopyArrays}
 use Rattle.nest_premises.proofs.Fits.{Fits}
-use Rattle.nest_premises.proofs.Rules.{AllUnbroken, all_unbroken, front, behind, above, not_left, negated, true_is_not_false}
+use Rattle.nest_premises.proofs.Rules.{AllUnbroken, all_unbroken, front, behind, above, negated}
 use Rattle.nest_premises.proofs.Staged.{written}
 use Rattle.nest_premises.proofs.Lowerable.{written_lowerable}
 use Rattle.nest_premises.proofs.Stands.{written_stands}
@@ -96,15 +96,6 @@ copied_in s (tree.Let v b) (Two a n m) h = let o = twos (sites _ v n) (sites _ b
 copied_in s (tree.Map j xs b) (Two a n m) h = let o = twos (sites _ xs n) (sites _ b m) h.1 in (copied_in _ xs n o.0, copied_in _ b m o.1)
 copied_in s (tree.Fold j xs x b) (Three a n m l) h = let o = threes (sites _ xs n) (sites _ x m) (sites _ b l) h.1 in (copied_in _ xs n o.0, copied_in _ x m o.1, copied_in _ b l o.2)
 copied_in s _ _ h = tt
-
--- and no map over work-groups is on top
-not_over_groups : {A : Type 0} (s : Around) (t : Tree) (n : Annotation) → Every IsPrinted (sites s t n) → Over is_over_groups t n → A
-not_over_groups s (tree.Unary unary.Join t) (One a n) h e = not_over_groups _ t n (ones (sites _ t n) h.1) e
-not_over_groups s (tree.Unary unary.Transpose t) (One a n) h e = not_over_groups _ t n (ones (sites _ t n) h.1) e
-not_over_groups s (tree.Unary (unary.Split fs) t) (One a n) h e = not_over_groups _ t n (ones (sites _ t n) h.1) e
-not_over_groups s (tree.Let v b) (Two a n m) h e = not_over_groups _ b m (twos (sites _ v n) (sites _ b m) h.1).1 e
-not_over_groups s (tree.Map k xs b) (Two a n m) h e = true_is_not_false (is_over_groups k) (over_shows is_over_groups (tree.Map k xs b) (Two a n m) e) (not_left (is_over_groups k) (is_local k) (not_left (is_over_groups k || is_local k) false h.0))
-not_over_groups s _ _ h e = absurd e
 
 -- ---- the least sizes are admissible
 
@@ -225,7 +216,5 @@ tasks_are_printable p t n r copies z = task p t n r copies z
 pub launches_are_printable : LaunchesArePrintable
 launches_are_printable p t n r copies e = launch p t n r copies e
 
-pub accepted_terms_are_printable : AcceptedTermsArePrintable
-accepted_terms_are_printable p t n r e =
-    let printed = all_printed (sites (at_root t) t n) e in
-    for_items p t n r (copied_in (at_root t) t n printed) (not_over_groups (at_root t) t n printed)
+pub accepted_terms_copy_arrays : AcceptedTermsCopyArrays
+accepted_terms_copy_arrays t n e = copied_in (at_root t) t n (all_printed (sites (at_root t) t n) e)

@@ -31,6 +31,6 @@ TasksArePrintable = (p : PlainProgram) (t : Tree) (n : Annotation) → IsLegalTe
 abbrev pub LaunchesArePrintable : Type 0
 LaunchesArePrintable = (p : PlainProgram) (t : Tree) (n : Annotation) → IsLegalTerm p t n → CopiesArrays t n → shows_global_map t ≡ true → IsPrintable (declared_by p) t n
 
--- a legal term each node of which is printed so far
-abbrev pub AcceptedTermsArePrintable : Type 0
-AcceptedTermsArePrintable = (p : PlainProgram) (t : Tree) (n : Annotation) → IsLegalTerm p t n → first_unprinted t n ≡ None → IsPrintable (declared_by p) t n
+-- a term each node of which is printed
+abbrev pub AcceptedTermsCopyArrays : Type 0
+AcceptedTermsCopyArrays = (t : Tree) (n : Annotation) → first_unprinted t n ≡ None → CopiesArrays t n

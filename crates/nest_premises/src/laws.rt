@@ -1,6 +1,6 @@
 //! Laws of legal terms, each carried by a function that does nothing.
 
-ghost use Rattle.nest_premises.specs.Laws.{AcceptedTermsArePrintable, KindsTellTasks, LaunchesArePrintable, LegalTermsCanBeLowered, TasksArePrintable, UngroupedTermsArePrintable};
+ghost use Rattle.nest_premises.specs.Laws.{AcceptedTermsCopyArrays, KindsTellTasks, LaunchesArePrintable, LegalTermsCanBeLowered, TasksArePrintable, UngroupedTermsArePrintable};
 
 /// A legal term can be lowered, whatever its maps.
 pub fn legal_terms_can_be_lowered()
@@ -27,7 +27,7 @@ pub fn launches_are_printable()
     ensures { LaunchesArePrintable }
 {}
 
-/// A legal term each node of which is printed so far can be printed.
-pub fn accepted_terms_are_printable()
-    ensures { AcceptedTermsArePrintable }
+/// A term each node of which is printed copies nothing but arrays.
+pub fn accepted_terms_copy_arrays()
+    ensures { AcceptedTermsCopyArrays }
 {}

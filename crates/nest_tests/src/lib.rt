@@ -1,4 +1,4 @@
-//! Tests of nests: programs and scripts as texts, and whether the last term is legal, printed so far and within its limits, and which memory it takes.
+//! Tests of nests: programs and scripts as texts, and whether the last term is legal, printed and within its limits, and which memory it takes.
 #![tactic(auto)]
 
 #[cfg(test)]

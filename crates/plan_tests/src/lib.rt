@@ -6,4 +6,6 @@ mod barriers;
 #[cfg(test)]
 mod indices;
 #[cfg(test)]
+mod phases;
+#[cfg(test)]
 mod spelling;

@@ -9,19 +9,17 @@ ghost use Rattle.thread_mapping.specs.Found.{place_in_child};
 
 use lift_tree::place::Place;
 use lift_tree::ty::Ty;
-use lowered_tree::forms::{is_group_map, is_local_copy, is_local_map, is_private_copy};
+use lowered_tree::forms::{is_local_copy, is_private_copy};
 use lowered_tree::lowered::Lowered;
 use lowered_tree::node::{Children, Node};
 use std::alloc::{AllocError, Global};
 
-// A map over work-groups or over a group's items, or a copy of anything but an array.
+// A copy of anything but an array.
 fn is_unprinted(node: Node<'_>) -> bool
     ensures { result ≡ is_unprinted_at (own_site node.entry) }
 {
     let is_copy = is_local_copy(node.term) || is_private_copy(node.term);
-    is_group_map(node.term)
-        || is_local_map(node.term)
-        || is_copy && !matches!(node.ty(), Ty::Array(_, _))
+    is_copy && !matches!(node.ty(), Ty::Array(_, _))
 }
 
 // A place in the child of this number, seen from the parent.
@@ -68,7 +66,7 @@ fn first_in(node: Node<'_>, alloc: Global) -> Result<Option<Place>, AllocError>
     first_among(node.children(), alloc)
 }
 
-/// The place of the first node in preorder of which no kernel is printed so far: a map over work-groups or over a group's items, or a copy of anything but an array, which no script makes.
+/// The place of the first node in preorder of which no kernel is printed: a copy of anything but an array, which no script makes.
 pub fn first_unprinted(alloc: Global, lowered: &Lowered) -> Result<Option<Place>, AllocError>
     ensures { IfOk result (λ p. p ≡ first_unprinted (tree_of lowered.now.term) (annotation_of lowered.now.types)) }
 {

@@ -247,14 +247,10 @@ const PROGRAMS: [(&str, &str); 6] = [
     ),
 ];
 
-const NESTS: [(&str, &str); 7] = [
+const NESTS: [(&str, &str); 6] = [
     ("", "lift: nest: N1 at .\n"),
     ("# nothing\n", "lift: nest: N1 at .\n"),
     ("at . to-lcl", "lift: nest: N2 at .\n"),
-    (
-        "at . split-map 1\nat 0.1 to-lcl\nat 0 to-wrg",
-        "lift: nest: N0 at 0\n",
-    ),
     ("at . to-seq\nat . local", "lift: nest: N5 at .\n"),
     ("at . split-map 1", "lift: nest: N1 at 0\n"),
     ("at 0 copy\nat . to-seq", "lift: nest: N1 at 0\n"),

@@ -13,14 +13,14 @@ pub invariant_of-result : goal.invariant_of-result
 invariant_of-result c =
     let k = c.in_ok-kernel.ensures in
     record {
-      text_for = ∣ text_for c.args.program.now c.args.script.now c.in_ok-last.last _ _ _ (kernel_of c.in_ok-kernel.kernel) c.printed_programs_start.ensures c.printed_programs_keep.ensures c.own_type.ensures
-          (sym c.is_task.ensures) c.in_ok-last.ensures.last k.laid_out k.printable k.prints c.in_ok-text.ensures.text ∣₁;
+      text_for = ∣ text_for c.args.program.now c.args.script.now c.in_ok-last.last _ _ _ (kernel_of c.in_ok-kernel.kernel) c.own_type.ensures
+          (sym c.is_task.ensures) c.in_ok-last.ensures.last k.laid_out k.kernel c.in_ok-text.ensures.text ∣₁;
     }
 
 pub returns-clause-found : goal.returns-clause-found
 returns-clause-found c =
-    compiled_found c.args.program.now c.args.script.now c.in_ok-last.last _ _ _ (kernel_of c.in_ok-kernel.kernel) c.printed_programs_start.ensures c.printed_programs_keep.ensures c.own_type.ensures
-    (sym c.is_task.ensures) c.in_ok-last.ensures.last c.in_ok-kernel.ensures.compiles c.in_ok-kernel.ensures.printable c.in_ok-kernel.ensures.prints c.in_ok-text.ensures.text
+    compiled_found c.args.program.now c.args.script.now c.in_ok-last.last _ _ _ (kernel_of c.in_ok-kernel.kernel) c.own_type.ensures
+    (sym c.is_task.ensures) c.in_ok-last.ensures.last c.in_ok-kernel.ensures.compiles c.in_ok-kernel.ensures.kernel c.in_ok-text.ensures.text
 
 pub returns-in_err-last-clause-refused : goal.returns-in_err-last-clause-refused
 returns-in_err-last-clause-refused c =

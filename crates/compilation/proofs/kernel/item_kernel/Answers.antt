@@ -1,0 +1,33 @@
+use Rattle.std.proofs.lemmas.Result.{IfOk-weaker}
+use Rattle.compilation.proofs.kernel.item_kernel.Goals as goal
+use Rattle.kernel_tree.specs.Kernels.{kernel_of}
+use Rattle.lift_tree.specs.Annotations.{annotation_of}
+use Rattle.lift_tree.specs.Programs.{program_of}
+use Rattle.lift_tree.specs.Tree.{tree_of}
+use Rattle.strategy_script.specs.Steps.{state_of}
+use Rattle.compilation.proofs.Emitting.{emittable, emittable_lowered, for_items, kernel_lowered}
+
+pub emit-requires : goal.emit-requires
+emit-requires c =
+    let last = c.args.last.now in
+    let p = program_of last.program in
+    let t = tree_of last.term in
+    let n = annotation_of last.types in
+    let accepted = c.requires.accepted in
+    let printable = c.ungrouped_terms_are_printable.ensures p t n accepted.legal accepted.copies c.requires.kind in
+    emittable_lowered last c.args.lowered.now c.requires.lowered
+    (emittable p t n accepted printable c.terms_have_sound_parts.ensures
+    c.kernels_are_in_the_grammar.ensures c.least_sizes_are_admissible.ensures c.terms_can_be_written.ensures c.lowered_terms_serve.ensures c.copies_are_short.ensures)
+
+pub returns : goal.returns
+returns c =
+    let last = c.args.last.now in
+    let t = tree_of last.term in
+    let n = annotation_of last.types in
+    let accepted = c.requires.accepted in
+    let printable = c.ungrouped_terms_are_printable.ensures (program_of last.program) t n accepted.legal accepted.copies c.requires.kind in
+    IfOk-weaker c.emit.result _ _
+    (λ k h.
+        for_items (program_of last.program) (state_of last) (kernel_of k) printable c.requires.kind c.terms_are_printed.ensures c.printed_programs_start.ensures c.printed_programs_keep.ensures
+        (kernel_lowered last c.args.lowered.now c.requires.lowered (kernel_of k) h))
+    c.emit.ensures

@@ -1,0 +1,24 @@
+-- What a kernel's code is printed with, as the Rust code holds it.
+use Rattle.std.specs.Prelude.{ℕ, List, Option, Some, None}
+use Rattle.size_arith.specs.declared.poly.Monomial.{Monomial}
+use Rattle.kernel_tree.specs.Formula.{Formula}
+use Rattle.printed_form.specs.Views.{View}
+use Rattle.barrier_placement.specs.declared.placing.Barrier.{Barrier}
+use Rattle.barrier_placement.specs.Fencing.{Fencing, Open, fence, fencing_of}
+use Rattle.kernel_emit.specs.Inputs.{inputs_in, spell_in}
+use Rattle.group_emit.specs.declared.setting.Setting.{Setting}
+
+abbrev pub spell_of : Setting → List Monomial → Formula
+spell_of s = spell_in s.declared
+
+abbrev pub inputs_of : Setting → ℕ → View
+inputs_of s = inputs_in s.declared
+
+-- what stands before each phase, and at the end
+abbrev pub fence_in : Setting → ℕ → Fencing
+fence_in s = fence s.phases s.barriers.now
+
+-- what a barrier puts there, or none
+abbrev pub fencing_in : Option Barrier → Fencing
+fencing_in None = Open
+fencing_in (Some b) = fencing_of b

@@ -1,0 +1,131 @@
+//! The code of a map over work-groups.
+
+ghost use Rattle.std.specs.Prelude.{◌≡◌, IfOk};
+ghost use Rattle.group_terms.specs.Printer as printer;
+ghost use Rattle.lift_ir.specs.Terms as terms;
+ghost use Rattle.array_views.specs.Views.{view_in};
+ghost use Rattle.lowering.specs.Terms.{kind_of, load_set_of, term_of};
+ghost use Rattle.kernel_emit.specs.Blocks.{code_in};
+ghost use Rattle.kernel_emit.specs.Copies.{HasShortCopies};
+ghost use Rattle.kernel_emit.specs.Scopes.{scope_of};
+ghost use Rattle.group_emit.specs.Settings.{fence_in, inputs_of, spell_of};
+
+use crate::counts::{Used, phases_in};
+use crate::setting::Setting;
+use crate::statements::{Site, put_written};
+use array_views::View;
+use kernel_emit::accesses::{loaded, put_loaded};
+use kernel_emit::arguments::argument;
+use kernel_emit::block::Block;
+use kernel_emit::counts::load_count;
+use kernel_emit::scope::Scope;
+use kernel_emit::statements::at_turn;
+use kernel_tree::tree::{Start, Stride};
+use length_spelling::spell_length;
+use lowering::term::{Kind, LoadSet, Term};
+use size_arith::Poly;
+use std::alloc::{AllocError, Global};
+
+// A turn over this element: what is loaded of it, the body's phases, and the barrier that closes it.
+fn group_turn(
+    alloc: Global,
+    setting: &Setting,
+    scope: &Scope,
+    loads: &LoadSet,
+    element: &View,
+    body: &Term,
+    target: &View,
+) -> Result<Block, AllocError>
+    requires { HasShortCopies (term_of body.now) }
+    ensures { IfOk result (λ b. code_in b ≡ printer.print_group_turn (spell_of setting.now)
+        (inputs_of setting.now) (fence_in setting.now) (scope_of scope.now) (load_set_of loads.now)
+        (view_in element.now) (term_of body.now) (view_in target.now)) }
+{
+    let bound = loaded(alloc, loads, element, 0)?;
+    let site = Site {
+        scope: &Scope::Bound(&bound, scope),
+        used: Used {
+            locals: 0,
+            privates: 0,
+            variables: load_count(loads)?,
+            phases: 0,
+        },
+    };
+    let mut turn = Block::new(alloc);
+    setting.put_barrier(phases_in(body)?, &mut turn)?;
+    put_written(alloc, setting, &site, body, target, &mut turn)?;
+    put_loaded(alloc, loads, element, 0, &mut turn)?;
+    Ok(turn)
+}
+
+// A map over work-groups itself.
+fn group_loop(
+    alloc: Global,
+    setting: &Setting,
+    scope: &Scope,
+    kind: Kind,
+    count: &Poly,
+    loads: &LoadSet,
+    array: &Term,
+    body: &Term,
+    target: &View,
+) -> Result<Block, AllocError>
+    requires array { HasShortCopies (term_of array.now) }
+    requires body { HasShortCopies (term_of body.now) }
+    ensures { IfOk result (λ b. code_in b ≡ printer.print_groups (spell_of setting.now)
+        (inputs_of setting.now) (fence_in setting.now) (scope_of scope.now)
+        (terms.Map (kind_of kind) count.now (load_set_of loads.now) (term_of array.now)
+        (term_of body.now)) (view_in target.now)) }
+{
+    let element = argument(alloc, &setting.declared, scope, 0, array)?;
+    let element = at_turn(alloc, &element, 0)?;
+    let target = at_turn(alloc, target, 0)?;
+    let turn = group_turn(alloc, setting, scope, loads, &element, body, &target)?;
+    let length = spell_length(alloc, count, setting.declared.names)?;
+    let mut block = Block::new(alloc);
+    block.put_loop(Start::GroupId, length, Stride::GroupCount, turn)?;
+    Ok(block)
+}
+
+/// The code of a map over work-groups, through layouts and lets of inputs.
+pub fn groups(
+    alloc: Global,
+    setting: &Setting,
+    scope: &Scope,
+    term: &Term,
+    target: &View,
+) -> Result<Block, AllocError>
+    requires { HasShortCopies (term_of term.now) }
+    ensures { IfOk result (λ b. code_in b ≡ printer.print_groups (spell_of setting.now)
+        (inputs_of setting.now) (fence_in setting.now) (scope_of scope.now) (term_of term.now)
+        (view_in target.now)) }
+{
+    match term {
+        Term::Reshape(layout, a) => {
+            let names = setting.declared.names;
+            let target = target.writing(alloc, names, &layout.form, &layout.ty, &layout.operand)?;
+            groups(alloc, setting, scope, a, &target)
+        }
+        Term::LetArray(value, body) => {
+            let bound = argument(alloc, &setting.declared, scope, 0, value)?;
+            groups(alloc, setting, &Scope::Bound(&bound, &*scope), body, target)
+        }
+        Term::Map(kind, count, loads, array, body) => group_loop(
+            alloc, setting, scope, *kind, count, loads, array, body, target,
+        ),
+        Term::Literal(_)
+        | Term::Bound(_)
+        | Term::Source(_)
+        | Term::Apply(_, _, _)
+        | Term::ApplyNumber(_, _, _)
+        | Term::Select(_, _, _)
+        | Term::Pair(_, _)
+        | Term::Zip(_, _)
+        | Term::First(_)
+        | Term::Second(_)
+        | Term::LetElement(_, _, _)
+        | Term::Fold(_, _, _, _, _, _)
+        | Term::Store(_, _)
+        | Term::Copy(_, _, _) => Ok(Block::new(alloc)),
+    }
+}

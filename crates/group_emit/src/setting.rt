@@ -1,0 +1,53 @@
+//! What a kernel's whole code is printed with, and the barriers among it.
+
+ghost use Rattle.std.specs.Prelude.{◌≡◌, OnOk};
+ghost use Rattle.barrier_placement.specs.Fencing.{fence};
+ghost use Rattle.group_terms.specs.Printer as printer;
+ghost use Rattle.kernel_emit.specs.Blocks.{code_in};
+ghost use Rattle.group_emit.specs.Settings.{fence_in, fencing_in};
+
+use barrier_placement::Barrier;
+use kernel_emit::arguments::Declared;
+use kernel_emit::block::Block;
+use kernel_tree::tree::Stmt;
+use std::alloc::AllocError;
+
+/// What a program's terms name, and the barriers of a work-group's body with so many phases.
+#[derive(Clone, Copy)]
+pub struct Setting<'p> {
+    pub declared: Declared<'p>,
+    pub barriers: &'p [Barrier],
+    pub phases: u32,
+}
+
+// The barrier just before a phase, or the one that closes a body of so many.
+fn barrier_before(barriers: &[Barrier], phases: u32, phase: u32) -> Option<Barrier>
+    ensures { fencing_in result ≡ fence phases barriers.now phase }
+{
+    match barriers {
+        [] => None,
+        [barrier, rest @ ..] => {
+            if barrier.before.unwrap_or(phases) == phase {
+                Some(*barrier)
+            } else {
+                barrier_before(rest, phases, phase)
+            }
+        }
+    }
+}
+
+impl<'p> Setting<'p> {
+    /// Puts the barrier, if any, that stands just before a phase or, where there is none of that number, that closes the body.
+    pub fn put_barrier(&self, phase: u32, block: &mut Block) -> Result<(), AllocError>
+        ensures { OnOk result (code_in block.new
+            ≡ printer.print_fence (fence_in self.now phase) (code_in block.old)) }
+    {
+        match barrier_before(self.barriers, self.phases, phase) {
+            None => Ok(()),
+            Some(barrier) => block.put(Stmt::Barrier {
+                on_local: barrier.local,
+                on_global: barrier.global,
+            }),
+        }
+    }
+}

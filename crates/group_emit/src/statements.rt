@@ -1,0 +1,241 @@
+//! The code of the items of a group together: local maps, and the copies to local memory that they fill.
+
+ghost use Rattle.std.specs.Prelude.{◌≡◌, OnOk};
+ghost use Rattle.group_terms.specs.Printer as printer;
+ghost use Rattle.lift_ir.specs.Terms as terms;
+ghost use Rattle.array_views.specs.Views.{view_in};
+ghost use Rattle.lowering.specs.Terms.{kind_of, load_set_of, term_of};
+ghost use Rattle.kernel_emit.specs.Blocks.{code_in};
+ghost use Rattle.kernel_emit.specs.Copies.{HasShortCopies};
+ghost use Rattle.kernel_emit.specs.Scopes.{scope_of};
+ghost use Rattle.group_emit.specs.Settings.{fence_in, inputs_of, spell_of};
+ghost use Rattle.group_emit.specs.Used.{used_of};
+
+use crate::arguments::{argument, local};
+use crate::counts::{Used, local_count};
+use crate::setting::Setting;
+use array_views::View;
+use kernel_emit::accesses::{loaded, put_loaded};
+use kernel_emit::block::Block;
+use kernel_emit::counts::{load_count, plus};
+use kernel_emit::scope::Scope;
+use kernel_emit::statements as item;
+use kernel_tree::tree::{Start, Stride};
+use length_spelling::spell_length;
+use lowering::term::{Kind, LoadSet, Term};
+use size_arith::Poly;
+use std::alloc::{AllocError, Global};
+
+/// Where code stands: with these binders in scope, and behind code that uses so much.
+#[derive(Clone, Copy)]
+pub struct Site<'s> {
+    pub scope: &'s Scope<'s>,
+    pub used: Used,
+}
+
+// The loop of a local map over this array.
+fn put_local_loop(
+    alloc: Global,
+    setting: &Setting,
+    site: &Site,
+    count: &Poly,
+    loads: &LoadSet,
+    array: &View,
+    body: &Term,
+    target: &View,
+    block: &mut Block,
+) -> Result<(), AllocError>
+    requires { HasShortCopies (term_of body.now) }
+    ensures { OnOk result (code_in block.new ≡ printer.print_local_loop (spell_of setting.now)
+        (inputs_of setting.now) (fence_in setting.now) (scope_of site.now.scope.now)
+        (used_of site.now.used) count.now (load_set_of loads.now) (view_in array.now)
+        (term_of body.now) (view_in target.now) (code_in block.old)) }
+{
+    let element = item::at_turn(alloc, array, 1)?;
+    let first_load = site.used.variables;
+    let bound = loaded(alloc, loads, &element, first_load)?;
+    let inner = item::Site {
+        depth: 2,
+        scope: &Scope::Bound(&bound, site.scope),
+        array: site.used.privates,
+        variable: plus(first_load, load_count(loads)?)?,
+    };
+    let mut turn = Block::new(alloc);
+    let target = item::at_turn(alloc, target, 1)?;
+    item::put_written(alloc, &setting.declared, &inner, body, &target, &mut turn)?;
+    put_loaded(alloc, loads, &element, first_load, &mut turn)?;
+    let length = spell_length(alloc, count, setting.declared.names)?;
+    block.put_loop(Start::LocalId, length, Stride::LocalSize, turn)
+}
+
+// The code of a local map, with the barrier before it.
+#[cycle(statements)]
+fn put_map(
+    alloc: Global,
+    setting: &Setting,
+    site: &Site,
+    kind: Kind,
+    count: &Poly,
+    loads: &LoadSet,
+    array: &Term,
+    body: &Term,
+    target: &View,
+    block: &mut Block,
+) -> Result<(), AllocError>
+    requires array { HasShortCopies (term_of array.now) }
+    requires body { HasShortCopies (term_of body.now) }
+    ensures { OnOk result (code_in block.new ≡ printer.print_group_written (spell_of setting.now)
+        (inputs_of setting.now) (fence_in setting.now) (scope_of site.now.scope.now)
+        (used_of site.now.used) (terms.Map (kind_of kind) count.now (load_set_of loads.now)
+        (term_of array.now) (term_of body.now)) (view_in target.now) (code_in block.old)) }
+{
+    let view = argument(alloc, setting, site.scope, site.used.locals, array)?;
+    let after = Site {
+        scope: site.scope,
+        used: site.used.after(array)?,
+    };
+    put_local_loop(
+        alloc, setting, &after, count, loads, &view, body, target, block,
+    )?;
+    setting.put_barrier(after.used.phases, block)?;
+    put_argument(alloc, setting, site, array, block)
+}
+
+// The code of a let of an array whose body is written.
+#[cycle(statements)]
+fn put_let(
+    alloc: Global,
+    setting: &Setting,
+    site: &Site,
+    value: &Term,
+    body: &Term,
+    target: &View,
+    block: &mut Block,
+) -> Result<(), AllocError>
+    requires value { HasShortCopies (term_of value.now) }
+    requires body { HasShortCopies (term_of body.now) }
+    ensures { OnOk result (code_in block.new ≡ printer.print_group_written (spell_of setting.now)
+        (inputs_of setting.now) (fence_in setting.now) (scope_of site.now.scope.now)
+        (used_of site.now.used) (terms.LetArray (term_of value.now) (term_of body.now))
+        (view_in target.now) (code_in block.old)) }
+{
+    let bound = argument(alloc, setting, site.scope, site.used.locals, value)?;
+    let inner = Site {
+        scope: &Scope::Bound(&bound, site.scope),
+        used: site.used.after(value)?,
+    };
+    put_written(alloc, setting, &inner, body, target, block)?;
+    put_argument(alloc, setting, site, value, block)
+}
+
+// The code of a let of an array whose body is an argument.
+#[cycle(statements)]
+fn put_argument_let(
+    alloc: Global,
+    setting: &Setting,
+    site: &Site,
+    value: &Term,
+    body: &Term,
+    block: &mut Block,
+) -> Result<(), AllocError>
+    requires value { HasShortCopies (term_of value.now) }
+    requires body { HasShortCopies (term_of body.now) }
+    ensures { OnOk result (code_in block.new ≡ printer.print_group_argument (spell_of setting.now)
+        (inputs_of setting.now) (fence_in setting.now) (scope_of site.now.scope.now)
+        (used_of site.now.used) (terms.LetArray (term_of value.now) (term_of body.now))
+        (code_in block.old)) }
+{
+    let bound = argument(alloc, setting, site.scope, site.used.locals, value)?;
+    let inner = Site {
+        scope: &Scope::Bound(&bound, site.scope),
+        used: site.used.after(value)?,
+    };
+    put_argument(alloc, setting, &inner, body, block)?;
+    put_argument(alloc, setting, site, value, block)
+}
+
+/// The copies of an argument to local memory.
+#[cycle(statements)]
+pub fn put_argument(
+    alloc: Global,
+    setting: &Setting,
+    site: &Site,
+    term: &Term,
+    block: &mut Block,
+) -> Result<(), AllocError>
+    requires { HasShortCopies (term_of term.now) }
+    ensures { OnOk result (code_in block.new ≡ printer.print_group_argument (spell_of setting.now)
+        (inputs_of setting.now) (fence_in setting.now) (scope_of site.now.scope.now)
+        (used_of site.now.used) (term_of term.now) (code_in block.old)) }
+{
+    match term {
+        Term::Pair(a, b) | Term::Zip(a, b) => {
+            let next = Site {
+                scope: site.scope,
+                used: site.used.after(a)?,
+            };
+            put_argument(alloc, setting, &next, b, block)?;
+            put_argument(alloc, setting, site, a, block)
+        }
+        Term::First(a) | Term::Second(a) | Term::Reshape(_, a) => {
+            put_argument(alloc, setting, site, a, block)
+        }
+        Term::LetArray(value, body) => put_argument_let(alloc, setting, site, value, body, block),
+        Term::Copy(_, ty, a) => {
+            let target = local(alloc, plus(site.used.locals, local_count(a)?)?, ty)?;
+            put_written(alloc, setting, site, a, &target, block)
+        }
+        Term::Literal(_)
+        | Term::Bound(_)
+        | Term::Source(_)
+        | Term::Apply(_, _, _)
+        | Term::ApplyNumber(_, _, _)
+        | Term::Select(_, _, _)
+        | Term::LetElement(_, _, _)
+        | Term::Map(_, _, _, _, _)
+        | Term::Fold(_, _, _, _, _, _)
+        | Term::Store(_, _) => Ok(()),
+    }
+}
+
+/// A term in writing position, which goes to the target.
+#[cycle(statements)]
+pub fn put_written(
+    alloc: Global,
+    setting: &Setting,
+    site: &Site,
+    term: &Term,
+    target: &View,
+    block: &mut Block,
+) -> Result<(), AllocError>
+    requires { HasShortCopies (term_of term.now) }
+    ensures { OnOk result (code_in block.new ≡ printer.print_group_written (spell_of setting.now)
+        (inputs_of setting.now) (fence_in setting.now) (scope_of site.now.scope.now)
+        (used_of site.now.used) (term_of term.now) (view_in target.now) (code_in block.old)) }
+{
+    match term {
+        Term::Reshape(layout, a) => {
+            let names = setting.declared.names;
+            let target = target.writing(alloc, names, &layout.form, &layout.ty, &layout.operand)?;
+            put_written(alloc, setting, site, a, &target, block)
+        }
+        Term::LetArray(value, body) => put_let(alloc, setting, site, value, body, target, block),
+        Term::Map(kind, count, loads, array, body) => put_map(
+            alloc, setting, site, *kind, count, loads, array, body, target, block,
+        ),
+        Term::Literal(_)
+        | Term::Bound(_)
+        | Term::Source(_)
+        | Term::Apply(_, _, _)
+        | Term::ApplyNumber(_, _, _)
+        | Term::Select(_, _, _)
+        | Term::Pair(_, _)
+        | Term::Zip(_, _)
+        | Term::First(_)
+        | Term::Second(_)
+        | Term::LetElement(_, _, _)
+        | Term::Fold(_, _, _, _, _, _)
+        | Term::Store(_, _)
+        | Term::Copy(_, _, _) => Ok(()),
+    }
+}

@@ -1,0 +1,4 @@
+mod Scopes
+mod Loops
+mod Touching
+mod Going
