@@ -1,5 +1,5 @@
 -- The printed code of a term outside local maps, of that of its parts.
-use Rattle.std.proofs.Common.{◌≡◌, ℕ, ◌+◌, refl}
+use Rattle.std.proofs.Common.{◌≡◌, ℕ, refl}
 use Rattle.kernel_tree.specs.Formula.{Formula}
 use Rattle.kernel_tree.specs.Code.{Code}
 use Rattle.lift_ir.specs.Terms.{Kind, LoadSet, Term, LetArray, Map, push}

@@ -1,0 +1,5 @@
+//! Tests of printed kernels' code, over public items alone.
+#![tactic(auto)]
+
+#[cfg(test)]
+mod tiles;
