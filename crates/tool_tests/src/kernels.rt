@@ -95,7 +95,7 @@ fn other_writings_run_alike(rt: HostRuntime) -> Result<(), Fail> {
 }
 
 // A text that repeats another between two more.
-fn around(
+pub fn around(
     alloc: Global,
     begin: &str,
     repeated: &str,

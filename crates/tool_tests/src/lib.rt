@@ -4,6 +4,8 @@
 #[cfg(test)]
 mod call;
 #[cfg(test)]
+mod groups;
+#[cfg(test)]
 mod kernels;
 #[cfg(test)]
 mod limits;
