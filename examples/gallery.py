@@ -5,7 +5,7 @@
 
 The picture of the strategy NAME.txt of the folder E is docs/gallery/E-NAME.svg, of two parts. Above stands the run:
 a row for each work-item, a column for each event; a read is blue, a write orange, any other step grey, and a release is a line
-through the rows of its group. Below stand the arrays, a box for each cell: in an array that is written each cell has the colour of
+through the rows of its group. Below stand the arrays, a box for each cell, a local array once for each group: in an array that is written each cell has the colour of
 the work-item that wrote it, in any other a stripe of the colour of each work-item that read it.
 """
 import json
@@ -59,12 +59,14 @@ def timeline(launch, events):
     return rows, launch["global"] * BOX
 
 
-def cells(events):
-    """The arrays, a box for each cell that was read or written."""
+def cells(launch, events):
+    """The arrays, a box for each cell that was read or written; a local one once for each group."""
     readers, writers = defaultdict(list), {}
     for words in events:
         if len(words) > 2:
             item, array, cell = int(words[1]), words[3], int(words[4])
+            if array.startswith("l"):
+                array = f"{array} of {item // launch['local']}"
             if words[2] == "writes":
                 writers[array, cell] = item
             elif item not in readers[array, cell]:
@@ -90,7 +92,7 @@ def moved(parts, y):
 
 def picture(launch, events):
     run, run_height = timeline(launch, events)
-    arrays, arrays_height = cells(events)
+    arrays, arrays_height = cells(launch, events)
     height = run_height + arrays_height + 2 * BOX + 2 * GAP
     head = f'<svg xmlns="http://www.w3.org/2000/svg" viewBox="0 0 820 {height:g}" width="820" font-family="sans-serif" font-size="11" fill="#333">'
     ground = f'<rect width="820" height="{height:g}" fill="#ffffff"/>'
@@ -111,7 +113,7 @@ SHOWN = {
     ),
     "stencil": (
         "Each number and its two neighbours added; the ends stand for their missing neighbours.",
-        {"sequential": "One work-item sums window after window.", "global": "Each work-item sums windows of its own."},
+        {"sequential": "One work-item sums window after window.", "global": "Each work-item sums windows of its own.", "tiled": "A work-group copies a tile to local memory, and sums both its windows from there."},
     ),
 }
 
@@ -119,7 +121,7 @@ HEAD = """# Gallery
 
 What one program becomes under different strategies: the script, the kernel that `lift compile` writes, and the run that `lift run` makes of it on the launch file beside the script, which gives the same value under every schedule. [examples](../examples/README.md) has the files. `examples/gallery.py` writes this page and draws the pictures.
 
-In a picture stands above the run: a row for each work-item, a column for each event; a read is blue, a write orange, any other step grey, a release red. Below stand the arrays, a box for each cell: in an array that is written each cell has the colour of the work-item that wrote it, in any other a stripe of the colour of each work-item that read it.
+In a picture stands above the run: a row for each work-item, a column for each event; a read is blue, a write orange, any other step grey, a release red. Below stand the arrays, a box for each cell, a local array once for each group: in an array that is written each cell has the colour of the work-item that wrote it, in any other a stripe of the colour of each work-item that read it.
 """
 
 

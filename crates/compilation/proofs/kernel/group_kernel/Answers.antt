@@ -35,7 +35,7 @@ returns c =
     (λ (k : EmittedKernel). kernel_of k ≡ kernel_of_groups (declared_of low) (fence_with barriers (tree_of low.term) (annotation_of low.types)) (tree_of low.term) (annotation_of low.types))
     (λ (k : EmittedKernel). IsKernelFor (program_of last.program) (state_of last) (kernel_of k))
     (λ k h.
-        groups_for last low c.requires.lowered (term_of c.in_ok-root.root) c.in_ok-root.ensures c.requires.accepted c.requires.kind
-        barriers c.in_ok-barriers.barriers.items c.deref.ensures.value c.in_ok-barriers.ensures.needed (kernel_of k)
-        c.legal_groups_stand_over_groups.ensures c.group_terms_are_printed.ensures c.legal_groups_start.ensures c.legal_groups_keep.ensures h)
+    groups_for last low c.requires.lowered (term_of c.in_ok-root.root) c.in_ok-root.ensures c.requires.accepted c.requires.kind
+    barriers c.in_ok-barriers.barriers.items c.deref.ensures.value c.in_ok-barriers.ensures.needed (kernel_of k)
+    c.legal_groups_stand_over_groups.ensures c.group_terms_are_printed.ensures c.legal_groups_start.ensures c.legal_groups_keep.ensures h)
     c.emit_groups.ensures
