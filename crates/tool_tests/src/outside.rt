@@ -113,7 +113,7 @@ const WORDS: [&[&str]; 10] = [
     &[],
     &["run"],
     &["run", "p.lift", "s.lift"],
-    &["run", "p.lift", "s.lift", "l.json", "--trace"],
+    &["compile", "p.lift", "s.lift", "--trace"],
     &["run", "p.lift", "-s.lift", "l.json"],
     &["compile", "p.lift", "s.lift", "l.json"],
     &["compile", "p"],
