@@ -6,7 +6,8 @@ usage: bench/against_clang.py
 Takes the least of ten times of each, in milliseconds: `lift compile PROGRAM SCRIPT`, and `clang -fsyntax-only` on the kernel that is
 stored beside the script.
 
-Counted once, on a busy machine (Debian's clang 14): 0.6 to 0.8 ms against 31 to 40, at least 44 times as long.
+Taken twice, on a busy machine (Debian's clang 14): 0.5 to 1.1 ms against 31 to 66, 44 to 107 times as long, but for one example in
+the first of the two, which took 3.8 ms against 35 (nine times) and 0.6 in the second. A quiet machine has not been tried.
 """
 import subprocess
 import time
