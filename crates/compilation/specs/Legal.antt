@@ -12,7 +12,8 @@ use Rattle.kernel_emit.specs.Emittable.{declared_of}
 use Rattle.strategy_script.specs.Steps.{State}
 use Rattle.lowered_tree.specs.Nest.{IsLegalNest, nest_fault}
 use Rattle.lowered_tree.specs.Printed.{first_unprinted}
-use Rattle.nest_premises.specs.Legal.{CopiesArrays, IsLegalTerm}
+use Rattle.lowered_tree.specs.Copies.{CopiesArrays}
+use Rattle.nest_premises.specs.Legal.{IsLegalTerm}
 use Rattle.sound_parts.specs.Words.{FormsHaveWords}
 use Rattle.thread_mapping.specs.declared.judging.NestNo.{NestNo}
 use Rattle.thread_mapping.specs.declared.judging.NestNo.TheVariants as nests

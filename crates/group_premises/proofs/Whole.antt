@@ -8,7 +8,8 @@ use Rattle.lift_ir.specs.Forms.{Stands, StandsOverLaunch}
 use Rattle.printed_form.specs.Programs.{lowered_root}
 use Rattle.lowered_tree.specs.Around.{at_root}
 use Rattle.lowered_tree.specs.Kinds.{is_global, is_over_groups}
-use Rattle.nest_premises.specs.Legal.{CopiesArrays, IsLegalTerm}
+use Rattle.lowered_tree.specs.Copies.{CopiesArrays}
+use Rattle.nest_premises.specs.Legal.{IsLegalTerm}
 use Rattle.nest_premises.specs.Kind.{nest_kind}
 use Rattle.nest_premises.specs.Printable.{CanBeLowered}
 use Rattle.nest_premises.specs.declared.kind.NestKind.{NestKind}

@@ -6,7 +6,8 @@ use Rattle.lift_tree.specs.Programs.{PlainProgram}
 use Rattle.lift_tree.specs.Annotations.{Annotation}
 use Rattle.printed_form.specs.Programs.{lowered_root}
 use Rattle.group_terms.specs.Uses.{phase_count}
-use Rattle.nest_premises.specs.Legal.{CopiesArrays, IsLegalTerm}
+use Rattle.lowered_tree.specs.Copies.{CopiesArrays}
+use Rattle.nest_premises.specs.Legal.{IsLegalTerm}
 use Rattle.nest_premises.specs.Kind.{nest_kind}
 use Rattle.nest_premises.specs.declared.kind.NestKind.TheVariants.{OverGroups}
 use Rattle.group_premises.specs.Stands.{StandsAs, IsGroupPrintable, IsPrintableAs}

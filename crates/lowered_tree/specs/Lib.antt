@@ -5,5 +5,5 @@ pub mod Forms
 pub mod Nest
 pub mod Nodes
 pub mod Spaces
-pub mod Printed
+pub mod Copies
 pub mod Inputs

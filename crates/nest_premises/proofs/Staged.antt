@@ -25,7 +25,7 @@ use Rattle.lowered_tree.specs.declared.rule.NestRule.TheVariants.{N1, N6, N7, N8
 use Rattle.lowered_tree.specs.Around.{under_form}
 use Rattle.lowered_tree.specs.Elements.{is_element, names_a_size, is_over_sizes, hangs_on_sizes}
 use Rattle.lowered_tree.specs.Kinds.{is_plain}
-use Rattle.nest_premises.specs.Legal.{CopiesArrays}
+use Rattle.lowered_tree.specs.Copies.{CopiesArrays}
 use Rattle.nest_premises.proofs.Fits.{Fits}
 use Rattle.nest_premises.proofs.Rules.{IsUnbrokenAt, AllUnbroken, or_left, or_right, not_left, not_right, spared, negated, denied, true_is_not_false, told_element, no_array, holds_none, left_part, right_part, clash_array, clash_element, moved, told_ir}
 

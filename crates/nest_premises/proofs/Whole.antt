@@ -1,15 +1,12 @@
 -- Legal terms can be lowered and printed.
-use Rattle.std.proofs.Common.{◌≡◌, ℕ, ◌/◌, ◌<◌, ◌^◌, Bool, true, false, List, [], ◌∷◌, ◌++◌, Option, Some, None, refl, sym, subst, inl, inr, arith, map}
-use Rattle.std.specs.Prelude.{◌↔◌, if◌then◌else◌}
+use Rattle.std.proofs.Common.{◌≡◌, ℕ, ◌/◌, ◌<◌, ◌^◌, Bool, true, false, List, [], ◌∷◌, refl, sym, subst, inl, inr, arith, map}
+use Rattle.std.specs.Prelude.{◌↔◌}
 use Rattle.std.proofs.Math.Nat.{mul-div-le, mod-eq-sub-mul-div}
 use Rattle.size_arith.specs.declared.names.Name.{Name}
 use Rattle.size_arith.specs.Ranges.{AreNames, IsName, IsAdmissible, Admissible, leasts}
-use Rattle.lift_tree.specs.declared.term.UnaryForm.{UnaryForm}
-use Rattle.lift_tree.specs.declared.term.UnaryForm.TheVariants as unary
-use Rattle.lift_tree.specs.Tree as tree
 use Rattle.lift_tree.specs.Tree.{Tree}
 use Rattle.lift_tree.specs.Types as types
-use Rattle.lift_tree.specs.Types.{PlainTy, is_array, IsInput, IsOutput}
+use Rattle.lift_tree.specs.Types.{PlainTy, IsInput, IsOutput}
 use Rattle.lift_tree.specs.Lists.{Every}
 use Rattle.lift_tree.specs.InputTypes as input_type
 use Rattle.lift_tree.specs.InputTypes.{Written}
@@ -17,7 +14,7 @@ use Rattle.lift_tree.specs.Limits.{InputFits, HasFewScalars}
 use Rattle.lift_tree.specs.Programs.{PlainInput, PlainProgram}
 use Rattle.lift_tree.specs.WorkedOut.{worked_out, range_of}
 use Rattle.lift_tree.specs.Typing.{Declared, declared_by}
-use Rattle.lift_tree.specs.Annotations.{Annotation, One, Two, Three, type_in}
+use Rattle.lift_tree.specs.Annotations.{Annotation, type_in}
 use Rattle.kernel_tree.specs.Launch.{Launch}
 use Rattle.lift_ir.specs.Types.{IsFlat, IsShort, IsPlaced, size}
 use Rattle.lift_ir.specs.AtLaunch.{length_at, shape_of}
@@ -26,19 +23,17 @@ use Rattle.lift_ir.specs.Lowerable.{IsStaged}
 use Rattle.lift_ir.proofs.Typed.{output_flat}
 use Rattle.lift_ir.proofs.Values.{shape_is}
 use Rattle.printed_form.specs.Programs.{IsLaunchOf, lowered_root, StandsAt}
-use Rattle.lowered_tree.specs.declared.around.Around.{Around}
 use Rattle.lowered_tree.specs.Around.{at_root}
 use Rattle.lowered_tree.specs.Elements.{is_element}
 use Rattle.lowered_tree.specs.Kinds.{is_global, is_over_groups, is_task}
-use Rattle.lowered_tree.specs.Nest.{Site, sites, under, in_child}
-use Rattle.lowered_tree.specs.Printed.{is_unprinted_at, first_place}
-use Rattle.nest_premises.specs.Legal.{FormCopiesArrays, CopiesArrays, shows_global_map, IsLegalTerm}
+use Rattle.lowered_tree.specs.Copies.{CopiesArrays}
+use Rattle.nest_premises.specs.Legal.{shows_global_map, IsLegalTerm}
 use Rattle.nest_premises.specs.Kind.{nest_kind}
 use Rattle.nest_premises.specs.declared.kind.NestKind.TheVariants.{Task}
 use Rattle.nest_premises.specs.Printable.{CanBeLowered, IsPrintable}
-use Rattle.nest_premises.specs.Laws.{LegalTermsCanBeLowered, KindsTellTasks, UngroupedTermsArePrintable, TasksArePrintable, LaunchesArePrintable, AcceptedTermsCopyArrays}
+use Rattle.nest_premises.specs.Laws.{LegalTermsCanBeLowered, KindsTellTasks, UngroupedTermsArePrintable, TasksArePrintable, LaunchesArePrintable}
 use Rattle.nest_premises.proofs.Fits.{Fits}
-use Rattle.nest_premises.proofs.Rules.{AllUnbroken, all_unbroken, front, behind, above, negated}
+use Rattle.nest_premises.proofs.Rules.{AllUnbroken, all_unbroken}
 use Rattle.nest_premises.proofs.Staged.{written}
 use Rattle.nest_premises.proofs.Lowerable.{written_lowerable}
 use Rattle.nest_premises.proofs.Stands.{written_stands}
@@ -46,56 +41,6 @@ use Rattle.nest_premises.proofs.Top.{Over, over_of, over_shows, over_no_task, gl
 use Rattle.nest_premises.proofs.OfKinds.{task_kind, kind_of_task, groups_kind}
 use Rattle.nest_premises.proofs.Launches.{over_launch}
 use Rattle.nest_premises.proofs.Limited.{IsFew, few_all, short, small, fits_in}
-
--- ---- each node is printed
-
-abbrev IsPrinted : Site → Type 0
-IsPrinted x = is_unprinted_at x ≡ false
-
-not_here : (b : Bool) (p : List ℕ) (o : Option (List ℕ)) → (if b then Some p else o) ≡ None → (b ≡ false) × (o ≡ None)
-not_here true p o e = absurd (cc)
-not_here false p o e = (refl, e)
-
-all_printed : (xs : List Site) → first_place xs ≡ None → Every IsPrinted xs
-all_printed [] e = tt
-all_printed (x ∷ xs) e = let r = not_here (is_unprinted_at x) x.place (first_place xs) e in (r.0, all_printed xs r.1)
-
-unmoved : (i : ℕ) (x : Site) → IsPrinted (in_child i x) → IsPrinted x
-unmoved i x h = h
-
-ones : (xs : List Site) → Every IsPrinted (under 0 xs) → Every IsPrinted xs
-ones xs h = above IsPrinted unmoved 0 xs h
-
-twos : (xs ys : List Site) → Every IsPrinted (under 0 xs ++ under 1 ys) → Every IsPrinted xs × Every IsPrinted ys
-twos xs ys h = (ones xs (front IsPrinted (under 0 xs) (under 1 ys) h), above IsPrinted unmoved 1 ys (behind IsPrinted (under 0 xs) (under 1 ys) h))
-
-threes : (xs ys zs : List Site) → Every IsPrinted (under 0 xs ++ (under 1 ys ++ under 2 zs)) → Every IsPrinted xs × Every IsPrinted ys × Every IsPrinted zs
-threes xs ys zs h =
-    let r = behind IsPrinted (under 0 xs) (under 1 ys ++ under 2 zs) h in
-    (ones xs (front IsPrinted (under 0 xs) (under 1 ys ++ under 2 zs) h), above IsPrinted unmoved 1 ys (front IsPrinted (under 1 ys) (under 2 zs) r), above IsPrinted unmoved 2 zs (behind IsPrinted (under 1 ys) (under 2 zs) r))
-
-form_copies : (s : Around) (f : UnaryForm) (t : Tree) (a : PlainTy) (n : Annotation) → IsPrinted (record { place = []; around = s; tree = tree.Unary f t; types = One a n }) → FormCopiesArrays f a
-form_copies s (unary.Div j) t a n h = tt
-form_copies s (unary.Rem j) t a n h = tt
-form_copies s unary.First t a n h = tt
-form_copies s unary.Second t a n h = tt
-form_copies s unary.Join t a n h = tt
-form_copies s unary.Transpose t a n h = tt
-form_copies s (unary.Split fs) t a n h = tt
-form_copies s (unary.Slide j l) t a n h = tt
-form_copies s (unary.Pad j l) t a n h = tt
-form_copies s unary.ToLocal t a n h = negated (is_array a) h
-form_copies s unary.ToPrivate t a n h = negated (is_array a) h
-
--- its copies are of arrays
-copied_in : (s : Around) (t : Tree) (n : Annotation) → Every IsPrinted (sites s t n) → CopiesArrays t n
-copied_in s (tree.Unary f t) (One a n) h = (form_copies s f t a n h.0, copied_in _ t n (ones (sites _ t n) h.1))
-copied_in s (tree.Binary f t u) (Two a n m) h = let o = twos (sites _ t n) (sites _ u m) h.1 in (copied_in _ t n o.0, copied_in _ u m o.1)
-copied_in s (tree.Select t u x) (Three a n m l) h = let o = threes (sites _ t n) (sites _ u m) (sites _ x l) h.1 in (copied_in _ t n o.0, copied_in _ u m o.1, copied_in _ x l o.2)
-copied_in s (tree.Let v b) (Two a n m) h = let o = twos (sites _ v n) (sites _ b m) h.1 in (copied_in _ v n o.0, copied_in _ b m o.1)
-copied_in s (tree.Map j xs b) (Two a n m) h = let o = twos (sites _ xs n) (sites _ b m) h.1 in (copied_in _ xs n o.0, copied_in _ b m o.1)
-copied_in s (tree.Fold j xs x b) (Three a n m l) h = let o = threes (sites _ xs n) (sites _ x m) (sites _ b l) h.1 in (copied_in _ xs n o.0, copied_in _ x m o.1, copied_in _ b l o.2)
-copied_in s _ _ h = tt
 
 -- ---- the least sizes are admissible
 
@@ -215,6 +160,3 @@ tasks_are_printable p t n r copies z = task p t n r copies z
 
 pub launches_are_printable : LaunchesArePrintable
 launches_are_printable p t n r copies e = launch p t n r copies e
-
-pub accepted_terms_copy_arrays : AcceptedTermsCopyArrays
-accepted_terms_copy_arrays t n e = copied_in (at_root t) t n (all_printed (sites (at_root t) t n) e)

@@ -1,12 +1,12 @@
 -- Legal terms can be lowered and printed.
-use Rattle.std.specs.Prelude.{◌≡◌, ◌≢◌, ◌↔◌, true, None}
+use Rattle.std.specs.Prelude.{◌≡◌, ◌≢◌, ◌↔◌, true}
 use Rattle.lift_tree.specs.Tree.{Tree}
 use Rattle.lift_tree.specs.Typing.{declared_by}
 use Rattle.lift_tree.specs.Programs.{PlainProgram}
 use Rattle.lift_tree.specs.Annotations.{Annotation}
 use Rattle.lowered_tree.specs.Kinds.{is_task}
-use Rattle.lowered_tree.specs.Printed.{first_unprinted}
-use Rattle.nest_premises.specs.Legal.{CopiesArrays, IsLegalTerm, shows_global_map}
+use Rattle.lowered_tree.specs.Copies.{CopiesArrays}
+use Rattle.nest_premises.specs.Legal.{IsLegalTerm, shows_global_map}
 use Rattle.nest_premises.specs.Kind.{nest_kind}
 use Rattle.nest_premises.specs.declared.kind.NestKind.TheVariants.{Task, OverGroups}
 use Rattle.nest_premises.specs.Printable.{CanBeLowered, IsPrintable}
@@ -30,7 +30,3 @@ TasksArePrintable = (p : PlainProgram) (t : Tree) (n : Annotation) → IsLegalTe
 -- a legal term with a map over all work-items on top
 abbrev pub LaunchesArePrintable : Type 0
 LaunchesArePrintable = (p : PlainProgram) (t : Tree) (n : Annotation) → IsLegalTerm p t n → CopiesArrays t n → shows_global_map t ≡ true → IsPrintable (declared_by p) t n
-
--- a term each node of which is printed
-abbrev pub AcceptedTermsCopyArrays : Type 0
-AcceptedTermsCopyArrays = (t : Tree) (n : Annotation) → first_unprinted t n ≡ None → CopiesArrays t n

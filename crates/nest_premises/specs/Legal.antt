@@ -1,14 +1,14 @@
 -- Typed terms whose nest is legal.
-use Rattle.std.specs.Prelude.{◌≡◌, ◌<◌, ◌^◌, Bool, true, false, []}
+use Rattle.std.specs.Prelude.{◌<◌, ◌^◌, Bool, false, []}
 use Rattle.lift_tree.specs.declared.term.UnaryForm.{UnaryForm}
 use Rattle.lift_tree.specs.declared.term.UnaryForm.TheVariants.{Div, Rem, First, Second, Join, Transpose, Split, Slide, Pad, ToLocal, ToPrivate}
 use Rattle.lift_tree.specs.declared.term.MapKind.{MapKind}
 use Rattle.lift_tree.specs.Tree.{Tree, Variable, Number, Input, Unary, Binary, Select, Let, Map, Fold}
-use Rattle.lift_tree.specs.Types.{PlainTy, is_array, IsOutput}
+use Rattle.lift_tree.specs.Types.{IsOutput}
 use Rattle.lift_tree.specs.Programs.{PlainProgram}
 use Rattle.lift_tree.specs.Typing.{declared_by, IsDeclared}
 use Rattle.lift_tree.specs.Limits.{IsWithinLimits}
-use Rattle.lift_tree.specs.Annotations.{Annotation, One, Two, Three, type_in, Annotates}
+use Rattle.lift_tree.specs.Annotations.{Annotation, type_in, Annotates}
 use Rattle.lowered_tree.specs.Kinds.{is_global}
 use Rattle.lowered_tree.specs.Nest.{IsLegalNest}
 
@@ -39,31 +39,6 @@ HasWordSteps (Select t u v) = HasWordSteps t × HasWordSteps u × HasWordSteps v
 HasWordSteps (Let v b) = HasWordSteps v × HasWordSteps b
 HasWordSteps (Map k xs b) = HasWordSteps xs × HasWordSteps b
 HasWordSteps (Fold k xs s b) = HasWordSteps xs × HasWordSteps s × HasWordSteps b
-
--- ---- copies
-
-abbrev pub FormCopiesArrays : UnaryForm → PlainTy → Type 0
-FormCopiesArrays (Div n) a = Unit {0}
-FormCopiesArrays (Rem n) a = Unit {0}
-FormCopiesArrays First a = Unit {0}
-FormCopiesArrays Second a = Unit {0}
-FormCopiesArrays Join a = Unit {0}
-FormCopiesArrays Transpose a = Unit {0}
-FormCopiesArrays (Split fs) a = Unit {0}
-FormCopiesArrays (Slide s t) a = Unit {0}
-FormCopiesArrays (Pad l r) a = Unit {0}
-FormCopiesArrays ToLocal a = is_array a ≡ true
-FormCopiesArrays ToPrivate a = is_array a ≡ true
-
--- local and private copies are of arrays
-abbrev pub CopiesArrays : Tree → Annotation → Type 0
-CopiesArrays (Unary f t) (One a n) = FormCopiesArrays f a × CopiesArrays t n
-CopiesArrays (Binary f t u) (Two a n m) = CopiesArrays t n × CopiesArrays u m
-CopiesArrays (Select t u v) (Three a n m k) = CopiesArrays t n × CopiesArrays u m × CopiesArrays v k
-CopiesArrays (Let v b) (Two a n m) = CopiesArrays v n × CopiesArrays b m
-CopiesArrays (Map h xs b) (Two a n m) = CopiesArrays xs n × CopiesArrays b m
-CopiesArrays (Fold h xs s b) (Three a n m k) = CopiesArrays xs n × CopiesArrays s m × CopiesArrays b k
-CopiesArrays t n = Unit {0}
 
 -- ---- the whole
 

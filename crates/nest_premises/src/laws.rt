@@ -1,6 +1,6 @@
 //! Laws of legal terms, each carried by a function that does nothing.
 
-ghost use Rattle.nest_premises.specs.Laws.{AcceptedTermsCopyArrays, KindsTellTasks, LaunchesArePrintable, LegalTermsCanBeLowered, TasksArePrintable, UngroupedTermsArePrintable};
+ghost use Rattle.nest_premises.specs.Laws.{KindsTellTasks, LaunchesArePrintable, LegalTermsCanBeLowered, TasksArePrintable, UngroupedTermsArePrintable};
 
 /// A legal term can be lowered, whatever its maps.
 pub fn legal_terms_can_be_lowered()
@@ -25,9 +25,4 @@ pub fn tasks_are_printable()
 /// A legal term with a map over all work-items on top can be printed, for all.
 pub fn launches_are_printable()
     ensures { LaunchesArePrintable }
-{}
-
-/// A term each node of which is printed copies nothing but arrays.
-pub fn accepted_terms_copy_arrays()
-    ensures { AcceptedTermsCopyArrays }
 {}

@@ -8,7 +8,7 @@ use lowered_tree::rule::NestRule;
 use nest_premises::kind::{NestKind, nest_kind};
 use std::alloc::Global;
 use std::test::Fail;
-use thread_mapping::{NestNo, first_unprinted, judge};
+use thread_mapping::{NestNo, judge};
 
 const ADDED: &str = "size N from 1 to 1000; input xs: [u32; N]; output map(\\x. add(x, 1), xs)";
 
@@ -58,18 +58,6 @@ const BROKEN: [(&str, &str, &str, NestRule); 11] = [
         NestRule::N10,
     ),
     ("input xs: [u32; 5]; output xs", "", "", NestRule::N11),
-];
-
-// A program and a script, each node of whose last term is printed.
-const PRINTED: [(&str, &str); 8] = [
-    (ADDED, "at . to-seq"),
-    (COPIED, "at 0 private-copy\nat . to-seq"),
-    (SUM, SUMMED),
-    (ADDED, "at . to-glb"),
-    (ROWS, "at 1 to-seq\nat . to-glb"),
-    (ADDED, "at . to-lcl"),
-    (ROWS, "at 1 to-lcl\nat . to-glb"),
-    (WINDOWS, TILED),
 ];
 
 // A program, a script, and the spaces of its last term's computing nodes in preorder: global, local or private.
@@ -166,21 +154,6 @@ fn the_first_broken_rule_is_told(rt: HostRuntime) -> Result<(), Fail> {
 fn computing_nodes_have_their_spaces(rt: HostRuntime) -> Result<(), Fail> {
     for (program, script, want) in LEGAL {
         assert!(rt; has_spaces(rt.alloc(), program, script, want)?, "{script}");
-    }
-    Ok(())
-}
-
-fn is_printed(alloc: Global, program: &str, script: &str) -> Result<bool, Fail> {
-    let Some(lowered) = lowered_last(alloc, program, script)? else {
-        return Ok(false);
-    };
-    Ok(first_unprinted(alloc, &lowered)?.is_none())
-}
-
-#[test]
-fn maps_of_each_kind_are_printed(rt: HostRuntime) -> Result<(), Fail> {
-    for (program, script) in PRINTED {
-        assert!(rt; is_printed(rt.alloc(), program, script)?, "{script}");
     }
     Ok(())
 }

@@ -23,7 +23,8 @@ use Rattle.printed_grammar.specs.Sound.{CanBeWritten}
 use Rattle.length_spelling.specs.Formulas.{length_formula}
 use Rattle.printable_terms.specs.Sound.{HasSoundParts}
 use Rattle.sound_parts.specs.Words.{FormsHaveWords}
-use Rattle.nest_premises.specs.Legal.{CopiesArrays, IsLegalTerm}
+use Rattle.lowered_tree.specs.Copies.{CopiesArrays}
+use Rattle.nest_premises.specs.Legal.{IsLegalTerm}
 use Rattle.nest_premises.specs.Kind.{nest_kind}
 use Rattle.nest_premises.specs.declared.kind.NestKind.TheVariants.{OverGroups}
 use Rattle.group_terms.specs.Forms.{StandsOverGroups}

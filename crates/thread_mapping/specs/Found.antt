@@ -27,8 +27,3 @@ from_child i None = None
 abbrev pub Refuses : NestNo → Tree → Annotation → Type 0
 Refuses (Nest place rule) t n = nest_fault t n ≡ Some (place, rule)
 Refuses Memory t n = Unit {0}
-
--- a place in the child of this number, seen from the parent
-abbrev pub place_in_child : ℕ → Option (List ℕ) → Option (List ℕ)
-place_in_child i (Some p) = Some (i ∷ p)
-place_in_child i None = None

@@ -2,8 +2,6 @@
 #![tactic(auto)]
 
 mod judging;
-mod printed;
 mod rules;
 
 pub use judging::{NestNo, judge};
-pub use printed::first_unprinted;
