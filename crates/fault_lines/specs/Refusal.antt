@@ -15,7 +15,7 @@ use Rattle.strategy_script.specs.declared.faults.Why.TheVariants as whys
 use Rattle.strategy_script.specs.declared.script.ScriptNo.TheVariants as scripts
 use Rattle.thread_mapping.specs.declared.judging.NestNo.TheVariants as nests
 use Rattle.fault_lines.specs.declared.refusal.Refusal.{Refusal}
-use Rattle.fault_lines.specs.declared.refusal.Refusal.TheVariants.{Program, Typing, Script, Step, Nest, Unprinted, Alloc, Memory}
+use Rattle.fault_lines.specs.declared.refusal.Refusal.TheVariants.{Program, Typing, Script, Step, Nest, Alloc, Memory}
 
 abbrev pub status_of : Refusal → ℕ
 status_of (Program (readings.Syntax token offset)) = 6
@@ -32,7 +32,6 @@ status_of (Step (stops.Limit which step count)) = 10
 status_of (Step stops.Memory) = 13
 status_of (Nest (nests.Nest place rule)) = 11
 status_of (Nest nests.Memory) = 13
-status_of (Unprinted place) = 11
 status_of (Alloc (allocations.Limit which count)) = 10
 status_of (Alloc allocations.Memory) = 13
 status_of Memory = 13
@@ -74,7 +73,6 @@ line_of (Step (stops.Limit which step count)) = limit_line (step_limit_name whic
 line_of (Step stops.Memory) = memory_line
 line_of (Nest (nests.Nest place rule)) = nest_line (nest_rule_name rule) place
 line_of (Nest nests.Memory) = memory_line
-line_of (Unprinted place) = nest_line (codes "N0") place
 line_of (Alloc (allocations.Limit which count)) = limit_line (alloc_limit_name which) count
 line_of (Alloc allocations.Memory) = memory_line
 line_of Memory = memory_line

@@ -39,8 +39,6 @@ pub enum Refusal {
     Step(StepNo),
     /// The nest that the steps make of the program breaks a rule.
     Nest(NestNo),
-    /// No kernel is printed so far of the node at this place, the first in preorder.
-    Unprinted { place: Place },
     /// The term passes a limit on layouts or on memory.
     Alloc(AllocNo),
     /// Memory ran out outside of these stages. Inside of one, its own refusal says so.
@@ -256,7 +254,7 @@ impl Refusal {
             | Refusal::Script(ScriptNo::Limit { .. })
             | Refusal::Step(StepNo::Limit { .. })
             | Refusal::Alloc(AllocNo::Limit { .. }) => 10,
-            Refusal::Nest(NestNo::Nest { .. }) | Refusal::Unprinted { .. } => 11,
+            Refusal::Nest(NestNo::Nest { .. }) => 11,
             Refusal::Program(ReadRefusal::Memory)
             | Refusal::Typing(TypeRefusal::Memory)
             | Refusal::Script(ScriptNo::Memory)
@@ -279,7 +277,6 @@ impl Refusal {
             Refusal::Script(no) => report_script(err, *no),
             Refusal::Step(no) => report_step(err, *no),
             Refusal::Nest(no) => report_nest(err, no),
-            Refusal::Unprinted { place } => report_place(err, b"N0", place),
             Refusal::Alloc(no) => report_alloc(err, no),
             Refusal::Memory => report_memory(err),
         }

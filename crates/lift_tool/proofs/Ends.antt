@@ -143,7 +143,6 @@ source_status (told_of.Step (stops.Limit which step count)) = omega arith
 source_status (told_of.Step stops.Memory) = omega arith
 source_status (told_of.Nest (nests.Nest place rule)) = omega arith
 source_status (told_of.Nest nests.Memory) = omega arith
-source_status (told_of.Unprinted place) = omega arith
 source_status (told_of.Alloc (allocations.Limit which count)) = omega arith
 source_status (told_of.Alloc allocations.Memory) = omega arith
 source_status told_of.Memory = omega arith
