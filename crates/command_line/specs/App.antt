@@ -1,15 +1,15 @@
--- The command of `lift`, as clap sees it: one level of subcommands, whose arguments are file names, and a flag of one of them.
+-- The command of `lift`, as clap sees it: one level of subcommands, whose arguments are file names or a seed, and a flag of one of them.
 use Rattle.std.specs.Prelude.{Some, true, codes, List, [], ◌∷◌, fold}
 use Rattle.clap.specs.Words.{App, Rule, Shape, Text, new_app, new_rule, with_rule, with_subcommand}
 use Rattle.clap.specs.declared.builder.ArgAction.TheVariants.{Set, SetTrue}
 
--- a required argument of one word, the name of a file
-abbrev pub file_rule : Text → Rule
-file_rule id = record (new_rule id) { required = true; action = Some Set }
+-- a required argument of one word
+abbrev pub word_rule : Text → Rule
+word_rule id = record (new_rule id) { required = true; action = Some Set }
 
--- a command with one file name for each id, in this order
-abbrev pub file_command : Text → List Text → App
-file_command name ids = fold (λ command id. with_rule command (file_rule id)) (new_app name) ids
+-- a command with one word for each id, in this order
+abbrev pub words_command : Text → List Text → App
+words_command name ids = fold (λ command id. with_rule command (word_rule id)) (new_app name) ids
 
 abbrev pub program : Text
 program = codes "program"
@@ -20,6 +20,9 @@ script = codes "script"
 abbrev pub launch : Text
 launch = codes "launch"
 
+abbrev pub seed : Text
+seed = codes "seed"
+
 abbrev pub trace : Text
 trace = codes "trace"
 
@@ -29,7 +32,7 @@ trace_rule = record (new_rule trace) { long = Some trace; action = Some SetTrue 
 
 -- a run takes three files and the flag
 abbrev pub run_command : App
-run_command = with_rule (file_command (codes "run") (program ∷ script ∷ launch ∷ [])) trace_rule
+run_command = with_rule (words_command (codes "run") (program ∷ script ∷ launch ∷ [])) trace_rule
 
 -- a subcommand is required; there is no help and no version, and the words have no program name
 abbrev pub bare_shape : Shape → Shape
@@ -46,10 +49,11 @@ bare_command = record (new_app (codes "lift")) { top = bare_shape (new_app (code
 
 abbrev pub subcommands : List App
 subcommands =
-    file_command (codes "compile") (program ∷ script ∷ [])
+    words_command (codes "compile") (program ∷ script ∷ [])
     ∷ run_command
-    ∷ file_command (codes "eval") (program ∷ launch ∷ [])
-    ∷ file_command (codes "steps") (program ∷ script ∷ []) ∷ []
+    ∷ words_command (codes "eval") (program ∷ launch ∷ [])
+    ∷ words_command (codes "steps") (program ∷ script ∷ [])
+    ∷ words_command (codes "demo") (seed ∷ []) ∷ []
 
 abbrev pub lift_command : App
 lift_command = fold (λ command sub. with_subcommand command sub.top) bare_command subcommands

@@ -1,25 +1,28 @@
 -- What the words ask for.
-use Rattle.std.specs.Prelude.{◌≡◌, Some, None, Option, true, false, Bool, codes, List, [], ◌∷◌, ◌++◌, ◌==◌, not, if◌then◌else◌, unwrap_or, option_and_then, string_bytes}
+use Rattle.std.specs.Prelude.{◌≡◌, ◌⊎◌, ◌&&◌, ℕ, Some, None, Option, true, false, Bool, codes, decimal, List, [], ◌∷◌, ◌++◌, ◌==◌, nat_le, not, if◌then◌else◌, unwrap_or, option_and_then, option_map, string_bytes}
 use Rattle.std.specs.List.{list_all}
 use Rattle.std.specs.Str.{bytes_eq}
+use Rattle.std.specs.Str.Parse.{digits_value}
 use Rattle.std.specs.Option.{option_map_or}
 use Rattle.clap.specs.Words.{Row, Text, first_of, one_of, subcommand_of, fault_of}
-use Rattle.command_line.specs.App.{lift_command, program, script, launch, trace}
+use Rattle.command_line.specs.App.{lift_command, program, script, launch, seed, trace}
 use Rattle.command_line.specs.declared.request.Request.{Request}
-use Rattle.command_line.specs.declared.request.Request.TheVariants.{Compile, Run, Eval, Steps}
+use Rattle.command_line.specs.declared.request.Request.TheVariants.{Compile, Run, Eval, Steps, Demo}
 
--- a request, with its file names as bytes; a run is told with its events or without
+-- a request, with its file names as bytes, or its seed; a run is told with its events or without
 pub data CommandLine : Type 0 where
   compile : Text → Text → CommandLine
   run : Text → Text → Text → (traced : Bool) → CommandLine
   eval : Text → Text → CommandLine
   steps : Text → Text → CommandLine
+  demo : (seed : ℕ) → CommandLine
 
 abbrev pub line_of : Request → CommandLine
 line_of (Compile p s) = compile (string_bytes p) (string_bytes s)
 line_of (Run p s l traced) = run (string_bytes p) (string_bytes s) (string_bytes l) traced
 line_of (Eval p l) = eval (string_bytes p) (string_bytes l)
 line_of (Steps p s) = steps (string_bytes p) (string_bytes s)
+line_of (Demo x) = demo x
 
 -- ---- the form of a command line
 
@@ -28,29 +31,39 @@ name_of (compile p s) = codes "compile"
 name_of (run p s l traced) = codes "run"
 name_of (eval p l) = codes "eval"
 name_of (steps p s) = codes "steps"
+name_of (demo x) = codes "demo"
 
-abbrev pub files_of : CommandLine → List Text
-files_of (compile p s) = p ∷ s ∷ []
-files_of (run p s l traced) = p ∷ s ∷ l ∷ []
-files_of (eval p l) = p ∷ l ∷ []
-files_of (steps p s) = p ∷ s ∷ []
+-- the names of its files, or the seed's decimal
+abbrev pub arguments_of : CommandLine → List Text
+arguments_of (compile p s) = p ∷ s ∷ []
+arguments_of (run p s l traced) = p ∷ s ∷ l ∷ []
+arguments_of (eval p l) = p ∷ l ∷ []
+arguments_of (steps p s) = p ∷ s ∷ []
+arguments_of (demo x) = decimal x ∷ []
 
 abbrev pub flags_of : CommandLine → List Text
 flags_of (compile p s) = []
 flags_of (run p s l traced) = if traced then codes "--trace" ∷ [] else []
 flags_of (eval p l) = []
 flags_of (steps p s) = []
+flags_of (demo x) = []
 
 abbrev pub words_of : CommandLine → List Text
-words_of line = name_of line ∷ files_of line ++ flags_of line
+words_of line = name_of line ∷ arguments_of line ++ flags_of line
 
 -- the word does not begin with a hyphen (45)
 abbrev pub is_plain_word : Text → Bool
 is_plain_word [] = true
 is_plain_word (b ∷ bs) = not (b == 45)
 
+-- the greatest seed
+abbrev pub seed_limit : ℕ
+seed_limit = 4294967295
+
+-- no file name begins with a hyphen, and a seed is within its limit
 abbrev pub is_plain : CommandLine → Bool
-is_plain line = list_all is_plain_word (files_of line)
+is_plain (demo x) = nat_le x seed_limit
+is_plain line = list_all is_plain_word (arguments_of line)
 
 -- ---- what clap's matches say
 
@@ -62,6 +75,10 @@ value_of id rows = unwrap_or (first_of id rows) []
 abbrev pub is_set : Text → List Row → Bool
 is_set id rows = option_map_or (bytes_eq (codes "true")) (one_of id rows) false
 
+-- the seed that the word is the decimal of: digits without a leading zero, at most the limit
+unfoldable pub seed_of : Text → Option ℕ
+seed_of word = let x = digits_value 10 word in if nat_le x seed_limit && bytes_eq (decimal x) word then Some x else None
+
 -- the subcommand of this name, with these matches
 abbrev pub line_at : Text → List Row → Option CommandLine
 line_at name rows =
@@ -69,7 +86,8 @@ line_at name rows =
     else (if bytes_eq name (codes "run") then Some (run (value_of program rows) (value_of script rows) (value_of launch rows) (is_set trace rows))
     else (if bytes_eq name (codes "eval") then Some (eval (value_of program rows) (value_of launch rows))
     else (if bytes_eq name (codes "steps") then Some (steps (value_of program rows) (value_of script rows))
-    else None)))
+    else (if bytes_eq name (codes "demo") then option_map demo (seed_of (value_of seed rows))
+    else None))))
 
 abbrev pub line_entered : Option (Text × List Row) → Option CommandLine
 line_entered = option_and_then (λ entered. line_at entered.0 entered.1)
@@ -81,6 +99,16 @@ line_in words = line_entered (subcommand_of lift_command words)
 -- clap takes the words
 abbrev pub IsTaken : List Text → Type 0
 IsTaken words = fault_of lift_command words ≡ []
+
+-- the words are of a demo, and its seed is no decimal
+pub record IsUnseeded (words : List Text) : Type 0 where
+  pub rows : List Row
+  pub entered : subcommand_of lift_command words ≡ Some (codes "demo", rows)
+  pub none : seed_of (value_of seed rows) ≡ None
+
+-- no request is asked for: clap refuses the words, or they are of a demo whose seed is no decimal
+abbrev pub IsRefused : List Text → Type 0
+IsRefused words = (¬ IsTaken words) ⊎ IsUnseeded words
 
 -- clap takes the words, and its matches say this
 pub record Asks (words : List Text) (line : CommandLine) : Type 0 where

@@ -8,33 +8,33 @@ ghost use Rattle.command_line.specs.App as spec;
 use clap::{Arg, ArgAction, Command};
 use std::alloc::{AllocError, Global};
 
-// The command with one more required file name.
-fn with_file<'a>(
+// The command with one more required word.
+fn with_word<'a>(
     alloc: Global,
     command: Command<'a>,
     id: &'a str,
 ) -> Result<Command<'a>, AllocError>
     requires { (out-Command command).has_globals ≡ false }
     ensures app { IfOk result (λ c. app_of c
-        ≡ with_rule (app_of command.entry) (spec.file_rule id.entry.now)) }
+        ≡ with_rule (app_of command.entry) (spec.word_rule id.entry.now)) }
     ensures local { IfOk result (λ c. (out-Command c).has_globals ≡ false) }
 {
     command.arg(Arg::new(alloc, id).required(true).action(ArgAction::Set))
 }
 
-// A command with one file name for each id.
-fn file_command<'a>(
+// A command with one word for each id.
+fn words_command<'a>(
     alloc: Global,
     name: &'a str,
     ids: &[&'a str],
 ) -> Result<Command<'a>, AllocError>
     ensures app { IfOk result (λ c. app_of c
-        ≡ spec.file_command name.now (map (λ id. id.now) ids.now)) }
+        ≡ spec.words_command name.now (map (λ id. id.now) ids.now)) }
     ensures local { IfOk result (λ c. (out-Command c).has_globals ≡ false) }
 {
     let mut command = Command::new(alloc, name);
     for id in ids {
-        command = with_file(alloc, command, id)?;
+        command = with_word(alloc, command, id)?;
     }
     Ok(command)
 }
@@ -44,7 +44,7 @@ fn run_command<'a>(alloc: Global) -> Result<Command<'a>, AllocError>
     ensures app { IfOk result (λ c. app_of c ≡ spec.run_command) }
     ensures local { IfOk result (λ c. (out-Command c).has_globals ≡ false) }
 {
-    let command = file_command(alloc, "run", ["program", "script", "launch"].as_slice())?;
+    let command = words_command(alloc, "run", ["program", "script", "launch"].as_slice())?;
     command.arg(
         Arg::new(alloc, "trace")
             .long("trace")
@@ -76,17 +76,19 @@ fn bare_command<'a>(alloc: Global) -> Command<'a>
         .subcommand_required(true)
 }
 
-/// The command of `lift`: one level of subcommands, each with its file names, and the flag of a run.
+/// The command of `lift`: one level of subcommands, each with its words, and the flag of a run.
 pub fn lift_command<'a>(alloc: Global) -> Result<Command<'a>, AllocError>
     ensures { IfOk result (λ c. app_of c ≡ spec.lift_command) }
 {
     let command = bare_command(alloc);
-    let compile = file_command(alloc, "compile", ["program", "script"].as_slice())?;
+    let compile = words_command(alloc, "compile", ["program", "script"].as_slice())?;
     let command = with_subcommand(command, compile)?;
     let run = run_command(alloc)?;
     let command = with_subcommand(command, run)?;
-    let eval = file_command(alloc, "eval", ["program", "launch"].as_slice())?;
+    let eval = words_command(alloc, "eval", ["program", "launch"].as_slice())?;
     let command = with_subcommand(command, eval)?;
-    let steps = file_command(alloc, "steps", ["program", "script"].as_slice())?;
-    with_subcommand(command, steps)
+    let steps = words_command(alloc, "steps", ["program", "script"].as_slice())?;
+    let command = with_subcommand(command, steps)?;
+    let demo = words_command(alloc, "demo", ["seed"].as_slice())?;
+    with_subcommand(command, demo)
 }

@@ -4,6 +4,7 @@
 //! - `lift run PROGRAM SCRIPT LAUNCH [--trace]`
 //! - `lift eval PROGRAM LAUNCH`
 //! - `lift steps PROGRAM SCRIPT`
+//! - `lift demo SEED`
 //!
 //! There is no help and no version.
 #![tactic(auto)]
@@ -14,7 +15,16 @@ mod request;
 ghost use Rattle.std.specs.Prelude.{◌≡◌, IfOk, Some, map, string_bytes, true};
 ghost use Rattle.clap.specs.Words.{subcommand_of, subcommand_rows_of};
 ghost use Rattle.command_line.specs.App.{lift_command};
-ghost use Rattle.command_line.specs.Requests.{Asks, CommandLine, IsTaken, is_plain, line_in, line_of, words_of};
+ghost use Rattle.command_line.specs.Requests.{
+  Asks,
+  CommandLine,
+  IsRefused,
+  IsTaken,
+  is_plain,
+  line_in,
+  line_of,
+  words_of,
+};
 
 use clap::ArgMatches;
 pub use request::{Request, WordsNo};
@@ -35,7 +45,7 @@ fn matched_request(alloc: Global, words: &[String]) -> Result<Request, WordsNo>
     ensures taken { IfOk result (λ _. IsTaken (map string_bytes words.now)) }
     ensures asked { IfOk result (λ request. line_in (map string_bytes words.now)
         ≡ Some (line_of request)) }
-    ensures refused { result ≡ Err WordsNo.Refused → IsTaken (map string_bytes words.now) → ⊥ }
+    ensures refused { result ≡ Err WordsNo.Refused → IsRefused (map string_bytes words.now) }
 {
     let matches = matched(alloc, words)?;
     match request::entered_request(alloc, &matches)? {
@@ -46,16 +56,17 @@ fn matched_request(alloc: Global, words: &[String]) -> Result<Request, WordsNo>
 
 /// Reads the words after the program's name, as clap does for a simple command.
 ///
-/// `WordsNo::Refused` where clap refuses them, and `WordsNo::Memory` where memory ran out.
+/// `WordsNo::Refused` where clap refuses them, or where the seed of a demo isn't the decimal of a
+/// number of 32 bits, and `WordsNo::Memory` where memory ran out.
 pub fn read_words(alloc: Global, words: &[String]) -> Result<Request, WordsNo>
     // Where clap takes the words, they ask for what its matches say.
     ensures asked { IfOk result (λ request. Asks (map string_bytes words.now) (line_of request)) }
 
-    // They are refused only where clap refuses them.
-    ensures refused { result ≡ Err WordsNo.Refused → ¬ IsTaken (map string_bytes words.now) }
+    // They are refused only where clap refuses them, or a demo's seed is no decimal.
+    ensures refused { result ≡ Err WordsNo.Refused → IsRefused (map string_bytes words.now) }
 
-    // Clap takes words of just the form, whose file names do not begin with a hyphen, and they ask
-    // for just what they say.
+    // Clap takes words of just the form, whose file names do not begin with a hyphen and whose seed
+    // is a number of 32 bits, and they ask for just what they say.
     ensures plain { (line : CommandLine) → is_plain line ≡ true
         → map string_bytes words.now ≡ words_of line
         → Asks (map string_bytes words.now) line }

@@ -4,13 +4,14 @@ ghost use Rattle.std.specs.Prelude.{◌≡◌, ◌≢◌, ◌↔◌, IfOk, optio
 ghost use Rattle.clap.specs.Words.{found_of, kind_of, rows_of, subcommand_rows_of};
 ghost use Rattle.clap.specs.declared.error.kind.ErrorKind.TheVariants as kind;
 ghost use Rattle.command_line.specs.declared.request.WordsNo.TheVariants.{Memory, Refused};
-ghost use Rattle.command_line.specs.Requests.{is_set, line_at, line_entered, line_of, value_of};
+ghost use Rattle.command_line.specs.Requests.{is_set, line_at, line_entered, line_of, seed_of, value_of};
 
 use clap::ArgMatches;
 use clap::error::ErrorKind;
+use itoa::Buffer;
 use std::alloc::{AllocError, Global};
 
-/// A command, with the names of its files.
+/// A command, with the names of its files, or its seed.
 #[derive(Drop)]
 pub enum Request {
     /// Write the kernel of the program under the script.
@@ -36,12 +37,17 @@ pub enum Request {
         program: String,
         script: String,
     },
+    /// Write what the run of a stencil by tiles makes of data that a generator gives, begun at this
+    /// seed.
+    Demo {
+        seed: u32,
+    },
 }
 
 /// Why words are no request.
 #[derive(Clone, Copy)]
 pub enum WordsNo {
-    /// They are none of the commands' forms.
+    /// They are none of the commands' forms, or the seed of a demo is no decimal.
     Refused,
     /// Memory ran out.
     Memory,
@@ -90,7 +96,24 @@ fn file_name(alloc: Global, matches: &ArgMatches<'_>, id: &str) -> Result<String
     String::from_str(alloc, value(matches, id))
 }
 
-// The subcommand of this name asks for a request, if it is one of the command's.
+// The seed that the word is the decimal of.
+fn seed_of(word: &str) -> Option<u32>
+    ensures { result ≡ seed_of word.now }
+{
+    let seed: u32 = match word.parse() {
+        Ok(seed) => seed,
+        Err(_) => return None,
+    };
+    let mut digits = Buffer::new();
+    if digits.format(seed) == word {
+        Some(seed)
+    } else {
+        None
+    }
+}
+
+// The subcommand of this name asks for a request, if it is one of the command's, and its seed is a
+// decimal.
 fn named_request(
     alloc: Global,
     name: &str,
@@ -118,12 +141,17 @@ fn named_request(
             program: file_name(alloc, matches, "program")?,
             script: file_name(alloc, matches, "script")?,
         },
+        "demo" => match seed_of(value(matches, "seed")) {
+            Some(seed) => Request::Demo { seed },
+            None => return Ok(None),
+        },
         _ => return Ok(None),
     };
     Ok(Some(request))
 }
 
-/// What the matches ask for. Clap enters a subcommand in all that it takes.
+/// What the matches ask for, where the seed of a demo is a decimal. Clap enters a subcommand in all
+/// that it takes.
 pub fn entered_request(
     alloc: Global,
     matches: &ArgMatches<'_>,
