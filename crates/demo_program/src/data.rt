@@ -1,7 +1,7 @@
 //! The demo's launch, and its data.
-ghost use Rattle.std.specs.Prelude.{◌≡◌, ◌*◌, ◌+◌, ◌%◌, ◌^◌, IfOk};
+ghost use Rattle.std.specs.Prelude.{◌≡◌, ◌*◌, ◌+◌, ◌%◌, ◌^◌, ◌∷◌, [], IfOk, map};
 ghost use Rattle.launch_file.specs.LaunchFile.{given_by};
-ghost use Rattle.lift_tree.specs.Values.{array, value_of};
+ghost use Rattle.lift_tree.specs.Values.{value_of};
 ghost use Rattle.demo_program.specs.Data.{demo_given, words_from};
 
 use kernel_tree::launches::{Launch, Schedule};
@@ -26,7 +26,7 @@ fn data(alloc: Global, seed: u32, count: u32) -> Result<Vec<Val>, AllocError>
 {
     let mut state = seed;
     let mut values = Vec::new(alloc);
-    for _ in 0..count {
+    for _done in 0..count {
         state = next(state);
         values.push(Val::Number(state))?;
     }

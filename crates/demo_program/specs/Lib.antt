@@ -1,0 +1,5 @@
+pub mod Texts
+pub mod Line
+pub mod Data
+pub mod Accepted
+pub mod Admitted
