@@ -3,3 +3,4 @@ pub mod Line
 pub mod Data
 pub mod Accepted
 pub mod Admitted
+pub mod Sum

@@ -5,4 +5,5 @@
 pub mod data;
 pub mod laws;
 pub mod line;
+pub mod sum;
 pub mod texts;

@@ -15,7 +15,7 @@ fn push_count(text: &mut Vec<u8>, word: &[u8], count: u64) -> Result<(), AllocEr
 }
 
 /// The line of a demo: its seed, the counts of events and of releases, and the wrapped sum.
-pub fn demo_text(
+pub fn demo_line(
     alloc: Global,
     seed: u32,
     counts: (u64, u64),

@@ -1,3 +1,4 @@
+pub mod Demo
 pub mod Admitted
 pub mod Buffers
 pub mod LaidOut

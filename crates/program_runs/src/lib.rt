@@ -1,11 +1,13 @@
-//! Runs of compiled programs, and the value of a program without any kernel.
+//! Runs of compiled programs, the demo's among them, and the value of a program without any kernel.
 #![tactic(auto)]
 
 mod cells;
+mod demo;
 mod eval;
 mod laws;
 mod run;
 
+pub use demo::demo_text;
 pub use eval::eval_text;
 pub use laws::one_end;
 pub use run::{run_launch, run_text};

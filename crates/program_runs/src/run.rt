@@ -91,7 +91,7 @@ fn traced_launch(
 
 // What the run of what is read back from the text leaves, under the schedule of the file, and what
 // is seen of it, where it is traced.
-fn run_back(
+pub(crate) fn run_back(
     alloc: Global,
     compiled: &Compiled,
     file: &LaunchFile,

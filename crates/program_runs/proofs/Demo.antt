@@ -1,0 +1,52 @@
+-- No stage refuses the demo, and its launch is admissible.
+use Rattle.std.proofs.Common.{◌≡◌, ◌∙◌, ◌⊎◌, ap, sym, subst, refl, inl, inr, Bool, ℕ, List, false, Ok, Err, Result}
+use Rattle.std.specs.Prelude.{IfErr}
+use Rattle.std.specs.Result.{IsErrAnd}
+use Rattle.lift_tree.specs.Programs.{PlainProgram}
+use Rattle.lift_tree.specs.Types.{PlainTy}
+use Rattle.lowered_tree.specs.Kinds.{is_task}
+use Rattle.lowered_tree.specs.Nest.{LegalWithoutFault}
+use Rattle.fault_lines.specs.Failure as failures
+use Rattle.fault_lines.specs.Failure.{Failure}
+use Rattle.fault_lines.specs.Refusal as refusals
+use Rattle.fault_lines.specs.declared.refusal.Refusal.{Refusal}
+use Rattle.demo_program.specs.Accepted.{DemoIsAccepted, demo_program}
+use Rattle.demo_program.specs.Admitted.{DemosMayRun}
+use Rattle.demo_program.specs.Data.{demo_given}
+use Rattle.demo_program.specs.Texts.{program_text, script_text}
+use Rattle.program_source.specs.Ends.{OnSource}
+use Rattle.program_source.specs.Program.{OnProgram, StopsFor}
+use Rattle.program_source.specs.Stages.{As}
+use Rattle.program_source.proofs.Once.{ok_same}
+use Rattle.compilation.specs.Compiled.{IsCompiled}
+use Rattle.compilation.specs.Legal.{LegalOf}
+use Rattle.compilation.proofs.Once.{legal_one}
+use Rattle.program_runs.specs.Runs.{IsAdmissibleFor}
+use Rattle.program_runs.specs.Started.{StagesEndOnce}
+
+-- the last term is compiled
+compiles : LegalWithoutFault → (d : DemoIsAccepted) → LegalOf demo_program script_text (Ok d.last)
+compiles law d =
+    let legal = (law d.last.tree d.last.types).0 d.legal in
+    (_, (d.types, d.typed, (d.steps, (d.script, d.few), d.made)), (d.last, record { front = d.front; is = refl }, (tt, legal, (tt, d.fits, refl))))
+
+-- what stops the demo's compilation would stop its text
+stopped : (why : Refusal) → OnProgram program_text (λ p. LegalOf p script_text) (Err why) → OnSource program_text (λ p. As failures.Source (LegalOf p script_text)) (Err (failures.Source why))
+stopped why (inl (e, h, same)) = inl (e, h, ap failures.Source same)
+stopped why (inr (p, read, h)) = inr (p, read, (why, h, refl))
+
+-- the demo is refused for want of memory alone
+pub refused_for_memory : StagesEndOnce → LegalWithoutFault → DemoIsAccepted → (why : Refusal) → StopsFor (OnProgram program_text (λ p. LegalOf p script_text)) why → refusals.status_of why ≡ 13
+refused_for_memory ends law d why (inl memory) = memory
+refused_for_memory ends law d why (inr h) = absurd ((ends.kernel program_text script_text).none (failures.Source why) (demo_program, d.read, d.within, (d.last, compiles law d)) (stopped why h))
+
+-- the demo's launch is admissible for what is compiled
+pub admitted : LegalWithoutFault → DemoIsAccepted → DemosMayRun → (p : PlainProgram) (output : PlainTy) (task : Bool) (text : List ℕ) (seed : ℕ) → IsCompiled program_text script_text p output task text → IsAdmissibleFor p task (demo_given seed)
+admitted law d may p output task text seed c =
+    let same : demo_program ≡ p = c.read.only demo_program d.read in
+    let legal : LegalOf demo_program script_text (Ok c.last) = subst (λ q. LegalOf q script_text (Ok c.last)) (sym same) c.legal in
+    let last : d.last ≡ c.last = ok_same _ _ _ refl (legal_one law demo_program script_text (Ok d.last) (Ok c.last) (compiles law d) legal) in
+    let parallel : false ≡ task = sym d.parallel ∙ ap (λ s. is_task s.tree) last ∙ c.alone in
+    let m = may seed in
+    subst (λ b. IsAdmissibleFor p b (demo_given seed)) parallel
+    (subst (λ q. IsAdmissibleFor q false (demo_given seed)) same (record { world = m.world; launch = m.launch }))
