@@ -2,7 +2,8 @@
 use Rattle.std.proofs.Common.{Bool, ◌≡◌, ◌≢◌, ◌⊎◌, ◌∙◌, ◌<◌, ◌≤◌, ℕ, List, [], ◌∷◌, ap, ap₂, sym, subst, length, inl, inr, refl, arith, Option, Some}
 use Rattle.std.specs.Prelude.{IfSome}
 use Rattle.std.proofs.lemmas.Option.{same_Some}
-use Rattle.command_line.specs.Requests.{Asks, CommandLine, IsTaken, compile, eval, run, steps}
+use Rattle.command_line.specs.Requests.{Asks, CommandLine, IsRefused, compile, demo, eval, run, steps}
+use Rattle.command_line.proofs.Entered.{asked-stands}
 use Rattle.lift_tree.specs.Programs.{PlainProgram}
 use Rattle.lift_reader.specs.declared.refusal.ReadRefusal.TheVariants as readings
 use Rattle.pattern_types.specs.declared.refusal.TypeRefusal.TheVariants as typings
@@ -30,12 +31,14 @@ texts_cause law (compile p s) texts f g h k = (law.kernel _ _).cause f g h k
 texts_cause law (run p s l traced) texts f g h k = (law.run _ _ _).cause f g h k
 texts_cause law (steps p s) texts f g h k = (law.steps _ _).cause f g h k
 texts_cause law (eval p l) texts f g h k = (law.value _ _).cause f g h k
+texts_cause law (demo x) texts f g h k = absurd h
 
 texts_accepted : StagesEndOnce → (request : CommandLine) (texts : List (List ℕ)) (f : Failure) → IsAccepted request texts → StopsAtText request texts f → ⊥
 texts_accepted law (compile p s) texts f ok h = (law.kernel _ _).none f ok h
 texts_accepted law (run p s l traced) texts f ok h = (law.run _ _ _).none f ok h
 texts_accepted law (steps p s) texts f ok h = (law.steps _ _).none f ok h
 texts_accepted law (eval p l) texts f ok h = (law.value _ _).none f ok h
+texts_accepted law (demo x) texts f ok h = h
 
 -- the launch file of a task
 at_task : (p : PlainProgram) (a b : Bool) (launch : List ℕ) (g : Given) → a ≡ b → IsLaunchFile p (Run b) launch g → IsLaunchFile p (Run a) launch g
@@ -47,6 +50,7 @@ answer_accepted (compile p s) texts text h = let c = h.compiled in (h.source, c.
 answer_accepted (run p s l traced) texts text h = let c = h.compiled in (h.source, c.read.is, c.read.within, (h.given, (c.last, c.legal, at_task h.source _ _ _ h.given c.alone h.launch_file)))
 answer_accepted (steps p s) texts text h = (h.source, h.read.is, h.read.within, (h.terms, h.made))
 answer_accepted (eval p l) texts text h = (h.source, h.read.is, h.read.within, (h.given, h.started))
+answer_accepted (demo x) texts text h = tt
 
 -- ---- files
 
@@ -118,14 +122,14 @@ one_request words request other asks too = same_Some _ _ (sym too.says ∙ asks.
 cause_of : (told : Told) (rose : List ℕ → Type 0) (words : List (List ℕ)) (request : CommandLine) (f : Failure) → Asks words request → WordsCause told rose words f
     → (status_of f ≡ 13) ⊎ StopsFor told rose request f
 cause_of told rose words request f asks (inl memory) = inl memory
-cause_of told rose words request f asks (inr (inl (is, none))) = absurd (none asks.taken)
+cause_of told rose words request f asks (inr (inl (is, refused))) = absurd (asked-stands words request asks refused)
 cause_of told rose words request f asks (inr (inr (other, too, h))) = inr (subst (λ q. StopsFor told rose q f) (one_request words request other asks too) h)
 
 -- words that the command refuses have their status, or that of want of memory
-pub words_refused : (told : Told) (rose : List ℕ → Type 0) (words : List (List ℕ)) (f : Failure) → WordsCause told rose words f → ¬ IsTaken words → (status_of f ≡ 2) ⊎ (status_of f ≡ 13)
+pub words_refused : (told : Told) (rose : List ℕ → Type 0) (words : List (List ℕ)) (f : Failure) → WordsCause told rose words f → IsRefused words → (status_of f ≡ 2) ⊎ (status_of f ≡ 13)
 words_refused told rose words f (inl memory) refused = inr memory
 words_refused told rose words f (inr (inl (is, none))) refused = inl (ap status_of is)
-words_refused told rose words f (inr (inr (request, asks, h))) refused = absurd (refused asks.taken)
+words_refused told rose words f (inr (inr (request, asks, h))) refused = absurd (asked-stands words request asks refused)
 
 -- the causes of a program, a script and a launch file have statuses of their own
 source_status : (r : Refusal) → 6 ≤ sources.status_of r
@@ -177,6 +181,7 @@ text_status (run p s l traced) texts f (inr (q, read, inr (form, is, (why, h, e)
 text_status (eval p l) texts f (inl (why, h, e)) = source_is f _ e
 text_status (eval p l) texts f (inr (q, read, inl (why, h, e))) = source_is f why e
 text_status (eval p l) texts f (inr (q, read, inr (types, is, (why, h, e)))) = launch_is f q why e
+text_status (demo x) texts f h = absurd h
 
 unread_status : (told : Told) (rose : List ℕ → Type 0) (file : File) (f : Failure) → IsUnread told rose file f → IsOfRequest f
 unread_status told rose file (Read name) h = inl refl
@@ -198,12 +203,12 @@ not_2 : (n : ℕ) → (n ≡ 3) ⊎ (6 ≤ n) → n ≢ 2
 not_2 n (inl three) e = omega (arith, three, e)
 not_2 n (inr more) e = omega (arith, more, e)
 
--- the status of words that the command takes isn't that of those that it refuses
-pub words_taken : (told : Told) (rose : List ℕ → Type 0) (words : List (List ℕ)) (f : Failure) → WordsCause told rose words f → IsTaken words → status_of f ≢ 2
-words_taken told rose words f (inl memory) taken e = omega (arith, memory, e)
-words_taken told rose words f (inr (inl (is, none))) taken e = none taken
-words_taken told rose words f (inr (inr (request, asks, inl h))) taken e = not_2 (status_of f) (file_status told rose (files_of request) f h) e
-words_taken told rose words f (inr (inr (request, asks, inr (texts, are, h)))) taken e = not_2 (status_of f) (text_status request texts f h) e
+-- the status of words that ask for a request isn't that of those that are refused
+pub words_taken : (told : Told) (rose : List ℕ → Type 0) (words : List (List ℕ)) (asked : CommandLine) (f : Failure) → WordsCause told rose words f → Asks words asked → status_of f ≢ 2
+words_taken told rose words asked f (inl memory) taken e = omega (arith, memory, e)
+words_taken told rose words asked f (inr (inl (is, refused))) taken e = asked-stands words asked taken refused
+words_taken told rose words asked f (inr (inr (request, asks, inl h))) taken e = not_2 (status_of f) (file_status told rose (files_of request) f h) e
+words_taken told rose words asked f (inr (inr (request, asks, inr (texts, are, h)))) taken e = not_2 (status_of f) (text_status request texts f h) e
 
 not_done_or_written : (n : ℕ) → (n ≡ 2) ⊎ ((n ≡ 3) ⊎ (6 ≤ n)) → (n ≢ 0) × (n ≢ 4)
 not_done_or_written n (inl two) = (λ e. omega (arith, two, e), λ e. omega (arith, two, e))
@@ -240,3 +245,11 @@ words_answered law told rose words request text g asks is well (other, too, (tex
     let same = one_request words request other asks too in
     let mine : AreTexts told (files_of request) texts × Answers request texts text = subst (λ q. AreTexts told (files_of q) texts × Answers q texts text) same (are, h) in
     request_accepted law told rose request texts g is well mine.0 (answer_accepted request texts text mine.1) k
+
+-- a demo has no result for want of memory alone
+pub demo_stands : (told : Told) (rose : List ℕ → Type 0) (words : List (List ℕ)) (seed : ℕ) (f : Failure) → Asks words (demo seed) → WordsCause told rose words f → status_of f ≡ 13
+demo_stands told rose words seed f asks h = elim (cause_of told rose words (demo seed) f asks h) as (λ _. status_of f ≡ 13) [
+  | inl memory ↦ memory
+  | inr (inl unread) ↦ absurd unread
+  | inr (inr (texts, are, stops)) ↦ absurd stops
+]

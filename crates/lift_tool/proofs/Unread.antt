@@ -3,7 +3,7 @@ use Rattle.std.proofs.Common.{◌≡◌, ◌⊎◌, ◌≤◌, ◌<◌, ℕ, Lis
 use Rattle.std.specs.Prelude.{IfErr, IfOk, IfSome}
 use Rattle.std.specs.Result.{IsErrAnd}
 use Rattle.lift_io.specs.Causes.{Rose}
-use Rattle.command_line.specs.Requests.{Asks, CommandLine, IsTaken, compile, steps}
+use Rattle.command_line.specs.Requests.{Asks, CommandLine, IsRefused, compile, steps}
 use Rattle.command_line.specs.declared.request.WordsNo.{WordsNo}
 use Rattle.command_line.specs.declared.request.WordsNo.TheVariants.{Memory, Refused}
 use Rattle.fault_lines.specs.Failure.{Failure, Read, Source, TooLong, status_of}
@@ -123,7 +123,7 @@ if_err P Q (Err e) more h = more e h
 
 -- ---- words
 
-pub words_fail : {V : Type 0} (told : Told) (rose : List ℕ → Type 0) (words : List (List ℕ)) (why : WordsNo) (r : Result V code.Failure) → (why ≡ Refused → ¬ IsTaken words)
+pub words_fail : {V : Type 0} (told : Told) (rose : List ℕ → Type 0) (words : List (List ℕ)) (why : WordsNo) (r : Result V code.Failure) → (why ≡ Refused → IsRefused words)
     → IsErrAnd r (λ e. failure_of e ≡ words_failed why) → IfErr r (λ e. WordsCause told rose words (failure_of e))
 words_fail told rose words why (Ok v) none is = tt
 words_fail told rose words Refused (Err e) none is = inr (inl (is, none refl))

@@ -1,6 +1,6 @@
 -- How a call ends, and why.
 use Rattle.std.specs.Prelude.{◌≡◌, ◌⊎◌, ℕ, zero, suc, List, [], ◌∷◌, Bool, Err}
-use Rattle.command_line.specs.Requests.{Asks, CommandLine, IsTaken, compile, eval, run, steps}
+use Rattle.command_line.specs.Requests.{Asks, CommandLine, IsRefused, compile, demo, eval, run, steps}
 use Rattle.lift_tree.specs.Programs.{PlainProgram}
 use Rattle.lift_tree.specs.Types.{PlainTy}
 use Rattle.fault_lines.specs.Failure.{Failure, Source, Words, Write, status_of}
@@ -10,6 +10,7 @@ use Rattle.program_source.specs.StepsText.{IsStepsText}
 use Rattle.program_source.specs.Terms.{TermsOf}
 use Rattle.compilation.specs.Compiled.{IsCompiled}
 use Rattle.compilation.specs.Legal.{LegalOf}
+use Rattle.program_runs.specs.Demo.{IsDemoLine}
 use Rattle.program_runs.specs.Started.{AreRunLines, EvalOf, IsValueLine, RunOf}
 use Rattle.lift_tool.specs.Files.{AreTexts, StopsAtFile, Told}
 use Rattle.lift_tool.specs.Request.{files_of}
@@ -35,6 +36,7 @@ Answers (compile p s) texts text = IsKernelOf (text_at texts 0) (text_at texts 1
 Answers (run p s l traced) texts lines = AreRunLines (text_at texts 0) (text_at texts 1) (text_at texts 2) traced lines
 Answers (steps p s) texts text = IsStepsText (text_at texts 0) (text_at texts 1) text
 Answers (eval p l) texts line = IsValueLine (text_at texts 0) (text_at texts 1) line
+Answers (demo x) texts line = IsDemoLine x line
 
 -- the words ask for this, and its files may have texts that are so
 abbrev pub OnTexts : Told → List (List ℕ) → (CommandLine → List (List ℕ) → Type 0) → Type 0
@@ -47,19 +49,21 @@ IsAnswer told request text = (texts : List (List ℕ)) × AreTexts told (files_o
 
 -- ---- the stages
 
--- the texts of a request are well formed: the last term is legal and within its limits, or there are terms for steps, or types for an evaluation, and the launch file is for it
+-- the texts of a request are well formed: the last term is legal and within its limits, or there are terms for steps, or types for an evaluation, and the launch file is for it; a demo has none
 abbrev pub IsAccepted : CommandLine → List (List ℕ) → Type 0
 IsAccepted (compile p s) texts = Accepts (text_at texts 0) (λ q. As Source (LegalOf q (text_at texts 1)))
 IsAccepted (run p s l traced) texts = Accepts (text_at texts 0) (λ q. RunOf q (text_at texts 1) (text_at texts 2))
 IsAccepted (steps p s) texts = Accepts (text_at texts 0) (λ q. As Source (TermsOf q (text_at texts 1)))
 IsAccepted (eval p l) texts = Accepts (text_at texts 0) (λ q. EvalOf q (text_at texts 1))
+IsAccepted (demo x) texts = Unit {0}
 
--- the first stage that stops for the texts of a request, and why
+-- the first stage that stops for the texts of a request, and why; none stops a demo
 abbrev pub StopsAtText : CommandLine → List (List ℕ) → Failure → Type 0
 StopsAtText (compile p s) texts failure = OnSource (text_at texts 0) (λ q. As Source (LegalOf q (text_at texts 1))) (Err failure)
 StopsAtText (run p s l traced) texts failure = OnSource (text_at texts 0) (λ q. RunOf q (text_at texts 1) (text_at texts 2)) (Err failure)
 StopsAtText (steps p s) texts failure = OnSource (text_at texts 0) (λ q. As Source (TermsOf q (text_at texts 1))) (Err failure)
 StopsAtText (eval p l) texts failure = OnSource (text_at texts 0) (λ q. EvalOf q (text_at texts 1)) (Err failure)
+StopsAtText (demo x) texts failure = ⊥
 
 -- why a request has no result: the first of its files that isn't read, or else the first stage that stops
 abbrev pub StopsFor : Told → (List ℕ → Type 0) → CommandLine → Failure → Type 0
@@ -77,7 +81,7 @@ FailsFor told rose request failure = (status_of failure ≡ 13) ⊎ StopsFor tol
 abbrev pub WordsCause : Told → (List ℕ → Type 0) → List (List ℕ) → Failure → Type 0
 WordsCause told rose words failure =
     (status_of failure ≡ 13)
-    ⊎ (((failure ≡ Words) × ¬ IsTaken words)
+    ⊎ (((failure ≡ Words) × IsRefused words)
     ⊎ ((request : CommandLine) × Asks words request × StopsFor told rose request failure))
 
 -- why a call ends as it does, where `out_rose` says that a write of the output failed

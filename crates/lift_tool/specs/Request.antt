@@ -1,6 +1,6 @@
 -- The files that a request reads.
 use Rattle.std.specs.Prelude.{ℕ, List, [], ◌∷◌}
-use Rattle.command_line.specs.Requests.{CommandLine, compile, run, eval, steps}
+use Rattle.command_line.specs.Requests.{CommandLine, compile, run, eval, steps, demo}
 
 -- the most bytes that a program or a script may have
 abbrev pub source_limit : ℕ
@@ -20,3 +20,4 @@ files_of (compile p s) = sources p s
 files_of (run p s l traced) = (p, source_limit) ∷ (s, source_limit) ∷ (l, launch_limit) ∷ []
 files_of (steps p s) = sources p s
 files_of (eval p l) = (p, source_limit) ∷ (l, launch_limit) ∷ []
+files_of (demo x) = []

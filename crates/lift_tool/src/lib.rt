@@ -19,7 +19,7 @@ ghost use Rattle.std.specs.Prelude.{
 ghost use Rattle.std.specs.Io.KnownBytes.{Appends};
 ghost use Rattle.lift_io.specs.Causes.{Rose};
 ghost use Rattle.command_line.specs.Requests as requests;
-ghost use Rattle.command_line.specs.Requests.{Asks, IsTaken, is_plain, words_of};
+ghost use Rattle.command_line.specs.Requests.{Asks, IsRefused, is_plain, words_of};
 ghost use Rattle.fault_lines.specs.Failure as failures;
 ghost use Rattle.fault_lines.specs.Failure.{line_of, status_of};
 ghost use Rattle.fault_lines.specs.Lines.{TakesLine, TakesPrefix};
@@ -63,7 +63,7 @@ fn answer<F: Files>(alloc: Global, words: &[String], files: &mut F) -> Result<Ve
     ensures asks_all { IfOk result (λ _. (request : requests.CommandLine)
         → Asks (map string_bytes words.now) request
         → AsksAll (F.asked files.old) (F.asked files.new) (files_of request)) }
-    ensures asks_none { ¬ IsTaken (map string_bytes words.now)
+    ensures asks_none { IsRefused (map string_bytes words.now)
         → AsksAll (F.asked files.old) (F.asked files.new) [] }
 {
     let request = read_words(alloc, words)?;
@@ -84,7 +84,8 @@ fn fail<E: Sink>(err: &mut E, failure: Failure) -> u8
 /// with. `compile PROGRAM SCRIPT` writes the text of a kernel, `steps PROGRAM SCRIPT` a line for
 /// each term that the script's steps make, and `run PROGRAM SCRIPT LAUNCH [--trace]` the result line
 /// of the kernel's run, and before it, with `--trace`, a line for each event. `eval PROGRAM LAUNCH`
-/// writes the result line of the value of the program's source expression.
+/// writes the result line of the value of the program's source expression, and `demo SEED` the line
+/// of the demo, for which no file is read.
 ///
 /// Each file is read, and then its length is judged; all are, before the first is looked at.
 /// Want of memory (status 13) may come at any point.
@@ -95,8 +96,8 @@ pub fn lift_tool<F: Files, O: Sink, E: Sink>(
     out: &mut O,
     err: &mut E,
 ) -> u8
-    // At 0 the output took just the text of the kernel, the lines of the terms, the lines of the run
-    // or the result line of the source value, and nothing went to `err`.
+    // At 0 the output took just the text of the kernel, the lines of the terms, the lines of the
+    // run, the result line of the source value or the line of the demo, and nothing went to `err`.
     ensures done { result ≡ 0
         → OnTexts (F.told files.old) (map string_bytes words.now) (λ request texts.
         (text : List ℕ) × Answers request texts text
@@ -117,19 +118,19 @@ pub fn lift_tool<F: Files, O: Sink, E: Sink>(
     ensures untouched { result ≢ 0 → result ≢ 4 → out.new ≡ out.old }
 
     // The files that the words name are asked for in order, each once, and no others: at 0 all of
-    // them, else the first ones; none where the command refuses the words.
+    // them, else the first ones; none where the words are refused.
     ensures asks { (request : requests.CommandLine) → Asks (map string_bytes words.now) request
         → AsksFirst (F.asked files.old) (F.asked files.new) (files_of request) }
     ensures asks_all { (request : requests.CommandLine) → Asks (map string_bytes words.now) request
         → result ≡ 0 → AsksAll (F.asked files.old) (F.asked files.new) (files_of request) }
-    ensures asks_none { ¬ IsTaken (map string_bytes words.now)
+    ensures asks_none { IsRefused (map string_bytes words.now)
         → AsksAll (F.asked files.old) (F.asked files.new) [] }
 
-    // Words that the command refuses are told so.
-    ensures words { ¬ IsTaken (map string_bytes words.now) → (result ≡ 2) ⊎ (result ≡ 13) }
+    // Words that clap refuses, or whose seed is no decimal, are told so.
+    ensures words { IsRefused (map string_bytes words.now) → (result ≡ 2) ⊎ (result ≡ 13) }
 
-    // Words of just the form, whose file names don't begin with a hyphen, ask for what they say,
-    // and aren't refused.
+    // Words of just the form, whose file names don't begin with a hyphen and whose seed is a number
+    // of 32 bits, ask for what they say, and aren't refused.
     ensures plain { (request : requests.CommandLine) → is_plain request ≡ true
         → map string_bytes words.now ≡ words_of request
         → Asks (map string_bytes words.now) request × (result ≢ 2) }
@@ -155,6 +156,10 @@ pub fn lift_tool<F: Files, O: Sink, E: Sink>(
         → (result ≡ 13) ⊎ ((result ≡ status_of failure)
         × TakesLine (E.taken err.old) (E.taken err.new)
         (Rose (E.faults err.old) (E.faults err.new)) (line_of failure)) }
+
+    // No stage refuses a demo.
+    ensures demo { (seed : ℕ) → Asks (map string_bytes words.now) (requests.demo seed)
+        → (result ≡ 0) ⊎ ((result ≡ 4) ⊎ (result ≡ 13)) }
 {
     one_end();
     match answer(alloc, words, files) {

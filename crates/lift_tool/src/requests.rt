@@ -23,7 +23,7 @@ use command_line::Request;
 use compilation::compile_text;
 use fault_lines::Failure;
 use lift_io::Files;
-use program_runs::{eval_text, run_text};
+use program_runs::{demo_text, eval_text, run_text};
 use program_source::steps_text;
 use std::alloc::Global;
 
@@ -177,5 +177,6 @@ pub fn answer_of<F: Files>(
             trace,
         } => run_files(alloc, files, program, script, launch, trace),
         Request::Eval { program, launch } => eval_files(alloc, files, program, launch),
+        Request::Demo { seed } => demo_text(alloc, seed),
     }
 }

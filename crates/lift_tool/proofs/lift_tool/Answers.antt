@@ -1,11 +1,12 @@
 use Rattle.std.proofs.Common.{◌≡◌, ◌∙◌, Global, List, arith, inl, inr, map, refl, subst, sym, ℕ}
 use Rattle.std.specs.Prelude.{◌≢◌, ◌⊎◌, string_bytes}
 use Rattle.lift_io.specs.Causes.{Rose}
+use Rattle.command_line.proofs.Entered.{asked-stands}
 use Rattle.fault_lines.specs.Failure.{Write}
 use Rattle.fault_lines.specs.Lines.{TakesLine}
 use Rattle.fault_lines.specs.Shown.{failure_of}
 use Rattle.lift_tool.specs.Files.{Told}
-use Rattle.lift_tool.proofs.Ends.{words_answered, words_cause, words_fail_before, words_refused, words_stand, words_taken}
+use Rattle.lift_tool.proofs.Ends.{demo_stands, words_answered, words_cause, words_fail_before, words_refused, words_stand, words_taken}
 use Rattle.lift_tool.proofs.Unread.{rose_between}
 use Rattle.lift_tool.proofs.lift_tool.Goals as goal
 
@@ -37,7 +38,7 @@ returns-clause-plain g c = λ request plain is.
     let rose : List ℕ → Type 0 = rose_between (g.F.Files.faults c.args.files.now) (g.F.Files.faults c.answer.new.files) in
     let words : List (List ℕ) = map (string_bytes {Z = Global}) c.args.words.now in
     let asks = c.answer.ensures.plain request plain is in
-    (asks, subst (λ n. n ≢ 2) (sym c.fail-in-Err.ensures.status) (words_taken told rose words _ c.in-Err.ensures.refused asks.taken))
+    (asks, subst (λ n. n ≢ 2) (sym c.fail-in-Err.ensures.status) (words_taken told rose words request _ c.in-Err.ensures.refused asks))
 
 pub returns-in-Ok-write_whole-clause-exact : goal.returns-in-Ok-write_whole-clause-exact
 returns-in-Ok-write_whole-clause-exact g c = λ request failure asks is well _ cause.
@@ -50,7 +51,7 @@ pub returns-in-Ok-write_whole-clause-plain : goal.returns-in-Ok-write_whole-clau
 returns-in-Ok-write_whole-clause-plain g c = λ request plain is. (c.answer.ensures.plain request plain is, λ e. cc (e))
 
 pub returns-in-Ok-write_whole-clause-words : goal.returns-in-Ok-write_whole-clause-words
-returns-in-Ok-write_whole-clause-words g c = λ none. absurd (none c.in-Ok.ensures.ok.1.taken)
+returns-in-Ok-write_whole-clause-words g c = λ refused. absurd (asked-stands (map (string_bytes {Z = Global}) c.args.words.now) _ c.in-Ok.ensures.ok.1 refused)
 
 pub returns-in-Ok-clause-plain : goal.returns-in-Ok-clause-plain
 returns-in-Ok-clause-plain g c = λ request plain is.
@@ -84,3 +85,10 @@ returns-clause-asks_all g c = λ request asks done.
     let rose : List ℕ → Type 0 = rose_between (g.F.Files.faults c.args.files.now) (g.F.Files.faults c.answer.new.files) in
     let words : List (List ℕ) = map (string_bytes {Z = Global}) c.args.words.now in
     absurd ((words_fail_before told rose words _ c.in-Err.ensures.refused).0 (sym c.fail-in-Err.ensures.status ∙ done))
+
+pub returns-clause-demo : goal.returns-clause-demo
+returns-clause-demo g c = λ seed asks.
+    let told : Told = g.F.Files.told c.args.files.now in
+    let rose : List ℕ → Type 0 = rose_between (g.F.Files.faults c.args.files.now) (g.F.Files.faults c.answer.new.files) in
+    let words : List (List ℕ) = map (string_bytes {Z = Global}) c.args.words.now in
+    inr (inr (c.fail-in-Err.ensures.status ∙ demo_stands told rose words seed _ asks c.in-Err.ensures.refused))

@@ -11,3 +11,6 @@ returns-in-Run-clause-refused g c = rw c.in-Run.is c.run_files.ensures.refused
 
 pub returns-in-Eval-clause-refused : goal.returns-in-Eval-clause-refused
 returns-in-Eval-clause-refused g c = rw c.in-Eval.is c.eval_files.ensures.refused
+
+pub returns-in-Demo-clause-refused : goal.returns-in-Demo-clause-refused
+returns-in-Demo-clause-refused g c = ?
