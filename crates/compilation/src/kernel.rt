@@ -32,7 +32,7 @@ use nest_premises::steps::has_word_steps;
 use phase_plan::needed_barriers;
 use printable_groups::laws::{
     group_terms_are_printed, legal_group_kernels_are_in_the_grammar, legal_groups_keep,
-    legal_groups_start,
+    legal_groups_serve, legal_groups_start,
 };
 use printable_terms::laws::{kernels_are_in_the_grammar, terms_are_printed};
 use printed_form::laws::{printed_programs_keep, printed_programs_start};
@@ -83,6 +83,7 @@ fn group_kernel(alloc: Global, last: &Typed, lowered: &Lowered) -> Result<Kernel
     least_sizes_are_admissible();
     legal_group_kernels_are_in_the_grammar();
     legal_groups_keep();
+    legal_groups_serve();
     legal_groups_stand_over_groups();
     legal_groups_start();
     lowered_terms_serve();
