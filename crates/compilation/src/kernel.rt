@@ -13,6 +13,7 @@ ghost use Rattle.compilation.specs.Legal.{CompilesTerm, IsAccepted, IsLoweredOf,
 ghost use Rattle.compilation.specs.Meets.{CanBeLaidOut};
 
 use crate::legal::{buffered, judge_printed, mapped};
+use barrier_free::laws::printed_programs_serve;
 use fault_lines::Refusal;
 use group_emit::kernel::emit_groups;
 use group_premises::laws::legal_groups_stand_over_groups;
@@ -61,6 +62,7 @@ fn item_kernel(alloc: Global, last: &Typed, lowered: &Lowered) -> Result<Kernel,
     least_sizes_are_admissible();
     lowered_terms_serve();
     printed_programs_keep();
+    printed_programs_serve();
     printed_programs_start();
     terms_are_printed();
     terms_can_be_written();
