@@ -1,10 +1,10 @@
 -- A tidied kernel is of the kernel grammar.
-use Rattle.std.proofs.Common.{◌≡◌, ℕ, suc, ◌≤◌, Bool, true, false, List, [], ◌∷◌, ◌++◌, nat_lt, length, refl, sym, ap, ◌∙◌, subst, arith}
+use Rattle.std.proofs.Common.{◌≡◌, ℕ, suc, Bool, true, false, List, [], ◌∷◌, ◌++◌, nat_lt, refl, sym, ap, ◌∙◌, arith}
 use Rattle.std.specs.Prelude.{◌&&◌, ◌||◌, nat_le}
 use Rattle.std.proofs.lemmas.Bool.{leb-true, le-leb}
 use Rattle.kernel_tree.specs.Formula.{Formula, Number, Variable, LoopVariable, Size, Id, Binary, Choose}
 use Rattle.kernel_tree.specs.Code.{Array, Input, Output, Local, Private, Code, End, Assigns, Loads, Stores, Loops, Syncs, Kernel}
-use Rattle.kernel_tree.specs.Grammar.{deepest, height, is_operator, is_constant, names_declared, is_expression, is_readable, is_writable, has_statement, are_statements, are_lengths, is_kernel}
+use Rattle.kernel_tree.specs.Grammar.{deepest, height, is_constant, names_declared, is_expression, is_readable, is_writable, has_statement, are_statements, are_lengths}
 use Rattle.tidy_kernels.specs.Pass.{Tidying, tidied_code, tidied_kernel}
 use Rattle.tidy_kernels.specs.Laws.{MakesNoLarger, TidiedKernelsAreKernels}
 

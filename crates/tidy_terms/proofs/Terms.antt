@@ -1,11 +1,11 @@
 -- Tidied, a term's code is printed for the term.
-use Rattle.std.proofs.Common.{◌≡◌, ℕ, ◌+◌, ◌<◌, Bool, true, false, List, [], ◌∷◌, ◌++◌, ap}
+use Rattle.std.proofs.Common.{ℕ, ◌+◌, List, [], ◌∷◌, ◌++◌, ap}
 use Rattle.kernel_tree.specs.Formula.{Formula}
 use Rattle.kernel_tree.specs.Code.{Private, Code, End}
 use Rattle.kernel_tree.specs.Launch.{Launch}
 use Rattle.lift_ir.specs.Types.{width}
 use Rattle.lift_ir.specs.Layouts.{result_position}
-use Rattle.lift_ir.specs.Terms.{Sequential, PrivateMemory, Term, Literal, Bound, Source, Apply, ApplyNumber, Select, Both, Project, Reshape, LetArray, LetElement, Map, Fold, Store, Copy, push}
+use Rattle.lift_ir.specs.Terms.{LoadSet, Sequential, PrivateMemory, Term, Bound, Source, Both, Project, Reshape, LetArray, LetElement, Map, Fold, Store, Copy, push}
 use Rattle.lift_ir.specs.Scalars.{at_index}
 use Rattle.printed_form.specs.Counts.{let_variables, load_count, variable_count, private_count}
 use Rattle.printed_form.specs.Marks.{Marks, laid_in, held_marks, loaded_marks}
@@ -13,11 +13,12 @@ use Rattle.printed_form.specs.Expressions.{held, exprs}
 use Rattle.printed_form.specs.Form.{argument_marks, IsLoaded, IsFoldTurn, IsArgumentWork, IsWritten}
 use Rattle.tidy_kernels.specs.Pass.{Tidying, tidied_code}
 use Rattle.tidy_kernels.specs.Values.{AreBelow, KeepsValues}
-use Rattle.tidy_terms.proofs.Statements.{assigned, element, stored, loaded, loop, fold_turn}
+use Rattle.tidy_terms.proofs.Elements.{assigned, element}
+use Rattle.tidy_terms.proofs.Statements.{stored, loaded, loop, fold_turn}
 
 module _ {A : Type 0} (l : Launch) (ins : ℕ → Marks) (num : A → ℕ) (tidy : Tidying) (keeps : KeepsValues l.sizes tidy) where
   -- the body of a map, at a turn
-  abbrev pub IsTurn : (ts : List ℕ) → (env : ℕ → Marks) → (a n : ℕ) → (loads : _) → (x w : Marks) → Term A → (i : ℕ) → Code → Type 0
+  abbrev pub IsTurn : (ts : List ℕ) → (env : ℕ → Marks) → (a n : ℕ) → (loads : LoadSet) → (x w : Marks) → Term A → (i : ℕ) → Code → Type 0
   IsTurn ts env a n loads x w b i body =
       (inner : Code) × IsLoaded l ins (ts ++ i ∷ []) loads (at_index i x) n body inner
       × IsWritten l ins num (ts ++ i ∷ []) (push (loaded_marks loads (at_index i x) n) env) a (n + load_count loads) b (at_index i w) inner End
@@ -62,10 +63,10 @@ module _ {A : Type 0} (l : Launch) (ins : ℕ → Marks) (num : A → ℕ) (tidy
           argument around ts below env a n xs code h.0 h.1,
           loop l ins tidy keeps around ts below Sequential (num len) (IsTurn ts env (a + private_count xs) (n + variable_count xs) loads x w b) h.0 rest
               (λ bound i body at turn. (
-                  tidied_code tidy (around ++ bound ∷ []) turn.0,
-                  loaded l ins tidy keeps (around ++ bound ∷ []) (ts ++ i ∷ []) at loads (at_index i x) (n + variable_count xs) body turn.0 turn.1,
-                  written (around ++ bound ∷ []) (ts ++ i ∷ []) at (push (loaded_marks loads (at_index i x) (n + variable_count xs)) env) (a + private_count xs) (n + variable_count xs + load_count loads) b (at_index i w) turn.0 End turn.2,
-                ))
+                tidied_code tidy (around ++ bound ∷ []) turn.0,
+                loaded l ins tidy keeps (around ++ bound ∷ []) (ts ++ i ∷ []) at loads (at_index i x) (n + variable_count xs) body turn.0 turn.1,
+                written (around ++ bound ∷ []) (ts ++ i ∷ []) at (push (loaded_marks loads (at_index i x) (n + variable_count xs)) env) (a + private_count xs) (n + variable_count xs + load_count loads) b (at_index i w) turn.0 End turn.2,
+              ))
               h.2,
         )
     written around ts below env a n (Fold len loads ty xs s b) w code rest h =

@@ -1,16 +1,19 @@
 -- Tidied, a whole kernel is printed for its term.
-use Rattle.std.proofs.Common.{◌≡◌, ℕ, ◌+◌, List, [], ◌∷◌, ◌++◌, inl, inr}
+use Rattle.std.proofs.Common.{ℕ, ◌+◌, List, [], ◌∷◌, inl, inr}
 use Rattle.size_arith.specs.declared.poly.Monomial.{Monomial}
-use Rattle.kernel_tree.specs.Formula.{Formula}
 use Rattle.kernel_tree.specs.Code.{Code, End}
 use Rattle.kernel_tree.specs.Launch.{Launch}
+use Rattle.lift_tree.specs.Annotations.{type_in}
+use Rattle.lift_ir.specs.AtLaunch.{length_at, ty_at}
 use Rattle.lift_ir.specs.Layouts.{result_position}
-use Rattle.lift_ir.specs.Terms.{Global, Term, Literal, Bound, Source, Apply, ApplyNumber, Select, Both, Project, Reshape, LetArray, LetElement, Map, Fold, Store, Copy, push}
+use Rattle.lift_ir.specs.Terms.{Global, Term, Reshape, LetArray, Map, push}
 use Rattle.lift_ir.specs.Scalars.{at_index}
 use Rattle.printed_form.specs.Counts.{load_count, variable_count, private_count}
 use Rattle.printed_form.specs.Marks.{Marks, loaded_marks}
 use Rattle.printed_form.specs.Form.{argument_marks}
-use Rattle.printed_form.specs.Whole.{IsOverLaunch, IsCode, no_marks, output_marks}
+use Rattle.printed_form.specs.Whole.{IsOverLaunch, no_marks, output_marks}
+use Rattle.printed_form.specs.Printer.{input_marks}
+use Rattle.printed_form.specs.Programs.{input_shape, first_buffer, lowered_root}
 use Rattle.tidy_kernels.specs.Pass.{Tidying, tidied_code}
 use Rattle.tidy_kernels.specs.Values.{KeepsValues}
 use Rattle.tidy_terms.specs.Laws.{TidiedCodesArePrinted, TidiedKernelsArePrinted}
@@ -32,10 +35,10 @@ module _ {A : Type 0} (l : Launch) (ins : ℕ → Marks) (num : A → ℕ) (tidy
         argument l ins num tidy keeps [] [] tt env a n xs code h.0 h.1,
         loop l ins tidy keeps [] [] tt Global (num len) (IsTurn l ins num tidy keeps [] env (a + private_count xs) (n + variable_count xs) loads x w b) h.0 rest
             (λ bound i body at turn. (
-                tidied_code tidy (bound ∷ []) turn.0,
-                loaded l ins tidy keeps (bound ∷ []) (i ∷ []) at loads (at_index i x) (n + variable_count xs) body turn.0 turn.1,
-                written l ins num tidy keeps (bound ∷ []) (i ∷ []) at (push (loaded_marks loads (at_index i x) (n + variable_count xs)) env) (a + private_count xs) (n + variable_count xs + load_count loads) b (at_index i w) turn.0 End turn.2,
-              ))
+              tidied_code tidy (bound ∷ []) turn.0,
+              loaded l ins tidy keeps (bound ∷ []) (i ∷ []) at loads (at_index i x) (n + variable_count xs) body turn.0 turn.1,
+              written l ins num tidy keeps (bound ∷ []) (i ∷ []) at (push (loaded_marks loads (at_index i x) (n + variable_count xs)) env) (a + private_count xs) (n + variable_count xs + load_count loads) b (at_index i w) turn.0 End turn.2,
+            ))
             h.2,
       )
   over_launch env a n _ w code rest h = absurd h
@@ -52,5 +55,5 @@ kernel_is d bases t a l tidy k keeps h = record {
   locals = h.locals;
   privates = h.privates;
   variables = h.variables;
-  code = code_is l _ _ tidy _ _ k.code keeps h.code;
+  code = code_is l (input_marks (length_at bases) (first_buffer d.inputs) (input_shape d.inputs)) (length_at bases) tidy (lowered_root t a) (ty_at bases (type_in a)) k.code keeps h.code;
 }
