@@ -6,3 +6,4 @@ pub mod Codes
 pub mod Terms
 pub mod Groups
 pub mod Kernels
+pub mod Worked

@@ -1,3 +1,4 @@
 pub mod Indices
 pub mod Tidy
 pub mod Laws
+pub mod Worked

@@ -1,6 +1,7 @@
 //! Laws of the indices and bounds of printed kernels, each carried by a function that does nothing.
 
 ghost use Rattle.printed_indices.specs.Laws.{TermsHaveIndexFormulas, GroupsHaveIndexFormulas, TidiedTermsAreTidy, TidiedGroupsAreTidy};
+ghost use Rattle.printed_indices.specs.Worked.{JoinsAreTidied, JoinsDoNotStay, IndicesDoNotGrow, BoundsAreTidied, BoundsDoNotStay};
 
 /// Where the printer makes a kernel of the kernel grammar of a typed term, each index and each bound
 /// spells an index expression that divides sizes by their declared divisors alone.
@@ -21,4 +22,12 @@ pub fn tidied_terms_are_tidy()
 /// And such a kernel of a map over work-groups.
 pub fn tidied_groups_are_tidy()
     ensures { TidiedGroupsAreTidy }
+{}
+
+/// Worked indices: a cell of rows is read at the loop's variable, and a loop over twice the half of a
+/// size is bound by that size; neither may stay as it was, nor may an index grow.
+pub fn worked_indices()
+    ensures joins { JoinsAreTidied × JoinsDoNotStay }
+    ensures bounds { BoundsAreTidied × BoundsDoNotStay }
+    ensures others { IndicesDoNotGrow }
 {}
