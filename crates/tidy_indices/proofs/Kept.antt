@@ -1,17 +1,16 @@
 -- A tidy expression has the value of the expression, and is no larger.
-use Rattle.std.proofs.Common.{◌≡◌, ℕ, pos, ◌≤◌, Bool, true, false, Option, Some, None, List, [], refl, sym, ap, ◌∙◌, subst, arith}
+use Rattle.std.proofs.Common.{◌≡◌, ℕ, Bool, true, false, Option, Some, None, List, [], refl, sym, ap, ◌∙◌, subst, arith}
 use Rattle.std.specs.Prelude.{◌∷◌, if◌then◌else◌}
 use Rattle.size_arith.specs.declared.names.Name.{Name}
 use Rattle.index_expr.specs.Expression as index
 use Rattle.index_expr.specs.Expression.{Expression, nodes, short_nodes}
-use Rattle.index_expr.specs.Values.{EachOperation}
 use Rattle.kernel_tree.specs.Formula.{Formula, Ids, value}
 use Rattle.length_spelling.specs.Formulas.{index_formula}
 use Rattle.length_spelling.specs.Laws.{AreWords}
 use Rattle.index_simplify.specs.PlainRanges.{PlainRanges}
 use Rattle.index_simplify.specs.Operations.{simple}
 use Rattle.index_simplify.specs.Ranges.{AreMultiples}
-use Rattle.index_simplify.specs.Simplified.{AreDeclared, HasWordLiterals}
+use Rattle.index_simplify.specs.Simplified.{AreDeclared}
 use Rattle.index_simplify.proofs.Operations.{simple_is_simplified}
 use Rattle.simple_spelling.specs.Formulas.{formula_nodes, simple_formula}
 use Rattle.simple_spelling.specs.Redundant.{IsIrredundant}
@@ -22,13 +21,13 @@ use Rattle.simple_spelling.proofs.Values.{have_the_values}
 use Rattle.tidy_indices.specs.declared.spans.Span.{Span}
 use Rattle.tidy_indices.specs.Reading.{reading, IsIndexFormula}
 use Rattle.tidy_indices.specs.Spans.{span_of}
-use Rattle.tidy_indices.specs.Places.{PlainPlace, ranges_outside, without_loops, in_loop_of, in_loop, inside, inside_all, place_of}
-use Rattle.tidy_indices.specs.Tidy.{ranges_by, tidied_reading, tidied_at, tidy_formula}
+use Rattle.tidy_indices.specs.Places.{PlainPlace, ranges_outside, in_loop_of, in_loop, inside, inside_all, place_of}
+use Rattle.tidy_indices.specs.Tidy.{ranges_by, tidied_reading, tidied_at}
 use Rattle.tidy_indices.specs.Laws.{AreBelow, EachIsIndexFormula, TidyFormulasKeepValues, TidyFormulasAreNoLarger, TidyFormulasAreIrredundant, TidyFormulasAreShort}
 use Rattle.tidy_indices.proofs.Readings.{is_read, index_reads}
 use Rattle.tidy_indices.proofs.Worths.{simple_worth}
 use Rattle.tidy_indices.proofs.Intervals.{AreSizesOf, is_shown, is_ranged}
-use Rattle.tidy_indices.proofs.Turns.{IsOf, Holds, place_is_of, place_holds, turns_fit, turns_up_to, are_below_lengths, multiples_at, sizes_fit, sizes_within, sizes_divide, shown_value}
+use Rattle.tidy_indices.proofs.Turns.{Holds, place_is_of, place_holds, turns_fit, turns_up_to, are_below_lengths, multiples_at, sizes_fit, sizes_within, sizes_divide, shown_value}
 
 -- ---- values
 module _ (names : List Name) (ids : Ids) (fit : AreWords ids.sizes) (sizes_are : AreSizesOf names ids.sizes) (all : AreMultiples (ranges_outside names) ids.sizes) (turns variables : List ℕ) (p : PlainPlace) (h : Holds names ids.sizes fit sizes_are all p turns) (f : Formula) (n : ℕ) (is : value ids turns variables f ≡ Some n) where

@@ -1,5 +1,5 @@
 -- What is known at a place holds at the turns of the loops around.
-use Rattle.std.proofs.Common.{◌≡◌, ℕ, zero, suc, ℤ, pos, ◌+◌, ◌-◌, ◌*◌, ◌%◌, ◌^◌, ◌<◌, ◌≤◌, Bool, true, false, Option, Some, None, List, [], ◌∷◌, ◌++◌, refl, sym, ap, ◌∙◌, subst, arith}
+use Rattle.std.proofs.Common.{◌≡◌, ℕ, zero, suc, pos, ◌-◌, ◌*◌, ◌%◌, ◌^◌, ◌<◌, ◌≤◌, true, Option, Some, None, List, [], ◌∷◌, ◌++◌, refl, sym, ap, ◌∙◌, subst, arith}
 use Rattle.std.specs.Prelude.{◌<ℤ◌, map, slice_get, slice_index, unsigned_abs}
 use Rattle.std.proofs.Math.Nat.{mod-eq_of_lt, mul-mod_right}
 use Rattle.std.proofs.lemmas.Int.{ints}
@@ -22,7 +22,7 @@ use Rattle.index_simplify.proofs.Operations.{simple_is_simplified}
 use Rattle.tidy_indices.specs.declared.spans.Span.{Span}
 use Rattle.tidy_indices.specs.Reading.{reading}
 use Rattle.tidy_indices.specs.Spans.{from_to, operated_on, span_of}
-use Rattle.tidy_indices.specs.Places.{PlainPlace, ranges_outside, without_loops, with_loop, beyond_words, in_loop_of, in_loop, inside, inside_all, place_of}
+use Rattle.tidy_indices.specs.Places.{PlainPlace, ranges_outside, without_loops, beyond_words, in_loop_of, in_loop, inside, inside_all, place_of}
 use Rattle.tidy_indices.specs.Laws.{AreBelow}
 use Rattle.tidy_indices.proofs.Readings.{AreWide, is_read}
 use Rattle.tidy_indices.proofs.Worths.{word_of}
@@ -196,8 +196,8 @@ module _ (names : List Name) (sizes : List ℕ) (fit : AreWords sizes) (sizes_ar
       record {
         count = n;
         length_is = λ turns words.
-          ((simple_is_simplified (without_loops p.around) e).stands sizes turns (record { loops = λ k m f. absurd (cc f); multiples = multiples_at p is_of; own = wide turns words })).value
-          ∙ same_turns names sizes turns [] e s h ∙ shown.exact_is ∙ ap pos (sym same);
+            ((simple_is_simplified (without_loops p.around) e).stands sizes turns (record { loops = λ k m f. absurd (cc f); multiples = multiples_at p is_of; own = wide turns words })).value
+            ∙ same_turns names sizes turns [] e s h ∙ shown.exact_is ∙ ap pos (sym same);
         below = lt;
         last = omega arith;
         fits = omega arith;

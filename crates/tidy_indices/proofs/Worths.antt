@@ -1,5 +1,5 @@
 -- By the laws that know of no loop, an expression keeps its value on words, also where something in it wraps: one lemma a law.
-use Rattle.std.proofs.Common.{◌≡◌, ◌≢◌, ℕ, zero, suc, ◌+◌, ◌-◌, ◌*◌, ◌/◌, ◌%◌, ◌^◌, ◌<◌, ◌≤◌, min, max, Bool, true, false, Option, Some, None, List, [], refl, sym, ap, ◌∙◌, subst, ⊎_elim, arith}
+use Rattle.std.proofs.Common.{◌≡◌, ◌≢◌, ℕ, zero, suc, ◌+◌, ◌-◌, ◌*◌, ◌/◌, ◌%◌, ◌^◌, ◌<◌, ◌≤◌, Bool, true, false, Option, Some, None, List, [], refl, sym, ap, ◌∙◌, subst, ⊎_elim, arith}
 use Rattle.std.specs.Prelude.{◌==◌, ◌&&◌, ◌||◌, nat_lt, nat_le, is_some, unwrap_or, if◌then◌else◌, slice_get, slice_index, replicate}
 use Rattle.std.proofs.Math.Nat.{mod-lt, mod-le, mod-eq_of_lt, div-le_self, div-add-mod, mul_assoc, mul_comm, div-one, mod-one}
 use Rattle.std.proofs.lemmas.Bool.{cases_Bool, eqb-true, eq-eqb, ltb-true, leb-true}
@@ -16,16 +16,15 @@ use Rattle.index_simplify.specs.declared.law.Law.{Law}
 use Rattle.index_simplify.specs.declared.law.Law.TheVariants as law
 use Rattle.index_simplify.specs.declared.law.TheConstants.{LAWS}
 use Rattle.index_simplify.specs.Literals.{word, difference, computed_from, computed_with, computed}
-use Rattle.index_simplify.specs.Tests.{same_operation, same_variable, is_number, same_size, same, is_above, is_below, is_count, is_begin, is_cell, is_quotient, is_rounded, are_parts, is_known_multiple, is_multiple, is_multiple_at, is_part_of, is_base, is_part_base, is_whole_size, is_scaled_size}
-use Rattle.index_simplify.specs.Laws.{first_part, second_part, scaled, applies, applied}
+use Rattle.index_simplify.specs.Tests.{same_operation, same_variable, is_number, same_size, same, is_above, is_below, is_begin, is_cell, is_quotient, is_rounded, are_parts, is_known_multiple, is_multiple, is_part_of, is_base, is_part_base, is_whole_size, is_scaled_size}
+use Rattle.index_simplify.specs.Laws.{first_part, scaled, applies, applied}
 use Rattle.index_simplify.specs.Operations.{first_law, by_law, simple}
-use Rattle.index_simplify.specs.Ranges.{AreMultiples, AreWithin}
+use Rattle.index_simplify.specs.Ranges.{AreMultiples}
 use Rattle.index_simplify.specs.Simplified.{HasWordLiterals}
 use Rattle.index_simplify.proofs.Tests.{both, is_operation}
 use Rattle.index_simplify.proofs.Shapes.{found_applies}
 use Rattle.index_simplify.proofs.Operations.{simple_is_simplified}
 use Rattle.index_simplify.proofs.Words.{simple_words}
-use Rattle.tidy_indices.specs.Places.{without_loops}
 use Rattle.tidy_indices.proofs.Readings.{AreWide}
 
 -- ---- words
@@ -184,15 +183,17 @@ whole_is r (Literal c) b h = base_is r c b h
     base_is r c (Binary Quotient size d) h =
         let parts = both (is_number c d) (is_multiple r size d) h in
         let m = multiple_is r size d parts.1 in
-        let twice : Literal m.divisor ≡ Literal c = sym m.divisor_is ∙ number_is c d parts.0 in
-        (record {
-          times = c;
-          number = m.number;
-          divisor = m.divisor;
-          first_is = refl;
-          second_is = ap (λ x. Binary Quotient x d) m.size_is ∙ ap (Binary Quotient (Size m.number)) m.divisor_is;
-          known = m.known;
-        }, cc twice)
+        let twice : Literal m.divisor ≡ Literal c = sym m.divisor_is ∙ number_is c d parts.0 in (
+          record {
+            times = c;
+            number = m.number;
+            divisor = m.divisor;
+            first_is = refl;
+            second_is = ap (λ x. Binary Quotient x d) m.size_is ∙ ap (Binary Quotient (Size m.number)) m.divisor_is;
+            known = m.known;
+          },
+          cc twice,
+        )
     base_is r c _ h = absurd (cc h)
 whole_is r _ b h = absurd (cc h)
 
@@ -209,15 +210,17 @@ scaled_is r (Literal c) b h = part_base r c b h
     part_base : (r : PlainRanges) (c : ℕ) (b : Expression) → is_part_base r c b ≡ true → (p : IsScaled r (Literal c) b) × (p.times % p.divisor ≡ 0)
     part_base r c (Binary Quotient size d) h =
         let parts = both (is_part_of c d) (is_multiple r size d) h in
-        let m = multiple_is r size d parts.1 in
-        (record {
-          times = c;
-          number = m.number;
-          divisor = m.divisor;
-          first_is = refl;
-          second_is = ap (λ x. Binary Quotient x d) m.size_is ∙ ap (Binary Quotient (Size m.number)) m.divisor_is;
-          known = m.known;
-        }, part_is c m.divisor d m.divisor_is parts.0)
+        let m = multiple_is r size d parts.1 in (
+          record {
+            times = c;
+            number = m.number;
+            divisor = m.divisor;
+            first_is = refl;
+            second_is = ap (λ x. Binary Quotient x d) m.size_is ∙ ap (Binary Quotient (Size m.number)) m.divisor_is;
+            known = m.known;
+          },
+          part_is c m.divisor d m.divisor_is parts.0,
+        )
     part_base r c _ h = absurd (cc h)
 scaled_is r _ b h = absurd (cc h)
 
@@ -390,8 +393,7 @@ module _ (multiples : List ℕ) where
         let times : q.first ≡ p.times = some _ _ (sym q.first_is ∙ ap (λ e. value ids turns variables (index_formula e)) p.first_is) in
         let size : over.first ≡ slice_index ids.sizes p.number = some _ _ (sym over.first_is) in
         let divisor : over.second ≡ p.divisor = some _ _ (sym over.second_is) in
-        let quotient : q.second ≡ slice_index ids.sizes p.number / p.divisor = over.is_result.result ∙ ap (λ z. z / over.second) size ∙ ap (λ z. slice_index ids.sizes p.number / z) divisor in
-        (
+        let quotient : q.second ≡ slice_index ids.sizes p.number / p.divisor = over.is_result.result ∙ ap (λ z. z / over.second) size ∙ ap (λ z. slice_index ids.sizes p.number / z) divisor in (
           q.is_result.result ∙ ap (λ x. operate_words x q.first q.second) (is_operation o Product h) ∙ ap (λ z. operate_words Product z q.second) times ∙ ap (operate_words Product p.times) quotient,
           λ z. over.is_result.divisor tt (divisor ∙ z),
         )

@@ -1,5 +1,5 @@
 -- Expressions of a kernel as index expressions.
-use Rattle.std.specs.Prelude.{ℕ, ◌^◌, ◌<◌, nat_lt, if◌then◌else◌, Option, Some, None}
+use Rattle.std.specs.Prelude.{◌^◌, ◌<◌, nat_lt, if◌then◌else◌, Option, Some, None}
 use Rattle.scalar_ops.specs.declared.op.Op.{Op}
 use Rattle.scalar_ops.specs.declared.op.Op.TheVariants.{Add, Sub, Mul, Div, Rem, Min, Max}
 use Rattle.index_expr.specs.declared.operation.Operation.{Operation}

@@ -154,8 +154,8 @@ impl Place {
     fn tidied_index(&self, alloc: Global, index: &Index) -> Result<Expr, AllocError>
         ensures { IfOk result (λ e. formula_of e ≡ simple_formula
             (tidy.ranges_by (spec.plain_place self.now)
-                (span_of (spec.plain_place self.now).sizes (spec.plain_place self.now).lasts
-                    (expression_of index.now)))
+            (span_of (spec.plain_place self.now).sizes (spec.plain_place self.now).lasts
+            (expression_of index.now)))
             (expression_of index.now)) }
     {
         match span_of(&self.sizes, &self.lasts, index) {
