@@ -26,7 +26,6 @@ def declarations(form, count):
     return "".join(form.format(n) for n in range(count))
 
 
-
 # a tree of 2^levels variables: 2^(levels + 1) - 1 nodes
 def tree(levels):
     return "x" if levels == 0 else f"add({tree(levels - 1)}, {tree(levels - 1)})"
@@ -110,6 +109,8 @@ def answer(folder, program, script, launch_text):
 
 
 def main():
+    if not os.access(PROGRAM, os.X_OK):
+        sys.exit(f"examples/refusals.py: there is no program {PROGRAM}")
     failed = 0
     with tempfile.TemporaryDirectory() as folder:
         for program, script, launch_text, status, line in ROWS:
@@ -121,7 +122,7 @@ def main():
         failed += (ran.returncode, ran.stderr) != (2, "lift: words\n")
         ran = subprocess.run([PROGRAM, "compile", "none", "none"], cwd=folder, capture_output=True, text=True)
         failed += (ran.returncode, ran.stderr) != (3, "lift: read none\n")
-    print(f"{len(ROWS) + 2 - failed} passed, {failed} failed")
+    print(f"refusals: {len(ROWS) + 2 - failed} as told, {failed} not")
     return 1 if failed else 0
 
 
