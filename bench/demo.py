@@ -3,8 +3,9 @@
 
 usage: bench/demo.py
 
-The demo compiles the tiled stencil of 4,096 numbers and runs it by 256 work-items along a seed's schedule. Prints the least time of
-ten calls, and the instructions of one (valgrind --tool=callgrind), each also per event: reading, rewriting, printing and reading back are in it.
+The demo compiles the tiled stencil of 4,096 numbers and runs it by 256 work-items along a seed's schedule. Prints the least
+time of ten calls, and the instructions of one (valgrind --tool=callgrind), each also per event: reading, rewriting, printing
+and reading back are in it.
 
 Not taken yet.
 """

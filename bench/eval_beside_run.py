@@ -3,10 +3,10 @@
 
 usage: bench/eval_beside_run.py
 
-For the three strategies of examples/stencil at 4,096 numbers: the instructions (valgrind --tool=callgrind) and the least time of three
-calls of `eval` and of `run`, and the events of the run. Reading the launch file and writing the value are in both; reading the script,
-printing the kernel and reading it back only in `run`. `run` pays for each event and `eval` for each element that it forms, so their
-ratio says how much dearer it is to follow every work-item than to know the value.
+For the three strategies of examples/stencil at 4,096 numbers: the instructions (valgrind --tool=callgrind) and the least
+time of three calls of `eval` and of `run`, and the events of the run. Reading the launch file and writing the value are in
+both; reading the script, printing the kernel and reading it back only in `run`. `run` pays for each event and `eval` for
+each element that it forms, so their ratio says how much dearer it is to follow every work-item than to know the value.
 
 Not taken yet.
 """
@@ -33,7 +33,9 @@ def main():
             known, _ = instructions(folder, evaluation)
             followed, line = instructions(folder, run)
             times = 1e3 * seconds(evaluation, 3), 1e3 * seconds(run, 3)
-            print(f"{strategy}: {json.loads(line)['events']} events; eval {known / 1e6:.1f} million instructions, {times[0]:.1f} ms; run {followed / 1e6:.1f} million, {times[1]:.1f} ms; {followed / known:.1f} times as many", flush=True)
+            print(f"{strategy}: {json.loads(line)['events']} events, {followed / known:.1f} times as many instructions as eval")
+            for command, work, spent in (("eval", known, times[0]), ("run", followed, times[1])):
+                print(f"  {command}: {work / 1e6:.1f} million instructions, {spent:.1f} ms", flush=True)
 
 
 if __name__ == "__main__":

@@ -3,8 +3,9 @@
 
 usage: bench/memory.py
 
-Runs a map over the launch, from one input number to 1,000 and to a million numbers, by 1 and by 65,536 work-items, and prints the most memory
-that each call took. After its start the machine takes none; the text of the value is made behind it, as in `lift eval`, whose peak stands beside.
+Runs a map over the launch, from one input number to 1,000 and to a million numbers, by 1 and by 65,536 work-items, and
+prints the most memory that each call took. After its start the machine takes none; the text of the value is made behind it,
+as in `lift eval`, whose peak stands beside.
 
 Not taken yet.
 """

@@ -30,8 +30,9 @@ def behind_layouts(layouts):
     if layouts % 2 == 0:
         source = f"pad(1, 1, {source})"
     program = HEAD + f"join(map(\\w. reduce(add, 0, w), slide(3, 1, {source})))"
-    script = ["0.0 tile-slide 2", "0 map-join", "0.0 fuse-map", "0.0.1 let-inline", "0.0.1.0.0 local-copy", "0.0.1.1 reduce-fold", "0.0.1.1 fold-seq", "0.0.1 to-lcl", "0.0 to-wrg"]
-    return program, script, 16 + layouts
+    tiles = ["0.0 tile-slide 2", "0 map-join", "0.0 fuse-map", "0.0.1 let-inline", "0.0.1.0.0 local-copy"]
+    lowering = ["0.0.1.1 reduce-fold", "0.0.1.1 fold-seq", "0.0.1 to-lcl", "0.0 to-wrg"]
+    return program, tiles + lowering, 16 + layouts
 
 
 def deep(stencils):
@@ -49,6 +50,9 @@ def deep(stencils):
     return program, script, 5 + 10 * stencils
 
 
+SHAPES = [("layouts", behind_layouts, (1, 2, 6, 12, 18, 24)), ("stencils in a tile", deep, (1, 2, 4, 8, 16, 20))]
+
+
 def behind_the_script(folder, program, steps):
     """The instructions that the whole script takes more than the script without its last step."""
     (folder / "p").write_text(program)
@@ -63,7 +67,7 @@ def behind_the_script(folder, program, steps):
 def main():
     with tempfile.TemporaryDirectory() as name:
         folder = Path(name)
-        for told, shape, numbers in (("layouts", behind_layouts, (1, 2, 6, 12, 18, 24)), ("stencils in a tile", deep, (1, 2, 4, 8, 16, 20))):
+        for told, shape, numbers in SHAPES:
             first = None
             for number in numbers:
                 program, script, nodes = shape(number)
