@@ -20,9 +20,8 @@ use Rattle.rules_algebra.specs.Inlining.{let_inline, copy}
 use Rattle.rules_algebra.specs.Layouts.{join_split, split_join, transpose_transpose, map_join, map_split, map_transpose, without}
 use Rattle.rules_algebra.specs.Padding.{pad_map, map_pad}
 use Rattle.rules_algebra.specs.Rows.{answer}
-use Rattle.rules_algebra.proofs.Unnamed.{raise-put}
 use Rattle.copied_arrays.proofs.Shapes.{Shape, Array, shape, HasShape, element_same}
-use Rattle.copied_arrays.proofs.Renumbered.{has-raise, has-unraise, has-substitute}
+use Rattle.copied_arrays.proofs.Renumbered.{has-raise, has-without, has-substitute}
 use Rattle.copied_arrays.proofs.Fitting.{shape_in}
 
 -- what a rule gives has the shape of what it is given to
@@ -92,7 +91,7 @@ module _ (i g : List Shape) where
       let z = o.2.0 in
       let r = h.3 in
       let e : r.0 ≡ z = let p = o.2.2 in let q = r.2 in cc in
-      let body = has-unraise i r.0 h.0 g (without 1 f) r.1 (subst (λ t. HasShape i (r.0 ∷ h.0 ∷ g) t r.1) (sym (raise-put 1 _ f unnamed)) r.3) in (
+      let body = has-without i r.0 h.0 g f r.1 unnamed r.3 in (
         Array r.1,
         (z, r.1, subst (HasShape i g xs) o.2.1 o.1, subst (λ x. HasShape i (x ∷ g) (without 1 f) r.1) e body, refl),
         (r.1, refl, h.4 ∙ ap Array r.4),

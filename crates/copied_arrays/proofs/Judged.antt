@@ -9,7 +9,7 @@ use Rattle.pattern_types.specs.declared.refusal.Rule.TheVariants as rule
 use Rattle.pattern_types.specs.declared.fault.NodeFault.{NodeFault}
 use Rattle.pattern_types.specs.Scopes.{nth_type}
 use Rattle.pattern_types.specs.Judged.{here, under, unary_row, binary_row, select_row, element_in, map_end, fold_start, fold_end, judged}
-use Rattle.pattern_types.proofs.Results.{yes, and_ok, here_ok, under_ok}
+use Rattle.copied_arrays.proofs.Results.{yes, and_ok, here_ok, under_ok}
 use Rattle.copied_arrays.proofs.Shapes.{shape, nth}
 use Rattle.copied_arrays.proofs.Fitting.{Fits}
 use Rattle.copied_arrays.proofs.Rows.{unary_is, binary_is, select_is, element_is, map_is, start_is, fold_is}

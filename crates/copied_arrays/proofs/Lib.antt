@@ -1,6 +1,7 @@
 mod Shapes
 mod Renumbered
 mod Fitting
+mod Results
 mod Rows
 mod Judged
 mod Algebra

@@ -1,8 +1,11 @@
 -- Renumbering keeps shapes, and that copies are of arrays.
-use Rattle.std.proofs.Common.{◌≡◌, ℕ, zero, suc, ◌+◌, ◌≤◌, List, [], ◌∷◌, length, drop, Option, Some, None, refl, sym, ap, ◌∙◌, subst, arith}
-use Rattle.std.specs.Prelude.{option_map}
+use Rattle.std.proofs.Common.{◌≡◌, ℕ, zero, suc, ◌+◌, ◌<◌, ◌≤◌, Bool, true, false, List, [], ◌∷◌, length, drop, Option, Some, None, refl, sym, ap, ◌∙◌, subst, arith}
+use Rattle.std.specs.Prelude.{◌||◌, nat_eq, nat_lt, option_map}
+use Rattle.std.proofs.lemmas.Bool.Decides.{nat_tests}
 use Rattle.lift_tree.specs.Tree.{Tree, Variable, Number, Input, Unary, Binary, Select, Let, Map, Fold}
-use Rattle.lift_tree.specs.Renumbering.{up, down, shift, raise, put_variable, put, substitute}
+use Rattle.lift_tree.specs.Renumbering.{up, down, shift, raise, put_variable, put, substitute, mentions}
+use Rattle.lift_tree.proofs.Numbers.{down-before, down-after, unnamed_left, unnamed_right}
+use Rattle.rules_algebra.specs.Layouts.{without}
 use Rattle.copied_arrays.proofs.Shapes.{Shape, Array, nth, HasShape}
 
 -- the shapes that the shifted term sees at its variables are those of the term
@@ -53,37 +56,9 @@ module _ (i : List Shape) where
     h.5,
   )
 
-  has-unshift : (more k : ℕ) (us vs : List Shape) (t : Tree) (a : Shape) → Sees more k us vs → HasShape i us (shift more k t) a → HasShape i vs t a
-  unfolding Sees
-  has-unshift more k us vs (Variable n) a s h = h ∙ s n
-  has-unshift more k us vs (Number n) a s h = h
-  has-unshift more k us vs (Input n) a s h = h
-  has-unshift more k us vs (Unary f t) a s h = (h.0, has-unshift more k us vs t h.0 s h.1, h.2, h.3)
-  has-unshift more k us vs (Binary f t u) a s h = (h.0, h.1, has-unshift more k us vs t h.0 s h.2, has-unshift more k us vs u h.1 s h.3, h.4)
-  has-unshift more k us vs (Select t u v) a s h = (h.0, h.1, h.2, has-unshift more k us vs t h.0 s h.3, has-unshift more k us vs u h.1 s h.4, has-unshift more k us vs v h.2 s h.5, h.6)
-  has-unshift more k us vs (Let v b) a s h = (h.0, has-unshift more k us vs v h.0 s h.1, has-unshift more (suc k) (h.0 ∷ us) (h.0 ∷ vs) b a (sees_under more k h.0 us vs s) h.2)
-  has-unshift more k us vs (Map o xs b) a s h = (
-    h.0,
-    h.1,
-    has-unshift more k us vs xs (Array h.0) s h.2,
-    has-unshift more (suc k) (h.0 ∷ us) (h.0 ∷ vs) b h.1 (sees_under more k h.0 us vs s) h.3,
-    h.4,
-  )
-  has-unshift more k us vs (Fold o xs t b) a s h = (
-    h.0,
-    h.1,
-    has-unshift more k us vs xs (Array h.0) s h.2,
-    has-unshift more k us vs t h.1 s h.3,
-    has-unshift more (suc (suc k)) (h.0 ∷ h.1 ∷ us) (h.0 ∷ h.1 ∷ vs) b h.1 (sees_under more (suc k) h.0 (h.1 ∷ us) (h.1 ∷ vs) (sees_under more k h.1 us vs s)) h.4,
-    h.5,
-  )
-
   -- under one binder more, the second nearest
   pub has-raise : (c b : Shape) (g : List Shape) (t : Tree) (a : Shape) → HasShape i (c ∷ g) t a → HasShape i (c ∷ b ∷ g) (raise 1 t) a
   has-raise c b g t a h = has-shift 1 1 (c ∷ b ∷ g) (c ∷ g) t a (sees_second c b g) h
-
-  pub has-unraise : (c b : Shape) (g : List Shape) (t : Tree) (a : Shape) → HasShape i (c ∷ b ∷ g) (raise 1 t) a → HasShape i (c ∷ g) t a
-  has-unraise c b g t a h = has-unshift 1 1 (c ∷ b ∷ g) (c ∷ g) t a (sees_second c b g) h
 
 -- ---- a value in place of a binder
 abbrev insert_shape : ℕ → Shape → List Shape → List Shape
@@ -131,3 +106,68 @@ module _ (i : List Shape) where
 
   pub has-substitute : (g : List Shape) (body value : Tree) (b a : Shape) → HasShape i g value b → HasShape i (b ∷ g) body a → HasShape i g (substitute body value) a
   has-substitute g body value b a hv hb = has-put 0 b g value body a (omega arith) hv hb
+
+-- ---- a binder that isn't named
+named : (k n : ℕ) → nat_eq n k ≡ false → down k n ≡ None → ⊥
+named k n unnamed e = at (nat_lt n k) refl
+  where
+    at : (b : Bool) → nat_lt n k ≡ b → ⊥
+    at true t = let before : n < k = grind (arith, nat_tests) in let d = down-before k n before in cc
+    at false t =
+        let apart : (n ≡ k → ⊥) = grind (arith, nat_tests) in
+        let not_before : n < k → ⊥ = grind (arith, nat_tests) in
+        let d = down-after k n (omega arith) in
+        cc
+
+module _ (i : List Shape) where
+  has-unnamed : (k : ℕ) (b : Shape) (g : List Shape) (s t : Tree) (a : Shape) → k ≤ length g → mentions k t ≡ false → HasShape i (insert_shape k b g) t a → HasShape i g (put k s t) a
+  has-unnamed k b g s (Variable n) a l m h = go (down k n) refl (h ∙ finds k b g n l)
+    where
+      go : (o : Option ℕ) → down k n ≡ o → a ≡ found b g o → HasShape i g (put_variable k s o) a
+      go None d e = absurd (named k n m d)
+      go (Some j) d e = e
+  has-unnamed k b g s (Number n) a l m h = h
+  has-unnamed k b g s (Input n) a l m h = h
+  has-unnamed k b g s (Unary f t) a l m h = (h.0, has-unnamed k b g s t h.0 l m h.1, h.2, h.3)
+  has-unnamed k b g s (Binary f t u) a l m h = (
+    h.0,
+    h.1,
+    has-unnamed k b g s t h.0 l (unnamed_left (mentions k t) (mentions k u) m) h.2,
+    has-unnamed k b g s u h.1 l (unnamed_right (mentions k t) (mentions k u) m) h.3,
+    h.4,
+  )
+  has-unnamed k b g s (Select t u v) a l m h =
+      let more = unnamed_right (mentions k t) (mentions k u || mentions k v) m in (
+        h.0,
+        h.1,
+        h.2,
+        has-unnamed k b g s t h.0 l (unnamed_left (mentions k t) (mentions k u || mentions k v) m) h.3,
+        has-unnamed k b g s u h.1 l (unnamed_left (mentions k u) (mentions k v) more) h.4,
+        has-unnamed k b g s v h.2 l (unnamed_right (mentions k u) (mentions k v) more) h.5,
+        h.6,
+      )
+  has-unnamed k b g s (Let v t) a l m h = (
+    h.0,
+    has-unnamed k b g s v h.0 l (unnamed_left (mentions k v) (mentions (suc k) t) m) h.1,
+    has-unnamed (suc k) b (h.0 ∷ g) s t a (omega arith) (unnamed_right (mentions k v) (mentions (suc k) t) m) h.2,
+  )
+  has-unnamed k b g s (Map o xs t) a l m h = (
+    h.0,
+    h.1,
+    has-unnamed k b g s xs (Array h.0) l (unnamed_left (mentions k xs) (mentions (suc k) t) m) h.2,
+    has-unnamed (suc k) b (h.0 ∷ g) s t h.1 (omega arith) (unnamed_right (mentions k xs) (mentions (suc k) t) m) h.3,
+    h.4,
+  )
+  has-unnamed k b g s (Fold o xs v t) a l m h =
+      let more = unnamed_right (mentions k xs) (mentions k v || mentions (suc (suc k)) t) m in (
+        h.0,
+        h.1,
+        has-unnamed k b g s xs (Array h.0) l (unnamed_left (mentions k xs) (mentions k v || mentions (suc (suc k)) t) m) h.2,
+        has-unnamed k b g s v h.1 l (unnamed_left (mentions k v) (mentions (suc (suc k)) t) more) h.3,
+        has-unnamed (suc (suc k)) b (h.0 ∷ h.1 ∷ g) s t h.1 (omega arith) (unnamed_right (mentions k v) (mentions (suc (suc k)) t) more) h.4,
+        h.5,
+      )
+
+  -- under one binder fewer, the second nearest
+  pub has-without : (c b : Shape) (g : List Shape) (t : Tree) (a : Shape) → mentions 1 t ≡ false → HasShape i (c ∷ b ∷ g) t a → HasShape i (c ∷ g) (without 1 t) a
+  has-without c b g t a m h = has-unnamed 1 b (c ∷ g) (Number 0) t a (omega arith) m h

@@ -1,6 +1,7 @@
 -- What each row of the table gives has the row's shape.
-use Rattle.std.proofs.Common.{◌≡◌, ◌∙◌, List, length, refl, sym, ap}
-use Rattle.std.specs.Prelude.{◌&&◌, Option, None, Some, Ok}
+use Rattle.std.proofs.Common.{◌≡◌, ◌∙◌, List, length, refl, sym, ap, ap₂}
+use Rattle.std.specs.Prelude.{IsTrue, ◌&&◌, Option, None, Some, Ok}
+use Rattle.std.proofs.lemmas.Bool.{and_parts}
 use Rattle.size_arith.specs.declared.names.Name.{Name}
 use Rattle.size_arith.specs.declared.poly.Monomial.{Monomial}
 use Rattle.size_arith.specs.Polynomial.{minus, plus, times}
@@ -18,8 +19,7 @@ use Rattle.pattern_types.specs.declared.refusal.TypeLimit.TheVariants as limit
 use Rattle.pattern_types.specs.declared.fault.Fault.{Fault}
 use Rattle.pattern_types.specs.Tests.{exact_quotient, is_element, is_same_element}
 use Rattle.pattern_types.specs.Judged.{demand, at_most, counted, within, product_judged, formed, scalars_judged, unary_row, binary_row, split_row, pieces_row, windows_row, number_row, operator_row, zip_row, reduce_row, select_row, element_in, map_end, fold_start, fold_end}
-use Rattle.pattern_types.proofs.Results.{yes, and_ok, demand_ok}
-use Rattle.pattern_types.proofs.Table.{same_element}
+use Rattle.copied_arrays.proofs.Results.{yes, and_ok, demand_ok}
 use Rattle.copied_arrays.proofs.Shapes.{Scalar, Pair, Array, shape, UnaryShape, BinaryShape}
 
 same_ok : (a c : PlainTy) → yes Fault a ≡ Ok c → a ≡ c
@@ -150,7 +150,18 @@ start_is a s x h =
     let q = and_ok (demand (is_element s) rule.Fold) _ x p.2 in
     element_is rule.Fold a p.0 p.1 ∙ ap (λ z. Array (shape z)) (same_ok p.0 x q.2)
 
+same_shape : (a b : PlainTy) → IsTrue (is_same_element a b) → shape b ≡ shape a
+same_shape U32 U32 h = refl
+same_shape U32 (PairOf c d) h = absurd (cc)
+same_shape U32 (ArrayOf c n) h = absurd (cc)
+same_shape (PairOf a b) U32 h = absurd (cc)
+same_shape (PairOf a b) (PairOf c d) h =
+    let p = and_parts (is_same_element a c) (is_same_element b d) h in
+    ap₂ Pair (same_shape a c p.0) (same_shape b d p.1)
+same_shape (PairOf a b) (ArrayOf c n) h = absurd (cc)
+same_shape (ArrayOf a m) b h = absurd (cc)
+
 pub fold_is : (names : List Name) (s b a : PlainTy) → fold_end names s b ≡ Ok a → (shape b ≡ shape s) × (shape a ≡ Array (shape s))
 fold_is names s b a h =
     let p = and_ok (demand (is_same_element s b) rule.Fold) _ a h in
-    (sym (ap shape (same_element s b (demand_ok _ _ p.0 p.1))), formed_is names s a (constant 1) p.2)
+    (same_shape s b (demand_ok _ _ p.0 p.1), formed_is names s a (constant 1) p.2)

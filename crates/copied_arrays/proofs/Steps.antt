@@ -14,7 +14,6 @@ use Rattle.pattern_types.specs.declared.refusal.Rule.TheVariants as rule
 use Rattle.pattern_types.specs.declared.refusal.TypeRefusal.{TypeRefusal}
 use Rattle.pattern_types.specs.Judged.{at_node, demand, here, inputs_judged, judged, output_judged, program_judged}
 use Rattle.pattern_types.specs.Tests.{is_output}
-use Rattle.pattern_types.proofs.Results.{yes, and_ok}
 use Rattle.rewriting.specs.Answers.{Answer, Becomes, NoShape, NoSide}
 use Rattle.rewriting.specs.Around.{Around, around_at}
 use Rattle.strategy_script.specs.declared.rule.Rule.{Rule}
@@ -24,6 +23,7 @@ use Rattle.strategy_script.specs.declared.faults.Fault.{Fault}
 use Rattle.strategy_script.specs.RuleAnswers.{answer}
 use Rattle.strategy_script.specs.Steps.{State, answered, around_whole, at_step, found, limited, rewritten, stepped, terms_from, with_types}
 use Rattle.lowered_tree.specs.Copies.{CopiesArrays}
+use Rattle.copied_arrays.proofs.Results.{yes, and_ok}
 use Rattle.copied_arrays.specs.Laws.{ScriptsCopyArrays}
 use Rattle.copied_arrays.proofs.Shapes.{Shape, shape, HasShape}
 use Rattle.copied_arrays.proofs.Fitting.{Fits, shape_in, agrees, copies_arrays}
