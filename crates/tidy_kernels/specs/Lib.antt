@@ -1,0 +1,3 @@
+pub mod Pass
+pub mod Values
+pub mod Laws
