@@ -21,17 +21,17 @@ use Rattle.group_terms.specs.Origins.{local_count}
 use Rattle.group_terms.specs.Stages.{marks_of}
 use Rattle.group_terms.specs.Uses.{phases_in}
 use Rattle.group_terms.specs.Form.{Used, used_after, IsLocalLoop, IsGroupArgument, IsGroupWritten, IsGroupTurn, IsOverGroups}
-use Rattle.tidy_kernels.specs.Pass.{Tidying, tidied_code}
-use Rattle.tidy_kernels.specs.Values.{AreBelow, KeepsValues}
+use Rattle.tidy_indices.specs.Laws.{AreBelow, Change, KeepsValues}
+use Rattle.tidy_kernels.specs.Pass.{tidied_code}
 use Rattle.tidy_terms.proofs.Statements.{loaded, loop}
 use Rattle.tidy_terms.proofs.Terms.{written}
 use Rattle.tidy_groups.specs.Laws.{TidiedGroupCodesArePrinted, TidiedGroupKernelsArePrinted}
 
-past : (tidy : Tidying) (around : List Formula) (f : Fencing) (before after : Code) → IsPast f before after → IsPast f (tidied_code tidy around before) (tidied_code tidy around after)
+past : (tidy : Change) (around : List Formula) (f : Fencing) (before after : Code) → IsPast f before after → IsPast f (tidied_code tidy around before) (tidied_code tidy around after)
 past tidy around Open before after h = ap (tidied_code tidy around) h
 past tidy around (Fenced on_local on_global) before after h = ap (tidied_code tidy around) h
 
-module _ {A : Type 0} (num : A → ℕ) (l : Launch) (ins : ℕ → Marks) (fence : ℕ → Fencing) (tidy : Tidying) (keeps : KeepsValues l.sizes tidy) where
+module _ {A : Type 0} (num : A → ℕ) (l : Launch) (ins : ℕ → Marks) (fence : ℕ → Fencing) (tidy : Change) (keeps : KeepsValues tidy l.sizes) where
   -- within the loop over groups
   module _ (bound : Formula) (turns : ℕ) (is : bound_value l.sizes bound ≡ Some turns) where
     abbrev around : List Formula
@@ -41,7 +41,7 @@ module _ {A : Type 0} (num : A → ℕ) (l : Launch) (ins : ℕ → Marks) (fenc
     tidied = tidied_code tidy around
 
     below : (i : ℕ) → i < turns → AreBelow l.sizes around (i ∷ [])
-    below i lt = ((turns, is, lt), tt)
+    below i lt = (turns, is, lt, tt)
 
     local_loop : (env : (turn var : ℕ) → Marks) (u : Used) (len : ℕ) (loads : LoadSet) (marks : ℕ → Marks) (b : Term A) (w : ℕ → Marks) (code rest : Code)
         → IsLocalLoop num l ins fence turns env u len loads marks b w code rest → IsLocalLoop num l ins fence turns env u len loads marks b w (tidied code) (tidied rest)

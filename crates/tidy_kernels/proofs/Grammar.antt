@@ -5,8 +5,9 @@ use Rattle.std.proofs.lemmas.Bool.{leb-true, le-leb}
 use Rattle.kernel_tree.specs.Formula.{Formula, Number, Variable, LoopVariable, Size, Id, Binary, Choose}
 use Rattle.kernel_tree.specs.Code.{Array, Input, Output, Local, Private, Code, End, Assigns, Loads, Stores, Loops, Syncs, Kernel}
 use Rattle.kernel_tree.specs.Grammar.{deepest, height, is_constant, names_declared, is_expression, is_readable, is_writable, has_statement, are_statements, are_lengths}
-use Rattle.tidy_kernels.specs.Pass.{Tidying, tidied_code, tidied_kernel}
-use Rattle.tidy_kernels.specs.Laws.{MakesNoLarger, TidiedKernelsAreKernels}
+use Rattle.tidy_indices.specs.Laws.{Change, KeepsSmall}
+use Rattle.tidy_kernels.specs.Pass.{tidied_code, tidied_kernel}
+use Rattle.tidy_kernels.specs.Laws.{TidiedKernelsAreKernels}
 
 both : (a b : Bool) → a ≡ true → b ≡ true → (a && b) ≡ true
 both true b h k = k
@@ -28,7 +29,7 @@ module _ (k m : Kernel) (sizes : k.sizes ≡ m.sizes) (variables : k.variables �
   same_names l (Choose c a b x y) =
       let p = same_names l a in let q = same_names l b in let r = same_names l x in let s = same_names l y in cc
 
-module _ (tidy : Tidying) (k : Kernel) (small : MakesNoLarger tidy) where
+module _ (tidy : Change) (k : Kernel) (small : KeepsSmall tidy) where
   abbrev tidied : Kernel
   tidied = tidied_kernel tidy k
 

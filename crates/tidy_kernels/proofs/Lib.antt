@@ -1,2 +1,3 @@
 mod Grammar
-pub mod Values
+pub mod Blocks
+pub mod Places

@@ -1,3 +1,3 @@
 pub mod Pass
-pub mod Values
+pub mod Places
 pub mod Laws

@@ -9,12 +9,12 @@ use Rattle.printed_form.specs.Counts.{let_variables, load_count}
 use Rattle.printed_form.specs.Marks.{Mark, Nowhere, Register, Spot, Marks, held_marks, loaded_marks}
 use Rattle.printed_form.specs.Expressions.{exprs}
 use Rattle.printed_form.specs.Form.{IsSpot, IsStored, IsLoaded, IsLoop, IsFoldTurn}
-use Rattle.tidy_kernels.specs.Pass.{Tidying, tidied_code}
-use Rattle.tidy_kernels.specs.Values.{AreBelow, KeepsValues}
-use Rattle.tidy_kernels.proofs.Values.{one_more}
+use Rattle.tidy_indices.specs.Laws.{AreBelow, Change, KeepsValues}
+use Rattle.tidy_kernels.specs.Pass.{tidied_code}
+use Rattle.tidy_indices.proofs.Turns.{below_more}
 use Rattle.tidy_terms.proofs.Elements.{reassigned, element}
 
-module _ (l : Launch) (ins : ℕ → Marks) (tidy : Tidying) (keeps : KeepsValues l.sizes tidy) (around : List Formula) (ts : List ℕ) (below : AreBelow l.sizes around ts) where
+module _ (l : Launch) (ins : ℕ → Marks) (tidy : Change) (keeps : KeepsValues tidy l.sizes) (around : List Formula) (ts : List ℕ) (below : AreBelow l.sizes around ts) where
   abbrev tidied : Code → Code
   tidied = tidied_code tidy around
 
@@ -43,7 +43,7 @@ module _ (l : Launch) (ins : ℕ → Marks) (tidy : Tidying) (keeps : KeepsValue
     tidied_code tidy (around ++ h.0 ∷ []) h.1,
     ap tidied h.2,
     keeps (sizes_alone l.sizes) [] [] [] h.0 n refl tt h.3,
-    λ i lt. turn h.0 i h.1 (one_more l.sizes around ts h.0 n i below h.3 lt) (h.4 i lt),
+    λ i lt. turn h.0 i h.1 (below_more l.sizes around ts h.0 n i below h.3 lt) (h.4 i lt),
   )
 
   pub fold_turn : {A : Type 0} → (env : ℕ → Marks) (loads : LoadSet) (ty : Ty) (x : Marks) (acc : ℕ) (b : Term A) (body : Code) → IsFoldTurn l ins ts env loads ty x acc b body → IsFoldTurn l ins ts env loads ty x acc b (tidied body)

@@ -11,12 +11,12 @@ use Rattle.printed_form.specs.Counts.{let_variables, load_count, variable_count,
 use Rattle.printed_form.specs.Marks.{Marks, laid_in, held_marks, loaded_marks}
 use Rattle.printed_form.specs.Expressions.{held, exprs}
 use Rattle.printed_form.specs.Form.{argument_marks, IsLoaded, IsFoldTurn, IsArgumentWork, IsWritten}
-use Rattle.tidy_kernels.specs.Pass.{Tidying, tidied_code}
-use Rattle.tidy_kernels.specs.Values.{AreBelow, KeepsValues}
+use Rattle.tidy_indices.specs.Laws.{AreBelow, Change, KeepsValues}
+use Rattle.tidy_kernels.specs.Pass.{tidied_code}
 use Rattle.tidy_terms.proofs.Elements.{assigned, element}
 use Rattle.tidy_terms.proofs.Statements.{stored, loaded, loop, fold_turn}
 
-module _ {A : Type 0} (l : Launch) (ins : ℕ → Marks) (num : A → ℕ) (tidy : Tidying) (keeps : KeepsValues l.sizes tidy) where
+module _ {A : Type 0} (l : Launch) (ins : ℕ → Marks) (num : A → ℕ) (tidy : Change) (keeps : KeepsValues tidy l.sizes) where
   -- the body of a map, at a turn
   abbrev pub IsTurn : (ts : List ℕ) → (env : ℕ → Marks) → (a n : ℕ) → (loads : LoadSet) → (x w : Marks) → Term A → (i : ℕ) → Code → Type 0
   IsTurn ts env a n loads x w b i body =

@@ -14,13 +14,13 @@ use Rattle.printed_form.specs.Form.{argument_marks}
 use Rattle.printed_form.specs.Whole.{IsOverLaunch, no_marks, output_marks}
 use Rattle.printed_form.specs.Printer.{input_marks}
 use Rattle.printed_form.specs.Programs.{input_shape, first_buffer, lowered_root}
-use Rattle.tidy_kernels.specs.Pass.{Tidying, tidied_code}
-use Rattle.tidy_kernels.specs.Values.{KeepsValues}
+use Rattle.tidy_indices.specs.Laws.{Change, KeepsValues}
+use Rattle.tidy_kernels.specs.Pass.{tidied_code}
 use Rattle.tidy_terms.specs.Laws.{TidiedCodesArePrinted, TidiedKernelsArePrinted}
 use Rattle.tidy_terms.proofs.Statements.{loaded, loop}
 use Rattle.tidy_terms.proofs.Terms.{IsTurn, argument, written}
 
-module _ {A : Type 0} (l : Launch) (ins : ℕ → Marks) (num : A → ℕ) (tidy : Tidying) (keeps : KeepsValues l.sizes tidy) where
+module _ {A : Type 0} (l : Launch) (ins : ℕ → Marks) (num : A → ℕ) (tidy : Change) (keeps : KeepsValues tidy l.sizes) where
   over_launch : (env : ℕ → Marks) (a n : ℕ) (t : Term A) (w : Marks) (code rest : Code)
       → IsOverLaunch l ins num env a n t w code rest → IsOverLaunch l ins num env a n t w (tidied_code tidy [] code) (tidied_code tidy [] rest)
   over_launch env a n (Reshape y t) w code rest h = (h.0, over_launch env a n t (λ cs q. w cs (result_position num y q)) code rest h.1)

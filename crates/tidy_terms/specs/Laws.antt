@@ -10,17 +10,17 @@ use Rattle.lift_ir.specs.Terms.{Term}
 use Rattle.printed_form.specs.Marks.{Marks}
 use Rattle.printed_form.specs.Whole.{IsCode}
 use Rattle.printed_form.specs.Programs.{Prints}
-use Rattle.tidy_kernels.specs.Pass.{Tidying, tidied_code, tidied_kernel}
-use Rattle.tidy_kernels.specs.Values.{KeepsValues}
+use Rattle.tidy_indices.specs.Laws.{Change, KeepsValues}
+use Rattle.tidy_kernels.specs.Pass.{tidied_code, tidied_kernel}
 
 -- of any term, by one work-item or over the launch
 abbrev pub TidiedCodesArePrinted : Type 0 → Type 0
 TidiedCodesArePrinted A =
-    (l : Launch) (ins : ℕ → Marks) (num : A → ℕ) (tidy : Tidying) (t : Term A) (ty : Ty) (code : Code)
-    → KeepsValues l.sizes tidy → IsCode l ins num t ty code → IsCode l ins num t ty (tidied_code tidy [] code)
+    (l : Launch) (ins : ℕ → Marks) (num : A → ℕ) (tidy : Change) (t : Term A) (ty : Ty) (code : Code)
+    → KeepsValues tidy l.sizes → IsCode l ins num t ty code → IsCode l ins num t ty (tidied_code tidy [] code)
 
 -- of a program's typed term
 abbrev pub TidiedKernelsArePrinted : Type 0
 TidiedKernelsArePrinted =
-    (d : Declared) (bases : List ℕ) (t : Tree) (a : Annotation) (l : Launch) (tidy : Tidying) (k : Kernel)
-    → KeepsValues l.sizes tidy → Prints d bases t a l k → Prints d bases t a l (tidied_kernel tidy k)
+    (d : Declared) (bases : List ℕ) (t : Tree) (a : Annotation) (l : Launch) (tidy : Change) (k : Kernel)
+    → KeepsValues tidy l.sizes → Prints d bases t a l k → Prints d bases t a l (tidied_kernel tidy k)
