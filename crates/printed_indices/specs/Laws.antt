@@ -1,5 +1,6 @@
 -- The indices and bounds of the kernels that are printed with lengths as they are spelled, and of those kernels tidied.
-use Rattle.std.specs.Prelude.{◌≡◌, ℕ, true}
+use Rattle.std.specs.Prelude.{◌≡◌, ℕ, true, List}
+use Rattle.size_arith.specs.declared.names.Name.{Name}
 use Rattle.size_arith.specs.Ranges.{AreNames}
 use Rattle.lift_tree.specs.Tree.{Tree}
 use Rattle.lift_tree.specs.Annotations.{Annotation}
@@ -9,6 +10,7 @@ use Rattle.barrier_placement.specs.Fencing.{Fencing}
 use Rattle.length_spelling.specs.Formulas.{length_formula}
 use Rattle.printed_form.specs.Programs.{printed_kernel}
 use Rattle.group_terms.specs.Printer.{printed_group_kernel}
+use Rattle.tidy_indices.specs.Tidy.{tidy_formula}
 use Rattle.tidy_kernels.specs.Pass.{Tidying, tidied_kernel}
 use Rattle.printed_indices.specs.Indices.{EachIndexAndBound, IsDeclaredIndex}
 use Rattle.printed_indices.specs.Tidy.{IsTidyFor, MakesTidy}
@@ -32,3 +34,7 @@ abbrev pub TidiedGroupsAreTidy : Type 0
 TidiedGroupsAreTidy =
     (d : Declared) (fence : ℕ → Fencing) (t : Tree) (a : Annotation) (tidy : Tidying)
     → (let plain = printed_group_kernel (length_formula d.names) fence d t a in AreNames d.names → is_kernel plain ≡ true → MakesTidy d.names tidy → IsTidyFor plain.code (tidied_kernel tidy plain).code)
+
+-- the tidy formulas of the declared sizes are such
+abbrev pub TidyFormulasMakeTidy : Type 0
+TidyFormulasMakeTidy = (names : List Name) → MakesTidy names (tidy_formula names)
