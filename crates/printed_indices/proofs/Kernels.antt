@@ -13,9 +13,9 @@ use Rattle.printed_form.specs.Views.{placed_view}
 use Rattle.printed_form.specs.Printer.{input_views, no_view}
 use Rattle.printed_form.specs.Programs.{first_buffer, input_shape, lowered_root, printed_kernel}
 use Rattle.group_terms.specs.Printer.{printed_group_kernel}
-use Rattle.tidy_indices.specs.Laws.{EachIsIndexFormula}
+use Rattle.tidy_indices.specs.Laws.{Change, EachIsIndexFormula}
 use Rattle.tidy_indices.specs.Reading.{reading}
-use Rattle.tidy_kernels.specs.Pass.{Tidying, tidied_code}
+use Rattle.tidy_kernels.specs.Pass.{tidied_code}
 use Rattle.printed_indices.specs.Indices.{EachIndexAndBound, IsDeclaredIndex}
 use Rattle.printed_indices.specs.Tidy.{IsTidyIndex, IsTidyFor, MakesTidy}
 use Rattle.printed_indices.specs.Laws.{TermsHaveIndexFormulas, GroupsHaveIndexFormulas, TidiedTermsAreTidy, TidiedGroupsAreTidy}
@@ -82,7 +82,7 @@ one_more : (around : List Formula) (b : Formula) (e : Expression) → EachIsInde
 one_more [] b e all h = (read_index b e h, tt)
 one_more (x ∷ xs) b e all h = (all.0, one_more xs b e all.1 h)
 
-module _ (names : List Name) (tidy : Tidying) (makes : MakesTidy names tidy) where
+module _ (names : List Name) (tidy : Change) (makes : MakesTidy names tidy) where
   tidied_index : (around : List Formula) (f : Formula) → EachIsIndexFormula around → IsDeclaredIndex names f → IsTidyIndex f (tidy around f)
   tidied_index around f all h = record {
     expression = h.expression;

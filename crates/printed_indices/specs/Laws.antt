@@ -11,7 +11,8 @@ use Rattle.length_spelling.specs.Formulas.{length_formula}
 use Rattle.printed_form.specs.Programs.{printed_kernel}
 use Rattle.group_terms.specs.Printer.{printed_group_kernel}
 use Rattle.tidy_indices.specs.Tidy.{tidy_formula}
-use Rattle.tidy_kernels.specs.Pass.{Tidying, tidied_kernel}
+use Rattle.tidy_indices.specs.Laws.{Change}
+use Rattle.tidy_kernels.specs.Pass.{tidied_kernel}
 use Rattle.printed_indices.specs.Indices.{EachIndexAndBound, IsDeclaredIndex}
 use Rattle.printed_indices.specs.Tidy.{IsTidyFor, MakesTidy}
 
@@ -27,12 +28,12 @@ GroupsHaveIndexFormulas =
 
 abbrev pub TidiedTermsAreTidy : Type 0
 TidiedTermsAreTidy =
-    (d : Declared) (t : Tree) (a : Annotation) (tidy : Tidying)
+    (d : Declared) (t : Tree) (a : Annotation) (tidy : Change)
     → (let plain = printed_kernel (length_formula d.names) d t a in AreNames d.names → is_kernel plain ≡ true → MakesTidy d.names tidy → IsTidyFor plain.code (tidied_kernel tidy plain).code)
 
 abbrev pub TidiedGroupsAreTidy : Type 0
 TidiedGroupsAreTidy =
-    (d : Declared) (fence : ℕ → Fencing) (t : Tree) (a : Annotation) (tidy : Tidying)
+    (d : Declared) (fence : ℕ → Fencing) (t : Tree) (a : Annotation) (tidy : Change)
     → (let plain = printed_group_kernel (length_formula d.names) fence d t a in AreNames d.names → is_kernel plain ≡ true → MakesTidy d.names tidy → IsTidyFor plain.code (tidied_kernel tidy plain).code)
 
 -- the tidy formulas of the declared sizes are such

@@ -9,8 +9,7 @@ use Rattle.simple_spelling.specs.Formulas.{formula_nodes}
 use Rattle.simple_spelling.specs.Redundant.{IsIrredundant}
 use Rattle.tidy_indices.specs.Reading.{reading, IsIndexFormula}
 use Rattle.tidy_indices.specs.Places.{ranges_outside}
-use Rattle.tidy_indices.specs.Laws.{EachIsIndexFormula}
-use Rattle.tidy_kernels.specs.Pass.{Tidying}
+use Rattle.tidy_indices.specs.Laws.{Change, EachIsIndexFormula}
 
 -- in place of an index or a bound that spells an index expression: no part of it is redundant, and it has no more nodes than that expression counted in short
 pub record IsTidyIndex (plain printed : Formula) : Type 0 where
@@ -30,7 +29,7 @@ IsTidyFor (Syncs l g r) (Syncs m h q) = (l ≡ m) × (g ≡ h) × IsTidyFor r q
 IsTidyFor _ _ = ⊥
 
 -- in loops whose bounds spell index expressions it makes of each such formula one without redundant parts and, where sizes are divided as they are declared, with no more nodes than are counted in short
-pub record MakesTidy (names : List Name) (tidy : Tidying) : Type 0 where
+pub record MakesTidy (names : List Name) (tidy : Change) : Type 0 where
   pub irredundant : (around : List Formula) (f : Formula) → EachIsIndexFormula around → IsIndexFormula f → IsIrredundant (tidy around f)
   pub short :
       (around : List Formula) (f : Formula) (e : Expression) → EachIsIndexFormula around → reading f ≡ Some e → AreDeclared (ranges_outside names) e
