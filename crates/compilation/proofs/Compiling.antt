@@ -22,7 +22,7 @@ use Rattle.program_source.specs.Program.{OnProgram, StopsFor, source_value}
 use Rattle.program_source.specs.SourceTerms.{IsLastTerm}
 use Rattle.program_source.specs.Terms.{TermsOf}
 use Rattle.program_source.proofs.FewNodes.{few_inputs}
-use Rattle.compilation.specs.Compiled.{IsCompiled, IsKernelFor}
+use Rattle.compilation.specs.Compiled.{IsCompiled, IsKernelFor, ServesAtAll}
 use Rattle.compilation.specs.Legal.{CompilesTerm, IsTypedLast, LegalOf}
 use Rattle.compilation.specs.Meets.{Admits, CanBeLaidOut, IsTextFor, LeavesSource, MeetsSource, Starts}
 
@@ -46,6 +46,9 @@ module _ (p : PlainProgram) (s : State) (k : Kernel) (for : IsKernelFor p s k) (
   meets w l c a =
       subst (λ (v : Value). EveryRunKeeps k l c (cell_owner w.bases l s.tree s.types) (lists_of (type_in s.types) v)) (same_value w a.world)
       (for.keeps w l c a.world (launch_of w l c a) (cells_of w l c a))
+
+  pub serve : ServesAtAll p (type_in s.types) s k
+  serve w l c a = for.serve w l c a.world (launch_of w l c a) (cells_of w l c a)
 
 -- a kernel that meets its source leaves its value
 pub leaves : (p : PlainProgram) (output : PlainTy) (s : State) (k : Kernel) → MeetsSource p output s k → LeavesSource p output (is_task s.tree) k
@@ -80,6 +83,7 @@ compiled_found program script t output task text k same alone last compiles for 
       prints = for.prints;
       parameters = starts p (state_of t) k for last.term.keeps;
       meets = meets p (state_of t) k for last.term.keeps;
+      serve = serve p (state_of t) k for last.term.keeps;
     })
 
 -- what a type keeps of it

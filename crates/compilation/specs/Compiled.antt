@@ -1,6 +1,7 @@
 -- A program and a script, compiled.
 use Rattle.std.specs.Prelude.{◌≡◌, ℕ, List, [], Bool, Ok}
 use Rattle.kernel_tree.specs.Code.{Kernel}
+use Rattle.kernel_tree.specs.Device.{Cell}
 use Rattle.kernel_tree.specs.KernelText.{IsKernelText}
 use Rattle.kernel_tree.specs.Launch.{Cells, Launch, MayStart}
 use Rattle.lift_tree.specs.Programs.{PlainProgram}
@@ -18,12 +19,13 @@ use Rattle.nest_premises.specs.declared.kind.NestKind.{NestKind}
 use Rattle.nest_premises.specs.declared.kind.NestKind.TheVariants.{Task, OverLaunch, OverGroups}
 use Rattle.printed_form.specs.Headline.{EveryRunKeeps}
 use Rattle.printed_form.specs.Programs.{AreBuffersOf, IsLaunchOf, Prints, cell_owner}
+use Rattle.group_phases.specs.Outcome.{BarriersServeAll}
 use Rattle.group_terms.specs.Programs.{PrintsGroups}
 use Rattle.rewriting.specs.Keeps.{Keeps}
 use Rattle.strategy_script.specs.Steps.{State}
 use Rattle.program_source.specs.Program.{IsRead}
 use Rattle.compilation.specs.Legal.{LegalOf}
-use Rattle.compilation.specs.Meets.{MeetsSource, Starts}
+use Rattle.compilation.specs.Meets.{Admits, MeetsSource, Starts}
 
 -- the kernel is printed for a term of this kind at a launch
 abbrev pub PrintsAs : NestKind → Declared → List ℕ → Tree → Annotation → Launch → Kernel → Type 0
@@ -44,14 +46,25 @@ abbrev pub KeepsTerm : PlainProgram → State → Kernel → Type 0
 KeepsTerm p s k = (w : World) (l : Launch) (c : Cells) → IsAdmissible (declared_by p) w → IsLaunchOf (declared_by p) (is_task s.tree) w.bases l → AreBuffersOf (declared_by p) w s.tree s.types c
     → EveryRunKeeps k l c (cell_owner w.bases l s.tree s.types) (lists_of (type_in s.types) (meaning w [] s.tree))
 
+-- and its barriers serve in every run there: the items of a group meet the same barriers with the same turn numbers, and between two releases with the local flag each cell of a local array that is written is one item's
+abbrev pub ServesTerm : PlainProgram → State → Kernel → Type 0
+ServesTerm p s k = (w : World) (l : Launch) (c : Cells) → IsAdmissible (declared_by p) w → IsLaunchOf (declared_by p) (is_task s.tree) w.bases l → AreBuffersOf (declared_by p) w s.tree s.types c
+    → (filler : Cell → ℕ) × BarriersServeAll k l c filler
+
+-- so at every launch and on all cells at which the program may run
+abbrev pub ServesAtAll : PlainProgram → (output : PlainTy) → (last : State) → Kernel → Type 0
+ServesAtAll p output last k = (w : World) (l : Launch) (c : Cells) → Admits p output (is_task last.tree) w l c
+    → (filler : Cell → ℕ) × BarriersServeAll k l c filler
+
 -- the kernel is the term's: printed for it, with its value, in as many lists as its type has
 pub record IsKernelFor (p : PlainProgram) (s : State) (k : Kernel) : Type 0 where
   pub prints : PrintsAtAll p s k
   pub starts : StartsTerm p s k
   pub keeps : KeepsTerm p s k
+  pub serve : ServesTerm p s k
   pub outputs : k.outputs ≡ width (shape_of (type_in s.types))
 
--- The text is that of a kernel of the grammar, which is printed for the script's last term: a legal one, of the program's type and value. Its parameters are the launch's buffers and sizes in order; and at every admissible launch, on all inputs, whatever other memory holds, every run of it has no fault and at most the bound's events, writes each output cell at most once, by its owner, and can stop only with the program's value, which is of the output's type.
+-- The text is that of a kernel of the grammar, which is printed for the script's last term: a legal one, of the program's type and value. Its parameters are the launch's buffers and sizes in order; and at every admissible launch, on all inputs, whatever other memory holds, every run of it has no fault and at most the bound's events, writes each output cell at most once, by its owner, and can stop only with the program's value, which is of the output's type. The items of a group meet the same barriers with the same turn numbers, and between them use local arrays apart.
 pub record IsCompiled (program script : List ℕ) (p : PlainProgram) (output : PlainTy) (task : Bool) (text : List ℕ) : Type 0 where
   pub read : IsRead program p
   pub typed : HasOutput p p.body output
@@ -64,3 +77,4 @@ pub record IsCompiled (program script : List ℕ) (p : PlainProgram) (output : P
   pub prints : PrintsAtAll p last kernel
   pub parameters : Starts p output (is_task last.tree) kernel
   pub meets : MeetsSource p output last kernel
+  pub serve : ServesAtAll p output last kernel

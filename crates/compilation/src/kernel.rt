@@ -13,6 +13,7 @@ ghost use Rattle.compilation.specs.Legal.{CompilesTerm, IsAccepted, IsLoweredOf,
 ghost use Rattle.compilation.specs.Meets.{CanBeLaidOut};
 
 use crate::legal::{buffered, judge_printed, mapped};
+use barrier_free::laws::printed_programs_serve;
 use fault_lines::Refusal;
 use group_emit::kernel::emit_groups;
 use group_premises::laws::legal_groups_stand_over_groups;
@@ -32,7 +33,7 @@ use nest_premises::steps::has_word_steps;
 use phase_plan::needed_barriers;
 use printable_groups::laws::{
     group_terms_are_printed, legal_group_kernels_are_in_the_grammar, legal_groups_keep,
-    legal_groups_start,
+    legal_groups_serve, legal_groups_start,
 };
 use printable_terms::laws::{kernels_are_in_the_grammar, terms_are_printed};
 use printed_form::laws::{printed_programs_keep, printed_programs_start};
@@ -61,6 +62,7 @@ fn item_kernel(alloc: Global, last: &Typed, lowered: &Lowered) -> Result<Kernel,
     least_sizes_are_admissible();
     lowered_terms_serve();
     printed_programs_keep();
+    printed_programs_serve();
     printed_programs_start();
     terms_are_printed();
     terms_can_be_written();
@@ -83,6 +85,7 @@ fn group_kernel(alloc: Global, last: &Typed, lowered: &Lowered) -> Result<Kernel
     least_sizes_are_admissible();
     legal_group_kernels_are_in_the_grammar();
     legal_groups_keep();
+    legal_groups_serve();
     legal_groups_stand_over_groups();
     legal_groups_start();
     lowered_terms_serve();

@@ -6,4 +6,6 @@ mod rows;
 #[cfg(test)]
 mod spelled;
 #[cfg(test)]
+mod tidied;
+#[cfg(test)]
 mod trees;

@@ -32,7 +32,8 @@ pub fn index_of(alloc: Global, tree: &Tree) -> Result<Index, AllocError> {
     }
 }
 
-fn text(alloc: Global, index: &Index) -> Result<String, AllocError> {
+/// The text of an expression.
+pub fn text(alloc: Global, index: &Index) -> Result<String, AllocError> {
     match index {
         Index::Variable { number, .. } => format!(in alloc; "i{number}"),
         Index::Literal(n) => format!(in alloc; "{n}"),

@@ -4,9 +4,9 @@ use Rattle.length_spelling.specs.Formulas.{length_formula}
 use Rattle.length_spelling.specs.Laws.{LengthsAreSpelled}
 use Rattle.printable_terms.proofs.Printed.{spelling}
 use Rattle.group_terms.specs.Printer.{GroupProgramsArePrinted}
-use Rattle.group_terms.specs.Programs.{PrintedGroupProgramsKeep, PrintedGroupProgramsStart}
+use Rattle.group_terms.specs.Programs.{PrintedGroupProgramsKeep, PrintedGroupProgramsServe, PrintedGroupProgramsStart}
 use Rattle.group_premises.specs.Laws.{LegalGroupsStandOverGroups}
-use Rattle.printable_groups.specs.Laws.{kernel_of_groups, GroupTermsArePrinted, LegalGroupsKeep, LegalGroupsStart}
+use Rattle.printable_groups.specs.Laws.{kernel_of_groups, GroupTermsArePrinted, LegalGroupsKeep, LegalGroupsServe, LegalGroupsStart}
 
 pub group_terms_are_printed : LengthsAreSpelled → GroupProgramsArePrinted → GroupTermsArePrinted
 group_terms_are_printed spelled printed d bases fence t n l printable launch needed =
@@ -19,6 +19,12 @@ legal_groups_keep stand printed keep p fence w t n l c legal copies kind needed 
     let d = declared_by p in
     let printable = stand p t n legal copies kind in
     keep d _ w t n l (kernel_of_groups d fence t n) c (printable.program w.bases launch.admissible.sizes) admissible launch buffers (printed d w.bases fence t n l printable launch needed)
+
+pub legal_groups_serve : LegalGroupsStandOverGroups → GroupTermsArePrinted → PrintedGroupProgramsServe → LegalGroupsServe
+legal_groups_serve stand printed serve p fence w t n l c legal copies kind needed admissible launch buffers =
+    let d = declared_by p in
+    let printable = stand p t n legal copies kind in
+    serve d _ w t n l (kernel_of_groups d fence t n) c (printable.program w.bases launch.admissible.sizes) admissible launch buffers (printed d w.bases fence t n l printable launch needed)
 
 pub legal_groups_start : LegalGroupsStandOverGroups → GroupTermsArePrinted → PrintedGroupProgramsStart → LegalGroupsStart
 legal_groups_start stand printed start p fence w t n l c legal copies kind needed admissible launch buffers =

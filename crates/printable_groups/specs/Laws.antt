@@ -8,6 +8,7 @@ use Rattle.lift_tree.specs.Programs.{PlainProgram}
 use Rattle.lift_tree.specs.Annotations.{Annotation, Annotates, type_in}
 use Rattle.lift_tree.specs.Meaning.{World, meaning}
 use Rattle.kernel_tree.specs.Code.{Kernel}
+use Rattle.kernel_tree.specs.Device.{Cell}
 use Rattle.kernel_tree.specs.Grammar.{is_kernel}
 use Rattle.kernel_tree.specs.Launch.{Launch, Cells, MayStart}
 use Rattle.barrier_placement.specs.Fencing.{Fencing}
@@ -27,6 +28,7 @@ use Rattle.lowered_tree.specs.Copies.{CopiesArrays}
 use Rattle.nest_premises.specs.Legal.{IsLegalTerm}
 use Rattle.nest_premises.specs.Kind.{nest_kind}
 use Rattle.nest_premises.specs.declared.kind.NestKind.TheVariants.{OverGroups}
+use Rattle.group_phases.specs.Outcome.{BarriersServeAll}
 use Rattle.group_terms.specs.Forms.{StandsOverGroups}
 use Rattle.group_terms.specs.Programs.{PrintsGroups}
 use Rattle.group_terms.specs.Uses.{phase_count, group_touches}
@@ -75,6 +77,14 @@ LegalGroupsKeep =
     → IsLegalTerm p t n → CopiesArrays t n → nest_kind t ≡ OverGroups → AreNeeded fence t n
     → IsAdmissible (declared_by p) w → IsLaunchOf (declared_by p) (is_task t) w.bases l → AreBuffersOf (declared_by p) w t n c
     → EveryRunKeeps (kernel_of_groups (declared_by p) fence t n) l c (cell_owner w.bases l t n) (lists_of (type_in n) (meaning w [] t))
+
+-- and its barriers serve there: the items of a group meet the same ones, between which each cell of a local array that is written is one item's
+abbrev pub LegalGroupsServe : Type 0
+LegalGroupsServe =
+    (p : PlainProgram) (fence : ℕ → Fencing) (w : World) (t : Tree) (n : Annotation) (l : Launch) (c : Cells)
+    → IsLegalTerm p t n → CopiesArrays t n → nest_kind t ≡ OverGroups → AreNeeded fence t n
+    → IsAdmissible (declared_by p) w → IsLaunchOf (declared_by p) (is_task t) w.bases l → AreBuffersOf (declared_by p) w t n c
+    → (filler : Cell → ℕ) × BarriersServeAll (kernel_of_groups (declared_by p) fence t n) l c filler
 
 -- and it may be started there
 abbrev pub LegalGroupsStart : Type 0

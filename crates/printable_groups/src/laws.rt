@@ -2,7 +2,7 @@
 
 ghost use Rattle.size_arith.specs.declared.poly.Monomial.{Monomial};
 ghost use Rattle.std.specs.Prelude.{List};
-ghost use Rattle.printable_groups.specs.Laws.{GroupKernelsAreInTheGrammar, GroupsCanBeWritten, GroupTermsArePrinted, LegalGroupKernelsAreInTheGrammar, LegalGroupsKeep, LegalGroupsStart};
+ghost use Rattle.printable_groups.specs.Laws.{GroupKernelsAreInTheGrammar, GroupsCanBeWritten, GroupTermsArePrinted, LegalGroupKernelsAreInTheGrammar, LegalGroupsKeep, LegalGroupsServe, LegalGroupsStart};
 
 use group_grammar::laws::{group_kernels_are_of_the_grammar, needed_are_flagged};
 use group_premises::laws::legal_groups_stand_over_groups;
@@ -57,6 +57,16 @@ pub fn legal_group_kernels_are_in_the_grammar()
 /// the kernel owes, with the source value.
 pub fn legal_groups_keep()
     ensures { LegalGroupsKeep }
+{
+    legal_groups_stand_over_groups();
+    group_terms_are_printed();
+    printed_group_programs_keep();
+}
+
+/// And its barriers serve there: the items of a group meet the same barriers with the same turn
+/// numbers, between which local arrays are used apart.
+pub fn legal_groups_serve()
+    ensures { LegalGroupsServe }
 {
     legal_groups_stand_over_groups();
     group_terms_are_printed();

@@ -37,5 +37,5 @@ returns c =
     (λ k h.
     groups_for last low c.requires.lowered (term_of c.in_ok-root.root) c.in_ok-root.ensures c.requires.accepted c.requires.kind
     barriers c.in_ok-barriers.barriers.items c.deref.ensures.value c.in_ok-barriers.ensures.needed (kernel_of k)
-    c.legal_groups_stand_over_groups.ensures c.group_terms_are_printed.ensures c.legal_groups_start.ensures c.legal_groups_keep.ensures h)
+    c.legal_groups_stand_over_groups.ensures c.group_terms_are_printed.ensures c.legal_groups_start.ensures c.legal_groups_keep.ensures c.legal_groups_serve.ensures h)
     c.emit_groups.ensures

@@ -28,6 +28,6 @@ returns c =
     let printable = c.ungrouped_terms_are_printable.ensures (program_of last.program) t n accepted.legal accepted.copies c.requires.kind in
     IfOk-weaker c.emit.result _ _
     (λ k h.
-    for_items (program_of last.program) (state_of last) (kernel_of k) printable c.requires.kind c.terms_are_printed.ensures c.printed_programs_start.ensures c.printed_programs_keep.ensures
+    for_items (program_of last.program) (state_of last) (kernel_of k) printable c.requires.kind c.terms_are_printed.ensures c.printed_programs_start.ensures c.printed_programs_keep.ensures c.printed_programs_serve.ensures
     (kernel_lowered last c.args.lowered.now c.requires.lowered (kernel_of k) h))
     c.emit.ensures

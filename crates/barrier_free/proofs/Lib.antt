@@ -1,0 +1,4 @@
+mod Copies
+mod Accesses
+mod Waits
+mod Theorem

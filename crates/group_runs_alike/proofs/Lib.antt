@@ -1,0 +1,6 @@
+mod Matches
+mod Wants
+mod Runs
+mod Ends
+mod Codes
+mod Theorem

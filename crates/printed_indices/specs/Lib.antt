@@ -1,0 +1,4 @@
+pub mod Indices
+pub mod Tidy
+pub mod Laws
+pub mod Worked

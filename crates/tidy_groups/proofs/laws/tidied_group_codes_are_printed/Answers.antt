@@ -1,0 +1,5 @@
+use Rattle.tidy_groups.proofs.Groups.{code_is}
+use Rattle.tidy_groups.proofs.laws.tidied_group_codes_are_printed.Goals as goal
+
+pub returns : goal.returns
+returns c = code_is

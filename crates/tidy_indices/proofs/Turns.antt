@@ -1,0 +1,239 @@
+-- What is known at a place holds at the turns of the loops around.
+use Rattle.std.proofs.Common.{◌≡◌, ℕ, zero, suc, pos, ◌-◌, ◌*◌, ◌%◌, ◌^◌, ◌<◌, ◌≤◌, true, Option, Some, None, List, [], ◌∷◌, ◌++◌, refl, sym, ap, ◌∙◌, subst, arith}
+use Rattle.std.specs.Prelude.{◌<ℤ◌, map, slice_get, slice_index, unsigned_abs}
+use Rattle.std.proofs.Math.Nat.{mod-eq_of_lt, mul-mod_right}
+use Rattle.std.proofs.lemmas.Int.{ints}
+use Rattle.std.proofs.lemmas.List.{append-nil}
+use Rattle.size_arith.specs.declared.names.Name.{Name}
+use Rattle.size_arith.specs.Ranges.{AreNames, Admissible, sizes_at}
+use Rattle.index_expr.specs.declared.operation.Operation.{Operation}
+use Rattle.index_expr.specs.Expression as index
+use Rattle.index_expr.specs.Expression.{Expression}
+use Rattle.index_expr.specs.Values.{operate, exact, wrapped}
+use Rattle.index_expr.proofs.Words.{ranged_is_exact, ranged_divisors}
+use Rattle.kernel_tree.specs.Formula.{Formula, Ids, value, bound_value, sizes_alone}
+use Rattle.length_spelling.specs.Formulas.{in_words, index_formula}
+use Rattle.length_spelling.specs.Laws.{AreWords}
+use Rattle.length_spelling.proofs.Values.{indices_are_spelled}
+use Rattle.index_simplify.specs.Operations.{simple}
+use Rattle.index_simplify.specs.Ranges.{AreMultiples, AreBelowLengths}
+use Rattle.index_simplify.specs.Simplified.{HasWordLiterals}
+use Rattle.index_simplify.proofs.Operations.{simple_is_simplified}
+use Rattle.tidy_indices.specs.declared.spans.Span.{Span}
+use Rattle.tidy_indices.specs.Reading.{reading}
+use Rattle.tidy_indices.specs.Spans.{from_to, operated_on, span_of}
+use Rattle.tidy_indices.specs.Places.{PlainPlace, ranges_outside, without_loops, beyond_words, in_loop_of, in_loop, inside, inside_all, place_of}
+use Rattle.tidy_indices.specs.Laws.{AreBelow}
+use Rattle.tidy_indices.proofs.Readings.{AreWide, is_read}
+use Rattle.tidy_indices.proofs.Worths.{word_of}
+use Rattle.tidy_indices.proofs.Intervals.{IsIn, AreSizesOf, AreUpTo, IsShown, is_shown, is_ranged}
+
+-- ---- lists of bounds and turns
+pub below_more : (sizes : List ℕ) (bounds : List Formula) (turns : List ℕ) (b : Formula) (n t : ℕ) → AreBelow sizes bounds turns → bound_value sizes b ≡ Some n → t < n → AreBelow sizes (bounds ++ b ∷ []) (turns ++ t ∷ [])
+below_more sizes [] [] b n t h e lt = (n, e, lt, tt)
+below_more sizes [] (u ∷ turns) b n t h e lt = absurd h
+below_more sizes (c ∷ bounds) [] b n t h e lt = absurd h
+below_more sizes (c ∷ bounds) (u ∷ turns) b n t h e lt = (h.0, h.1, h.2, below_more sizes bounds turns b n t h.3 e lt)
+
+inside_more : (p : PlainPlace) (bounds : List Formula) (b : Formula) → inside_all p (bounds ++ b ∷ []) ≡ inside (inside_all p bounds) b
+inside_more p [] b = refl
+inside_more p (c ∷ bounds) b = inside_more (inside p c) bounds b
+
+pub inside_last : (names : List Name) (bounds : List Formula) (b : Formula) → place_of names (bounds ++ b ∷ []) ≡ inside (place_of names bounds) b
+inside_last names bounds b = inside_more _ bounds b
+
+-- ---- what is known of sizes stays
+pub record IsOf (names : List Name) (p : PlainPlace) : Type 0 where
+  pub sizes : p.sizes ≡ names
+  pub multiples : p.around.multiples ≡ map (λ n. n.multiple) names
+
+loop_is_of : (names : List Name) (p : PlainPlace) (e : Expression) (s : Option Span) → IsOf names p → IsOf names (in_loop_of p e s)
+loop_is_of names p e (Some s) h = record { sizes = h.sizes; multiples = h.multiples }
+loop_is_of names p e None h = record { sizes = h.sizes; multiples = h.multiples }
+
+in_is_of : (names : List Name) (p : PlainPlace) (e : Option Expression) → IsOf names p → IsOf names (in_loop p e)
+in_is_of names p (Some e) h = loop_is_of names p e (span_of p.sizes [] e) h
+in_is_of names p None h = record { sizes = h.sizes; multiples = h.multiples }
+
+all_are_of : (names : List Name) (p : PlainPlace) (bounds : List Formula) → IsOf names p → IsOf names (inside_all p bounds)
+all_are_of names p [] h = h
+all_are_of names p (b ∷ bounds) h = all_are_of names (inside p b) bounds (in_is_of names p (reading b) h)
+
+pub place_is_of : (names : List Name) (bounds : List Formula) → IsOf names (place_of names bounds)
+place_is_of names bounds = all_are_of names _ bounds (record { sizes = refl; multiples = refl })
+
+-- ---- sizes at admissible values
+pub sizes_fit : (names : List Name) (bases : List ℕ) → AreNames names → Admissible names bases → AreWords (sizes_at names bases)
+sizes_fit [] bases are ok k = omega arith
+sizes_fit (n ∷ names) [] are ok k = absurd ok
+sizes_fit (n ∷ names) (y ∷ bases) are ok zero = let l = are.0.limit in let m = ok.0.1 in omega arith
+sizes_fit (n ∷ names) (y ∷ bases) are ok (suc k) = sizes_fit names bases are.1 ok.1 k
+
+pub sizes_within : (names : List Name) (bases : List ℕ) → AreNames names → Admissible names bases → AreSizesOf names (sizes_at names bases)
+sizes_within [] bases are ok k n h = absurd (cc h)
+sizes_within (m ∷ names) [] are ok k n h = absurd ok
+sizes_within (m ∷ names) (y ∷ bases) are ok zero n h =
+    let same : m ≡ n = cc h in
+    subst (λ z. IsIn (from_to z.from z.to) (m.multiple * y)) same (record { above = ok.0.0; below = ok.0.1; fits = let l = are.0.limit in omega arith })
+sizes_within (m ∷ names) (y ∷ bases) are ok (suc k) n h = sizes_within names bases are.1 ok.1 k n h
+
+pub sizes_divide : (names : List Name) (bases : List ℕ) → Admissible names bases → AreMultiples (ranges_outside names) (sizes_at names bases)
+sizes_divide [] bases ok k m h = absurd (cc h)
+sizes_divide (n ∷ names) [] ok k m h = absurd ok
+sizes_divide (n ∷ names) (y ∷ bases) ok zero m h =
+    let same : n.multiple ≡ m = cc h in
+    subst (λ z. (n.multiple * y) % z ≡ 0) same (mul-mod_right n.multiple y)
+sizes_divide (n ∷ names) (y ∷ bases) ok (suc k) m h = sizes_divide names bases ok.1 k m h
+
+-- ---- an expression that has a span is worth what it is exactly
+of_words : (e : Expression) → HasWordLiterals e → in_words e ≡ e
+of_words (index.Variable k l g) h = refl
+of_words (index.Literal n) h = ap index.Literal (mod-eq_of_lt h)
+of_words (index.Size k) h = refl
+of_words (index.Binary o a b) h = ap (λ x. index.Binary o x (in_words b)) (of_words a h.0) ∙ ap (index.Binary o a) (of_words b h.1)
+
+pub shown_value : (names : List Name) (ids : Ids) (lasts turns variables : List ℕ) (sizes_are : AreSizesOf names ids.sizes) (turns_are : AreUpTo lasts turns) (e : Expression) (s : Span)
+    → AreWords ids.sizes → AreWords turns → HasWordLiterals e → (h : IsShown names ids.sizes lasts turns sizes_are turns_are e s)
+    → value ids turns variables (index_formula e) ≡ Some h.at
+shown_value names ids lasts turns variables sizes_are turns_are e s fit turns_fit lits h =
+    let fine = is_ranged names ids.sizes lasts turns sizes_are turns_are e s h in
+    let some = indices_are_spelled ids turns variables e fit turns_fit (ranged_divisors ids.sizes turns e fine h.divisors) in
+    let same : pos (wrapped ids.sizes turns e) ≡ pos h.at = ranged_is_exact ids.sizes turns e fine ∙ h.exact_is in
+    ap (λ f. value ids turns variables (index_formula f)) (sym (of_words e lits)) ∙ some ∙ ap (λ z. Some (unsigned_abs z)) same
+
+no_turns : (o : Operation) (p q : Option Span) (s : Span) → operated_on o p q ≡ Some s → ((t : Span) × (p ≡ Some t)) × ((t : Span) × (q ≡ Some t))
+no_turns o (Some p) (Some q) s h = ((p, refl), (q, refl))
+no_turns o (Some p) None s h = absurd (cc h)
+no_turns o None q s h = absurd (cc h)
+
+-- without loops it names no variable
+same_turns : (names : List Name) (sizes turns others : List ℕ) (e : Expression) (s : Span) → span_of names [] e ≡ Some s → exact sizes turns e ≡ exact sizes others e
+same_turns names sizes turns others (index.Variable k l g) s h = absurd (cc h)
+same_turns names sizes turns others (index.Literal n) s h = refl
+same_turns names sizes turns others (index.Size k) s h = refl
+same_turns names sizes turns others (index.Binary o a b) s h =
+    let p = no_turns o (span_of names [] a) (span_of names [] b) s h in
+    ap (λ z. operate o z (exact sizes turns b)) (same_turns names sizes turns others a p.0.0 p.0.1)
+    ∙ ap (operate o (exact sizes others a)) (same_turns names sizes turns others b p.1.0 p.1.1)
+
+-- ---- the turns of loops
+module _ (names : List Name) (sizes : List ℕ) (fit : AreWords sizes) (sizes_are : AreSizesOf names sizes) (all : AreMultiples (ranges_outside names) sizes) where
+  -- a turn is below the loop's length, which is so long whatever the turns
+  pub record IsTurn (n : Expression) (g t : ℕ) : Type 0 where
+    pub count : ℕ
+    pub length_is : (turns : List ℕ) → AreWords turns → exact sizes turns n ≡ pos count
+    pub below : t < count
+    pub last : t ≤ g
+    pub fits : g < 2 ^ 32
+
+  abbrev pub AreTurns : List Expression → List ℕ → List ℕ → Type 0
+  AreTurns [] [] [] = Unit {0}
+  AreTurns (n ∷ ns) (g ∷ gs) (t ∷ ts) = IsTurn n g t × AreTurns ns gs ts
+  AreTurns _ _ _ = ⊥
+
+  one_more : (ns : List Expression) (gs ts : List ℕ) (n : Expression) (g t : ℕ) → AreTurns ns gs ts → IsTurn n g t → AreTurns (ns ++ n ∷ []) (gs ++ g ∷ []) (ts ++ t ∷ [])
+  one_more [] [] [] n g t h x = (x, tt)
+  one_more [] [] (u ∷ ts) n g t h x = absurd h
+  one_more [] (v ∷ gs) ts n g t h x = absurd h
+  one_more (m ∷ ns) [] ts n g t h x = absurd h
+  one_more (m ∷ ns) (v ∷ gs) [] n g t h x = absurd h
+  one_more (m ∷ ns) (v ∷ gs) (u ∷ ts) n g t h x = (h.0, one_more ns gs ts n g t h.1 x)
+
+  pub turns_fit : (ns : List Expression) (gs ts : List ℕ) → AreTurns ns gs ts → AreWords ts
+  turns_fit [] [] [] h k = omega arith
+  turns_fit [] [] (u ∷ ts) h k = absurd h
+  turns_fit [] (v ∷ gs) ts h k = absurd h
+  turns_fit (m ∷ ns) [] ts h k = absurd h
+  turns_fit (m ∷ ns) (v ∷ gs) [] h k = absurd h
+  turns_fit (m ∷ ns) (v ∷ gs) (u ∷ ts) h zero = let e = h.0.last in let f = h.0.fits in omega arith
+  turns_fit (m ∷ ns) (v ∷ gs) (u ∷ ts) h (suc k) = turns_fit ns gs ts h.1 k
+
+  pub turns_up_to : (ns : List Expression) (gs ts : List ℕ) → AreTurns ns gs ts → AreUpTo gs ts
+  turns_up_to [] [] [] h k g e = absurd (cc e)
+  turns_up_to [] [] (u ∷ ts) h k g e = absurd h
+  turns_up_to [] (v ∷ gs) ts h k g e = absurd h
+  turns_up_to (m ∷ ns) [] ts h k g e = absurd h
+  turns_up_to (m ∷ ns) (v ∷ gs) [] h k g e = absurd h
+  turns_up_to (m ∷ ns) (v ∷ gs) (u ∷ ts) h zero g e =
+      let same : v ≡ g = cc e in
+      subst (λ z. IsIn (from_to 0 z) u) same (record { above = omega arith; below = h.0.last; fits = h.0.fits })
+  turns_up_to (m ∷ ns) (v ∷ gs) (u ∷ ts) h (suc k) g e = turns_up_to ns gs ts h.1 k g e
+
+  below_lengths : (whole : List ℕ) → AreWords whole → (ns : List Expression) (gs ts : List ℕ) → AreTurns ns gs ts → (k : ℕ) (n : Expression) → slice_get ns k ≡ Some n → pos (slice_index ts k) <ℤ exact sizes whole n
+  below_lengths whole words [] [] [] h k n e = absurd (cc e)
+  below_lengths whole words [] [] (u ∷ ts) h k n e = absurd h
+  below_lengths whole words [] (v ∷ gs) ts h k n e = absurd h
+  below_lengths whole words (m ∷ ns) [] ts h k n e = absurd h
+  below_lengths whole words (m ∷ ns) (v ∷ gs) [] h k n e = absurd h
+  below_lengths whole words (m ∷ ns) (v ∷ gs) (u ∷ ts) h zero n e =
+      let same : m ≡ n = cc e in
+      let is = h.0.length_is whole words in
+      let lt = h.0.below in
+      subst (λ z. pos u <ℤ exact sizes whole z) same (subst (λ z. pos u <ℤ z) (sym is) (omega (arith, ints)))
+  below_lengths whole words (m ∷ ns) (v ∷ gs) (u ∷ ts) h (suc k) n e = below_lengths whole words ns gs ts h.1 k n e
+
+  pub are_below_lengths : (p : PlainPlace) (turns : List ℕ) → AreTurns p.around.lengths p.lasts turns → AreBelowLengths p.around sizes turns
+  are_below_lengths p turns h = below_lengths turns (turns_fit p.around.lengths p.lasts turns h) p.around.lengths p.lasts turns h
+
+  -- what is known at a place holds at these turns
+  pub record Holds (p : PlainPlace) (turns : List ℕ) : Type 0 where
+    pub is_of : IsOf names p
+    pub loops : p.is_known ≡ true → AreTurns p.around.lengths p.lasts turns
+
+  pub multiples_at : (p : PlainPlace) → IsOf names p → AreMultiples (without_loops p.around) sizes
+  multiples_at p h = subst (λ ms. AreMultiples (record { lengths = []; multiples = ms }) sizes) (sym h.multiples) all
+
+  no_words : AreWords []
+  no_words k = omega arith
+
+  -- the turn of a loop whose bound has a span
+  shown_turn : (p : PlainPlace) (e : Expression) (s : Span) (n t : ℕ) → IsOf names p → HasWordLiterals e → AreWide e → span_of names [] e ≡ Some s → value (sizes_alone sizes) [] [] (index_formula e) ≡ Some n → t < n → IsTurn (simple (without_loops p.around) e) (s.greatest - 1) t
+  shown_turn p e s n t is_of lits wide h w lt =
+      let shown = is_shown names sizes [] [] sizes_are (λ k g f. absurd (cc f)) e s lits h in
+      let same : n ≡ shown.at = (let both : Some n ≡ Some shown.at = sym w ∙ shown_value names (sizes_alone sizes) [] [] [] sizes_are (λ k g f. absurd (cc f)) e s fit no_words lits shown in cc both) in
+      let below = shown.within.below in
+      let fits = shown.within.fits in
+      record {
+        count = n;
+        length_is = λ turns words.
+            ((simple_is_simplified (without_loops p.around) e).stands sizes turns (record { loops = λ k m f. absurd (cc f); multiples = multiples_at p is_of; own = wide turns words })).value
+            ∙ same_turns names sizes turns [] e s h ∙ shown.exact_is ∙ ap pos (sym same);
+        below = lt;
+        last = omega arith;
+        fits = omega arith;
+      }
+
+  -- and of one whose bound may wrap
+  word_turn : (p : PlainPlace) (e : Expression) (n t : ℕ) → IsOf names p → HasWordLiterals e → value (sizes_alone sizes) [] [] (index_formula e) ≡ Some n → t < n → IsTurn beyond_words 4294967295 t
+  word_turn p e n t is_of lits w lt =
+      let word = word_of p.around.multiples (sizes_alone sizes) [] [] fit no_words (multiples_at p is_of) e n lits w in
+      record { count = 4294967296; length_is = λ turns words. refl; below = omega arith; last = omega arith; fits = omega arith }
+
+  loop_holds : (p : PlainPlace) (us : List ℕ) (e : Expression) (n t : ℕ) → Holds p us → HasWordLiterals e → AreWide e → value (sizes_alone sizes) [] [] (index_formula e) ≡ Some n → t < n → (s : Option Span) → span_of p.sizes [] e ≡ s → Holds (in_loop_of p e s) (us ++ t ∷ [])
+  loop_holds p us e n t h lits wide w lt (Some s) f =
+      let turn = shown_turn p e s n t h.is_of lits wide (ap (λ z. span_of z [] e) (sym h.is_of.sizes) ∙ f) w lt in
+      record { is_of = loop_is_of names p e (Some s) h.is_of; loops = λ known. one_more p.around.lengths p.lasts us (simple (without_loops p.around) e) (s.greatest - 1) t (h.loops known) turn }
+  loop_holds p us e n t h lits wide w lt None f =
+      let turn = word_turn p e n t h.is_of lits w lt in
+      record { is_of = loop_is_of names p e None h.is_of; loops = λ known. one_more p.around.lengths p.lasts us beyond_words 4294967295 t (h.loops known) turn }
+
+  in_holds : (p : PlainPlace) (us : List ℕ) (b : Formula) (n t : ℕ) → Holds p us → bound_value sizes b ≡ Some n → t < n → (e : Option Expression) → reading b ≡ e → Holds (in_loop p e) (us ++ t ∷ [])
+  in_holds p us b n t h w lt (Some e) f =
+      let read = is_read b e f in
+      loop_holds p us e n t h read.literals read.wide (ap (value (sizes_alone sizes) [] []) read.same ∙ w) lt (span_of p.sizes [] e) refl
+  in_holds p us b n t h w lt None f = record { is_of = in_is_of names p None h.is_of; loops = λ known. absurd (cc known) }
+
+  append_more : (us : List ℕ) (t : ℕ) (ts : List ℕ) → (us ++ t ∷ []) ++ ts ≡ us ++ t ∷ ts
+  append_more [] t ts = refl
+  append_more (u ∷ us) t ts = ap (λ z. u ∷ z) (append_more us t ts)
+
+  all_hold : (p : PlainPlace) (us : List ℕ) (bounds : List Formula) (turns : List ℕ) → Holds p us → AreBelow sizes bounds turns → Holds (inside_all p bounds) (us ++ turns)
+  all_hold p us [] [] h below = subst (Holds p) (sym (append-nil us)) h
+  all_hold p us [] (t ∷ turns) h below = absurd below
+  all_hold p us (b ∷ bounds) [] h below = absurd below
+  all_hold p us (b ∷ bounds) (t ∷ turns) h below =
+      subst (Holds (inside_all (inside p b) bounds)) (append_more us t turns)
+      (all_hold (inside p b) (us ++ t ∷ []) bounds turns (in_holds p us b below.0 t h below.1 below.2 (reading b) refl) below.3)
+
+  pub place_holds : (bounds : List Formula) (turns : List ℕ) → AreBelow sizes bounds turns → Holds (place_of names bounds) turns
+  place_holds bounds turns below = all_hold _ [] bounds turns (record { is_of = record { sizes = refl; multiples = refl }; loops = λ known. tt }) below

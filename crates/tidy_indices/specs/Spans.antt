@@ -1,0 +1,49 @@
+-- Between which words the value of an index expression lies, where intervals show that nothing in it wraps.
+use Rattle.std.specs.Prelude.{ℕ, zero, suc, ◌+◌, ◌-◌, ◌*◌, ◌/◌, nat_lt, min, max, if◌then◌else◌, List, Option, Some, None, slice_get}
+use Rattle.size_arith.specs.declared.names.Name.{Name}
+use Rattle.index_expr.specs.declared.operation.Operation.{Operation}
+use Rattle.index_expr.specs.declared.operation.Operation.TheVariants.{Sum, Difference, Product, Quotient, Remainder, Least, Greatest}
+use Rattle.index_expr.specs.Expression.{Expression, Variable, Literal, Size, Binary}
+use Rattle.index_simplify.specs.Literals.{word, difference}
+use Rattle.tidy_indices.specs.declared.spans.Span.{Span}
+
+abbrev pub from_to : ℕ → ℕ → Span
+from_to l g = record { least = l; greatest = g }
+
+-- from the one to the other, where both are known
+abbrev pub between : Option ℕ → Option ℕ → Option Span
+between (Some l) (Some g) = Some (from_to l g)
+between _ _ = None
+
+abbrev pub quotient : ℕ → ℕ → Option ℕ
+quotient m zero = None
+quotient m (suc n) = Some (m / suc n)
+
+-- on words of these spans nothing wraps, and no divisor is 0
+abbrev pub operated : Operation → Span → Span → Option Span
+operated Sum a b = between (word (a.least + b.least)) (word (a.greatest + b.greatest))
+operated Difference a b = between (difference a.least b.greatest) (difference a.greatest b.least)
+operated Product a b = between (word (a.least * b.least)) (word (a.greatest * b.greatest))
+operated Quotient a b = between (quotient a.least b.greatest) (quotient a.greatest b.least)
+operated Remainder a b = if nat_lt 0 b.least then Some (from_to 0 (min a.greatest (b.greatest - 1))) else None
+operated Least a b = Some (from_to (min a.least b.least) (min a.greatest b.greatest))
+operated Greatest a b = Some (from_to (max a.least b.least) (max a.greatest b.greatest))
+
+abbrev pub operated_on : Operation → Option Span → Option Span → Option Span
+operated_on o (Some a) (Some b) = operated o a b
+operated_on o _ _ = None
+
+abbrev pub turns_up_to : Option ℕ → Option Span
+turns_up_to (Some g) = Some (from_to 0 g)
+turns_up_to None = None
+
+abbrev pub declared_from_to : Option Name → Option Span
+declared_from_to (Some n) = Some (from_to n.from n.to)
+declared_from_to None = None
+
+-- with these sizes, in loops whose variables are at most so great
+abbrev pub span_of : List Name → (lasts : List ℕ) → Expression → Option Span
+span_of names lasts (Variable k l g) = turns_up_to (slice_get lasts k)
+span_of names lasts (Literal n) = Some (from_to n n)
+span_of names lasts (Size k) = declared_from_to (slice_get names k)
+span_of names lasts (Binary o a b) = operated_on o (span_of names lasts a) (span_of names lasts b)

@@ -1,0 +1,11 @@
+//! Tidy indices: what stands for the indices and bounds of a kernel, with the same values and no more nodes.
+#![tactic(auto)]
+
+pub mod copies;
+pub mod laws;
+pub mod places;
+pub mod reading;
+pub mod spans;
+
+pub use copies::copied;
+pub use places::Place;

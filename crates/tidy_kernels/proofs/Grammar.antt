@@ -1,0 +1,108 @@
+-- A tidied kernel is of the kernel grammar.
+use Rattle.std.proofs.Common.{◌≡◌, ℕ, suc, Bool, true, false, List, [], ◌∷◌, ◌++◌, nat_lt, refl, sym, ap, ◌∙◌, arith}
+use Rattle.std.specs.Prelude.{◌&&◌, ◌||◌, nat_le}
+use Rattle.std.proofs.lemmas.Bool.{leb-true, le-leb}
+use Rattle.kernel_tree.specs.Formula.{Formula, Number, Variable, LoopVariable, Size, Id, Binary, Choose}
+use Rattle.kernel_tree.specs.Code.{Array, Input, Output, Local, Private, Code, End, Assigns, Loads, Stores, Loops, Syncs, Kernel}
+use Rattle.kernel_tree.specs.Grammar.{deepest, height, is_constant, names_declared, is_expression, is_readable, is_writable, has_statement, are_statements, are_lengths}
+use Rattle.tidy_indices.specs.Laws.{Change, KeepsSmall}
+use Rattle.tidy_kernels.specs.Pass.{tidied_code, tidied_kernel}
+use Rattle.tidy_kernels.specs.Laws.{TidiedKernelsAreKernels}
+
+both : (a b : Bool) → a ≡ true → b ≡ true → (a && b) ≡ true
+both true b h k = k
+both false b h k = absurd (cc)
+
+parts : (a b : Bool) → (a && b) ≡ true → (a ≡ true) × (b ≡ true)
+parts true b h = (refl, h)
+parts false b h = absurd (cc h)
+
+module _ (k m : Kernel) (sizes : k.sizes ≡ m.sizes) (variables : k.variables ≡ m.variables) where
+  -- what a formula may name hangs on these counts alone
+  same_names : (l : ℕ) (f : Formula) → names_declared k l f ≡ names_declared m l f
+  same_names l (Number n) = refl
+  same_names l (Variable v) = ap (nat_lt v) variables
+  same_names l (LoopVariable i) = refl
+  same_names l (Size s) = ap (nat_lt s) sizes
+  same_names l (Id form) = refl
+  same_names l (Binary o a b) = let x = same_names l a in let y = same_names l b in cc
+  same_names l (Choose c a b x y) =
+      let p = same_names l a in let q = same_names l b in let r = same_names l x in let s = same_names l y in cc
+
+module _ (tidy : Change) (k : Kernel) (small : KeepsSmall tidy) where
+  abbrev tidied : Kernel
+  tidied = tidied_kernel tidy k
+
+  kept : (l : ℕ) (f : Formula) → is_expression k l f ≡ true → is_expression tidied l f ≡ true
+  kept l f h =
+      let p = parts (names_declared k l f) (nat_le (height f) deepest) h in
+      both (names_declared tidied l f) (nat_le (height f) deepest) (sym (same_names k tidied refl refl l f) ∙ p.0) p.1
+
+  made : (l : ℕ) (around : List Formula) (f : Formula) → is_expression k l f ≡ true → is_expression tidied l (tidy around f) ≡ true
+  made l around f h =
+      let p = parts (names_declared tidied l f) (nat_le (height f) deepest) (kept l f h) in
+      let low = (small around f).low in
+      let fits = leb-true (height f) deepest p.1 in
+      both (names_declared tidied l (tidy around f)) (nat_le (height (tidy around f)) deepest) ((small around f).declared tidied l p.0) (le-leb (height (tidy around f)) deepest (omega arith))
+
+  readable : (a : Array) → is_readable k a ≡ true → is_readable tidied a ≡ true
+  readable (Input n) h = h
+  readable (Output n) h = h
+  readable (Local n) h = h
+  readable (Private n) h = h
+
+  writable : (a : Array) → is_writable k a ≡ true → is_writable tidied a ≡ true
+  writable (Input n) h = h
+  writable (Output n) h = h
+  writable (Local n) h = h
+  writable (Private n) h = h
+
+  has : (around : List Formula) (code : Code) → has_statement code ≡ true → has_statement (tidied_code tidy around code) ≡ true
+  has around End h = h
+  has around (Assigns v e after) h = refl
+  has around (Loads v a i after) h = refl
+  has around (Stores a i e after) h = refl
+  has around (Loops s b c body after) h = refl
+  has around (Syncs on_local on_global after) h = refl
+
+  are : (l : ℕ) (around : List Formula) (code : Code) → are_statements k l code ≡ true → are_statements tidied l (tidied_code tidy around code) ≡ true
+  are l around End h = refl
+  are l around (Assigns v e after) h =
+      let p = parts (nat_lt v k.variables) _ h in
+      let q = parts (is_expression k l e) _ p.1 in
+      both (nat_lt v k.variables) _ p.0 (both (is_expression tidied l e) _ (kept l e q.0) (are l around after q.1))
+  are l around (Loads v a i after) h =
+      let p = parts (nat_lt v k.variables) _ h in
+      let q = parts (is_readable k a) _ p.1 in
+      let r = parts (is_expression k l i) _ q.1 in
+      both (nat_lt v k.variables) _ p.0 (both (is_readable tidied a) _ (readable a q.0) (both (is_expression tidied l (tidy around i)) _ (made l around i r.0) (are l around after r.1)))
+  are l around (Stores a i e after) h =
+      let p = parts (is_writable k a) _ h in
+      let q = parts (is_expression k l i) _ p.1 in
+      let r = parts (is_expression k l e) _ q.1 in
+      both (is_writable tidied a) _ (writable a p.0) (both (is_expression tidied l (tidy around i)) _ (made l around i q.0) (both (is_expression tidied l e) _ (kept l e r.0) (are l around after r.1)))
+  are l around (Loops s b c body after) h =
+      let p = parts (nat_lt l deepest) _ h in
+      let q = parts (is_constant b) _ p.1 in
+      let r = parts (is_expression k l b) _ q.1 in
+      let t = parts (has_statement body) _ r.1 in
+      let u = parts (are_statements k (suc l) body) _ t.1 in
+      both (nat_lt l deepest) _ p.0
+      (both (is_constant (tidy [] b)) _ ((small [] b).constant q.0)
+      (both (is_expression tidied l (tidy [] b)) _ (made l [] b r.0)
+      (both (has_statement (tidied_code tidy (around ++ b ∷ []) body)) _ (has (around ++ b ∷ []) body t.0)
+      (both (are_statements tidied (suc l) (tidied_code tidy (around ++ b ∷ []) body)) _ (are (suc l) (around ++ b ∷ []) body u.0) (are l around after u.1)))))
+  are l around (Syncs on_local on_global after) h =
+      let p = parts (on_local || on_global) _ h in
+      both (on_local || on_global) _ p.0 (are l around after p.1)
+
+pub are_kernels : TidiedKernelsAreKernels
+are_kernels tidy k small h =
+    let p = parts (nat_lt 0 k.outputs) _ h in
+    let q = parts (are_lengths k.locals) _ p.1 in
+    let r = parts (are_lengths k.privates) _ q.1 in
+    let t = parts (has_statement k.code) _ r.1 in
+    both (nat_lt 0 k.outputs) _ p.0
+    (both (are_lengths k.locals) _ q.0
+    (both (are_lengths k.privates) _ r.0
+    (both (has_statement (tidied_code tidy [] k.code)) _ (has tidy k small [] k.code t.0) (are tidy k small 0 [] k.code t.1))))

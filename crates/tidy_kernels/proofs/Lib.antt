@@ -1,0 +1,3 @@
+mod Grammar
+pub mod Blocks
+pub mod Places

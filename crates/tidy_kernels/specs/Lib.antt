@@ -1,0 +1,3 @@
+pub mod Pass
+pub mod Places
+pub mod Laws

@@ -1,0 +1,17 @@
+-- The pass over a kernel: each index of a load or a store, and each loop's bound, becomes what is made of it; all else stays.
+use Rattle.std.specs.Prelude.{List, [], ◌∷◌, ◌++◌}
+use Rattle.kernel_tree.specs.Formula.{Formula}
+use Rattle.kernel_tree.specs.Code.{Code, End, Assigns, Loads, Stores, Loops, Syncs, Kernel}
+use Rattle.tidy_indices.specs.Laws.{Change}
+
+-- a bound names no loop, so it is tidied as if there were none around
+abbrev pub tidied_code : Change → (around : List Formula) → Code → Code
+tidied_code tidy around End = End
+tidied_code tidy around (Assigns v e after) = Assigns v e (tidied_code tidy around after)
+tidied_code tidy around (Loads v a i after) = Loads v a (tidy around i) (tidied_code tidy around after)
+tidied_code tidy around (Stores a i e after) = Stores a (tidy around i) e (tidied_code tidy around after)
+tidied_code tidy around (Loops s b c body after) = Loops s (tidy [] b) c (tidied_code tidy (around ++ b ∷ []) body) (tidied_code tidy around after)
+tidied_code tidy around (Syncs on_local on_global after) = Syncs on_local on_global (tidied_code tidy around after)
+
+abbrev pub tidied_kernel : Change → Kernel → Kernel
+tidied_kernel tidy k = record k { code = tidied_code tidy [] k.code }

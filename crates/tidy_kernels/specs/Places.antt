@@ -1,0 +1,13 @@
+-- The pass with what is known at each place, which hangs on the bounds of the loops around.
+use Rattle.kernel_tree.specs.Code.{Code, End, Assigns, Loads, Stores, Loops, Syncs}
+use Rattle.tidy_indices.specs.Places.{PlainPlace, inside}
+use Rattle.tidy_indices.specs.Tidy.{tidied_at}
+
+-- `outermost` is outside of all loops
+abbrev pub tidied_in : (outermost here : PlainPlace) → Code → Code
+tidied_in outermost here End = End
+tidied_in outermost here (Assigns v e after) = Assigns v e (tidied_in outermost here after)
+tidied_in outermost here (Loads v a i after) = Loads v a (tidied_at here i) (tidied_in outermost here after)
+tidied_in outermost here (Stores a i e after) = Stores a (tidied_at here i) e (tidied_in outermost here after)
+tidied_in outermost here (Loops s b c body after) = Loops s (tidied_at outermost b) c (tidied_in outermost (inside here b) body) (tidied_in outermost here after)
+tidied_in outermost here (Syncs on_local on_global after) = Syncs on_local on_global (tidied_in outermost here after)

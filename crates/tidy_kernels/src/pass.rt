@@ -1,0 +1,89 @@
+//! The pass over a kernel's statements.
+
+ghost use Rattle.std.specs.Prelude.{◌≡◌, IfOk};
+ghost use Rattle.kernel_tree.specs.Code.{Code, End};
+ghost use Rattle.kernel_tree.specs.Kernels.{kernel_of};
+ghost use Rattle.kernel_tree.specs.Tree.{before, code_then};
+ghost use Rattle.tidy_indices.specs.Places.{plain_place};
+ghost use Rattle.tidy_indices.specs.Tidy.{tidy_formula};
+ghost use Rattle.tidy_kernels.specs.Pass.{tidied_kernel};
+ghost use Rattle.tidy_kernels.specs.Places.{tidied_in};
+
+use kernel_tree::tree::{Kernel, Stmt};
+use size_arith::Names;
+use std::alloc::{AllocError, Global};
+use tidy_indices::Place;
+use tidy_indices::laws::tidy_formulas_are_no_larger;
+
+// The statements of a block, tidy. Bounds are so outside of all loops.
+#[cycle(tidying)]
+fn tidied_block(
+    alloc: Global,
+    outermost: &Place,
+    here: &Place,
+    block: Vec<Stmt>,
+) -> Result<Vec<Stmt>, AllocError>
+    ensures { IfOk result (λ statements. code_then statements.items End
+        ≡ tidied_in (plain_place outermost.now) (plain_place here.now) (code_then block.items End)) }
+{
+    let mut tidied = Vec::with_capacity(alloc, block.len())?;
+    for statement in block {
+        tidied.push(tidied_statement(alloc, outermost, here, statement)?)?;
+    }
+    Ok(tidied)
+}
+
+// A statement, tidy.
+#[cycle(tidying)]
+fn tidied_statement(
+    alloc: Global,
+    outermost: &Place,
+    here: &Place,
+    statement: Stmt,
+) -> Result<Stmt, AllocError>
+    ensures { IfOk result (λ tidy. (after : Code)
+        → before tidy (tidied_in (plain_place outermost.now) (plain_place here.now) after)
+        ≡ tidied_in (plain_place outermost.now) (plain_place here.now) (before statement after)) }
+{
+    match statement {
+        Stmt::Load(variable, array, index) => {
+            Ok(Stmt::Load(variable, array, here.tidied(alloc, &index)?))
+        }
+        Stmt::Store(array, index, value) => {
+            Ok(Stmt::Store(array, here.tidied(alloc, &index)?, value))
+        }
+        Stmt::Loop(start, bound, stride, body) => {
+            let inside = here.inside(alloc, &bound)?;
+            let body = tidied_block(alloc, outermost, &inside, body)?;
+            Ok(Stmt::Loop(start, outermost.tidied(alloc, &bound)?, stride, body))
+        }
+        Stmt::Assign(variable, value) => Ok(Stmt::Assign(variable, value)),
+        Stmt::Barrier {
+            on_local,
+            on_global,
+        } => Ok(Stmt::Barrier {
+            on_local,
+            on_global,
+        }),
+    }
+}
+
+/// The kernel with tidy indices and bounds: each index of a load or a store is simplified in the
+/// loops around it, and each loop's bound outside of all loops.
+pub fn tidied(alloc: Global, kernel: Kernel, names: &Names) -> Result<Kernel, AllocError>
+    ensures { IfOk result (λ k. kernel_of k
+        ≡ tidied_kernel (tidy_formula names.now) (kernel_of kernel)) }
+{
+    tidy_formulas_are_no_larger();
+    let outermost = Place::outside(alloc, names)?;
+    let body = tidied_block(alloc, &outermost, &outermost, kernel.body)?;
+    Ok(Kernel {
+        inputs: kernel.inputs,
+        outputs: kernel.outputs,
+        sizes: kernel.sizes,
+        locals: kernel.locals,
+        privates: kernel.privates,
+        variables: kernel.variables,
+        body,
+    })
+}

@@ -1,0 +1,4 @@
+pub mod Elements
+pub mod Statements
+pub mod Terms
+mod Whole
