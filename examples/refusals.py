@@ -128,6 +128,7 @@ def answers(folder):
     for program, script, launch_text, status, line in ROWS:
         yield (status, line), answer(folder, program, script, launch_text)
     yield (2, "lift: words"), called(folder, ["compile", "p"])
+    yield (2, "lift: words"), called(folder, ["demo", "07"])
     yield (3, "lift: read NAME"), called(folder, ["compile", "NAME", "NAME"])
     for name, text in {"program.lift": ADDED, "script.txt": "at . to-seq"}.items():
         with open(f"{folder}/{name}", "w") as file:

@@ -1,7 +1,7 @@
-pub mod Demo
 pub mod Admitted
 pub mod Buffers
 pub mod LaidOut
 pub mod Once
 pub mod Running
 pub mod Stopped
+pub mod Unrefused

@@ -4,6 +4,8 @@
 #[cfg(test)]
 mod call;
 #[cfg(test)]
+mod demo;
+#[cfg(test)]
 mod groups;
 #[cfg(test)]
 mod kernels;

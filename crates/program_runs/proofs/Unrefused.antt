@@ -7,7 +7,8 @@ use Rattle.lift_tree.specs.Types.{PlainTy}
 use Rattle.lowered_tree.specs.Kinds.{is_task}
 use Rattle.lowered_tree.specs.Nest.{LegalWithoutFault}
 use Rattle.fault_lines.specs.Failure as failures
-use Rattle.fault_lines.specs.Failure.{Failure}
+use Rattle.fault_lines.specs.Shown.{failure_of}
+use Rattle.fault_lines.specs.declared.failure.Failure as code
 use Rattle.fault_lines.specs.Refusal as refusals
 use Rattle.fault_lines.specs.declared.refusal.Refusal.{Refusal}
 use Rattle.demo_program.specs.Accepted.{DemoIsAccepted, demo_program}
@@ -50,3 +51,19 @@ admitted law d may p output task text seed c =
     let m = may seed in
     subst (λ b. IsAdmissibleFor p b (demo_given seed)) parallel
     (subst (λ q. IsAdmissibleFor q false (demo_given seed)) same (record { world = m.world; launch = m.launch }))
+
+-- ---- the texts as they are handed over
+
+pub admitted_at : LegalWithoutFault → DemoIsAccepted → DemosMayRun → (program script : List ℕ) → program ≡ program_text → script ≡ script_text → (p : PlainProgram) (output : PlainTy) (task : Bool) (text : List ℕ) (seed : ℕ)
+    → IsCompiled program script p output task text → IsAdmissibleFor p task (demo_given seed)
+admitted_at law d may program script first second p output task text seed c =
+    admitted law d may p output task text seed (subst (λ x. IsCompiled program_text x p output task text) second (subst (λ x. IsCompiled x script p output task text) first c))
+
+pub memory_alone : StagesEndOnce → LegalWithoutFault → DemoIsAccepted → (program script : List ℕ) → program ≡ program_text → script ≡ script_text → (why : Refusal) → StopsFor (OnProgram program (λ p. LegalOf p script)) why → refusals.status_of why ≡ 13
+memory_alone ends law d program script first second why h =
+    refused_for_memory ends law d why (subst (λ x. StopsFor (OnProgram program_text (λ p. LegalOf p x)) why) second (subst (λ x. StopsFor (OnProgram x (λ p. LegalOf p script)) why) first h))
+
+-- a refusal that is handed on keeps its status
+pub handed_on : {V : Type 0} (r : Result V code.Failure) (why : Refusal) → IsErrAnd r (λ e. failure_of e ≡ failures.Source why) → refusals.status_of why ≡ 13 → IfErr r (λ e. failures.status_of (failure_of e) ≡ 13)
+handed_on (Ok v) why is h = tt
+handed_on (Err e) why is h = ap failures.status_of is ∙ h
