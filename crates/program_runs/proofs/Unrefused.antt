@@ -64,6 +64,6 @@ memory_alone ends law d program script first second why h =
     refused_for_memory ends law d why (subst (λ x. StopsFor (OnProgram program_text (λ p. LegalOf p x)) why) second (subst (λ x. StopsFor (OnProgram x (λ p. LegalOf p script)) why) first h))
 
 -- a refusal that is handed on keeps its status
-pub handed_on : {V : Type 0} (r : Result V code.Failure) (why : Refusal) → IsErrAnd r (λ e. failure_of e ≡ failures.Source why) → refusals.status_of why ≡ 13 → IfErr r (λ e. failures.status_of (failure_of e) ≡ 13)
-handed_on (Ok v) why is h = tt
-handed_on (Err e) why is h = ap failures.status_of is ∙ h
+pub handed_on : {V : Type 0} (r : Result V code.Failure) (e : code.Failure) → IsErrAnd r (λ x. x ≡ e) → failures.status_of (failure_of e) ≡ 13 → IfErr r (λ x. failures.status_of (failure_of x) ≡ 13)
+handed_on (Ok v) e same h = tt
+handed_on (Err x) e same h = subst (λ y. failures.status_of (failure_of y) ≡ 13) (sym same) h
