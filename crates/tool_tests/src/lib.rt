@@ -6,6 +6,8 @@ mod call;
 #[cfg(test)]
 mod groups;
 #[cfg(test)]
+mod indices;
+#[cfg(test)]
 mod kernels;
 #[cfg(test)]
 mod limits;
