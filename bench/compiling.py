@@ -9,12 +9,10 @@ of four shapes. Prints them less those of a term of a few nodes, in all and per 
 Counted once: 9,800 to 10,000 instructions a node of the tree, 11,700 to 12,000 of the lets, 242,000 to 280,000 of the maps (whose
 120 steps each copy and type the term), 9,800 to 10,400 under the layouts; none grows by more than a seventh from 512 nodes on.
 """
-import re
-import subprocess
 import tempfile
 from pathlib import Path
 
-from programs import HEAD, LIFT, wide
+from programs import HEAD, instructions, wide
 
 TO_SEQ = "at . to-seq\n"
 
@@ -63,24 +61,21 @@ def layouts(nodes):
     return HEAD + f"map(\\x. {wide(nodes - 26)}, {text})", TO_SEQ
 
 
-def instructions(folder, program, script):
+def of_compile(folder, program, script):
     (folder / "p").write_text(program)
     (folder / "s").write_text(script)
-    words = ["valgrind", "--tool=callgrind", f"--callgrind-out-file={folder / 'callgrind'}", LIFT, "compile", folder / "p", folder / "s"]
-    done = subprocess.run(words, stdout=subprocess.PIPE, stderr=subprocess.PIPE, text=True)
-    assert done.returncode == 0, done.stderr[-300:]
-    return int(re.search(r"Collected : (\d+)", done.stderr).group(1))
+    return instructions(folder, ["compile", folder / "p", folder / "s"])[0]
 
 
 def main():
     with tempfile.TemporaryDirectory() as name:
         folder = Path(name)
-        base = instructions(folder, *tree(5))
+        base = of_compile(folder, *tree(5))
         print(f"a map of few nodes takes {base / 1e6:.1f} million instructions")
         for shape in (tree, lets, chain, layouts):
             print(f"{shape.__doc__}:")
             for nodes in (512, 1024, 2048, 4000):
-                more = instructions(folder, *shape(nodes)) - base
+                more = of_compile(folder, *shape(nodes)) - base
                 print(f"  {nodes} nodes: {more / 1e6:.0f} million more, {more / nodes:.0f} a node")
 
 

@@ -1,7 +1,14 @@
-"""What the measurements share: the program `lift`, and the terms that it is given."""
+"""What the measurements share: the program `lift`, what a call of it costs, and the terms that it is given.
+
+The environment's LIFT names the program (that of this checkout where it isn't set).
+"""
+import os
+import re
+import subprocess
+import time
 from pathlib import Path
 
-LIFT = Path(__file__).resolve().parent.parent / "crates" / "lift_cli" / "out" / "lift_cli"
+LIFT = Path(os.environ.get("LIFT", Path(__file__).resolve().parent.parent / "crates" / "lift_cli" / "out" / "lift_cli"))
 HEAD = "size N from 1 to 1000;\ninput xs: [u32; N];\noutput "
 
 
@@ -11,3 +18,29 @@ def wide(nodes):
         return "7"
     left = (nodes - 1) // 2
     return f"add({wide(left)}, {wide(nodes - 1 - left)})"
+
+
+def instructions(folder, words, status=0):
+    """The instructions of one call, as valgrind's callgrind counts them, and what the call wrote."""
+    words = ["valgrind", "--tool=callgrind", f"--callgrind-out-file={folder / 'callgrind'}", LIFT, *words]
+    done = subprocess.run(words, stdout=subprocess.PIPE, stderr=subprocess.PIPE, text=True)
+    assert done.returncode == status, done.stderr[-300:]
+    return int(re.search(r"Collected : (\d+)", done.stderr).group(1)), done.stdout
+
+
+def seconds(words, times=1, program=LIFT):
+    """The least time of some calls."""
+    def once():
+        begun = time.perf_counter()
+        subprocess.run([program, *words], stdout=subprocess.DEVNULL, check=True)
+        return time.perf_counter() - begun
+
+    return min(once() for _ in range(times))
+
+
+def peak(words):
+    """The most memory that one call took, in bytes."""
+    child = subprocess.Popen([LIFT, *words], stdout=subprocess.DEVNULL)
+    _, status, usage = os.wait4(child.pid, 0)
+    assert status == 0, status
+    return usage.ru_maxrss * 1024

@@ -9,22 +9,13 @@ Counts the instructions (valgrind --tool=callgrind) of `lift run` at one work-it
 Counted once: 142, 114 and 108 instructions an event.
 """
 import json
-import re
-import subprocess
 import tempfile
 from pathlib import Path
 
-from programs import LIFT
+from programs import instructions
 
 PROGRAM = "size M from 1 to 1000;\nsize N from 1 to 1000;\ninput rows: [[u32; N]; M];\noutput join(map(\\r. fold(\\a x. add(a, x), 0, r), rows))"
 SCRIPT = "at 0.1 fold-seq\nat 0 to-seq\n"
-
-
-def instructions(folder, words):
-    words = ["valgrind", "--tool=callgrind", f"--callgrind-out-file={folder / 'callgrind'}", LIFT, *words]
-    done = subprocess.run(words, stdout=subprocess.PIPE, stderr=subprocess.PIPE, text=True)
-    assert done.returncode == 0, done.stderr[-300:]
-    return int(re.search(r"Collected : (\d+)", done.stderr).group(1)), json.loads(done.stdout)
 
 
 def main():
@@ -37,7 +28,7 @@ def main():
             (folder / "l").write_text(json.dumps(launch))
             run, line = instructions(folder, ["run", folder / "p", folder / "s", folder / "l"])
             base, _ = instructions(folder, ["eval", folder / "p", folder / "l"])
-            events = line["events"]
+            events = json.loads(line)["events"]
             print(f"{events} events: {(run - base) / 1e6:.0f} million instructions more than eval, {(run - base) / events:.0f} an event")
 
 

@@ -11,21 +11,17 @@ counts the whole term, and each term is written out: the work of a step grows wi
 Counted once: 3,800, 3,900 and 4,100 instructions a step and node from 1,024 nodes on (which grow by a quarter over 256 steps), and
 3,200, 3,500 and 3,500 from 3,840 on.
 """
-import re
-import subprocess
 import tempfile
 from pathlib import Path
 
-from programs import HEAD, LIFT, wide
+from programs import HEAD, instructions, wide
 
 
-def instructions(folder, steps):
+def of_steps(folder, steps):
     (folder / "s").write_text("".join("at . fuse-map\n" if k % 2 else "at 0 copy\n" for k in range(steps)))
-    words = ["valgrind", "--tool=callgrind", f"--callgrind-out-file={folder / 'callgrind'}", LIFT, "steps", folder / "p", folder / "s"]
-    done = subprocess.run(words, stdout=subprocess.PIPE, stderr=subprocess.PIPE, text=True)
-    assert done.returncode == 0, done.stderr
-    assert done.stdout.count("\n") == steps + 1
-    return int(re.search(r"Collected : (\d+)", done.stderr).group(1))
+    count, lines = instructions(folder, ["steps", folder / "p", folder / "s"])
+    assert lines.count("\n") == steps + 1
+    return count
 
 
 def main():
@@ -33,10 +29,10 @@ def main():
         folder = Path(name)
         for nodes in (1024, 3840):
             (folder / "p").write_text(HEAD + f"map(\\x. {wide(nodes - 2)}, xs)")
-            base = instructions(folder, 0)
+            base = of_steps(folder, 0)
             print(f"{nodes} nodes: an empty script takes {base / 1e6:.0f} million instructions")
             for steps in (64, 128, 256):
-                more = instructions(folder, steps) - base
+                more = of_steps(folder, steps) - base
                 print(f"  {steps} steps: {more / 1e6:.0f} million more, {more / steps / nodes:.0f} a step and node")
 
 

@@ -111,6 +111,27 @@ SHOWN = {
         "The product of two matrices.",
         {"sequential": "One work-item makes row after row.", "rows": "Each work-item makes rows of its own."},
     ),
+    "matrix_product_short": (
+        "The product of two matrices, the first with rows of four numbers.",
+        {
+            "private": "Each work-item copies rows of its own to private memory, and makes a row's sums from there.",
+            "local": "A work-group copies a row to local memory, and its work-items make the row's sums from there.",
+        },
+    ),
+    "partial_sums": (
+        "Sums of four products of two lists each: of two and two first, then of both these sums.",
+        {
+            "global": "Each work-item makes two sums, and keeps the sums of two in private memory.",
+            "groups": "Four work-items of a group put sums of two into local memory; then two of them add these.",
+        },
+    ),
+    "transpose_tiles": (
+        "The columns of a matrix with rows of four numbers, by tiles of two rows.",
+        {
+            "sequential": "One work-item takes tile after tile.",
+            "local": "A work-group copies a tile to local memory by rows, and writes its columns from there.",
+        },
+    ),
     "stencil": (
         "Each number and its two neighbours added; the ends stand for their missing neighbours.",
         {"sequential": "One work-item sums window after window.", "global": "Each work-item sums windows of its own.", "tiled": "A work-group copies a tile to local memory, and sums both its windows from there."},

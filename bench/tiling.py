@@ -1,0 +1,81 @@
+#!/usr/bin/env python3
+"""How the work of `lift compile` grows with the layouts and with the phases of a tiled stencil.
+
+usage: bench/tiling.py
+
+Counts the instructions (valgrind --tool=callgrind) of `lift compile`, less those that the same program takes up to its nest: with
+the script but for its last step, which makes the map over work-groups, the nest is refused. So what is counted is what the
+compiler does behind the script: it judges the nest, plans, prints and writes. Two shapes:
+
+- a stencil by tiles which are copied to local memory, its input behind 1 to 24 layouts;
+- a stencil of a stencil of .. in one tile, 1 to 20 deep, each in local memory but the last: a phase and its barrier for each.
+
+Prints the count in all, and for each node of the last term more than in the first of its shape.
+
+Not taken yet.
+"""
+import tempfile
+from pathlib import Path
+
+from programs import instructions
+
+HEAD = "size N multiple 2 from 4 to 4096;\ninput xs: [u32; N];\noutput "
+
+
+def behind_layouts(layouts):
+    """A tiled stencil whose tiles are read through so many layouts, and the nodes of its last term."""
+    source = "xs"
+    for _ in range((layouts - 1) // 2):
+        source = f"join(split(2, {source}))"
+    if layouts % 2 == 0:
+        source = f"pad(1, 1, {source})"
+    program = HEAD + f"join(map(\\w. reduce(add, 0, w), slide(3, 1, {source})))"
+    tiles = ["0.0 tile-slide 2", "0 map-join", "0.0 fuse-map", "0.0.1 let-inline", "0.0.1.0.0 local-copy"]
+    lowering = ["0.0.1.1 reduce-fold", "0.0.1.1 fold-seq", "0.0.1 to-lcl", "0.0 to-wrg"]
+    return program, tiles + lowering, 16 + layouts
+
+
+def deep(stencils):
+    """Stencils one over another in a tile of two results, and the nodes of the last term."""
+    tile = "t"
+    for _ in range(stencils):
+        tile = f"join(map(\\w. reduce(add, 0, w), slide(3, 1, {tile})))"
+    program = HEAD + f"join(map(\\t. {tile}, slide({2 * stencils + 2}, 2, pad({stencils}, {stencils}, xs))))"
+    script = []
+    for k in range(stencils):
+        place = "0.1" + ".0.0.0" * k
+        script += [f"{place}.0.1 reduce-fold", f"{place}.0.1 fold-seq", f"{place}.0 to-lcl"]
+    # from the innermost outwards, so that the places above a copy stay as they are
+    script += [f"0.1{'.0.0.0' * k} local" for k in reversed(range(1, stencils))] + ["0 to-wrg"]
+    return program, script, 5 + 10 * stencils
+
+
+SHAPES = [("layouts", behind_layouts, (1, 2, 6, 12, 18, 24)), ("stencils in a tile", deep, (1, 2, 4, 8, 16, 20))]
+
+
+def behind_the_script(folder, program, steps):
+    """The instructions that the whole script takes more than the script without its last step."""
+    (folder / "p").write_text(program)
+    words = ["compile", folder / "p", folder / "s"]
+    counts = []
+    for script, status in ((steps, 0), (steps[:-1], 11)):
+        (folder / "s").write_text("".join(f"at {it}\n" for it in script))
+        counts.append(instructions(folder, words, status)[0])
+    return counts[0] - counts[1]
+
+
+def main():
+    with tempfile.TemporaryDirectory() as name:
+        folder = Path(name)
+        for told, shape, numbers in SHAPES:
+            first = None
+            for number in numbers:
+                program, script, nodes = shape(number)
+                work = behind_the_script(folder, program, script)
+                more = f", {(work - first[0]) / (nodes - first[1]):.0f} for each node more" if first else ""
+                first = first or (work, nodes)
+                print(f"{number} {told}, {nodes} nodes: {work} instructions{more}", flush=True)
+
+
+if __name__ == "__main__":
+    main()
