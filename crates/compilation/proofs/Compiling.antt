@@ -1,10 +1,11 @@
 -- What is compiled of the last term of a program and a script.
-use Rattle.std.proofs.Common.{◌≡◌, ◌∙◌, List, ℕ, [], Ok, Bool, ap, length, map, subst, sym, inl, inr}
+use Rattle.std.proofs.Common.{◌≡◌, ◌∙◌, List, ℕ, [], ◌∷◌, ◌++◌, Ok, Bool, ap, length, map, subst, sym, inl, inr}
 use Rattle.kernel_tree.specs.Code.{Kernel}
 use Rattle.kernel_tree.specs.KernelText.{IsKernelText}
 use Rattle.kernel_tree.specs.Launch.{Launch, Cells}
 use Rattle.lift_tree.specs.Annotations.{annotation_of, type_in}
 use Rattle.lift_tree.specs.Launches.{lists_of}
+use Rattle.lift_tree.specs.Lists.{Every}
 use Rattle.lift_tree.specs.Meaning.{World, meaning}
 use Rattle.lift_tree.specs.Programs.{PlainProgram, program_of}
 use Rattle.lift_tree.specs.Tree.{tree_of}
@@ -12,6 +13,8 @@ use Rattle.lift_tree.specs.Types.{PlainTy}
 use Rattle.lift_tree.specs.Typing.{IsAdmissible, declared_by}
 use Rattle.lift_tree.specs.Values.{Value}
 use Rattle.lift_tree.specs.declared.typed.Typed.{Typed}
+use Rattle.copied_arrays.specs.Laws.{ScriptsCopyArrays}
+use Rattle.lowered_tree.specs.Copies.{CopiesArrays}
 use Rattle.lowered_tree.specs.Kinds.{is_task}
 use Rattle.printed_form.specs.Headline.{EveryRunKeeps}
 use Rattle.printed_form.specs.Programs.{AreBuffersOf, IsLaunchOf, cell_owner}
@@ -20,7 +23,7 @@ use Rattle.strategy_script.specs.Steps.{State, state_of}
 use Rattle.fault_lines.specs.declared.refusal.Refusal.{Refusal}
 use Rattle.program_source.specs.Program.{OnProgram, StopsFor, source_value}
 use Rattle.program_source.specs.SourceTerms.{IsLastTerm}
-use Rattle.program_source.specs.Terms.{TermsOf}
+use Rattle.program_source.specs.Terms.{IsLast, TermsOf}
 use Rattle.program_source.proofs.FewNodes.{few_inputs}
 use Rattle.compilation.specs.Compiled.{IsCompiled, IsKernelFor, ServesAtAll}
 use Rattle.compilation.specs.Legal.{CompilesTerm, IsTypedLast, LegalOf}
@@ -56,13 +59,29 @@ leaves p output s k meets w l c a start es begins is = (meets w l c a start es b
 
 -- ---- the last term
 
-pub typed_last : (program script : List ℕ) (t : Typed) → IsLastTerm program script t → IsTypedLast t
-typed_last program script t last = record {
+-- what holds of each term holds of the last
+last_has : (holds : State → Type 0) (terms : List State) (last : State) → IsLast last terms → Every holds terms → holds last
+last_has holds terms last is each = at_end is.front (subst (Every holds) is.is each)
+  where
+    at_end : (front : List State) → Every holds (front ++ last ∷ []) → holds last
+    at_end [] h = h.0
+    at_end (s ∷ front) h = at_end front h.1
+
+-- the last term copies nothing but arrays
+last_copies : ScriptsCopyArrays → (program script : List ℕ) (t : Typed) → IsLastTerm program script t → CopiesArrays (tree_of t.term) (annotation_of t.types)
+last_copies law program script t last =
+    let made = last.made in
+    last_has (λ (s : State). CopiesArrays s.tree s.types) last.terms (state_of t) last.is_last
+    (law program (program_of t.program) made.0 made.2.0 last.terms last.read.is made.1 made.2.2)
+
+pub typed_last : ScriptsCopyArrays → (program script : List ℕ) (t : Typed) → IsLastTerm program script t → IsTypedLast t
+typed_last law program script t last = record {
   proper = last.proper;
   few = few_inputs (program_of t.program) last.read.within;
   typed = last.term.typed;
   within = last.within;
   low = last.low;
+  copies = last_copies law program script t last;
 }
 
 pub compiled_found : (program script : List ℕ) (t : Typed) (output : PlainTy) (task : Bool) (text : List ℕ) (k : Kernel) → output ≡ type_in (annotation_of t.types)

@@ -1,5 +1,5 @@
 -- Why a last term isn't compiled, and what is known of one that is.
-use Rattle.std.proofs.Common.{arith, ◌≡◌, ◌∙◌, List, ℕ, Option, None, Some, Ok, ap₂, inl, inr, map, refl, subst, sym}
+use Rattle.std.proofs.Common.{arith, ◌≡◌, None, Some, Ok, inl, inr, map, refl, subst, sym}
 use Rattle.lift_tree.specs.Annotations.{Annotation, annotation_of}
 use Rattle.lift_tree.specs.Programs.{program_of}
 use Rattle.lift_tree.specs.Tree.{Tree, tree_of}
@@ -8,10 +8,8 @@ use Rattle.lift_tree.specs.Typing.{declared_by}
 use Rattle.lift_tree.specs.declared.typed.Typed.{Typed}
 use Rattle.strategy_script.specs.Steps.{State}
 use Rattle.lowered_tree.specs.Nest.{IsLegalNest, LegalWithoutFault, nest_fault}
-use Rattle.lowered_tree.specs.Printed.{first_unprinted}
 use Rattle.lowered_tree.specs.Inputs.{HasTypedInputs}
 use Rattle.lowered_tree.specs.declared.lowered.Lowered.{Lowered}
-use Rattle.nest_premises.specs.Laws.{AcceptedTermsCopyArrays}
 use Rattle.nest_premises.specs.Legal.{HasWordSteps, IsLegalTerm}
 use Rattle.sound_parts.specs.Words.{FormsHaveWords}
 use Rattle.thread_mapping.specs.Found as nest
@@ -24,7 +22,7 @@ use Rattle.fault_lines.specs.declared.refusal.Refusal.{Refusal}
 use Rattle.fault_lines.specs.declared.refusal.Refusal.TheVariants as told
 use Rattle.program_source.specs.Program.{StopsFor}
 use Rattle.program_source.specs.Stages.{As}
-use Rattle.compilation.specs.Legal.{BuffersOf, CompilesTerm, IsAccepted, IsLoweredOf, IsTypedLast, NestOf, PrintedOf}
+use Rattle.compilation.specs.Legal.{BuffersOf, CompilesTerm, IsAccepted, IsLoweredOf, IsTypedLast, NestOf}
 
 pub typed_inputs : (t : Typed) → IsTypedLast t → HasTypedInputs (program_of t.program)
 typed_inputs t last = record { proper = last.proper; declared = last.typed.declared; within = last.within.inputs }
@@ -39,13 +37,13 @@ legal_term t last steps legal = record {
   legal = legal;
 }
 
-pub accepted_term : AcceptedTermsCopyArrays → (t : Typed) → IsTypedLast t → HasWordSteps (tree_of t.term) → FormsHaveWords (tree_of t.term) → IsLegalNest (tree_of t.term) (annotation_of t.types)
-    → first_unprinted (tree_of t.term) (annotation_of t.types) ≡ None → limits.passed_limit (tree_of t.term) (annotation_of t.types) ≡ None → IsAccepted (program_of t.program) (tree_of t.term) (annotation_of t.types)
-accepted_term law t last steps words legal printed within =
+pub accepted_term : (t : Typed) → IsTypedLast t → HasWordSteps (tree_of t.term) → FormsHaveWords (tree_of t.term) → IsLegalNest (tree_of t.term) (annotation_of t.types)
+    → limits.passed_limit (tree_of t.term) (annotation_of t.types) ≡ None → IsAccepted (program_of t.program) (tree_of t.term) (annotation_of t.types)
+accepted_term t last steps words legal within =
     let low = last.low in
     record {
       legal = legal_term t last steps legal;
-      copies = law (tree_of t.term) (annotation_of t.types) printed;
+      copies = last.copies;
       words = words;
       within = within;
       low = omega (arith, low);
@@ -74,22 +72,15 @@ buffers_stop s t n (allocations.Limit which count) term types h =
     inr (allocations.Limit which count, subst (λ (m : Annotation). limits.passed_limit s.tree m ≡ Some (which, count)) types (subst (λ (u : Tree). limits.passed_limit u n ≡ Some (which, count)) term h), refl)
 buffers_stop s t n allocations.Memory term types h = inl refl
 
-pub printed_is : (t u : Tree) (n m : Annotation) (o : Option (List ℕ)) → t ≡ u → n ≡ m → o ≡ first_unprinted t n → first_unprinted u m ≡ o
-printed_is t u n m o term types h = sym (h ∙ ap₂ first_unprinted term types)
-
 -- ---- all stages
 
-pub compiles : (s : State) → IsLegalNest s.tree s.types → first_unprinted s.tree s.types ≡ None → limits.passed_limit s.tree s.types ≡ None → CompilesTerm s (Ok s)
-compiles s legal printed within = (tt, legal, (tt, printed, (tt, within, refl)))
+pub compiles : (s : State) → IsLegalNest s.tree s.types → limits.passed_limit s.tree s.types ≡ None → CompilesTerm s (Ok s)
+compiles s legal within = (tt, legal, (tt, within, refl))
 
 pub at_nest : (s : State) (why : Refusal) → StopsFor (As told.Nest (NestOf s)) why → StopsFor (CompilesTerm s) why
 at_nest s why (inl memory) = inl memory
 at_nest s why (inr h) = inr (inl h)
 
-pub at_printed : (s : State) (why : Refusal) → IsLegalNest s.tree s.types → StopsFor (As told.Unprinted (PrintedOf s)) why → StopsFor (CompilesTerm s) why
-at_printed s why legal (inl memory) = inl memory
-at_printed s why legal (inr h) = inr (inr (tt, legal, inl h))
-
-pub at_buffers : (s : State) (why : Refusal) → IsLegalNest s.tree s.types → first_unprinted s.tree s.types ≡ None → StopsFor (As told.Alloc (BuffersOf s)) why → StopsFor (CompilesTerm s) why
-at_buffers s why legal printed (inl memory) = inl memory
-at_buffers s why legal printed (inr h) = inr (inr (tt, legal, inr (tt, printed, inl h)))
+pub at_buffers : (s : State) (why : Refusal) → IsLegalNest s.tree s.types → StopsFor (As told.Alloc (BuffersOf s)) why → StopsFor (CompilesTerm s) why
+at_buffers s why legal (inl memory) = inl memory
+at_buffers s why legal (inr h) = inr (inr (tt, legal, inl h))

@@ -10,7 +10,7 @@ use Rattle.fault_lines.specs.declared.refusal.Refusal.TheVariants as told
 use Rattle.program_source.specs.Stages.{As, IsOne, Then}
 use Rattle.program_source.specs.Terms.{LastOf, TermsOf}
 use Rattle.program_source.proofs.Once.{as_one, gives_one, last_one, terms_one, then_one}
-use Rattle.compilation.specs.Legal.{BuffersOf, CompilesTerm, LegalOf, NestOf, PrintedOf}
+use Rattle.compilation.specs.Legal.{BuffersOf, CompilesTerm, LegalOf, NestOf}
 
 nest_one : LegalWithoutFault → (s : State) → IsOne (NestOf s)
 nest_one law s (Ok x) (Ok y) h k = refl
@@ -19,12 +19,6 @@ nest_one law s (Err (nests.Nest place rule)) (Ok x) h k = absurd (none-some _ (s
 nest_one law s (Err (nests.Nest a r)) (Err (nests.Nest b q)) h k = ap (λ x. Err (nests.Nest x.0 x.1)) (same_Some (a, r) (b, q) (sym h ∙ k))
 nest_one law s (Err nests.Memory) r h k = absurd h
 nest_one law s r (Err nests.Memory) h k = absurd k
-
-printed_one : (s : State) → IsOne (PrintedOf s)
-printed_one s (Ok x) (Ok y) h k = refl
-printed_one s (Ok x) (Err place) h k = absurd (none-some _ (sym h ∙ k))
-printed_one s (Err place) (Ok x) h k = absurd (none-some _ (sym k ∙ h))
-printed_one s (Err place) (Err other) h k = ap Err (same_Some place other (sym h ∙ k))
 
 buffers_one : (s : State) → IsOne (BuffersOf s)
 buffers_one s (Ok x) (Ok y) h k = refl
@@ -37,8 +31,7 @@ buffers_one s r (Err allocations.Memory) h k = absurd k
 compiles_one : LegalWithoutFault → (s : State) → IsOne (CompilesTerm s)
 compiles_one law s =
     then_one (As told.Nest (NestOf s)) _ (as_one told.Nest (NestOf s) (nest_one law s)) (λ legal _.
-    then_one (As told.Unprinted (PrintedOf s)) _ (as_one told.Unprinted (PrintedOf s) (printed_one s)) (λ printed _.
-    then_one (As told.Alloc (BuffersOf s)) _ (as_one told.Alloc (BuffersOf s) (buffers_one s)) (λ within _. gives_one s)))
+    then_one (As told.Alloc (BuffersOf s)) _ (as_one told.Alloc (BuffersOf s) (buffers_one s)) (λ within _. gives_one s))
 
 pub legal_one : LegalWithoutFault → (p : PlainProgram) (script : List ℕ) → IsOne (LegalOf p script)
 legal_one law p script =

@@ -11,7 +11,6 @@ use Rattle.lowered_tree.specs.declared.lowered.Lowered.{Lowered}
 use Rattle.kernel_emit.specs.Emittable.{declared_of}
 use Rattle.strategy_script.specs.Steps.{State}
 use Rattle.lowered_tree.specs.Nest.{IsLegalNest, nest_fault}
-use Rattle.lowered_tree.specs.Printed.{first_unprinted}
 use Rattle.lowered_tree.specs.Copies.{CopiesArrays}
 use Rattle.nest_premises.specs.Legal.{IsLegalTerm}
 use Rattle.sound_parts.specs.Words.{FormsHaveWords}
@@ -25,13 +24,14 @@ use Rattle.fault_lines.specs.declared.refusal.Refusal.TheVariants as told
 use Rattle.program_source.specs.Stages.{As, Gives, Then}
 use Rattle.program_source.specs.Terms.{LastOf, TermsOf}
 
--- a typed term of a proper program with few inputs, within the limits on types
+-- a typed term of a proper program with few inputs, within the limits on types, which copies nothing but arrays
 pub record IsTypedLast (t : Typed) : Type 0 where
   pub proper : IsProper (program_of t.program)
   pub few : length (program_of t.program).inputs ≤ 8
   pub typed : IsTyped t
   pub within : IsWithinLimits (program_of t.program) (tree_of t.term) (annotation_of t.types)
   pub low : height (tree_of t.term) ≤ 256
+  pub copies : CopiesArrays (tree_of t.term) (annotation_of t.types)
 
 -- a legal term within the limits, which copies nothing but arrays
 pub record IsAccepted (p : PlainProgram) (t : Tree) (n : Annotation) : Type 0 where
@@ -47,23 +47,16 @@ NestOf s (Ok legal) = IsLegalNest s.tree s.types
 NestOf s (Err (nests.Nest place rule)) = nest_fault s.tree s.types ≡ Some (place, rule)
 NestOf s (Err nests.Memory) = ⊥
 
--- each node is printed, or this is the first in preorder that isn't
-abbrev pub PrintedOf : State → Result (Unit {0}) (List ℕ) → Type 0
-PrintedOf s (Ok all) = first_unprinted s.tree s.types ≡ None
-PrintedOf s (Err place) = first_unprinted s.tree s.types ≡ Some place
-
 -- layouts and memory are within their limits, or this is the first limit that is passed, and the count
 abbrev pub BuffersOf : State → Result (Unit {0}) AllocNo → Type 0
 BuffersOf s (Ok within) = passed_limit s.tree s.types ≡ None
 BuffersOf s (Err (allocations.Limit which count)) = passed_limit s.tree s.types ≡ Some (which, count)
 BuffersOf s (Err allocations.Memory) = ⊥
 
--- the term is compiled, or the first stage that stops: its nest, whether it is printed, its buffers
+-- the term is compiled, or the first stage that stops: its nest, its buffers
 abbrev pub CompilesTerm : State → Result State Refusal → Type 0
 CompilesTerm last =
-    Then (As told.Nest (NestOf last)) (λ _.
-    Then (As told.Unprinted (PrintedOf last)) (λ _.
-    Then (As told.Alloc (BuffersOf last)) (λ _. Gives last)))
+    Then (As told.Nest (NestOf last)) (λ _. Then (As told.Alloc (BuffersOf last)) (λ _. Gives last))
 
 -- the last term of a program along a script, where it is compiled; or the first stage that stops
 abbrev pub LegalOf : PlainProgram → (script : List ℕ) → Result State Refusal → Type 0

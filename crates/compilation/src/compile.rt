@@ -9,6 +9,7 @@ ghost use Rattle.compilation.specs.Legal.{LegalOf};
 ghost use Rattle.compilation.specs.Meets.{IsTextFor};
 
 use crate::kernel::compiled_kernel;
+use copied_arrays::laws::scripts_copy_arrays;
 use fault_lines::Refusal;
 use kernel_printer::print;
 use lift_tree::program::Program;
@@ -48,14 +49,14 @@ fn own_type(types: NodeTypes) -> Ty
 /// Compiles a program along a script: to the text of one kernel, of which every run at every
 /// admissible launch leaves the program's value. A refusal is the first cause in the order of the
 /// stages: the program's text and its limits, its types, the script's text and its limit, the
-/// steps; then the last term's nest, whether it is printed, its layouts, and its local and
-/// private memory. Want of memory may come at any point.
+/// steps; then the last term's nest, its layouts, and its local and private memory. Want of memory may come at any point.
 pub fn compile_text(alloc: Global, program: &[u8], script: &[u8]) -> Result<Compiled, Refusal>
     ensures found { IfOk result (λ c. IsCompiled program.now script.now (program_of c.program)
         (ty_of c.output) c.is_task c.text.items) }
     ensures refused { IfErr result
         (StopsFor (OnProgram program.now (λ p. LegalOf p script.now))) }
 {
+    scripts_copy_arrays();
     let last = last_term(alloc, program, script)?;
     let kernel = compiled_kernel(alloc, &last)?;
     let text = print(alloc, &kernel)?;

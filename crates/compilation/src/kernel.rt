@@ -12,7 +12,7 @@ ghost use Rattle.compilation.specs.Compiled.{IsKernelFor, IsPlainFor};
 ghost use Rattle.compilation.specs.Legal.{CompilesTerm, IsAccepted, IsLoweredOf, IsTypedLast};
 ghost use Rattle.compilation.specs.Meets.{CanBeLaidOut};
 
-use crate::legal::{buffered, judge_printed, mapped};
+use crate::legal::{buffered, mapped};
 use barrier_free::laws::printed_programs_serve;
 use fault_lines::Refusal;
 use group_emit::kernel::emit_groups;
@@ -27,9 +27,7 @@ use lift_tree::typed::Typed;
 use lowered_tree::lowered::Lowered;
 use lowering::lower::lower;
 use nest_premises::kind::{NestKind, nest_kind};
-use nest_premises::laws::{
-    accepted_terms_copy_arrays, legal_terms_can_be_lowered, ungrouped_terms_are_printable,
-};
+use nest_premises::laws::{legal_terms_can_be_lowered, ungrouped_terms_are_printable};
 use nest_premises::steps::has_word_steps;
 use phase_plan::needed_barriers;
 use printable_groups::laws::{group_terms_are_printed, legal_group_kernels_are_in_the_grammar};
@@ -133,8 +131,8 @@ fn emitted(alloc: Global, last: &Typed, lowered: &Lowered) -> Result<Kernel, All
     tidied(alloc, plain, &lowered.names)
 }
 
-/// The kernel of a last term, printed for it at each admissible launch. `Nest`, `Unprinted` and
-/// `Alloc` come in this order, for the first rule, node or limit.
+/// The kernel of a last term, printed for it at each admissible launch. `Nest` and `Alloc` come in
+/// this order, for the first rule or limit.
 pub fn compiled_kernel(alloc: Global, last: &Typed) -> Result<Kernel, Refusal>
     requires { IsTypedLast last.now }
     ensures kernel { IfOk result (λ k. IsKernelFor (program_of last.now.program)
@@ -145,12 +143,10 @@ pub fn compiled_kernel(alloc: Global, last: &Typed) -> Result<Kernel, Refusal>
         (type_in (annotation_of last.now.types))) }
     ensures refused { IfErr result (StopsFor (CompilesTerm (state_of last.now))) }
 {
-    accepted_terms_copy_arrays();
     legal_terms_can_be_lowered();
     forms_have_words(&last.term);
     has_word_steps(&last.term);
     let mapped = mapped(alloc, last)?;
-    judge_printed(alloc, &mapped, last)?;
     let lowered = buffered(alloc, mapped, last)?;
     let kernel = emitted(alloc, last, &lowered)?;
     has_few_outputs(&kernel);

@@ -1,16 +1,14 @@
-//! Which last terms are compiled: their nest, whether they are printed, and what they need
-//! of memory.
+//! Which last terms are compiled: their nest, and what they need of memory.
 ghost use Rattle.std.specs.Prelude.{◌≡◌, IfErr, IfOk, None};
 ghost use Rattle.lift_tree.specs.Annotations.{annotation_of};
 ghost use Rattle.lift_tree.specs.Tree.{tree_of};
 ghost use Rattle.strategy_script.specs.Steps.{state_of};
 ghost use Rattle.lowered_tree.specs.Nest.{IsLegalNest};
-ghost use Rattle.lowered_tree.specs.Printed.{first_unprinted};
 ghost use Rattle.buffer_allocation.specs.Limits.{passed_limit};
 ghost use Rattle.fault_lines.specs.declared.refusal.Refusal.TheVariants as told;
 ghost use Rattle.program_source.specs.Program.{StopsFor};
 ghost use Rattle.program_source.specs.Stages.{As};
-ghost use Rattle.compilation.specs.Legal.{BuffersOf, IsLoweredOf, IsTypedLast, NestOf, PrintedOf};
+ghost use Rattle.compilation.specs.Legal.{BuffersOf, IsLoweredOf, IsTypedLast, NestOf};
 
 use address_spaces::spaces;
 use buffer_allocation::allocation::buffers;
@@ -20,7 +18,7 @@ use lowered_tree::laws::legal_without_fault;
 use lowered_tree::lowered::{Lowered, Mapped};
 use lowered_tree::typed::lowered;
 use std::alloc::Global;
-use thread_mapping::{first_unprinted, judge};
+use thread_mapping::judge;
 
 /// The term as it is lowered, where its nest is legal.
 pub fn mapped(alloc: Global, last: &Typed) -> Result<Mapped, Refusal>
@@ -33,20 +31,6 @@ pub fn mapped(alloc: Global, last: &Typed) -> Result<Mapped, Refusal>
     legal_without_fault();
     let lowered = lowered(alloc, last)?;
     Ok(judge(alloc, lowered)?)
-}
-
-/// Whether each node of the term is printed.
-pub fn judge_printed(alloc: Global, mapped: &Mapped, last: &Typed) -> Result<(), Refusal>
-    requires { IsLoweredOf last.now mapped.now.lowered }
-    ensures all { IfOk result (λ _. first_unprinted (tree_of last.now.term)
-        (annotation_of last.now.types) ≡ None) }
-    ensures refused { IfErr result
-        (StopsFor (As told.Unprinted (PrintedOf (state_of last.now)))) }
-{
-    match first_unprinted(alloc, &mapped.lowered)? {
-        Some(place) => Err(Refusal::Unprinted { place }),
-        None => Ok(()),
-    }
 }
 
 /// The term as it is lowered, where its layouts and its memory are within their limits.

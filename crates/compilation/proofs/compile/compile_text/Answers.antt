@@ -7,7 +7,7 @@ use Rattle.compilation.proofs.Compiling.{compiled_found, last_stops, terms_first
 use Rattle.compilation.proofs.compile.compile_text.Goals as goal
 
 pub compiled_kernel-requires : goal.compiled_kernel-requires
-compiled_kernel-requires c = typed_last c.args.program.now c.args.script.now _ c.in_ok-last.ensures.last
+compiled_kernel-requires c = typed_last c.scripts_copy_arrays.ensures c.args.program.now c.args.script.now _ c.in_ok-last.ensures.last
 
 pub invariant_of-result : goal.invariant_of-result
 invariant_of-result c =

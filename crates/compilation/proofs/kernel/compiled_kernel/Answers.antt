@@ -7,11 +7,8 @@ use Rattle.program_source.specs.Program.{StopsFor}
 use Rattle.strategy_script.specs.Steps.{state_of}
 use Rattle.compilation.specs.Legal.{CompilesTerm}
 use Rattle.compilation.proofs.Emitting.{laid_out}
-use Rattle.compilation.proofs.Legality.{accepted_term, at_buffers, at_nest, at_printed, compiles, legal_term}
+use Rattle.compilation.proofs.Legality.{accepted_term, at_buffers, at_nest, compiles, legal_term}
 use Rattle.compilation.proofs.kernel.compiled_kernel.Goals as goal
-
-pub judge_printed-requires : goal.judge_printed-requires
-judge_printed-requires c = c.in_ok-mapped.ensures.is
 
 pub buffered-requires : goal.buffered-requires
 buffered-requires c = c.in_ok-mapped.ensures.is
@@ -19,12 +16,12 @@ buffered-requires c = c.in_ok-mapped.ensures.is
 pub emitted-requires : goal.emitted-requires
 emitted-requires c = record {
   lowered = c.in_ok-lowered.ensures.is;
-  accepted = accepted_term c.accepted_terms_copy_arrays.ensures c.args.last.now c.requires c.has_word_steps.ensures c.forms_have_words.ensures c.in_ok-mapped.ensures.legal c.in_ok-judge_printed.ensures.all c.in_ok-lowered.ensures.within;
+  accepted = accepted_term c.args.last.now c.requires c.has_word_steps.ensures c.forms_have_words.ensures c.in_ok-mapped.ensures.legal c.in_ok-lowered.ensures.within;
 }
 
 pub returns-clause-compiles : goal.returns-clause-compiles
 returns-clause-compiles c =
-    compiles (state_of c.args.last.now) c.in_ok-mapped.ensures.legal c.in_ok-judge_printed.ensures.all c.in_ok-lowered.ensures.within
+    compiles (state_of c.args.last.now) c.in_ok-mapped.ensures.legal c.in_ok-lowered.ensures.within
 
 pub returns-clause-laid_out : goal.returns-clause-laid_out
 returns-clause-laid_out c =
@@ -33,22 +30,15 @@ returns-clause-laid_out c =
     let t = tree_of last.term in
     let n = annotation_of last.types in
     let legal = legal_term last c.requires c.has_word_steps.ensures c.in_ok-mapped.ensures.legal in
-    let copies = c.accepted_terms_copy_arrays.ensures t n c.in_ok-judge_printed.ensures.all in
-    laid_out p t n (kernel_of c.in_ok-kernel.kernel) legal (c.legal_terms_can_be_lowered.ensures p t n legal copies) c.in_ok-kernel.ensures.outputs c.has_few_outputs.ensures
+    laid_out p t n (kernel_of c.in_ok-kernel.kernel) legal (c.legal_terms_can_be_lowered.ensures p t n legal c.requires.copies) c.in_ok-kernel.ensures.outputs c.has_few_outputs.ensures
 
 pub returns-in_err-mapped-clause-refused : goal.returns-in_err-mapped-clause-refused
 returns-in_err-mapped-clause-refused c =
     let s = state_of c.args.last.now in
     handed_on (StopsFor (CompilesTerm s)) _ _ c.from_residual.ensures.1 (at_nest s _ c.in_err-mapped.ensures.refused)
 
-pub returns-in_err-judge_printed-clause-refused : goal.returns-in_err-judge_printed-clause-refused
-returns-in_err-judge_printed-clause-refused c =
-    let s = state_of c.args.last.now in
-    handed_on (StopsFor (CompilesTerm s)) _ _ c.from_residual-in_err-judge_printed.ensures.1
-    (at_printed s _ c.in_ok-mapped.ensures.legal c.in_err-judge_printed.ensures.refused)
-
 pub returns-in_err-lowered-clause-refused : goal.returns-in_err-lowered-clause-refused
 returns-in_err-lowered-clause-refused c =
     let s = state_of c.args.last.now in
     handed_on (StopsFor (CompilesTerm s)) _ _ c.from_residual-in_err-lowered.ensures.1
-    (at_buffers s _ c.in_ok-mapped.ensures.legal c.in_ok-judge_printed.ensures.all c.in_err-lowered.ensures.refused)
+    (at_buffers s _ c.in_ok-mapped.ensures.legal c.in_err-lowered.ensures.refused)
