@@ -1,5 +1,5 @@
 -- A kernel that is printed for a term is the term's with tidy indices and bounds.
-use Rattle.std.proofs.Common.{◌≡◌, ◌≢◌, ◌∙◌, List, ℕ, true, ap, refl, subst, sym}
+use Rattle.std.proofs.Common.{◌≡◌, ◌≢◌, List, ℕ, true, refl, subst, sym}
 use Rattle.size_arith.specs.Ranges.{AreNames}
 use Rattle.lift_tree.specs.Annotations.{Annotation}
 use Rattle.lift_tree.specs.Programs.{PlainProgram}

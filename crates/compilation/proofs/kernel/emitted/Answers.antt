@@ -21,12 +21,12 @@ returns c =
     let plain = kernel_of c.in_ok-plain.plain in
     let names = ap (λ (d : Declared). d.names) c.requires.lowered.declared in
     let is =
-        tidied_is c.tidy_formulas_keep_values.ensures c.tidy_formulas_make_tidy.ensures p s c.requires.accepted
-        c.ungrouped_terms_are_printable.ensures c.legal_groups_stand_over_groups.ensures c.terms_are_printed.ensures c.group_terms_are_printed.ensures
-        c.tidied_kernels_are_printed.ensures c.tidied_group_kernels_are_printed.ensures
-        c.printed_programs_start.ensures c.printed_programs_keep.ensures c.printed_programs_serve.ensures
-        c.printed_group_programs_start.ensures c.printed_group_programs_keep.ensures.keep c.printed_group_programs_keep.ensures.serve
-        c.tidied_terms_are_tidy.ensures c.tidied_groups_are_tidy.ensures plain c.in_ok-plain.ensures c.in_ok-plain.plain.in_grammar in
+    tidied_is c.tidy_formulas_keep_values.ensures c.tidy_formulas_make_tidy.ensures p s c.requires.accepted
+    c.ungrouped_terms_are_printable.ensures c.legal_groups_stand_over_groups.ensures c.terms_are_printed.ensures c.group_terms_are_printed.ensures
+    c.tidied_kernels_are_printed.ensures c.tidied_group_kernels_are_printed.ensures
+    c.printed_programs_start.ensures c.printed_programs_keep.ensures c.printed_programs_serve.ensures
+    c.printed_group_programs_start.ensures c.printed_group_programs_keep.ensures.keep c.printed_group_programs_keep.ensures.serve
+    c.tidied_terms_are_tidy.ensures c.tidied_groups_are_tidy.ensures plain c.in_ok-plain.ensures c.in_ok-plain.plain.in_grammar in
     IfOk-weaker c.tidied.result
     (λ (k : EmittedKernel). kernel_of k ≡ tidied_kernel (tidy_formula low.names) plain)
     (λ (k : EmittedKernel). IsKernelFor p s (kernel_of k))
