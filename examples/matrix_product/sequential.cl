@@ -13,7 +13,7 @@ __kernel void lift(__global const uint *a0, __global const uint *a1, __global ui
         v3 = (v1 * v2);
         v0 = (v0 + v3);
       }
-      o0[((i0 * s2) + ((i1 * 1u) + 0u))] = v0;
+      o0[((i0 * s2) + i1)] = v0;
     }
   }
 }

@@ -2,12 +2,12 @@ __kernel void lift(__global const uint *a0, __global uint *o0, const uint s0)
 {
   uint v0;
   uint v1;
-  for (uint i0 = 0u; i0 < (2u * (s0 / 2u)); i0 += 1u) {
+  for (uint i0 = 0u; i0 < s0; i0 += 1u) {
     v0 = 0u;
     for (uint i1 = 0u; i1 < 3u; i1 += 1u) {
-      v1 = a0[min((max(((i0 * 1u) + i1), 1u) - 1u), ((2u * (s0 / 2u)) - 1u))];
+      v1 = a0[min((max((i0 + i1), 1u) - 1u), (s0 - 1u))];
       v0 = (v0 + v1);
     }
-    o0[((i0 * 1u) + 0u)] = v0;
+    o0[i0] = v0;
   }
 }

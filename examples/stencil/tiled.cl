@@ -6,17 +6,17 @@ __kernel void lift(__global const uint *a0, __global uint *o0, const uint s0)
   uint v2;
   for (uint i0 = (uint)get_group_id(0); i0 < (s0 / 2u); i0 += (uint)get_num_groups(0)) {
     for (uint i1 = (uint)get_local_id(0); i1 < 4u; i1 += (uint)get_local_size(0)) {
-      v0 = a0[min((max(((i0 * 2u) + i1), 1u) - 1u), ((2u * (s0 / 2u)) - 1u))];
+      v0 = a0[min((max(((i0 * 2u) + i1), 1u) - 1u), (s0 - 1u))];
       l0[i1] = v0;
     }
     barrier(CLK_LOCAL_MEM_FENCE);
     for (uint i1 = (uint)get_local_id(0); i1 < 2u; i1 += (uint)get_local_size(0)) {
       v1 = 0u;
       for (uint i2 = 0u; i2 < 3u; i2 += 1u) {
-        v2 = l0[((i1 * 1u) + i2)];
+        v2 = l0[(i1 + i2)];
         v1 = (v1 + v2);
       }
-      o0[((((i0 * 2u) + i1) * 1u) + 0u)] = v1;
+      o0[((i0 * 2u) + i1)] = v1;
     }
     barrier(CLK_LOCAL_MEM_FENCE);
   }

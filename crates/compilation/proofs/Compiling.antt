@@ -103,6 +103,7 @@ compiled_found program script t output task text k same alone last compiles for 
       parameters = starts p (state_of t) k for last.term.keeps;
       meets = meets p (state_of t) k for last.term.keeps;
       serve = serve p (state_of t) k for last.term.keeps;
+      tidy = for.tidy;
     })
 
 -- what a type keeps of it

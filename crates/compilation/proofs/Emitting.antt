@@ -12,7 +12,7 @@ use Rattle.size_arith.specs.Ranges.{Admissible, AreNames, leasts, sizes_at}
 use Rattle.size_arith.proofs.Soundness.{shown_at_least}
 use Rattle.lift_tree.specs.Annotations.{Annotation, annotation_of, type_in}
 use Rattle.lift_tree.specs.Programs.{PlainProgram, program_of}
-use Rattle.lift_tree.specs.Tree.{Tree, height, tree_of}
+use Rattle.lift_tree.specs.Tree.{Tree, tree_of}
 use Rattle.lift_tree.specs.Types.{PlainTy, U32, PairOf, ArrayOf, HoldsElements, IsElement, IsFormed, IsOutput}
 use Rattle.lift_tree.specs.Typing.{Declared, declared_by}
 use Rattle.lift_tree.specs.declared.typed.Typed.{Typed}
@@ -40,21 +40,20 @@ use Rattle.barrier_placement.specs.declared.placing.Barrier.{Barrier}
 use Rattle.group_terms.specs.Forms.{StandsOverGroups}
 use Rattle.group_terms.specs.Uses.{group_touches, phase_count}
 use Rattle.group_premises.specs.Laws.{LegalGroupsStandOverGroups}
-use Rattle.printable_groups.specs.Laws.{AreNeeded, GroupTermsArePrinted, LegalGroupKernelsAreInTheGrammar, LegalGroupsKeep, LegalGroupsServe, LegalGroupsStart, kernel_of_groups}
+use Rattle.printable_groups.specs.Laws.{AreNeeded, LegalGroupKernelsAreInTheGrammar, kernel_of_groups}
 use Rattle.group_emit.specs.Emittable.{IsGroupEmittable, fence_with}
 use Rattle.buffer_allocation.specs.Layouts.{layouts}
 use Rattle.buffer_allocation.specs.Limits.{passed_limit}
 use Rattle.value_lists.specs.Lists as lists
 use Rattle.value_lists.specs.Lists.{IsSmall}
 use Rattle.kernel_limits.specs.Within.{TermsCanBeWritten}
-use Rattle.printed_form.specs.Programs.{IsLaunchOf, PrintedProgramsKeep, PrintedProgramsStart, Prints, StandsAt, lowered_root}
-use Rattle.barrier_free.specs.Laws.{PrintedProgramsServe}
-use Rattle.printable_terms.specs.Laws.{KernelsAreInTheGrammar, TermsArePrinted, kernel_of_term}
+use Rattle.printed_form.specs.Programs.{IsLaunchOf, StandsAt, lowered_root}
+use Rattle.printable_terms.specs.Laws.{KernelsAreInTheGrammar, kernel_of_term}
 use Rattle.sound_parts.specs.Laws.{LeastSizesAreAdmissible, TermsHaveSoundParts}
 use Rattle.kernel_emit.specs.Copies.{HasShortCopies}
 use Rattle.kernel_emit.specs.Emittable.{IsEmittable, declared_of}
 use Rattle.strategy_script.specs.Steps.{State, state_of}
-use Rattle.compilation.specs.Compiled.{IsKernelFor, PrintsAs}
+use Rattle.compilation.specs.Compiled.{IsPlainAs, IsPlainFor}
 use Rattle.compilation.specs.Legal.{IsAccepted, IsLoweredOf}
 use Rattle.compilation.specs.Meets.{CanBeLaidOut}
 
@@ -118,49 +117,15 @@ over_groups p t n accepted kind stand least =
     let d = declared_by p in
     ((stand p t n accepted.legal accepted.copies kind).program (leasts d.names) (least d.names accepted.legal.declared.names)).stands
 
--- ---- and is printed for the term
+-- ---- it is what the printers make of the term
 
--- by items
-as_items : (j : NestKind) → j ≢ OverGroups → (d : Declared) (bases : List ℕ) (t : Tree) (n : Annotation) (l : Launch) (k : Kernel) → Prints d bases t n l k → PrintsAs j d bases t n l k
-as_items Task h d bases t n l k prints = prints
-as_items OverLaunch h d bases t n l k prints = prints
-as_items OverGroups h d bases t n l k prints = absurd (h refl)
+pub by_items : (j : NestKind) → j ≢ OverGroups → (d : Declared) (t : Tree) (n : Annotation) (k : Kernel) → k ≡ kernel_of_term d t n → IsPlainAs j d t n k
+by_items Task h d t n k is = is
+by_items OverLaunch h d t n k is = is
+by_items OverGroups h d t n k is = absurd (h refl)
 
-pub for_items : (p : PlainProgram) (s : State) (k : Kernel) → IsPrintable (declared_by p) s.tree s.types → nest_kind s.tree ≢ OverGroups → TermsArePrinted → PrintedProgramsStart → PrintedProgramsKeep → PrintedProgramsServe
-    → k ≡ kernel_of_term (declared_by p) s.tree s.types → IsKernelFor p s k
-for_items p s k printable kind law start keep serve is =
-    let d = declared_by p in
-    let t = s.tree in
-    let n = s.types in
-    let own = kernel_of_term d t n in
-    subst (IsKernelFor p s) (sym is)
-    (record {
-      prints = λ bases l at. as_items (nest_kind t) kind d bases t n l own (law d bases t n l printable at);
-      starts = λ w l c ok at cells. start d (is_task t) w t n l own c (printable.lowerable w.bases ok.bases) ok at cells (law d w.bases t n l printable at);
-      keeps = λ w l c ok at cells. keep d (is_task t) w t n l own c (printable.lowerable w.bases ok.bases) ok at cells (law d w.bases t n l printable at);
-      serve = λ w l c ok at cells. serve d (is_task t) w t n l own c (printable.lowerable w.bases ok.bases) (printable.stands w.bases l at) ok at cells (law d w.bases t n l printable at);
-      outputs = refl;
-    })
-
--- by groups
-pub for_groups : (p : PlainProgram) (s : State) (k : Kernel) (fence : ℕ → Fencing) → IsAccepted p s.tree s.types → nest_kind s.tree ≡ OverGroups → AreNeeded fence s.tree s.types
-    → LegalGroupsStandOverGroups → GroupTermsArePrinted → LegalGroupsStart → LegalGroupsKeep → LegalGroupsServe
-    → k ≡ kernel_of_groups (declared_by p) fence s.tree s.types → IsKernelFor p s k
-for_groups p s k fence accepted kind needed stand law start keep serve is =
-    let d = declared_by p in
-    let t = s.tree in
-    let n = s.types in
-    let own = kernel_of_groups d fence t n in
-    let legal = accepted.legal in
-    let copies = accepted.copies in
-    subst (IsKernelFor p s) (sym is)
-    (record {
-      prints = λ bases l at. subst (λ (j : NestKind). PrintsAs j d bases t n l own) (sym kind) (law d bases fence t n l (stand p t n legal copies kind) at needed);
-      starts = λ w l c ok at cells. start p fence w t n l c legal copies kind needed ok at cells;
-      keeps = λ w l c ok at cells. keep p fence w t n l c legal copies kind needed ok at cells;
-      serve = λ w l c ok at cells. serve p fence w t n l c legal copies kind needed ok at cells;
-      outputs = refl;
-    })
+by_groups : (p : PlainProgram) (s : State) (k : Kernel) (fence : ℕ → Fencing) → nest_kind s.tree ≡ OverGroups → AreNeeded fence s.tree s.types → k ≡ kernel_of_groups (declared_by p) fence s.tree s.types → IsPlainFor p s k
+by_groups p s k fence kind needed is = subst (λ (j : NestKind). IsPlainAs j (declared_by p) s.tree s.types k) (sym kind) (fence, needed, is)
 
 -- ---- as it is lowered
 
@@ -201,11 +166,9 @@ module _ (t : Typed) (l : Lowered) (is : IsLoweredOf t l) where
       group_emittable_lowered grammar stand least serve short =
           onto_lowered (λ d u n. IsGroupEmittable d barriers u n) (group_emittable (program_of t.program) (tree_of t.term) (annotation_of t.types) barriers accepted kind are_needed grammar stand least serve short)
 
-      pub groups_for : (k : Kernel) → LegalGroupsStandOverGroups → GroupTermsArePrinted → LegalGroupsStart → LegalGroupsKeep → LegalGroupsServe
-          → k ≡ kernel_of_groups (declared_of l) (fence_with barriers (tree_of l.term) (annotation_of l.types)) (tree_of l.term) (annotation_of l.types)
-          → IsKernelFor (program_of t.program) (state_of t) k
-      groups_for k stand law start keep serve is =
-          for_groups (program_of t.program) (state_of t) k (fence_with barriers (tree_of t.term) (annotation_of t.types)) accepted kind are_needed stand law start keep serve
+      pub plain_groups : (k : Kernel) → k ≡ kernel_of_groups (declared_of l) (fence_with barriers (tree_of l.term) (annotation_of l.types)) (tree_of l.term) (annotation_of l.types) → IsPlainFor (program_of t.program) (state_of t) k
+      plain_groups k is =
+          by_groups (program_of t.program) (state_of t) k (fence_with barriers (tree_of t.term) (annotation_of t.types)) kind are_needed
           (of_lowered (λ d u n. k ≡ kernel_of_groups d (fence_with barriers u n) u n) is)
 
 -- ---- its output can be laid out

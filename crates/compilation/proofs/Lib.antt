@@ -1,4 +1,5 @@
 pub mod Compiling
 pub mod Emitting
+pub mod Tidied
 pub mod Legality
 pub mod Once

@@ -21,6 +21,10 @@ use Rattle.printed_form.specs.Headline.{EveryRunKeeps}
 use Rattle.printed_form.specs.Programs.{AreBuffersOf, IsLaunchOf, Prints, cell_owner}
 use Rattle.group_phases.specs.Outcome.{BarriersServeAll}
 use Rattle.group_terms.specs.Programs.{PrintsGroups}
+use Rattle.barrier_placement.specs.Fencing.{Fencing}
+use Rattle.printable_terms.specs.Laws.{kernel_of_term}
+use Rattle.printable_groups.specs.Laws.{AreNeeded, kernel_of_groups}
+use Rattle.printed_indices.specs.Tidy.{IsTidyFor}
 use Rattle.rewriting.specs.Keeps.{Keeps}
 use Rattle.strategy_script.specs.Steps.{State}
 use Rattle.program_source.specs.Program.{IsRead}
@@ -56,15 +60,29 @@ abbrev pub ServesAtAll : PlainProgram → (output : PlainTy) → (last : State) 
 ServesAtAll p output last k = (w : World) (l : Launch) (c : Cells) → Admits p output (is_task last.tree) w l c
     → (filler : Cell → ℕ) × BarriersServeAll k l c filler
 
--- the kernel is the term's: printed for it, with its value, in as many lists as its type has
+-- the kernel is what the printers make of a term of this kind, with needed barriers
+abbrev pub IsPlainAs : NestKind → Declared → Tree → Annotation → Kernel → Type 0
+IsPlainAs Task d t n k = k ≡ kernel_of_term d t n
+IsPlainAs OverLaunch d t n k = k ≡ kernel_of_term d t n
+IsPlainAs OverGroups d t n k = (fence : ℕ → Fencing) × AreNeeded fence t n × (k ≡ kernel_of_groups d fence t n)
+
+abbrev pub IsPlainFor : PlainProgram → State → Kernel → Type 0
+IsPlainFor p s k = IsPlainAs (nest_kind s.tree) (declared_by p) s.tree s.types k
+
+-- it differs from that in its indices and bounds alone, of which no part is redundant, and which have no more nodes than those of the printers have with lengths counted in short
+abbrev pub IsTidy : PlainProgram → State → Kernel → Type 0
+IsTidy p s k = (plain : Kernel) × IsPlainFor p s plain × IsTidyFor plain.code k.code
+
+-- the kernel is the term's: printed for it, with its value, in as many lists as its type has, and tidy
 pub record IsKernelFor (p : PlainProgram) (s : State) (k : Kernel) : Type 0 where
   pub prints : PrintsAtAll p s k
   pub starts : StartsTerm p s k
   pub keeps : KeepsTerm p s k
   pub serve : ServesTerm p s k
+  pub tidy : IsTidy p s k
   pub outputs : k.outputs ≡ width (shape_of (type_in s.types))
 
--- The text is that of a kernel of the grammar, which is printed for the script's last term: a legal one, of the program's type and value. Its parameters are the launch's buffers and sizes in order; and at every admissible launch, on all inputs, whatever other memory holds, every run of it has no fault and at most the bound's events, writes each output cell at most once, by its owner, and can stop only with the program's value, which is of the output's type. The items of a group meet the same barriers with the same turn numbers, and between them use local arrays apart.
+-- The text is that of a kernel of the grammar, which is printed for the script's last term: a legal one, of the program's type and value. Its parameters are the launch's buffers and sizes in order; and at every admissible launch, on all inputs, whatever other memory holds, every run of it has no fault and at most the bound's events, writes each output cell at most once, by its owner, and can stop only with the program's value, which is of the output's type. The items of a group meet the same barriers with the same turn numbers, and between them use local arrays apart. No part of an index or a bound is redundant, and none has more nodes than the layouts' formulas put into one another.
 pub record IsCompiled (program script : List ℕ) (p : PlainProgram) (output : PlainTy) (task : Bool) (text : List ℕ) : Type 0 where
   pub read : IsRead program p
   pub typed : HasOutput p p.body output
@@ -78,3 +96,4 @@ pub record IsCompiled (program script : List ℕ) (p : PlainProgram) (output : P
   pub parameters : Starts p output (is_task last.tree) kernel
   pub meets : MeetsSource p output last kernel
   pub serve : ServesAtAll p output last kernel
+  pub tidy : IsTidy p last kernel

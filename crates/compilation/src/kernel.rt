@@ -8,7 +8,7 @@ ghost use Rattle.strategy_script.specs.Steps.{state_of};
 ghost use Rattle.nest_premises.specs.Kind.{nest_kind};
 ghost use Rattle.nest_premises.specs.declared.kind.NestKind.TheVariants.{OverGroups};
 ghost use Rattle.program_source.specs.Program.{StopsFor};
-ghost use Rattle.compilation.specs.Compiled.{IsKernelFor};
+ghost use Rattle.compilation.specs.Compiled.{IsKernelFor, IsPlainFor};
 ghost use Rattle.compilation.specs.Legal.{CompilesTerm, IsAccepted, IsLoweredOf, IsTypedLast};
 ghost use Rattle.compilation.specs.Meets.{CanBeLaidOut};
 
@@ -17,6 +17,7 @@ use barrier_free::laws::printed_programs_serve;
 use fault_lines::Refusal;
 use group_emit::kernel::emit_groups;
 use group_premises::laws::legal_groups_stand_over_groups;
+use group_terms::laws::{printed_group_programs_keep, printed_group_programs_start};
 use kernel_emit::kernel::emit;
 use kernel_emit::laws::copies_are_short;
 use kernel_limits::laws::terms_can_be_written;
@@ -29,15 +30,19 @@ use nest_premises::kind::{NestKind, nest_kind};
 use nest_premises::laws::{legal_terms_can_be_lowered, ungrouped_terms_are_printable};
 use nest_premises::steps::has_word_steps;
 use phase_plan::needed_barriers;
-use printable_groups::laws::{
-    group_terms_are_printed, legal_group_kernels_are_in_the_grammar, legal_groups_keep,
-    legal_groups_serve, legal_groups_start,
-};
+use printable_groups::laws::{group_terms_are_printed, legal_group_kernels_are_in_the_grammar};
 use printable_terms::laws::{kernels_are_in_the_grammar, terms_are_printed};
 use printed_form::laws::{printed_programs_keep, printed_programs_start};
+use printed_indices::laws::{
+    tidied_groups_are_tidy, tidied_terms_are_tidy, tidy_formulas_make_tidy,
+};
 use sound_parts::laws::{least_sizes_are_admissible, terms_have_sound_parts};
 use sound_parts::words::forms_have_words;
 use std::alloc::{AllocError, Global};
+use tidy_groups::laws::tidied_group_kernels_are_printed;
+use tidy_indices::laws::tidy_formulas_keep_values;
+use tidy_kernels::pass::tidied;
+use tidy_terms::laws::tidied_kernels_are_printed;
 
 // Outputs have numbers of 32 bits.
 fn has_few_outputs(kernel: &Kernel)
@@ -46,53 +51,60 @@ fn has_few_outputs(kernel: &Kernel)
     let _count = kernel.outputs;
 }
 
-// The kernel of a term that one work-item runs, or all of them.
+// The kernel that is printed for a term that one work-item runs, or all of them.
 fn item_kernel(alloc: Global, last: &Typed, lowered: &Lowered) -> Result<Kernel, AllocError>
     requires lowered { IsLoweredOf last.now lowered.now }
     requires accepted { IsAccepted (program_of last.now.program) (tree_of last.now.term)
         (annotation_of last.now.types) }
     requires kind { nest_kind (tree_of last.now.term) ≢ OverGroups }
-    ensures { IfOk result (λ k. IsKernelFor (program_of last.now.program)
+    ensures { IfOk result (λ k. IsPlainFor (program_of last.now.program)
         (state_of last.now) (kernel_of k)) }
 {
     copies_are_short();
     kernels_are_in_the_grammar();
     least_sizes_are_admissible();
     lowered_terms_serve();
-    printed_programs_keep();
-    printed_programs_serve();
-    printed_programs_start();
-    terms_are_printed();
     terms_can_be_written();
     terms_have_sound_parts();
     ungrouped_terms_are_printable();
     emit(alloc, lowered)
 }
 
-// The kernel of a term that work-groups run, with the barriers that its phases need.
+// The kernel that is printed for a term that work-groups run, with the barriers that its phases
+// need.
 fn group_kernel(alloc: Global, last: &Typed, lowered: &Lowered) -> Result<Kernel, AllocError>
     requires lowered { IsLoweredOf last.now lowered.now }
     requires accepted { IsAccepted (program_of last.now.program) (tree_of last.now.term)
         (annotation_of last.now.types) }
     requires kind { nest_kind (tree_of last.now.term) ≡ OverGroups }
-    ensures { IfOk result (λ k. IsKernelFor (program_of last.now.program)
+    ensures { IfOk result (λ k. IsPlainFor (program_of last.now.program)
         (state_of last.now) (kernel_of k)) }
 {
     copies_are_short();
-    group_terms_are_printed();
     least_sizes_are_admissible();
     legal_group_kernels_are_in_the_grammar();
-    legal_groups_keep();
-    legal_groups_serve();
     legal_groups_stand_over_groups();
-    legal_groups_start();
     lowered_terms_serve();
     let root = lower(alloc, &lowered.term, &lowered.types)?;
     let barriers = needed_barriers(alloc, &root)?;
     emit_groups(alloc, lowered, &barriers)
 }
 
-// The kernel of an accepted term, as its kind says.
+// The kernel that is printed for an accepted term, as its kind says.
+fn plain_kernel(alloc: Global, last: &Typed, lowered: &Lowered) -> Result<Kernel, AllocError>
+    requires lowered { IsLoweredOf last.now lowered.now }
+    requires accepted { IsAccepted (program_of last.now.program) (tree_of last.now.term)
+        (annotation_of last.now.types) }
+    ensures { IfOk result (λ k. IsPlainFor (program_of last.now.program)
+        (state_of last.now) (kernel_of k)) }
+{
+    match nest_kind(&last.term) {
+        NestKind::Task | NestKind::OverLaunch => item_kernel(alloc, last, lowered),
+        NestKind::OverGroups => group_kernel(alloc, last, lowered),
+    }
+}
+
+// The kernel of an accepted term: the printed one, with tidy indices and bounds.
 fn emitted(alloc: Global, last: &Typed, lowered: &Lowered) -> Result<Kernel, AllocError>
     requires lowered { IsLoweredOf last.now lowered.now }
     requires accepted { IsAccepted (program_of last.now.program) (tree_of last.now.term)
@@ -100,10 +112,23 @@ fn emitted(alloc: Global, last: &Typed, lowered: &Lowered) -> Result<Kernel, All
     ensures { IfOk result (λ k. IsKernelFor (program_of last.now.program)
         (state_of last.now) (kernel_of k)) }
 {
-    match nest_kind(&last.term) {
-        NestKind::Task | NestKind::OverLaunch => item_kernel(alloc, last, lowered),
-        NestKind::OverGroups => group_kernel(alloc, last, lowered),
-    }
+    group_terms_are_printed();
+    legal_groups_stand_over_groups();
+    printed_group_programs_keep();
+    printed_group_programs_start();
+    printed_programs_keep();
+    printed_programs_serve();
+    printed_programs_start();
+    terms_are_printed();
+    tidied_group_kernels_are_printed();
+    tidied_groups_are_tidy();
+    tidied_kernels_are_printed();
+    tidied_terms_are_tidy();
+    tidy_formulas_keep_values();
+    tidy_formulas_make_tidy();
+    ungrouped_terms_are_printable();
+    let plain = plain_kernel(alloc, last, lowered)?;
+    tidied(alloc, plain, &lowered.names)
 }
 
 /// The kernel of a last term, printed for it at each admissible launch. `Nest` and `Alloc` come in

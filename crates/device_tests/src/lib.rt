@@ -3,6 +3,8 @@
 #![tactic(auto)]
 
 #[cfg(test)]
+mod faults;
+#[cfg(test)]
 mod items;
 #[cfg(test)]
 mod kernels;
@@ -13,4 +15,8 @@ mod runs;
 #[cfg(test)]
 mod schedules;
 #[cfg(test)]
+mod texts;
+#[cfg(test)]
 mod traces;
+#[cfg(test)]
+mod worked;

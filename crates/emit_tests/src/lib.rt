@@ -1,5 +1,27 @@
-//! Tests of printed kernels' code, over public items alone.
+//! Tests of printed kernels' code, over public items alone: whole kernels by their texts, for programs along scripts, and one that is built by hand.
 #![tactic(auto)]
 
 #[cfg(test)]
+mod copies;
+#[cfg(test)]
+mod elements;
+#[cfg(test)]
+mod emission;
+#[cfg(test)]
+mod folds;
+#[cfg(test)]
+mod items;
+#[cfg(test)]
+mod last_terms;
+#[cfg(test)]
+mod private_copies;
+#[cfg(test)]
+mod reading;
+#[cfg(test)]
+mod sameness;
+#[cfg(test)]
 mod tiles;
+#[cfg(test)]
+mod work_groups;
+#[cfg(test)]
+mod writing;

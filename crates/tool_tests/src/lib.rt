@@ -8,6 +8,8 @@ mod demo;
 #[cfg(test)]
 mod groups;
 #[cfg(test)]
+mod indices;
+#[cfg(test)]
 mod kernels;
 #[cfg(test)]
 mod limits;

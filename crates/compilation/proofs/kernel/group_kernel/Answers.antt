@@ -11,8 +11,8 @@ use Rattle.kernel_emit.specs.Emittable.{declared_of}
 use Rattle.group_emit.specs.Emittable.{fence_with}
 use Rattle.printable_groups.specs.Laws.{kernel_of_groups}
 use Rattle.strategy_script.specs.Steps.{state_of}
-use Rattle.compilation.specs.Compiled.{IsKernelFor}
-use Rattle.compilation.proofs.Emitting.{group_emittable_lowered, groups_for, groups_lowered, over_groups}
+use Rattle.compilation.specs.Compiled.{IsPlainFor}
+use Rattle.compilation.proofs.Emitting.{group_emittable_lowered, groups_lowered, over_groups, plain_groups}
 
 pub needed_barriers-requires : goal.needed_barriers-requires
 needed_barriers-requires c =
@@ -33,9 +33,8 @@ returns c =
     let barriers = c.deref.result.now in
     IfOk-weaker c.emit_groups.result
     (λ (k : EmittedKernel). kernel_of k ≡ kernel_of_groups (declared_of low) (fence_with barriers (tree_of low.term) (annotation_of low.types)) (tree_of low.term) (annotation_of low.types))
-    (λ (k : EmittedKernel). IsKernelFor (program_of last.program) (state_of last) (kernel_of k))
+    (λ (k : EmittedKernel). IsPlainFor (program_of last.program) (state_of last) (kernel_of k))
     (λ k h.
-    groups_for last low c.requires.lowered (term_of c.in_ok-root.root) c.in_ok-root.ensures c.requires.accepted c.requires.kind
-    barriers c.in_ok-barriers.barriers.items c.deref.ensures.value c.in_ok-barriers.ensures.needed (kernel_of k)
-    c.legal_groups_stand_over_groups.ensures c.group_terms_are_printed.ensures c.legal_groups_start.ensures c.legal_groups_keep.ensures c.legal_groups_serve.ensures h)
+    plain_groups last low c.requires.lowered (term_of c.in_ok-root.root) c.in_ok-root.ensures c.requires.accepted c.requires.kind
+    barriers c.in_ok-barriers.barriers.items c.deref.ensures.value c.in_ok-barriers.ensures.needed (kernel_of k) h)
     c.emit_groups.ensures

@@ -4,8 +4,9 @@ use Rattle.kernel_tree.specs.Kernels.{kernel_of}
 use Rattle.lift_tree.specs.Annotations.{annotation_of}
 use Rattle.lift_tree.specs.Programs.{program_of}
 use Rattle.lift_tree.specs.Tree.{tree_of}
-use Rattle.strategy_script.specs.Steps.{state_of}
-use Rattle.compilation.proofs.Emitting.{emittable, emittable_lowered, for_items, kernel_lowered}
+use Rattle.lift_tree.specs.Typing.{declared_by}
+use Rattle.nest_premises.specs.Kind.{nest_kind}
+use Rattle.compilation.proofs.Emitting.{by_items, emittable, emittable_lowered, kernel_lowered}
 
 pub emit-requires : goal.emit-requires
 emit-requires c =
@@ -23,11 +24,8 @@ pub returns : goal.returns
 returns c =
     let last = c.args.last.now in
     let t = tree_of last.term in
-    let n = annotation_of last.types in
-    let accepted = c.requires.accepted in
-    let printable = c.ungrouped_terms_are_printable.ensures (program_of last.program) t n accepted.legal accepted.copies c.requires.kind in
     IfOk-weaker c.emit.result _ _
     (λ k h.
-    for_items (program_of last.program) (state_of last) (kernel_of k) printable c.requires.kind c.terms_are_printed.ensures c.printed_programs_start.ensures c.printed_programs_keep.ensures c.printed_programs_serve.ensures
+    by_items (nest_kind t) c.requires.kind (declared_by (program_of last.program)) t (annotation_of last.types) (kernel_of k)
     (kernel_lowered last c.args.lowered.now c.requires.lowered (kernel_of k) h))
     c.emit.ensures

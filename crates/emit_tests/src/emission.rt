@@ -1,0 +1,135 @@
+// What is emitted for a program along a script, part by part, beside the kernel of a text.
+
+ghost use Rattle.lowering.specs.Terms.{term_of};
+ghost use Rattle.kernel_emit.specs.Copies.{HasShortCopies};
+
+use crate::copies::has_short_copies;
+use crate::last_terms::lowered_last;
+use crate::sameness::is_same;
+use barrier_placement::Barrier;
+use group_emit::counts::phase_count;
+use group_emit::groups::groups;
+use group_emit::setting::Setting;
+use kernel_emit::arguments::{Declared, output};
+use kernel_emit::block::Block;
+use kernel_emit::kernel::counted;
+use kernel_emit::lengths::copy_lengths;
+use kernel_emit::scope::Scope;
+use kernel_emit::statements::{Site, put_written};
+use kernel_reader::read_kernel;
+use kernel_tree::tree::{Kernel, Stmt};
+use lowered_tree::lowered::Lowered;
+use lowering::lower::lower;
+use lowering::term::{Space, Term};
+use std::alloc::{AllocError, Global};
+use std::test::Fail;
+
+/// A program, a script, and the text of the kernel of its last term.
+pub struct Row {
+    pub program: &'static str,
+    pub script: &'static str,
+    pub kernel: &'static str,
+}
+
+// The code of a term that one work-item runs, or all of them.
+fn items_code(alloc: Global, lowered: &Lowered, term: &Term) -> Result<Vec<Stmt>, AllocError>
+    requires { HasShortCopies (term_of term.now) }
+{
+    let declared = Declared {
+        names: &lowered.names,
+        inputs: &lowered.inputs,
+    };
+    let target = output(alloc, declared.names, lowered.types.own_type())?;
+    let site = Site {
+        depth: 0,
+        scope: &Scope::Empty,
+        array: 0,
+        variable: 0,
+    };
+    let mut block = Block::new(alloc);
+    put_written(alloc, &declared, &site, term, &target, &mut block)?;
+    Ok(block.into_statements())
+}
+
+// The code of a term that work-groups run, with these barriers.
+fn groups_code(
+    alloc: Global,
+    lowered: &Lowered,
+    barriers: &[Barrier],
+    term: &Term,
+) -> Result<Vec<Stmt>, AllocError>
+    requires { HasShortCopies (term_of term.now) }
+{
+    let setting = Setting {
+        declared: Declared {
+            names: &lowered.names,
+            inputs: &lowered.inputs,
+        },
+        barriers,
+        phases: phase_count(term)?,
+    };
+    let target = output(alloc, &lowered.names, lowered.types.own_type())?;
+    let block = groups(alloc, &setting, &Scope::Empty, term, &target)?;
+    Ok(block.into_statements())
+}
+
+// Whether the kernel declares what is counted for the term.
+fn declares(
+    alloc: Global,
+    kernel: &Kernel,
+    lowered: &Lowered,
+    term: &Term,
+) -> Result<bool, AllocError>
+    requires { HasShortCopies (term_of term.now) }
+{
+    let counts = counted(lowered, term)?;
+    let locals = copy_lengths(alloc, Space::Local, term)?;
+    let privates = copy_lengths(alloc, Space::Private, term)?;
+    Ok(
+        counts.inputs == kernel.inputs
+            && counts.outputs == kernel.outputs
+            && counts.sizes == kernel.sizes
+            && counts.variables == kernel.variables
+            && locals == kernel.locals
+            && privates == kernel.privates,
+    )
+}
+
+// Whether what is emitted for the row, with these barriers where work-groups run it, is the kernel of its text.
+fn emits(alloc: Global, row: &Row, barriers: Option<&[Barrier]>) -> Result<bool, Fail> {
+    let Some(lowered) = lowered_last(alloc, row.program, row.script)? else {
+        return Ok(false);
+    };
+    let Ok(kernel) = read_kernel(alloc, row.kernel.as_bytes()) else {
+        return Ok(false);
+    };
+    let term = lower(alloc, &lowered.term, &lowered.types)?;
+    if !has_short_copies(alloc, &term) {
+        return Ok(false);
+    }
+    let code = match barriers {
+        None => items_code(alloc, &lowered, &term)?,
+        Some(barriers) => groups_code(alloc, &lowered, barriers, &term)?,
+    };
+    Ok(declares(alloc, &kernel, &lowered, &term)? && is_same(&code, &kernel.body))
+}
+
+/// Whether what is emitted for each row is the kernel of its text.
+pub fn all_are_emitted(alloc: Global, rows: &[Row]) -> Result<bool, Fail> {
+    for row in rows {
+        if !emits(alloc, row, None)? {
+            return Ok(false);
+        }
+    }
+    Ok(true)
+}
+
+/// The same of maps over work-groups, each with the barriers between its phases.
+pub fn all_are_emitted_with(alloc: Global, rows: &[(&[Barrier], Row)]) -> Result<bool, Fail> {
+    for (barriers, row) in rows {
+        if !emits(alloc, row, Some(*barriers))? {
+            return Ok(false);
+        }
+    }
+    Ok(true)
+}
