@@ -6,9 +6,13 @@ mod call;
 #[cfg(test)]
 mod groups;
 #[cfg(test)]
+mod hostile;
+#[cfg(test)]
 mod kernels;
 #[cfg(test)]
 mod limits;
+#[cfg(test)]
+mod nests;
 #[cfg(test)]
 mod outside;
 #[cfg(test)]
