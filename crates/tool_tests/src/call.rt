@@ -68,6 +68,16 @@ impl Call<'_> {
         Ok(MemoryFiles::new(texts, Vec::from_slice(alloc, self.failing_reads)?))
     }
 
+    /// Whether the words on these files end with status 0, some bytes and no line.
+    pub fn is_accepted(&self, alloc: Global, words: &[&str]) -> Result<bool, AllocError> {
+        let words = strings(alloc, words)?;
+        let mut files = self.files(alloc)?;
+        let mut output = MemorySink::new(alloc, 65_536, 16, Vec::new(alloc))?;
+        let mut error = MemorySink::new(alloc, 1_024, 8, Vec::new(alloc))?;
+        let ended = lift_tool(alloc, words.as_slice(), &mut files, &mut output, &mut error);
+        Ok(ended == 0 && !output.bytes().is_empty() && error.bytes().is_empty())
+    }
+
     /// Whether the words on these files end with this status and leave these bytes.
     pub fn ends(
         &self,

@@ -91,6 +91,36 @@ fn aligned_phases_have_no_barrier(rt: HostRuntime) -> Result<(), Fail> {
     Ok(())
 }
 
+// Two tiles of 8,192 numbers, copied to local memory one after another.
+const LARGE_TILES: &str = "__kernel void lift(__global const uint *a0, __global uint *o0)
+{
+  __local uint l0[8192];
+  uint v0;
+  uint v1;
+  for (uint i0 = (uint)get_group_id(0); i0 < 2u; i0 += (uint)get_num_groups(0)) {
+    for (uint i1 = (uint)get_local_id(0); i1 < 8192u; i1 += (uint)get_local_size(0)) {
+      v0 = a0[((i0 * 8192u) + i1)];
+      l0[i1] = v0;
+    }
+    for (uint i1 = (uint)get_local_id(0); i1 < 8192u; i1 += (uint)get_local_size(0)) {
+      v1 = l0[i1];
+      o0[((i0 * 8192u) + i1)] = v1;
+    }
+  }
+}
+";
+
+#[test]
+fn local_memory_may_have_32768_bytes(rt: HostRuntime) -> Result<(), Fail> {
+    let call = Call {
+        program: "input xs: [u32; 16384]; output map(\\x. x, xs)",
+        script: "at . split-map 8192\nat 0.1.0 local-copy\nat 0.1 to-lcl\nat 0 to-wrg",
+        ..FIRST
+    };
+    assert!(rt; call.ends(rt.alloc(), &COMPILE, 0, LARGE_TILES, "")?);
+    Ok(())
+}
+
 #[test]
 fn local_bytes_are_limited(rt: HostRuntime) -> Result<(), Fail> {
     let call = Call {

@@ -39,6 +39,13 @@ const BACKWARDS_LAUNCH: &str =
 const BACKWARDS: &str =
     "step 3\nstep 2\nstep 1\nstep 0\nstep 0 reads a0 0\nstep 0 writes o0 0\nstep 0\nstep 0 reads a0 4\nstep 0 writes o0 4\nstep 0\nstep 1 reads a0 1\nstep 1 writes o0 1\nstep 1\nstep 2 reads a0 2\nstep 2 writes o0 2\nstep 2\nstep 3 reads a0 3\nstep 3 writes o0 3\nstep 3\n{\"value\":[2,3,4,5,6],\"events\":19,\"releases\":0}\n";
 
+const SEED_7_LAUNCH: &str =
+    "{\"global\":4,\"local\":2,\"sizes\":{\"N\":5},\"inputs\":{\"xs\":[1,2,3,4,5]},\"schedule\":{\"seed\":7}}";
+
+// The generator's first numbers are 15648, 59866 and 40140: 0, 2 and 0 of four enabled events.
+const FROM_SEED_7: &str =
+    "step 0\nstep 2\nstep 0 reads a0 0\nstep 2 reads a0 2\nstep 1\nstep 0 writes o0 0\nstep 1 reads a0 1\nstep 0\nstep 3\nstep 3 reads a0 3\nstep 1 writes o0 1\nstep 0 reads a0 4\nstep 0 writes o0 4\nstep 3 writes o0 3\nstep 3\nstep 2 writes o0 2\nstep 0\nstep 2\nstep 1\n{\"value\":[2,3,4,5,6],\"events\":19,\"releases\":0}\n";
+
 fn tells(
     alloc: Global,
     program: &'static str,
@@ -102,5 +109,11 @@ fn a_map_over_the_launch_is_told_along_its_schedule(rt: HostRuntime) -> Result<(
         ..FIRST
     };
     assert!(rt; call.ends(rt.alloc(), &TRACED, 0, BACKWARDS, "")?);
+    let call = Call {
+        script: "at . to-glb",
+        launch: SEED_7_LAUNCH,
+        ..FIRST
+    };
+    assert!(rt; call.ends(rt.alloc(), &TRACED, 0, FROM_SEED_7, "")?);
     Ok(())
 }
