@@ -45,6 +45,7 @@ fn is_request(request: &Request, name: &str, files: &[&str]) -> bool {
             }
             _ => false,
         },
+        Request::Demo { .. } => false,
     }
 }
 
@@ -232,4 +233,48 @@ fn has_no_help_and_no_version(rt: HostRuntime) {
     assert!(rt; is_refused(&rt, ["-V"].as_slice()));
     assert!(rt; is_refused(&rt, ["compile", "--help"].as_slice()));
     assert!(rt; is_refused(&rt, ["compile", "p", "s", "--version"].as_slice()));
+}
+
+// The words ask for the demo of this seed.
+fn is_demo(rt: &HostRuntime, word: &str, want: u32) -> bool {
+    match read(rt.alloc(), ["demo", word].as_slice()) {
+        Ok(Request::Demo { seed }) => seed == want,
+        _ => false,
+    }
+}
+
+fn is_no_seed(rt: &HostRuntime, word: &str) -> bool {
+    is_refused(rt, ["demo", word].as_slice())
+}
+
+// Numbers of 32 bits.
+const SEEDS: [(&str, u32); 4] = [("0", 0), ("7", 7), ("10", 10), ("4294967295", 4294967295)];
+
+#[test]
+fn a_seed_is_a_number_of_32_bits(rt: HostRuntime) {
+    for (word, seed) in SEEDS {
+        assert!(rt; is_demo(&rt, word, seed), "{word}");
+    }
+}
+
+// No number, one with a leading zero or a sign, one of more than 32 bits, two words in one.
+const NO_SEEDS: [&str; 9] = [
+    "",
+    "07",
+    "00",
+    "+7",
+    "-7",
+    "4294967296",
+    "18446744073709551623",
+    "7 ",
+    "seven",
+];
+
+#[test]
+fn no_other_word_is_a_seed(rt: HostRuntime) {
+    for word in NO_SEEDS {
+        assert!(rt; is_no_seed(&rt, word), "{word}");
+    }
+    assert!(rt; is_refused(&rt, ["demo"].as_slice()));
+    assert!(rt; is_refused(&rt, ["demo", "7", "8"].as_slice()));
 }
