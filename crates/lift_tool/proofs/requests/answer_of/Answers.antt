@@ -1,3 +1,10 @@
+use Rattle.std.proofs.Common.{◌≡◌, List, inl, ℕ}
+use Rattle.command_line.specs.Requests.{line_of}
+use Rattle.fault_lines.specs.Failure.{status_of}
+use Rattle.fault_lines.specs.Shown.{failure_of}
+use Rattle.lift_tool.specs.Files.{Told}
+use Rattle.lift_tool.specs.Outcome.{FailsFor}
+use Rattle.lift_tool.proofs.Unread.{if_err, rose_between}
 use Rattle.lift_tool.proofs.requests.answer_of.Goals as goal
 
 pub returns-in-Compile-clause-refused : goal.returns-in-Compile-clause-refused
@@ -13,4 +20,7 @@ pub returns-in-Eval-clause-refused : goal.returns-in-Eval-clause-refused
 returns-in-Eval-clause-refused g c = rw c.in-Eval.is c.eval_files.ensures.refused
 
 pub returns-in-Demo-clause-refused : goal.returns-in-Demo-clause-refused
-returns-in-Demo-clause-refused g c = ?
+returns-in-Demo-clause-refused g c =
+    let told : Told = g.F.Files.told c.args.files.now in
+    let rose : List ℕ → Type 0 = rose_between (g.F.Files.faults c.args.files.now) (g.F.Files.faults c.args.files.now) in
+    if_err (λ e. status_of (failure_of e) ≡ 13) (λ e. FailsFor told rose (line_of c.args.request) (failure_of e)) _ (λ e memory. inl memory) c.demo_text.ensures.refused
