@@ -75,6 +75,14 @@ fn a_demo_whose_output_fails_has_written_a_prefix(rt: HostRuntime) -> Result<(),
         failing_out: &[2],
         ..FIRST
     };
-    assert!(rt; call.ends(rt.alloc(), &["demo", "7"], 4, "demo 7: events 7", "lift: write\n")?);
+    assert!(rt;
+        call.ends(
+            rt.alloc(),
+            &["demo", "7"],
+            4,
+            "demo 7: events 7",
+            "lift: write\n"
+        )?
+    );
     Ok(())
 }
