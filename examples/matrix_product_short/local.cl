@@ -20,7 +20,7 @@ __kernel void lift(__global const uint *a0, __global const uint *a1, __global ui
         v4 = (v2 * v3);
         v1 = (v1 + v4);
       }
-      o0[((i0 * s1) + ((i1 * 1u) + 0u))] = v1;
+      o0[((i0 * s1) + i1)] = v1;
     }
     barrier(CLK_LOCAL_MEM_FENCE);
   }

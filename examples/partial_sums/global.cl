@@ -16,15 +16,15 @@ __kernel void lift(__global const uint *a0, __global const uint *a1, __global ui
         v3 = (v1 * v2);
         v0 = (v0 + v3);
       }
-      p0[((i1 * 1u) + 0u)] = v0;
+      p0[i1] = v0;
     }
     for (uint i1 = 0u; i1 < 2u; i1 += 1u) {
       v4 = 0u;
       for (uint i2 = 0u; i2 < 2u; i2 += 1u) {
-        v5 = p0[((((i1 * 2u) + (i2 / 1u)) * 1u) + (i2 % 1u))];
+        v5 = p0[((i1 * 2u) + i2)];
         v4 = (v4 + v5);
       }
-      o0[((i0 * 2u) + ((i1 * 1u) + 0u))] = v4;
+      o0[((i0 * 2u) + i1)] = v4;
     }
   }
 }

@@ -16,16 +16,16 @@ __kernel void lift(__global const uint *a0, __global const uint *a1, __global ui
         v3 = (v1 * v2);
         v0 = (v0 + v3);
       }
-      l0[((i1 * 1u) + 0u)] = v0;
+      l0[i1] = v0;
     }
     barrier(CLK_LOCAL_MEM_FENCE);
     for (uint i1 = (uint)get_local_id(0); i1 < 2u; i1 += (uint)get_local_size(0)) {
       v4 = 0u;
       for (uint i2 = 0u; i2 < 2u; i2 += 1u) {
-        v5 = l0[((((i1 * 2u) + (i2 / 1u)) * 1u) + (i2 % 1u))];
+        v5 = l0[((i1 * 2u) + i2)];
         v4 = (v4 + v5);
       }
-      o0[((i0 * 2u) + ((i1 * 1u) + 0u))] = v4;
+      o0[((i0 * 2u) + i1)] = v4;
     }
     barrier(CLK_LOCAL_MEM_FENCE);
   }

@@ -14,7 +14,7 @@ __kernel void lift(__global const uint *a0, __global uint *o0, const uint s0)
     for (uint i1 = (uint)get_local_id(0); i1 < 4u; i1 += (uint)get_local_size(0)) {
       for (uint i2 = 0u; i2 < 2u; i2 += 1u) {
         v1 = l0[((i2 * 4u) + i1)];
-        o0[(((((((i1 * (s0 / 2u)) + i0) * 2u) + i2) / (2u * (s0 / 2u))) * (2u * (s0 / 2u))) + (((((i1 * (s0 / 2u)) + i0) * 2u) + i2) % (2u * (s0 / 2u))))] = v1;
+        o0[((((i1 * (s0 / 2u)) + i0) * 2u) + i2)] = v1;
       }
     }
     barrier(CLK_LOCAL_MEM_FENCE);
