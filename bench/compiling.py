@@ -6,8 +6,8 @@ usage: bench/compiling.py
 Counts the instructions (valgrind --tool=callgrind) of `lift compile` on legal terms of one work-item, of some 512 to 4,000 nodes,
 of four shapes. Prints them less those of a term of a few nodes, in all and per node.
 
-Counted once: 9,800 to 10,000 instructions a node of the tree, 11,700 to 12,000 of the lets, 242,000 to 280,000 of the maps (whose
-120 steps each copy and type the term), 9,800 to 10,400 under the layouts; none grows by more than a seventh from 512 nodes on.
+Counted once: 9,500 to 9,800 instructions a node of the tree, 11,400 to 11,800 of the lets, 242,000 to 280,000 of the maps (whose
+120 steps each copy and type the term), 9,600 to 10,200 under the layouts; none grows by more than a sixth from 512 nodes on.
 """
 import tempfile
 from pathlib import Path

@@ -8,7 +8,7 @@ time of three calls of `eval` and of `run`, and the events of the run. Reading t
 both; reading the script, printing the kernel and reading it back only in `run`. `run` pays for each event and `eval` for
 each element that it forms, so their ratio says how much dearer it is to follow every work-item than to know the value.
 
-Not taken yet.
+Counted once: eval 13.2 million instructions; run 29.5 (sequential, 53,249 events), 33.8 (global, 53,504) and 183 (tiled, 278,784).
 """
 import json
 import tempfile

@@ -6,7 +6,7 @@ usage: bench/running.py
 Counts the instructions (valgrind --tool=callgrind) of `lift run` at one work-item, which sums N numbers in each of M rows, for
 10^4, 10^5 and 10^6 events. Prints them less those of `lift eval` on the same launch file, in all and per event.
 
-Counted once: 142, 114 and 108 instructions an event.
+Counted once: 192, 158 and 155 instructions an event.
 """
 import json
 import tempfile

@@ -12,7 +12,9 @@ compiler does behind the script: it judges the nest, plans, prints and writes. T
 
 Prints the count in all, and for each node of the last term more than in the first of its shape.
 
-Not taken yet.
+Counted once: 32,800 instructions for each node more at 2 layouts, 51,300 at 6, 154,000 at 12, 725,000 at 18 and 4.2 million at 24:
+the wanted bound isn't kept, since each split of a join doubles the plain index, which is made before it is simplified. With the
+phases: 15,000 at 2 stencils in a tile, 14,000 at 20.
 """
 import tempfile
 from pathlib import Path
