@@ -1,9 +1,9 @@
 -- The values of indices through layouts and in row-major order: no operation in them wraps.
-use Rattle.std.proofs.Common.{◌≡◌, ℕ, ℤ, pos, ◌+◌, ◌*◌, ◌-◌, ◌/◌, ◌%◌, ◌<◌, ◌≤◌, ◌^◌, ◌-ℤ◌, Bool, List, [], ◌∷◌, refl, sym, ap, ◌∙◌, subst, min, max, arith}
-use Rattle.std.specs.Prelude.{unsigned_abs}
+use Rattle.std.proofs.Common.{◌≡◌, ℕ, ℤ, pos, ◌+◌, ◌*◌, ◌-◌, ◌/◌, ◌%◌, ◌<◌, ◌≤◌, ◌^◌, ◌-ℤ◌, Bool, true, false, List, [], ◌∷◌, refl, sym, ap, ◌∙◌, subst, min, max, arith}
+use Rattle.std.specs.Prelude.{◌&&◌, if◌then◌else◌, unsigned_abs}
 use Rattle.std.specs.Int.{int_min, int_max}
 use Rattle.std.proofs.lemmas.Int.{ints, clamps}
-use Rattle.std.proofs.Math.Nat.{div-le_self, mod-le, mul-le-mul_left}
+use Rattle.std.proofs.Math.Nat.{div-le_self, mod-le, mul-le-mul_left, mod-add-div'}
 use Rattle.lift_ir.specs.Types.{Shape, Ty, Scalar, PairOf, ArrayOf, measured, size, flat, IsPosition, IsFlat, IsShort}
 use Rattle.lift_ir.specs.Layouts.{Layout, Split, Join, Transpose, Slide, Pad, operand_position, result_position, IsInvertible}
 use Rattle.lift_ir.proofs.Positions.{operand_in, join_in}
@@ -12,7 +12,10 @@ use Rattle.index_expr.specs.declared.operation.Operation.{Operation}
 use Rattle.index_expr.specs.declared.operation.Operation.TheVariants.{Sum, Difference, Product, Quotient, Remainder, Least, Greatest}
 use Rattle.index_expr.specs.Expression.{Expression, Literal, Binary}
 use Rattle.index_expr.specs.Values.{exact, operate, Divides, WantsWords, IsWord}
-use Rattle.array_views.specs.Layouts.{flattened, parted, swapped, clamped, to_operand, to_result}
+use Rattle.index_simplify.specs.Laws.{first_part}
+use Rattle.index_simplify.specs.Tests.{same}
+use Rattle.index_simplify.proofs.Tests.{same_value}
+use Rattle.array_views.specs.Layouts.{are_parts, cell_in_rows, flattened, parted, swapped, clamped, to_operand, to_result}
 use Rattle.array_views.specs.Accesses.{row_major, row_major_from}
 use Rattle.array_views.specs.Cells.{number_at, IsIndex, AreIndices, HasLengths, Leads}
 
@@ -61,6 +64,46 @@ module _ (sizes variables : List ℕ) where
   step : (f g h : Expression) (i m j : ℕ) → IsIndex sizes variables f i → IsIndex sizes variables g m → IsIndex sizes variables h j → i * m + j < 2 ^ 32 → IsIndex sizes variables (Binary Sum (Binary Product f g) h) (i * m + j)
   step f g h i m j a b c lt = plain Sum (Binary Product f g) h (i * m) j (i * m + j) (λ w. w) (λ d. d) (plain Product f g i m (i * m) (λ w. w) (λ d. d) a b refl (omega arith)) c refl lt
 
+  -- ---- the row and the column of one index
+  both_true : (a b : Bool) → (a && b) ≡ true → (a ≡ true) × (b ≡ true)
+  both_true true b h = (refl, h)
+  both_true false b h = absurd (cc h)
+
+  natural_of : (z : ℤ) → IsWord z → (v : ℕ) × (z ≡ pos v)
+  natural_of (pos v) w = (v, refl)
+  natural_of _ w = absurd (omega (arith, ints, w.0))
+
+  -- of its quotient and its remainder an index is known
+  divided : (e n f k : Expression) (i m j : ℕ) → exact sizes variables n ≡ pos m → exact sizes variables k ≡ pos m → exact sizes variables e ≡ exact sizes variables f → IsIndex sizes variables (Binary Quotient e n) i → IsIndex sizes variables (Binary Remainder f k) j → IsIndex sizes variables e (i * m + j)
+  divided e n f k i m j n_is k_is same_value a b =
+      let w = natural_of (exact sizes variables e) (a.ranged.0.0 tt).0 in
+      let x = w.0 in
+      let row : x / m ≡ i = ap unsigned_abs (sym (ap (λ z. operate Quotient z (exact sizes variables n)) w.1 ∙ ap (operate Quotient (pos x)) n_is) ∙ a.value) in
+      let column : x % m ≡ j = ap unsigned_abs (sym (ap (λ z. operate Remainder z (exact sizes variables k)) (sym same_value ∙ w.1) ∙ ap (operate Remainder (pos x)) k_is) ∙ b.value) in
+      record {
+        value = w.1 ∙ ap pos (sym (mod-add-div' x m) ∙ ap (λ z. z + x / m * m) column ∙ ap (λ z. j + z * m) row ∙ turned i m j);
+        ranged = (a.ranged.0.1, (a.ranged.0.0 tt).0);
+        divisors = a.divisors.1;
+      }
+    where
+      turned : (i m j : ℕ) → j + i * m ≡ i * m + j
+      turned i m j = omega arith
+
+  whole : (f g h : Expression) (i m j : ℕ) → are_parts f g h ≡ true → IsIndex sizes variables f i → IsIndex sizes variables g m → IsIndex sizes variables h j → IsIndex sizes variables (first_part f) (i * m + j)
+  whole (Binary Quotient e n) g (Binary Remainder f k) i m j p a c b =
+      let front = both_true (same e f && same n g) (same k g) p in
+      let x = both_true (same e f) (same n g) front.0 in
+      divided e n f k i m j (same_value sizes variables n g x.1 ∙ c.value) (same_value sizes variables k g front.1 ∙ c.value) (same_value sizes variables e f x.0) a b
+  whole _ _ _ i m j p a c b = absurd (cc p)
+
+  -- the index of a column in a row
+  cell : (f g h : Expression) (i m j : ℕ) → IsIndex sizes variables f i → IsIndex sizes variables g m → IsIndex sizes variables h j → i * m + j < 2 ^ 32 → IsIndex sizes variables (cell_in_rows f g h) (i * m + j)
+  cell f g h i m j a c b lt = go (are_parts f g h) refl
+    where
+      go : (z : Bool) → are_parts f g h ≡ z → IsIndex sizes variables (if z then first_part f else Binary Sum (Binary Product f g) h) (i * m + j)
+      go true e = whole f g h i m j e a c b
+      go false e = step f g h i m j a c b lt
+
   parts : (f g : Expression) (i m : ℕ) → 0 < m → IsIndex sizes variables f i → IsIndex sizes variables g m → IsIndex sizes variables (Binary Quotient f g) (i / m) × IsIndex sizes variables (Binary Remainder f g) (i % m)
   parts f g i m some a b =
       let lt = fits f i a in
@@ -89,7 +132,7 @@ module _ (sizes variables : List ℕ) where
       go (f ∷ []) (i ∷ j ∷ q) w g = absurd g.1
       go (f ∷ h ∷ fs) (i ∷ j ∷ q) w g =
           let b = operand_in num (Split m) (ArrayOf n t) (ArrayOf (n / num m) (ArrayOf (num m) t)) cs (i ∷ j ∷ q) (a.shapes.0, a.shapes.1, refl) w in
-          (step f m h i (num m) j g.0 a.lengths g.1.0 (let x = b.0 in let z = a.operand.0 in omega arith), g.1.1)
+          (cell f m h i (num m) j g.0 a.lengths g.1.0 (let x = b.0 in let z = a.operand.0 in omega arith), g.1.1)
   operand_exact (Join m) (ArrayOf n (ArrayOf k t)) u cs is q a w g = go is q (subst (λ z. IsPosition z cs q) a.shapes.2 w) g
     where
       go : (is : List Expression) (q : List ℕ) → IsPosition (ArrayOf (n * num m) t) cs q → AreIndices sizes variables is q → AreIndices sizes variables (parted m is) (operand_position num (Join m) q)
@@ -113,7 +156,7 @@ module _ (sizes variables : List ℕ) where
       go (f ∷ []) (i ∷ j ∷ q) w g = absurd g.1
       go (f ∷ h ∷ fs) (i ∷ j ∷ q) w g =
           let b = operand_in num (Slide s k) (ArrayOf n t) (ArrayOf ((n - s) / k + 1) (ArrayOf s t)) cs (i ∷ j ∷ q) (a.shapes.0, a.shapes.1, a.shapes.2, refl) w in
-          (step f (Literal k) h i k j g.0 (literal k a.step) g.1.0 (let x = b.0 in let z = a.operand.0 in omega arith), g.1.1)
+          (cell f (Literal k) h i k j g.0 (literal k a.step) g.1.0 (let x = b.0 in let z = a.operand.0 in omega arith), g.1.1)
   operand_exact (Pad x y k) (ArrayOf n t) u cs is q a w g = go is q w g
     where
       go : (is : List Expression) (q : List ℕ) → IsPosition u cs q → AreIndices sizes variables is q → AreIndices sizes variables (clamped (Literal x) k is) (operand_position num (Pad x y k) q)
@@ -137,7 +180,7 @@ module _ (sizes variables : List ℕ) where
       let s = subst IsShort a.shapes.2 a.result in
       let e = a.shapes.1 in
       let lt = join_in i j (num m) n w.0 (let b = w.1.0 in omega arith) in
-      (step f m h i (num m) j g.0 a.lengths g.1.0 (let c = s.0 in omega arith), g.1.1)
+      (cell f m h i (num m) j g.0 a.lengths g.1.0 (let c = s.0 in omega arith), g.1.1)
   result_exact Transpose (ArrayOf n (ArrayOf m t)) u cs is [] z a w g = absurd w
   result_exact Transpose (ArrayOf n (ArrayOf m t)) u cs is (i ∷ []) z a w g = absurd w.1
   result_exact Transpose (ArrayOf n (ArrayOf m t)) u cs [] (i ∷ j ∷ q) z a w g = absurd g

@@ -1,58 +1,164 @@
--- An index has the nodes of the formulas put into one another.
-use Rattle.std.proofs.Common.{◌≡◌, Bool, true, false, List, [], ◌∷◌, refl, ap, ◌∙◌}
-use Rattle.std.specs.Prelude.{map}
+-- An index has no more nodes than the formulas put into one another.
+use Rattle.std.proofs.Common.{ℕ, ◌+◌, ◌≤◌, Bool, true, false, List, [], ◌∷◌, arith}
+use Rattle.std.specs.Prelude.{◌==◌, ◌%◌, ◌&&◌, nat_lt, if◌then◌else◌, map}
 use Rattle.lift_ir.specs.Types.{Shape, Scalar, PairOf, ArrayOf}
 use Rattle.lift_ir.specs.Layouts.{Layout, Split, Join, Transpose, Slide, Pad}
-use Rattle.index_expr.specs.declared.operation.Operation.TheVariants.{Sum, Product}
-use Rattle.index_expr.specs.Expression.{Expression, Binary, nodes}
-use Rattle.array_views.specs.Layouts.{to_operand, to_result}
+use Rattle.index_expr.specs.declared.operation.Operation.{Operation}
+use Rattle.index_expr.specs.declared.operation.Operation.TheVariants.{Sum, Difference, Product, Quotient, Remainder, Least, Greatest}
+use Rattle.index_expr.specs.Expression.{Expression, Variable, Literal, Size, Binary, nodes, short_nodes, short_operation, divisor_of, scaled_nodes}
+use Rattle.index_simplify.specs.Laws.{first_part}
+use Rattle.array_views.specs.Layouts.{are_parts, cell_in_rows, to_operand, to_result}
 use Rattle.array_views.specs.Views as view
 use Rattle.array_views.specs.Views.{PlainView}
 use Rattle.array_views.specs.Accesses.{row_major, row_major_from, access_at}
-use Rattle.array_views.specs.NodeCounts.{operand_nodes, result_nodes, row_major_nodes, placed_nodes, nodes_at, index_nodes}
+use Rattle.array_views.specs.NodeCounts.{operand_nodes, result_nodes, row_major_nodes, placed_nodes, nodes_at, index_nodes, HaveNoMoreNodes}
 
-from_nodes : (i : Expression) (t : Shape Expression) (is : List Expression) → nodes (row_major_from i t is) ≡ row_major_nodes (nodes i) t (map nodes is)
-from_nodes i Scalar is = refl
-from_nodes i (PairOf a b) is = refl
-from_nodes i (ArrayOf n t) [] = refl
-from_nodes i (ArrayOf n t) (j ∷ is) = from_nodes (Binary Sum (Binary Product i n) j) t is
+-- a count of nodes, which may leave some out
+pub record IsCount (count : Expression → ℕ) : Type 0 where
+  pub literal : (n : ℕ) → count (Literal n) ≤ 1
+  pub operation : (o : Operation) (a b : Expression) → count (Binary o a b) ≤ count a + count b + 1
+  pub first : (o : Operation) (a b : Expression) → count a ≤ count (Binary o a b)
 
-row_nodes : (t : Shape Expression) (is : List Expression) → nodes (row_major t is) ≡ placed_nodes t (map nodes is)
-row_nodes Scalar is = refl
-row_nodes (PairOf a b) is = refl
-row_nodes (ArrayOf n t) [] = refl
-row_nodes (ArrayOf n t) (i ∷ is) = from_nodes i t is
+pub all_nodes : IsCount nodes
+all_nodes = record { literal = λ n. omega arith; operation = λ o a b. omega arith; first = λ o a b. omega arith }
 
-operand_is : (y : Layout Expression) (is : List Expression) → map nodes (to_operand y is) ≡ operand_nodes y (map nodes is)
-operand_is (Split m) [] = refl
-operand_is (Split m) (i ∷ []) = refl
-operand_is (Split m) (i ∷ j ∷ is) = refl
-operand_is (Join m) [] = refl
-operand_is (Join m) (i ∷ is) = refl
-operand_is Transpose [] = refl
-operand_is Transpose (i ∷ []) = refl
-operand_is Transpose (i ∷ j ∷ is) = refl
-operand_is (Slide s t) [] = refl
-operand_is (Slide s t) (i ∷ []) = refl
-operand_is (Slide s t) (i ∷ j ∷ is) = refl
-operand_is (Pad l r n) [] = refl
-operand_is (Pad l r n) (i ∷ is) = refl
+-- ---- counted in short
+scaled_below : (c d plain : ℕ) → 3 ≤ plain → scaled_nodes c d plain ≤ plain
+scaled_below c d plain le = go (nat_lt 0 d && (c % d == 0)) (c == d)
+  where
+    go : (x y : Bool) → (if x then (if y then 1 else 3) else plain) ≤ plain
+    go true true = omega arith
+    go true false = omega arith
+    go false y = omega arith
 
-result_is : (y : Layout Expression) (is : List Expression) → map nodes (to_result y is) ≡ result_nodes y (map nodes is)
-result_is (Split m) is = operand_is (Join m) is
-result_is (Join m) is = operand_is (Split m) is
-result_is Transpose is = operand_is Transpose is
-result_is (Slide s t) is = refl
-result_is (Pad l r n) is = refl
+whole_below : (b : Bool) (plain : ℕ) → 1 ≤ plain → (if b then 1 else plain) ≤ plain
+whole_below true plain le = le
+whole_below false plain le = omega arith
 
-pub nodes_are : (v : PlainView) (cs : List Bool) (is : List Expression) → index_nodes (access_at v cs is) ≡ nodes_at v cs (map nodes is)
-nodes_are view.Nothing cs is = refl
-nodes_are (view.Variable n) cs is = refl
-nodes_are (view.Placed k n t) cs is = row_nodes t is
-nodes_are (view.Both x y) [] is = refl
-nodes_are (view.Both x y) (false ∷ cs) is = nodes_are x cs is
-nodes_are (view.Both x y) (true ∷ cs) is = nodes_are y cs is
-nodes_are (view.Component s x) cs is = nodes_are x (s ∷ cs) is
-nodes_are (view.At i x) cs is = nodes_are x cs (i ∷ is)
-nodes_are (view.Reading y x) cs is = nodes_are x cs (to_operand y is) ∙ ap (nodes_at x cs) (operand_is y is)
-nodes_are (view.Writing y x) cs is = nodes_are x cs (to_result y is) ∙ ap (nodes_at x cs) (result_is y is)
+scaled_some : (c d plain : ℕ) → 1 ≤ plain → 1 ≤ scaled_nodes c d plain
+scaled_some c d plain le = go (nat_lt 0 d && (c % d == 0)) (c == d)
+  where
+    go : (x y : Bool) → 1 ≤ (if x then (if y then 1 else 3) else plain)
+    go true true = omega arith
+    go true false = omega arith
+    go false y = le
+
+whole_some : (b : Bool) (plain : ℕ) → 1 ≤ plain → 1 ≤ (if b then 1 else plain)
+whole_some true plain le = omega arith
+whole_some false plain le = le
+
+short_below : (o : Operation) (a b : Expression) (plain : ℕ) → 3 ≤ plain → short_operation o a b plain ≤ plain
+short_below Product (Literal c) b plain le = scaled_below c (divisor_of b) plain le
+short_below Quotient (Size k) (Literal d) plain le = whole_below (d == 1) plain (omega arith)
+short_below _ _ _ plain le = omega arith
+
+short_above : (o : Operation) (a b : Expression) (plain : ℕ) → short_nodes a ≤ plain → 1 ≤ plain → short_nodes a ≤ short_operation o a b plain
+short_above Product (Literal c) b plain le some = scaled_some c (divisor_of b) plain some
+short_above Quotient (Size k) (Literal d) plain le some = whole_some (d == 1) plain some
+short_above _ _ _ plain le some = le
+
+short_some : (e : Expression) → 1 ≤ short_nodes e
+short_some (Variable k l g) = omega arith
+short_some (Literal n) = omega arith
+short_some (Size k) = omega arith
+short_some (Binary o a b) =
+    let x = short_some a in
+    let y = short_above o a b (short_nodes a + short_nodes b + 1) (omega arith) (omega arith) in
+    omega arith
+
+pub in_short : IsCount short_nodes
+in_short = record {
+  literal = λ n. omega arith;
+  operation = λ o a b. let x = short_some a in let y = short_some b in short_below o a b (short_nodes a + short_nodes b + 1) (omega arith);
+  first = λ o a b. short_above o a b (short_nodes a + short_nodes b + 1) (omega arith) (omega arith);
+}
+
+module _ (count : Expression → ℕ) (counts : IsCount count) where
+  -- indices of at most so many nodes
+  abbrev AreWithin : List Expression → List ℕ → Type 0
+  AreWithin [] [] = Unit {0}
+  AreWithin (i ∷ is) (n ∷ ns) = (count i ≤ n) × AreWithin is ns
+  AreWithin _ _ = ⊥
+
+  themselves : (is : List Expression) → AreWithin is (map count is)
+  themselves [] = tt
+  themselves (i ∷ is) = (omega arith, themselves is)
+
+  binary_within : (o : Operation) (a b : Expression) (m n : ℕ) → count a ≤ m → count b ≤ n → count (Binary o a b) ≤ m + n + 1
+  binary_within o a b m n x y = let z = counts.operation o a b in omega arith
+
+  first_within : (e : Expression) (n : ℕ) → count e ≤ n → count (first_part e) ≤ n
+  first_within (Variable k l g) n le = le
+  first_within (Literal m) n le = le
+  first_within (Size k) n le = le
+  first_within (Binary o a b) n le = let x = counts.first o a b in omega arith
+
+  step_within : (i m j : Expression) (a l b : ℕ) → count i ≤ a → count m ≤ l → count j ≤ b → count (Binary Sum (Binary Product i m) j) ≤ a + l + 1 + b + 1
+  step_within i m j a l b x y z = binary_within Sum (Binary Product i m) j (a + l + 1) b (binary_within Product i m a l x y) z
+
+  cell_within : (i m j : Expression) (a l b : ℕ) → count i ≤ a → count m ≤ l → count j ≤ b → count (cell_in_rows i m j) ≤ a + l + 1 + b + 1
+  cell_within i m j a l b x y z = go (are_parts i m j)
+    where
+      go : (p : Bool) → count (if p then first_part i else Binary Sum (Binary Product i m) j) ≤ a + l + 1 + b + 1
+      go true = first_within i (a + l + 1 + b + 1) (omega arith)
+      go false = step_within i m j a l b x y z
+
+  clamped_within : (i n : Expression) (l a : ℕ) → count i ≤ a → count (Binary Least (Binary Difference (Binary Greatest i (Literal l)) (Literal l)) (Binary Difference n (Literal 1))) ≤ a + 1 + 1 + 1 + 1 + (count n + 1 + 1) + 1
+  clamped_within i n l a x =
+      let past = binary_within Greatest i (Literal l) a 1 x (counts.literal l) in
+      let back = binary_within Difference (Binary Greatest i (Literal l)) (Literal l) (a + 1 + 1) 1 past (counts.literal l) in
+      let last = binary_within Difference n (Literal 1) (count n) 1 (omega arith) (counts.literal 1) in
+      binary_within Least (Binary Difference (Binary Greatest i (Literal l)) (Literal l)) (Binary Difference n (Literal 1)) (a + 1 + 1 + 1 + 1) (count n + 1 + 1) back last
+
+  operand_within : (y : Layout Expression) (is : List Expression) (ns : List ℕ) → AreWithin is ns → AreWithin (to_operand y is) (operand_nodes count y ns)
+  operand_within (Split m) [] [] h = tt
+  operand_within (Split m) (i ∷ []) (a ∷ []) h = h
+  operand_within (Split m) (i ∷ j ∷ is) (a ∷ b ∷ ns) h = (cell_within i m j a (count m) b h.0 (omega arith) h.1.0, h.1.1)
+  operand_within (Join m) [] [] h = tt
+  operand_within (Join m) (i ∷ is) (a ∷ ns) h =
+      (binary_within Quotient i m a (count m) h.0 (omega arith), (binary_within Remainder i m a (count m) h.0 (omega arith), h.1))
+  operand_within Transpose [] [] h = tt
+  operand_within Transpose (i ∷ []) (a ∷ []) h = h
+  operand_within Transpose (i ∷ j ∷ is) (a ∷ b ∷ ns) h = (h.1.0, (h.0, h.1.1))
+  operand_within (Slide s t) [] [] h = tt
+  operand_within (Slide s t) (i ∷ []) (a ∷ []) h = h
+  operand_within (Slide s t) (i ∷ j ∷ is) (a ∷ b ∷ ns) h = (cell_within i (Literal t) j a 1 b h.0 (counts.literal t) h.1.0, h.1.1)
+  operand_within (Pad l r n) [] [] h = tt
+  operand_within (Pad l r n) (i ∷ is) (a ∷ ns) h = (clamped_within i n l a h.0, h.1)
+  operand_within y _ _ h = absurd (assumption)
+
+  result_within : (y : Layout Expression) (is : List Expression) (ns : List ℕ) → AreWithin is ns → AreWithin (to_result y is) (result_nodes count y ns)
+  result_within (Split m) is ns h = operand_within (Join m) is ns h
+  result_within (Join m) is ns h = operand_within (Split m) is ns h
+  result_within Transpose is ns h = operand_within Transpose is ns h
+  result_within (Slide s t) is ns h = h
+  result_within (Pad l r n) is ns h = h
+
+  from_within : (i : Expression) (a : ℕ) (t : Shape Expression) (is : List Expression) (ns : List ℕ) → count i ≤ a → AreWithin is ns → count (row_major_from i t is) ≤ row_major_nodes count a t ns
+  from_within i a Scalar is ns x h = x
+  from_within i a (PairOf s t) is ns x h = x
+  from_within i a (ArrayOf n t) [] [] x h = x
+  from_within i a (ArrayOf n t) (j ∷ is) (b ∷ ns) x h = from_within (Binary Sum (Binary Product i n) j) (a + count n + 1 + b + 1) t is ns (step_within i n j a (count n) b x (omega arith) h.0) h.1
+  from_within i a t _ _ x h = absurd (assumption)
+
+  row_within : (t : Shape Expression) (is : List Expression) (ns : List ℕ) → AreWithin is ns → count (row_major t is) ≤ placed_nodes count t ns
+  row_within Scalar is ns h = counts.literal 0
+  row_within (PairOf s t) is ns h = counts.literal 0
+  row_within (ArrayOf n t) [] [] h = counts.literal 0
+  row_within (ArrayOf n t) (i ∷ is) (a ∷ ns) h = from_within i a t is ns h.0 h.1
+  row_within t _ _ h = absurd (assumption)
+
+  within : (v : PlainView) (cs : List Bool) (is : List Expression) (ns : List ℕ) → AreWithin is ns → index_nodes count (access_at v cs is) ≤ nodes_at count v cs ns
+  within view.Nothing cs is ns h = omega arith
+  within (view.Variable n) cs is ns h = omega arith
+  within (view.Placed k n t) cs is ns h = row_within t is ns h
+  within (view.Both x y) [] is ns h = omega arith
+  within (view.Both x y) (false ∷ cs) is ns h = within x cs is ns h
+  within (view.Both x y) (true ∷ cs) is ns h = within y cs is ns h
+  within (view.Component s x) cs is ns h = within x (s ∷ cs) is ns h
+  within (view.At i x) cs is ns h = within x cs (i ∷ is) (count i ∷ ns) (omega arith, h)
+  within (view.Reading y x) cs is ns h = within x cs (to_operand y is) (operand_nodes count y ns) (operand_within y is ns h)
+  within (view.Writing y x) cs is ns h = within x cs (to_result y is) (result_nodes count y ns) (result_within y is ns h)
+
+  pub no_more_nodes : HaveNoMoreNodes count
+  no_more_nodes v cs is = within v cs is (map count is) (themselves is)

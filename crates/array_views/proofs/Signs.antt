@@ -1,14 +1,21 @@
 -- What a view says is what the printed form's says.
 use Rattle.std.proofs.Common.{◌≡◌, ◌+◌, Bool, true, false, List, [], ◌∷◌, refl, ap, ◌∙◌}
-use Rattle.std.specs.Prelude.{map}
+use Rattle.std.specs.Prelude.{◌&&◌, if◌then◌else◌, map}
 use Rattle.lift_ir.specs.Types.{Shape, Scalar, PairOf, ArrayOf, component}
 use Rattle.lift_ir.specs.Layouts.{Layout, Split, Join, Transpose, Slide, Pad}
-use Rattle.printed_form.specs.Views.{Read, index_from, index_in, operand_indices, result_indices}
-use Rattle.index_expr.specs.declared.operation.Operation.TheVariants.{Sum, Product}
-use Rattle.index_expr.specs.Expression.{Expression, Binary}
-use Rattle.length_spelling.specs.Formulas.{index_formula}
+use Rattle.kernel_tree.specs.Formula.{Formula}
+use Rattle.kernel_tree.specs.Formula as formula
+use Rattle.scalar_ops.specs.declared.op.Op.TheVariants.{Add, Mul}
+use Rattle.printed_form.specs.Views as printed
+use Rattle.printed_form.specs.Views.{Read, same_operator, same_formula, index_from, index_in, operand_indices, result_indices}
+use Rattle.index_expr.specs.declared.operation.Operation.{Operation}
+use Rattle.index_expr.specs.declared.operation.Operation.TheVariants.{Sum, Difference, Product, Quotient, Remainder, Least, Greatest}
+use Rattle.index_expr.specs.Expression.{Expression, Variable, Literal, Size, Binary}
+use Rattle.index_simplify.specs.Laws.{first_part}
+use Rattle.index_simplify.specs.Tests.{same_operation, same}
+use Rattle.length_spelling.specs.Formulas.{operator_of, index_formula}
 use Rattle.array_views.specs.Arrays.{array_with}
-use Rattle.array_views.specs.Layouts.{to_operand, to_result}
+use Rattle.array_views.specs.Layouts.{are_parts, cell_in_rows, to_operand, to_result}
 use Rattle.array_views.specs.Views as view
 use Rattle.array_views.specs.Views.{PlainView, view_of}
 use Rattle.array_views.specs.Accesses.{sign_of, row_major, row_major_from, access_at}
@@ -25,10 +32,55 @@ index_is (PairOf a b) is = refl
 index_is (ArrayOf n t) [] = refl
 index_is (ArrayOf n t) (i ∷ is) = from_formula i t is
 
+-- ---- expressions are the same where their formulas are
+operation_is : (o p : Operation) → same_operation o p ≡ same_operator (operator_of o) (operator_of p)
+operation_is Sum Sum = refl
+operation_is Difference Difference = refl
+operation_is Product Product = refl
+operation_is Quotient Quotient = refl
+operation_is Remainder Remainder = refl
+operation_is Least Least = refl
+operation_is Greatest Greatest = refl
+operation_is _ _ = refl
+
+all_three : (a b c x y z : Bool) → a ≡ x → b ≡ y → c ≡ z → (a && b && c) ≡ (x && y && z)
+all_three a b c x y z p q r = ap (λ u. u && b && c) p ∙ ap (λ u. x && u && c) q ∙ ap (λ u. x && y && u) r
+
+same_is : (a b : Expression) → same a b ≡ same_formula (index_formula a) (index_formula b)
+same_is (Variable k l g) (Variable j m h) = refl
+same_is (Literal n) (Literal m) = refl
+same_is (Size k) (Size j) = refl
+same_is (Binary o a b) (Binary p c d) =
+    all_three (same_operation o p) (same a c) (same b d) (same_operator (operator_of o) (operator_of p)) (same_formula (index_formula a) (index_formula c)) (same_formula (index_formula b) (index_formula d))
+    (operation_is o p) (same_is a c) (same_is b d)
+same_is _ _ = refl
+
+parts_are : (i m j : Expression) → are_parts i m j ≡ printed.are_parts (index_formula i) (index_formula m) (index_formula j)
+parts_are (Binary Quotient e n) m (Binary Remainder f k) =
+    all_three (same e f) (same n m) (same k m) (same_formula (index_formula e) (index_formula f)) (same_formula (index_formula n) (index_formula m)) (same_formula (index_formula k) (index_formula m))
+    (same_is e f) (same_is n m) (same_is k m)
+parts_are _ _ _ = refl
+
+dividend_is : (e : Expression) → index_formula (first_part e) ≡ printed.dividend (index_formula e)
+dividend_is (Variable k l g) = refl
+dividend_is (Literal n) = refl
+dividend_is (Size k) = refl
+dividend_is (Binary o a b) = refl
+
+cell_is : (i m j : Expression) → index_formula (cell_in_rows i m j) ≡ printed.cell_in_rows (index_formula i) (index_formula m) (index_formula j)
+cell_is i m j = chosen (are_parts i m j) ∙ ap (λ b. if b then printed.dividend (index_formula i) else plain) (parts_are i m j)
+  where
+    plain : Formula
+    plain = formula.Binary Add (formula.Binary Mul (index_formula i) (index_formula m)) (index_formula j)
+
+    chosen : (b : Bool) → index_formula (if b then first_part i else Binary Sum (Binary Product i m) j) ≡ (if b then printed.dividend (index_formula i) else plain)
+    chosen true = dividend_is i
+    chosen false = refl
+
 operand_is : (y : Layout Expression) (is : List Expression) → map index_formula (to_operand y is) ≡ operand_indices index_formula y (map index_formula is)
 operand_is (Split m) [] = refl
 operand_is (Split m) (i ∷ []) = refl
-operand_is (Split m) (i ∷ j ∷ is) = refl
+operand_is (Split m) (i ∷ j ∷ is) = ap (λ z. z ∷ map index_formula is) (cell_is i m j)
 operand_is (Join m) [] = refl
 operand_is (Join m) (i ∷ is) = refl
 operand_is Transpose [] = refl
@@ -36,7 +88,7 @@ operand_is Transpose (i ∷ []) = refl
 operand_is Transpose (i ∷ j ∷ is) = refl
 operand_is (Slide s t) [] = refl
 operand_is (Slide s t) (i ∷ []) = refl
-operand_is (Slide s t) (i ∷ j ∷ is) = refl
+operand_is (Slide s t) (i ∷ j ∷ is) = ap (λ z. z ∷ map index_formula is) (cell_is i (Literal t) j)
 operand_is (Pad l r n) [] = refl
 operand_is (Pad l r n) (i ∷ is) = refl
 

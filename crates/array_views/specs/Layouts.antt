@@ -1,8 +1,10 @@
 -- Layouts whose lengths are index expressions, on index expressions.
-use Rattle.std.specs.Prelude.{List, ◌∷◌}
+use Rattle.std.specs.Prelude.{◌&&◌, if◌then◌else◌, Bool, false, List, ◌∷◌}
 use Rattle.lift_ir.specs.Layouts as ir
 use Rattle.index_expr.specs.declared.operation.Operation.TheVariants.{Sum, Difference, Product, Quotient, Remainder, Least, Greatest}
 use Rattle.index_expr.specs.Expression.{Expression, Literal, Binary, expression_of}
+use Rattle.index_simplify.specs.Laws.{first_part}
+use Rattle.index_simplify.specs.Tests.{same}
 use Rattle.array_views.specs.declared.layout.Layout.{Layout}
 use Rattle.array_views.specs.declared.layout.Layout.TheVariants as layout
 
@@ -21,9 +23,18 @@ spelled_layout spell ir.Transpose = ir.Transpose
 spelled_layout spell (ir.Slide s t) = ir.Slide s t
 spelled_layout spell (ir.Pad l r n) = ir.Pad l r (spell n)
 
+-- the row and the column of one index in rows of this length
+abbrev pub are_parts : (row length column : Expression) → Bool
+are_parts (Binary Quotient e n) m (Binary Remainder f k) = same e f && same n m && same k m
+are_parts _ _ _ = false
+
+-- the index of a column in a row of this length; the row and the column of one index are that index again
+abbrev pub cell_in_rows : (row length column : Expression) → Expression
+cell_in_rows i m j = if are_parts i m j then first_part i else Binary Sum (Binary Product i m) j
+
 -- the index in rows of this length one after another
 abbrev pub flattened : (length : Expression) → List Expression → List Expression
-flattened m (i ∷ j ∷ p) = Binary Sum (Binary Product i m) j ∷ p
+flattened m (i ∷ j ∷ p) = cell_in_rows i m j ∷ p
 flattened m p = p
 
 -- the row, and the index in it

@@ -1,8 +1,8 @@
--- The nodes of the formulas put into one another, from the nodes of the indices.
-use Rattle.std.specs.Prelude.{◌≡◌, ℕ, ◌+◌, Bool, true, false, List, ◌∷◌, map}
+-- The nodes of the layouts' formulas put into one another, from the nodes of the indices.
+use Rattle.std.specs.Prelude.{ℕ, ◌+◌, ◌≤◌, Bool, true, false, List, ◌∷◌, map}
 use Rattle.lift_ir.specs.Types.{Shape, ArrayOf}
 use Rattle.lift_ir.specs.Layouts.{Layout, Split, Join, Transpose, Slide, Pad}
-use Rattle.index_expr.specs.Expression.{Expression, nodes}
+use Rattle.index_expr.specs.Expression.{Expression, nodes, short_nodes}
 use Rattle.array_views.specs.Views.{PlainView, Placed, Both, Component, At, Reading, Writing}
 use Rattle.array_views.specs.Accesses as access
 use Rattle.array_views.specs.Accesses.{PlainAccess, access_at}
@@ -26,43 +26,48 @@ abbrev pub clamped_nodes : (length : ℕ) → List ℕ → List ℕ
 clamped_nodes n (i ∷ p) = (i + 1 + 1 + 1 + 1 + (n + 1 + 1) + 1) ∷ p
 clamped_nodes n p = p
 
-abbrev pub operand_nodes : Layout Expression → List ℕ → List ℕ
-operand_nodes (Split m) ns = flattened_nodes (nodes m) ns
-operand_nodes (Join m) ns = parted_nodes (nodes m) ns
-operand_nodes Transpose ns = swapped_nodes ns
-operand_nodes (Slide s t) ns = flattened_nodes 1 ns
-operand_nodes (Pad l r n) ns = clamped_nodes (nodes n) ns
+-- lengths and indices at elements are counted so
+module _ (count : Expression → ℕ) where
+  abbrev pub operand_nodes : Layout Expression → List ℕ → List ℕ
+  operand_nodes (Split m) ns = flattened_nodes (count m) ns
+  operand_nodes (Join m) ns = parted_nodes (count m) ns
+  operand_nodes Transpose ns = swapped_nodes ns
+  operand_nodes (Slide s t) ns = flattened_nodes 1 ns
+  operand_nodes (Pad l r n) ns = clamped_nodes (count n) ns
 
-abbrev pub result_nodes : Layout Expression → List ℕ → List ℕ
-result_nodes (Split m) ns = parted_nodes (nodes m) ns
-result_nodes (Join m) ns = flattened_nodes (nodes m) ns
-result_nodes Transpose ns = swapped_nodes ns
-result_nodes _ ns = ns
+  abbrev pub result_nodes : Layout Expression → List ℕ → List ℕ
+  result_nodes (Split m) ns = parted_nodes (count m) ns
+  result_nodes (Join m) ns = flattened_nodes (count m) ns
+  result_nodes Transpose ns = swapped_nodes ns
+  result_nodes _ ns = ns
 
--- i, then i * m + j for each further index j below m
-abbrev pub row_major_nodes : ℕ → Shape Expression → List ℕ → ℕ
-row_major_nodes i (ArrayOf m t) (j ∷ q) = row_major_nodes (i + nodes m + 1 + j + 1) t q
-row_major_nodes i _ _ = i
+  -- i, then i * m + j for each further index j below m
+  abbrev pub row_major_nodes : ℕ → Shape Expression → List ℕ → ℕ
+  row_major_nodes i (ArrayOf m t) (j ∷ q) = row_major_nodes (i + count m + 1 + j + 1) t q
+  row_major_nodes i _ _ = i
 
-abbrev pub placed_nodes : Shape Expression → List ℕ → ℕ
-placed_nodes (ArrayOf n t) (i ∷ q) = row_major_nodes i t q
-placed_nodes _ _ = 1
+  abbrev pub placed_nodes : Shape Expression → List ℕ → ℕ
+  placed_nodes (ArrayOf n t) (i ∷ q) = row_major_nodes i t q
+  placed_nodes _ _ = 1
 
-abbrev pub nodes_at : PlainView → List Bool → List ℕ → ℕ
-nodes_at (Placed k n t) cs ns = placed_nodes t ns
-nodes_at (Both x y) (false ∷ cs) ns = nodes_at x cs ns
-nodes_at (Both x y) (true ∷ cs) ns = nodes_at y cs ns
-nodes_at (Component s x) cs ns = nodes_at x (s ∷ cs) ns
-nodes_at (At i x) cs ns = nodes_at x cs (nodes i ∷ ns)
-nodes_at (Reading y x) cs ns = nodes_at x cs (operand_nodes y ns)
-nodes_at (Writing y x) cs ns = nodes_at x cs (result_nodes y ns)
-nodes_at _ cs ns = 0
+  abbrev pub nodes_at : PlainView → List Bool → List ℕ → ℕ
+  nodes_at (Placed k n t) cs ns = placed_nodes t ns
+  nodes_at (Both x y) (false ∷ cs) ns = nodes_at x cs ns
+  nodes_at (Both x y) (true ∷ cs) ns = nodes_at y cs ns
+  nodes_at (Component s x) cs ns = nodes_at x (s ∷ cs) ns
+  nodes_at (At i x) cs ns = nodes_at x cs (count i ∷ ns)
+  nodes_at (Reading y x) cs ns = nodes_at x cs (operand_nodes y ns)
+  nodes_at (Writing y x) cs ns = nodes_at x cs (result_nodes y ns)
+  nodes_at _ cs ns = 0
 
--- of a cell's index
-abbrev pub index_nodes : PlainAccess → ℕ
-index_nodes (access.InCell a e) = nodes e
-index_nodes _ = 0
+  -- of a cell's index
+  abbrev pub index_nodes : PlainAccess → ℕ
+  index_nodes (access.InCell a e) = count e
+  index_nodes _ = 0
 
--- an index has just the nodes of the formulas put into one another
-abbrev pub IndicesHaveTheirNodes : Type 0
-IndicesHaveTheirNodes = (v : PlainView) (cs : List Bool) (is : List Expression) → index_nodes (access_at v cs is) ≡ nodes_at v cs (map nodes is)
+  abbrev pub HaveNoMoreNodes : Type 0
+  HaveNoMoreNodes = (v : PlainView) (cs : List Bool) (is : List Expression) → index_nodes (access_at v cs is) ≤ nodes_at v cs (map count is)
+
+-- an index has no more nodes than the formulas put into one another, counted in full and in short
+abbrev pub IndicesHaveNoMoreNodes : Type 0
+IndicesHaveNoMoreNodes = HaveNoMoreNodes nodes × HaveNoMoreNodes short_nodes

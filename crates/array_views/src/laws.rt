@@ -1,6 +1,6 @@
 // Laws of views, each carried by a function that does nothing.
 
-ghost use Rattle.array_views.specs.NodeCounts.{IndicesHaveTheirNodes};
+ghost use Rattle.array_views.specs.NodeCounts.{IndicesHaveNoMoreNodes};
 ghost use Rattle.array_views.specs.Promises.{ViewsNameCells, CellsAreWithin, GoalsDiffer, GoalsAreFull};
 
 /// At indices that have a position's values, a view names what stands for the scalar there: the variable, or the cell, by an index with the value of the row-major formula, in which no operation wraps and nothing is divided by 0.
@@ -19,7 +19,7 @@ pub fn goals_are_one_to_one()
     ensures full { GoalsAreFull }
 {}
 
-/// An index has just as many nodes as the formulas put into one another have.
-pub fn indices_have_the_formulas_nodes()
-    ensures { IndicesHaveTheirNodes }
+/// An index has no more nodes than the formulas put into one another have.
+pub fn indices_have_no_more_nodes()
+    ensures { IndicesHaveNoMoreNodes }
 {}

@@ -7,11 +7,14 @@ ghost use Rattle.lift_ir.specs.AtLaunch.{inner_of, layout_of, outer_of};
 ghost use Rattle.index_expr.specs.Expression.{Literal, expression_of};
 ghost use Rattle.length_spelling.specs.Formulas.{spelled_length};
 ghost use Rattle.array_views.specs.Stacks.{indices_in};
+ghost use Rattle.index_simplify.specs.Laws.{first_part};
+ghost use Rattle.array_views.specs.Layouts as spec;
 ghost use Rattle.array_views.specs.Layouts.{layout_in, spelled_layout, flattened, parted, swapped, clamped, to_operand, to_result};
 
 use crate::extent::flat_index;
 use crate::stack::IndexStack;
 use index_expr::{Index, Operation};
+use index_simplify::same::same;
 use length_spelling::spelled_length;
 use lift_tree::term::UnaryForm;
 use lift_tree::ty::Ty;
@@ -127,7 +130,49 @@ fn flatten(alloc: Global, length: &Index, indices: &mut IndexStack) -> Result<()
     };
     match indices.pop() {
         None => indices.push(row),
-        Some(index) => indices.push(flat_index(alloc, row, length, index)?),
+        Some(column) => indices.push(cell_in_rows(alloc, row, length, column)?),
+    }
+}
+
+// The index of a column in a row of this length. Where one layout parts an index and the next puts
+// the parts together, that index comes back: else each such pair would double its nodes.
+fn cell_in_rows(
+    alloc: Global,
+    row: Index,
+    length: &Index,
+    column: Index,
+) -> Result<Index, AllocError>
+    ensures { IfOk result (λ i. expression_of i ≡ spec.cell_in_rows
+        (expression_of row) (expression_of length.now) (expression_of column)) }
+{
+    if are_parts(&row, length, &column) {
+        Ok(divided(row))
+    } else {
+        flat_index(alloc, row, length, column)
+    }
+}
+
+// Whether they are the row and the column of one index in rows of this length.
+fn are_parts(row: &Index, length: &Index, column: &Index) -> bool
+    ensures { result ≡ spec.are_parts
+        (expression_of row.now) (expression_of length.now) (expression_of column.now) }
+{
+    match (row, column) {
+        (
+            Index::Binary(Operation::Quotient, whole, divisor),
+            Index::Binary(Operation::Remainder, other, modulus),
+        ) => same(whole, other) && same(divisor, length) && same(modulus, length),
+        _ => false,
+    }
+}
+
+// What is divided in a quotient.
+fn divided(quotient: Index) -> Index
+    ensures { expression_of result ≡ first_part (expression_of quotient) }
+{
+    match quotient {
+        Index::Binary(_, whole, _) => Box::into_inner(whole),
+        leaf => leaf,
     }
 }
 

@@ -1,18 +1,18 @@
 -- Index expressions have the values of the positions: no sum or product in them wraps.
 use Rattle.std.proofs.Common.{◌≡◌, ℕ, suc, ◌+◌, ◌*◌, ◌-◌, ◌/◌, ◌%◌, ◌<◌, ◌≤◌, ◌^◌, Bool, true, false, List, [], ◌∷◌, ◌++◌, Some, None, refl, sym, ap, ◌∙◌, subst, arith}
-use Rattle.std.specs.Prelude.{min, max, if◌then◌else◌, ◌==◌, ◌&&◌}
-use Rattle.std.proofs.lemmas.Bool.{ne_eqb}
-use Rattle.std.proofs.Math.Nat.{mod-eq_of_lt, mul-le-mul_right, mul-le-mul_left, mod-lt}
+use Rattle.std.specs.Prelude.{min, max, if◌then◌else◌, ◌==◌, ◌&&◌, Option}
+use Rattle.std.proofs.lemmas.Bool.{ne_eqb, eqb-true}
+use Rattle.std.proofs.Math.Nat.{mod-eq_of_lt, mul-le-mul_right, mul-le-mul_left, mod-lt, mod-add-div'}
 use Rattle.scalar_ops.specs.declared.op.Op.{Op}
 use Rattle.scalar_ops.specs.declared.op.Op.TheVariants.{Add, Sub, Mul, Min, Max, Div, Rem}
 use Rattle.scalar_ops.specs.Operators.{apply_op}
-use Rattle.kernel_tree.specs.Formula.{Number, Formula, Binary, divides, operate}
+use Rattle.kernel_tree.specs.Formula.{Formula, Number, LoopVariable, Size, Binary, divides, operate, with_both, value}
 use Rattle.kernel_tree.specs.Code.{Array}
-use Rattle.kernel_tree.specs.Launch.{Launch}
+use Rattle.kernel_tree.specs.Launch.{Launch, ids_of}
 use Rattle.lift_ir.specs.Types.{Ty, Scalar, PairOf, ArrayOf, IsPosition, IsFlat, IsShort, width, component, size, flat, Shape, measured}
 use Rattle.lift_ir.specs.Layouts.{HasWordStep, Layout, Split, Join, Transpose, Slide, Pad, operand_position, Reshapes, result_position, IsInvertible}
 use Rattle.printed_form.specs.Marks.{laid_in}
-use Rattle.printed_form.specs.Views.{operand_indices, result_indices, laid_view, index_from, index_in, placed_view}
+use Rattle.printed_form.specs.Views.{same_operator, same_formula, are_parts, dividend, cell_in_rows, operand_indices, result_indices, laid_view, index_from, index_in, placed_view}
 use Rattle.printed_form.specs.Means.{IsSpelled, Means, AllMean, HasCells}
 use Rattle.lift_ir.proofs.Positions.{operand_in}
 use Rattle.lift_ir.proofs.Numbers.{flat_below}
@@ -41,6 +41,67 @@ module _ (l : Launch) {A : Type 0} (num : A → ℕ) (spell : A → Formula) (sp
   means_step : (ts : List ℕ) (f g h : Formula) (i j m n : ℕ) → Means l ts f i → Means l ts g m → Means l ts h j → i * m + j < n → n ≤ 2 ^ 32 → Means l ts (Binary Add (Binary Mul f g) h) (i * m + j)
   means_step ts f g h i j m n a c b lt fn =
       means_op ts Add (Binary Mul f g) h (i * m) j (i * m + j) refl (means_op ts Mul f g i m (i * m) refl a c (mod-eq_of_lt (omega arith)) (omega arith)) b (mod-eq_of_lt (omega arith)) (omega arith)
+
+  -- ---- the row and the column of one index
+  both_true : (a b : Bool) → (a && b) ≡ true → (a ≡ true) × (b ≡ true)
+  both_true true b h = (refl, h)
+  both_true false b h = absurd (cc h)
+
+  operator_is : (o p : Op) → same_operator o p ≡ true → o ≡ p
+  operator_is Add Add h = refl
+  operator_is Sub Sub h = refl
+  operator_is Mul Mul h = refl
+  operator_is Min Min h = refl
+  operator_is Max Max h = refl
+  operator_is Div Div h = refl
+  operator_is Rem Rem h = refl
+  operator_is _ _ h = absurd (cc h)
+
+  formula_is : (f g : Formula) → same_formula f g ≡ true → f ≡ g
+  formula_is (Number m) (Number n) h = ap Number (eqb-true m n h)
+  formula_is (LoopVariable i) (LoopVariable j) h = ap LoopVariable (eqb-true i j h)
+  formula_is (Size s) (Size t) h = ap Size (eqb-true s t h)
+  formula_is (Binary o a b) (Binary p c d) h =
+      let front = both_true (same_operator o p && same_formula a c) (same_formula b d) h in
+      let x = both_true (same_operator o p) (same_formula a c) front.0 in
+      ap (λ z. Binary z a b) (operator_is o p x.0) ∙ ap (λ z. Binary p z b) (formula_is a c x.1) ∙ ap (Binary p c) (formula_is b d front.1)
+  formula_is _ _ h = absurd (cc h)
+
+  parts_are : (f g h : Formula) → are_parts f g h ≡ true → (f ≡ Binary Div (dividend f) g) × (h ≡ Binary Rem (dividend f) g)
+  parts_are (Binary Div e n) m (Binary Rem f k) h =
+      let front = both_true (same_formula e f && same_formula n m) (same_formula k m) h in
+      let x = both_true (same_formula e f) (same_formula n m) front.0 in
+      (ap (Binary Div e) (formula_is n m x.1), ap (λ z. Binary Rem z k) (sym (formula_is e f x.0)) ∙ ap (Binary Rem e) (formula_is k m front.1))
+  parts_are _ _ _ h = absurd (cc h)
+
+  some_is : (m n : ℕ) → Some m ≡ Some n → m ≡ n
+  some_is m n e = cc e
+
+  -- what is divided, of its quotient and its remainder
+  divided : (v : Option ℕ) (m i j : ℕ) → 0 < m → with_both (operate Div) v (Some m) ≡ Some i → with_both (operate Rem) v (Some m) ≡ Some j → v ≡ Some (i * m + j)
+  divided None m i j pos a b = absurd (cc a)
+  divided (Some x) m i j pos a b =
+      let p = some_is (x / m) i (sym (operate_by Div x m pos) ∙ a) in
+      let q = some_is (x % m) j (sym (operate_by Rem x m pos) ∙ b) in
+      ap Some (sym (mod-add-div' x m) ∙ ap (λ z. z + x / m * m) q ∙ ap (λ z. j + z * m) p ∙ turned)
+    where
+      turned : j + i * m ≡ i * m + j
+      turned = omega arith
+
+  -- the index of a column in a row
+  means_cell : (ts : List ℕ) (f g h : Formula) (i j m n : ℕ) → 0 < m → Means l ts f i → Means l ts g m → Means l ts h j → i * m + j < n → n ≤ 2 ^ 32 → Means l ts (cell_in_rows f g h) (i * m + j)
+  means_cell ts f g h i j m n pos a c b lt fn = go (are_parts f g h) refl
+    where
+      go : (z : Bool) → are_parts f g h ≡ z → Means l ts (if z then dividend f else Binary Add (Binary Mul f g) h) (i * m + j)
+      go false e = means_step ts f g h i j m n a c b lt fn
+      go true e =
+          let p = parts_are f g h e in
+          record {
+            fits = omega arith;
+            always = λ k vs. divided (value (ids_of l k) ts vs (dividend f)) m i j pos
+                (ap (with_both (operate Div) (value (ids_of l k) ts vs (dividend f))) (sym (c.always k vs)) ∙ ap (value (ids_of l k) ts vs) (sym p.0) ∙ a.always k vs)
+                (ap (with_both (operate Rem) (value (ids_of l k) ts vs (dividend f))) (sym (c.always k vs)) ∙ ap (value (ids_of l k) ts vs) (sym p.1) ∙ b.always k vs);
+          }
 
   less : (x y : ℕ) → y ≤ x → x < 2 ^ 32 → (x + (2 ^ 32 - y)) % 2 ^ 32 ≡ x - y
   less x y le fx = omega arith
@@ -73,7 +134,7 @@ module _ (l : Launch) {A : Type 0} (num : A → ℕ) (spell : A → Formula) (sp
       go (f ∷ []) (i ∷ j ∷ q) w s g = absurd g.1
       go (f ∷ h ∷ fs) (i ∷ j ∷ q) w s g =
           let b = operand_in num (Split m) (ArrayOf n t) (ArrayOf (n / num m) (ArrayOf (num m) t)) cs (i ∷ j ∷ q) (a.0, a.1, refl) w in
-          (means_step ts f (spell m) h i j (num m) n g.0 (means_spell ts m s.1.0) g.1.0 b.0 (let z = sh.0 in omega arith), g.1.1)
+          (means_cell ts f (spell m) h i j (num m) n a.0 g.0 (means_spell ts m s.1.0) g.1.0 b.0 (let z = sh.0 in omega arith), g.1.1)
   operand_means ts (Join m) (ArrayOf n (ArrayOf k t)) u cs is q sp a sh su w g = go is q (subst (λ z. IsPosition z cs q) a.2 w) g
     where
       go : (is : List Formula) (q : List ℕ) → IsPosition (ArrayOf (n * num m) t) cs q → AllMean l ts is q → AllMean l ts (operand_indices spell (Join m) is) (operand_position num (Join m) q)
@@ -97,7 +158,7 @@ module _ (l : Launch) {A : Type 0} (num : A → ℕ) (spell : A → Formula) (sp
       go (f ∷ []) (i ∷ j ∷ q) w g = absurd g.1
       go (f ∷ h ∷ fs) (i ∷ j ∷ q) w g =
           let b = operand_in num (Slide s k) (ArrayOf n t) (ArrayOf ((n - s) / k + 1) (ArrayOf s t)) cs (i ∷ j ∷ q) (a.0, a.1, a.2, refl) w in
-          (means_step ts f (Number k) h i j k n g.0 (means_number ts k (omega (arith, sp))) g.1.0 b.0 (let z = sh.0 in omega arith), g.1.1)
+          (means_cell ts f (Number k) h i j k n a.0 g.0 (means_number ts k (omega (arith, sp))) g.1.0 b.0 (let z = sh.0 in omega arith), g.1.1)
   operand_means ts (Pad x y k) (ArrayOf n t) u cs is q sp a sh su w g = go is q (subst (λ z. IsPosition z cs q) (a.2 ∙ ap (λ z. ArrayOf (x + z + y) t) (sym a.1)) w) (subst IsShort (a.2 ∙ ap (λ z. ArrayOf (x + z + y) t) (sym a.1)) su) g
     where
       go : (is : List Formula) (q : List ℕ) → IsPosition (ArrayOf (x + num k + y) t) cs q → IsShort (ArrayOf (x + num k + y) t) → AllMean l ts is q → AllMean l ts (operand_indices spell (Pad x y k) is) (operand_position num (Pad x y k) q)
@@ -123,7 +184,7 @@ module _ (l : Launch) {A : Type 0} (num : A → ℕ) (spell : A → Formula) (sp
       let e = a.1 in
       let more = mul-le-mul_right {m = suc i} {n = n} (num m) w.0 in
       let lt : i * num m + j < n * num m = (let b = w.1.0 in omega arith) in
-      (means_step ts f (spell m) h i j (num m) (n * num m) g.0 (means_spell ts m (let c = sh.1.0 in omega arith)) g.1.0 lt (let c = s.0 in omega arith), g.1.1)
+      (means_cell ts f (spell m) h i j (num m) (n * num m) a.0 g.0 (means_spell ts m (let c = sh.1.0 in omega arith)) g.1.0 lt (let c = s.0 in omega arith), g.1.1)
   result_means ts Transpose (ArrayOf n (ArrayOf m t)) u cs is [] z a sh su w g = absurd w
   result_means ts Transpose (ArrayOf n (ArrayOf m t)) u cs is (i ∷ []) z a sh su w g = absurd w.1
   result_means ts Transpose (ArrayOf n (ArrayOf m t)) u cs [] (i ∷ j ∷ q) z a sh su w g = absurd g

@@ -1,7 +1,8 @@
 -- Views: what stands for scalars, their indices expressions.
-use Rattle.std.specs.Prelude.{ℕ, ◌+◌, Bool, true, false, List, ◌∷◌, Option, Some, None}
+use Rattle.std.specs.Prelude.{ℕ, ◌+◌, ◌==◌, ◌&&◌, if◌then◌else◌, Bool, true, false, List, ◌∷◌, Option, Some, None}
+use Rattle.scalar_ops.specs.declared.op.Op.{Op}
 use Rattle.scalar_ops.specs.declared.op.Op.TheVariants.{Add, Sub, Mul, Min, Max, Div, Rem}
-use Rattle.kernel_tree.specs.Formula.{Formula, Number, Variable, Binary}
+use Rattle.kernel_tree.specs.Formula.{Formula, Number, Variable, LoopVariable, Size, Binary}
 use Rattle.kernel_tree.specs.Code.{Array}
 use Rattle.lift_ir.specs.Types.{Shape, Ty, Scalar, PairOf, ArrayOf, width, component}
 use Rattle.lift_ir.specs.Layouts.{Layout, Split, Join, Transpose, Slide, Pad}
@@ -40,14 +41,46 @@ loaded_view (Each a b) x n = by_side (λ is. Blank) (loaded_view a (λ cs. x (fa
 abbrev pub view_at : Formula → View → View
 view_at i x = λ cs is. x cs (i ∷ is)
 
+-- the same operator of an index
+abbrev pub same_operator : Op → Op → Bool
+same_operator Add Add = true
+same_operator Sub Sub = true
+same_operator Mul Mul = true
+same_operator Min Min = true
+same_operator Max Max = true
+same_operator Div Div = true
+same_operator Rem Rem = true
+same_operator _ _ = false
+
+-- the same expression, of the forms that indices and lengths have
+abbrev pub same_formula : Formula → Formula → Bool
+same_formula (Number m) (Number n) = m == n
+same_formula (LoopVariable i) (LoopVariable j) = i == j
+same_formula (Size s) (Size t) = s == t
+same_formula (Binary o a b) (Binary p c d) = same_operator o p && same_formula a c && same_formula b d
+same_formula _ _ = false
+
+-- the row and the column of one index in rows of this length
+abbrev pub are_parts : (row length column : Formula) → Bool
+are_parts (Binary Div e n) m (Binary Rem f k) = same_formula e f && same_formula n m && same_formula k m
+are_parts _ _ _ = false
+
+abbrev pub dividend : Formula → Formula
+dividend (Binary o e n) = e
+dividend e = e
+
+-- the index of a column in a row of this length; the row and the column of one index are that index again
+abbrev pub cell_in_rows : (row length column : Formula) → Formula
+cell_in_rows i m j = if are_parts i m j then dividend i else Binary Add (Binary Mul i m) j
+
 -- lengths are spelled so
 module _ {A : Type 0} (spell : A → Formula) where
   -- the indices in the operand of indices in the result
   abbrev pub operand_indices : Layout A → List Formula → List Formula
-  operand_indices (Split m) (i ∷ j ∷ p) = Binary Add (Binary Mul i (spell m)) j ∷ p
+  operand_indices (Split m) (i ∷ j ∷ p) = cell_in_rows i (spell m) j ∷ p
   operand_indices (Join m) (i ∷ p) = Binary Div i (spell m) ∷ Binary Rem i (spell m) ∷ p
   operand_indices Transpose (i ∷ j ∷ p) = j ∷ i ∷ p
-  operand_indices (Slide s t) (i ∷ j ∷ p) = Binary Add (Binary Mul i (Number t)) j ∷ p
+  operand_indices (Slide s t) (i ∷ j ∷ p) = cell_in_rows i (Number t) j ∷ p
   operand_indices (Pad l r n) (i ∷ p) = Binary Min (Binary Sub (Binary Max i (Number l)) (Number l)) (Binary Sub (spell n) (Number 1)) ∷ p
   operand_indices _ p = p
 

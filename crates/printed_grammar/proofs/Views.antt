@@ -1,19 +1,19 @@
 -- What views stand for is of the kernel grammar.
 use Rattle.std.proofs.Common.{◌≡◌, ℕ, suc, ◌+◌, ◌*◌, ◌<◌, ◌≤◌, Bool, true, false, List, [], ◌∷◌, refl, arith}
-use Rattle.std.specs.Prelude.{max}
+use Rattle.std.specs.Prelude.{max, ◌&&◌, if◌then◌else◌}
 use Rattle.scalar_ops.specs.declared.op.Op.TheVariants.{Add, Sub, Mul, Min, Max, Div, Rem}
-use Rattle.kernel_tree.specs.Formula.{Formula, Number, LoopVariable, Binary}
+use Rattle.kernel_tree.specs.Formula.{Formula, Number, Variable, LoopVariable, Size, Id, Binary, Choose}
 use Rattle.kernel_tree.specs.Code.{Array, Kernel}
-use Rattle.kernel_tree.specs.Grammar.{is_readable, is_writable}
+use Rattle.kernel_tree.specs.Grammar.{is_operator, is_readable, is_writable, names_declared}
 use Rattle.std.proofs.lemmas.Bool.{lt-ltb}
 use Rattle.lift_ir.specs.Types.{Shape, Ty, Scalar, PairOf, ArrayOf, width, component}
 use Rattle.lift_ir.specs.Layouts.{Layout, Split, Join, Transpose, Slide, Pad}
 use Rattle.lift_ir.specs.Terms.{LoadSet, Skip, Take, Each}
 use Rattle.lift_ir.specs.Scalars.{by_side}
 use Rattle.printed_form.specs.Counts.{load_count}
-use Rattle.printed_form.specs.Views.{Sign, Blank, Held, Read, View, held_sign, held_view, loaded_view, view_at, operand_indices, result_indices, index_from, index_in, placed_view}
+use Rattle.printed_form.specs.Views.{Sign, Blank, Held, Read, View, held_sign, held_view, loaded_view, view_at, are_parts, dividend, cell_in_rows, operand_indices, result_indices, index_from, index_in, placed_view}
 use Rattle.printed_grammar.specs.Sound.{IsGood, IsSpelledIn, AllLengths, IsSoundLayout, dimensions}
-use Rattle.printed_grammar.proofs.Expressions.{good_higher, good_number, good_binary, IsGoodSome}
+use Rattle.printed_grammar.proofs.Expressions.{first_of, second_of, good_higher, good_number, good_binary, IsGoodSome}
 
 module _ (k : Kernel) (S : ℕ) (one : 1 ≤ S) where
   abbrev pub AllGood : (l h : ℕ) → List Formula → Type 0
@@ -105,6 +105,25 @@ module _ (k : Kernel) (S : ℕ) (one : 1 ≤ S) where
   held_some n l h (Held v) le p g = (lt-ltb v k.variables (omega arith), p)
   held_some n l h (Read a i) le p g = tt
 
+  -- ---- an index of a row and a column
+  dividend_good : (l h : ℕ) (i : Formula) → IsGood k l h i → IsGood k l h (dividend i)
+  dividend_good l h (Number n) g = g
+  dividend_good l h (Variable v) g = g
+  dividend_good l h (LoopVariable i) g = g
+  dividend_good l h (Size s) g = g
+  dividend_good l h (Id form) g = g
+  dividend_good l h (Binary o a b) g =
+      let named = second_of (is_operator o) (names_declared k l a && names_declared k l b) g.0 in
+      (first_of (names_declared k l a) (names_declared k l b) named, (let low = g.1 in omega arith))
+  dividend_good l h (Choose c a b x y) g = g
+
+  cell_good : (l h : ℕ) (i m j : Formula) → IsGood k l h i → IsGood k l h m → IsGood k l h j → IsGood k l (suc (suc h)) (cell_in_rows i m j)
+  cell_good l h i m j x y z = go (are_parts i m j)
+    where
+      go : (b : Bool) → IsGood k l (suc (suc h)) (if b then dividend i else Binary Add (Binary Mul i m) j)
+      go true = good_higher k l h (suc (suc h)) (dividend i) (omega arith) (dividend_good l h i x)
+      go false = good_binary k l (suc h) Add (Binary Mul i m) j refl (good_binary k l h Mul i m refl x y) (good_higher k l h (suc h) j (omega arith) z)
+
   -- ---- layouts and arrays, whose lengths are spelled so
   module _ {A : Type 0} (spell : A → Formula) where
     abbrev pub Spelled : A → Type 0
@@ -117,9 +136,8 @@ module _ (k : Kernel) (S : ℕ) (one : 1 ≤ S) where
     operand_good (Split m) l h [] le s g = tt
     operand_good (Split m) l h (i ∷ []) le s g = all_higher l h (h + 3) (i ∷ []) (omega arith) g
     operand_good (Split m) l h (i ∷ j ∷ p) le s g =
-        let m1 = good_binary k l h Mul i (spell m) refl g.0 (spelled_good m l h le s) in
-        let a1 = good_binary k l (suc h) Add (Binary Mul i (spell m)) j refl m1 (good_higher k l h (suc h) j (omega arith) g.1.0) in
-        (good_higher k l (suc (suc h)) (h + 3) (Binary Add (Binary Mul i (spell m)) j) (omega arith) a1, all_higher l h (h + 3) p (omega arith) g.1.1)
+        let cell = cell_good l h i (spell m) j g.0 (spelled_good m l h le s) g.1.0 in
+        (good_higher k l (suc (suc h)) (h + 3) (cell_in_rows i (spell m) j) (omega arith) cell, all_higher l h (h + 3) p (omega arith) g.1.1)
     operand_good (Join m) l h [] le s g = tt
     operand_good (Join m) l h (i ∷ p) le s g =
         let d = good_binary k l h Div i (spell m) refl g.0 (spelled_good m l h le s) in
@@ -132,9 +150,8 @@ module _ (k : Kernel) (S : ℕ) (one : 1 ≤ S) where
     operand_good (Slide a t) l h [] le s g = tt
     operand_good (Slide a t) l h (i ∷ []) le s g = all_higher l h (h + 3) (i ∷ []) (omega arith) g
     operand_good (Slide a t) l h (i ∷ j ∷ p) le s g =
-        let m1 = good_binary k l h Mul i (Number t) refl g.0 (good_number k l h t s (omega arith)) in
-        let a1 = good_binary k l (suc h) Add (Binary Mul i (Number t)) j refl m1 (good_higher k l h (suc h) j (omega arith) g.1.0) in
-        (good_higher k l (suc (suc h)) (h + 3) (Binary Add (Binary Mul i (Number t)) j) (omega arith) a1, all_higher l h (h + 3) p (omega arith) g.1.1)
+        let cell = cell_good l h i (Number t) j g.0 (good_number k l h t s (omega arith)) g.1.0 in
+        (good_higher k l (suc (suc h)) (h + 3) (cell_in_rows i (Number t) j) (omega arith) cell, all_higher l h (h + 3) p (omega arith) g.1.1)
     operand_good (Pad a b n) l h [] le s g = tt
     operand_good (Pad a b n) l h (i ∷ p) le s g =
         let na = good_number k l h a s.0 (omega arith) in

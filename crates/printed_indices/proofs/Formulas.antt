@@ -5,14 +5,16 @@ use Rattle.index_expr.specs.declared.operation.Operation.{Operation}
 use Rattle.index_expr.specs.declared.operation.Operation.TheVariants.{Sum, Difference, Product, Quotient, Remainder, Least, Greatest}
 use Rattle.index_expr.specs.Expression as index
 use Rattle.index_expr.specs.Expression.{Expression}
+use Rattle.scalar_ops.specs.declared.op.Op.TheVariants.{Div}
 use Rattle.kernel_tree.specs.Formula.{Formula, Number, LoopVariable, Size, Binary}
 use Rattle.length_spelling.specs.Formulas.{index_formula, operator_of}
 use Rattle.index_simplify.specs.Simplified.{is_declared, AreDeclared}
 use Rattle.tidy_indices.specs.Places.{ranges_outside}
 
--- no size alone
+-- no size, divided or not
 abbrev pub IsNoSize : Formula → Type 0
 IsNoSize (Size k) = ⊥
+IsNoSize (Binary Div e n) = IsNoSize e
 IsNoSize _ = Unit {0}
 
 module _ (names : List Name) where
@@ -22,7 +24,7 @@ module _ (names : List Name) where
     pub spelled : f ≡ index_formula expression
     pub declared : AreDeclared (ranges_outside names) expression
 
-  -- an index is no size alone: so what it is divided by is no declared divisor
+  -- an index is no size, nor what is divided in it: so what it is divided by is no declared divisor
   abbrev pub Index : Formula → Type 0
   Index f = Spelled f × IsNoSize f
 
@@ -76,3 +78,11 @@ module _ (names : List Name) where
         spelled = joined Quotient i j a b x.0.spelled y.spelled;
         declared = (quotient_declared a b (subst IsNoSize x.0.spelled x.1), x.0.declared, y.declared);
       }
+
+  -- what is divided in a quotient
+  pub divided : (e n : Formula) → Spelled (Binary Div e n) → Spelled e
+  divided e n x = of x.expression x.spelled x.declared
+    where
+      of : (a : Expression) → Binary Div e n ≡ index_formula a → AreDeclared (ranges_outside names) a → Spelled e
+      of (index.Binary o a b) h d = record { expression = a; spelled = cc h; declared = d.1 }
+      of _ h d = absurd (cc h)

@@ -1,7 +1,8 @@
 -- The indices that views name, where they are given indices, are spelled index expressions.
-use Rattle.std.proofs.Common.{ℕ, ◌+◌, Bool, true, false, List, [], ◌∷◌}
+use Rattle.std.proofs.Common.{◌≡◌, ℕ, ◌+◌, Bool, true, false, List, [], ◌∷◌, refl}
+use Rattle.std.specs.Prelude.{if◌then◌else◌}
 use Rattle.size_arith.specs.declared.names.Name.{Name}
-use Rattle.scalar_ops.specs.declared.op.Op.TheVariants.{Add, Sub, Mul, Max}
+use Rattle.scalar_ops.specs.declared.op.Op.TheVariants.{Add, Sub, Mul, Div, Max}
 use Rattle.kernel_tree.specs.Formula.{Formula, Number, Binary}
 use Rattle.kernel_tree.specs.Code.{Array}
 use Rattle.lift_ir.specs.Types.{Shape, Ty, Scalar, PairOf, ArrayOf, width}
@@ -9,8 +10,8 @@ use Rattle.lift_ir.specs.Layouts.{Layout, Split, Join, Transpose, Slide, Pad}
 use Rattle.lift_ir.specs.Terms.{LoadSet, Skip, Take, Each}
 use Rattle.lift_ir.specs.Scalars.{by_side}
 use Rattle.printed_form.specs.Counts.{load_count}
-use Rattle.printed_form.specs.Views.{Sign, Blank, Read, View, held_view, loaded_view, view_at, operand_indices, result_indices, index_from, index_in, placed_view}
-use Rattle.printed_indices.proofs.Formulas.{Spelled, Index, spelled_number, index_number, sum, difference, product, least, greatest, quotient, remainder}
+use Rattle.printed_form.specs.Views.{Sign, Blank, Read, View, held_view, loaded_view, view_at, are_parts, dividend, cell_in_rows, operand_indices, result_indices, index_from, index_in, placed_view}
+use Rattle.printed_indices.proofs.Formulas.{Spelled, Index, divided, spelled_number, index_number, sum, difference, product, least, greatest, quotient, remainder}
 
 module _ (names : List Name) where
   abbrev pub AllIndices : List Formula → Type 0
@@ -56,6 +57,18 @@ module _ (names : List Name) where
   cell : (i m j : Formula) → Index names i → Spelled names m → Index names j → Index names (Binary Add (Binary Mul i m) j)
   cell i m j x l y = (sum names (Binary Mul i m) j (product names i m x.0 l) y.0, tt)
 
+  -- the row and the column of one index
+  whole : (i m j : Formula) → are_parts i m j ≡ true → Index names i → Index names (dividend i)
+  whole (Binary Div e n) m j h x = (divided names e n x.0, x.1)
+  whole _ m j h x = absurd (cc h)
+
+  cell_or_whole : (i m j : Formula) → Index names i → Spelled names m → Index names j → Index names (cell_in_rows i m j)
+  cell_or_whole i m j x l y = go (are_parts i m j) refl
+    where
+      go : (b : Bool) → are_parts i m j ≡ b → Index names (if b then dividend i else Binary Add (Binary Mul i m) j)
+      go true e = whole i m j e x
+      go false e = cell i m j x l y
+
   clamped : (i n : Formula) (a : ℕ) → Index names i → Spelled names n → Spelled names (Binary Sub (Binary Max i (Number a)) (Number a)) × Spelled names (Binary Sub n (Number 1))
   clamped i n a x l =
       let number = spelled_number names a in
@@ -65,15 +78,15 @@ module _ (names : List Name) where
     operand_all : (y : Layout A) (is : List Formula) → AllIndices is → AllIndices (operand_indices spell y is)
     operand_all (Split m) [] g = g
     operand_all (Split m) (i ∷ []) g = g
-    operand_all (Split m) (i ∷ j ∷ p) g = (cell i (spell m) j g.0 (lengths m) g.1.0, g.1.1)
+    operand_all (Split m) (i ∷ j ∷ p) g = (cell_or_whole i (spell m) j g.0 (lengths m) g.1.0, g.1.1)
     operand_all (Join m) [] g = g
-    operand_all (Join m) (i ∷ p) g = ((quotient names i (spell m) g.0 (lengths m), tt), ((remainder names i (spell m) g.0.0 (lengths m), tt), g.1))
+    operand_all (Join m) (i ∷ p) g = ((quotient names i (spell m) g.0 (lengths m), g.0.1), ((remainder names i (spell m) g.0.0 (lengths m), tt), g.1))
     operand_all Transpose [] g = g
     operand_all Transpose (i ∷ []) g = g
     operand_all Transpose (i ∷ j ∷ p) g = (g.1.0, (g.0, g.1.1))
     operand_all (Slide a t) [] g = g
     operand_all (Slide a t) (i ∷ []) g = g
-    operand_all (Slide a t) (i ∷ j ∷ p) g = (cell i (Number t) j g.0 (spelled_number names t) g.1.0, g.1.1)
+    operand_all (Slide a t) (i ∷ j ∷ p) g = (cell_or_whole i (Number t) j g.0 (spelled_number names t) g.1.0, g.1.1)
     operand_all (Pad a b n) [] g = g
     operand_all (Pad a b n) (i ∷ p) g =
         let parts = clamped i (spell n) a g.0 (lengths n) in

@@ -39,7 +39,7 @@ fn spelled(alloc: Global, view: &View, dimensions: u32) -> Result<String, AllocE
 }
 
 // An array's lengths, the layouts through which it is read, each with the lengths of what it makes, how many dimensions the last one has, and the index.
-const READ: [(&[u32], &[(Form, &[u32])], u32, &str); 8] = [
+const READ: [(&[u32], &[(Form, &[u32])], u32, &str); 14] = [
     (&[7], &[], 1, "i0"),
     (&[2, 3, 4], &[], 3, "((((i0 * 3) + i1) * 4) + i2)"),
     (&[12], &[(Form::Split, &[3, 4])], 2, "((i0 * 4) + i1)"),
@@ -63,10 +63,60 @@ const READ: [(&[u32], &[(Form, &[u32])], u32, &str); 8] = [
         2,
         "min((max(((i0 * 1) + i1), 1) - 1), (5 - 1))",
     ),
+    (
+        &[12],
+        &[(Form::Split, &[3, 4]), (Form::Join, &[12])],
+        1,
+        "i0",
+    ),
+    (
+        &[12],
+        &[
+            (Form::Split, &[3, 4]),
+            (Form::Join, &[12]),
+            (Form::Split, &[6, 2]),
+            (Form::Join, &[12]),
+            (Form::Split, &[2, 6]),
+        ],
+        2,
+        "((i0 * 6) + i1)",
+    ),
+    (
+        &[6],
+        &[(Form::Slide(2, 2), &[3, 2]), (Form::Join, &[6])],
+        1,
+        "i0",
+    ),
+    (
+        &[5],
+        &[(Form::Slide(3, 1), &[3, 3]), (Form::Join, &[9])],
+        1,
+        "(((i0 / 3) * 1) + (i0 % 3))",
+    ),
+    (
+        &[12],
+        &[
+            (Form::Split, &[3, 4]),
+            (Form::Transpose, &[4, 3]),
+            (Form::Join, &[12]),
+        ],
+        1,
+        "(((i0 % 3) * 4) + (i0 / 3))",
+    ),
+    (
+        &[4],
+        &[
+            (Form::Split, &[2, 2]),
+            (Form::Transpose, &[2, 2]),
+            (Form::Join, &[4]),
+        ],
+        1,
+        "(((i0 % 2) * 2) + (i0 / 2))",
+    ),
 ];
 
 // The same for an array that is written through layouts, each with the lengths of its operand.
-const WRITTEN: [(&[u32], &[(Form, &[u32])], u32, &str); 3] = [
+const WRITTEN: [(&[u32], &[(Form, &[u32])], u32, &str); 4] = [
     (
         &[3, 4],
         &[(Form::Split, &[12])],
@@ -75,6 +125,12 @@ const WRITTEN: [(&[u32], &[(Form, &[u32])], u32, &str); 3] = [
     ),
     (&[12], &[(Form::Join, &[3, 4])], 2, "((i0 * 4) + i1)"),
     (&[3, 2], &[(Form::Transpose, &[2, 3])], 2, "((i1 * 2) + i0)"),
+    (
+        &[12],
+        &[(Form::Join, &[3, 4]), (Form::Split, &[12])],
+        1,
+        "i0",
+    ),
 ];
 
 #[test]
