@@ -5,16 +5,14 @@ usage: bench/tiling.py
 
 Counts the instructions (valgrind --tool=callgrind) of `lift compile`, less those that the same program takes up to its nest: with
 the script but for its last step, which makes the map over work-groups, the nest is refused. So what is counted is what the
-compiler does behind the script: it judges the nest, plans, prints and writes. Two shapes:
+compiler does behind the script: it judges the nest, plans, prints and writes. The shapes:
 
-- a stencil by tiles which are copied to local memory, its input behind 1 to 24 layouts;
+- a stencil by tiles which are copied to local memory, its input behind 1 to 24 layouts: joins of splits, pads, transpositions of
+  transpositions, and reorderings (a join of a transposition of a split), which no law undoes, so that each doubles the index that
+  the kernel has;
 - a stencil of a stencil of .. in one tile, 1 to 20 deep, each in local memory but the last: a phase and its barrier for each.
 
-Prints the count in all, and for each node of the last term more than in the first of its shape.
-
-Counted once: 32,800 instructions for each node more at 2 layouts, 51,300 at 6, 154,000 at 12, 725,000 at 18 and 4.2 million at 24:
-the wanted bound isn't kept, since each split of a join doubles the plain index, which is made before it is simplified. With the
-phases: 15,000 at 2 stencils in a tile, 14,000 at 20.
+Prints the count in all, for each node of the last term more than in the first of its shape, and the bytes of the kernel.
 """
 import tempfile
 from pathlib import Path
@@ -24,13 +22,14 @@ from programs import instructions
 HEAD = "size N multiple 2 from 4 to 4096;\ninput xs: [u32; N];\noutput "
 
 
-def behind_layouts(layouts):
-    """A tiled stencil whose tiles are read through so many layouts, and the nodes of its last term."""
+def behind_layouts(layouts, most, form):
+    """A tiled stencil whose tiles are read through so many layouts, as many of a form as there is room for and pads, and the nodes of its last term."""
     source = "xs"
-    for _ in range((layouts - 1) // 2):
-        source = f"join(split(2, {source}))"
-    if layouts % 2 == 0:
-        source = f"pad(1, 1, {source})"
+    forms, pads = divmod(layouts - 1, most)
+    for _ in range(forms):
+        source = form.format(source)
+    for _ in range(pads):
+        source = f"pad(0, 0, {source})"
     program = HEAD + f"join(map(\\w. reduce(add, 0, w), slide(3, 1, {source})))"
     tiles = ["0.0 tile-slide 2", "0 map-join", "0.0 fuse-map", "0.0.1 let-inline", "0.0.1.0.0 local-copy"]
     lowering = ["0.0.1.1 reduce-fold", "0.0.1.1 fold-seq", "0.0.1 to-lcl", "0.0 to-wrg"]
@@ -52,18 +51,29 @@ def deep(stencils):
     return program, script, 5 + 10 * stencils
 
 
-SHAPES = [("layouts", behind_layouts, (1, 2, 6, 12, 18, 24)), ("stencils in a tile", deep, (1, 2, 4, 8, 16, 20))]
+FORMS = [
+    ("joins of splits", 2, "join(split(2, {}))"),
+    ("pads", 1, "pad(0, 0, {})"),
+    ("transpositions", 4, "join(transpose(transpose(split(2, {}))))"),
+    ("reorderings", 3, "join(transpose(split(2, {})))"),
+]
+SHAPES = [
+    (f"layouts, {told}", lambda layouts, most=most, form=form: behind_layouts(layouts, most, form), (1, 2, 6, 12, 18, 24))
+    for told, most, form in FORMS
+] + [("stencils in a tile", deep, (1, 2, 4, 8, 16, 20))]
 
 
 def behind_the_script(folder, program, steps):
-    """The instructions that the whole script takes more than the script without its last step."""
+    """The instructions that the whole script takes more than the script without its last step, and the bytes of the kernel."""
     (folder / "p").write_text(program)
     words = ["compile", folder / "p", folder / "s"]
-    counts = []
+    counts, kernels = [], []
     for script, status in ((steps, 0), (steps[:-1], 11)):
         (folder / "s").write_text("".join(f"at {it}\n" for it in script))
-        counts.append(instructions(folder, words, status)[0])
-    return counts[0] - counts[1]
+        count, kernel = instructions(folder, words, status)
+        counts.append(count)
+        kernels.append(kernel)
+    return counts[0] - counts[1], len(kernels[0])
 
 
 def main():
@@ -73,10 +83,10 @@ def main():
             first = None
             for number in numbers:
                 program, script, nodes = shape(number)
-                work = behind_the_script(folder, program, script)
+                work, size = behind_the_script(folder, program, script)
                 more = f", {(work - first[0]) / (nodes - first[1]):.0f} for each node more" if first else ""
                 first = first or (work, nodes)
-                print(f"{number} {told}, {nodes} nodes: {work} instructions{more}", flush=True)
+                print(f"{number} {told}, {nodes} nodes: {work} instructions{more}; {size} bytes", flush=True)
 
 
 if __name__ == "__main__":

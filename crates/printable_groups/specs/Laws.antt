@@ -1,16 +1,13 @@
 -- What a typed term that is a map over work-groups is printed as.
 use Rattle.std.specs.Prelude.{ℕ, ◌≡◌, ◌≤◌, List, [], true}
-use Rattle.lift_tree.specs.Launches.{lists_of}
 use Rattle.lift_tree.specs.Tree.{Tree, height}
 use Rattle.lift_tree.specs.Types.{IsOutput}
-use Rattle.lift_tree.specs.Typing.{Declared, declared_by, IsAdmissible}
+use Rattle.lift_tree.specs.Typing.{Declared, declared_by}
 use Rattle.lift_tree.specs.Programs.{PlainProgram}
 use Rattle.lift_tree.specs.Annotations.{Annotation, Annotates, type_in}
-use Rattle.lift_tree.specs.Meaning.{World, meaning}
 use Rattle.kernel_tree.specs.Code.{Kernel}
-use Rattle.kernel_tree.specs.Device.{Cell}
 use Rattle.kernel_tree.specs.Grammar.{is_kernel}
-use Rattle.kernel_tree.specs.Launch.{Launch, Cells, MayStart}
+use Rattle.kernel_tree.specs.Launch.{Launch}
 use Rattle.barrier_placement.specs.Fencing.{Fencing}
 use Rattle.barrier_placement.specs.Needed.{Needed}
 use Rattle.lift_ir.specs.Lowering.{Written}
@@ -18,8 +15,7 @@ use Rattle.lift_ir.specs.Lowerable.{IsStaged}
 use Rattle.lift_ir.specs.Terms.{Term}
 use Rattle.lowered_tree.specs.Kinds.{is_task}
 use Rattle.buffer_allocation.specs.Layouts.{layouts}
-use Rattle.printed_form.specs.Headline.{EveryRunKeeps}
-use Rattle.printed_form.specs.Programs.{IsLaunchOf, AreBuffersOf, lowered_root, cell_owner}
+use Rattle.printed_form.specs.Programs.{IsLaunchOf, lowered_root}
 use Rattle.printed_grammar.specs.Sound.{CanBeWritten}
 use Rattle.length_spelling.specs.Formulas.{length_formula}
 use Rattle.printable_terms.specs.Sound.{HasSoundParts}
@@ -28,7 +24,6 @@ use Rattle.lowered_tree.specs.Copies.{CopiesArrays}
 use Rattle.nest_premises.specs.Legal.{IsLegalTerm}
 use Rattle.nest_premises.specs.Kind.{nest_kind}
 use Rattle.nest_premises.specs.declared.kind.NestKind.TheVariants.{OverGroups}
-use Rattle.group_phases.specs.Outcome.{BarriersServeAll}
 use Rattle.group_terms.specs.Forms.{StandsOverGroups}
 use Rattle.group_terms.specs.Programs.{PrintsGroups}
 use Rattle.group_terms.specs.Uses.{phase_count, group_touches}
@@ -69,27 +64,3 @@ LegalGroupKernelsAreInTheGrammar =
     → IsLegalTerm p t n → CopiesArrays t n → FormsHaveWords t → nest_kind t ≡ OverGroups → AreNeeded fence t n
     → layouts t n ≤ 24 → height t ≤ 512
     → is_kernel (kernel_of_groups (declared_by p) fence t n) ≡ true
-
--- of a legal term every run there keeps what the kernel owes, with the source value
-abbrev pub LegalGroupsKeep : Type 0
-LegalGroupsKeep =
-    (p : PlainProgram) (fence : ℕ → Fencing) (w : World) (t : Tree) (n : Annotation) (l : Launch) (c : Cells)
-    → IsLegalTerm p t n → CopiesArrays t n → nest_kind t ≡ OverGroups → AreNeeded fence t n
-    → IsAdmissible (declared_by p) w → IsLaunchOf (declared_by p) (is_task t) w.bases l → AreBuffersOf (declared_by p) w t n c
-    → EveryRunKeeps (kernel_of_groups (declared_by p) fence t n) l c (cell_owner w.bases l t n) (lists_of (type_in n) (meaning w [] t))
-
--- and its barriers serve there: the items of a group meet the same ones, between which each cell of a local array that is written is one item's
-abbrev pub LegalGroupsServe : Type 0
-LegalGroupsServe =
-    (p : PlainProgram) (fence : ℕ → Fencing) (w : World) (t : Tree) (n : Annotation) (l : Launch) (c : Cells)
-    → IsLegalTerm p t n → CopiesArrays t n → nest_kind t ≡ OverGroups → AreNeeded fence t n
-    → IsAdmissible (declared_by p) w → IsLaunchOf (declared_by p) (is_task t) w.bases l → AreBuffersOf (declared_by p) w t n c
-    → (filler : Cell → ℕ) × BarriersServeAll (kernel_of_groups (declared_by p) fence t n) l c filler
-
--- and it may be started there
-abbrev pub LegalGroupsStart : Type 0
-LegalGroupsStart =
-    (p : PlainProgram) (fence : ℕ → Fencing) (w : World) (t : Tree) (n : Annotation) (l : Launch) (c : Cells)
-    → IsLegalTerm p t n → CopiesArrays t n → nest_kind t ≡ OverGroups → AreNeeded fence t n
-    → IsAdmissible (declared_by p) w → IsLaunchOf (declared_by p) (is_task t) w.bases l → AreBuffersOf (declared_by p) w t n c
-    → MayStart (kernel_of_groups (declared_by p) fence t n) l c

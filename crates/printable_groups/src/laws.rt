@@ -2,13 +2,11 @@
 
 ghost use Rattle.size_arith.specs.declared.poly.Monomial.{Monomial};
 ghost use Rattle.std.specs.Prelude.{List};
-ghost use Rattle.printable_groups.specs.Laws.{GroupKernelsAreInTheGrammar, GroupsCanBeWritten, GroupTermsArePrinted, LegalGroupKernelsAreInTheGrammar, LegalGroupsKeep, LegalGroupsServe, LegalGroupsStart};
+ghost use Rattle.printable_groups.specs.Laws.{GroupKernelsAreInTheGrammar, GroupsCanBeWritten, GroupTermsArePrinted, LegalGroupKernelsAreInTheGrammar};
 
 use group_grammar::laws::{group_kernels_are_of_the_grammar, needed_are_flagged};
 use group_premises::laws::legal_groups_stand_over_groups;
-use group_terms::laws::{
-    printed_group_programs_keep, printed_group_programs_start, the_group_printer_prints,
-};
+use group_terms::laws::the_group_printer_prints;
 use kernel_limits::laws::{terms_can_be_written, terms_nest_within};
 use length_spelling::laws::{lengths_are_bounds, lengths_are_spelled};
 use nest_premises::laws::legal_terms_can_be_lowered;
@@ -51,33 +49,4 @@ pub fn legal_group_kernels_are_in_the_grammar()
     legal_groups_stand_over_groups();
     legal_terms_can_be_lowered();
     lowered_terms_have_sound_parts();
-}
-
-/// Every run of the kernel of a legal map over work-groups, at each admissible launch, keeps what
-/// the kernel owes, with the source value.
-pub fn legal_groups_keep()
-    ensures { LegalGroupsKeep }
-{
-    legal_groups_stand_over_groups();
-    group_terms_are_printed();
-    printed_group_programs_keep();
-}
-
-/// And its barriers serve there: the items of a group meet the same barriers with the same turn
-/// numbers, between which local arrays are used apart.
-pub fn legal_groups_serve()
-    ensures { LegalGroupsServe }
-{
-    legal_groups_stand_over_groups();
-    group_terms_are_printed();
-    printed_group_programs_keep();
-}
-
-/// It may be started there.
-pub fn legal_groups_start()
-    ensures { LegalGroupsStart }
-{
-    legal_groups_stand_over_groups();
-    group_terms_are_printed();
-    printed_group_programs_start();
 }

@@ -1,6 +1,7 @@
 //! Laws of tidy expressions, each carried by a function that does nothing.
 
-ghost use Rattle.tidy_indices.specs.Laws.{TidyFormulasKeepValues, TidyFormulasAreNoLarger, TidyFormulasAreIrredundant, TidyFormulasAreShort};
+ghost use Rattle.tidy_indices.specs.Laws.{TidyFormulasAreIrredundant, TidyFormulasAreNoLarger};
+ghost use Rattle.tidy_indices.specs.Laws.{TidyFormulasAreShort, TidyFormulasKeepValues};
 
 /// At admissible sizes a tidy expression has the value of the expression, in loops of these bounds,
 /// whether or not anything in it wraps.

@@ -1,4 +1,5 @@
-//! Tidy indices: what stands for the indices and bounds of a kernel, with the same values and no more nodes.
+//! Tidy indices: what stands for the indices and bounds of a kernel, with the same values and no
+//! more nodes.
 #![tactic(auto)]
 
 pub mod copies;
