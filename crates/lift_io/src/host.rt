@@ -1,5 +1,5 @@
 //! The system's files and streams: the trusted edge. They tell no contents.
-ghost use Rattle.std.specs.Prelude.{None};
+ghost use Rattle.std.specs.Prelude.{◌≡◌, ℕ, List, None};
 
 use crate::files::{Files, ReadNo};
 use crate::sinks::{Sink, WriteFailed};
@@ -15,7 +15,10 @@ pub struct HostFiles<R: rt::Files + Drop> {
 }
 
 impl<R: rt::Files + Drop> HostFiles<R> {
-    pub fn new(rt: R) -> HostFiles<R> {
+    /// No read has failed yet.
+    pub fn new(rt: R) -> HostFiles<R>
+        ensures { (name : List ℕ) → ⟦<HostFiles<R> as Files>⟧.faults result name ≡ 0 }
+    {
         HostFiles { rt, faults: 0 }
     }
 
@@ -55,7 +58,10 @@ pub struct HostSink<W: Write + Drop> {
 }
 
 impl<W: Write + Drop> HostSink<W> {
-    pub fn new(stream: W) -> HostSink<W> {
+    /// No write has failed yet.
+    pub fn new(stream: W) -> HostSink<W>
+        ensures { ⟦<HostSink<W> as Sink>⟧.faults result ≡ 0 }
+    {
         HostSink { stream, faults: 0 }
     }
 }
