@@ -13,6 +13,10 @@ compiler does behind the script: it judges the nest, plans, prints and writes. T
 - a stencil of a stencil of .. in one tile, 1 to 20 deep, each in local memory but the last: a phase and its barrier for each.
 
 Prints the count in all, for each node of the last term more than in the first of its shape, and the bytes of the kernel.
+
+Counted once, for each node more: joins of splits 46,000 at 2 layouts (the second is a pad), 28,800 at 6, 22,600 at 24; pads 46,000,
+41,900 and 40,900; transpositions 46,000, 28,100 and 25,300; stencils in a tile 15,000 at 2 and 14,000 at 20. Reorderings 47,000 at
+6 layouts, 570,000 at 24: there the kernel grows from 850 bytes to 14,200, and a byte of it costs 611 instructions and 942.
 """
 import tempfile
 from pathlib import Path
