@@ -5,14 +5,17 @@ usage: bench/items.py
 
 Runs a map over the launch that adds 1 to each number, of 10^6 events in all, by 1, 64, 4,096 and 65,536 work-items, in order and
 along a seed's schedule. Prints the instructions (valgrind --tool=callgrind) of the device alone, with the start of each
-work-item, per event, and the events in a second of the whole call of `lift run`, the fastest of 5: it reads the launch file
-and evaluates the program beside running the kernel, so the device alone is faster.
+work-item, per event, and the events in a second of the whole call of `lift run`, the fastest of 5. A call reads the launch file
+and writes the result too, so the device alone is faster: its share of the call's instructions is told.
+
+Counted once: 413 instructions an event by one work-item, 470 by 64, 529 by 4,096 and 641 by 65,536, the same from a seed. Timed
+once: 9.9, 6.1, 6.6 and 6.4 million events a second in order; from a seed 10, 7, 5.2 and 2.
 """
 import json
 import tempfile
 from pathlib import Path
 
-from programs import on_device, seconds
+from programs import instructions, on_device, seconds
 
 PROGRAM = "size N from 1 to 1000000;\ninput xs: [u32; N];\noutput map(\\x. add(x, 1), xs)"
 EVENTS = 10**6
@@ -31,8 +34,9 @@ def main():
                 launch.write_text(json.dumps(given))
                 run = ["run", program, script, launch]
                 work, line = on_device(folder, run)
+                whole, _ = instructions(folder, run)
                 events = json.loads(line)["events"]
-                print(f"{items} work-items, {told}: {events} events, {work / events:.0f} instructions an event, {events / seconds(run, 5) / 1e6:.1f} million events a second", flush=True)
+                print(f"{items} work-items, {told}: {events} events, {work / events:.0f} instructions an event, {work / whole:.0%} of the call, {events / seconds(run, 5) / 1e6:.1f} million events a second", flush=True)
 
 
 if __name__ == "__main__":
