@@ -2,7 +2,7 @@
 use Rattle.std.proofs.Common.{◌≡◌, ℕ, Bool, true, false, List, [], ◌∷◌, ◌++◌, refl, sym, ap, ◌∙◌, append_assoc}
 use Rattle.std.specs.Prelude.{if◌then◌else◌}
 use Rattle.lowered_tree.specs.declared.around.AddressSpace.{AddressSpace}
-use Rattle.lowered_tree.specs.Nest.{Site, under, in_child}
+use Rattle.lowered_tree.specs.Nest.{Site, under}
 use Rattle.lowered_tree.specs.Spaces.{computes_at, spaces_in}
 
 chosen : (b : Bool) (x : AddressSpace) (xs ys : List AddressSpace) → (if b then x ∷ (xs ++ ys) else (xs ++ ys)) ≡ (if b then x ∷ xs else xs) ++ ys

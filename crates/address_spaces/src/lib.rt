@@ -23,7 +23,8 @@ fn computes(node: Node<'_>) -> bool
 #[tactic(auto, using(crate::proofs::Listed::under_child, crate::proofs::Listed::of_two, crate::proofs::Listed::of_three))]
 #[cycle(spacing)]
 fn add_children(children: Children<'_>, spaces: &mut Vec<AddressSpace>) -> Result<(), AllocError>
-    ensures { OnOk result (spaces.new.items ≡ spaces.old.items ++ spaces_in (sites_among children.entry)) }
+    ensures { OnOk result
+        (spaces.new.items ≡ spaces.old.items ++ spaces_in (sites_among children.entry)) }
 {
     match children {
         Children::Leaf => Ok(()),

@@ -11,7 +11,7 @@ use Rattle.index_expr.specs.Values.{exact, IsRangedAt, HasNoZeroDivisorAt}
 use Rattle.array_views.specs.Arrays.{array_with}
 use Rattle.array_views.specs.Views.{PlainView, Nothing, Variable, Placed, Both, Component, At, Reading, Writing}
 use Rattle.array_views.specs.Accesses as access
-use Rattle.array_views.specs.Accesses.{PlainAccess, access_at}
+use Rattle.array_views.specs.Accesses.{PlainAccess}
 
 -- a mark within its array, where arrays are so long
 abbrev pub IsWithin : (Array → ℕ) → Mark → Type 0

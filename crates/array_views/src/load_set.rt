@@ -1,6 +1,6 @@
 // Which scalars of an element are loaded.
 
-ghost use Rattle.std.specs.Prelude.{◌≡◌, ◌≤◌, ◌<◌, ◌^◌};
+ghost use Rattle.std.specs.Prelude.{◌≡◌, ◌<◌, ◌^◌};
 ghost use Rattle.printed_form.specs.Counts.{load_count};
 ghost use Rattle.array_views.specs.Views.{loads_of};
 

@@ -1,8 +1,8 @@
 // Conflicts between two stretches of phases.
 
-ghost use Rattle.std.specs.Prelude.{◌≡◌, ◌<◌, ◌≤◌, ◌↔◌, ℕ, IsTrue, MatchOption, Contains};
+ghost use Rattle.std.specs.Prelude.{◌≡◌, ◌<◌, ◌↔◌, ℕ, IsTrue, MatchOption, Contains};
 ghost use Rattle.barrier_placement.specs.declared.touches.Touch.{Touch};
-ghost use Rattle.barrier_placement.specs.Conflicts.{Clash, space_of, Conflict};
+ghost use Rattle.barrier_placement.specs.Conflicts.{Clash, space_of};
 ghost use Rattle.barrier_placement.specs.Code.{In, Across};
 
 use crate::touches::Touch;

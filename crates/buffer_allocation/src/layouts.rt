@@ -1,7 +1,7 @@
 //! How many layouts stand one on another over a buffer: split, join, zip, transpose, slide and pad,
 //! and first and second of what isn't an element. Each is one more operation in an index.
 
-ghost use Rattle.std.specs.Prelude.{◌≡◌, ◌∷◌, [], get_or, ℕ, max, reverse, IfOk, OnOk};
+ghost use Rattle.std.specs.Prelude.{◌≡◌, ◌∷◌, get_or, max, reverse, IfOk, OnOk};
 ghost use Rattle.lift_tree.specs.Tree as tree;
 ghost use Rattle.lift_tree.specs.Tree.{tree_of};
 ghost use Rattle.lift_tree.specs.Annotations as annotation;

@@ -1,14 +1,12 @@
 //! The marks of all cells that work-items share.
 
-ghost use Rattle.std.specs.Prelude.{◌≡◌, ◌<◌, ◌∷◌, ◌++◌, ℕ, List, [], length, map, replicate, slice_index, IfOk};
+ghost use Rattle.std.specs.Prelude.{◌≡◌, ◌<◌, ◌∷◌, ◌++◌, ℕ, List, [], length, map, slice_index, IfOk};
 ghost use Rattle.kernel_tree.specs.declared.events.Event as held_event;
 ghost use Rattle.kernel_tree.specs.declared.events.Event.TheVariants as event_form;
 ghost use Rattle.kernel_tree.specs.Code.{Input, Output, Local};
 ghost use Rattle.kernel_tree.specs.Launch.{group_count, first_item};
 ghost use Rattle.kernel_tree.specs.Device.{Device, State, Fence, has_flag, is_flagged, run, wants};
 ghost use Rattle.kernel_tree.specs.Tree.{array_of};
-ghost use Rattle.cell_marks.specs.Rows.{cell_count};
-ghost use Rattle.cell_marks.specs.Tracked.{after_release};
 ghost use Rattle.cell_marks.specs.Marked.{Marked, MarksTell, TracksAccess};
 
 use crate::rows::Rows;
@@ -54,8 +52,10 @@ impl CellMarks {
         ensures groups { IfOk result (λ m. m.groups ≡ groups) }
         ensures begins { IfOk result (λ m. (d : Device) (s : State)
             → groups ≡ group_count d.launch
-            → ((a : ℕ) → slice_index (map (λ row. length row.items) ins.now) a ≡ d.lengths (Input a))
-            → ((a : ℕ) → slice_index (map (λ row. length row.items) outs.now) a ≡ d.lengths (Output a))
+            → ((a : ℕ)
+            → slice_index (map (λ row. length row.items) ins.now) a ≡ d.lengths (Input a))
+            → ((a : ℕ)
+            → slice_index (map (λ row. length row.items) outs.now) a ≡ d.lengths (Output a))
             → ((a : ℕ) → slice_index locals.now a ≡ d.lengths (Local a))
             → MarksTell d s [] m) }
     {

@@ -1,6 +1,6 @@
 //! Rows of cells in one list.
 
-ghost use Rattle.std.specs.Prelude.{◌≡◌, ◌+◌, ◌*◌, ◌^◌, ◌<◌, ◌∷◌, ◌++◌, ℕ, List, [], Some, None, length, map, if◌then◌else◌, IfOk, OnOk};
+ghost use Rattle.std.specs.Prelude.{◌≡◌, ◌+◌, ◌*◌, ◌^◌, ◌<◌, ◌∷◌, ◌++◌, ℕ, [], Some, None, length, map, if◌then◌else◌, OnOk};
 ghost use Rattle.cell_marks.specs.Rows.{Shape, AreLaid, cell_count, is_placed, place_at};
 
 use std::alloc::{AllocError, Global};

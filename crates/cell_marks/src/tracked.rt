@@ -1,6 +1,6 @@
 //! The marks of rows of cells whose accesses one flag orders.
 
-ghost use Rattle.std.specs.Prelude.{◌≡◌, ◌<◌, ℕ, length, replicate, slice_index_or, slice_set, if◌then◌else◌, IfOk};
+ghost use Rattle.std.specs.Prelude.{◌≡◌, ◌<◌, length, replicate, slice_index_or, slice_set, if◌then◌else◌, IfOk};
 ghost use Rattle.race_marks.specs.Marks as told;
 ghost use Rattle.cell_marks.specs.Rows.{cell_count};
 ghost use Rattle.cell_marks.specs.Tracked.{Kept, is_race, touched, after_release};

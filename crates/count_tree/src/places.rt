@@ -2,7 +2,7 @@
 
 ghost use Rattle.std.specs.Prelude.{◌≡◌, ◌+◌, ◌*◌, ◌^◌, ◌<◌, ◌≤◌, ℕ, List, length, drop, take, replicate, slice_index, slice_set, if◌then◌else◌, IfOk};
 ghost use Rattle.std.specs.List.{sum};
-ghost use Rattle.count_tree.specs.Nodes.{IsTree, IsHeld, HasRoom};
+ghost use Rattle.count_tree.specs.Nodes.{IsHeld, HasRoom};
 
 use crate::nodes::{find, put};
 use crate::steps::Steps;

@@ -8,7 +8,7 @@ use Rattle.lift_tree.specs.Annotations.{Annotation}
 use Rattle.lift_ir.specs.Terms.{LocalMemory, PrivateMemory}
 use Rattle.buffer_allocation.specs.Copies.{held, copies}
 use Rattle.buffer_allocation.specs.Limits as limits
-use Rattle.buffer_allocation.specs.Limits.{greatest, unless_above, passed_limit}
+use Rattle.buffer_allocation.specs.Limits.{greatest, unless_above}
 use Rattle.buffer_allocation.specs.declared.buffers.AllocLimit.{AllocLimit}
 use Rattle.buffer_allocation.specs.declared.buffers.AllocLimit.TheVariants as limit
 use Rattle.buffer_allocation.specs.declared.copies.Memory.TheVariants.{Local, Private}

@@ -1,11 +1,10 @@
 -- The demo's launch is admissible.
-use Rattle.std.proofs.Common.{◌≡◌, ℕ, zero, suc, List, [], ◌∷◌, Some, false, refl, sym, ap, arith, subst, pos}
-use Rattle.std.specs.Prelude.{slice_get}
+use Rattle.std.proofs.Common.{ℕ, zero, suc, [], ◌∷◌, refl, ap, arith, subst, pos}
 use Rattle.std.proofs.lemmas.Option.{same_Some}
 use Rattle.size_arith.specs.Ranges.{Admissible}
-use Rattle.lift_tree.specs.Types.{HasType, HaveTypes, PlainTy}
+use Rattle.lift_tree.specs.Types.{HasType, HaveTypes}
 use Rattle.lift_tree.specs.Typing.{declared_by}
-use Rattle.lift_tree.specs.Values.{array, nth}
+use Rattle.lift_tree.specs.Values.{array}
 use Rattle.demo_program.specs.Accepted.{demo_program}
 use Rattle.demo_program.specs.Admitted.{MayRun}
 use Rattle.demo_program.specs.Data.{demo_given, words_from}

@@ -1,5 +1,5 @@
 -- The demo's steps are made, and the last term is legal and within its limits, by computing.
-use Rattle.std.proofs.Common.{◌≡◌, ◌++◌, ◌≤◌, ℕ, suc, List, [], ◌∷◌, true, false, None, Ok, Err, Result, refl, length, take, arith}
+use Rattle.std.proofs.Common.{◌≡◌, ◌++◌, ◌≤◌, List, [], ◌∷◌, false, None, Ok, Err, Result, refl, length, take, arith}
 use Rattle.scalar_ops.specs.declared.op.Reducer.TheVariants as reducer
 use Rattle.lift_tree.specs.declared.term.BinaryForm.TheVariants as binary
 use Rattle.lift_tree.specs.declared.term.FoldKind.TheVariants as fold_kind

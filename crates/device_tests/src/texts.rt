@@ -3,7 +3,7 @@
 ghost use Rattle.std.specs.Prelude.{◌≡◌, ◌*◌, ◌/◌, ◌<◌, ◌≤◌, IfOk, IfSome, length};
 
 use kernel_reader::read_kernel;
-use kernel_tree::events::{Cell, Event, FaultKind, Seen};
+use kernel_tree::events::{Cell, FaultKind, Seen};
 use kernel_tree::launches::{Cells, Launch, Schedule};
 use kernel_tree::tree::{Array, Kernel};
 use ndrange_device::{DeviceNo, Outcome, launch};

@@ -1,6 +1,6 @@
 //! The laws of flags, each carried by a function that does nothing.
 
-ghost use Rattle.std.specs.Prelude.{◌≡◌, ℕ, List};
+ghost use Rattle.std.specs.Prelude.{◌≡◌, List};
 ghost use Rattle.kernel_tree.specs.declared.events.Event.{Event};
 ghost use Rattle.kernel_tree.specs.Launch.{IsWhole};
 ghost use Rattle.kernel_tree.specs.Device.{Device, State, after};

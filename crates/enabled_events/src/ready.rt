@@ -1,6 +1,6 @@
 //! Flags of work-items and work-groups, and the events that they enable.
 
-ghost use Rattle.std.specs.Prelude.{◌≡◌, ◌↔◌, ◌+◌, ◌-◌, ◌*◌, ◌/◌, ◌^◌, ◌<◌, ◌≤◌, ℕ, Bool, false, Some, length, replicate, is_some, slice_get, slice_index, slice_set, if◌then◌else◌, IfOk, IsTrue};
+ghost use Rattle.std.specs.Prelude.{◌≡◌, ◌↔◌, ◌+◌, ◌-◌, ◌*◌, ◌/◌, ◌^◌, ◌<◌, ◌≤◌, ℕ, false, Some, length, replicate, is_some, slice_get, slice_set, if◌then◌else◌, IfOk, IsTrue};
 ghost use Rattle.enabled_events.specs.Flags.{Counted, CountSteps, NoneSteps};
 ghost use Rattle.enabled_events.specs.Listed.{Flags, event_at, flagged_events};
 

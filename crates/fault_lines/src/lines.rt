@@ -1,5 +1,5 @@
 //! Lines, written in pieces without taking memory.
-ghost use Rattle.std.specs.Prelude.{◌≡◌, ◌++◌, ◌≤◌, ◌∷◌, ℕ, OnOk, decimal, length, take};
+ghost use Rattle.std.specs.Prelude.{◌∷◌, OnOk, decimal};
 ghost use Rattle.std.specs.Io.KnownBytes.{Appends};
 ghost use Rattle.lift_io.specs.Causes.{HasCause, Rose};
 ghost use Rattle.fault_lines.specs.Lines.{

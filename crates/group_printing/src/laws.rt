@@ -5,7 +5,6 @@ ghost use Rattle.size_arith.specs.declared.poly.Monomial.{Monomial};
 ghost use Rattle.kernel_tree.specs.Code.{Kernel};
 ghost use Rattle.kernel_tree.specs.Launch.{Launch, Cells, IsWhole};
 ghost use Rattle.barrier_placement.specs.Conflicts.{Local};
-ghost use Rattle.barrier_placement.specs.Fencing.{Fencing};
 ghost use Rattle.barrier_placement.specs.Separates.{Separates};
 ghost use Rattle.printed_form.specs.Headline.{EveryRunKeeps};
 ghost use Rattle.group_phases.specs.Outcome.{SomeRunLeaves};

@@ -25,7 +25,7 @@ use Rattle.group_terms.specs.Origins.{Origin, Within, at_way, bent}
 use Rattle.group_terms.specs.Uses.{Use, Destination, Locals, Outputs, element_reads, variable_reads, writes_to, touch_of, numbered}
 use Rattle.group_terms.specs.Stages.{Stage, stage_at, uses_in, uses_of, result_type, value_in}
 use Rattle.group_terms.specs.Body as body
-use Rattle.group_terms.specs.Body.{GroupBody, destination_marks, goes_to, place_of, locals_end, home_in, choices_at, first_index, held_choices, held_position, phase_list}
+use Rattle.group_terms.specs.Body.{GroupBody, destination_marks, goes_to, locals_end, home_in, choices_at, first_index, held_choices, held_position, phase_list}
 use Rattle.group_terms.specs.Whole.{destination_type}
 use Rattle.group_terms.proofs.Lists.{among_left, among_right, contained}
 use Rattle.group_terms.proofs.Seen.{SeenAt}

@@ -9,7 +9,6 @@ use Rattle.lift_tree.specs.Annotations.{Annotation, type_in}
 use Rattle.lift_tree.specs.Meaning.{World, meaning}
 use Rattle.lift_tree.specs.Launches as launches
 use Rattle.lift_tree.proofs.Members.{length-map}
-use Rattle.lift_tree.specs.Launches.{IsAdmissibleLaunch}
 use Rattle.kernel_tree.specs.Code.{Kernel}
 use Rattle.kernel_tree.specs.Launch.{Launch, Cells}
 use Rattle.kernel_tree.specs.Device.{Cell}

@@ -20,7 +20,7 @@ use Rattle.group_terms.specs.Uses.{phase_count, group_touches}
 use Rattle.group_terms.specs.Form.{IsOverGroups}
 use Rattle.group_terms.specs.Theorem.{IsPrintedOverGroups}
 use Rattle.group_terms.specs.Worked as worked
-use Rattle.group_terms.specs.Worked.{itself, numbers, input_types, input_marks, input_scalars, use_of, added_tiles, AddedTilesKeep, summed_tile, padded_tiles, summed_tiles, tile_place, padded_place, in_window, sum_turn, sum_store, sum_loop, window_turn, windows, sums_body, sums_kernel, AreSums, SummedTilesKeep, SixKeep, half_named_tiles, UnnamedCopiesAreUnused}
+use Rattle.group_terms.specs.Worked.{itself, numbers, input_types, input_marks, input_scalars, use_of, added_tiles, AddedTilesKeep, summed_tiles, tile_place, padded_place, in_window, sum_turn, sum_store, sum_loop, window_turn, windows, sums_body, sums_kernel, AreSums, SummedTilesKeep, SixKeep, half_named_tiles, UnnamedCopiesAreUnused}
 use Rattle.group_terms.proofs.Needed.{needed_again, aligned_need_none}
 use Rattle.group_terms.proofs.Theorem.{needed_keep_apart, separated_groups_keep}
 

@@ -1,6 +1,6 @@
 // Index expressions as a tree.
 
-ghost use Rattle.std.specs.Prelude.{◌≡◌, ◌+◌, ◌<◌, ◌^◌, ◌↔◌, ℤ, pos, min, unsigned_abs, IsTrue, IfOk, MatchOption};
+ghost use Rattle.std.specs.Prelude.{◌≡◌, ◌<◌, ◌^◌, ◌↔◌, min, unsigned_abs, IsTrue, IfOk, MatchOption};
 
 use crate::operation::Operation;
 use crate::point::Point;

@@ -1,6 +1,6 @@
 // Laws of index expressions, each carried by a function that does nothing.
 
-ghost use Rattle.std.specs.Prelude.{◌≡◌, ◌+◌, ◌≤◌, ℕ, List, pos};
+ghost use Rattle.std.specs.Prelude.{◌≡◌, ◌≤◌, ℕ, List, pos};
 ghost use Rattle.size_arith.specs.declared.names.Name.{Name};
 ghost use Rattle.size_arith.specs.declared.poly.Monomial.{Monomial};
 ghost use Rattle.size_arith.specs.Ranges.{AreNames, Admissible, sizes_at};

@@ -1,9 +1,9 @@
 // Lengths as index expressions.
 
-ghost use Rattle.std.specs.Prelude.{◌≡◌, ◌+◌, ◌≤◌, ◌<◌, ◌^◌, ℕ, IfOk, length, option_map, unsigned_abs};
+ghost use Rattle.std.specs.Prelude.{◌≡◌, ◌+◌, ◌≤◌, ◌<◌, ◌^◌, IfOk, length, option_map, unsigned_abs};
 ghost use Rattle.size_arith.specs.Polynomial.{AllSmall};
-ghost use Rattle.index_expr.specs.Expression.{expression_of, Binary, Literal};
-ghost use Rattle.index_expr.specs.Lengths.{base_expression, joined, repeated, product_expression, number_expression, with_coefficient, monomial_expression, is_negative, positive_sum, negative_sum, difference_of, length_expression};
+ghost use Rattle.index_expr.specs.Expression.{expression_of, Literal};
+ghost use Rattle.index_expr.specs.Lengths.{base_expression, joined, repeated, product_expression, number_expression, monomial_expression, positive_sum, negative_sum, length_expression};
 
 use crate::index::Index;
 use crate::operation::Operation;

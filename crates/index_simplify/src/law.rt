@@ -94,7 +94,8 @@ fn is_begin(e: &Index, length: &Index) -> bool
 
 // Whether it is the cell of a row of this length and of a column in it.
 fn is_cell(e: &Index, length: &Index, ranges: &Ranges) -> bool
-    ensures { result ≡ tests.is_cell (ranges_of ranges.now) (expression_of e.now) (expression_of length.now) }
+    ensures { result
+        ≡ tests.is_cell (ranges_of ranges.now) (expression_of e.now) (expression_of length.now) }
 {
     match e {
         Index::Binary(Operation::Sum, begin, column) => {
@@ -106,7 +107,9 @@ fn is_cell(e: &Index, length: &Index, ranges: &Ranges) -> bool
 
 // Whether it is this dividend over this divisor.
 fn is_quotient(e: &Index, dividend: &Index, divisor: &Index) -> bool
-    ensures { result ≡ tests.is_quotient (expression_of e.now) (expression_of dividend.now) (expression_of divisor.now) }
+    ensures { result
+        ≡ tests.is_quotient (expression_of e.now) (expression_of dividend.now)
+        (expression_of divisor.now) }
 {
     match e {
         Index::Binary(Operation::Quotient, d, n) => same(n, divisor) && same(d, dividend),
@@ -116,7 +119,9 @@ fn is_quotient(e: &Index, dividend: &Index, divisor: &Index) -> bool
 
 // Whether it is this dividend over this divisor, times the divisor.
 fn is_rounded(e: &Index, dividend: &Index, divisor: &Index) -> bool
-    ensures { result ≡ tests.is_rounded (expression_of e.now) (expression_of dividend.now) (expression_of divisor.now) }
+    ensures { result
+        ≡ tests.is_rounded (expression_of e.now) (expression_of dividend.now)
+        (expression_of divisor.now) }
 {
     match e {
         Index::Binary(Operation::Product, quotient, n) => {
@@ -236,7 +241,9 @@ fn second_part(e: Index) -> Index
 impl Law {
     /// Whether the law is of the operation on these expressions.
     pub fn applies(self, operation: Operation, a: &Index, b: &Index, ranges: &Ranges) -> bool
-        ensures { result ≡ spec.applies (ranges_of ranges.now) self operation (expression_of a.now) (expression_of b.now) }
+        ensures { result
+            ≡ spec.applies (ranges_of ranges.now) self operation (expression_of a.now)
+            (expression_of b.now) }
     {
         match self {
             Law::Computed => computed(operation, a, b).is_some(),
@@ -268,7 +275,8 @@ impl Law {
 
     /// What has the value of the operation on these expressions, where the law is of it.
     pub fn applied(self, operation: Operation, a: Index, b: Index) -> Index
-        ensures { expression_of result ≡ spec.applied self operation (expression_of a) (expression_of b) }
+        ensures { expression_of result
+            ≡ spec.applied self operation (expression_of a) (expression_of b) }
     {
         match self {
             Law::Computed => Index::Literal(computed(operation, &a, &b).unwrap_or(0)),

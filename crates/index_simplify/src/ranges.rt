@@ -21,7 +21,8 @@ impl Ranges {
     // Whether the loop of this variable is no longer than this.
     #[tactic(auto, using(crate::proofs::Known::known_length))]
     fn is_loop_within(&self, variable: u32, length: &Index) -> bool
-        ensures { result ≡ spec.is_loop_within (ranges_of self.now) variable (expression_of length.now) }
+        ensures { result
+            ≡ spec.is_loop_within (ranges_of self.now) variable (expression_of length.now) }
     {
         match self.lengths.get(variable as usize) {
             None => false,
@@ -32,7 +33,8 @@ impl Ranges {
     /// Whether an expression is a variable that stays below a length: by its own range below a number, or because its loop is no longer.
     pub fn is_below(&self, column: &Index, length: &Index) -> bool
         ensures { result
-            ≡ spec.is_below (ranges_of self.now) (expression_of column.now) (expression_of length.now) }
+            ≡ spec.is_below (ranges_of self.now) (expression_of column.now)
+            (expression_of length.now) }
     {
         match column {
             Index::Variable {
@@ -46,7 +48,8 @@ impl Ranges {
 
     // Whether this is the number that the size is a multiple of.
     fn is_multiple_at(&self, size: u32, divisor: &Index) -> bool
-        ensures { result ≡ spec.is_multiple_at (ranges_of self.now) size (expression_of divisor.now) }
+        ensures { result
+            ≡ spec.is_multiple_at (ranges_of self.now) size (expression_of divisor.now) }
     {
         match self.multiples.get(size as usize) {
             None => false,
@@ -57,7 +60,8 @@ impl Ranges {
     /// Whether an expression is a size, and the other the number that it is a multiple of.
     pub fn is_multiple(&self, size: &Index, divisor: &Index) -> bool
         ensures { result
-            ≡ spec.is_multiple (ranges_of self.now) (expression_of size.now) (expression_of divisor.now) }
+            ≡ spec.is_multiple (ranges_of self.now) (expression_of size.now)
+            (expression_of divisor.now) }
     {
         match size {
             Index::Size(number) => self.is_multiple_at(*number, divisor),

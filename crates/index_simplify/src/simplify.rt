@@ -19,7 +19,9 @@ fn first_law(
     b: &Index,
     ranges: &Ranges,
 ) -> Option<Law>
-    ensures { result ≡ spec.first_law (ranges_of ranges.now) operation (expression_of a.now) (expression_of b.now) laws.now }
+    ensures { result
+        ≡ spec.first_law (ranges_of ranges.now) operation (expression_of a.now)
+        (expression_of b.now) laws.now }
 {
     match laws {
         [] => None,
@@ -40,7 +42,8 @@ fn operation_on(
     b: Index,
     ranges: &Ranges,
 ) -> Result<Index, AllocError>
-    ensures { IfOk result (λ e. expression_of e ≡ spec.operation_on (ranges_of ranges.now) operation (expression_of a) (expression_of b)) }
+    ensures { IfOk result (λ e. expression_of e
+        ≡ spec.operation_on (ranges_of ranges.now) operation (expression_of a) (expression_of b)) }
 {
     match first_law(&LAWS, operation, &a, &b, ranges) {
         None => Index::binary(alloc, operation, a, b),
@@ -49,7 +52,8 @@ fn operation_on(
 }
 
 fn simple(alloc: Global, index: &Index, ranges: &Ranges) -> Result<Index, AllocError>
-    ensures { IfOk result (λ e. expression_of e ≡ spec.simple (ranges_of ranges.now) (expression_of index.now)) }
+    ensures { IfOk result
+        (λ e. expression_of e ≡ spec.simple (ranges_of ranges.now) (expression_of index.now)) }
 {
     match index {
         Index::Binary(operation, a, b) => {

@@ -14,7 +14,7 @@ use Rattle.printed_form.specs.Counts.{copy_lengths, variable_count}
 use Rattle.printed_form.specs.Printer.{kernel_code}
 use Rattle.printed_form.specs.Programs.{buffer_count, first_buffer, input_shape, lowered_root, printed_kernel}
 use Rattle.kernel_tree.specs.declared.tree.Stmt.{Stmt}
-use Rattle.kernel_tree.specs.Code.{Code, End, Kernel}
+use Rattle.kernel_tree.specs.Code.{End, Kernel}
 use Rattle.kernel_tree.specs.Grammar.{is_kernel}
 use Rattle.kernel_tree.specs.Tree.{code_then, kernel_with}
 

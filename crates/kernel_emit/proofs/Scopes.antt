@@ -1,5 +1,5 @@
 -- Binders beyond the nearest.
-use Rattle.std.proofs.Common.{◌≡◌, ℕ, zero, suc, ◌-◌, ◌<◌, refl, ap, sym, arith}
+use Rattle.std.proofs.Common.{◌≡◌, ℕ, zero, suc, ◌-◌, ◌<◌, ap, arith}
 use Rattle.lift_ir.specs.Terms.{push}
 
 pub past : {A : Type 0} → (x : A) (env : ℕ → A) (n : ℕ) → 0 < n → push x env n ≡ env (n - 1)

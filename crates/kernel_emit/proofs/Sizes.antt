@@ -1,5 +1,5 @@
 -- Sizes that are words.
-use Rattle.std.proofs.Common.{◌≡◌, ℕ, zero, suc, ◌*◌, ◌<◌, ◌≤◌, ◌^◌, arith}
+use Rattle.std.proofs.Common.{◌≡◌, ℕ, ◌*◌, ◌<◌, ◌^◌, arith}
 use Rattle.std.proofs.lemmas.Nat.{mul-le}
 
 -- of a product that is a word the second factor is one too

@@ -1,5 +1,5 @@
 -- The printed code of a term, of that of its parts.
-use Rattle.std.proofs.Common.{◌≡◌, ℕ, ◌+◌, List, [], Bool, refl, ap}
+use Rattle.std.proofs.Common.{◌≡◌, ℕ, ◌+◌, [], refl, ap}
 use Rattle.kernel_tree.specs.Formula.{Formula, LoopVariable, Number}
 use Rattle.kernel_tree.specs.Code.{Code, End, Loops, FromZero, ByOne}
 use Rattle.lift_ir.specs.Layouts.{Layout}

@@ -1,7 +1,7 @@
 -- Terms whose copies are of numbers of cells that are words.
 use Rattle.std.specs.Prelude.{◌<◌, ◌^◌}
 use Rattle.lift_ir.specs.Types.{Ty, size, IsShort}
-use Rattle.lift_ir.specs.Terms.{Space, Term, Both, Project, Reshape, LetArray, LetElement, Map, Fold, Copy}
+use Rattle.lift_ir.specs.Terms.{Term, Both, Project, Reshape, LetArray, LetElement, Map, Fold, Copy}
 
 -- lengths below 2^31, and one component of less than 2^32 scalars
 pub record IsShortCopy (ty : Ty) : Type 0 where

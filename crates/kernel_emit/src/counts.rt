@@ -98,7 +98,8 @@ pub fn let_variables(term: &Term) -> Result<u32, AllocError>
 fn fold_variables(loads: &LoadSet, ty: &Ty, start: &Term, body: &Term) -> Result<u32, AllocError>
     ensures { IfOk result (λ n. n ≡ spec.let_variables (term_of start.now)
         + (types.width (element_ty (ty_of ty.now)) + (spec.load_count (load_set_of loads.now)
-        + (spec.let_variables (term_of body.now) + spec.temporaries (element_ty (ty_of ty.now)))))) }
+        + (spec.let_variables (term_of body.now)
+        + spec.temporaries (element_ty (ty_of ty.now)))))) }
 {
     let rest = plus(let_variables(body)?, temporaries(ty)?)?;
     let rest = plus(load_count(loads)?, rest)?;

@@ -9,7 +9,6 @@ ghost use Rattle.kernel_tree.specs.Tree.{formula_of};
 ghost use Rattle.printed_form.specs.Expressions as spec;
 ghost use Rattle.printed_form.specs.Printer as printer;
 ghost use Rattle.printed_form.specs.Views.{held_sign};
-ghost use Rattle.array_views.specs.Views.{view_in};
 ghost use Rattle.lowering.specs.Terms.{term_of};
 ghost use Rattle.kernel_emit.specs.Scopes.{scope_of};
 ghost use Rattle.kernel_emit.specs.Parts.{parts_of};
@@ -81,7 +80,8 @@ fn with_number(
     number: u32,
 ) -> Result<Option<Expr>, AllocError>
     ensures { IfOk result (λ e. option_map formula_of e
-        ≡ spec.of_one (λ x. formula.Binary op x (formula.Number number)) (option_map formula_of a)) }
+        ≡ spec.of_one (λ x. formula.Binary op x (formula.Number number))
+        (option_map formula_of a)) }
 {
     match a {
         Some(a) => Ok(Some(Expr::binary(alloc, op, a, Expr::Number(number))?)),

@@ -39,7 +39,8 @@ fn statements(
     ty: &Ty,
 ) -> Result<Vec<Stmt>, AllocError>
     requires { HasShortCopies (term_of term.now) }
-    ensures { IfOk result (λ ss. code_then ss.items End ≡ printer.kernel_code (spell_in declared.now)
+    ensures { IfOk result (λ ss. code_then ss.items End
+        ≡ printer.kernel_code (spell_in declared.now)
         (programs.first_buffer (map ty_of declared.now.inputs.now))
         (programs.input_shape (map ty_of declared.now.inputs.now))
         (term_of term.now) (shape_of (ty_of ty.now))) }

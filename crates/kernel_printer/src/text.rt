@@ -1,6 +1,6 @@
 // The one text of a kernel.
 
-ghost use Rattle.std.specs.Prelude.{◌≡◌, ◌++◌, ◌+◌, ◌≤◌, ◌<◌, ◌^◌, ◌-◌, IfOk, OnOk, List, ℕ, decimal, codes, length};
+ghost use Rattle.std.specs.Prelude.{◌≡◌, ◌++◌, ◌+◌, ◌≤◌, ◌<◌, ◌^◌, ◌-◌, IfOk, OnOk, List, ℕ, decimal, length};
 ghost use Rattle.kernel_tree.specs.Code.{Code, End, Assigns, Loads, Stores, Syncs};
 ghost use Rattle.kernel_tree.specs.Kernels.{kernel_of};
 ghost use Rattle.kernel_tree.specs.KernelText.{IsKernelText, indent, named, array_name};

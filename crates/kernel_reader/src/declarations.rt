@@ -1,8 +1,7 @@
 // The declarations of a kernel's text: what their forms give way to.
 
-ghost use Rattle.std.specs.Prelude.{◌≡◌, ◌<◌, Some, length};
+ghost use Rattle.std.specs.Prelude.{◌≡◌, ◌<◌};
 ghost use Rattle.kernel_tree.specs.KernelText as text;
-ghost use Rattle.kernel_tree.specs.KernelText.{Part, another_line};
 ghost use Rattle.kernel_spelling.specs.Kinds.{kind_of};
 ghost use Rattle.kernel_spelling.specs.Rows.{is_next, new_variable_row, new_local_row, declared_row, length_row, variables_row, privates_row, locals_row, declaration_row};
 ghost use Rattle.kernel_reader.specs.Views.{Gave, part_of};

@@ -1,6 +1,6 @@
 // The expressions of a kernel's text: what their forms give way to.
 
-ghost use Rattle.std.specs.Prelude.{◌≡◌, ◌≤◌, Some};
+ghost use Rattle.std.specs.Prelude.{◌≤◌, Some};
 ghost use Rattle.kernel_tree.specs.Tree.{comparison_of};
 ghost use Rattle.kernel_tree.specs.KernelText.{operated, compared};
 ghost use Rattle.kernel_spelling.specs.Kinds.{kind_of};

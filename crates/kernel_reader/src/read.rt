@@ -1,12 +1,11 @@
 // Kernel text, read back.
 
-ghost use Rattle.std.specs.Prelude.{◌≡◌, ℕ, List, IfOk, IfErr, map, []};
+ghost use Rattle.std.specs.Prelude.{◌≡◌, List, IfOk, IfErr, []};
 ghost use Rattle.readings.specs.Readings.{Reads};
 ghost use Rattle.kernel_tree.specs.Code as code;
 ghost use Rattle.kernel_tree.specs.Kernels.{kernel_of};
 ghost use Rattle.kernel_tree.specs.KernelText.{IsKernelText, Piece, all_of, kernels, start, nothing};
 ghost use Rattle.kernel_spelling.specs.Spelling.{HasText, text_of};
-ghost use Rattle.kernel_reader.specs.Views.{bytes_of, owed_by};
 ghost use Rattle.kernel_reader.specs.Noted.{notes_of};
 ghost use Rattle.kernel_reader.specs.Exactly.{Answers, Refuses};
 

@@ -9,7 +9,7 @@ use Rattle.readings.specs.Running.{Decides}
 use Rattle.scalar_ops.specs.declared.op.Op.{Op}
 use Rattle.kernel_tree.specs.declared.tree.Array as held
 use Rattle.kernel_tree.specs.declared.tree.Array.TheVariants as array
-use Rattle.kernel_tree.specs.Formula.{Formula, IdForm, GlobalId, GroupId, LocalId, GlobalSize, GroupCount, LocalSize, Id, Less, Equal}
+use Rattle.kernel_tree.specs.Formula.{Formula, IdForm, GlobalId, GroupId, LocalId, GlobalSize, GroupCount, LocalSize, Id}
 use Rattle.kernel_tree.specs.Formula as formula
 use Rattle.kernel_tree.specs.Code as code
 use Rattle.kernel_tree.specs.Grammar.{deepest, is_readable, is_writable}

@@ -5,7 +5,7 @@ use Rattle.readings.specs.Running.{Table}
 use Rattle.scalar_ops.specs.declared.op.Op.{Op}
 use Rattle.scalar_ops.specs.declared.op.Op.TheVariants.{Shl, Shr}
 use Rattle.kernel_tree.specs.declared.tree.Array.TheVariants as array
-use Rattle.kernel_tree.specs.Formula.{IdForm, Formula, Id, Less, Equal}
+use Rattle.kernel_tree.specs.Formula.{Formula, Id, Less, Equal}
 use Rattle.kernel_tree.specs.Formula as formula
 use Rattle.kernel_tree.specs.Code as code
 use Rattle.kernel_tree.specs.Grammar.{deepest, is_readable, is_writable}

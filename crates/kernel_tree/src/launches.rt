@@ -32,7 +32,11 @@ impl Model for Cells {
 
     ghost Value = { seen.Cells };
 
-    ghost view = { λ c. record { ins = map (λ row. row.items) c.ins.items; outs = map (λ row. row.items) c.outs.items; rest = c.rest } };
+    ghost view = { λ c. record {
+      ins = map (λ row. row.items) c.ins.items;
+      outs = map (λ row. row.items) c.outs.items;
+      rest = c.rest;
+    } };
 }
 
 /// In which order events are taken.

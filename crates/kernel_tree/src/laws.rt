@@ -25,91 +25,148 @@ ghost use Rattle.kernel_tree.specs.Blocks.{LoopCode, CodeBehind};
 
 /// One complete run without a failure and without a race tells of every run from its state, in whatever order the events come: no run has a fault, none has more events or accesses, and each that cannot go on has come to the same end.
 pub fn one_run_tells_of_all()
-    ensures { (d : Device) (s : State) (es : List Event) → IsWhole d.launch → Completes d s es → EveryRun d s es }
+    ensures { (d : Device) (s : State) (es : List Event) → IsWhole d.launch → Completes d s es
+        → EveryRun d s es }
 {}
 
 /// In every run from the state of a complete one each item does, in its own order, a front of what it does in the complete one, with the same accesses, and each group is released as often at first; a run that cannot go on has the whole.
 pub fn every_history()
-    ensures { (d : Device) (s : State) (es : List Event) → IsWhole d.launch → Completes d s es → EveryHistory d s es }
+    ensures { (d : Device) (s : State) (es : List Event) → IsWhole d.launch → Completes d s es
+        → EveryHistory d s es }
 {}
 
 /// Where a complete run gives the items these histories, the runs from its state are just what the histories allow, with the accesses that they tell, and as many: nothing else of the kernel counts.
 pub fn runs_by_histories()
-    ensures counted { (d : Device) (s : State) (h : Histories) → IsWhole d.launch → Enacts d s h → CountsAs d s h }
-    ensures runs { (d : Device) (s : State) (h : Histories) → IsWhole d.launch → Enacts d s h → AsHistories d s h }
+    ensures counted { (d : Device) (s : State) (h : Histories) → IsWhole d.launch → Enacts d s h
+        → CountsAs d s h }
+    ensures runs { (d : Device) (s : State) (h : Histories) → IsWhole d.launch → Enacts d s h
+        → AsHistories d s h }
 {}
 
 /// Two kernels whose items have the same histories go alike: each run of one is a run of the other, with the same accesses event by event, and a schedule makes of both the same run.
 pub fn alike()
-    ensures states { (l : Launch) (m n : Array → ℕ) (s t : State) (h : Histories) → IsWhole l → s.epochs ≡ t.epochs → Enacts (record { launch = l; lengths = m }) s h → Enacts (record { launch = l; lengths = n }) t h → GoesAlike (record { launch = l; lengths = m }) s (record { launch = l; lengths = n }) t }
-    ensures kernels { (k m : Kernel) (l : Launch) (c : Cells) (h : Histories) → IsWhole l → KernelEnacts k l c h → KernelEnacts m l c h → KernelsAlike k m l c }
+    ensures states { (l : Launch) (m n : Array → ℕ) (s t : State) (h : Histories) → IsWhole l
+        → s.epochs ≡ t.epochs → Enacts (record { launch = l; lengths = m }) s h
+        → Enacts (record { launch = l; lengths = n }) t h
+        → GoesAlike (record { launch = l; lengths = m }) s (record { launch = l; lengths = n }) t }
+    ensures kernels { (k m : Kernel) (l : Launch) (c : Cells) (h : Histories) → IsWhole l
+        → KernelEnacts k l c h → KernelEnacts m l c h → KernelsAlike k m l c }
 {}
 
 /// Where one run tells of every run, in every run the items of a group meet the same barriers with the same turn numbers.
 pub fn groups_meet()
-    ensures { (d : Device) (s : State) (es fs : List Event) → EveryRun d s es → IsRun d s fs → MeetTogether d (run d s fs) }
+    ensures { (d : Device) (s : State) (es fs : List Event) → EveryRun d s es → IsRun d s fs
+        → MeetTogether d (run d s fs) }
 {}
 
 /// The rules by which one item goes on: an assignment moves it, a load gets a cell of its array, a store gives one its value, and a loop goes through by its turns.
 pub fn statements()
-    ensures assignment { (d : Device) (k : ℕ) (fs : List Frame) (vars : List ℕ) (m : Memory) (v : ℕ) (e : Formula) (rest : Code) (x : ℕ) → value (ids_of d.launch k) (loop_variables fs) vars e ≡ Some x → Goes d k (item (Assigns v e rest) fs vars) m (Moved ∷ []) (item rest fs (slice_set vars v x)) }
-    ensures load { (d : Device) (k : ℕ) (fs : List Frame) (vars : List ℕ) (m : Memory) (v : ℕ) (a : Array) (i : Formula) (rest : Code) (n : ℕ) → value (ids_of d.launch k) (loop_variables fs) vars i ≡ Some n → n < d.lengths a → Goes d k (item (Loads v a i rest) fs vars) m (Got (cell_at d.launch k a n) ∷ []) (item rest fs (slice_set vars v (m (cell_at d.launch k a n)))) }
-    ensures store { (d : Device) (k : ℕ) (fs : List Frame) (vars : List ℕ) (m : Memory) (a : Array) (i e : Formula) (rest : Code) (n x : ℕ) → value (ids_of d.launch k) (loop_variables fs) vars i ≡ Some n → value (ids_of d.launch k) (loop_variables fs) vars e ≡ Some x → n < d.lengths a → Goes d k (item (Stores a i e rest) fs vars) m (Gave (cell_at d.launch k a n) x ∷ []) (item rest fs vars) }
-    ensures loops { (d : Device) (k : ℕ) (fs : List Frame) (p : Loop) (n : ℕ) (vs : ℕ → List ℕ) (m : Memory) (ds : ℕ → List Deed) → Turns d k fs p n vs m ds → Goes d k (item (loop_code p) fs (vs 0)) m (Moved ∷ all_turns ds n) (item p.after fs (vs n)) }
+    ensures assignment { (d : Device) (k : ℕ) (fs : List Frame) (vars : List ℕ) (m : Memory) (v : ℕ)
+        (e : Formula) (rest : Code) (x : ℕ)
+        → value (ids_of d.launch k) (loop_variables fs) vars e ≡ Some x
+        → Goes d k (item (Assigns v e rest) fs vars) m (Moved ∷ [])
+        (item rest fs (slice_set vars v x)) }
+    ensures load { (d : Device) (k : ℕ) (fs : List Frame) (vars : List ℕ) (m : Memory) (v : ℕ)
+        (a : Array) (i : Formula) (rest : Code) (n : ℕ)
+        → value (ids_of d.launch k) (loop_variables fs) vars i ≡ Some n → n < d.lengths a
+        → Goes d k (item (Loads v a i rest) fs vars) m (Got (cell_at d.launch k a n) ∷ [])
+        (item rest fs (slice_set vars v (m (cell_at d.launch k a n)))) }
+    ensures store { (d : Device) (k : ℕ) (fs : List Frame) (vars : List ℕ) (m : Memory) (a : Array)
+        (i e : Formula) (rest : Code) (n x : ℕ)
+        → value (ids_of d.launch k) (loop_variables fs) vars i ≡ Some n
+        → value (ids_of d.launch k) (loop_variables fs) vars e ≡ Some x → n < d.lengths a
+        → Goes d k (item (Stores a i e rest) fs vars) m (Gave (cell_at d.launch k a n) x ∷ [])
+        (item rest fs vars) }
+    ensures loops { (d : Device) (k : ℕ) (fs : List Frame) (p : Loop) (n : ℕ) (vs : ℕ → List ℕ)
+        (m : Memory) (ds : ℕ → List Deed) → Turns d k fs p n vs m ds
+        → Goes d k (item (loop_code p) fs (vs 0)) m (Moved ∷ all_turns ds n)
+        (item p.after fs (vs n)) }
 {}
 
 /// Where an item goes on alone by these deeds, its steps are a run without a failure, which leads it to the end of the deeds, memory to what they write, and makes their accesses.
 pub fn an_item_alone()
-    ensures { (d : Device) (k : ℕ) (s : State) (ds : List Deed) (y : Item) → k < item_count d.launch → Goes d k (s.items k) s.memory ds y → AloneRun d s k ds y }
+    ensures { (d : Device) (k : ℕ) (s : State) (ds : List Deed) (y : Item) → k < item_count d.launch
+        → Goes d k (s.items k) s.memory ds y → AloneRun d s k ds y }
 {}
 
 /// Items that need nothing of one another: every run is without a fault, and each cell comes to hold what its one owner leaves there.
 pub fn independent_items()
-    ensures { (d : Device) (s : State) (o : Owners) (deeds : ℕ → List Deed) (ends : ℕ → Item) → IsWhole d.launch → Independent d s o deeds ends → AsAllowed d s o deeds ends (one_by_one deeds (item_count d.launch)) }
+    ensures { (d : Device) (s : State) (o : Owners) (deeds : ℕ → List Deed) (ends : ℕ → Item)
+        → IsWhole d.launch → Independent d s o deeds ends
+        → AsAllowed d s o deeds ends (one_by_one deeds (item_count d.launch)) }
 {}
 
 /// Every run of a kernel from its start that has no failure has at most the bound's events, whatever the launch, the contents and the order of the events.
 pub fn runs_are_bounded()
-    ensures { (k : Kernel) (l : Launch) (c : Cells) (s : State) (es : List Event) → IsWhole l → IsStart k l c s → IsRun (device_of k l c) s es → NoFailure (device_of k l c) s es → length es ≤ bound k l }
+    ensures { (k : Kernel) (l : Launch) (c : Cells) (s : State) (es : List Event) → IsWhole l
+        → IsStart k l c s → IsRun (device_of k l c) s es → NoFailure (device_of k l c) s es
+        → length es ≤ bound k l }
 {}
 
 /// Footprints. In a run from any state that has no fault, no actor writes a cell that another accesses, and every reordering that keeps each actor's own order is a run without a fault to the same state. Actors are the groups over a whole run, or the items in a run of their steps alone, as between two releases.
 pub fn footprints()
-    ensures groups_apart { (d : Device) (s : State) (es : List Event) → IsWhole d.launch → IsRun d s es → IsFaultless d s es → LeavesOthers (λ a. a.group) (accesses d s es) }
-    ensures groups { (d : Device) (s : State) (es fs : List Event) → IsWhole d.launch → IsRun d s es → IsFaultless d s es → KeepsGroups d.launch es fs → LeadsAlike d s es fs }
-    ensures items_apart { (d : Device) (s : State) (ks : List ℕ) → IsWhole d.launch → IsRun d s (steps ks) → IsFaultless d s (steps ks) → LeavesOthers (λ a. a.item) (accesses d s (steps ks)) }
-    ensures items { (d : Device) (s : State) (ks js : List ℕ) → IsWhole d.launch → IsRun d s (steps ks) → IsFaultless d s (steps ks) → KeepsItems ks js → LeadsAlike d s (steps ks) (steps js) }
+    ensures groups_apart { (d : Device) (s : State) (es : List Event) → IsWhole d.launch
+        → IsRun d s es → IsFaultless d s es → LeavesOthers (λ a. a.group) (accesses d s es) }
+    ensures groups { (d : Device) (s : State) (es fs : List Event) → IsWhole d.launch → IsRun d s es
+        → IsFaultless d s es → KeepsGroups d.launch es fs → LeadsAlike d s es fs }
+    ensures items_apart { (d : Device) (s : State) (ks : List ℕ) → IsWhole d.launch
+        → IsRun d s (steps ks) → IsFaultless d s (steps ks)
+        → LeavesOthers (λ a. a.item) (accesses d s (steps ks)) }
+    ensures items { (d : Device) (s : State) (ks js : List ℕ) → IsWhole d.launch
+        → IsRun d s (steps ks) → IsFaultless d s (steps ks) → KeepsItems ks js
+        → LeadsAlike d s (steps ks) (steps js) }
 {}
 
 /// Items alone in turn and releases between them, each touching only cells that are its own in that epoch or nobody's: where all items have ended after them, they tell of every run.
 pub fn chunks_tell_of_all()
-    ensures { (p : Phases) (d : Device) (s t : State) (cs : List Chunk) → IsWhole d.launch → Chunked p d s cs t → AllEnded d t → AsChunked p d s t cs }
+    ensures { (p : Phases) (d : Device) (s t : State) (cs : List Chunk) → IsWhole d.launch
+        → Chunked p d s cs t → AllEnded d t → AsChunked p d s t cs }
 {}
 
 /// What the items do in chunks, put together: in none they do nothing; after one another they do one after the other; a stretch is each item's deeds; a release takes each item of its group past the barrier. Where all items have ended, these are their histories.
 pub fn chunks_lead()
     ensures none { (p : Phases) (d : Device) (s : State) → Leads p d s [] s (λ j. []) }
-    ensures join { (p : Phases) (d : Device) (s t u : State) (cs es : List Chunk) (f g : ℕ → List Act) → Leads p d s cs t f → Leads p d t es u g → Leads p d s (cs ++ es) u (λ j. f j ++ g j) }
-    ensures stretch { (p : Phases) (d : Device) (s : State) (epochs : Fence → ℕ) (n : ℕ) (at : ℕ → ℕ) (deeds : ℕ → List Deed) (ends : ℕ → Item) (acts : ℕ → List Act) → Stretch p d s epochs n at deeds ends → InTurn n at deeds acts → (t : State) × Passed p d s epochs n at deeds ends t × Leads p d s (in_turn at deeds ends n) t acts }
-    ensures release { (p : Phases) (d : Device) (s : State) (g : ℕ) (on_local on_global : Bool) (rest : Code) (frames : ℕ → List Frame) (vars : ℕ → List ℕ) → IsWhole d.launch → AtBarrier d s g on_local on_global rest frames vars → Leads p d s (Rel g ∷ []) (after d s (Release g)) (release_acts d.launch g on_local on_global) }
-    ensures over { (p : Phases) (d : Device) (s t : State) (cs : List Chunk) (acts : ℕ → List Act) → IsWhole d.launch → Leads p d s cs t acts → AllEnded d t → Enacts d s acts }
+    ensures join { (p : Phases) (d : Device) (s t u : State) (cs es : List Chunk)
+        (f g : ℕ → List Act) → Leads p d s cs t f → Leads p d t es u g
+        → Leads p d s (cs ++ es) u (λ j. f j ++ g j) }
+    ensures stretch { (p : Phases) (d : Device) (s : State) (epochs : Fence → ℕ) (n : ℕ)
+        (at : ℕ → ℕ) (deeds : ℕ → List Deed) (ends : ℕ → Item) (acts : ℕ → List Act)
+        → Stretch p d s epochs n at deeds ends → InTurn n at deeds acts
+        → (t : State) × Passed p d s epochs n at deeds ends t
+        × Leads p d s (in_turn at deeds ends n) t acts }
+    ensures release { (p : Phases) (d : Device) (s : State) (g : ℕ) (on_local on_global : Bool)
+        (rest : Code) (frames : ℕ → List Frame) (vars : ℕ → List ℕ) → IsWhole d.launch
+        → AtBarrier d s g on_local on_global rest frames vars
+        → Leads p d s (Rel g ∷ []) (after d s (Release g))
+        (release_acts d.launch g on_local on_global) }
+    ensures over { (p : Phases) (d : Device) (s t : State) (cs : List Chunk) (acts : ℕ → List Act)
+        → IsWhole d.launch → Leads p d s cs t acts → AllEnded d t → Enacts d s acts }
 {}
 
 /// Different items, each by its own deeds between two releases, may go on one after another: each cell of theirs then holds what its owner leaves there.
 pub fn items_between_releases()
-    ensures { (p : Phases) (d : Device) (s : State) (epochs : Fence → ℕ) (n : ℕ) (at : ℕ → ℕ) (deeds : ℕ → List Deed) (ends : ℕ → Item) → Stretch p d s epochs n at deeds ends → (t : State) × Passed p d s epochs n at deeds ends t }
+    ensures { (p : Phases) (d : Device) (s : State) (epochs : Fence → ℕ) (n : ℕ) (at : ℕ → ℕ)
+        (deeds : ℕ → List Deed) (ends : ℕ → Item) → Stretch p d s epochs n at deeds ends
+        → (t : State) × Passed p d s epochs n at deeds ends t }
 {}
 
 /// A group whose items all stand before one barrier at the same turns may be released, and goes on past it with its epochs raised by the barrier's flags.
 pub fn a_release()
-    ensures { (d : Device) (s : State) (g : ℕ) (on_local on_global : Bool) (rest : Code) (frames : ℕ → List Frame) (vars : ℕ → List ℕ) → IsWhole d.launch → AtBarrier d s g on_local on_global rest frames vars → Released d s g on_local on_global rest frames vars }
+    ensures { (d : Device) (s : State) (g : ℕ) (on_local on_global : Bool) (rest : Code)
+        (frames : ℕ → List Frame) (vars : ℕ → List ℕ) → IsWhole d.launch
+        → AtBarrier d s g on_local on_global rest frames vars
+        → Released d s g on_local on_global rest frames vars }
 {}
 
 /// A schedule takes one event in a state, and makes one run from it. Where no run has a fault, it goes on until no event is enabled.
 pub fn one_scheduled_run()
-    ensures choice { (d : Device) (schedule : Schedule) (n : ℕ) (s : State) (e f : Event) → Chooses schedule n d s e → Chooses schedule n d s f → e ≡ f }
-    ensures to_end { (d : Device) (schedule : Schedule) (s : State) (es : List Event) → ((fs : List Event) → IsRun d s fs → IsFaultless d s fs) → ScheduledRun schedule d s es → IsStuck d (run d s es) }
-    ensures run { (d : Device) (schedule : Schedule) (s : State) (es fs : List Event) → ScheduledRun schedule d s es → ScheduledRun schedule d s fs → es ≡ fs }
+    ensures choice { (d : Device) (schedule : Schedule) (n : ℕ) (s : State) (e f : Event)
+        → Chooses schedule n d s e → Chooses schedule n d s f → e ≡ f }
+    ensures to_end { (d : Device) (schedule : Schedule) (s : State) (es : List Event)
+        → ((fs : List Event) → IsRun d s fs → IsFaultless d s fs) → ScheduledRun schedule d s es
+        → IsStuck d (run d s es) }
+    ensures run { (d : Device) (schedule : Schedule) (s : State) (es fs : List Event)
+        → ScheduledRun schedule d s es → ScheduledRun schedule d s fs → es ≡ fs }
 {}
 
 /// Blocks as the program holds them: a loop's code has the code of its body's statements, and the code of statements

@@ -56,7 +56,8 @@ pub enum Expr {
 impl Expr {
     /// The operator on these two.
     pub fn binary(alloc: Global, op: Op, a: Expr, b: Expr) -> Result<Self, AllocError>
-        ensures { IfOk result (λ e. formula_of e ≡ formula.Binary op (formula_of a) (formula_of b)) }
+        ensures { IfOk result
+            (λ e. formula_of e ≡ formula.Binary op (formula_of a) (formula_of b)) }
     {
         let a = Box::new(alloc, a)?;
         Ok(Expr::Binary(op, a, Box::new(alloc, b)?))
@@ -145,7 +146,8 @@ pub struct Kernel {
     pub variables: u32,
     pub body: Vec<Stmt>,
     pub ghost in_grammar: { is_kernel
-        (kernel_with inputs outputs sizes locals.items privates.items variables body.items) ≡ true },
+        (kernel_with inputs outputs sizes locals.items privates.items variables body.items)
+        ≡ true },
     /// Arrays have numbers below 2^32.
     pub ghost few_arrays: { (length locals.items < 2 ^ 32) × (length privates.items < 2 ^ 32) },
 }

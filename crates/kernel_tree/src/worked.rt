@@ -25,7 +25,8 @@ pub fn worked_faults()
     ensures race { Faults writes_first 2 1 (Step 0 ∷ []) (Step 1) (Some fault.Race) }
     ensures out_of_range { Faults writes_second 1 1 [] (Step 0) (Some fault.OutOfRange) }
     ensures zero_divisor { Faults divides_by_zero 1 1 [] (Step 0) (Some fault.ZeroDivisor) }
-    ensures divergent { Faults some_meet_a_barrier 2 2 (Step 0 ∷ []) (Step 1) (Some fault.Divergent) }
+    ensures divergent { Faults some_meet_a_barrier 2 2 (Step 0 ∷ []) (Step 1)
+        (Some fault.Divergent) }
 {}
 
 /// Two items of one group race in its local array. Each group has its own, and each item its own private arrays.
@@ -43,7 +44,9 @@ pub fn worked_barriers()
 
 /// The kernel that adds one to three words ends after as many events as its bound, and leaves their wrapped sums.
 pub fn worked_run()
-    ensures ends { let d = device_of increments of_three three_words in let s = start_state increments three_words in IsRun d s (replicate 10 (Step 0)) × AllEnded d (run d s (replicate 10 (Step 0))) }
+    ensures ends { let d = device_of increments of_three three_words in
+        let s = start_state increments three_words in
+        IsRun d s (replicate 10 (Step 0)) × AllEnded d (run d s (replicate 10 (Step 0))) }
     ensures first { left_at 0 ≡ 2 }
     ensures second { left_at 1 ≡ 3 }
     ensures third { left_at 2 ≡ 0 }
@@ -52,13 +55,22 @@ pub fn worked_run()
 
 /// An item knows its number in the launch and in its group, and its group's number, from 0.
 pub fn worked_ids()
-    ensures { ids_of of_six 3 ≡ record { global_id = 3; group_id = 1; local_id = 1; global_size = 6; group_count = 3; local_size = 2; sizes = [] } }
+    ensures { ids_of of_six 3 ≡ record {
+      global_id = 3;
+      group_id = 1;
+      local_id = 1;
+      global_size = 6;
+      group_count = 3;
+      local_size = 2;
+      sizes = [];
+    } }
 {}
 
 /// Of a conditional only the chosen part is evaluated. A loop whose bound has no value counts one event an item. A loop's variable stays below 2^32.
 pub fn worked_values()
     ensures chosen { value (sizes_alone []) [] [] divides_unchosen ≡ Some 1 }
-    ensures unbounded { bound (one_output without_a_bound) (record { global = 3; local = 1; sizes = [] }) ≡ 3 }
+    ensures unbounded { bound (one_output without_a_bound)
+        (record { global = 3; local = 1; sizes = [] }) ≡ 3 }
     ensures goes_on { next (sizes_alone []) (ends_a_turn 4294967294) ≡ Moves (item End [] []) }
     ensures wraps { next (sizes_alone []) (ends_a_turn 4294967295) ≡ Fails fault.LoopWrap }
 {}
@@ -68,13 +80,16 @@ pub fn worked_turns()
     ensures first_variable { loop_variables (met.items 0).frames ≡ 0 ∷ 0 ∷ [] }
     ensures second_variable { loop_variables (met.items 1).frames ≡ 0 ∷ 1 ∷ [] }
     ensures same_turns { Enabled meeting met (Release 0) }
-    ensures other_turns { Faults meets_in_loops 2 2 (first_turns ++ Release 0 ∷ Step 0 ∷ Step 1 ∷ Step 1 ∷ []) (Step 1) (Some fault.Divergent) }
+    ensures other_turns { Faults meets_in_loops 2 2
+        (first_turns ++ Release 0 ∷ Step 0 ∷ Step 1 ∷ Step 1 ∷ []) (Step 1) (Some fault.Divergent) }
 {}
 
 /// A list's numbers are taken modulo the count of enabled events, and a seed's by the high half of the generator's word.
 pub fn worked_schedules()
-    ensures listed { choose_event (Numbers (3 ∷ 6 ∷ [])) 1 (Step 0 ∷ Step 1 ∷ Step 2 ∷ Step 3 ∷ []) ≡ Some (Step 2) }
-    ensures used_up { choose_event (Numbers (3 ∷ 6 ∷ [])) 2 (Step 0 ∷ Step 1 ∷ Step 2 ∷ Step 3 ∷ []) ≡ Some (Step 0) }
+    ensures listed { choose_event (Numbers (3 ∷ 6 ∷ [])) 1 (Step 0 ∷ Step 1 ∷ Step 2 ∷ Step 3 ∷ [])
+        ≡ Some (Step 2) }
+    ensures used_up { choose_event (Numbers (3 ∷ 6 ∷ [])) 2 (Step 0 ∷ Step 1 ∷ Step 2 ∷ Step 3 ∷ [])
+        ≡ Some (Step 0) }
     ensures release { place_of of_two_groups (Release 1) ≡ 2 }
     ensures seeded { number_at (Seed 7) 0 ≡ 15648 }
     ensures second { number_at (Seed 7) 1 ≡ 59866 }
@@ -83,23 +98,39 @@ pub fn worked_schedules()
 
 /// An event's access is seen where it is of shared memory, and a fault has a cell where it is a race.
 pub fn worked_sights()
-    ensures race { seen_of two_items first_state (Step 1) (Some fault.Race) ≡ record { event = Step 1; access = Some (Write (record { array = held.Output 0; index = 0 })); fault = Some (record { kind = fault.Race; cell = Some (record { array = held.Output 0; index = 0 }) }) } }
-    ensures out_of_range { fault_of (Writes (Output 0) 1 1 (item End [] [])) fault.OutOfRange ≡ record { kind = fault.OutOfRange; cell = None } }
+    ensures race { seen_of two_items first_state (Step 1) (Some fault.Race) ≡ record {
+      event = Step 1;
+      access = Some (Write (record { array = held.Output 0; index = 0 }));
+      fault = Some (record {
+        kind = fault.Race;
+        cell = Some (record { array = held.Output 0; index = 0 });
+      });
+    } }
+    ensures out_of_range { fault_of (Writes (Output 0) 1 1 (item End [] [])) fault.OutOfRange
+        ≡ record { kind = fault.OutOfRange; cell = None } }
     ensures private { access_wanted (Writes (Private 0) 0 1 (item End [] [])) ≡ None }
-    ensures local { access_wanted (Reads (Local 0) 5 (λ x. item End [] [])) ≡ Some (Read (record { array = held.Local 0; index = 5 })) }
-    ensures read { access_wanted (Reads (Input 2) 5 (λ x. item End [] [])) ≡ Some (Read (record { array = held.Input 2; index = 5 })) }
+    ensures local { access_wanted (Reads (Local 0) 5 (λ x. item End [] []))
+        ≡ Some (Read (record { array = held.Local 0; index = 5 })) }
+    ensures read { access_wanted (Reads (Input 2) 5 (λ x. item End [] []))
+        ≡ Some (Read (record { array = held.Input 2; index = 5 })) }
 {}
 
 /// A kernel names only what it declares, a loop's variable only within the loop, writes no input, has a statement in each block and a flag at each barrier, no comparison but in a conditional, and no bound looks at a variable. Expressions and loops nest 1,024 deep.
 pub fn worked_kernels()
     ensures increments { is_kernel increments ≡ true }
-    ensures undeclared { is_kernel (one_output (Stores (Output 1) (Number 0) (Number 0) End)) ≡ false }
-    ensures outside { is_kernel (one_output (Stores (Output 0) (LoopVariable 0) (Number 0) End)) ≡ false }
+    ensures undeclared { is_kernel (one_output (Stores (Output 1) (Number 0) (Number 0) End))
+        ≡ false }
+    ensures outside { is_kernel (one_output (Stores (Output 0) (LoopVariable 0) (Number 0) End))
+        ≡ false }
     ensures constant { is_kernel (one_output (Stores (Input 0) (Number 0) (Number 0) End)) ≡ false }
     ensures empty { is_kernel (one_output (Loops FromZero (Number 1) ByOne End End)) ≡ false }
-    ensures varying { is_kernel (one_output (Loops FromZero (Variable 0) ByOne (Stores (Output 0) (Number 0) (Number 0) End) End)) ≡ false }
+    ensures varying { is_kernel (one_output
+        (Loops FromZero (Variable 0) ByOne (Stores (Output 0) (Number 0) (Number 0) End) End))
+        ≡ false }
     ensures unflagged { is_kernel (one_output (Syncs false false End)) ≡ false }
-    ensures compared { is_kernel (one_output (Stores (Output 0) (Number 0) (Binary Lt (Number 0) (Number 1)) End)) ≡ false }
+    ensures compared { is_kernel (one_output
+        (Stores (Output 0) (Number 0) (Binary Lt (Number 0) (Number 1)) End))
+        ≡ false }
     ensures deep_loops { is_kernel (one_output (in_loops 1024 writes_first)) ≡ true }
     ensures deeper_loops { is_kernel (one_output (in_loops 1025 writes_first)) ≡ false }
     ensures deep { is_expression (one_output End) 0 (nested 1023) ≡ true }

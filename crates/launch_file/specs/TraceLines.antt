@@ -1,5 +1,5 @@
 -- The lines of a trace.
-use Rattle.std.specs.Prelude.{ℕ, List, [], ◌∷◌, ◌++◌, codes, decimal, flat_map, Option, Some, None}
+use Rattle.std.specs.Prelude.{ℕ, List, [], ◌++◌, codes, decimal, flat_map, Option, Some, None}
 use Rattle.kernel_tree.specs.declared.events.Access.{Access}
 use Rattle.kernel_tree.specs.declared.events.Access.TheVariants.{Read, Write}
 use Rattle.kernel_tree.specs.declared.events.Cell.{Cell}

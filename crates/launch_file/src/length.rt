@@ -1,7 +1,7 @@
 //! Lengths at given sizes.
 
 ghost use Rattle.std.specs.Prelude.{◌≡◌, ◌%◌, ◌^◌};
-ghost use Rattle.lift_tree.specs.Meaning.{factor_at, nth_size, product_at};
+ghost use Rattle.lift_tree.specs.Meaning.{factor_at, product_at};
 ghost use Rattle.launch_file.specs.Inputs as lengths;
 ghost use Rattle.launch_file.specs.Inputs.{LengthFits};
 

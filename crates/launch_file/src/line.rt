@@ -2,7 +2,7 @@
 
 ghost use Rattle.std.specs.Prelude.{◌≡◌, ◌++◌, codes};
 ghost use Rattle.lift_tree.specs.Programs.{program_of};
-ghost use Rattle.launch_file.specs.Line.{detail_text, input_name, line_of, line_text, size_name};
+ghost use Rattle.launch_file.specs.Line.{input_name, line_of, line_text, size_name};
 
 use crate::refusal::{Key, LaunchNo};
 use lift_tree::program::Program;

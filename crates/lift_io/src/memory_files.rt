@@ -48,7 +48,13 @@ impl MemoryFiles {
     /// Of two texts with one name the first counts.
     pub fn new(texts: Vec<NamedText>, failing: Vec<u64>) -> MemoryFiles
         ensures holds { result
-            ≡ record { texts = texts; failing = failing; asked = result.asked; calls = 0; faults = 0 } }
+            ≡ record {
+              texts = texts;
+              failing = failing;
+              asked = result.asked;
+              calls = 0;
+              faults = 0;
+            } }
         ensures asked { names_asked result ≡ Some [] }
     {
         let asked = Vec::new(*texts.allocator());

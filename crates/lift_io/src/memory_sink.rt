@@ -88,7 +88,8 @@ impl Sink for MemorySink {
         ensures within { IfOk result (λ k. k ≤ length piece.now) }
         ensures some { IfOk result (λ k. 0 < length piece.now → 0 < k) }
         ensures none { length piece.now ≡ 0 → result ≡ Ok 0 }
-        ensures bytes { WriteAppends (Some self.old.bytes.items) (Some self.new.bytes.items) result piece.now }
+        ensures bytes { WriteAppends (Some self.old.bytes.items) (Some self.new.bytes.items) result
+            piece.now }
         ensures cause { HasCause self.old.faults self.new.faults result }
 
         // Beyond what all sinks promise: how many bytes it takes, that just the calls that were

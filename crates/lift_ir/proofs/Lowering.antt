@@ -7,7 +7,7 @@ use Rattle.lift_tree.specs.declared.term.BinaryForm.TheVariants as binary
 use Rattle.lift_tree.specs.Tree as tree
 use Rattle.lift_tree.specs.Tree.{Tree}
 use Rattle.lift_tree.specs.Types as types
-use Rattle.lift_tree.specs.Types.{PlainTy, IsFormed}
+use Rattle.lift_tree.specs.Types.{PlainTy}
 use Rattle.lift_tree.specs.Meaning.{World}
 use Rattle.lift_tree.specs.Typing.{Declared, IsAdmissible}
 use Rattle.lift_tree.specs.Annotations.{Annotation, Leaf, One, Two, Three, type_in, Annotates}

@@ -6,7 +6,7 @@ use Rattle.std.proofs.lemmas.Simd.{map-map}
 use Rattle.lift_tree.specs.Types as types
 use Rattle.lift_tree.specs.Types.{PlainTy}
 use Rattle.lift_tree.specs.Lists.{Every}
-use Rattle.lift_tree.specs.Values.{Value, Word, array, list_of, Side, Left, Right}
+use Rattle.lift_tree.specs.Values.{Value, Word, list_of, Side, Left, Right}
 use Rattle.lift_tree.specs.Values as value
 use Rattle.lift_tree.specs.Limits.{components}
 use Rattle.lift_tree.specs.Launches as launches

@@ -28,7 +28,7 @@ use Rattle.lift_reader.specs.declared.word.Word.TheVariants as word
 use Rattle.lift_reader.specs.Meant.{unary_of}
 use Rattle.lift_reader.specs.Tokens.{Lexeme}
 use Rattle.lift_reader.specs.Grammar as grammar
-use Rattle.lift_reader.specs.Grammar.{Nonterminal, Action, Noted, Item, Gives, marked, programs, start, nothing, divides, IsProgram}
+use Rattle.lift_reader.specs.Grammar.{Nonterminal, Noted, Item, Gives, marked, programs, divides, IsProgram}
 use Rattle.lift_reader.specs.ProgramText.{ProgramsMayBeTyped, first_limit, lexemes}
 use Rattle.lift_tree.specs.Belonging.{IsNamed, AreNamed, PartsAreNamed, TypeIsNamed, InputsAreNamed, FormIsNamed, IsElementType, HoldsElementTypes, IsInputType, Belongs, IsProper, IsTermOf}
 

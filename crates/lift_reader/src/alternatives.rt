@@ -1,6 +1,6 @@
 //! The alternatives of forms: each gives way to the one that begins with the token that was read.
 
-ghost use Rattle.std.specs.Prelude.{◌≡◌, Some};
+ghost use Rattle.std.specs.Prelude.{Some};
 ghost use Rattle.readings.specs.Given.{Gave};
 ghost use Rattle.lift_reader.specs.Forms.{items};
 

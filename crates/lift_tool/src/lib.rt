@@ -57,7 +57,8 @@ fn answer<F: Files>(alloc: Global, words: &[String], files: &mut F) -> Result<Ve
         (λ n. Rose (F.faults files.old n) (F.faults files.new n)) (map string_bytes words.now)
         (failure_of no)) }
     ensures plain { (request : requests.CommandLine) → is_plain request ≡ true
-        → map string_bytes words.now ≡ words_of request → Asks (map string_bytes words.now) request }
+        → map string_bytes words.now ≡ words_of request
+        → Asks (map string_bytes words.now) request }
     ensures asks { (request : requests.CommandLine) → Asks (map string_bytes words.now) request
         → AsksFirst (F.asked files.old) (F.asked files.new) (files_of request) }
     ensures asks_all { IfOk result (λ _. (request : requests.CommandLine)

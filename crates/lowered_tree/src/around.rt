@@ -1,6 +1,6 @@
 //! What is around a node of a term.
 
-ghost use Rattle.std.specs.Prelude.{◌≡◌, IsTrue, ◌↔◌};
+ghost use Rattle.std.specs.Prelude.{◌≡◌};
 ghost use Rattle.lift_tree.specs.Types.{ty_of};
 ghost use Rattle.lift_tree.specs.Tree.{tree_of};
 ghost use Rattle.lowered_tree.specs.Elements.{is_element};

@@ -1,8 +1,7 @@
 //! The types of a program's inputs, with their lengths worked out.
 
-ghost use Rattle.std.specs.Prelude.{◌≡◌, ◌<◌, ◌^◌, Some, IfOk, [], length, map, slice_get, take};
+ghost use Rattle.std.specs.Prelude.{◌≡◌, ◌<◌, ◌^◌, Some, IfOk, length, map, slice_get};
 ghost use Rattle.lift_tree.specs.Annotations.{annotation_of, type_in};
-ghost use Rattle.lift_tree.specs.Belonging.{IsProper};
 ghost use Rattle.lift_tree.specs.Programs.{program_of};
 ghost use Rattle.lift_tree.specs.Types.{ty_of};
 ghost use Rattle.lift_tree.specs.Typing.{declared_by};
@@ -31,7 +30,8 @@ fn root_type(types: NodeTypes) -> Ty
 fn input_type(alloc: Global, program: &Program, number: u32) -> Result<Ty, AllocError>
     requires typed { HasTypedInputs (program_of program.now) }
     requires there { number < length (program_of program.now).inputs }
-    ensures { IfOk result (λ t. slice_get (declared_by (program_of program.now)).inputs number ≡ Some (ty_of t)) }
+    ensures { IfOk result
+        (λ t. slice_get (declared_by (program_of program.now)).inputs number ≡ Some (ty_of t)) }
 {
     match type_of(alloc, program.copy(alloc)?, Term::Input(number)) {
         Ok(typed) => Ok(root_type(typed.types)),
@@ -45,7 +45,8 @@ fn input_type(alloc: Global, program: &Program, number: u32) -> Result<Ty, Alloc
 pub fn input_types(alloc: Global, program: &Program) -> Result<Vec<Ty>, AllocError>
     requires typed { HasTypedInputs (program_of program.now) }
     requires few { length (program_of program.now).inputs < 2 ^ 32 }
-    ensures { IfOk result (λ types. map ty_of types.items ≡ (declared_by (program_of program.now)).inputs) }
+    ensures { IfOk result
+        (λ types. map ty_of types.items ≡ (declared_by (program_of program.now)).inputs) }
 {
     let mut types = Vec::new(alloc);
     for number in 0..program.inputs.len() {

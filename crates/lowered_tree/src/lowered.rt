@@ -34,7 +34,8 @@ impl Lowered {
 
     /// The root.
     pub fn root(&self) -> Node<'_>
-        ensures { own_site result ≡ root_site (tree_of self.now.term) (annotation_of self.now.types) }
+        ensures { own_site result
+            ≡ root_site (tree_of self.now.term) (annotation_of self.now.types) }
     {
         Node {
             around: Around::root(&self.term),
@@ -57,5 +58,6 @@ pub struct Spaced {
     pub mapped: Mapped,
     /// The spaces in preorder of the nodes.
     pub spaces: Vec<AddressSpace>,
-    ghost given: { spaces.items ≡ spaces_of (tree_of mapped.lowered.term) (annotation_of mapped.lowered.types) },
+    ghost given: { spaces.items
+        ≡ spaces_of (tree_of mapped.lowered.term) (annotation_of mapped.lowered.types) },
 }

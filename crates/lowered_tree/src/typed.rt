@@ -20,8 +20,10 @@ use std::alloc::{AllocError, Global};
 pub fn lowered(alloc: Global, typed: &Typed) -> Result<Lowered, AllocError>
     requires typed { HasTypedInputs (program_of typed.now.program) }
     requires few { length (program_of typed.now.program).inputs < 2 ^ 32 }
-    ensures names { IfOk result (λ l. l.names ≡ (declared_by (program_of typed.now.program)).names) }
-    ensures inputs { IfOk result (λ l. map ty_of l.inputs.items ≡ (declared_by (program_of typed.now.program)).inputs) }
+    ensures names { IfOk result
+        (λ l. l.names ≡ (declared_by (program_of typed.now.program)).names) }
+    ensures inputs { IfOk result
+        (λ l. map ty_of l.inputs.items ≡ (declared_by (program_of typed.now.program)).inputs) }
     ensures term { IfOk result (λ l. tree_of l.term ≡ tree_of typed.now.term) }
     ensures types { IfOk result (λ l. annotation_of l.types ≡ annotation_of typed.now.types) }
 {

@@ -1,7 +1,7 @@
 //! Lowering.
 
 ghost use Rattle.std.specs.Prelude.{◌≡◌, [], IfOk};
-ghost use Rattle.lift_tree.specs.Annotations.{annotation_of, type_in};
+ghost use Rattle.lift_tree.specs.Annotations.{annotation_of};
 ghost use Rattle.lift_tree.specs.Meaning.{scalar_op};
 ghost use Rattle.lift_tree.specs.Tree.{tree_of};
 ghost use Rattle.lift_tree.specs.Types.{ty_of};
@@ -199,7 +199,8 @@ fn mapped(
     array: Box<Term>,
     body: Box<Term>,
 ) -> Result<Term, AllocError>
-    ensures { IfOk result (λ t. term_of t ≡ terms.Map (spec.kind_of map_kind) (at.outer_of (ty_of ty.now))
+    ensures { IfOk result (λ t. term_of t
+        ≡ terms.Map (spec.kind_of map_kind) (at.outer_of (ty_of ty.now))
         (spec.named 0 (spec.element_of (ty_of ty.now)) [] (tree_of source.now))
         (term_of array.value) (term_of body.value)) }
 {

@@ -71,7 +71,8 @@ impl Place {
 
     /// The place of a let's value of this type: an element is set, an array is let.
     pub fn of_value(ty: &Ty) -> Place
-        ensures { place_of result ≡ if spec.is_element (ty_of ty.now) then spec.Element else spec.Argument }
+        ensures { place_of result
+            ≡ if spec.is_element (ty_of ty.now) then spec.Element else spec.Argument }
     {
         if is_element(ty) {
             Place::Element

@@ -37,7 +37,8 @@ pub fn launch(
     requires may_start { seen.MayStart (kernel_of kernel) launch cells }
     ensures outcome { IfOk result (λ o. EndsUnder (schedule_of schedule.now) (kernel_of kernel)
         launch cells (map (λ row. row.items) o.outputs.items) o.events o.releases) }
-    ensures refusal { IfErr result (Refuses (schedule_of schedule.now) (kernel_of kernel) launch cells) }
+    ensures refusal { IfErr result
+        (Refuses (schedule_of schedule.now) (kernel_of kernel) launch cells) }
     ensures trace { GetsIfThere (Sees (schedule_of schedule.now) (kernel_of kernel) launch cells
         result) trace.entry trace.exit }
 {
@@ -99,7 +100,8 @@ fn follow<L: Ledger>(
     requires may_start { seen.MayStart (kernel_of kernel) launch cells }
     ensures outcome { IfOk result (λ o. EndsUnder (schedule_of schedule.now) (kernel_of kernel)
         launch cells (map (λ row. row.items) o.outputs.items) o.events o.releases) }
-    ensures refusal { IfErr result (Refuses (schedule_of schedule.now) (kernel_of kernel) launch cells) }
+    ensures refusal { IfErr result
+        (Refuses (schedule_of schedule.now) (kernel_of kernel) launch cells) }
     ensures trace { traced ≡ true → Gets (Sees (schedule_of schedule.now) (kernel_of kernel)
         launch cells result) trace.old.items trace.new.items }
 {

@@ -6,7 +6,7 @@ use Rattle.std.proofs.lemmas.List.{map-append, map-set, set_at, get_or_at, lengt
 use Rattle.kernel_tree.specs.declared.tree.Expr.{Expr}
 use Rattle.kernel_tree.specs.declared.tree.Start.{Start}
 use Rattle.kernel_tree.specs.declared.tree.Stride.{Stride}
-use Rattle.kernel_tree.specs.declared.tree.Stmt.{Stmt, the_lemmas, Row_of-Stmt, end_of-Stmt, more_of-Stmt, items-the_row-Stmt}
+use Rattle.kernel_tree.specs.declared.tree.Stmt.{Stmt}
 use Rattle.kernel_tree.specs.declared.tree.Stmt as stmt
 use Rattle.kernel_tree.specs.Code.{Code, End, Assigns, Loads, Stores, Loops, Syncs}
 use Rattle.kernel_tree.specs.Tree.{before, code_of, code_then, array_of, formula_of, start_of, stride_of}

@@ -1,6 +1,6 @@
 //! A work-item of the machine.
 
-ghost use Rattle.std.specs.Prelude.{◌≡◌, ◌↔◌, ℕ, IfOk, IsTrue, replicate, length, ◌≤◌};
+ghost use Rattle.std.specs.Prelude.{◌≡◌, ◌↔◌, IfOk, IsTrue};
 ghost use Rattle.ndrange_machine.specs.Groups.{SamePlace};
 ghost use Rattle.ndrange_machine.specs.Changes.{changed, start_view};
 ghost use Rattle.ndrange_machine.specs.Known.{known};

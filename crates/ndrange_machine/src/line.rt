@@ -41,7 +41,8 @@ impl Line {
 #[cycle(laying)]
 pub fn lay(alloc: Global, lines: &mut Vec<Line>, block: Vec<Stmt>) -> Result<(), AllocError>
     ensures { OnOk result (map text_of lines.new.items
-        ≡ map text_of lines.old.items ++ lines_at (length lines.old.items) (code_then block.items End)) }
+        ≡ map text_of lines.old.items
+        ++ lines_at (length lines.old.items) (code_then block.items End)) }
 {
     for statement in block {
         lay_one(alloc, lines, statement)?;

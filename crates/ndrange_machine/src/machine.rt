@@ -1,6 +1,6 @@
 //! The machine.
 
-ghost use Rattle.std.specs.Prelude.{◌≡◌, ◌↔◌, ◌+◌, ◌*◌, ◌/◌, ◌^◌, ◌<◌, ◌≤◌, ◌∷◌, ◌++◌, ℕ, Bool, List, [], length, map, slice_get, slice_set, Some, None, option_map, replicate, IsTrue, IfOk, if◌then◌else◌};
+ghost use Rattle.std.specs.Prelude.{◌≡◌, ◌↔◌, ◌+◌, ◌*◌, ◌/◌, ◌^◌, ◌<◌, ◌≤◌, ℕ, List, [], length, map, slice_get, Some, None, option_map, replicate, IsTrue, IfOk};
 ghost use Rattle.kernel_tree.specs.Code as code;
 ghost use Rattle.kernel_tree.specs.Launch as seen;
 ghost use Rattle.kernel_tree.specs.declared.events.Event as held_event;
@@ -101,7 +101,8 @@ impl Machine {
     /// How many events are enabled.
     pub fn enabled(&self) -> u32
         ensures number { result ≡ enabled_count self.now }
-        ensures counts { (k : code.Kernel) (l : seen.Launch) (c : seen.Cells) (es : List held_event.Event)
+        ensures counts { (k : code.Kernel) (l : seen.Launch) (c : seen.Cells)
+            (es : List held_event.Event)
             → StandsFor k l c self.now es
             → CountsEnabled (device_of k l c) (state_after k l c es) result }
     {
@@ -111,7 +112,8 @@ impl Machine {
     /// The enabled event of this number, in the order of the work-items, from 0.
     pub fn nth_enabled(&self, k: u32) -> Event
         requires { k < enabled_count self.now }
-        ensures { (kernel : code.Kernel) (l : seen.Launch) (c : seen.Cells) (es all : List held_event.Event)
+        ensures { (kernel : code.Kernel) (l : seen.Launch) (c : seen.Cells)
+            (es all : List held_event.Event)
             → StandsFor kernel l c self.now es
             → AreEnabled (device_of kernel l c) (state_after kernel l c es) all
             → slice_get all k ≡ Some result }
@@ -123,7 +125,8 @@ impl Machine {
     /// one count of enabled events: at most n of them where there are at most 2 ^ n work-items.
     pub fn nth_enabled_counted<L: Ledger>(&self, k: u32, steps: &mut Steps<L>) -> Event
         requires { k < enabled_count self.now }
-        ensures event { (kernel : code.Kernel) (l : seen.Launch) (c : seen.Cells) (es all : List held_event.Event)
+        ensures event { (kernel : code.Kernel) (l : seen.Launch) (c : seen.Cells)
+            (es all : List held_event.Event)
             → StandsFor kernel l c self.now es
             → AreEnabled (device_of kernel l c) (state_after kernel l c es) all
             → slice_get all k ≡ Some result }
@@ -551,7 +554,8 @@ fn items_at_start(
     variables: u32,
     word: u32,
 ) -> Result<Vec<Item>, AllocError>
-    ensures { IfOk result (λ items. items.items ≡ replicate count (start_view depth variables word)) }
+    ensures { IfOk result
+        (λ items. items.items ≡ replicate count (start_view depth variables word)) }
 {
     let mut items = Vec::new(alloc);
     for _ in 0..count {

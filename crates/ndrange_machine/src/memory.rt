@@ -36,7 +36,11 @@ impl Memory {
     /// there is such a cell.
     pub fn write(&mut self, array: Array, group: u32, item: u32, index: u32, word: u32) -> bool
         ensures there { let a = array_of array in
-            result ≡ is_some (held self.old (record { array = a; home = home group item a; index = index })) }
+            result ≡ is_some (held self.old (record {
+              array = a;
+              home = home group item a;
+              index = index;
+            })) }
         ensures outputs { length self.new.outs.items ≡ length self.old.outs.items }
         ensures cells { let a = array_of array in
             let d : Cell = record { array = a; home = home group item a; index = index } in

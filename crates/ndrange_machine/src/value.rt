@@ -13,7 +13,8 @@ use scalar_ops::op::{Op, apply};
 /// The expression's value for a work-item that knows this, in these turns, outermost first, with
 /// these private variables; none where it meets a divisor of 0.
 pub fn value_of(ids: Ids, sizes: &[u32], turns: &[Turn], vars: &[u32], e: &Expr) -> Option<u32>
-    ensures { result ≡ formula.value (known ids sizes.now) (variables turns.now) vars.now (formula_of e.now) }
+    ensures { result
+        ≡ formula.value (known ids sizes.now) (variables turns.now) vars.now (formula_of e.now) }
 {
     match e {
         Expr::Number(n) => Some(*n),

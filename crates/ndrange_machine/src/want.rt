@@ -82,7 +82,8 @@ pub fn want_at(
 // What an item wants at a loop's head, on the line `at`.
 fn want_at_head(ids: Ids, sizes: &[u32], start: Start, bound: &Expr, at: usize, exit: usize) -> Want
     requires { at + 1 < 2 ^ 64 }
-    ensures { result ≡ want_head (known ids sizes.now) (start_of start) (formula_of bound.now) at exit }
+    ensures { result
+        ≡ want_head (known ids sizes.now) (start_of start) (formula_of bound.now) at exit }
 {
     match bound_of(sizes, bound) {
         Some(bound) => {

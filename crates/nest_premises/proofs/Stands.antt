@@ -13,7 +13,7 @@ use Rattle.lift_tree.specs.Annotations.{Annotation, Leaf, One, Two, Three, type_
 use Rattle.lift_ir.specs.Terms as low
 use Rattle.lift_ir.specs.Forms.{Stands}
 use Rattle.lift_ir.specs.Lowering as ir
-use Rattle.lift_ir.specs.Lowering.{Written, Argument, Element, element_ty, placed_element, lower_let, lower}
+use Rattle.lift_ir.specs.Lowering.{Written, Argument, Element, element_ty, lower}
 use Rattle.lift_ir.specs.Lowerable.{IsStaged}
 use Rattle.lowered_tree.specs.declared.around.Around.{Around}
 use Rattle.lowered_tree.specs.declared.rule.NestRule.TheVariants.{N5, N10}

@@ -1,6 +1,5 @@
 //! The numbers of a term that code holds.
 
-ghost use Rattle.std.specs.Prelude.{◌≡◌};
 ghost use Rattle.lift_tree.specs.Tree.{tree_of};
 ghost use Rattle.nest_premises.specs.Legal.{HasWordStep, HasWordSteps};
 

@@ -6,9 +6,7 @@ ghost use Rattle.lowered_tree.specs.Inputs.{HasTypedInputs};
 ghost use Rattle.strategy_script.specs.Steps.{IsReady};
 
 use lift_reader::program::read_program;
-use lift_tree::program::Program;
 use lift_tree::renumber::is_renumberable;
-use lift_tree::term::Term;
 use lift_tree::ty::Ty;
 use lift_tree::typed::Typed;
 use lowered_tree::lowered::Lowered;

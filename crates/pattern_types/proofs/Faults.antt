@@ -1,6 +1,6 @@
 -- What holds of each fault that judging a row of the table answers.
-use Rattle.std.proofs.Common.{◌≡◌, ℕ, suc, ◌<◌, List, [], ◌∷◌, ◌++◌, length, refl, sym, ap, ◌∙◌, subst, arith, Bool, true, false, ℤ, pos, Some, None, inl, inr}
-use Rattle.std.specs.Prelude.{IsTrue, ◌&&◌, ◌⊎◌, Result, Ok, Err, Option, if◌then◌else◌, nat_lt}
+use Rattle.std.proofs.Common.{◌≡◌, ℕ, ◌<◌, List, [], ◌∷◌, length, refl, sym, ap, ◌∙◌, subst, arith, Bool, true, false, pos, Some, None, inl, inr}
+use Rattle.std.specs.Prelude.{IsTrue, ◌&&◌, Result, Ok, Err, Option, if◌then◌else◌, nat_lt}
 use Rattle.std.proofs.lemmas.Bool.{and_from}
 use Rattle.std.proofs.lemmas.Bool.Decides.{nat_tests}
 use Rattle.size_arith.specs.declared.names.Name.{Name}
@@ -28,14 +28,14 @@ use Rattle.pattern_types.specs.declared.refusal.TypeLimit.TheVariants as limit
 use Rattle.pattern_types.specs.declared.fault.Fault.{Fault}
 use Rattle.pattern_types.specs.declared.fault.Fault.TheVariants.{Breaks, Passes}
 use Rattle.pattern_types.specs.Judged as judged
-use Rattle.pattern_types.specs.Judged.{and_then, demand, at_most, counted, faulty, within, product_judged, scalars_judged, number_row, unary_row, split_row, pieces_row, windows_row, operator_row, zip_row, reduce_row, binary_row, select_row, element_in, map_end, fold_start, fold_end}
+use Rattle.pattern_types.specs.Judged.{and_then, demand, at_most, counted, faulty, within, product_judged, scalars_judged, number_row, unary_row, split_row, pieces_row, windows_row, zip_row, reduce_row, binary_row, select_row, element_in, map_end, fold_start, fold_end}
 use Rattle.pattern_types.specs.Refusals.{Any, most, CountsLength, CountsInside, CountsArray, Formed, formed, IsFault, products_along, IsPair, IsArray, IsArrayOfArrays, windows, unary_rule, UnaryDemand, unary_formed, unary_lengths, UnaryFault, binary_rule, BinaryDemand, binary_formed, BinaryFault, RuleFault}
 use Rattle.pattern_types.specs.Tests.{exact_quotient, is_element, is_same_element}
 use Rattle.pattern_types.proofs.Results.{within_ok, demand_ok}
 use Rattle.pattern_types.proofs.Judging.{done}
 use Rattle.pattern_types.proofs.Products.{product_right}
 use Rattle.pattern_types.proofs.Table as table
-use Rattle.pattern_types.proofs.Table.{IsGood, formed_right, constant_low, quotient_low, is_element_so, same_element}
+use Rattle.pattern_types.proofs.Table.{IsGood, formed_right, constant_low, quotient_low, same_element}
 use Rattle.pattern_types.proofs.Typed.{divisor_is}
 use Rattle.pattern_types.proofs.Forms as forms
 use Rattle.pattern_types.proofs.Forms.{above_zero, same_array, element_is}

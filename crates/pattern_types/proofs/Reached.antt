@@ -8,7 +8,7 @@ use Rattle.lift_tree.specs.Tree.{Tree, Variable, Number, Input, Unary, Binary, S
 use Rattle.lift_tree.specs.Types.{PlainTy, U32, PairOf, ArrayOf, IsElement, HoldsElements, IsOutput, IsFormed}
 use Rattle.lift_tree.specs.Typing.{Declared, constant, declared_by, HasOutput}
 use Rattle.lift_tree.specs.WorkedOut.{range_of, worked_out}
-use Rattle.lift_tree.specs.Programs.{PlainInput, PlainProgram, input_of, program_of}
+use Rattle.lift_tree.specs.Programs.{PlainInput, PlainProgram}
 use Rattle.lift_tree.specs.Lists.{Every}
 use Rattle.lift_tree.specs.Annotations.{Annotation, Leaf, One, Two, Three, type_in, Annotates}
 use Rattle.lift_tree.proofs.Annotated.{annotated_is_typed}

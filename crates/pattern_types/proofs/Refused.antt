@@ -1,11 +1,11 @@
 -- A refusal names the first spot that has no type within the limits, and what is wrong there.
-use Rattle.std.proofs.Common.{◌≡◌, ℕ, zero, suc, ◌<◌, List, [], ◌∷◌, ◌++◌, length, refl, sym, ap, ◌∙◌, subst, Bool, false, inl, inr}
-use Rattle.std.specs.Prelude.{IsTrue, ◌≢◌, ◌⊎◌, Result, Ok, Err, map, None}
+use Rattle.std.proofs.Common.{◌≡◌, ℕ, suc, ◌<◌, List, [], ◌∷◌, ◌++◌, length, refl, sym, ◌∙◌, subst, Bool, false, inl, inr}
+use Rattle.std.specs.Prelude.{IsTrue, ◌⊎◌, Result, Ok, Err, map, None}
 use Rattle.size_arith.specs.declared.names.Name.{Name}
 use Rattle.size_arith.specs.declared.poly.Monomial.{Monomial}
 use Rattle.size_arith.specs.Polynomial.{of_monomial, AllLow}
 use Rattle.lift_tree.specs.declared.length.Part.{Part}
-use Rattle.lift_tree.specs.Annotations.{Annotation, Leaf, One, Two, Three, type_in}
+use Rattle.lift_tree.specs.Annotations.{Annotation, type_in}
 use Rattle.lift_tree.specs.Belonging.{Belongs}
 use Rattle.lift_tree.specs.InputTypes as written
 use Rattle.lift_tree.specs.InputTypes.{Written}
@@ -13,9 +13,9 @@ use Rattle.lift_tree.specs.Limits.{InputFits, NodesFit}
 use Rattle.lift_tree.specs.Lists.{Every}
 use Rattle.lift_tree.specs.Programs.{PlainInput, PlainProgram}
 use Rattle.lift_tree.specs.Tree.{Tree, Variable, Number, Input, Unary, Binary, Select, Let, Map, Fold}
-use Rattle.lift_tree.specs.Types.{PlainTy, U32, ArrayOf, IsFormed, IsOutput}
+use Rattle.lift_tree.specs.Types.{PlainTy, U32, IsFormed, IsOutput}
 use Rattle.lift_tree.specs.Typing.{Declared, IsDeclared, constant, declared_by}
-use Rattle.lift_tree.specs.WorkedOut.{product_of, sum_of, with_part, length_of, worked_out, range_of}
+use Rattle.lift_tree.specs.WorkedOut.{product_of, with_part, length_of, worked_out, range_of}
 use Rattle.lift_tree.proofs.Members.{length-map}
 use Rattle.pattern_types.specs.declared.refusal.Rule.TheVariants as rule
 use Rattle.pattern_types.specs.declared.refusal.TypeLimit.{TypeLimit}
@@ -26,9 +26,9 @@ use Rattle.pattern_types.specs.declared.fault.Fault.{Fault}
 use Rattle.pattern_types.specs.declared.fault.Fault.TheVariants as fault
 use Rattle.pattern_types.specs.declared.fault.NodeFault.{NodeFault}
 use Rattle.pattern_types.specs.Judged as judged
-use Rattle.pattern_types.specs.Judged.{and_then, demand, within, here, under, element_in, fold_start, product_judged, sum_judged, input_judged, at_input, refusal_at, inputs_judged, at_node, output_judged, program_judged}
+use Rattle.pattern_types.specs.Judged.{and_then, demand, within, here, under, sum_judged, input_judged, at_input, refusal_at, inputs_judged, at_node, output_judged, program_judged}
 use Rattle.pattern_types.specs.Numbers.{NumbersFit}
-use Rattle.pattern_types.specs.Refusals.{Any, most, CountsLength, Formed, formed, IsFault, products_along, sums_along, input_formed, input_lengths, Fits, IsRefusedHere, IsRefusedAt, IsInputRefused, IsNoOutput, IsFirst, Names, RefusalsNameTheFirst}
+use Rattle.pattern_types.specs.Refusals.{Any, most, CountsLength, Formed, formed, IsFault, products_along, sums_along, input_formed, input_lengths, Fits, IsRefusedAt, IsInputRefused, IsNoOutput, Names, RefusalsNameTheFirst}
 use Rattle.pattern_types.specs.Tests.{is_output}
 use Rattle.pattern_types.proofs.Results.{here_ok, under_ok, within_ok}
 use Rattle.pattern_types.proofs.Products.{product_right}

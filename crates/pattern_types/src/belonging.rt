@@ -1,6 +1,6 @@
 // Whether terms and types name what the program declares.
 
-ghost use Rattle.std.specs.Prelude.{◌≡◌, ◌≤◌, ◌<◌, ◌↔◌, ◌+◌, ◌*◌, ◌^◌, IsTrue, length, map};
+ghost use Rattle.std.specs.Prelude.{◌<◌, ◌↔◌, ◌+◌, ◌*◌, ◌^◌, IsTrue, map};
 ghost use Rattle.size_arith.specs.Ranges.{IsName, AreNames};
 ghost use Rattle.lift_tree.specs.InputTypes.{written_of};
 ghost use Rattle.lift_tree.specs.Tree.{tree_of, height};

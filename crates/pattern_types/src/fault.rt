@@ -1,8 +1,8 @@
 // Faults of a node, before their place is known.
 
-ghost use Rattle.std.specs.Prelude.{◌≡◌, ◌≢◌, IfErr, IfOk, OnOk, Err, Ok, ◌∷◌, [], true};
+ghost use Rattle.std.specs.Prelude.{◌≡◌, ◌≢◌, IfErr, OnOk, Err, Ok, ◌∷◌, []};
 ghost use Rattle.pattern_types.specs.declared.fault.Fault.TheVariants.{Memory};
-ghost use Rattle.pattern_types.specs.Judged.{fault_of, demand, here, refusal_at};
+ghost use Rattle.pattern_types.specs.Judged.{fault_of, demand, refusal_at};
 
 use crate::refusal::{Rule, Spot, TypeLimit, TypeRefusal};
 use lift_tree::place::Place;

@@ -1,7 +1,7 @@
 // Lengths, worked out over the base names.
 
-ghost use Rattle.std.specs.Prelude.{◌≡◌, ◌≢◌, ◌≤◌, ◌<◌, ◌∷◌, [], IfErr, IfOk, Err, Ok, length};
-ghost use Rattle.size_arith.specs.Polynomial.{plus, minus, times, of_monomial, total};
+ghost use Rattle.std.specs.Prelude.{◌≡◌, ◌≢◌, ◌<◌, ◌∷◌, [], IfErr, IfOk, Err, Ok, length};
+ghost use Rattle.size_arith.specs.Polynomial.{plus, minus, times, of_monomial};
 ghost use Rattle.lift_tree.specs.Typing.{constant};
 ghost use Rattle.lift_tree.specs.WorkedOut.{factor_monomial, with_part};
 ghost use Rattle.pattern_types.specs.declared.fault.Fault.TheVariants.{Memory};

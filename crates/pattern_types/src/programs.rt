@@ -1,6 +1,6 @@
 // The types of a program: its inputs in order, then the term.
 
-ghost use Rattle.std.specs.Prelude.{◌≡◌, ◌≢◌, ◌≤◌, ◌<◌, ◌+◌, IfErr, IfOk, OnOk, Err, Ok, [], ◌∷◌, length, map, take};
+ghost use Rattle.std.specs.Prelude.{◌≡◌, ◌≢◌, ◌≤◌, ◌<◌, ◌+◌, IfErr, IfOk, OnOk, Err, Ok, [], ◌∷◌, length, map};
 ghost use Rattle.lift_tree.specs.InputTypes.{written_of};
 ghost use Rattle.lift_tree.specs.Types.{ty_of, PairOf};
 ghost use Rattle.lift_tree.specs.Tree.{tree_of};
@@ -9,7 +9,7 @@ ghost use Rattle.lift_tree.specs.Annotations.{annotation_of, IsTyped};
 ghost use Rattle.pattern_types.specs.declared.fault.Fault.TheVariants.{Memory};
 ghost use Rattle.pattern_types.specs.declared.refusal.TypeRefusal.TheVariants as refusal;
 ghost use Rattle.lift_tree.specs.Belonging.{Belongs, TypeIsNamed, InputsAreNamed, IsProper, IsTermOf};
-ghost use Rattle.pattern_types.specs.Judged.{and_then, input_judged, inputs_judged, judged, output_judged, program_judged, at_node};
+ghost use Rattle.pattern_types.specs.Judged.{and_then, input_judged, inputs_judged, judged, output_judged, program_judged};
 ghost use Rattle.pattern_types.specs.Numbers.{NumbersFit};
 ghost use Rattle.lift_tree.specs.Limits.{IsWithinLimits, HasProperInputs};
 ghost use Rattle.pattern_types.specs.Judgement.{Explains};

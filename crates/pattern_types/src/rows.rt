@@ -1,10 +1,10 @@
 // The typing table: a form's type from its children's.
 
-ghost use Rattle.std.specs.Prelude.{◌≡◌, ◌≢◌, ◌≤◌, IfErr, IfOk, Err, Ok, Some, length};
+ghost use Rattle.std.specs.Prelude.{◌≡◌, ◌≢◌, IfErr, IfOk, Err, Ok, Some, length};
 ghost use Rattle.lift_tree.specs.Types.{ty_of, PairOf};
 ghost use Rattle.pattern_types.specs.declared.fault.Fault.TheVariants.{Memory};
 ghost use Rattle.lift_tree.specs.Belonging.{FormIsNamed};
-ghost use Rattle.pattern_types.specs.Judged.{number_row, first_row, second_row, join_row, transpose_row, pieces_row, split_row, windows_row, slide_row, pad_row, unary_row, operator_row, pair_row, zip_row, reduce_row, binary_row, select_row};
+ghost use Rattle.pattern_types.specs.Judged.{number_row, first_row, second_row, join_row, transpose_row, split_row, windows_row, slide_row, pad_row, unary_row, operator_row, pair_row, zip_row, reduce_row, binary_row, select_row};
 
 use crate::arrays::{formed, is_element};
 use crate::fault::{Fault, demanded};

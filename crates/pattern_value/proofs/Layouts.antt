@@ -1,13 +1,13 @@
 -- What the loops over members build.
-use Rattle.std.proofs.Common.{◌≡◌, ℕ, zero, suc, ◌+◌, ◌-◌, ◌/◌, ◌<◌, ◌≤◌, List, [], ◌∷◌, ◌++◌, refl, ap, ◌∙◌, sym, take, drop, length, arith}
+use Rattle.std.proofs.Common.{◌≡◌, ℕ, zero, suc, ◌+◌, ◌-◌, ◌<◌, ◌≤◌, List, [], ◌∷◌, ◌++◌, refl, ap, ◌∙◌, sym, take, drop, length, arith}
 use Rattle.std.specs.Prelude.{map, replicate, min}
-use Rattle.std.proofs.lemmas.List.{append_assoc, append-nil, map-append, take-map, drop-map}
+use Rattle.std.proofs.lemmas.List.{append_assoc, append-nil, take-map, drop-map}
 use Rattle.std.proofs.Math.Nat.{div-zero}
 use Rattle.lift_tree.specs.declared.value.Val.{Val}
 use Rattle.lift_tree.specs.Lists.{concat, zip_with, pieces, first_of, rest_of, last_of, columns}
-use Rattle.lift_tree.specs.Values.{Value, Word, Both, value_of, array, members, nth}
+use Rattle.lift_tree.specs.Values.{Value, Both, value_of, array, members, nth}
 use Rattle.pattern_value.specs.Shut.{column}
-use Rattle.pattern_value.proofs.Held.{value_of-List, word-List, members-List, push_behind, nth-get, nth-beyond}
+use Rattle.pattern_value.proofs.Held.{value_of-List, members-List, push_behind}
 
 -- ---- join
 pub concat_push : (rs : List (List Value)) (r : List Value) → concat (rs ++ r ∷ []) ≡ concat rs ++ r

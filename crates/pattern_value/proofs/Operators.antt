@@ -1,5 +1,5 @@
 -- Where operators are defined.
-use Rattle.std.proofs.Common.{◌≡◌, ℕ, zero, ◌/◌, ◌%◌, arith}
+use Rattle.std.proofs.Common.{ℕ}
 use Rattle.std.proofs.Math.Nat.{div-zero, mod-zero}
 use Rattle.scalar_ops.specs.declared.op.Reducer.{Reducer}
 use Rattle.scalar_ops.specs.declared.op.Reducer.TheVariants as reducer

@@ -1,5 +1,5 @@
 -- Definitions that stay shut, so that proofs see their arguments.
-use Rattle.std.specs.Prelude.{ℕ, List, [], ◌∷◌, map, reverse}
+use Rattle.std.specs.Prelude.{ℕ, List, ◌∷◌, map, reverse}
 use Rattle.scalar_ops.specs.declared.op.Reducer.{Reducer}
 use Rattle.scalar_ops.specs.Operators.{combine}
 use Rattle.lift_tree.specs.declared.value.Val.{Val}

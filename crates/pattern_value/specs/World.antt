@@ -1,5 +1,5 @@
 -- The sizes and inputs at which a term of a program has its value.
-use Rattle.std.specs.Prelude.{ℕ, List, [], map}
+use Rattle.std.specs.Prelude.{ℕ, List, map}
 use Rattle.size_arith.specs.Ranges.{sizes_at}
 use Rattle.lift_tree.specs.declared.program.Program.{Program}
 use Rattle.lift_tree.specs.declared.typed.Typed.{Typed}

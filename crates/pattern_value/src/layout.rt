@@ -1,6 +1,6 @@
 // The patterns that lay out the members of lists anew.
 
-ghost use Rattle.std.specs.Prelude.{◌≡◌, ◌++◌, ◌∷◌, [], ◌/◌, IfOk, OnOk, map, replicate, length, take, drop};
+ghost use Rattle.std.specs.Prelude.{◌≡◌, ◌++◌, [], ◌/◌, IfOk, OnOk, map, replicate, length, take, drop};
 ghost use Rattle.lift_tree.specs.Values.{Both, value_of, members, array, nth};
 ghost use Rattle.lift_tree.specs.Lists.{concat, zip_with, pieces, pieces_that_fit, padded, width, columns};
 ghost use Rattle.lift_tree.specs.Meaning.{rows, array_of_rows};
@@ -131,7 +131,8 @@ pub fn slid(alloc: Global, v: &Val, size: u32, step: u32) -> Result<Val, AllocEr
 /// So many copies of the first member before, and so many of the last after.
 #[tactic(auto, using(crate::proofs::Layouts::pads))]
 pub fn pad(alloc: Global, v: &Val, before: u32, after: u32) -> Result<Val, AllocError>
-    ensures { IfOk result (λ u. value_of u ≡ array (padded before after (members (value_of v.now)))) }
+    ensures { IfOk result
+        (λ u. value_of u ≡ array (padded before after (members (value_of v.now)))) }
 {
     let xs = members_of(v);
     let mut all = Vec::new(alloc);

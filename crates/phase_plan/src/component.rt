@@ -1,6 +1,6 @@
 // Components of variables.
 
-ghost use Rattle.std.specs.Prelude.{◌≡◌, ◌++◌, IfOk, OnOk};
+ghost use Rattle.std.specs.Prelude.{◌≡◌, ◌++◌, OnOk};
 ghost use Rattle.group_terms.specs.Named as spec;
 
 use crate::way::Way;

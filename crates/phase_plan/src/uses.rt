@@ -86,7 +86,8 @@ fn add_variable_read(
     touches: &mut Vec<Touch>,
 ) -> Result<(), AllocError>
     ensures { OnOk result (touches.new.items ≡ touches.old.items ++ spec.touches_in phase
-        (spec.reads_of (at_way (bent (origins_in scope.now component.now.var)) component.now.way))) }
+        (spec.reads_of
+        (at_way (bent (origins_in scope.now component.now.var)) component.now.way))) }
 {
     match scope.origin(component.variable()) {
         None => Ok(()),
@@ -124,7 +125,8 @@ pub fn add_writes(
 ) -> Result<(), AllocError>
     requires { first ≤ end }
     ensures { OnOk result (touches.new.items
-        ≡ touches.old.items ++ spec.touches_in phase (spec.writes_from first direct (end - first))) }
+        ≡ touches.old.items
+        ++ spec.touches_in phase (spec.writes_from first direct (end - first))) }
 {
     let mut array = end;
     while array > first {

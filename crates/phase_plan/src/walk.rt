@@ -86,7 +86,8 @@ impl Walk {
     fn write(&mut self, alloc: Global, to: Destination, direct: bool) -> Result<Origin, AllocError>
         ensures origin { IfOk result (λ o. origin_in o ≡ origin_from self.old.arrays to.entry) }
         ensures touches { OnOk result (self.new.touches.items ≡ self.old.touches.items
-            ++ uses.touches_in self.old.phases (uses.writes_to (destination_from self.old.arrays to.entry) direct)) }
+            ++ uses.touches_in self.old.phases
+            (uses.writes_to (destination_from self.old.arrays to.entry) direct)) }
         ensures phases { OnOk result (self.new.phases ≡ self.old.phases) }
         ensures arrays { OnOk result (self.new.arrays ≡ self.old.arrays + width_of to.entry) }
     {
@@ -115,7 +116,8 @@ impl Walk {
         ensures origin { IfOk result (λ o. origin_in o ≡ origin_from self.old.arrays to.entry) }
         ensures goes_on { OnOk result (GoesOn self.old self.new
             (uses.loop_uses (origins_in scope.now) (origin_in argument.now) (load_set_of loads.now)
-            (term_of body.now) (destination_from self.old.arrays to.entry) direct ∷ []) (width_of to.entry)) }
+            (term_of body.now) (destination_from self.old.arrays to.entry) direct ∷ [])
+            (width_of to.entry)) }
     {
         let names = named_by_map(alloc, loads, body)?;
         let origin = self.write(alloc, to, direct)?;
@@ -190,7 +192,8 @@ impl Walk {
             ≡ origin_from (self.old.arrays + origins.local_count (term_of term.now)) to.entry) }
         ensures goes_on { OnOk result (GoesOn self.old self.new
             (uses.written_uses (origins_in scope.now) self.old.arrays (term_of term.now)
-            (destination_from (self.old.arrays + origins.local_count (term_of term.now)) to.entry) direct)
+            (destination_from (self.old.arrays + origins.local_count (term_of term.now)) to.entry)
+            direct)
             (origins.local_count (term_of term.now) + width_of to.entry)) }
         ensures phases { OnOk result
             (self.new.phases ≡ self.old.phases + uses.phases_in (term_of term.now)) }

@@ -15,7 +15,11 @@ ghost use Rattle.printed_form.specs.Programs.{PrintedProgramsKeep, PrintedProgra
 
 /// The headline from one run of each start: where it goes by these histories and leaves what is wanted, and the histories write each output cell once and by its owner, every run keeps the headline.
 pub fn one_run_keeps()
-    ensures { (k : Kernel) (l : Launch) (c : Cells) (h : Histories) (owner : (array index : ℕ) → ℕ) (wanted : List (List ℕ)) → IsWhole l → map length wanted ≡ map length c.outs → WritesOutputs l h owner wanted → EnactsAndLeaves k l c h wanted → EveryRunKeeps k l c owner wanted }
+    ensures { (k : Kernel) (l : Launch) (c : Cells) (h : Histories) (owner : (array index : ℕ) → ℕ)
+        (wanted : List (List ℕ))
+        → IsWhole l → map length wanted ≡ map length c.outs
+        → WritesOutputs l h owner wanted → EnactsAndLeaves k l c h wanted
+        → EveryRunKeeps k l c owner wanted }
 {}
 
 /// Every run of a kernel that is printed for a term, by one work-item or over the launch: no fault, no more events than the bound, each output cell written at most once and by its owner, and where it can't go on, once, with the source value's scalar.

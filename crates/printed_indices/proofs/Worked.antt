@@ -3,7 +3,7 @@ use Rattle.std.proofs.Common.{◌≡◌, ◌≤◌, refl, subst, Some, arith}
 use Rattle.index_expr.specs.Expression.{Expression, Variable, Literal, Size, Binary, short_nodes}
 use Rattle.index_expr.specs.declared.operation.Operation.TheVariants.{Sum, Product, Quotient, Remainder}
 use Rattle.kernel_tree.specs.Formula as formula
-use Rattle.kernel_tree.specs.Formula.{Formula, Number, LoopVariable}
+use Rattle.kernel_tree.specs.Formula.{Formula, Number}
 use Rattle.simple_spelling.specs.Formulas.{formula_nodes}
 use Rattle.simple_spelling.specs.Redundant.{CellOfParts}
 use Rattle.tidy_indices.specs.Reading.{reading}

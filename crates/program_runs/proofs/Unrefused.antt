@@ -1,5 +1,5 @@
 -- No stage refuses the demo, and its launch is admissible.
-use Rattle.std.proofs.Common.{◌≡◌, ◌∙◌, ◌⊎◌, ap, sym, subst, refl, inl, inr, Bool, ℕ, List, false, Ok, Err, Result}
+use Rattle.std.proofs.Common.{◌≡◌, ◌∙◌, ap, sym, subst, refl, inl, inr, Bool, ℕ, List, false, Ok, Err, Result}
 use Rattle.std.specs.Prelude.{IfErr}
 use Rattle.std.specs.Result.{IsErrAnd}
 use Rattle.lift_tree.specs.Programs.{PlainProgram}

@@ -7,7 +7,6 @@ ghost use Rattle.lift_tree.specs.Types.{ty_of};
 ghost use Rattle.lift_tree.specs.Values.{value_of};
 ghost use Rattle.lift_tree.specs.WorkedOut.{worked_out};
 ghost use Rattle.launch_file.specs.LaunchFile.{given_by};
-ghost use Rattle.compilation.specs.Meets.{CanBeLaidOut};
 ghost use Rattle.program_runs.specs.Runs.{IsAdmissibleFor, begun, world_given};
 
 use compilation::Compiled;

@@ -75,7 +75,8 @@ fn traced_launch(
     requires may_start { shown.MayStart (kernel_of kernel) at cells }
     ensures outcome { IfOk result (λ ran. EndsUnder (schedule_of schedule.now) (kernel_of kernel)
         at cells (map (λ row. row.items) ran.0.outputs.items) ran.0.events ran.0.releases) }
-    ensures refusal { IfErr result (Refuses (schedule_of schedule.now) (kernel_of kernel) at cells) }
+    ensures refusal { IfErr result
+        (Refuses (schedule_of schedule.now) (kernel_of kernel) at cells) }
     ensures traced { IfOk result (λ ran. traced ≡ true
         → SeesRun (schedule_of schedule.now) (kernel_of kernel) at cells ran.1.items) }
     ensures untraced { IfOk result (λ ran. traced ≡ false → ran.1.items ≡ []) }

@@ -1,7 +1,7 @@
 //! Marks of cells: one record a cell, which tells of all accesses of a run so far as much as a
 //! race can ask.
 
-ghost use Rattle.std.specs.Prelude.{◌≡◌, ◌<◌, ◌≤◌, ◌&&◌, ◌==◌, ℕ, length, map, replicate, slice_index, slice_index_or, slice_set, not, if◌then◌else◌, IfOk, true};
+ghost use Rattle.std.specs.Prelude.{◌≡◌, ◌<◌, ◌==◌, length, map, replicate, slice_index, slice_index_or, slice_set, if◌then◌else◌, IfOk, true};
 ghost use Rattle.std.specs.List.{All};
 ghost use Rattle.race_marks.specs.Marks as told;
 ghost use Rattle.race_marks.specs.Held.{lately_of, mark_of, swept_mark, IsKept, View};

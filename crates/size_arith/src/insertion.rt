@@ -1,7 +1,7 @@
 // Sums of monomials, kept in order by one insertion.
 
-ghost use Rattle.std.specs.Prelude.{◌≡◌, ℕ, ℤ, ◌+◌, ◌*◌, ◌≤◌, ◌<◌, ◌^◌, ◌+ℤ◌, ◌*ℤ◌, ◌++◌, [], length, take, drop, true, unsigned_abs, IfOk, max};
-ghost use Rattle.size_arith.specs.Polynomial.{place, put, added, times, is_zero, add_powers, total, degree, greatest, AllSmall, AllLow, AllWide};
+ghost use Rattle.std.specs.Prelude.{◌≡◌, ℤ, ◌+◌, ◌*◌, ◌≤◌, ◌<◌, ◌^◌, ◌++◌, [], length, take, drop, true, unsigned_abs, IfOk, max};
+ghost use Rattle.size_arith.specs.Polynomial.{place, put, added, times, is_zero, add_powers, total, degree, greatest, AllSmall, AllLow};
 ghost use Rattle.size_arith.specs.Code.{place_of, put_there};
 
 use crate::numbers::{is_zero, product_of, sum_of};
@@ -44,7 +44,8 @@ fn find(monomials: &[Monomial], powers: &[u8]) -> Found
     ensures within { result.index ≤ length monomials.now }
     ensures there { result.here ≡ true → result.index < length monomials.now }
     ensures puts { (c : ℤ) → put c powers.now monomials.now
-        ≡ take result.index monomials.now ++ put_there result.here c powers.now (drop result.index monomials.now) }
+        ≡ take result.index monomials.now
+        ++ put_there result.here c powers.now (drop result.index monomials.now) }
 {
     let mut i = 0;
     while i < monomials.len() {

@@ -1,7 +1,7 @@
 // Values of polynomials, and what is shown of them over the ranges of their names, without memory.
 
-ghost use Rattle.std.specs.Prelude.{◌≡◌, ℕ, ℤ, ◌+◌, ◌-◌, ◌*◌, ◌≤◌, ◌<◌, ◌^◌, ◌*ℤ◌, ◌≤ℤ◌, ◌↔◌, ◌∷◌, pos, neg_ℤ, length, take, unsigned_abs, IsTrue};
-ghost use Rattle.size_arith.specs.Polynomial.{product, total, value_at, number, no_powers, AllSmall, AllLow, IsPoly};
+ghost use Rattle.std.specs.Prelude.{◌≡◌, ℤ, ◌+◌, ◌-◌, ◌*◌, ◌≤◌, ◌<◌, ◌^◌, ◌≤ℤ◌, ◌↔◌, ◌∷◌, pos, neg_ℤ, length, take, unsigned_abs, IsTrue};
+ghost use Rattle.size_arith.specs.Polynomial.{product, total, value_at, number, AllSmall, AllLow, IsPoly};
 ghost use Rattle.size_arith.specs.Ranges.{AllUpTo, AreNames, leasts, greatests};
 ghost use Rattle.size_arith.specs.Shown.{share, part, shifted, positive_part, positives_at, largest, ShownAtLeast};
 ghost use Rattle.size_arith.specs.Code.{AllExtended};

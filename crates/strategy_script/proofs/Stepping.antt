@@ -1,15 +1,12 @@
 -- One step: the rewrite, the limits, the types.
-use Rattle.std.proofs.Common.{◌≡◌, ℕ, ◌≤◌, [], refl, sym, ap, ◌∙◌, subst, arith, length}
-use Rattle.std.specs.Prelude.{Result, Ok, Err, Bool, true, false, if◌then◌else◌, nat_lt, map}
+use Rattle.std.proofs.Common.{◌≡◌, ℕ, ◌≤◌, [], refl, sym, ap, ◌∙◌, subst, arith}
+use Rattle.std.specs.Prelude.{Result, Ok, Err, Bool, true, false, if◌then◌else◌, nat_lt}
 use Rattle.std.proofs.lemmas.Bool.{ltb-false}
-use Rattle.std.proofs.lemmas.List.{length-map}
-use Rattle.size_arith.specs.Ranges.{AreNames}
 use Rattle.lift_tree.specs.declared.program.Program.{Program}
 use Rattle.lift_tree.specs.declared.term.Term.{Term}
 use Rattle.lift_tree.specs.declared.typed.Typed.{Typed}
-use Rattle.lift_tree.specs.Programs.{PlainProgram, input_of, program_of}
+use Rattle.lift_tree.specs.Programs.{PlainProgram, program_of}
 use Rattle.lift_tree.specs.Types.{PlainTy}
-use Rattle.lift_tree.specs.WorkedOut.{range_of}
 use Rattle.lift_tree.specs.Typing.{declared_by, HasOutput}
 use Rattle.lift_tree.specs.Tree.{Tree, nodes, height, tree_of}
 use Rattle.lift_tree.specs.Annotations.{AnnotatedIsTyped, Annotation, annotation_of, type_in, IsTyped}

@@ -109,7 +109,8 @@ fn first_in(node: Node<'_>, alloc: Global) -> Result<Option<Broken>, AllocError>
 /// Judges the nest of a lowered term: by eleven rules at each node. `Nest` comes exactly where one is broken, with the first node in preorder and the lowest rule there.
 pub fn judge(alloc: Global, lowered: Lowered) -> Result<Mapped, NestNo>
     ensures legal { IfOk result (λ m. m.lowered ≡ lowered) }
-    ensures refused { IfErr result (λ e. Refuses e (tree_of lowered.term) (annotation_of lowered.types)) }
+    ensures refused { IfErr result
+        (λ e. Refuses e (tree_of lowered.term) (annotation_of lowered.types)) }
 {
     match first_in(lowered.root(), alloc)? {
         Some(Broken { place, rule }) => Err(NestNo::Nest { place, rule }),

@@ -3,7 +3,7 @@ use Rattle.std.proofs.Common.{◌≡◌, ℕ, Bool, true, false, Option, Some, N
 use Rattle.std.specs.Prelude.{◌∷◌, if◌then◌else◌}
 use Rattle.size_arith.specs.declared.names.Name.{Name}
 use Rattle.index_expr.specs.Expression as index
-use Rattle.index_expr.specs.Expression.{Expression, nodes, short_nodes}
+use Rattle.index_expr.specs.Expression.{Expression, nodes}
 use Rattle.kernel_tree.specs.Formula.{Formula, Ids, value}
 use Rattle.length_spelling.specs.Formulas.{index_formula}
 use Rattle.length_spelling.specs.Laws.{AreWords}

@@ -24,7 +24,8 @@ fn tidied_block(
     block: Vec<Stmt>,
 ) -> Result<Vec<Stmt>, AllocError>
     ensures { IfOk result (λ statements. code_then statements.items End
-        ≡ tidied_in (plain_place outermost.now) (plain_place here.now) (code_then block.items End)) }
+        ≡ tidied_in (plain_place outermost.now) (plain_place here.now)
+        (code_then block.items End)) }
 {
     let mut tidied = Vec::with_capacity(alloc, block.len())?;
     for statement in block {

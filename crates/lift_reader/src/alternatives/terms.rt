@@ -1,6 +1,6 @@
 // Alternatives of terms.
 
-ghost use Rattle.std.specs.Prelude.{◌≡◌, ◌<◌, Some};
+ghost use Rattle.std.specs.Prelude.{◌<◌, Some};
 ghost use Rattle.readings.specs.Given.{Gave};
 ghost use Rattle.lift_reader.specs.Forms.{items};
 ghost use Rattle.lift_reader.specs.Grammar.{behind_fold, behind_let, behind_map};

@@ -1,6 +1,6 @@
 // Alternatives of types, and of the lengths in them.
 
-ghost use Rattle.std.specs.Prelude.{◌≡◌, ◌≤◌, Some};
+ghost use Rattle.std.specs.Prelude.{◌≤◌, Some};
 ghost use Rattle.readings.specs.Given.{Gave};
 ghost use Rattle.lift_reader.specs.Forms.{items};
 ghost use Rattle.lift_reader.specs.Grammar.{array, pair, part};

@@ -1,5 +1,5 @@
 use Rattle.std.proofs.Common.{rules, ◌≡◌, ◌∷◌}
-use Rattle.strategy_script.proofs.Listed.{more_terms, stops}
+use Rattle.strategy_script.proofs.Listed.{more_terms}
 use Rattle.strategy_script.proofs.run.run_script.Goals as goal
 
 pub steps-preserved : goal.steps-preserved

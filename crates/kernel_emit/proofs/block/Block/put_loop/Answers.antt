@@ -1,4 +1,4 @@
-use Rattle.std.proofs.Common.{◌≡◌, sym, OnOk}
+use Rattle.std.proofs.Common.{sym}
 use Rattle.kernel_emit.specs.Blocks.{code_in}
 use Rattle.kernel_emit.proofs.Blocks.{looped}
 use Rattle.kernel_emit.proofs.block.Block.put_loop.Goals as goal

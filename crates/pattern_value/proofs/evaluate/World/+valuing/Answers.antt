@@ -1,4 +1,4 @@
-use Rattle.std.proofs.Common.{rules, ap, ◌∙◌}
+use Rattle.std.proofs.Common.{ap, ◌∙◌}
 use Rattle.lift_tree.specs.Tree.{tree_of}
 use Rattle.pattern_value.specs.Shut.{stack}
 use Rattle.pattern_value.specs.World.{world_of}
