@@ -49,7 +49,8 @@ fn own_type(types: NodeTypes) -> Ty
 /// Compiles a program along a script: to the text of one kernel, of which every run at every
 /// admissible launch leaves the program's value. A refusal is the first cause in the order of the
 /// stages: the program's text and its limits, its types, the script's text and its limit, the
-/// steps; then the last term's nest, its layouts, and its local and private memory. Want of memory may come at any point.
+/// steps; then the last term's nest, its layouts, and its local and private memory. Want of memory
+/// may come at any point.
 pub fn compile_text(alloc: Global, program: &[u8], script: &[u8]) -> Result<Compiled, Refusal>
     ensures found { IfOk result (λ c. IsCompiled program.now script.now (program_of c.program)
         (ty_of c.output) c.is_task c.text.items) }

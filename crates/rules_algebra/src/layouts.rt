@@ -10,7 +10,7 @@ ghost use Rattle.rewriting.specs.Around.{Around, context_of};
 ghost use Rattle.rewriting.specs.Keeps.{KeepsIn};
 ghost use Rattle.rules_algebra.specs.Layouts;
 
-use crate::node_types::{child, have_same_rows, length_below};
+use crate::node_types::{child, has_polynomial_below, have_same_rows};
 use crate::parts::{boxed, joined, map_parts, split_parts, transposed};
 use lift_tree::renumber::{dropped, raised};
 use lift_tree::term::{MapKind, Term, UnaryForm};
@@ -81,7 +81,7 @@ pub fn join_split(term: Term, context: &Context) -> Result<Term, Refused>
         return Err(Refused::Shape(term));
     }
     // A polynomial is its quotient times the divisor.
-    let _length = length_below(&context.types);
+    has_polynomial_below(&context.types);
     Ok(unsplit(term))
 }
 
@@ -119,7 +119,7 @@ pub fn split_join(term: Term, context: &Context) -> Result<Term, Refused>
         return Err(Refused::Side(Condition::Same, term));
     }
     // A polynomial is its product with the divisor, divided again.
-    let _length = length_below(&context.types);
+    has_polynomial_below(&context.types);
     Ok(unjoined(term))
 }
 

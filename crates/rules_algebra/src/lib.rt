@@ -1,4 +1,5 @@
-//! Twelve rewrite rules of Lift (ICFP 2015, CGO 2018): those that rest on the patterns' algebra alone.
+//! Twelve rewrite rules of Lift (ICFP 2015, CGO 2018): those that rest on the patterns' algebra
+//! alone.
 #![tactic(auto)]
 
 mod fusing;

@@ -8,7 +8,7 @@ ghost use Rattle.rules_algebra.specs.Shapes.{HasPolynomial};
 
 use lift_tree::ty::Ty;
 use lift_tree::typed::NodeTypes;
-use size_arith::{Monomial, Poly};
+use size_arith::Poly;
 
 // The types of the only child, or the node's where it hasn't one child.
 pub fn child(types: &NodeTypes) -> &NodeTypes
@@ -46,12 +46,12 @@ pub fn have_same_rows(a: &Ty, b: &Ty) -> bool
     }
 }
 
-// The length of the array that is the only child's only child. Once it is read, it is known to be a polynomial.
-pub fn length_below(types: &NodeTypes) -> Option<&[Monomial]>
+// Where the only child's only child is an array, its length is a polynomial. That is known once the
+// length is read.
+pub fn has_polynomial_below(types: &NodeTypes)
     ensures { HasPolynomial (type_in (child_of (child_of (annotation_of types.now)))) }
 {
-    match child(child(types)).own_type() {
-        Ty::Number | Ty::Pair(_, _) => None,
-        Ty::Array(_, length) => Some(length.as_slice()),
+    if let Ty::Array(_, length) = child(child(types)).own_type() {
+        let _length = length.as_slice();
     }
 }

@@ -19,7 +19,8 @@ use lift_tree::typed::Context;
 use rewriting::Refused;
 use std::alloc::Global;
 
-/// A rule of this crate. `xs`, `f`, `g`, `s`, `v` and `b` stand for any terms; maps and folds are plain ones.
+/// A rule of this crate. `xs`, `f`, `g`, `s`, `v` and `b` stand for any terms; maps and folds are
+/// plain ones.
 #[derive(Clone, Copy, PartialEq, Eq)]
 pub enum Rule {
     /// `map(\y. f, map(\x. g, xs))` becomes `map(\x. let y = g in f, xs)`.
@@ -34,9 +35,11 @@ pub enum Rule {
     TransposeTranspose,
     /// `map(\x. f, join(xs))` becomes `join(map(\r. map(\x. f, r), xs))`.
     MapJoin,
-    /// `map(\r. map(\x. f, r), split(m, xs))` becomes `split(m, map(\x. f, xs))`, where `f` doesn't name r.
+    /// `map(\r. map(\x. f, r), split(m, xs))` becomes `split(m, map(\x. f, xs))`, where `f` doesn't
+    /// name r.
     MapSplit,
-    /// `map(\r. map(\x. f, r), transpose(xs))` becomes `transpose(map(\r. map(\x. f, r), xs))`, where `f` doesn't name r.
+    /// `map(\r. map(\x. f, r), transpose(xs))` becomes `transpose(map(\r. map(\x. f, r), xs))`,
+    /// where `f` doesn't name r.
     MapTranspose,
     /// `pad(l, r, map(\x. f, xs))` becomes `map(\x. f, pad(l, r, xs))`.
     PadMap,
@@ -48,7 +51,9 @@ pub enum Rule {
     Copy,
 }
 
-/// The term rewritten by the rule, or why it isn't: it isn't of the rule's shape, or the rule's condition is false. In whatever program the context is that of the term's place, the new term has the old one's type and value.
+/// The term rewritten by the rule, or why it isn't: it isn't of the rule's shape, or the rule's
+/// condition is false. In whatever program the context is that of the term's place, the new term
+/// has the old one's type and value.
 pub fn apply(alloc: Global, rule: &Rule, term: Term, context: &Context) -> Result<Term, Refused>
     requires { IsRenumberable (tree_of term) }
     ensures answer { IsAnswer

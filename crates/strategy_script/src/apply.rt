@@ -14,9 +14,11 @@ use lift_tree::typed::Context;
 use rewriting::Refused;
 use std::alloc::Global;
 
-/// The term that the rule makes of the term, in the context of the term's place. It has the term's type, and its value at all sizes, inputs and values of binders.
+/// The term that the rule makes of the term, in the context of the term's place. It has the term's
+/// type, and its value at all sizes, inputs and values of binders.
 ///
-/// `Shape` comes exactly where the term isn't of the rule's shape, and `Side` exactly where it is, with the first condition that is false; both hand the term back unchanged.
+/// `Shape` comes exactly where the term isn't of the rule's shape, and `Side` exactly where it is,
+/// with the first condition that is false; both hand the term back unchanged.
 pub fn apply(alloc: Global, rule: Rule, term: Term, context: &Context) -> Result<Term, Refused>
     requires { IsRenumberable (tree_of term) }
     ensures answer { IsAnswer (answer rule (context_of context.now) (tree_of term)) term result }

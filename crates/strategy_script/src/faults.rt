@@ -39,7 +39,8 @@ pub enum StepNo {
         step: u64,
         why: Why,
     },
-    /// The term after this step passes this limit with this count. Nodes and height are counted up to 2^64 - 1.
+    /// The term after this step passes this limit with this count. Nodes and height are counted up
+    /// to 2^64 - 1.
     Limit {
         which: StepLimit,
         step: u64,

@@ -1,4 +1,5 @@
-//! Strategy scripts: which rule rewrites a term at which place, one step a line, and the terms that the steps make.
+//! Strategy scripts: which rule rewrites a term at which place, one step a line, and the terms that
+//! the steps make.
 #![tactic(auto)]
 
 mod apply;

@@ -124,7 +124,8 @@ fn around_child(
     }
 }
 
-/// What stands around the node at a place of the term, given what stands around the term; none exactly where there is no such place.
+/// What stands around the node at a place of the term, given what stands around the term; none
+/// exactly where there is no such place.
 pub fn context_at(
     alloc: Global,
     context: Context,

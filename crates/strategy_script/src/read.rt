@@ -69,9 +69,13 @@ fn step_of(alloc: Global, line: &[u8]) -> Result<Option<Step>, AllocError>
 
 /// The script that a text is.
 ///
-/// Each line is a step, `at PLACE RULE` with the rule's number where it has one, or is empty, of blanks alone, or a comment. Blanks are spaces and tabs; a line ends with LF, which the last may lack, and a CR just before it is passed over. A place is `.`, or child numbers joined by `.`. A number is decimal, without a leading zero, at most 4294967295.
+/// Each line is a step, `at PLACE RULE` with the rule's number where it has one, or is empty, of
+/// blanks alone, or a comment. Blanks are spaces and tabs; a line ends with LF, which the last may
+/// lack, and a CR just before it is passed over. A place is `.`, or child numbers joined by `.`. A
+/// number is decimal, without a leading zero, at most 4294967295.
 ///
-/// `Syntax` names the first line that is neither a step nor none. `Limit` comes where each line is, and more than 256 are steps.
+/// `Syntax` names the first line that is neither a step nor none. `Limit` comes where each line is,
+/// and more than 256 are steps.
 pub fn read_script(alloc: Global, text: &[u8]) -> Result<Script, ScriptNo>
     ensures script { IfOk result (λ steps. IsScript text.now steps × (length steps ≤ 256)) }
     ensures refused { IfErr result (RefusesScript text.now) }

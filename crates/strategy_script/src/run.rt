@@ -46,11 +46,16 @@ fn term_in_place(alloc: Global, typed: Typed, step: &Step, number: u64) -> Resul
     term_after(alloc, &typed, step, number)
 }
 
-/// The terms of a script: the source, then the term after each step. Each is typed, in the source's program, and has the source's type and value at all admissible sizes and inputs.
+/// The terms of a script: the source, then the term after each step. Each is typed, in the source's
+/// program, and has the source's type and value at all admissible sizes and inputs.
 ///
-/// A step rewrites the node at its place by its rule. Then the term's nodes (at most 4096), its height (at most 256) and the limits on types are judged in this order. `Inapplicable` and `Limit` come exactly at the first step that isn't made, each step before it made; a term that a rule makes is never ill-typed. Want of memory may come at any point.
+/// A step rewrites the node at its place by its rule. Then the term's nodes (at most 4096), its
+/// height (at most 256) and the limits on types are judged in this order. `Inapplicable` and
+/// `Limit` come exactly at the first step that isn't made, each step before it made; a term that a
+/// rule makes is never ill-typed. Want of memory may come at any point.
 ///
-/// The source is typed, as [`type_of`](pattern_types::type_of) has it, and its variables' numbers and its height are below 2^31.
+/// The source is typed, as [`type_of`](pattern_types::type_of) has it, and its variables' numbers
+/// and its height are below 2^31.
 #[tactic(auto, using(crate::proofs::Listed::begin_terms, crate::proofs::Listed::all_terms, crate::proofs::Listed::each_term))]
 pub fn run_script(alloc: Global, source: Typed, script: &Script) -> Result<Vec<Typed>, StepNo>
     requires ready { IsReady source }
@@ -76,7 +81,8 @@ pub fn run_script(alloc: Global, source: Typed, script: &Script) -> Result<Vec<T
     Ok(terms)
 }
 
-/// The last of the terms that [`run_script`] gives, with the same refusals. It holds two terms at a time.
+/// The last of the terms that [`run_script`] gives, with the same refusals. It holds two terms at a
+/// time.
 pub fn last_term(alloc: Global, source: Typed, script: &Script) -> Result<Typed, StepNo>
     requires ready { IsReady source }
     ensures last { IfOk result (λ t. IsLastTerm (program_of source.program) script.now

@@ -99,7 +99,8 @@ fn copy_with(alloc: Global, term: &Term, place: &Place, new: Term) -> Result<Ter
     }
 }
 
-// The term after a step, before its limits and types are judged. It has an output's type, and names what the program declares.
+// The term after a step, before its limits and types are judged. It has an output's type, and names
+// what the program declares.
 #[tactic(auto, using(crate::proofs::Rewritten::no_node, crate::proofs::Rewritten::nothing_around, crate::proofs::Rewritten::rewrites, crate::proofs::Rewritten::stops))]
 fn rewritten(alloc: Global, typed: &Typed, step: &Step) -> Result<Term, Fault>
     requires { IsReady typed.now }
@@ -145,7 +146,8 @@ fn check_limits(term: &Term) -> Result<(), Fault>
     check_at_most(DEPTH_LIMIT, StepLimit::Depth, u128::from(term.depth()))
 }
 
-/// The term after a step, with its types. Its nodes, its height and the limits on types are judged in this order.
+/// The term after a step, with its types. Its nodes, its height and the limits on types are judged
+/// in this order.
 #[tactic(auto, using(crate::proofs::Stepping::steps_to, crate::proofs::Stepping::not_rewritten, crate::proofs::Stepping::not_limited, crate::proofs::Stepping::not_typed, crate::proofs::Stepping::is_after, crate::proofs::Stepping::is_ready, crate::proofs::Stepping::proper_same, crate::proofs::Stepping::term_of_same, crate::proofs::Stepping::output_of_same))]
 pub fn stepped(alloc: Global, typed: &Typed, step: &Step) -> Result<Typed, Fault>
     requires { IsReady typed.now }

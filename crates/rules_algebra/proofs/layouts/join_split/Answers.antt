@@ -4,4 +4,4 @@ use Rattle.rules_algebra.proofs.Ruled.{join_split_rule}
 use Rattle.rules_algebra.proofs.layouts.join_split.Goals as goal
 
 pub returns-clause-keeps : goal.returns-clause-keeps
-returns-clause-keeps c = join_split_rule (context_of c.args.context.now) (tree_of c.args.term) (tree_of c.unsplit.result) c.unsplit.ensures c.length_below-length.ensures
+returns-clause-keeps c = join_split_rule (context_of c.args.context.now) (tree_of c.args.term) (tree_of c.unsplit.result) c.unsplit.ensures c.has_polynomial_below.ensures

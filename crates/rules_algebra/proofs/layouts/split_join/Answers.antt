@@ -10,4 +10,4 @@ pub returns-clause-keeps : goal.returns-clause-keeps
 returns-clause-keeps c =
     let a = context_of c.args.context.now in
     let long : same_lengths (row_length (type_in (child (child a.types)))) (row_length (type_in a.types)) ≡ true = cc (c.are_as_long.ensures, c.if-not-are_as_long.false) in
-    split_join_rule a (tree_of c.args.term) (tree_of c.unjoined.result) (c.unjoined.ensures a long) c.length_below-length.ensures
+    split_join_rule a (tree_of c.args.term) (tree_of c.unjoined.result) (c.unjoined.ensures a long) c.has_polynomial_below.ensures
