@@ -8,6 +8,7 @@ use Rattle.lift_ir.proofs.Positions.{operand_in, result_in, result_operand}
 use Rattle.lift_ir.proofs.Numbers.{component_below, flat_below, component_same, flat_same, position_at}
 use Rattle.printed_form.specs.Marks.{Mark, Spot}
 use Rattle.index_expr.specs.Expression.{Expression}
+use Rattle.index_simplify.specs.Promises.{SameExpressionsHaveOneValue}
 use Rattle.array_views.specs.declared.array.ArrayKind.{ArrayKind}
 use Rattle.array_views.specs.declared.array.ArrayKind.TheVariants as kind
 use Rattle.array_views.specs.Arrays.{array_with}
@@ -16,6 +17,7 @@ use Rattle.array_views.specs.Views as view
 use Rattle.array_views.specs.Views.{PlainView}
 use Rattle.array_views.specs.Accesses.{access_at}
 use Rattle.array_views.specs.Cells.{IsWithin, number_at, AreIndices, IsViewOf, marks_at, IsAccessTo, HasArrays, IsGoal, IsWholeGoal, IsCellOf}
+use Rattle.array_views.specs.Promises.{ViewsNameCells}
 use Rattle.array_views.proofs.Exact.{operand_exact, result_exact, row_major_exact}
 
 module _ {A : Type 0} (num : A → ℕ) where
@@ -51,29 +53,29 @@ module _ (sizes variables : List ℕ) where
   right_of n a b cs [] w = absurd w
   right_of n a b cs (i ∷ q) w = w
 
-  pub names_cell : (v : PlainView) (t : Ty) (cs : List Bool) (is : List Expression) (q : List ℕ) → IsViewOf sizes variables v t → IsPosition t cs q → AreIndices sizes variables is q → IsAccessTo sizes variables (access_at v cs is) (marks_at sizes variables v cs q)
-  names_cell view.Nothing t cs is q h w g = absurd h
-  names_cell (view.Variable n) t cs is q h w g = refl
-  names_cell (view.Placed k n s) t cs is q h w g =
+  names_cell : SameExpressionsHaveOneValue → (v : PlainView) (t : Ty) (cs : List Bool) (is : List Expression) (q : List ℕ) → IsViewOf sizes variables v t → IsPosition t cs q → AreIndices sizes variables is q → IsAccessTo sizes variables (access_at v cs is) (marks_at sizes variables v cs q)
+  names_cell one_value view.Nothing t cs is q h w g = absurd h
+  names_cell one_value (view.Variable n) t cs is q h w g = refl
+  names_cell one_value (view.Placed k n s) t cs is q h w g =
       (ap (λ c. array_with k (n + c)) (sym (component_at num s cs)), row_major_exact sizes variables s cs is q h.1.flat h.1.small h.2 (at_position t (measured num s) cs q h.0 w) g)
-  names_cell (view.Both x y) t [] is q h w g = absurd (⊎_elim (λ p. at_position t (PairOf p.0 p.1) [] q p.2 w) (λ p. no_pair p.0 p.1 p.2 q (at_position t (ArrayOf p.0 (PairOf p.1 p.2)) [] q p.3 w)) h)
-  names_cell (view.Both x y) t (false ∷ cs) is q h w g =
+  names_cell one_value (view.Both x y) t [] is q h w g = absurd (⊎_elim (λ p. at_position t (PairOf p.0 p.1) [] q p.2 w) (λ p. no_pair p.0 p.1 p.2 q (at_position t (ArrayOf p.0 (PairOf p.1 p.2)) [] q p.3 w)) h)
+  names_cell one_value (view.Both x y) t (false ∷ cs) is q h w g =
       ⊎_elim
-      (λ p. names_cell x p.0 cs is q p.3 (at_position t (PairOf p.0 p.1) (false ∷ cs) q p.2 w) g)
-      (λ p. names_cell x (ArrayOf p.0 p.1) cs is q p.4 (left_of p.0 p.1 p.2 cs q (at_position t (ArrayOf p.0 (PairOf p.1 p.2)) (false ∷ cs) q p.3 w)) g)
+      (λ p. names_cell one_value x p.0 cs is q p.3 (at_position t (PairOf p.0 p.1) (false ∷ cs) q p.2 w) g)
+      (λ p. names_cell one_value x (ArrayOf p.0 p.1) cs is q p.4 (left_of p.0 p.1 p.2 cs q (at_position t (ArrayOf p.0 (PairOf p.1 p.2)) (false ∷ cs) q p.3 w)) g)
       h
-  names_cell (view.Both x y) t (true ∷ cs) is q h w g =
+  names_cell one_value (view.Both x y) t (true ∷ cs) is q h w g =
       ⊎_elim
-      (λ p. names_cell y p.1 cs is q p.4 (at_position t (PairOf p.0 p.1) (true ∷ cs) q p.2 w) g)
-      (λ p. names_cell y (ArrayOf p.0 p.2) cs is q p.5 (right_of p.0 p.1 p.2 cs q (at_position t (ArrayOf p.0 (PairOf p.1 p.2)) (true ∷ cs) q p.3 w)) g)
+      (λ p. names_cell one_value y p.1 cs is q p.4 (at_position t (PairOf p.0 p.1) (true ∷ cs) q p.2 w) g)
+      (λ p. names_cell one_value y (ArrayOf p.0 p.2) cs is q p.5 (right_of p.0 p.1 p.2 cs q (at_position t (ArrayOf p.0 (PairOf p.1 p.2)) (true ∷ cs) q p.3 w)) g)
       h
-  names_cell (view.Component false x) t cs is q h w g = names_cell x (PairOf t h.0) (false ∷ cs) is q h.1 w g
-  names_cell (view.Component true x) t cs is q h w g = names_cell x (PairOf h.0 t) (true ∷ cs) is q h.1 w g
-  names_cell (view.At i x) t cs is q h w g = names_cell x (ArrayOf h.0 t) cs (i ∷ is) (num i ∷ q) h.1 (h.3, w) (h.2, g)
-  names_cell (view.Reading y x) t cs is q h w g =
-      names_cell x h.0 cs (to_operand y is) (operand_position num y q) h.1 (operand_in num y h.0 t cs q h.2.shapes w) (operand_exact sizes variables y h.0 t cs is q h.2 w g)
-  names_cell (view.Writing y x) t cs is q h w g =
-      names_cell x h.0 cs (to_result y is) (result_position num y q) h.1 ((result_in num y t h.0 cs q h.3 h.2.shapes w).0) (result_exact sizes variables y t h.0 cs is q h.3 h.2 w g)
+  names_cell one_value (view.Component false x) t cs is q h w g = names_cell one_value x (PairOf t h.0) (false ∷ cs) is q h.1 w g
+  names_cell one_value (view.Component true x) t cs is q h w g = names_cell one_value x (PairOf h.0 t) (true ∷ cs) is q h.1 w g
+  names_cell one_value (view.At i x) t cs is q h w g = names_cell one_value x (ArrayOf h.0 t) cs (i ∷ is) (num i ∷ q) h.1 (h.3, w) (h.2, g)
+  names_cell one_value (view.Reading y x) t cs is q h w g =
+      names_cell one_value x h.0 cs (to_operand y is) (operand_position num y q) h.1 (operand_in num y h.0 t cs q h.2.shapes w) (operand_exact sizes variables one_value y h.0 t cs is q h.2 w g)
+  names_cell one_value (view.Writing y x) t cs is q h w g =
+      names_cell one_value x h.0 cs (to_result y is) (result_position num y q) h.1 ((result_in num y t h.0 cs q h.3 h.2.shapes w).0) (result_exact sizes variables one_value y t h.0 cs is q h.3 h.2 w g)
 
   pub within : (long : Array → ℕ) (v : PlainView) (t : Ty) (cs : List Bool) (q : List ℕ) → IsViewOf sizes variables v t → HasArrays sizes variables long v → IsPosition t cs q → IsWithin long (marks_at sizes variables v cs q)
   within long view.Nothing t cs q h f w = tt
@@ -167,3 +169,6 @@ module _ (sizes variables : List ℕ) where
         operand_in num y t h.0 r.0 r.1 h.2.shapes r.2,
         ap (marks_at sizes variables x r.0) (result_operand num y t h.0 r.0 r.1 h.3 h.2.shapes r.2) ∙ r.3,
       )
+
+pub views_name_cells : SameExpressionsHaveOneValue → ViewsNameCells
+views_name_cells one_value sizes variables v t cs is q h w g = names_cell sizes variables one_value v t cs is q h w g

@@ -14,7 +14,7 @@ use Rattle.index_expr.specs.Expression.{Expression, Literal, Binary}
 use Rattle.index_expr.specs.Values.{exact, operate, Divides, WantsWords, IsWord}
 use Rattle.index_simplify.specs.Laws.{first_part}
 use Rattle.index_simplify.specs.Tests.{same}
-use Rattle.index_simplify.proofs.Tests.{same_value}
+use Rattle.index_simplify.specs.Promises.{SameExpressionsHaveOneValue}
 use Rattle.array_views.specs.Layouts.{are_parts, cell_in_rows, flattened, parted, swapped, clamped, to_operand, to_result}
 use Rattle.array_views.specs.Accesses.{row_major, row_major_from}
 use Rattle.array_views.specs.Cells.{number_at, IsIndex, AreIndices, HasLengths, Leads}
@@ -89,19 +89,19 @@ module _ (sizes variables : List ℕ) where
       turned : (i m j : ℕ) → j + i * m ≡ i * m + j
       turned i m j = omega arith
 
-  whole : (f g h : Expression) (i m j : ℕ) → are_parts f g h ≡ true → IsIndex sizes variables f i → IsIndex sizes variables g m → IsIndex sizes variables h j → IsIndex sizes variables (first_part f) (i * m + j)
-  whole (Binary Quotient e n) g (Binary Remainder f k) i m j p a c b =
+  whole : SameExpressionsHaveOneValue → (f g h : Expression) (i m j : ℕ) → are_parts f g h ≡ true → IsIndex sizes variables f i → IsIndex sizes variables g m → IsIndex sizes variables h j → IsIndex sizes variables (first_part f) (i * m + j)
+  whole one_value (Binary Quotient e n) g (Binary Remainder f k) i m j p a c b =
       let front = both_true (same e f && same n g) (same k g) p in
       let x = both_true (same e f) (same n g) front.0 in
-      divided e n f k i m j (same_value sizes variables n g x.1 ∙ c.value) (same_value sizes variables k g front.1 ∙ c.value) (same_value sizes variables e f x.0) a b
-  whole _ _ _ i m j p a c b = absurd (cc p)
+      divided e n f k i m j (one_value sizes variables n g x.1 ∙ c.value) (one_value sizes variables k g front.1 ∙ c.value) (one_value sizes variables e f x.0) a b
+  whole one_value _ _ _ i m j p a c b = absurd (cc p)
 
   -- the index of a column in a row
-  cell : (f g h : Expression) (i m j : ℕ) → IsIndex sizes variables f i → IsIndex sizes variables g m → IsIndex sizes variables h j → i * m + j < 2 ^ 32 → IsIndex sizes variables (cell_in_rows f g h) (i * m + j)
-  cell f g h i m j a c b lt = go (are_parts f g h) refl
+  cell : SameExpressionsHaveOneValue → (f g h : Expression) (i m j : ℕ) → IsIndex sizes variables f i → IsIndex sizes variables g m → IsIndex sizes variables h j → i * m + j < 2 ^ 32 → IsIndex sizes variables (cell_in_rows f g h) (i * m + j)
+  cell one_value f g h i m j a c b lt = go (are_parts f g h) refl
     where
       go : (z : Bool) → are_parts f g h ≡ z → IsIndex sizes variables (if z then first_part f else Binary Sum (Binary Product f g) h) (i * m + j)
-      go true e = whole f g h i m j e a c b
+      go true e = whole one_value f g h i m j e a c b
       go false e = step f g h i m j a c b lt
 
   parts : (f g : Expression) (i m : ℕ) → 0 < m → IsIndex sizes variables f i → IsIndex sizes variables g m → IsIndex sizes variables (Binary Quotient f g) (i / m) × IsIndex sizes variables (Binary Remainder f g) (i % m)
@@ -122,8 +122,8 @@ module _ (sizes variables : List ℕ) where
       of_words Least (Binary Difference (Binary Greatest f (Literal l)) (Literal l)) (Binary Difference g (Literal 1)) (max i l - l) (n - 1) (min (max i l - l) (n - 1)) (λ d. absurd d) back last (min_is (max i l - l) (n - 1)) (omega arith)
 
   -- indices of a position in the result are, in the operand, those of the position there
-  pub operand_exact : (y : Layout Expression) (t u : Ty) (cs : List Bool) (is : List Expression) (q : List ℕ) → Leads sizes variables y t u → IsPosition u cs q → AreIndices sizes variables is q → AreIndices sizes variables (to_operand y is) (operand_position num y q)
-  operand_exact (Split m) (ArrayOf n t) u cs is q a w g = go is q (subst (λ z. IsPosition z cs q) a.shapes.2 w) g
+  pub operand_exact : SameExpressionsHaveOneValue → (y : Layout Expression) (t u : Ty) (cs : List Bool) (is : List Expression) (q : List ℕ) → Leads sizes variables y t u → IsPosition u cs q → AreIndices sizes variables is q → AreIndices sizes variables (to_operand y is) (operand_position num y q)
+  operand_exact one_value (Split m) (ArrayOf n t) u cs is q a w g = go is q (subst (λ z. IsPosition z cs q) a.shapes.2 w) g
     where
       go : (is : List Expression) (q : List ℕ) → IsPosition (ArrayOf (n / num m) (ArrayOf (num m) t)) cs q → AreIndices sizes variables is q → AreIndices sizes variables (flattened m is) (operand_position num (Split m) q)
       go is [] w g = absurd w
@@ -132,14 +132,14 @@ module _ (sizes variables : List ℕ) where
       go (f ∷ []) (i ∷ j ∷ q) w g = absurd g.1
       go (f ∷ h ∷ fs) (i ∷ j ∷ q) w g =
           let b = operand_in num (Split m) (ArrayOf n t) (ArrayOf (n / num m) (ArrayOf (num m) t)) cs (i ∷ j ∷ q) (a.shapes.0, a.shapes.1, refl) w in
-          (cell f m h i (num m) j g.0 a.lengths g.1.0 (let x = b.0 in let z = a.operand.0 in omega arith), g.1.1)
-  operand_exact (Join m) (ArrayOf n (ArrayOf k t)) u cs is q a w g = go is q (subst (λ z. IsPosition z cs q) a.shapes.2 w) g
+          (cell one_value f m h i (num m) j g.0 a.lengths g.1.0 (let x = b.0 in let z = a.operand.0 in omega arith), g.1.1)
+  operand_exact one_value (Join m) (ArrayOf n (ArrayOf k t)) u cs is q a w g = go is q (subst (λ z. IsPosition z cs q) a.shapes.2 w) g
     where
       go : (is : List Expression) (q : List ℕ) → IsPosition (ArrayOf (n * num m) t) cs q → AreIndices sizes variables is q → AreIndices sizes variables (parted m is) (operand_position num (Join m) q)
       go is [] w g = absurd w
       go [] (i ∷ q) w g = absurd g
       go (f ∷ fs) (i ∷ q) w g = let p = parts f m i (num m) a.shapes.0 g.0 a.lengths in (p.0, (p.1, g.1))
-  operand_exact Transpose (ArrayOf n (ArrayOf m t)) u cs is q a w g = go is q (subst (λ z. IsPosition z cs q) a.shapes.1 w) g
+  operand_exact one_value Transpose (ArrayOf n (ArrayOf m t)) u cs is q a w g = go is q (subst (λ z. IsPosition z cs q) a.shapes.1 w) g
     where
       go : (is : List Expression) (q : List ℕ) → IsPosition (ArrayOf m (ArrayOf n t)) cs q → AreIndices sizes variables is q → AreIndices sizes variables (swapped is) (operand_position num Transpose q)
       go is [] w g = absurd w
@@ -147,7 +147,7 @@ module _ (sizes variables : List ℕ) where
       go [] (i ∷ j ∷ q) w g = absurd g
       go (f ∷ []) (i ∷ j ∷ q) w g = absurd g.1
       go (f ∷ h ∷ fs) (i ∷ j ∷ q) w g = (g.1.0, (g.0, g.1.1))
-  operand_exact (Slide s k) (ArrayOf n t) u cs is q a w g = go is q (subst (λ z. IsPosition z cs q) a.shapes.3 w) g
+  operand_exact one_value (Slide s k) (ArrayOf n t) u cs is q a w g = go is q (subst (λ z. IsPosition z cs q) a.shapes.3 w) g
     where
       go : (is : List Expression) (q : List ℕ) → IsPosition (ArrayOf ((n - s) / k + 1) (ArrayOf s t)) cs q → AreIndices sizes variables is q → AreIndices sizes variables (flattened (Literal k) is) (operand_position num (Slide s k) q)
       go is [] w g = absurd w
@@ -156,8 +156,8 @@ module _ (sizes variables : List ℕ) where
       go (f ∷ []) (i ∷ j ∷ q) w g = absurd g.1
       go (f ∷ h ∷ fs) (i ∷ j ∷ q) w g =
           let b = operand_in num (Slide s k) (ArrayOf n t) (ArrayOf ((n - s) / k + 1) (ArrayOf s t)) cs (i ∷ j ∷ q) (a.shapes.0, a.shapes.1, a.shapes.2, refl) w in
-          (cell f (Literal k) h i k j g.0 (literal k a.step) g.1.0 (let x = b.0 in let z = a.operand.0 in omega arith), g.1.1)
-  operand_exact (Pad x y k) (ArrayOf n t) u cs is q a w g = go is q w g
+          (cell one_value f (Literal k) h i k j g.0 (literal k a.step) g.1.0 (let x = b.0 in let z = a.operand.0 in omega arith), g.1.1)
+  operand_exact one_value (Pad x y k) (ArrayOf n t) u cs is q a w g = go is q w g
     where
       go : (is : List Expression) (q : List ℕ) → IsPosition u cs q → AreIndices sizes variables is q → AreIndices sizes variables (clamped (Literal x) k is) (operand_position num (Pad x y k) q)
       go is [] w g = absurd (subst (λ z. IsPosition z cs []) a.shapes.2 w)
@@ -165,30 +165,30 @@ module _ (sizes variables : List ℕ) where
       go (f ∷ fs) (i ∷ q) w g =
           let short = subst IsShort a.shapes.2 a.result in
           (clamp f k i x (num k) g.0 a.lengths (let z = short.0 in omega arith) (let p = a.shapes.0 in let e = a.shapes.1 in omega arith), g.1)
-  operand_exact _ t u cs is q a w g = absurd a.shapes
+  operand_exact one_value _ t u cs is q a w g = absurd a.shapes
 
   -- and back, in writing
-  pub result_exact : (y : Layout Expression) (t u : Ty) (cs : List Bool) (is : List Expression) (q : List ℕ) → IsInvertible y → Leads sizes variables y t u → IsPosition t cs q → AreIndices sizes variables is q → AreIndices sizes variables (to_result y is) (result_position num y q)
-  result_exact (Split m) (ArrayOf n t) u cs is [] z a w g = absurd w
-  result_exact (Split m) (ArrayOf n t) u cs [] (i ∷ q) z a w g = absurd g
-  result_exact (Split m) (ArrayOf n t) u cs (f ∷ fs) (i ∷ q) z a w g = let p = parts f m i (num m) a.shapes.0 g.0 a.lengths in (p.0, (p.1, g.1))
-  result_exact (Join m) (ArrayOf n (ArrayOf k t)) u cs is [] z a w g = absurd w
-  result_exact (Join m) (ArrayOf n (ArrayOf k t)) u cs is (i ∷ []) z a w g = absurd w.1
-  result_exact (Join m) (ArrayOf n (ArrayOf k t)) u cs [] (i ∷ j ∷ q) z a w g = absurd g
-  result_exact (Join m) (ArrayOf n (ArrayOf k t)) u cs (f ∷ []) (i ∷ j ∷ q) z a w g = absurd g.1
-  result_exact (Join m) (ArrayOf n (ArrayOf k t)) u cs (f ∷ h ∷ fs) (i ∷ j ∷ q) z a w g =
+  pub result_exact : SameExpressionsHaveOneValue → (y : Layout Expression) (t u : Ty) (cs : List Bool) (is : List Expression) (q : List ℕ) → IsInvertible y → Leads sizes variables y t u → IsPosition t cs q → AreIndices sizes variables is q → AreIndices sizes variables (to_result y is) (result_position num y q)
+  result_exact one_value (Split m) (ArrayOf n t) u cs is [] z a w g = absurd w
+  result_exact one_value (Split m) (ArrayOf n t) u cs [] (i ∷ q) z a w g = absurd g
+  result_exact one_value (Split m) (ArrayOf n t) u cs (f ∷ fs) (i ∷ q) z a w g = let p = parts f m i (num m) a.shapes.0 g.0 a.lengths in (p.0, (p.1, g.1))
+  result_exact one_value (Join m) (ArrayOf n (ArrayOf k t)) u cs is [] z a w g = absurd w
+  result_exact one_value (Join m) (ArrayOf n (ArrayOf k t)) u cs is (i ∷ []) z a w g = absurd w.1
+  result_exact one_value (Join m) (ArrayOf n (ArrayOf k t)) u cs [] (i ∷ j ∷ q) z a w g = absurd g
+  result_exact one_value (Join m) (ArrayOf n (ArrayOf k t)) u cs (f ∷ []) (i ∷ j ∷ q) z a w g = absurd g.1
+  result_exact one_value (Join m) (ArrayOf n (ArrayOf k t)) u cs (f ∷ h ∷ fs) (i ∷ j ∷ q) z a w g =
       let s = subst IsShort a.shapes.2 a.result in
       let e = a.shapes.1 in
       let lt = join_in i j (num m) n w.0 (let b = w.1.0 in omega arith) in
-      (cell f m h i (num m) j g.0 a.lengths g.1.0 (let c = s.0 in omega arith), g.1.1)
-  result_exact Transpose (ArrayOf n (ArrayOf m t)) u cs is [] z a w g = absurd w
-  result_exact Transpose (ArrayOf n (ArrayOf m t)) u cs is (i ∷ []) z a w g = absurd w.1
-  result_exact Transpose (ArrayOf n (ArrayOf m t)) u cs [] (i ∷ j ∷ q) z a w g = absurd g
-  result_exact Transpose (ArrayOf n (ArrayOf m t)) u cs (f ∷ []) (i ∷ j ∷ q) z a w g = absurd g.1
-  result_exact Transpose (ArrayOf n (ArrayOf m t)) u cs (f ∷ h ∷ fs) (i ∷ j ∷ q) z a w g = (g.1.0, (g.0, g.1.1))
-  result_exact (Slide s k) t u cs is q z a w g = absurd z
-  result_exact (Pad x y k) t u cs is q z a w g = absurd z
-  result_exact _ t u cs is q z a w g = absurd a.shapes
+      (cell one_value f m h i (num m) j g.0 a.lengths g.1.0 (let c = s.0 in omega arith), g.1.1)
+  result_exact one_value Transpose (ArrayOf n (ArrayOf m t)) u cs is [] z a w g = absurd w
+  result_exact one_value Transpose (ArrayOf n (ArrayOf m t)) u cs is (i ∷ []) z a w g = absurd w.1
+  result_exact one_value Transpose (ArrayOf n (ArrayOf m t)) u cs [] (i ∷ j ∷ q) z a w g = absurd g
+  result_exact one_value Transpose (ArrayOf n (ArrayOf m t)) u cs (f ∷ []) (i ∷ j ∷ q) z a w g = absurd g.1
+  result_exact one_value Transpose (ArrayOf n (ArrayOf m t)) u cs (f ∷ h ∷ fs) (i ∷ j ∷ q) z a w g = (g.1.0, (g.0, g.1.1))
+  result_exact one_value (Slide s k) t u cs is q z a w g = absurd z
+  result_exact one_value (Pad x y k) t u cs is q z a w g = absurd z
+  result_exact one_value _ t u cs is q z a w g = absurd a.shapes
 
   -- ---- the number of a scalar
   regroup : (i m j s f : ℕ) → (i * m + j) * s + f ≡ i * (m * s) + (j * s + f)

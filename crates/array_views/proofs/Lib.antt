@@ -1,6 +1,6 @@
-pub mod Shapes
-pub mod Signs
-pub mod Exact
-pub mod Cells
-pub mod Loads
-pub mod Nodes
+mod Shapes
+mod Signs
+mod Exact
+mod Cells
+mod Loads
+mod Nodes

@@ -3,10 +3,14 @@
 ghost use Rattle.array_views.specs.NodeCounts.{IndicesHaveNoMoreNodes};
 ghost use Rattle.array_views.specs.Promises.{ViewsNameCells, CellsAreWithin, GoalsDiffer, GoalsAreFull};
 
+use index_simplify::laws::same_expressions_have_one_value;
+
 /// At indices that have a position's values, a view names what stands for the scalar there: the variable, or the cell, by an index with the value of the row-major formula, in which no operation wraps and nothing is divided by 0.
 pub fn views_name_cells()
     ensures { ViewsNameCells }
-{}
+{
+    same_expressions_have_one_value();
+}
 
 /// The cell of each position lies within its array.
 pub fn cells_are_within()

@@ -3,3 +3,4 @@ pub mod Fencing
 pub mod Needed
 pub mod Separates
 pub mod Code
+pub mod Laws

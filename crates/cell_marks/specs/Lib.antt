@@ -1,3 +1,4 @@
 pub mod Marked
 pub mod Rows
 pub mod Tracked
+pub mod Laws

@@ -12,6 +12,7 @@ ghost use Rattle.cell_marks.specs.Marked.{Marked, MarksTell, TracksAccess};
 use crate::rows::Rows;
 use crate::tracked::Tracked;
 use kernel_tree::tree::Array;
+use race_marks::laws::{all_marks_tell, marks_tell, own_cells_never_race};
 use race_marks::marks::Touch;
 use std::alloc::{AllocError, Global};
 use std::marker::Model;
@@ -59,6 +60,7 @@ impl CellMarks {
             → ((a : ℕ) → slice_index locals.now a ≡ d.lengths (Local a))
             → MarksTell d s [] m) }
     {
+        all_marks_tell();
         Ok(CellMarks {
             groups,
             inputs: Tracked::new(alloc, rows_of(alloc, ins)?, groups)?,
@@ -73,6 +75,9 @@ impl CellMarks {
         ensures groups { self.new.groups ≡ self.old.groups }
         ensures tracks { TracksAccess self.old (array_of array) index touch result self.new }
     {
+        all_marks_tell();
+        marks_tell();
+        own_cells_never_race();
         match array {
             Array::Input(a) => self.inputs.touch(a, 0, index, touch),
             Array::Output(a) => self.outputs.touch(a, 0, index, touch),
@@ -91,6 +96,7 @@ impl CellMarks {
             ≡ is_flagged on_local on_global f)
             → MarksTell d s (es ++ event_form.Release group ∷ []) self.new }
     {
+        all_marks_tell();
         self.inputs.release(group, on_global);
         self.outputs.release(group, on_global);
         self.locals.release(group, on_local);

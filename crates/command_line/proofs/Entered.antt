@@ -1,5 +1,5 @@
 -- Where clap takes the words, they name one of the commands.
-use Rattle.std.proofs.Common.{◌≡◌, ◌∙◌, ◌⊎◌, inl, inr, refl, sym, ap, ℕ, List, [], ◌∷◌, Bool, true, false, Some, None, Option}
+use Rattle.std.proofs.Common.{◌≡◌, ◌∙◌, ◌⊎◌, inl, inr, refl, ap, ℕ, List, [], ◌∷◌, Bool, true, false, Some, None, Option}
 use Rattle.std.specs.Prelude.{codes, find, is_some, if◌then◌else◌, option_map, ◌||◌}
 use Rattle.std.specs.List.{list_all}
 use Rattle.std.specs.Option.{option_map_or}
@@ -12,7 +12,7 @@ use Rattle.clap.specs.Simple.{entered, rows_at, names_of, label_of}
 use Rattle.clap.specs.Walk.{Held, Names, settled, walk_from, nothing_held, answers_to, stop_after, walk}
 use Rattle.clap.proofs.OnLiterals.{clap_on_literals}
 use Rattle.command_line.specs.App.{lift_command, seed}
-use Rattle.command_line.specs.Requests.{Asks, CommandLine, demo, line_at, line_entered, line_in, seed_of, value_of, IsRefused, IsTaken, IsUnseeded}
+use Rattle.command_line.specs.Requests.{CommandLine, demo, line_at, line_entered, line_in, seed_of, value_of, IsTaken, IsUnseeded}
 use Rattle.command_line.proofs.Plain.{left, right}
 use Rattle.command_line.proofs.Forms.{lift_built}
 
@@ -92,8 +92,3 @@ known-unseeded words (inr (rows, is)) none = record { rows = rows; entered = is;
 -- words that clap takes, and that ask for nothing, are of a demo without a seed
 pub taken-unseeded : (words : List Text) → IsTaken words → None ≡ line_in words → IsUnseeded words
 taken-unseeded words h none = known-unseeded words (taken-known words h) none
-
--- words that ask for a request are not refused
-pub asked-stands : (words : List Text) (line : CommandLine) → Asks words line → IsRefused words → ⊥
-asked-stands words line asks (inl untaken) = untaken asks.taken
-asked-stands words line asks (inr h) = let e : None ≡ Some line = sym (ap line_entered h.entered ∙ ap (option_map demo) h.none) ∙ asks.says in absurd (cc (e))

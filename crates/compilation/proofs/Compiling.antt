@@ -24,7 +24,6 @@ use Rattle.fault_lines.specs.declared.refusal.Refusal.{Refusal}
 use Rattle.program_source.specs.Program.{OnProgram, StopsFor, source_value}
 use Rattle.program_source.specs.SourceTerms.{IsLastTerm}
 use Rattle.program_source.specs.Terms.{IsLast, TermsOf}
-use Rattle.program_source.proofs.FewNodes.{few_inputs}
 use Rattle.compilation.specs.Compiled.{IsCompiled, IsKernelFor, ServesAtAll}
 use Rattle.compilation.specs.Legal.{CompilesTerm, IsTypedLast, LegalOf}
 use Rattle.compilation.specs.Meets.{Admits, CanBeLaidOut, IsTextFor, LeavesSource, MeetsSource, Starts}
@@ -77,7 +76,7 @@ last_copies law program script t last =
 pub typed_last : ScriptsCopyArrays → (program script : List ℕ) (t : Typed) → IsLastTerm program script t → IsTypedLast t
 typed_last law program script t last = record {
   proper = last.proper;
-  few = few_inputs (program_of t.program) last.read.within;
+  few = last.few;
   typed = last.term.typed;
   within = last.within;
   low = last.low;

@@ -21,7 +21,7 @@ use Rattle.buffer_allocation.specs.declared.buffers.AllocNo.TheVariants as alloc
 use Rattle.fault_lines.specs.declared.refusal.Refusal.{Refusal}
 use Rattle.fault_lines.specs.declared.refusal.Refusal.TheVariants as told
 use Rattle.program_source.specs.Program.{StopsFor}
-use Rattle.program_source.specs.Stages.{As}
+use Rattle.stages.specs.Stages.{As}
 use Rattle.compilation.specs.Legal.{BuffersOf, CompilesTerm, IsAccepted, IsLoweredOf, IsTypedLast, NestOf}
 
 pub typed_inputs : (t : Typed) → IsTypedLast t → HasTypedInputs (program_of t.program)

@@ -1,16 +1,17 @@
 -- Compiling comes to one end.
-use Rattle.std.proofs.Common.{◌∙◌, ℕ, List, ap, sym, refl, Ok, Err}
+use Rattle.std.proofs.Common.{◌∙◌, ap, sym, refl, Ok, Err}
 use Rattle.std.proofs.lemmas.Option.{none-some, same_Some}
-use Rattle.lift_tree.specs.Programs.{PlainProgram}
 use Rattle.strategy_script.specs.Steps.{State}
 use Rattle.lowered_tree.specs.Nest.{LegalWithoutFault}
 use Rattle.thread_mapping.specs.declared.judging.NestNo.TheVariants as nests
 use Rattle.buffer_allocation.specs.declared.buffers.AllocNo.TheVariants as allocations
 use Rattle.fault_lines.specs.declared.refusal.Refusal.TheVariants as told
-use Rattle.program_source.specs.Stages.{As, IsOne, Then}
+use Rattle.stages.specs.Stages.{As, IsOne, Then}
+use Rattle.stages.proofs.One.{as_one, gives_one, then_one}
+use Rattle.program_source.specs.Laws.{SourcesEndOnce}
 use Rattle.program_source.specs.Terms.{LastOf, TermsOf}
-use Rattle.program_source.proofs.Once.{as_one, gives_one, last_one, terms_one, then_one}
-use Rattle.compilation.specs.Legal.{BuffersOf, CompilesTerm, LegalOf, NestOf}
+use Rattle.compilation.specs.Laws.{CompilationEndsOnce}
+use Rattle.compilation.specs.Legal.{BuffersOf, CompilesTerm, NestOf}
 
 nest_one : LegalWithoutFault → (s : State) → IsOne (NestOf s)
 nest_one law s (Ok x) (Ok y) h k = refl
@@ -33,7 +34,7 @@ compiles_one law s =
     then_one (As told.Nest (NestOf s)) _ (as_one told.Nest (NestOf s) (nest_one law s)) (λ legal _.
     then_one (As told.Alloc (BuffersOf s)) _ (as_one told.Alloc (BuffersOf s) (buffers_one s)) (λ within _. gives_one s))
 
-pub legal_one : LegalWithoutFault → (p : PlainProgram) (script : List ℕ) → IsOne (LegalOf p script)
-legal_one law p script =
-    then_one (TermsOf p script) (λ terms. Then (LastOf terms) CompilesTerm) (terms_one p script) (λ terms _.
-    then_one (LastOf terms) CompilesTerm (last_one terms) (λ last _. compiles_one law last))
+pub legal_one : SourcesEndOnce → LegalWithoutFault → CompilationEndsOnce
+legal_one sources law p script =
+    then_one (TermsOf p script) (λ terms. Then (LastOf terms) CompilesTerm) (sources.terms p script) (λ terms _.
+    then_one (LastOf terms) CompilesTerm (sources.last terms) (λ last _. compiles_one law last))

@@ -21,7 +21,7 @@ use Rattle.buffer_allocation.specs.declared.buffers.AllocNo.{AllocNo}
 use Rattle.buffer_allocation.specs.declared.buffers.AllocNo.TheVariants as allocations
 use Rattle.fault_lines.specs.declared.refusal.Refusal.{Refusal}
 use Rattle.fault_lines.specs.declared.refusal.Refusal.TheVariants as told
-use Rattle.program_source.specs.Stages.{As, Gives, Then}
+use Rattle.stages.specs.Stages.{As, Gives, Then}
 use Rattle.program_source.specs.Terms.{LastOf, TermsOf}
 
 -- a typed term of a proper program with few inputs, within the limits on types, which copies nothing but arrays

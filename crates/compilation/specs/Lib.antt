@@ -1,3 +1,4 @@
 pub mod Compiled
+pub mod Laws
 pub mod Legal
 pub mod Meets

@@ -7,7 +7,7 @@ ghost use Rattle.lowered_tree.specs.Nest.{IsLegalNest};
 ghost use Rattle.buffer_allocation.specs.Limits.{passed_limit};
 ghost use Rattle.fault_lines.specs.declared.refusal.Refusal.TheVariants as told;
 ghost use Rattle.program_source.specs.Program.{StopsFor};
-ghost use Rattle.program_source.specs.Stages.{As};
+ghost use Rattle.stages.specs.Stages.{As};
 ghost use Rattle.compilation.specs.Legal.{BuffersOf, IsLoweredOf, IsTypedLast, NestOf};
 
 use address_spaces::spaces;

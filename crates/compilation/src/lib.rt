@@ -4,6 +4,7 @@
 
 mod compile;
 mod kernel;
+pub mod laws;
 mod legal;
 
 pub use compile::{Compiled, compile_text};

@@ -16,7 +16,7 @@ use Rattle.buffer_allocation.specs.Copies.{copies}
 use Rattle.buffer_allocation.specs.declared.copies.Memory.{Memory}
 use Rattle.printed_form.specs.Counts.{copy_lengths}
 use Rattle.printed_grammar.specs.Sound.{IsSound}
-use Rattle.nest_premises.proofs.Lets.{written_let, argument_let}
+use Rattle.lift_ir.proofs.Lets.{written_let, argument_let}
 use Rattle.declared_arrays.specs.Laws.{space_of}
 use Rattle.declared_arrays.proofs.Lengths.{local_kept, private_kept}
 

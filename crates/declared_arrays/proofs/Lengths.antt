@@ -2,7 +2,7 @@
 use Rattle.std.proofs.Common.{◌≡◌, ◌∙◌, ℕ, ◌+◌, ◌*◌, ◌<◌, ◌≤◌, ◌^◌, ℤ, pos, negsuc, true, List, [], ◌∷◌, length, nat_lt, refl, ap, arith}
 use Rattle.std.specs.Prelude.{nat_abs, replicate, ◌&&◌}
 use Rattle.std.specs.List.{sum}
-use Rattle.std.proofs.lemmas.Bool.{ltb-true}
+use Rattle.std.proofs.lemmas.Bool.{ltb-true, and_parts}
 use Rattle.std.proofs.lemmas.List.Sums.{sum_by-cons}
 use Rattle.size_arith.specs.Polynomial.{value_at}
 use Rattle.lift_tree.specs.declared.term.UnaryForm.TheVariants as unary
@@ -19,7 +19,6 @@ use Rattle.buffer_allocation.specs.declared.copies.Memory.{Memory}
 use Rattle.buffer_allocation.specs.declared.copies.Memory.TheVariants.{Local, Private}
 use Rattle.printed_form.specs.Counts.{copied}
 use Rattle.printed_grammar.specs.Sound.{AllLengths}
-use Rattle.printed_grammar.proofs.Expressions.{first_of, second_of}
 use Rattle.declared_arrays.specs.Laws.{space_of}
 
 same_length : (z : ℤ) → natural z < 2 ^ 32 → nat_abs z ≡ natural z
@@ -56,7 +55,8 @@ module _ (a : PlainTy) (words : AllLengths (λ n. n < 2 ^ 32) (ty_at [] a)) (sma
 pub no_more : (xs : List ℕ) → are_lengths xs ≡ true → length xs ≤ sum xs
 no_more [] h = omega arith
 no_more (x ∷ xs) h =
-    let some = ltb-true 0 x (first_of (nat_lt 0 x) (nat_lt x (2 ^ 32) && are_lengths xs) h) in
-    let rest = no_more xs (second_of (nat_lt x (2 ^ 32)) (are_lengths xs) (second_of (nat_lt 0 x) (nat_lt x (2 ^ 32) && are_lengths xs) h)) in
+    let p = and_parts (nat_lt 0 x) (nat_lt x (2 ^ 32) && are_lengths xs) h in
+    let some = ltb-true 0 x p.0 in
+    let rest = no_more xs (and_parts (nat_lt x (2 ^ 32)) (are_lengths xs) p.1).1 in
     let e : sum (x ∷ xs) ≡ x + sum xs = sum_by-cons (λ y. y) x xs in
     omega (arith, e, some, rest)

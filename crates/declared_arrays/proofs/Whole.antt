@@ -14,8 +14,11 @@ use Rattle.buffer_allocation.specs.declared.buffers.AllocLimit.TheVariants as li
 use Rattle.buffer_allocation.specs.declared.copies.Memory.TheVariants.{Local, Private}
 use Rattle.printed_form.specs.Counts.{copy_lengths}
 use Rattle.printed_form.specs.Programs.{lowered_root}
-use Rattle.printed_grammar.proofs.Kernels.{declared_lengths}
+use Rattle.printed_grammar.specs.Pieces.{ArraysCanBeDeclared}
+use Rattle.length_spelling.specs.Formulas.{length_formula}
+use Rattle.length_spelling.specs.Laws.{length_height}
 use Rattle.printable_terms.specs.Sound.{IsHeld}
+use Rattle.printable_terms.specs.Laws.{kernel_of_term, SoundPartsAreSpelled}
 use Rattle.declared_arrays.specs.Laws.{AllocatedAreDeclared, DeclaredAreFew}
 use Rattle.declared_arrays.proofs.Lengths.{no_more}
 use Rattle.declared_arrays.proofs.Arrays.{written_arrays}
@@ -35,13 +38,15 @@ within l t n rest e =
 not_held : (n k : ℕ) → k < 18446744073709551615 → held n ≤ k → n ≤ k
 not_held n k few le = omega arith
 
-pub declared_are_few : DeclaredAreFew
-declared_are_few d t n o sound e =
+pub declared_are_few : ArraysCanBeDeclared → SoundPartsAreSpelled → DeclaredAreFew
+declared_are_few declared spelled d t n o sound e =
+    let k = kernel_of_term d t n in
+    let parts = (spelled k d t n refl sound).parts in
     let lay = within limit.Layouts t n _ e in
     let loc = within limit.Local t n _ lay.1 in
     let priv = within limit.Private t n _ loc.1 in
     let bytes = subst (λ z. 4 * sum z ≤ 32768) (allocated_are_declared d t n o sound Local) (not_held (4 * sum (copies Local t n)) 32768 (omega arith) loc.0) in
     let cells = subst (λ z. sum z ≤ 256) (allocated_are_declared d t n o sound Private) (not_held (sum (copies Private t n)) 256 (omega arith) priv.0) in
-    let locals = no_more (copy_lengths LocalMemory (lowered_root t n)) (declared_lengths IsHeld (λ s. s < length d.inputs) LocalMemory (lowered_root t n) sound.parts) in
-    let privates = no_more (copy_lengths PrivateMemory (lowered_root t n)) (declared_lengths IsHeld (λ s. s < length d.inputs) PrivateMemory (lowered_root t n) sound.parts) in
+    let locals = no_more (copy_lengths LocalMemory (lowered_root t n)) (declared k (length_formula d.names) length_height d LocalMemory (lowered_root t n) parts) in
+    let privates = no_more (copy_lengths PrivateMemory (lowered_root t n)) (declared k (length_formula d.names) length_height d PrivateMemory (lowered_root t n) parts) in
     record { bytes = bytes; cells = cells; locals = omega (arith, bytes, locals); privates = omega (arith, cells, privates) }

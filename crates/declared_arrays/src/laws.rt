@@ -2,6 +2,9 @@
 
 ghost use Rattle.declared_arrays.specs.Laws.{AllocatedAreDeclared, DeclaredAreFew};
 
+use printable_terms::laws::sound_parts_are_spelled;
+use printed_grammar::laws::arrays_can_be_declared;
+
 /// A term of sound parts has the arrays that are allocated for it, in their order.
 pub fn allocated_are_declared()
     ensures { AllocatedAreDeclared }
@@ -10,4 +13,7 @@ pub fn allocated_are_declared()
 /// Where no limit is passed, the arrays are few and small.
 pub fn declared_are_few()
     ensures { DeclaredAreFew }
-{}
+{
+    arrays_can_be_declared();
+    sound_parts_are_spelled();
+}

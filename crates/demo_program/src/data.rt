@@ -6,6 +6,7 @@ ghost use Rattle.demo_program.specs.Data.{demo_given, words_from};
 
 use kernel_tree::launches::{Launch, Schedule};
 use launch_file::file::LaunchFile;
+use launch_file::laws::lists_are_arrays;
 use lift_tree::value::Val;
 use size_arith::{Name, Sizes};
 use std::alloc::{AllocError, Global};
@@ -52,6 +53,7 @@ fn sizes(alloc: Global) -> Result<Sizes, AllocError>
 pub fn demo_launch(alloc: Global, seed: u32) -> Result<LaunchFile, AllocError>
     ensures { IfOk result (λ f. given_by f ≡ demo_given seed) }
 {
+    lists_are_arrays();
     let mut words = Vec::new(alloc);
     words.push(COUNT)?;
     let sizes = sizes(alloc)?;

@@ -11,8 +11,8 @@ use Rattle.barrier_placement.specs.Fencing.{Fencing, Open, Fenced}
 use Rattle.barrier_placement.specs.Needed.{Needed}
 use Rattle.lift_ir.specs.AtLaunch.{shape_of}
 use Rattle.printed_form.specs.Programs.{lowered_root}
-use Rattle.printed_grammar.specs.Sound.{IsSpelledIn, AllLengths, IsSound, IsWrittenWithin, dimensions, loop_depth, AreLow, CanBeWritten}
-use Rattle.printed_grammar.specs.Law.{IsSourceIn}
+use Rattle.printed_grammar.specs.Sound.{IsSpelledIn, AllLengths, IsWrittenWithin, dimensions, loop_depth, AreLow, CanBeWritten}
+use Rattle.printed_grammar.specs.Law.{IsSoundIn}
 use Rattle.group_terms.specs.Forms.{StandsOverGroups}
 use Rattle.group_terms.specs.Uses.{phase_count}
 use Rattle.group_terms.specs.Printer.{printed_group_kernel}
@@ -29,7 +29,7 @@ pub record IsGroupPrintedWithin (spell : List Monomial → Formula) (fence : ℕ
   pub stands : StandsOverGroups (lowered_root t a)
   pub flagged : (q : ℕ) → q ≤ phase_count (lowered_root t a) → IsFlagged (fence q)
   pub written : CanBeWritten (lowered_root t a)
-  pub sound : IsSound (λ n. IsSpelledIn (printed_group_kernel spell fence d t a) high (spell n)) (IsSourceIn (printed_group_kernel spell fence d t a) spell high d) (lowered_root t a)
+  pub sound : IsSoundIn (printed_group_kernel spell fence d t a) spell high d (lowered_root t a)
   pub layouts : IsWrittenWithin most (λ v. 0) 0 (lowered_root t a)
   pub low : AreLow 1024 (lowered_root t a)
   pub loops : loop_depth (lowered_root t a) ≤ 1024

@@ -2,12 +2,22 @@
 
 ghost use Rattle.group_grammar.specs.Law.{GroupKernelsAreOfTheGrammar, NeededAreFlagged};
 
+use group_terms::laws::local_arrays_are_counted;
+use printed_grammar::laws::{
+    loops_are_of_the_grammar, terms_are_printed_within, views_stay_within,
+};
+
 /// What the printer makes of a typed term that is a map over work-groups is a kernel of the kernel
 /// grammar, where the term's numbers are words, its lengths are spelled in the grammar, barriers have
 /// flags, and layouts, elements and loops don't nest too deep.
 pub fn group_kernels_are_of_the_grammar()
     ensures { GroupKernelsAreOfTheGrammar }
-{}
+{
+    local_arrays_are_counted();
+    loops_are_of_the_grammar();
+    terms_are_printed_within();
+    views_stay_within();
+}
 
 /// Needed barriers have flags.
 pub fn needed_are_flagged()

@@ -4,3 +4,7 @@ pub mod Bodies
 pub mod Laps
 pub mod Groups
 pub mod Phased
+pub mod Keeps
+pub mod LocalLoop
+pub mod Parts
+pub mod Printed

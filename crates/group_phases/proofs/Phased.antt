@@ -1,14 +1,12 @@
--- Kernels with such phases, with any barriers that separate what conflicts, and so with the needed ones.
-use Rattle.std.proofs.Common.{◌≡◌, ℕ, zero, suc, ◌+◌, ◌<◌, ◌≤◌, List, [], ◌∷◌, All, refl, subst, arith}
+-- Kernels with such phases, with any barriers that separate what conflicts.
+use Rattle.std.proofs.Common.{◌≡◌, ℕ, zero, suc, ◌+◌, ◌<◌, ◌≤◌, List, [], ◌∷◌, refl, subst, arith}
 use Rattle.kernel_tree.specs.Code.{FromGroupId, ByGroupCount, Code, End, Kernel}
 use Rattle.kernel_tree.specs.Launch.{Launch, Cells}
 use Rattle.kernel_tree.specs.Device.{device_of}
 use Rattle.kernel_tree.specs.Rounds.{Loop, frame_of}
-use Rattle.barrier_placement.specs.Conflicts.{Local, space_of}
+use Rattle.barrier_placement.specs.Conflicts.{Local}
 use Rattle.barrier_placement.specs.Fencing.{Fencing}
-use Rattle.barrier_placement.specs.Needed.{Needed}
 use Rattle.barrier_placement.specs.Separates.{Separates}
-use Rattle.barrier_placement.proofs.Separation.{separates}
 use Rattle.group_phases.specs.Epochs.{IsPast, runs_by_turns}
 use Rattle.group_phases.specs.Work.{Work}
 use Rattle.group_phases.specs.Groups.{Body, GroupPhases, GroupLoop, loop_frames, loop_turns}
@@ -101,11 +99,3 @@ module _ (k : Kernel) (l : Launch) (c : Cells) (owner : (array index : ℕ) → 
     -- and in every run barriers serve
     pub phased_serves : BarriersServeAll k l c work.filler
     phased_serves = group_map_serves k l c owner wanted the_body work as_phases len the_loop as_loop (λ t j. refl) (λ g. refl) h.outputs
-
-  -- so do the needed barriers, where all uses are of local arrays
-  module _ (fence : ℕ → Fencing) (local : All (λ x. space_of x.local ≡ Local) work.touches) (needed : Needed work.touches n fence) (printed : IsGroupKernel k l len n fence IsPhase) where
-    pub needed_leave : SomeRunLeaves k l c owner wanted
-    needed_leave = phased_leaves fence (separates work.touches Local n fence local needed) printed
-
-    pub needed_serve : BarriersServeAll k l c work.filler
-    needed_serve = phased_serves fence (separates work.touches Local n fence local needed) printed

@@ -6,3 +6,5 @@ pub mod Work
 pub mod Groups
 pub mod Phased
 pub mod Outcome
+pub mod Phases
+pub mod Printed

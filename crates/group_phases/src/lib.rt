@@ -1,4 +1,5 @@
-//! Maps over work-groups above what one item's code does: phases with barriers between them.
+//! Maps over work-groups above what one item's code does: phases with barriers between them, also
+//! where they are printed terms.
 #![tactic(auto)]
 
 pub mod laws;

@@ -1,3 +1,4 @@
+pub mod Known
 pub mod Inputs
 pub mod Bodies
 pub mod Groups

@@ -1,28 +1,28 @@
 -- Every run of the worked tiles.
 use Rattle.std.proofs.Common.{ℕ, [], ◌∷◌, true, false, refl, arith}
+use Rattle.group_phases.specs.Printed.{PhasesKeep, PhasesServe, NeededBarriersKeep}
 use Rattle.group_printing.specs.Tiles.{tile_kernel, tile_cells, tile_owner, added, tile_list, no_barriers, two_barriers, TilesKeep, TilesServe, AlignedTilesKeep, ExchangedTilesKeep, AreTiles, two_groups, FourKeep, FourExchangedKeep}
-use Rattle.group_printing.proofs.Printed.{phased_keeps, phases_serve, needed_keep}
 use Rattle.group_printing.proofs.Tiles.{itself, phased, printed}
 use Rattle.group_printing.proofs.TileBarriers.{all_local, aligned_need, exchanged_need}
 
-pub tiles_keep : TilesKeep
-tiles_keep l tiles xs out rest nb fence h sep =
-    phased_keeps itself (tile_kernel nb fence) l (tile_cells xs out rest) (tile_owner l) (added nb xs ∷ []) (tile_list l nb tiles xs) (phased l tiles xs out rest nb h fence) fence sep (printed l tiles xs out rest nb h fence)
+pub tiles_keep : PhasesKeep ℕ → TilesKeep
+tiles_keep keep l tiles xs out rest nb fence h sep =
+    keep itself (tile_kernel nb fence) l (tile_cells xs out rest) (tile_owner l) (added nb xs ∷ []) (tile_list l nb tiles xs) fence (phased l tiles xs out rest nb h fence) sep (printed l tiles xs out rest nb h fence)
 
-pub tiles_serve : TilesServe
-tiles_serve l tiles xs out rest nb fence h sep =
-    phases_serve itself (tile_kernel nb fence) l (tile_cells xs out rest) (tile_owner l) (added nb xs ∷ []) (tile_list l nb tiles xs) (phased l tiles xs out rest nb h fence) fence sep (printed l tiles xs out rest nb h fence)
+pub tiles_serve : PhasesServe ℕ → TilesServe
+tiles_serve serve l tiles xs out rest nb fence h sep =
+    serve itself (tile_kernel nb fence) l (tile_cells xs out rest) (tile_owner l) (added nb xs ∷ []) (tile_list l nb tiles xs) fence (phased l tiles xs out rest nb h fence) sep (printed l tiles xs out rest nb h fence)
 
-pub aligned_keep : AlignedTilesKeep
-aligned_keep = (
+pub aligned_keep : NeededBarriersKeep ℕ → AlignedTilesKeep
+aligned_keep keep = (
   aligned_need,
-  λ l tiles xs out rest h. needed_keep itself (tile_kernel false no_barriers) l (tile_cells xs out rest) (tile_owner l) (added false xs ∷ []) (tile_list l false tiles xs) (phased l tiles xs out rest false h no_barriers) no_barriers (all_local false) aligned_need (printed l tiles xs out rest false h no_barriers),
+  λ l tiles xs out rest h. keep itself (tile_kernel false no_barriers) l (tile_cells xs out rest) (tile_owner l) (added false xs ∷ []) (tile_list l false tiles xs) no_barriers (phased l tiles xs out rest false h no_barriers) (all_local false) aligned_need (printed l tiles xs out rest false h no_barriers),
 )
 
-pub exchanged_keep : ExchangedTilesKeep
-exchanged_keep = (
+pub exchanged_keep : NeededBarriersKeep ℕ → ExchangedTilesKeep
+exchanged_keep keep = (
   exchanged_need,
-  λ l tiles xs out rest h. needed_keep itself (tile_kernel true two_barriers) l (tile_cells xs out rest) (tile_owner l) (added true xs ∷ []) (tile_list l true tiles xs) (phased l tiles xs out rest true h two_barriers) two_barriers (all_local true) exchanged_need (printed l tiles xs out rest true h two_barriers),
+  λ l tiles xs out rest h. keep itself (tile_kernel true two_barriers) l (tile_cells xs out rest) (tile_owner l) (added true xs ∷ []) (tile_list l true tiles xs) two_barriers (phased l tiles xs out rest true h two_barriers) (all_local true) exchanged_need (printed l tiles xs out rest true h two_barriers),
 )
 
 four : (a b c d : ℕ) → AreTiles two_groups 2 (1 ∷ 2 ∷ 3 ∷ 4 ∷ []) (a ∷ b ∷ c ∷ d ∷ [])
@@ -37,8 +37,8 @@ four a b c d = record {
   out_long = refl;
 }
 
-pub four_keep : FourKeep
-four_keep a b c d rest = aligned_keep.1 two_groups 2 (1 ∷ 2 ∷ 3 ∷ 4 ∷ []) (a ∷ b ∷ c ∷ d ∷ []) rest (four a b c d)
+pub four_keep : NeededBarriersKeep ℕ → FourKeep
+four_keep keep a b c d rest = (aligned_keep keep).1 two_groups 2 (1 ∷ 2 ∷ 3 ∷ 4 ∷ []) (a ∷ b ∷ c ∷ d ∷ []) rest (four a b c d)
 
-pub four_exchanged_keep : FourExchangedKeep
-four_exchanged_keep a b c d rest = exchanged_keep.1 two_groups 2 (1 ∷ 2 ∷ 3 ∷ 4 ∷ []) (a ∷ b ∷ c ∷ d ∷ []) rest (four a b c d)
+pub four_exchanged_keep : NeededBarriersKeep ℕ → FourExchangedKeep
+four_exchanged_keep keep a b c d rest = (exchanged_keep keep).1 two_groups 2 (1 ∷ 2 ∷ 3 ∷ 4 ∷ []) (a ∷ b ∷ c ∷ d ∷ []) rest (four a b c d)

@@ -17,8 +17,8 @@ use Rattle.group_phases.specs.Work.{IsOwnLocal, IsFilledEarlier}
 use Rattle.group_phases.specs.Epochs.{IsPast}
 use Rattle.group_phases.specs.Groups.{GroupOutputs, loop_turns}
 use Rattle.group_phases.specs.Phased.{IsGroupKernel}
-use Rattle.group_printing.specs.Phases.{PhaseList, turn_of, row_of, cell_of, targets, phase_scalars, work_of, IsPhaseLoop, IsPhase, AreRead, IsFillable}
-use Rattle.group_printing.specs.Printed.{IsPhased}
+use Rattle.group_phases.specs.Phases.{PhaseList, turn_of, row_of, cell_of, targets, phase_scalars, work_of, IsPhaseLoop, IsPhase, AreRead, IsFillable}
+use Rattle.group_phases.specs.Printed.{IsPhased}
 use Rattle.group_printing.specs.Tiles.{tile_index, copy_turn, read_index, read_place, add_turn, phase_code, fenced, tile_body, tile_kernel, writer, reader, tile_cells, exchanged, added, tile_owner, tile_filler, AreTiles, first_index, tile_phases, tile_places, tile_value, tile_list}
 
 -- lengths are numbers

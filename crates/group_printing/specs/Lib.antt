@@ -1,3 +1,1 @@
-pub mod Phases
-pub mod Printed
 pub mod Tiles

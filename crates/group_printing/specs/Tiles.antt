@@ -17,7 +17,7 @@ use Rattle.printed_form.specs.Headline.{EveryRunKeeps}
 use Rattle.printed_form.specs.Marks.{Spot}
 use Rattle.printed_form.specs.Whole.{no_marks}
 use Rattle.group_phases.specs.Outcome.{BarriersServeAll}
-use Rattle.group_printing.specs.Phases.{Phase, Place, PhaseList}
+use Rattle.group_phases.specs.Phases.{Phase, Place, PhaseList}
 
 -- The kernel
 

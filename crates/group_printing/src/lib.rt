@@ -1,4 +1,4 @@
-//! Maps over work-groups whose phases are printed terms.
+//! A worked map over work-groups: tiles by way of local memory.
 #![tactic(auto)]
 
 pub mod laws;

@@ -14,7 +14,7 @@ use Rattle.printed_form.specs.Marks.{Marks, loaded_marks}
 use Rattle.printed_form.specs.Form.{IsLoaded, IsLoop, IsWritten}
 use Rattle.group_phases.specs.Epochs.{IsPast}
 use Rattle.group_phases.specs.Phased.{ArePhases}
-use Rattle.group_printing.specs.Phases.{PhaseList, IsPhaseLoop, IsPhase}
+use Rattle.group_phases.specs.Phases.{PhaseList, IsPhaseLoop, IsPhase}
 use Rattle.group_terms.specs.Forms.{StandsInGroup}
 use Rattle.group_terms.specs.Origins.{local_count}
 use Rattle.group_terms.specs.Uses.{Destination, Locals, phases_in}

@@ -18,8 +18,8 @@ use Rattle.printed_form.specs.Whole.{IsGiven}
 use Rattle.group_phases.specs.Cells.{output_cell, local_cell, IsOwnOutput}
 use Rattle.group_phases.specs.Work.{IsOwnLocal}
 use Rattle.group_phases.specs.Groups.{loop_turns}
-use Rattle.group_printing.specs.Phases.{PhaseList, turn_of, row_of, cell_of, phase_scalars, targets, work_of, IsRead, AreRead, IsFillable}
-use Rattle.group_printing.specs.Printed.{IsPhased}
+use Rattle.group_phases.specs.Phases.{PhaseList, turn_of, row_of, cell_of, phase_scalars, targets, work_of, IsRead, AreRead, IsFillable}
+use Rattle.group_phases.specs.Printed.{IsPhased}
 use Rattle.group_terms.specs.Named.{element_ways, named_outside}
 use Rattle.group_terms.specs.Origins.{Origin, Within, at_way, bent}
 use Rattle.group_terms.specs.Uses.{Use, Destination, Locals, Outputs, element_reads, variable_reads, writes_to, touch_of, numbered}

@@ -28,10 +28,9 @@ use Rattle.printed_form.specs.Printer.{input_marks}
 use Rattle.printed_form.specs.Programs.{input_shape, first_buffer, lowered_root, cell_owner, IsLaunchOf, AreBuffersOf}
 use Rattle.printed_form.proofs.Programs.{lists_length, buffers_count, whole, sizes_count, input_has, input_given}
 use Rattle.group_phases.specs.Outcome.{BarriersServeAll}
-use Rattle.group_terms.specs.Theorem.{IsPrintedOverGroups}
+use Rattle.group_terms.specs.Theorem.{IsPrintedOverGroups, NeededGroupsKeep, NeededKeepApart, SeparatedGroupsServe}
 use Rattle.group_terms.specs.Programs.{PrintsGroups, IsGroupProgram, PrintedGroupProgramsKeep, PrintedGroupProgramsServe, PrintedGroupProgramsStart}
 use Rattle.group_terms.proofs.Typing.{lowered_has}
-use Rattle.group_terms.proofs.Theorem.{needed_keep_apart, needed_groups_keep, separated_groups_serve}
 
 module _ (d : Declared) (is_task : Bool) (w : World) (t : Tree) (a : Annotation) (l : Launch) (k : Kernel) (c : Cells) (program : IsGroupProgram d w.bases t a) (ok : IsAdmissible d w) (launch : IsLaunchOf d is_task w.bases l) (buffers : AreBuffersOf d w t a c) (printed : PrintsGroups d w.bases t a l k) where
   abbrev num : List Monomial → ℕ
@@ -80,21 +79,21 @@ module _ (d : Declared) (is_task : Bool) (w : World) (t : Tree) (a : Annotation)
     inputs = input_given d w program.lowerable.declared ok c buffers.inputs;
   }
 
-  keeps : EveryRunKeeps k l c (cell_owner w.bases l t a) (launches.lists_of (type_in a) (meaning w [] t))
-  keeps =
+  keeps : NeededGroupsKeep (List Monomial) → EveryRunKeeps k l c (cell_owner w.bases l t a) (launches.lists_of (type_in a) (meaning w [] t))
+  keeps keep =
       subst (EveryRunKeeps k l c (cell_owner w.bases l t a)) (sym (same_lists w.bases (type_in a) (meaning w [] t)))
-      (needed_groups_keep (List Monomial) num l w t (length d.inputs) src (input_marks num (first_buffer d.inputs) (input_shape d.inputs)) sources printed.fence low result k c lowers given is_printed printed.needed)
+      (keep num l w t (length d.inputs) src (input_marks num (first_buffer d.inputs) (input_shape d.inputs)) sources printed.fence low result k c lowers given is_printed printed.needed)
 
-  serves : (filler : Cell → ℕ) × BarriersServeAll k l c filler
-  serves =
-      separated_groups_serve (List Monomial) num l src (input_marks num (first_buffer d.inputs) (input_shape d.inputs)) sources printed.fence low result k c (lists_of result (meaning w [] t)) is_printed
-      (needed_keep_apart (List Monomial) low printed.fence program.stands printed.needed) (lists_long result (meaning w [] t) (scalars_of num sources no_scalars low) flat_type valued ∙ sym is_printed.outputs) (are_lists result (meaning w [] t) (scalars_of num sources no_scalars low) flat_type valued)
+  serves : SeparatedGroupsServe (List Monomial) → NeededKeepApart (List Monomial) → (filler : Cell → ℕ) × BarriersServeAll k l c filler
+  serves serve apart =
+      serve num l src (input_marks num (first_buffer d.inputs) (input_shape d.inputs)) sources printed.fence low result k c (lists_of result (meaning w [] t)) is_printed
+      (apart low printed.fence program.stands printed.needed) (lists_long result (meaning w [] t) (scalars_of num sources no_scalars low) flat_type valued ∙ sym is_printed.outputs) (are_lists result (meaning w [] t) (scalars_of num sources no_scalars low) flat_type valued)
 
-pub group_programs_keep : PrintedGroupProgramsKeep
-group_programs_keep d is_task w t a l k c program ok launch buffers printed = keeps d is_task w t a l k c program ok launch buffers printed
+pub group_programs_keep : NeededGroupsKeep (List Monomial) → PrintedGroupProgramsKeep
+group_programs_keep keep d is_task w t a l k c program ok launch buffers printed = keeps d is_task w t a l k c program ok launch buffers printed keep
 
-pub group_programs_serve : PrintedGroupProgramsServe
-group_programs_serve d is_task w t a l k c program ok launch buffers printed = serves d is_task w t a l k c program ok launch buffers printed
+pub group_programs_serve : SeparatedGroupsServe (List Monomial) → NeededKeepApart (List Monomial) → PrintedGroupProgramsServe
+group_programs_serve serve apart d is_task w t a l k c program ok launch buffers printed = serves d is_task w t a l k c program ok launch buffers printed serve apart
 
 pub group_programs_start : PrintedGroupProgramsStart
 group_programs_start d is_task w t a l k c program ok launch buffers printed =

@@ -8,7 +8,7 @@ use Rattle.lift_ir.specs.Types.{Ty, Scalar, PairOf, ArrayOf, IsPosition, width, 
 use Rattle.lift_ir.specs.Scalars.{Scalars}
 use Rattle.printed_form.specs.Marks.{Mark, Nowhere, Register, Spot, Marks, loaded_marks}
 use Rattle.printed_form.specs.Whole.{IsGiven}
-use Rattle.group_printing.specs.Phases.{TurnElement}
+use Rattle.group_phases.specs.Phases.{TurnElement}
 use Rattle.group_terms.specs.Origins.{Origin, Elsewhere, Within, BySide, on_side, at_way, bent, laid_from}
 use Rattle.group_terms.specs.Uses.{Locals}
 use Rattle.group_terms.specs.Stages.{stage_at, result_type, value_in}

@@ -24,9 +24,8 @@ use Rattle.printed_form.proofs.Lengths.{declares}
 use Rattle.group_phases.specs.Epochs.{IsPast}
 use Rattle.group_phases.specs.Outcome.{BarriersServeAll}
 use Rattle.group_phases.specs.Phased.{IsGroupKernel}
-use Rattle.group_printing.specs.Phases.{IsPhase}
-use Rattle.group_printing.specs.Printed.{IsPhased}
-use Rattle.group_printing.proofs.Printed as printed
+use Rattle.group_phases.specs.Phases.{IsPhase}
+use Rattle.group_phases.specs.Printed.{IsPhased, PhasesKeep, PhasesServe}
 use Rattle.group_terms.specs.Origins.{Elsewhere, at_way}
 use Rattle.group_terms.specs.Forms.{StandsInGroup, IsOfInputs, StandsOverGroups}
 use Rattle.group_terms.specs.Uses.{Locals, Outputs, numbered, phase_count, group_touches}
@@ -294,8 +293,8 @@ module _ {A : Type 0} (num : A → ℕ) (l : Launch) (src : ℕ → Ty) (ins : �
   apart : (r : AreItsPhases num k l c lists fence of_owner t) → IsKeptApart t fence → Separates (numbered 0 (uses_of r.body.stages)) placed.Local (length r.body.stages) fence
   apart r s = subst (λ z. Separates (numbered 0 (uses_of r.body.stages)) placed.Local z fence) (sym r.count) (subst (λ z. Separates z placed.Local (phase_count t) fence) (sym r.touches) s.separates)
 
-  pub separated_keep : IsKeptApart t fence → EveryRunKeeps k l c of_owner lists
-  separated_keep s = let r = its_phases in printed.phased_keeps num k l c of_owner lists (phase_list num l c lists r.body) r.is fence (apart r s) (r.printed s.opens)
+  pub separated_keep : PhasesKeep A → IsKeptApart t fence → EveryRunKeeps k l c of_owner lists
+  separated_keep keep s = let r = its_phases in keep num k l c of_owner lists (phase_list num l c lists r.body) fence r.is (apart r s) (r.printed s.opens)
 
-  pub separated_serve : IsKeptApart t fence → (filler : Cell → ℕ) × BarriersServeAll k l c filler
-  separated_serve s = let r = its_phases in ((phase_list num l c lists r.body).filler, printed.phases_serve num k l c of_owner lists (phase_list num l c lists r.body) r.is fence (apart r s) (r.printed s.opens))
+  pub separated_serve : PhasesServe A → IsKeptApart t fence → (filler : Cell → ℕ) × BarriersServeAll k l c filler
+  separated_serve serve s = let r = its_phases in ((phase_list num l c lists r.body).filler, serve num k l c of_owner lists (phase_list num l c lists r.body) fence r.is (apart r s) (r.printed s.opens))

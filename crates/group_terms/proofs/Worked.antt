@@ -14,15 +14,13 @@ use Rattle.lift_ir.specs.Terms.{HasType, no_type}
 use Rattle.lift_ir.specs.Scalars.{scalars_of, no_scalars, AreLists}
 use Rattle.printed_form.specs.Marks.{Spot}
 use Rattle.printed_form.specs.Whole.{IsGiven, no_marks, output_marks}
-use Rattle.group_printing.specs.Tiles.{tile_index, copy_turn, add_turn, phase_code, tile_body, tile_kernel, tile_cells, AreTiles, added, no_barriers, two_barriers}
-use Rattle.group_printing.proofs.TileBarriers.{exchanged_need}
+use Rattle.group_printing.specs.Tiles.{tile_index, copy_turn, add_turn, phase_code, tile_body, tile_kernel, tile_cells, AreTiles, added, no_barriers, tile_touches, two_barriers}
 use Rattle.group_terms.specs.Uses.{phase_count, group_touches}
 use Rattle.group_terms.specs.Form.{IsOverGroups}
-use Rattle.group_terms.specs.Theorem.{IsPrintedOverGroups}
+use Rattle.group_terms.specs.Theorem.{IsPrintedOverGroups, NeededKeepApart, SeparatedGroupsKeep}
 use Rattle.group_terms.specs.Worked as worked
 use Rattle.group_terms.specs.Worked.{itself, numbers, input_types, input_marks, input_scalars, use_of, added_tiles, AddedTilesKeep, summed_tiles, tile_place, padded_place, in_window, sum_turn, sum_store, sum_loop, window_turn, windows, sums_body, sums_kernel, AreSums, SummedTilesKeep, SixKeep, half_named_tiles, UnnamedCopiesAreUnused}
 use Rattle.group_terms.proofs.Needed.{needed_again, aligned_need_none}
-use Rattle.group_terms.proofs.Theorem.{needed_keep_apart, separated_groups_keep}
 
 none : {P : Type 0} → (cs : List Bool) (p : List ℕ) → IsPosition (ArrayOf 0 Scalar) cs p → P
 none cs [] x = absurd x
@@ -170,16 +168,16 @@ added_needed tiles = aligned_need_none (group_touches (added_tiles tiles)) 2 all
     all (suc (suc zero)) d lt = refl
     all (suc (suc (suc i))) d lt = absurd (omega arith)
 
-pub added_tiles_keep : AddedTilesKeep
-added_tiles_keep = record {
+pub added_tiles_keep : SeparatedGroupsKeep ℕ → NeededKeepApart ℕ → AddedTilesKeep
+added_tiles_keep keep apart = record {
   phases = λ tiles. refl;
   touches = λ tiles. refl;
   needed = added_needed;
   code = refl;
   keeps = λ l tiles xs out rest h.
       let p = added_printed l tiles xs out rest h in
-      separated_groups_keep ℕ itself l (input_types (tiles * 2)) (input_marks (tiles * 2)) (input_scalars xs) no_barriers (added_tiles tiles) (numbers (tiles * 2)) (tile_kernel false no_barriers) (tile_cells xs out rest) (added false xs ∷ []) p
-      (needed_keep_apart ℕ (added_tiles tiles) no_barriers p.stands (added_needed tiles)) (ap (λ z. z ∷ []) (length-map xs (λ x. (x + 1) % 2 ^ 32) ∙ h.long ∙ sym h.out_long)) (added_listed l tiles xs out rest h);
+      keep itself l (input_types (tiles * 2)) (input_marks (tiles * 2)) (input_scalars xs) no_barriers (added_tiles tiles) (numbers (tiles * 2)) (tile_kernel false no_barriers) (tile_cells xs out rest) (added false xs ∷ []) p
+      (apart (added_tiles tiles) no_barriers p.stands (added_needed tiles)) (ap (λ z. z ∷ []) (length-map xs (λ x. (x + 1) % 2 ^ 32) ∙ h.long ∙ sym h.out_long)) (added_listed l tiles xs out rest h);
 }
 
 pub unnamed_copies_are_unused : UnnamedCopiesAreUnused
@@ -353,22 +351,22 @@ module _ (l : Launch) (tiles : ℕ) (xs out : List ℕ) (rest : ℕ) (h : AreTil
       ([], i ∷ [], (omega arith, tt), refl, (let z : i * 1 + 0 ≡ i = omega arith in z), a.each i il)
   sums_listed sums a (suc b) i lt = absurd (omega arith)
 
-summed_needed : (tiles : ℕ) → Needed (group_touches (summed_tiles tiles)) (phase_count (summed_tiles tiles)) two_barriers
-summed_needed tiles = needed_again (use_of 0 true true 0) (use_of 0 false false 1) 2 two_barriers exchanged_need
+summed_needed : Needed (tile_touches true) 2 two_barriers → (tiles : ℕ) → Needed (group_touches (summed_tiles tiles)) (phase_count (summed_tiles tiles)) two_barriers
+summed_needed exchanged tiles = needed_again (use_of 0 true true 0) (use_of 0 false false 1) 2 two_barriers exchanged
 
-pub summed_tiles_keep : SummedTilesKeep
-summed_tiles_keep = record {
+pub summed_tiles_keep : Needed (tile_touches true) 2 two_barriers → SeparatedGroupsKeep ℕ → NeededKeepApart ℕ → SummedTilesKeep
+summed_tiles_keep exchanged keep apart = record {
   phases = λ tiles. refl;
   touches = λ tiles. refl;
-  needed = summed_needed;
+  needed = summed_needed exchanged;
   keeps = λ l tiles xs out sums rest h some short a.
       let p = sums_printed l tiles xs out rest h some short in
-      separated_groups_keep ℕ itself l (input_types (tiles * 2)) (input_marks (tiles * 2)) (input_scalars xs) two_barriers (summed_tiles tiles) (numbers (tiles * 2 * 1)) sums_kernel (tile_cells xs out rest) (sums ∷ []) p
-      (needed_keep_apart ℕ (summed_tiles tiles) two_barriers p.stands (summed_needed tiles)) (ap (λ z. z ∷ []) (a.long ∙ sym h.out_long)) (sums_listed l tiles xs out rest h some short sums a);
+      keep itself l (input_types (tiles * 2)) (input_marks (tiles * 2)) (input_scalars xs) two_barriers (summed_tiles tiles) (numbers (tiles * 2 * 1)) sums_kernel (tile_cells xs out rest) (sums ∷ []) p
+      (apart (summed_tiles tiles) two_barriers p.stands (summed_needed exchanged tiles)) (ap (λ z. z ∷ []) (a.long ∙ sym h.out_long)) (sums_listed l tiles xs out rest h some short sums a);
 }
 
-pub six_keep : SixKeep
-six_keep out rest long = summed_tiles_keep.keeps (record { global = 2; local = 2; sizes = 6 ∷ [] }) 3 (1 ∷ 2 ∷ 3 ∷ 4 ∷ 5 ∷ 6 ∷ []) out (4 ∷ 6 ∷ 9 ∷ 12 ∷ 15 ∷ 17 ∷ []) rest
+pub six_keep : SummedTilesKeep → SixKeep
+six_keep summed out rest long = summed.keeps (record { global = 2; local = 2; sizes = 6 ∷ [] }) 3 (1 ∷ 2 ∷ 3 ∷ 4 ∷ 5 ∷ 6 ∷ []) out (4 ∷ 6 ∷ 9 ∷ 12 ∷ 15 ∷ 17 ∷ []) rest
     (record { whole = record { positive = omega arith; divides = refl }; some_items = omega arith; small_groups = omega arith; few_items = omega arith; short = omega arith; sizes = refl; long = refl; out_long = long }) (omega arith) (omega arith)
     (record { long = refl; each = sum_at })
   where

@@ -6,7 +6,7 @@ use Rattle.kernel_tree.specs.Device.{Cell, row}
 use Rattle.lift_ir.specs.Types.{Ty, Scalar, PairOf, ArrayOf, width, unflat}
 use Rattle.lift_ir.specs.Scalars.{Scalars, at_index}
 use Rattle.printed_form.specs.Marks.{Marks, laid_in}
-use Rattle.group_printing.specs.Phases.{Place, TurnElement, PhaseList}
+use Rattle.group_phases.specs.Phases.{Place, TurnElement, PhaseList}
 use Rattle.group_terms.specs.Uses.{Destination, Locals, Outputs, numbered}
 use Rattle.group_terms.specs.Stages.{Stage, stage_at, uses_of, value_in}
 

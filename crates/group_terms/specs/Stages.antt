@@ -7,7 +7,7 @@ use Rattle.lift_ir.specs.Terms.{LoadSet, Skip, Term, Literal, Bound, Source, Bot
 use Rattle.lift_ir.specs.Scalars.{Scalars, by_side, mapped, scalars_of}
 use Rattle.printed_form.specs.Counts.{variable_count, private_count}
 use Rattle.printed_form.specs.Marks.{Nowhere, Marks, laid_in}
-use Rattle.group_printing.specs.Phases.{Phase}
+use Rattle.group_phases.specs.Phases.{Phase}
 use Rattle.group_terms.specs.Named.{cut, ways, element_ways, named_outside}
 use Rattle.group_terms.specs.Origins.{Origin, Elsewhere, local_count, origin_of}
 use Rattle.group_terms.specs.Uses.{Use, Destination, Locals, Outputs, loop_uses}

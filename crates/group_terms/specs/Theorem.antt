@@ -22,7 +22,8 @@ use Rattle.printed_form.specs.Headline.{EveryRunKeeps}
 use Rattle.printed_form.specs.Marks.{Marks}
 use Rattle.printed_form.specs.Whole.{no_marks, output_marks, IsGiven}
 use Rattle.group_phases.specs.Outcome.{BarriersServeAll}
-use Rattle.group_terms.specs.Forms.{StandsOverGroups}
+use Rattle.group_terms.specs.Forms.{StandsInGroup, StandsOverGroups}
+use Rattle.group_terms.specs.Origins.{local_count}
 use Rattle.group_terms.specs.Uses.{phase_count, group_touches}
 use Rattle.group_terms.specs.Form.{IsOverGroups}
 
@@ -79,6 +80,11 @@ NeededGroupsKeep A =
 -- so these barriers keep conflicting phases apart
 abbrev pub NeededKeepApart : Type 0 → Type 0
 NeededKeepApart A = (t : Term A) (fence : ℕ → Fencing) → StandsOverGroups t → Needed (group_touches t) (phase_count t) fence → IsKeptApart t fence
+
+-- in a group's turn as many local arrays are declared as are counted
+abbrev pub LocalArraysAreCounted : Type 0 → Type 0
+LocalArraysAreCounted A =
+    (t : Term A) → StandsInGroup true t → length (copy_lengths LocalMemory t) ≡ local_count t
 
 -- the needed barriers hang on which uses there are, however often and in whatever order they are told
 abbrev pub UsesTellBarriers : Type 0

@@ -5,7 +5,11 @@ ghost use Rattle.std.specs.Prelude.{List};
 ghost use Rattle.group_terms.specs.Worked.{AddedTilesKeep, SummedTilesKeep, SixKeep, UnnamedCopiesAreUnused};
 ghost use Rattle.group_terms.specs.Printer.{GroupPrinterPrints, GroupProgramsArePrinted};
 ghost use Rattle.group_terms.specs.Programs.{PrintedGroupProgramsKeep, PrintedGroupProgramsServe, PrintedGroupProgramsStart};
-ghost use Rattle.group_terms.specs.Theorem.{NeededKeepApart, NeededGroupsKeep, SeparatedGroupsKeep, SeparatedGroupsServe, UsesTellBarriers, AlignedNeedNone, GroupUsesCanBePlaced};
+ghost use Rattle.group_terms.specs.Theorem.{LocalArraysAreCounted, NeededKeepApart, NeededGroupsKeep, SeparatedGroupsKeep, SeparatedGroupsServe, UsesTellBarriers, AlignedNeedNone, GroupUsesCanBePlaced};
+
+use barrier_placement::laws::needed_barriers_separate;
+use group_phases::laws::{numbered_phases_keep, phases_keep};
+use group_printing::laws::tiles_keep;
 
 /// At every launch, on all inputs, every run of a kernel that is printed for a map over work-groups with the needed barriers keeps what it owes: the source value's lists, each cell by its owner. With any barriers that keep conflicting phases apart it leaves the term's scalars, and its barriers serve.
 pub fn printed_groups_keep()
@@ -13,7 +17,10 @@ pub fn printed_groups_keep()
     ensures separated { SeparatedGroupsKeep (List Monomial) }
     ensures serve { SeparatedGroupsServe (List Monomial) }
     ensures apart { NeededKeepApart (List Monomial) }
-{}
+{
+    needed_barriers_separate();
+    phases_keep();
+}
 
 /// The uses of a term can be placed. The needed barriers hang on which uses there are alone; where all are aligned none is needed.
 pub fn uses_tell_barriers()
@@ -26,7 +33,9 @@ pub fn uses_tell_barriers()
 pub fn printed_group_programs_keep()
     ensures keep { PrintedGroupProgramsKeep }
     ensures serve { PrintedGroupProgramsServe }
-{}
+{
+    printed_groups_keep();
+}
 
 /// A kernel that is printed for a program's typed term, a map over work-groups, may be started at each admissible launch.
 pub fn printed_group_programs_start()
@@ -39,10 +48,19 @@ pub fn worked_groups_keep()
     ensures summed { SummedTilesKeep }
     ensures six { SixKeep }
     ensures unnamed { UnnamedCopiesAreUnused }
-{}
+{
+    needed_barriers_separate();
+    numbered_phases_keep();
+    tiles_keep();
+}
 
 /// What the printer makes of a map over work-groups is printed for it, with whatever barriers it is given, at every launch; of a program's typed term with the needed ones it is one kernel for all admissible launches.
 pub fn the_group_printer_prints()
     ensures code { GroupPrinterPrints (List Monomial) }
     ensures programs { GroupProgramsArePrinted }
+{}
+
+/// In a group's turn as many local arrays are declared as are counted.
+pub fn local_arrays_are_counted()
+    ensures { LocalArraysAreCounted (List Monomial) }
 {}

@@ -1,3 +1,3 @@
-pub mod Words
-pub mod LengthValues
-pub mod Counts
+mod Words
+mod LengthValues
+mod Counts

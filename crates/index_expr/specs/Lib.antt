@@ -1,3 +1,4 @@
 pub mod Expression
 pub mod Values
 pub mod Lengths
+pub mod Laws

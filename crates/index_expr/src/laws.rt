@@ -1,21 +1,19 @@
 // Laws of index expressions, each carried by a function that does nothing.
 
-ghost use Rattle.std.specs.Prelude.{◌≡◌, ◌≤◌, ℕ, List, pos};
+ghost use Rattle.std.specs.Prelude.{◌≡◌, ◌≤◌, ℕ, List};
 ghost use Rattle.size_arith.specs.declared.names.Name.{Name};
 ghost use Rattle.size_arith.specs.declared.poly.Monomial.{Monomial};
 ghost use Rattle.size_arith.specs.Ranges.{AreNames, Admissible, sizes_at};
 ghost use Rattle.size_arith.specs.Polynomial.{value_at};
 ghost use Rattle.index_expr.specs.Expression.{Expression, nodes, short_nodes};
-ghost use Rattle.index_expr.specs.Values.{exact, wrapped, IsRangedAt, IsWord, HasNoZeroDivisorAt, HasNoZeroDivisorInWordsAt};
+ghost use Rattle.index_expr.specs.Values.{exact, IsRangedAt, IsWord, HasNoZeroDivisorAt};
 ghost use Rattle.index_expr.specs.Lengths.{length_expression};
+ghost use Rattle.index_expr.specs.Laws.{RangedValuesAreExact, RangedDivisorsStay};
 
 /// Where an expression is ranged, its value on words is the exact value, and no divisor's value on words is 0 where none is over the whole numbers.
 pub fn ranged_values_are_exact()
-    ensures value { (sizes variables : List ℕ) (e : Expression) →
-        IsRangedAt sizes variables e → pos (wrapped sizes variables e) ≡ exact sizes variables e }
-    ensures divisors { (sizes variables : List ℕ) (e : Expression) →
-        IsRangedAt sizes variables e → HasNoZeroDivisorAt sizes variables e →
-        HasNoZeroDivisorInWordsAt sizes variables e }
+    ensures value { RangedValuesAreExact }
+    ensures divisors { RangedDivisorsStay }
 {}
 
 /// The expression of a length has its value at all admissible sizes, is ranged where this is a word, and divides by no 0.

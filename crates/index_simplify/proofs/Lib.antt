@@ -1,8 +1,8 @@
-pub mod Tests
-pub mod Parts
-pub mod Values
-pub mod Shapes
-pub mod Operations
-pub mod Short
-pub mod Words
-pub mod Known
+mod Tests
+mod Parts
+mod Values
+mod Shapes
+mod Operations
+mod Short
+mod Words
+mod Known

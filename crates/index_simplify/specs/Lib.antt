@@ -6,3 +6,4 @@ pub mod Ranges
 pub mod Shapes
 pub mod Simplified
 pub mod Operations
+pub mod Promises

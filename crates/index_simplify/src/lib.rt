@@ -2,6 +2,7 @@
 #![tactic(auto)]
 
 pub mod law;
+pub mod laws;
 pub mod literals;
 pub mod ranges;
 pub mod same;

@@ -1,21 +1,35 @@
 -- What holds of launch files.
-use Rattle.std.specs.Prelude.{◌≡◌, ◌↔◌, ℕ, List, Ok}
+use Rattle.std.specs.Prelude.{◌≡◌, ◌↔◌, ℕ, List, Ok, Vec, map}
+use Rattle.std.specs.Global.{Global}
 use Rattle.serde_json.specs.Data.{Data}
 use Rattle.lift_tree.specs.Programs.{PlainProgram}
 use Rattle.launch_file.specs.declared.file.Ask.{Ask}
 use Rattle.launch_file.specs.declared.refusal.LaunchNo.{LaunchNo}
 use Rattle.lift_tree.specs.Limits.{HasProperInputs}
+use Rattle.lift_tree.specs.Values.{array, value_of}
+use Rattle.lift_tree.specs.declared.value.Val.{Val}
+use Rattle.lift_tree.specs.declared.value.Val as held
 use Rattle.launch_file.specs.LaunchFile.{Given, Gives, IsLaunchFile}
 use Rattle.launch_file.specs.Judged.{Refuses, judged}
 
 -- a value passes the checks exactly where it is a launch file, and then they find what it gives
 abbrev pub ChecksAreExact : Type 0
-ChecksAreExact = (p : PlainProgram) (ask : Ask) (d : Data) (g : Given) → HasProperInputs p → (judged p ask d ≡ Ok g) ↔ Gives p ask d g
+ChecksAreExact =
+    (p : PlainProgram) (ask : Ask) (d : Data) (g : Given) → HasProperInputs p
+    → (judged p ask d ≡ Ok g) ↔ Gives p ask d g
 
 -- a launch file is refused for nothing
 abbrev pub FilesAreNotRefused : Type 0
-FilesAreNotRefused = (p : PlainProgram) (ask : Ask) (bytes : List ℕ) (g : Given) (e : LaunchNo) → HasProperInputs p → IsLaunchFile p ask bytes g → ¬ Refuses p ask bytes e
+FilesAreNotRefused =
+    (p : PlainProgram) (ask : Ask) (bytes : List ℕ) (g : Given) (e : LaunchNo) → HasProperInputs p
+    → IsLaunchFile p ask bytes g → ¬ Refuses p ask bytes e
 
 -- a launch file gives one thing
 abbrev pub FilesGiveOneThing : Type 0
-FilesGiveOneThing = (p : PlainProgram) (ask : Ask) (bytes : List ℕ) (g h : Given) → HasProperInputs p → IsLaunchFile p ask bytes g → IsLaunchFile p ask bytes h → g ≡ h
+FilesGiveOneThing =
+    (p : PlainProgram) (ask : Ask) (bytes : List ℕ) (g h : Given) → HasProperInputs p
+    → IsLaunchFile p ask bytes g → IsLaunchFile p ask bytes h → g ≡ h
+
+-- the value of a list, as inputs are held, is the array of its members' values
+abbrev pub ListsAreArrays : Type 0
+ListsAreArrays = (xs : Vec Val Global) → value_of (held.List xs) ≡ array (map value_of xs.items)

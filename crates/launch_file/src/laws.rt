@@ -1,6 +1,6 @@
 //! Laws of launch files.
 
-ghost use Rattle.launch_file.specs.Laws.{ChecksAreExact, FilesGiveOneThing, FilesAreNotRefused};
+ghost use Rattle.launch_file.specs.Laws.{ChecksAreExact, FilesGiveOneThing, FilesAreNotRefused, ListsAreArrays};
 
 /// The checks let a JSON value pass exactly where it is a launch file of the program, and find just
 /// what it gives.
@@ -16,4 +16,9 @@ pub fn files_are_not_refused()
 /// Bytes that are a launch file give one thing alone.
 pub fn files_give_one_thing()
     ensures { FilesGiveOneThing }
+{}
+
+/// The value of a list, as inputs are held, is the array of its members' values.
+pub fn lists_are_arrays()
+    ensures { ListsAreArrays }
 {}

@@ -1,4 +1,4 @@
-pub mod Lengths
-pub mod Bounds
-pub mod Values
-pub mod Words
+mod Lengths
+mod Bounds
+mod Values
+mod Words

@@ -15,6 +15,7 @@ use Rattle.index_expr.specs.Expression as index
 use Rattle.index_expr.specs.Expression.{Expression}
 use Rattle.index_expr.specs.Values.{exact, wrapped, operate_words, Divides, IsWord, IsRangedAt, HasNoZeroDivisorAt, HasNoZeroDivisorInWordsAt}
 use Rattle.index_expr.specs.Lengths.{length_expression}
+use Rattle.index_expr.specs.Laws.{RangedValuesAreExact, RangedDivisorsStay}
 use Rattle.kernel_tree.specs.Formula.{Ids, operate, with_both, value}
 use Rattle.kernel_tree.specs.Grammar.{is_constant}
 use Rattle.length_spelling.specs.Formulas.{in_words, index_formula, operator_of}
@@ -82,8 +83,8 @@ pub record Exact : Type 0 where
   pub value : (names : List Name) (bases variables : List ℕ) (p : List Monomial) → AreNames names → Admissible names bases → exact (sizes_at names bases) variables (length_expression names p) ≡ value_at bases p
   pub ranged : (names : List Name) (bases variables : List ℕ) (p : List Monomial) → AreNames names → Admissible names bases → IsWord (value_at bases p) → IsRangedAt (sizes_at names bases) variables (length_expression names p)
   pub divisors : (names : List Name) (bases variables : List ℕ) (p : List Monomial) → AreNames names → HasNoZeroDivisorAt (sizes_at names bases) variables (length_expression names p)
-  pub words : (sizes variables : List ℕ) (e : Expression) → IsRangedAt sizes variables e → pos (wrapped sizes variables e) ≡ exact sizes variables e
-  pub divisors_in_words : (sizes variables : List ℕ) (e : Expression) → IsRangedAt sizes variables e → HasNoZeroDivisorAt sizes variables e → HasNoZeroDivisorInWordsAt sizes variables e
+  pub words : RangedValuesAreExact
+  pub divisors_in_words : RangedDivisorsStay
 
 same_number : (m n : ℕ) → pos m ≡ pos n → m ≡ n
 same_number m n e = ap unsigned_abs e

@@ -5,6 +5,7 @@ pub mod Meaning
 pub mod Lists
 pub mod AtLaunch
 pub mod Lowering
+pub mod Lets
 pub mod Named
 pub mod Typed
 pub mod WorkedTerms

@@ -1,9 +1,8 @@
 -- Why calls end as they do: each cause excludes the others, and what is well formed.
-use Rattle.std.proofs.Common.{Bool, ◌≡◌, ◌≢◌, ◌⊎◌, ◌∙◌, ◌<◌, ◌≤◌, ℕ, List, [], ◌∷◌, ap, ap₂, sym, subst, length, inl, inr, refl, arith, Option, Some}
-use Rattle.std.specs.Prelude.{IfSome}
+use Rattle.std.proofs.Common.{Bool, ◌≡◌, ◌≢◌, ◌⊎◌, ◌∙◌, ◌<◌, ◌≤◌, ℕ, List, [], ◌∷◌, ap, ap₂, sym, subst, length, inl, inr, refl, arith, Option, None, Some}
+use Rattle.std.specs.Prelude.{IfSome, option_map}
 use Rattle.std.proofs.lemmas.Option.{same_Some}
-use Rattle.command_line.specs.Requests.{Asks, CommandLine, IsRefused, compile, demo, eval, run, steps}
-use Rattle.command_line.proofs.Entered.{asked-stands}
+use Rattle.command_line.specs.Requests.{Asks, CommandLine, IsRefused, compile, demo, eval, line_entered, run, steps}
 use Rattle.lift_tree.specs.Programs.{PlainProgram}
 use Rattle.lift_reader.specs.declared.refusal.ReadRefusal.TheVariants as readings
 use Rattle.pattern_types.specs.declared.refusal.TypeRefusal.TheVariants as typings
@@ -118,18 +117,23 @@ request_accepted law told rose request texts f is well are ok (inr (others, too,
 pub one_request : (words : List (List ℕ)) (request other : CommandLine) → Asks words request → Asks words other → other ≡ request
 one_request words request other asks too = same_Some _ _ (sym too.says ∙ asks.says)
 
+-- words that ask for a request are not refused
+pub asked_stands : (words : List (List ℕ)) (line : CommandLine) → Asks words line → IsRefused words → ⊥
+asked_stands words line asks (inl untaken) = untaken asks.taken
+asked_stands words line asks (inr h) = let e : None ≡ Some line = sym (ap line_entered h.entered ∙ ap (option_map demo) h.none) ∙ asks.says in absurd (cc (e))
+
 -- why words that ask for a request have no result is why the request has none
 cause_of : (told : Told) (rose : List ℕ → Type 0) (words : List (List ℕ)) (request : CommandLine) (f : Failure) → Asks words request → WordsCause told rose words f
     → (status_of f ≡ 13) ⊎ StopsFor told rose request f
 cause_of told rose words request f asks (inl memory) = inl memory
-cause_of told rose words request f asks (inr (inl (is, refused))) = absurd (asked-stands words request asks refused)
+cause_of told rose words request f asks (inr (inl (is, refused))) = absurd (asked_stands words request asks refused)
 cause_of told rose words request f asks (inr (inr (other, too, h))) = inr (subst (λ q. StopsFor told rose q f) (one_request words request other asks too) h)
 
 -- words that the command refuses have their status, or that of want of memory
 pub words_refused : (told : Told) (rose : List ℕ → Type 0) (words : List (List ℕ)) (f : Failure) → WordsCause told rose words f → IsRefused words → (status_of f ≡ 2) ⊎ (status_of f ≡ 13)
 words_refused told rose words f (inl memory) refused = inr memory
 words_refused told rose words f (inr (inl (is, none))) refused = inl (ap status_of is)
-words_refused told rose words f (inr (inr (request, asks, h))) refused = absurd (asked-stands words request asks refused)
+words_refused told rose words f (inr (inr (request, asks, h))) refused = absurd (asked_stands words request asks refused)
 
 -- the causes of a program, a script and a launch file have statuses of their own
 source_status : (r : Refusal) → 6 ≤ sources.status_of r
@@ -206,7 +210,7 @@ not_2 n (inr more) e = omega (arith, more, e)
 -- the status of words that ask for a request isn't that of those that are refused
 pub words_taken : (told : Told) (rose : List ℕ → Type 0) (words : List (List ℕ)) (asked : CommandLine) (f : Failure) → WordsCause told rose words f → Asks words asked → status_of f ≢ 2
 words_taken told rose words asked f (inl memory) taken e = omega (arith, memory, e)
-words_taken told rose words asked f (inr (inl (is, refused))) taken e = asked-stands words asked taken refused
+words_taken told rose words asked f (inr (inl (is, refused))) taken e = asked_stands words asked taken refused
 words_taken told rose words asked f (inr (inr (request, asks, inl h))) taken e = not_2 (status_of f) (file_status told rose (files_of request) f h) e
 words_taken told rose words asked f (inr (inr (request, asks, inr (texts, are, h)))) taken e = not_2 (status_of f) (text_status request texts f h) e
 

@@ -5,7 +5,7 @@ use Rattle.lift_tree.specs.Programs.{PlainProgram}
 use Rattle.lift_tree.specs.Types.{PlainTy}
 use Rattle.fault_lines.specs.Failure.{Failure, Source, Words, Write, status_of}
 use Rattle.program_source.specs.Ends.{Accepts, OnSource}
-use Rattle.program_source.specs.Stages.{As}
+use Rattle.stages.specs.Stages.{As}
 use Rattle.program_source.specs.StepsText.{IsStepsText}
 use Rattle.program_source.specs.Terms.{TermsOf}
 use Rattle.compilation.specs.Compiled.{IsCompiled}

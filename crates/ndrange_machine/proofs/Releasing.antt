@@ -10,6 +10,7 @@ use Rattle.kernel_tree.specs.Code.{Kernel}
 use Rattle.kernel_tree.specs.Launch.{Launch, Cells, IsWhole, group_of, first_item, ids_of}
 use Rattle.kernel_tree.specs.Item.{Item, Wants, Waits}
 use Rattle.kernel_tree.proofs.Grouping.{first_of_group, first_in_launch}
+use Rattle.enabled_events.specs.Laws.{FlagsFollow}
 use Rattle.enabled_events.specs.Listed.{AreFlags}
 use Rattle.cell_marks.specs.Marked.{MarksTell}
 use Rattle.ndrange_machine.specs.Groups.{Refreshed, Refreshes, MarksRelease}
@@ -152,7 +153,7 @@ module _ (k : Kernel) (l : Launch) (c : Cells) (m : Machine) (es : List Event) (
   calm = calm_after (device_of k l c) now (Release g) st.holds.whole (st.steady clean) (alike_calm (device_of k l c) later g st.holds.whole alike_later)
 
   -- the machine with its marks, and then its flags
-  module _ (want_now : Want) (w : IsWanted m (g * m.launch.local) want_now) (a z : Machine) (core1 : SameCore n a) (ready1 : a.ready ≡ n.ready) (told : MarksRelease n a g want_now) (core2 : SameCore a z) (marks2 : z.marks ≡ a.marks) (told2 : Refreshes a z g) where
+  module _ (follow : FlagsFollow) (want_now : Want) (w : IsWanted m (g * m.launch.local) want_now) (a z : Machine) (core1 : SameCore n a) (ready1 : a.ready ≡ n.ready) (told : MarksRelease n a g want_now) (core2 : SameCore a z) (marks2 : z.marks ≡ a.marks) (told2 : Refreshes a z g) where
     abbrev first : ℕ
     first = first_item l g
 
@@ -181,7 +182,7 @@ module _ (k : Kernel) (l : Launch) (c : Cells) (m : Machine) (es : List Event) (
 
     flags_later : AreFlags (device_of k l c) later z.ready
     flags_later =
-        refreshed (device_of k l c) st.holds.whole now g m.ready z.ready st.flags
+        refreshed follow (device_of k l c) st.holds.whole now g m.ready z.ready st.flags
         (z.ready_local ∙ ap (λ (x : Launch). x.local) (holds_end.launch ∙ sym st.holds.launch) ∙ sym m.ready_local)
         (z.ready_items ∙ ap (λ (x : Launch). x.global) (holds_end.launch ∙ sym st.holds.launch) ∙ sym m.ready_items)
         (subst (λ v. Refreshed (device_of k l c) later g v z.ready) (ready1 ∙ ps.ready) (told2 k l c later holds_marked))

@@ -10,6 +10,7 @@ use Rattle.kernel_tree.specs.Code.{Kernel}
 use Rattle.kernel_tree.specs.Launch.{Launch, Cells, IsWhole, item_count, group_count, group_of, first_item}
 use Rattle.kernel_tree.specs.Device.{Device, State, device_of, wants, CanStep, AllTogether, after}
 use Rattle.kernel_tree.proofs.Grouping.{first_of_group, first_in_launch, group_in_launch, in_launch}
+use Rattle.enabled_events.specs.Laws.{FlagsFollow}
 use Rattle.enabled_events.specs.Listed.{Flags}
 use Rattle.enabled_events.specs.Flags.{NoneSteps}
 use Rattle.ndrange_machine.specs.declared.machine.Machine.{Machine}
@@ -267,12 +268,12 @@ meets_apart m a g e w tells is core ended k l c s h =
 
 -- After a step
 
-module _ (m : Machine) (j : ℕ) (b : Bool) (told : IsGoing m j b) where
+module _ (follow : FlagsFollow) (m : Machine) (j : ℕ) (b : Bool) (told : IsGoing m j b) where
   steps_is : (k : Kernel) (l : Launch) (c : Cells) (s : State) → Holds k l c m s → j < item_count l → IsTrue b ↔ CanStep (wants (device_of k l c) s j)
   steps_is k l c s h lt = let it = its_item k l c m s h j lt in going_is k l c m s h j b told it.0 it.1
 
   pub settles_going : b ≡ true → Settles m m j false
-  settles_going on k l c s h st = goes (device_of k l c) h.whole s j m.ready st ((steps_is k l c (after (device_of k l c) s (Step j)) h st.there).0 on)
+  settles_going on k l c s h st = goes follow (device_of k l c) h.whole s j m.ready st ((steps_is k l c (after (device_of k l c) s (Step j)) h st.there).0 on)
 
   module _ (off : b ≡ false) (w : Flags) (is : w ≡ record { local = m.ready.local; items = set m.ready.items j false; groups = m.ready.groups }) where
     stops : (k : Kernel) (l : Launch) (c : Cells) (s : State) → Holds k l c m (after (device_of k l c) s (Step j)) → j < item_count l → CanStep (wants (device_of k l c) (after (device_of k l c) s (Step j)) j) → ⊥
@@ -285,7 +286,7 @@ module _ (m : Machine) (j : ℕ) (b : Bool) (told : IsGoing m j b) where
       pub settles_some : t ≡ false → (k : Kernel) (l : Launch) (c : Cells) (s : State) → Holds k l c m (after (device_of k l c) s (Step j)) → Stepped (device_of k l c) s j m.ready → Settled (device_of k l c) (after (device_of k l c) s (Step j)) w false
       settles_some going k l c s h st =
           subst (λ z. Settled (device_of k l c) (after (device_of k l c) s (Step j)) z false) (sym is)
-          (some_go (device_of k l c) h.whole s j m.ready st (stops k l c s h st.there)
+          (some_go follow (device_of k l c) h.whole s j m.ready st (stops k l c s h st.there)
           (λ x. no_true (sym going ∙ none.1 (subst (λ z. NoneSteps z g) (sym is) (subst (NoneSteps (record { local = m.ready.local; items = set m.ready.items j false; groups = m.ready.groups })) (sym (its_group l h.launch)) x)))))
 
       pub settles_met : t ≡ true → (a : Machine) (end : Flags) (r : Bool) → SameCore m a → a.ready ≡ w → ((k : Kernel) (l : Launch) (c : Cells) (s : State) → Holds k l c a s → Met (device_of k l c) s g a.ready end r)
@@ -294,5 +295,5 @@ module _ (m : Machine) (j : ℕ) (b : Bool) (told : IsGoing m j b) where
           let all : NoneSteps (record { local = m.ready.local; items = set m.ready.items j false; groups = m.ready.groups }) (group_of l j) = subst (NoneSteps (record { local = m.ready.local; items = set m.ready.items j false; groups = m.ready.groups })) (its_group l h.launch) (subst (λ z. NoneSteps z g) is (none.0 all_stopped)) in
           let x = meets k l c (after (device_of k l c) s (Step j)) (same_holds k l c m a (after (device_of k l c) s (Step j)) core h) in
           let room : group_of l j < length m.ready.groups = (let lt = group_in_launch l h.whole j st.there in let e = m.ready_groups ∙ ap (λ (z : Launch). z.global / z.local) h.launch in omega arith) in
-          met (device_of k l c) h.whole s j m.ready st (stops k l c s h st.there) end r room all
+          met follow (device_of k l c) h.whole s j m.ready st (stops k l c s h st.there) end r room all
           (subst (λ z. Met (device_of k l c) (after (device_of k l c) s (Step j)) (group_of l j) z end r) (same ∙ is) (subst (λ z. Met (device_of k l c) (after (device_of k l c) s (Step j)) z a.ready end r) (its_group l h.launch) x))

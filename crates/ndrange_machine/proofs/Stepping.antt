@@ -22,8 +22,8 @@ use Rattle.kernel_tree.specs.Seen.{shared_cell, cell_wanted, access_wanted, faul
 use Rattle.kernel_tree.proofs.EveryRun.{run-append, accesses-append, is_run-append}
 use Rattle.race_marks.specs.declared.marks.Touch.{Touch}
 use Rattle.enabled_events.specs.Listed.{Flags, AreFlags}
+use Rattle.cell_marks.specs.Laws.{MarksStay}
 use Rattle.cell_marks.specs.Marked.{MarksTell, Tracks, TracksAccess}
-use Rattle.cell_marks.proofs.Telling.{stays}
 use Rattle.ndrange_machine.specs.Groups.{Settles, Stepped, Settled}
 use Rattle.ndrange_machine.specs.Sights.{accessed_cell, fault_seen, seen_as, kind_of}
 use Rattle.ndrange_machine.specs.declared.machine.Machine.{Machine}
@@ -295,8 +295,8 @@ module _ (k : Kernel) (l : Launch) (c : Cells) (m : Machine) (es : List Event) (
         failed : failure_of (device_of k l c) now (Step j) ≡ None → ⊥
         failed ok = let none : None ≡ Some OutOfRange = sym ok ∙ own_fault ∙ f in cc
 
-  pub took_change : (a n : Machine) (ch : Change) (to : ℕ) (diverges : Bool) → IsWanted m j (want.Changes ch to) → Changes m a j ch to → a.memory ≡ m.memory → a.marks ≡ m.marks → a.ready ≡ m.ready → SameCore a n → n.marks ≡ a.marks → Settles a n j diverges → Took k l c es (Step j) n (seen_as (Step j) None (kind_of false diverges))
-  took_change a n ch to diverges w cs mem marks ready core same settles =
+  pub took_change : MarksStay → (a n : Machine) (ch : Change) (to : ℕ) (diverges : Bool) → IsWanted m j (want.Changes ch to) → Changes m a j ch to → a.memory ≡ m.memory → a.marks ≡ m.marks → a.ready ≡ m.ready → SameCore a n → n.marks ≡ a.marks → Settles a n j diverges → Took k l c es (Step j) n (seen_as (Step j) None (kind_of false diverges))
+  took_change stay a n ch to diverges w cs mem marks ready core same settles =
       let r = at_want (want.Changes ch to) w in
       let moved = item_later ∙ ap (λ z. taken l j z now.memory (now.items j)) r.1 in
       let none = accesses_are (Moves r.0) r.1 in
@@ -304,7 +304,7 @@ module _ (k : Kernel) (l : Launch) (c : Cells) (m : Machine) (es : List Event) (
       (subst (HoldsItem (map text_of m.lines.items) (changed its.0 ch to)) (sym moved) r.2.holds)
       (r.2.vars ∙ ap (λ z. z.vars) (sym moved)) (ap (failure (device_of k l c)) r.1) false
       (λ q. absurd (let both : false ≡ true = q in let x : ⊥ = cc in x), λ q. absurd (subst (Among q.1) none q.3))
-      (λ _. subst (MarksTell (device_of k l c) (start_state k c) (es ++ Step j ∷ [])) (sym marks ∙ sym same) (stays (device_of k l c) (start_state k c) es j m.marks none (st.marks clean)))
+      (λ _. subst (MarksTell (device_of k l c) (start_state k c) (es ++ Step j ∷ [])) (sym marks ∙ sym same) (stay (device_of k l c) (start_state k c) es j m.marks none (st.marks clean)))
       None (sym (ap access_wanted r.1))
 
   -- the cell that the item names in an array

@@ -18,7 +18,7 @@ use Rattle.kernel_tree.proofs.Confluence.{stands_or_steps, wants_kept, not_true}
 use Rattle.kernel_tree.proofs.Grouping.{first_of_group, group_in_launch, in_launch}
 use Rattle.enabled_events.specs.Listed.{Flags, AreFlags, group_moved}
 use Rattle.enabled_events.specs.Flags.{NoneSteps}
-use Rattle.enabled_events.proofs.Follows.{flags_after}
+use Rattle.enabled_events.specs.Laws.{FlagsFollow}
 use Rattle.ndrange_machine.specs.Groups.{Refreshed, Met, Settled, Stepped}
 use Rattle.ndrange_machine.proofs.Waiting.{IsWaiting, steps_or_not, not_both, stand_waits}
 
@@ -148,7 +148,7 @@ module _ (d : Device) (s : State) (e : Event) where
   calm_after whole calm own v = ⊎_elim (λ same. own (subst (Diverges d (after d s e)) same v.1)) (λ ne. calm (v.0, diverges_before v.0 whole ne v.1)) (cases_eq v.0 (group_moved d.launch e))
 
 -- after an item's step
-module _ (d : Device) (whole : IsWhole d.launch) (s : State) (j : ℕ) (v : Flags) (h : Stepped d s j v) where
+module _ (follow : FlagsFollow) (d : Device) (whole : IsWhole d.launch) (s : State) (j : ℕ) (v : Flags) (h : Stepped d s j v) where
   abbrev later : State
   later = after d s (Step j)
 
@@ -166,7 +166,7 @@ module _ (d : Device) (whole : IsWhole d.launch) (s : State) (j : ℕ) (v : Flag
 
   pub goes : CanStep (wants d (after d s (Step j)) j) → Settled d (after d s (Step j)) v false
   goes can = record {
-    flags = flags_after d s (Step j) v v whole h.flags (record {
+    flags = follow d s (Step j) v v whole h.flags (record {
       local = refl;
       count = refl;
       kept = λ k m. refl;
@@ -185,7 +185,7 @@ module _ (d : Device) (whole : IsWhole d.launch) (s : State) (j : ℕ) (v : Flag
     in_items = let n = h.flags.count in let lt = h.there in omega arith
 
     flags_with : (groups : List Bool) → ((g : ℕ) → g ≢ group_of d.launch j → slice_index_or groups g false ≡ slice_index_or v.groups g false) → (slice_index_or groups (group_of d.launch j) false ≡ true) ↔ AllTogether d (after d s (Step j)) (group_of d.launch j) → AreFlags d (after d s (Step j)) (unset groups)
-    flags_with groups others own = flags_after d s (Step j) v (unset groups) whole h.flags (record {
+    flags_with groups others own = follow d s (Step j) v (unset groups) whole h.flags (record {
       local = refl;
       count = length-set v.items j false;
       kept = λ k m. get_or-set_other v.items j k false false (λ same. let e : true ≡ false = sym (ap (λ z. z == j) same ∙ ⊎_elim (λ q. q.0) (λ q. absurd (q.1 refl)) (eqb_tells j j)) ∙ m in let n : ⊥ = cc in n);
@@ -237,8 +237,8 @@ module _ (d : Device) (whole : IsWhole d.launch) (s : State) (j : ℕ) (v : Flag
     }
 
 -- after a release
-pub refreshed : (d : Device) → IsWhole d.launch → (s : State) (g : ℕ) (v w : Flags) → AreFlags d s v → w.local ≡ v.local → length w.items ≡ length v.items → Refreshed d (after d s (Release g)) g v w → AreFlags d (after d s (Release g)) w
-refreshed d whole s g v w flags local count r = flags_after d s (Release g) v w whole flags (record {
+pub refreshed : FlagsFollow → (d : Device) → IsWhole d.launch → (s : State) (g : ℕ) (v w : Flags) → AreFlags d s v → w.local ≡ v.local → length w.items ≡ length v.items → Refreshed d (after d s (Release g)) g v w → AreFlags d (after d s (Release g)) w
+refreshed follow d whole s g v w flags local count r = follow d s (Release g) v w whole flags (record {
   local = local;
   count = count;
   kept = λ k m. r.kept k (λ q. let e : true ≡ false = sym (ap (λ z. z == g) q ∙ ⊎_elim (λ z. z.0) (λ z. absurd (z.1 refl)) (eqb_tells g g)) ∙ m in let n : ⊥ = cc in n);

@@ -22,8 +22,10 @@ use crate::item::{Change, Item};
 use crate::line::{Line, depth_of, lay};
 use crate::memory::{Memory, rows_for};
 use crate::want::Want;
+use cell_marks::laws::marks_stay;
 use cell_marks::marks::CellMarks;
 use count_tree::steps::Steps;
+use enabled_events::laws::{flags_follow, flags_tell};
 use enabled_events::ready::Ready;
 use kernel_tree::events::{Access, Cell, Event, Fault, FaultKind, Seen};
 use kernel_tree::launches::{Cells, Launch};
@@ -106,6 +108,7 @@ impl Machine {
             → StandsFor k l c self.now es
             → CountsEnabled (device_of k l c) (state_after k l c es) result }
     {
+        flags_tell();
         self.ready.enabled()
     }
 
@@ -118,6 +121,7 @@ impl Machine {
             → AreEnabled (device_of kernel l c) (state_after kernel l c es) all
             → slice_get all k ≡ Some result }
     {
+        flags_tell();
         self.ready.nth_enabled(k)
     }
 
@@ -132,6 +136,7 @@ impl Machine {
             → slice_get all k ≡ Some result }
         ensures cost { (n : ℕ) → self.now.launch.global ≤ 2 ^ n → steps.new ≤ steps.old + n }
     {
+        flags_tell();
         self.ready.nth_enabled_counted(k, steps)
     }
 
@@ -362,6 +367,7 @@ impl Machine {
         ensures marks { self.new.marks ≡ self.old.marks }
         ensures settles { Settles self.old self.new item result }
     {
+        flags_follow();
         if self.can_step(item) {
             return false;
         }
@@ -392,6 +398,7 @@ impl Machine {
         requires { item < self.old.launch.global }
         ensures { Takes self.old (event_form.Step item) self.new result }
     {
+        marks_stay();
         let event = Event::Step(item);
         match self.want(item) {
             Want::Ends => seen(event, None, None),
@@ -489,6 +496,7 @@ impl Machine {
         ensures { Takes self.old (event_form.Release group) self.new
             (seen_as (event_form.Release group) None None) }
     {
+        flags_follow();
         let want = self.want(self.first_of(group));
         self.pass_group(group);
         self.release_marks(group, want);

@@ -1,5 +1,6 @@
 -- Where no parallel map stands in a term without a broken rule.
 use Rattle.std.proofs.Common.{◌≡◌, Bool, true, false, List, ◌∷◌, refl}
+use Rattle.std.proofs.lemmas.Bool.{or_left, not_from_false}
 use Rattle.std.specs.Prelude.{not, ◌&&◌, ◌||◌}
 use Rattle.lift_tree.specs.declared.term.UnaryForm.TheVariants as unary
 use Rattle.lift_tree.specs.declared.term.BinaryForm.TheVariants as binary
@@ -15,7 +16,8 @@ use Rattle.lowered_tree.specs.declared.rule.NestRule.TheVariants.{N2, N3, N5, N8
 use Rattle.lowered_tree.specs.Elements.{is_element, hangs_on_sizes}
 use Rattle.lowered_tree.specs.Forms.{shows_local_map}
 use Rattle.lowered_tree.specs.Kinds.{is_task}
-use Rattle.nest_premises.proofs.Rules.{AllUnbroken, or_left, not_left, denied, true_is_not_false}
+use Rattle.nest_premises.specs.Unbroken.{AllUnbroken}
+use Rattle.nest_premises.proofs.Rules.{not_left, true_is_not_false}
 use Rattle.nest_premises.proofs.Staged.{no_map, no_fold}
 
 pub three : (x y z : Bool) → x ≡ true → y ≡ true → z ≡ true → (x && y && z) ≡ true
@@ -57,8 +59,8 @@ module _ (d : Declared) where
   argument_alone s g (tree.Unary (unary.Split fs) t) (One a n) y h w i q = argument_alone _ g t n y.0 h.1 w i q
   argument_alone s g (tree.Unary (unary.Slide j l) t) (One a n) y h w i q = argument_alone _ g t n y.0 h.1 w i q
   argument_alone s g (tree.Unary (unary.Pad j l) t) (One a n) y h w i q = argument_alone _ g t n y.0 h.1 w i q
-  argument_alone s g (tree.Unary unary.ToLocal t) (One a n) y h w i q = true_is_not_false (not s.in_group) (denied s.in_group q) (not_left (not s.in_group) s.in_local (not_left (not s.in_group || s.in_local) (not (shows_local_map t)) (h.0 N5)))
-  argument_alone s g (tree.Unary unary.ToPrivate t) (One a n) y h w i q = true_is_not_false (not s.in_item) (denied s.in_item i) (not_left (not s.in_item) (hangs_on_sizes a) (h.0 N8))
+  argument_alone s g (tree.Unary unary.ToLocal t) (One a n) y h w i q = true_is_not_false (not s.in_group) (not_from_false s.in_group q) (not_left (not s.in_group) s.in_local (not_left (not s.in_group || s.in_local) (not (shows_local_map t)) (h.0 N5)))
+  argument_alone s g (tree.Unary unary.ToPrivate t) (One a n) y h w i q = true_is_not_false (not s.in_item) (not_from_false s.in_item i) (not_left (not s.in_item) (hangs_on_sizes a) (h.0 N8))
   argument_alone s g (tree.Binary f t u) (Two a n m) y h w i q = two _ _ (argument_alone _ g t n y.0 h.1 w i q) (argument_alone _ g u m y.1 h.2 w i q)
   argument_alone s g (tree.Select t u x) (Three a n m l) y h w i q = three _ _ _ (argument_alone _ g t n y.0 h.1 w i q) (argument_alone _ g u m y.1 h.2 w i q) (argument_alone _ g x l y.2 h.3 w i q)
   argument_alone s g (tree.Let v b) (Two a n m) y h w i q =
@@ -90,6 +92,6 @@ module _ (d : Declared) where
   body_alone s g (tree.Map map_kind.Sequential xs b) (Two a n m) y h w i = two _ _ (body_alone _ g xs n y.2 h.1 w i) (body_alone _ (y.0 ∷ g) b m y.4 h.2 (or_left s.in_parallel false w) refl)
   body_alone s g (tree.Map map_kind.Global xs b) (Two a n m) y h w i = true_is_not_false s.in_parallel w (h.0 N3)
   body_alone s g (tree.Map map_kind.WorkGroup xs b) (Two a n m) y h w i = true_is_not_false s.in_parallel w (h.0 N3)
-  body_alone s g (tree.Map map_kind.Local xs b) (Two a n m) y h w i = true_is_not_false (not s.is_next_to_group) (denied s.is_next_to_group i) (h.0 N2)
+  body_alone s g (tree.Map map_kind.Local xs b) (Two a n m) y h w i = true_is_not_false (not s.is_next_to_group) (not_from_false s.is_next_to_group i) (h.0 N2)
   body_alone s g (tree.Fold j xs x b) (Three a n m l) y h w i = three _ _ _ (body_alone _ g xs n y.2 h.1 w i) (body_alone _ g x m y.4 h.2 w i) (body_alone _ (y.0 ∷ type_in m ∷ g) b l y.6 h.3 w refl)
   body_alone s g _ _ y h w i = absurd y

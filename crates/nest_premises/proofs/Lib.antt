@@ -3,11 +3,11 @@ pub mod Fits
 pub mod Few
 pub mod Staged
 pub mod Lowerable
-pub mod Lets
 pub mod Stands
 pub mod Alone
 pub mod Top
 pub mod OfKinds
 pub mod Launches
+pub mod InGroups
 pub mod Limited
 pub mod Whole

@@ -18,8 +18,9 @@ use Rattle.lift_ir.proofs.Typed.{told, flat_at}
 use Rattle.lowered_tree.specs.declared.around.Around.{Around}
 use Rattle.lowered_tree.specs.declared.rule.NestRule.TheVariants.{N6, N8, N10, N11}
 use Rattle.lowered_tree.specs.Elements.{is_element, hangs_on_sizes}
+use Rattle.nest_premises.specs.Unbroken.{AllUnbroken}
 use Rattle.nest_premises.proofs.Fits.{Fits}
-use Rattle.nest_premises.proofs.Rules.{AllUnbroken, moved, not_right, told_element, told_ir, from_ir}
+use Rattle.nest_premises.proofs.Rules.{moved, not_right, told_element, told_ir, from_ir}
 use Rattle.nest_premises.proofs.Staged.{passes, refused, same_literal}
 
 element_holds : (a : PlainTy) → is_element a ≡ true → types.HoldsElements a

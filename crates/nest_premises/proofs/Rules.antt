@@ -1,28 +1,21 @@
 -- Rules of the nest, at each node of a term.
 use Rattle.std.proofs.Common.{◌≡◌, ℕ, Bool, true, false, List, [], ◌∷◌, ◌++◌, refl, sym, subst}
-use Rattle.std.specs.Prelude.{not, ◌&&◌, ◌||◌, if◌then◌else◌}
+use Rattle.std.proofs.lemmas.Bool.{and_from}
+use Rattle.std.specs.Prelude.{◌&&◌, ◌||◌, if◌then◌else◌}
 use Rattle.lift_tree.specs.Tree as tree
 use Rattle.lift_tree.specs.Tree.{Tree}
 use Rattle.lift_tree.specs.Types as types
 use Rattle.lift_tree.specs.Types.{PlainTy, is_array}
 use Rattle.lift_tree.specs.Lists.{Every}
-use Rattle.lift_tree.specs.Annotations.{Annotation, Leaf, One, Two, Three, type_in}
+use Rattle.lift_tree.specs.Annotations.{Annotation, Leaf, One, Two, Three}
 use Rattle.lift_ir.specs.Lowerable.{HoldsNoScalar}
 use Rattle.lift_ir.specs.Lowering as ir
 use Rattle.lowered_tree.specs.declared.around.Around.{Around}
 use Rattle.lowered_tree.specs.Elements.{is_element}
-use Rattle.lowered_tree.specs.Around.{operand, under_form, argument, let_body, map_body, fold_body}
-use Rattle.lowered_tree.specs.Nest.{Site, sites, site_at, under, in_child, IsUnbroken}
+use Rattle.lowered_tree.specs.Nest.{Site, sites, under, in_child, IsUnbroken}
+use Rattle.nest_premises.specs.Unbroken.{AllUnbroken}
 
 -- ---- Booleans
-
-pub or_left : (x y : Bool) → x ≡ true → (x || y) ≡ true
-or_left true y e = refl
-or_left false y e = absurd (cc)
-
-pub or_right : (x y : Bool) → y ≡ true → (x || y) ≡ true
-or_right true y e = refl
-or_right false y e = e
 
 pub not_left : (x y : Bool) → (x || y) ≡ false → x ≡ false
 not_left true y e = absurd (cc)
@@ -36,18 +29,6 @@ not_right false y e = e
 pub spared : (x y : Bool) → (x && y) ≡ false → x ≡ true → y ≡ false
 spared true y e h = e
 spared false y e h = absurd (cc)
-
-pub negated : (x : Bool) → not x ≡ false → x ≡ true
-negated true e = refl
-negated false e = absurd (cc)
-
-pub denied : (x : Bool) → x ≡ false → not x ≡ true
-denied true e = absurd (cc)
-denied false e = refl
-
-pub both : (x y : Bool) → x ≡ true → y ≡ true → (x && y) ≡ true
-both true y e h = h
-both false y e h = absurd (cc)
 
 pub and_left : (x y : Bool) → (x && y) ≡ true → x ≡ true
 and_left true y e = refl
@@ -65,22 +46,13 @@ true_is_not_false false e h = absurd (cc)
 
 pub told_element : (a : PlainTy) → types.IsElement a → is_element a ≡ true
 told_element types.U32 h = refl
-told_element (types.PairOf a b) h = go (is_element a) (is_element b) (told_element a h.0) (told_element b h.1)
-  where
-    go : (x y : Bool) → x ≡ true → y ≡ true → (x && y) ≡ true
-    go true y e k = k
-    go false y e k = absurd (cc)
+told_element (types.PairOf a b) h = and_from (is_element a) (is_element b) (told_element a h.0) (told_element b h.1)
 told_element (types.ArrayOf a n) h = absurd h
 
 pub no_array : (a : PlainTy) → is_element a ≡ true → is_array a ≡ false
 no_array types.U32 e = refl
 no_array (types.PairOf a b) e = refl
 no_array (types.ArrayOf a n) e = absurd (cc)
-
-pub no_element : (a : PlainTy) → is_array a ≡ true → is_element a ≡ false
-no_element types.U32 e = absurd (cc)
-no_element (types.PairOf a b) e = absurd (cc)
-no_element (types.ArrayOf a n) e = refl
 
 pub holds_none : (a : PlainTy) → is_array a ≡ true → HoldsNoScalar a
 holds_none types.U32 e = absurd (cc)
@@ -132,23 +104,6 @@ pub from_ir : (v : Bool) (a : PlainTy) → ir.is_element a ≡ v → is_element 
 from_ir v a e = subst (λ z. z ≡ v) (in_ir a) e
 
 -- ---- nodes
-
--- no rule is broken at a node, nor at any below
-abbrev pub IsUnbrokenAt : Around → Tree → Annotation → Type 0
-IsUnbrokenAt s t n = IsUnbroken (site_at s t n)
-
-abbrev pub AllUnbroken : Around → Tree → Annotation → Type 0
-AllUnbroken s (tree.Unary f t) (One a n) = IsUnbrokenAt s (tree.Unary f t) (One a n) × AllUnbroken (under_form s f a) t n
-AllUnbroken s (tree.Binary f t u) (Two a n m) = IsUnbrokenAt s (tree.Binary f t u) (Two a n m) × AllUnbroken (operand s a) t n × AllUnbroken (operand s a) u m
-AllUnbroken s (tree.Select t u w) (Three a n m l) =
-    IsUnbrokenAt s (tree.Select t u w) (Three a n m l) × AllUnbroken (operand s a) t n × AllUnbroken (operand s a) u m × AllUnbroken (operand s a) w l
-AllUnbroken s (tree.Let v b) (Two a n m) =
-    IsUnbrokenAt s (tree.Let v b) (Two a n m) × AllUnbroken (argument s (is_element (type_in n)) a) v n × AllUnbroken (let_body s (is_element (type_in n)) a) b m
-AllUnbroken s (tree.Map k xs b) (Two a n m) =
-    IsUnbrokenAt s (tree.Map k xs b) (Two a n m) × AllUnbroken (argument s false a) xs n × AllUnbroken (map_body s k a) b m
-AllUnbroken s (tree.Fold k xs z b) (Three a n m l) =
-    IsUnbrokenAt s (tree.Fold k xs z b) (Three a n m l) × AllUnbroken (argument s false a) xs n × AllUnbroken (operand s a) z m × AllUnbroken (fold_body s a) b l
-AllUnbroken s t n = IsUnbrokenAt s t n
 
 module _ {A : Type 0} (P : A → Type 0) where
   pub front : (xs ys : List A) → Every P (xs ++ ys) → Every P xs

@@ -1,5 +1,6 @@
 -- Terms without a broken rule are staged: elements, arguments and what is written each have the forms of their place.
 use Rattle.std.proofs.Common.{◌≡◌, ◌<◌, ◌^◌, ℕ, zero, suc, Bool, true, false, List, [], ◌∷◌, Some, refl, sym, ap, ◌∙◌, subst, inl, inr}
+use Rattle.std.proofs.lemmas.Bool.{or_left, or_right, not-false, not_from_false}
 use Rattle.std.proofs.Math.Nat.{pow-zero}
 use Rattle.std.specs.Prelude.{not, ◌&&◌, ◌||◌, slice_get, pos, ◌*ℤ◌, ◌+ℤ◌}
 use Rattle.size_arith.specs.declared.poly.Monomial.{Monomial}
@@ -26,8 +27,9 @@ use Rattle.lowered_tree.specs.Around.{under_form}
 use Rattle.lowered_tree.specs.Elements.{is_element, names_a_size, is_over_sizes, hangs_on_sizes}
 use Rattle.lowered_tree.specs.Kinds.{is_plain}
 use Rattle.lowered_tree.specs.Copies.{CopiesArrays}
+use Rattle.nest_premises.specs.Unbroken.{IsUnbrokenAt, AllUnbroken}
 use Rattle.nest_premises.proofs.Fits.{Fits}
-use Rattle.nest_premises.proofs.Rules.{IsUnbrokenAt, AllUnbroken, or_left, or_right, not_left, not_right, spared, negated, denied, true_is_not_false, told_element, no_array, holds_none, left_part, right_part, clash_array, clash_element, moved, told_ir}
+use Rattle.nest_premises.proofs.Rules.{not_left, not_right, spared, true_is_not_false, told_element, no_array, holds_none, left_part, right_part, clash_array, clash_element, moved, told_ir}
 
 -- a program's inputs are arrays
 input_is_array : (inputs : List PlainTy) (i : ℕ) (a : PlainTy) → Every IsInput inputs → slice_get inputs i ≡ Some a → is_array a ≡ true
@@ -40,7 +42,7 @@ input_is_array (b ∷ inputs) (suc i) a h e = input_is_array inputs i a h.1 e
 module _ (d : Declared) (inputs : Every IsInput d.inputs) where
   -- N7: in an element term a let is of an element
   let_of_element : (s : Around) (v b : Tree) (a : PlainTy) (n m : Annotation) → IsUnbrokenAt s (tree.Let v b) (Two a n m) → (s.in_element || is_element a) ≡ true → is_element (type_in n) ≡ true
-  let_of_element s v b a n m h c = negated (is_element (type_in n)) (spared (s.in_element || is_element a) (not (is_element (type_in n))) (not_right (s.in_argument && is_element (type_in n)) ((s.in_element || is_element a) && not (is_element (type_in n))) (h N7)) c)
+  let_of_element s v b a n m h c = not-false (is_element (type_in n)) (spared (s.in_element || is_element a) (not (is_element (type_in n))) (not_right (s.in_argument && is_element (type_in n)) ((s.in_element || is_element a) && not (is_element (type_in n))) (h N7)) c)
 
   -- N7: in an argument a let is of anything but an element
   let_of_view : (s : Around) (v b : Tree) (a : PlainTy) (n m : Annotation) → IsUnbrokenAt s (tree.Let v b) (Two a n m) → s.in_argument ≡ true → is_element (type_in n) ≡ false
@@ -139,7 +141,7 @@ let_stands v b a n m false e i c o r = inr (inr (told_ir false a i, told_ir fals
 
 -- N1, N7: a map, or a fold, isn't in an argument
 pub no_map : {A : Type 0} (s : Around) (j : MapKind) (xs b : Tree) (a : PlainTy) (n m : Annotation) → IsUnbrokenAt s (tree.Map j xs b) (Two a n m) → s.in_argument ≡ true → A
-no_map s j xs b a n m h w = true_is_not_false (not (is_plain j)) (denied (is_plain j) (h N1)) (not_left (not (is_plain j)) false (not_left (not (is_plain j) || false) false (spared s.in_argument _ (not_left _ _ (h N7)) w)))
+no_map s j xs b a n m h w = true_is_not_false (not (is_plain j)) (not_from_false (is_plain j) (h N1)) (not_left (not (is_plain j)) false (not_left (not (is_plain j) || false) false (spared s.in_argument _ (not_left _ _ (h N7)) w)))
 
 pub no_fold : {A : Type 0} (s : Around) (j : FoldKind) (xs x b : Tree) (a : PlainTy) (n m l : Annotation) → IsUnbrokenAt s (tree.Fold j xs x b) (Three a n m l) → s.in_argument ≡ true → A
 no_fold s fold_kind.Plain xs x b a n m l h w = true_is_not_false true refl (h N1)
@@ -212,7 +214,7 @@ module _ (d : Declared) (inputs : Every IsInput d.inputs) (ys : List ℕ) where
     written false s g (tree.Let v b) (Two a n m) y h k f w e =
         let_stands v b a n m (is_element (type_in n)) refl e
         (λ i. counted d inputs _ g v n y.0 h.1 k.0 (or_right (s.in_element || is_element a) (is_element (type_in n)) i) (no_array (type_in n) i))
-        (λ i. argued _ g v n y.0 h.1 k.0 f.1 (or_right s.in_argument (not (is_element (type_in n))) (denied (is_element (type_in n)) i)) i)
+        (λ i. argued _ g v n y.0 h.1 k.0 f.1 (or_right s.in_argument (not (is_element (type_in n))) (not_from_false (is_element (type_in n)) i)) i)
         (written (is_element (type_in m)) _ (type_in n ∷ g) b m y.1 h.2 k.1 f.2 (passes s.is_written (is_element a) w e) refl)
     written false s g (tree.Map j xs b) (Two a n m) y h k f w e =
         (argued _ g xs n y.2 h.1 k.0 f.1 (or_right s.in_argument true refl) (moved is_element false (type_in n) (types.ArrayOf _ _) y.3 refl), written (is_element (type_in m)) _ (y.0 ∷ g) b m y.4 h.2 k.1 f.2 refl refl)

@@ -1,5 +1,6 @@
 -- What a term without a broken rule is lowered to, for one work-item, has the forms of their places.
 use Rattle.std.proofs.Common.{◌≡◌, Bool, true, false, List, ◌∷◌, refl, sym, subst, inl, inr}
+use Rattle.std.proofs.lemmas.Bool.{not-false}
 use Rattle.std.specs.Prelude.{not, ◌&&◌, ◌||◌, if◌then◌else◌}
 use Rattle.lift_tree.specs.declared.term.UnaryForm.TheVariants as unary
 use Rattle.lift_tree.specs.declared.term.BinaryForm.TheVariants as binary
@@ -15,14 +16,15 @@ use Rattle.lift_ir.specs.Forms.{Stands}
 use Rattle.lift_ir.specs.Lowering as ir
 use Rattle.lift_ir.specs.Lowering.{Written, Argument, Element, element_ty, lower}
 use Rattle.lift_ir.specs.Lowerable.{IsStaged}
+use Rattle.lift_ir.proofs.Lets.{argument_let}
 use Rattle.lowered_tree.specs.declared.around.Around.{Around}
 use Rattle.lowered_tree.specs.declared.rule.NestRule.TheVariants.{N5, N10}
 use Rattle.lowered_tree.specs.Elements.{is_element}
 use Rattle.lowered_tree.specs.Forms.{shows_local_map}
 use Rattle.lowered_tree.specs.Kinds.{is_task}
-use Rattle.nest_premises.proofs.Rules.{AllUnbroken, moved, and_left, and_right, negated, not_right, from_ir, true_is_not_false}
+use Rattle.nest_premises.specs.Unbroken.{AllUnbroken}
+use Rattle.nest_premises.proofs.Rules.{moved, and_left, and_right, not_right, from_ir, true_is_not_false}
 use Rattle.nest_premises.proofs.Staged.{passes, refused}
-use Rattle.nest_premises.proofs.Lets.{argument_let}
 
 body_staged : (v b : Tree) (a : PlainTy) (n m : Annotation) → IsStaged Written (tree.Let v b) (Two a n m) → ir.is_element a ≡ false → IsStaged Written b m
 body_staged v b a n m (inl o) e = true_is_not_false (ir.is_element a) o.0 e
@@ -81,7 +83,7 @@ module _ (d : Declared) where
     argument_stands s g (tree.Unary (unary.Split fs) t) (One a n) y h o z = argument_stands _ g t n y.0 h.1 o z
     argument_stands s g (tree.Unary (unary.Slide j l) t) (One a n) y h o z = argument_stands _ g t n y.0 h.1 o z
     argument_stands s g (tree.Unary (unary.Pad j l) t) (One a n) y h o z = argument_stands _ g t n y.0 h.1 o z
-    argument_stands s g (tree.Unary unary.ToLocal t) (One a n) y h o z = shows_no_task t (negated (shows_local_map t) (not_right (not s.in_group || s.in_local) (not (shows_local_map t)) (h.0 N5))) z
+    argument_stands s g (tree.Unary unary.ToLocal t) (One a n) y h o z = shows_no_task t (not-false (shows_local_map t) (not_right (not s.in_group || s.in_local) (not (shows_local_map t)) (h.0 N5))) z
     argument_stands s g (tree.Unary unary.ToPrivate t) (One a n) y h o z = written_stands _ g t n y.0 h.1 o.3 z refl
     argument_stands s g (tree.Binary binary.Zip t u) (Two a n m) y h o z =
         (argument_stands _ g t n y.0 h.1 o.0 (and_left (is_task t) (is_task u) z), argument_stands _ g u m y.1 h.2 o.1 (and_right (is_task t) (is_task u) z))

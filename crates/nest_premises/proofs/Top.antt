@@ -1,5 +1,6 @@
 -- Which parallel map is on top of a term without a broken rule.
 use Rattle.std.proofs.Common.{◌≡◌, Bool, true, false, List, ◌∷◌, refl, inl, inr}
+use Rattle.std.proofs.lemmas.Bool.{or_left, or_right, not_from_false}
 use Rattle.std.specs.Prelude.{not, ◌&&◌, ◌||◌, ◌⊎◌, T}
 use Rattle.lift_tree.specs.declared.term.UnaryForm.TheVariants as unary
 use Rattle.lift_tree.specs.declared.term.BinaryForm.TheVariants as binary
@@ -18,7 +19,8 @@ use Rattle.lowered_tree.specs.declared.rule.NestRule.TheVariants.{N1, N2, N9, N1
 use Rattle.lowered_tree.specs.Elements.{is_element}
 use Rattle.lowered_tree.specs.Kinds.{is_global, is_over_groups, is_parallel, is_task}
 use Rattle.nest_premises.specs.Legal.{shows_map}
-use Rattle.nest_premises.proofs.Rules.{AllUnbroken, or_left, or_right, spared, denied, true_is_not_false, moved, from_ir}
+use Rattle.nest_premises.specs.Unbroken.{AllUnbroken}
+use Rattle.nest_premises.proofs.Rules.{spared, true_is_not_false, moved, from_ir}
 use Rattle.nest_premises.proofs.Staged.{passes, refused}
 use Rattle.nest_premises.proofs.Alone.{two, three, element_alone, argument_alone}
 
@@ -144,12 +146,12 @@ module _ (d : Declared) where
       with_value v b a n m (element_alone v n o.2) (of_a_kind _ (type_in n ∷ g) b m y.1 h.2 o.3 (passes s.is_written (is_element a) w (from_ir false a o.0)) i q k)
   of_a_kind s g (tree.Let v b) (Two a n m) y h (inr (inr o)) w i q k =
       with_value v b a n m
-      (argument_alone d _ g v n y.0 h.1 (or_right s.in_argument (not (is_element (type_in n))) (denied (is_element (type_in n)) (from_ir false (type_in n) o.1))) i q)
+      (argument_alone d _ g v n y.0 h.1 (or_right s.in_argument (not (is_element (type_in n))) (not_from_false (is_element (type_in n)) (from_ir false (type_in n) o.1))) i q)
       (of_a_kind _ (type_in n ∷ g) b m y.1 h.2 o.3 (passes s.is_written (is_element a) w (from_ir false a o.0)) i q k)
   of_a_kind s g (tree.Map map_kind.Plain xs b) (Two a n m) y h o w i q k = true_is_not_false true refl (h.0 N1)
   of_a_kind s g (tree.Map map_kind.Global xs b) (Two a n m) y h o w i q k = inr (inl tt)
   of_a_kind s g (tree.Map map_kind.WorkGroup xs b) (Two a n m) y h o w i q k = inr (inr tt)
-  of_a_kind s g (tree.Map map_kind.Local xs b) (Two a n m) y h o w i q k = true_is_not_false (not s.is_next_to_group) (denied s.is_next_to_group k) (h.0 N2)
+  of_a_kind s g (tree.Map map_kind.Local xs b) (Two a n m) y h o w i q k = true_is_not_false (not s.is_next_to_group) (not_from_false s.is_next_to_group k) (h.0 N2)
   of_a_kind s g (tree.Map map_kind.Sequential xs b) (Two a n m) y h o w i q k = go (of_a_kind _ (y.0 ∷ g) b m y.4 h.2 o.1 refl (neither s.in_item i) (nor s.in_group q) refl)
     where
       neither : (x : Bool) → x ≡ false → (x || false || false) ≡ false

@@ -5,7 +5,6 @@ use Rattle.std.proofs.Math.Nat.{mul-div-le, mod-eq-sub-mul-div}
 use Rattle.size_arith.specs.declared.names.Name.{Name}
 use Rattle.size_arith.specs.Ranges.{AreNames, IsName, IsAdmissible, Admissible, leasts}
 use Rattle.lift_tree.specs.Tree.{Tree}
-use Rattle.lift_tree.specs.Types as types
 use Rattle.lift_tree.specs.Types.{PlainTy, IsInput, IsOutput}
 use Rattle.lift_tree.specs.Lists.{Every}
 use Rattle.lift_tree.specs.InputTypes as input_type
@@ -18,6 +17,7 @@ use Rattle.lift_tree.specs.Annotations.{Annotation, type_in}
 use Rattle.kernel_tree.specs.Launch.{Launch}
 use Rattle.lift_ir.specs.Types.{IsFlat, IsShort, IsPlaced, size}
 use Rattle.lift_ir.specs.AtLaunch.{length_at, shape_of}
+use Rattle.lift_ir.specs.Forms.{Stands, StandsOverLaunch}
 use Rattle.lift_ir.specs.Lowering as ir
 use Rattle.lift_ir.specs.Lowerable.{IsStaged}
 use Rattle.lift_ir.proofs.Typed.{output_flat}
@@ -31,14 +31,15 @@ use Rattle.nest_premises.specs.Legal.{shows_global_map, IsLegalTerm}
 use Rattle.nest_premises.specs.Kind.{nest_kind}
 use Rattle.nest_premises.specs.declared.kind.NestKind.TheVariants.{Task}
 use Rattle.nest_premises.specs.Printable.{CanBeLowered, IsPrintable}
-use Rattle.nest_premises.specs.Laws.{LegalTermsCanBeLowered, KindsTellTasks, UngroupedTermsArePrintable, TasksArePrintable, LaunchesArePrintable}
+use Rattle.nest_premises.specs.Laws.{LegalTermsCanBeLowered, KindsTellTasks, UngroupedTermsArePrintable, TasksArePrintable, LaunchesArePrintable, LegalNestsAreUnbroken, TasksStand, LaunchesStand}
+use Rattle.nest_premises.specs.Unbroken.{AllUnbroken}
 use Rattle.nest_premises.proofs.Fits.{Fits}
-use Rattle.nest_premises.proofs.Rules.{AllUnbroken, all_unbroken}
+use Rattle.nest_premises.proofs.Rules.{all_unbroken}
 use Rattle.nest_premises.proofs.Staged.{written}
 use Rattle.nest_premises.proofs.Lowerable.{written_lowerable}
 use Rattle.nest_premises.proofs.Stands.{written_stands}
 use Rattle.nest_premises.proofs.Top.{Over, over_of, over_shows, over_no_task, global_parallel, IsOfAKind, of_a_kind}
-use Rattle.nest_premises.proofs.OfKinds.{task_kind, kind_of_task, groups_kind}
+use Rattle.nest_premises.proofs.OfKinds.{task_kind, kind_of_task, groups_kind, shown_launch}
 use Rattle.nest_premises.proofs.Launches.{over_launch}
 use Rattle.nest_premises.proofs.Limited.{IsFew, few_all, short, small, fits_in}
 
@@ -68,11 +69,6 @@ all_few names [] h = tt
 all_few names (i ∷ is) h = (few_scalars names i.ty h.0, all_few names is h.1)
 
 -- ---- a legal term
-
-pub no_element : (a : PlainTy) → IsOutput a → is_element a ≡ false
-no_element types.U32 h = absurd h
-no_element (types.PairOf a b) h = absurd h
-no_element (types.ArrayOf a n) h = refl
 
 module _ (p : PlainProgram) (t : Tree) (n : Annotation) (r : IsLegalTerm p t n) (copies : CopiesArrays t n) where
   abbrev d : Declared
@@ -115,13 +111,17 @@ module _ (p : PlainProgram) (t : Tree) (n : Annotation) (r : IsLegalTerm p t n) 
   printable : ((bases : List ℕ) (l : Launch) → IsLaunchOf d (is_task t) bases l → StandsAt l (lowered_root t n)) → IsPrintable d t n
   printable stands = record { staged = lowered.staged; lowerable = lowered.lowerable; fits = lowered.fits; stands = stands }
 
+  one_item : is_task t ≡ true → Stands true (lowered_root t n)
+  one_item z = written_stands d (at_root t) [] t n r.nodes unbroken staged z refl
+
+  all_items : Over is_global t n → StandsOverLaunch (lowered_root t n)
+  all_items e = over_launch d (at_root t) [] t n r.nodes unbroken staged (over_no_task is_global global_parallel t n e) refl e
+
   task : is_task t ≡ true → IsPrintable d t n
-  task z = printable (λ bases l k. inl (k.admissible.alone z, written_stands d (at_root t) [] t n r.nodes unbroken staged z refl))
+  task z = printable (λ bases l k. inl (k.admissible.alone z, one_item z))
 
   over : Over is_global t n → IsPrintable d t n
-  over e =
-      printable
-      (λ bases l k. inr (over_launch d (at_root t) [] t n r.nodes unbroken staged (over_no_task is_global global_parallel t n e) refl (no_element (type_in n) r.output) e))
+  over e = printable (λ bases l k. inr (all_items e))
 
   launch : shows_global_map t ≡ true → IsPrintable d t n
   launch e = over (over_of is_global d [] t n r.nodes e)
@@ -160,3 +160,12 @@ tasks_are_printable p t n r copies z = task p t n r copies z
 
 pub launches_are_printable : LaunchesArePrintable
 launches_are_printable p t n r copies e = launch p t n r copies e
+
+pub legal_nests_are_unbroken : LegalNestsAreUnbroken
+legal_nests_are_unbroken t n h = all_unbroken (at_root t) t n h
+
+pub tasks_stand : TasksStand
+tasks_stand p t n r copies e = one_item p t n r copies ((kind p t n r copies).0 e)
+
+pub launches_stand : LaunchesStand
+launches_stand p t n r copies e = all_items p t n r copies (over_of is_global (declared_by p) [] t n r.nodes (shown_launch t e))

@@ -1,15 +1,27 @@
--- Legal terms can be lowered and printed.
-use Rattle.std.specs.Prelude.{◌≡◌, ◌≢◌, ◌↔◌, true}
-use Rattle.lift_tree.specs.Tree.{Tree}
-use Rattle.lift_tree.specs.Typing.{declared_by}
+-- Legal terms can be lowered and printed; what stands for whom in them.
+use Rattle.std.specs.Prelude.{◌≡◌, ◌≢◌, ◌↔◌, true, false, List}
+use Rattle.lift_tree.specs.declared.term.MapKind.TheVariants.{Local}
+use Rattle.lift_tree.specs.Tree.{Tree, Let, Map}
+use Rattle.lift_tree.specs.Types.{PlainTy, IsElement}
+use Rattle.lift_tree.specs.Typing.{Declared, declared_by}
 use Rattle.lift_tree.specs.Programs.{PlainProgram}
-use Rattle.lift_tree.specs.Annotations.{Annotation}
+use Rattle.lift_tree.specs.Annotations.{Annotation, Two, type_in, Annotates}
+use Rattle.lift_ir.specs.Forms.{Stands, StandsOverLaunch}
+use Rattle.lift_ir.specs.Lowering as ir
+use Rattle.lift_ir.specs.Lowering.{Written, lower}
+use Rattle.lift_ir.specs.Lowerable.{IsStaged}
+use Rattle.printed_form.specs.Programs.{lowered_root}
+use Rattle.lowered_tree.specs.declared.around.Around.{Around}
+use Rattle.lowered_tree.specs.Around.{at_root}
+use Rattle.lowered_tree.specs.Elements.{is_element}
 use Rattle.lowered_tree.specs.Kinds.{is_task}
+use Rattle.lowered_tree.specs.Nest.{IsLegalNest}
 use Rattle.lowered_tree.specs.Copies.{CopiesArrays}
 use Rattle.nest_premises.specs.Legal.{IsLegalTerm, shows_global_map}
 use Rattle.nest_premises.specs.Kind.{nest_kind}
-use Rattle.nest_premises.specs.declared.kind.NestKind.TheVariants.{Task, OverGroups}
+use Rattle.nest_premises.specs.declared.kind.NestKind.TheVariants.{Task, OverLaunch, OverGroups}
 use Rattle.nest_premises.specs.Printable.{CanBeLowered, IsPrintable}
+use Rattle.nest_premises.specs.Unbroken.{AllUnbroken}
 
 -- a legal term, whatever its maps
 abbrev pub LegalTermsCanBeLowered : Type 0
@@ -30,3 +42,48 @@ TasksArePrintable = (p : PlainProgram) (t : Tree) (n : Annotation) → IsLegalTe
 -- a legal term with a map over all work-items on top
 abbrev pub LaunchesArePrintable : Type 0
 LaunchesArePrintable = (p : PlainProgram) (t : Tree) (n : Annotation) → IsLegalTerm p t n → CopiesArrays t n → shows_global_map t ≡ true → IsPrintable (declared_by p) t n
+
+-- ---- what stands for whom
+
+-- what a legal term for one work-item is lowered to
+abbrev pub TasksStand : Type 0
+TasksStand =
+    (p : PlainProgram) (t : Tree) (n : Annotation)
+    → IsLegalTerm p t n → CopiesArrays t n → nest_kind t ≡ Task → Stands true (lowered_root t n)
+
+-- and one for all work-items
+abbrev pub LaunchesStand : Type 0
+LaunchesStand =
+    (p : PlainProgram) (t : Tree) (n : Annotation)
+    → IsLegalTerm p t n → CopiesArrays t n → nest_kind t ≡ OverLaunch
+    → StandsOverLaunch (lowered_root t n)
+
+-- ---- at each node
+
+-- in a legal nest no rule is broken, at the root or below it
+abbrev pub LegalNestsAreUnbroken : Type 0
+LegalNestsAreUnbroken = (t : Tree) (n : Annotation) → IsLegalNest t n → AllUnbroken (at_root t) t n
+
+-- where no rule is broken, the body of a map over a group's items stands for one work-item
+abbrev pub ItemBodiesStand : Type 0
+ItemBodiesStand =
+    (d : Declared) (g : List PlainTy) (s : Around) (xs b : Tree) (a : PlainTy) (n m : Annotation)
+    → Annotates d g (Map Local xs b) (Two a n m) → AllUnbroken s (Map Local xs b) (Two a n m)
+    → IsStaged Written (Map Local xs b) (Two a n m) → Stands true (lower Written b m)
+
+-- and a let with a map over work-groups on top of its body binds no element
+abbrev pub LetsAroundGroupsBindNoElement : Type 0
+LetsAroundGroupsBindNoElement =
+    (d : Declared) (g : List PlainTy) (s : Around) (v b : Tree) (a : PlainTy) (n m : Annotation)
+    → Annotates d g (Let v b) (Two a n m) → AllUnbroken s (Let v b) (Two a n m)
+    → nest_kind b ≡ OverGroups → is_element (type_in n) ≡ false
+
+-- ---- element types
+
+-- the nest's rules and the lowering test for them alike
+abbrev pub ElementTestsAgree : Type 0
+ElementTestsAgree = (a : PlainTy) → ir.is_element a ≡ is_element a
+
+-- and each passes
+abbrev pub ElementTypesPass : Type 0
+ElementTypesPass = (a : PlainTy) → IsElement a → is_element a ≡ true

@@ -1,4 +1,5 @@
 pub mod Legal
 pub mod Kind
 pub mod Printable
+pub mod Unbroken
 pub mod Laws

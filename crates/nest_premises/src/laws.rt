@@ -1,6 +1,19 @@
 //! Laws of legal terms, each carried by a function that does nothing.
 
-ghost use Rattle.nest_premises.specs.Laws.{KindsTellTasks, LaunchesArePrintable, LegalTermsCanBeLowered, TasksArePrintable, UngroupedTermsArePrintable};
+ghost use Rattle.nest_premises.specs.Laws.{
+  ElementTestsAgree,
+  ElementTypesPass,
+  ItemBodiesStand,
+  KindsTellTasks,
+  LaunchesArePrintable,
+  LaunchesStand,
+  LegalNestsAreUnbroken,
+  LegalTermsCanBeLowered,
+  LetsAroundGroupsBindNoElement,
+  TasksArePrintable,
+  TasksStand,
+  UngroupedTermsArePrintable,
+};
 
 /// A legal term can be lowered, whatever its maps.
 pub fn legal_terms_can_be_lowered()
@@ -25,4 +38,36 @@ pub fn tasks_are_printable()
 /// A legal term with a map over all work-items on top can be printed, for all.
 pub fn launches_are_printable()
     ensures { LaunchesArePrintable }
+{}
+
+/// What a legal term for one work-item is lowered to stands for one.
+pub fn tasks_stand()
+    ensures { TasksStand }
+{}
+
+/// What a legal term for all work-items is lowered to stands over the launch.
+pub fn launches_stand()
+    ensures { LaunchesStand }
+{}
+
+/// In a legal nest no rule is broken at any node, walked from the root.
+pub fn legal_nests_are_unbroken()
+    ensures { LegalNestsAreUnbroken }
+{}
+
+/// Where no rule is broken, the body of a map over a group's items is lowered to what stands for
+/// one work-item.
+pub fn item_bodies_stand()
+    ensures { ItemBodiesStand }
+{}
+
+/// Where no rule is broken, a let with a map over work-groups on top of its body binds no element.
+pub fn lets_around_groups_bind_no_element()
+    ensures { LetsAroundGroupsBindNoElement }
+{}
+
+/// The rules of the nest and the lowering test for element types alike, and each such type passes.
+pub fn element_tests_agree()
+    ensures alike { ElementTestsAgree }
+    ensures passed { ElementTypesPass }
 {}

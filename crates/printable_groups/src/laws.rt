@@ -8,9 +8,9 @@ use group_grammar::laws::{group_kernels_are_of_the_grammar, needed_are_flagged};
 use group_premises::laws::legal_groups_stand_over_groups;
 use group_terms::laws::the_group_printer_prints;
 use kernel_limits::laws::{terms_can_be_written, terms_nest_within};
-use length_spelling::laws::{lengths_are_bounds, lengths_are_spelled};
 use nest_premises::laws::legal_terms_can_be_lowered;
-use sound_parts::laws::lowered_terms_have_sound_parts;
+use printable_terms::laws::{formulas_spell_lengths, sound_parts_are_spelled};
+use sound_parts::laws::{least_sizes_are_admissible, lowered_terms_have_sound_parts};
 
 /// A map over work-groups can be written.
 pub fn groups_can_be_written()
@@ -27,7 +27,7 @@ pub fn group_kernels_are_in_the_grammar()
     group_kernels_are_of_the_grammar();
     needed_are_flagged();
     groups_can_be_written();
-    lengths_are_bounds();
+    sound_parts_are_spelled();
     terms_nest_within();
 }
 
@@ -36,7 +36,7 @@ pub fn group_kernels_are_in_the_grammar()
 pub fn group_terms_are_printed()
     ensures { GroupTermsArePrinted }
 {
-    lengths_are_spelled();
+    formulas_spell_lengths();
     the_group_printer_prints();
 }
 
@@ -48,5 +48,6 @@ pub fn legal_group_kernels_are_in_the_grammar()
     group_kernels_are_in_the_grammar();
     legal_groups_stand_over_groups();
     legal_terms_can_be_lowered();
+    least_sizes_are_admissible();
     lowered_terms_have_sound_parts();
 }

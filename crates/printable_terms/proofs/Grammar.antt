@@ -2,27 +2,26 @@
 use Rattle.std.proofs.Common.{◌≡◌, ℕ, zero, suc, ◌<◌, List, [], ◌∷◌, length, refl, arith}
 use Rattle.size_arith.specs.declared.poly.Monomial.{Monomial}
 use Rattle.lift_tree.specs.Lists.{Every}
-use Rattle.lift_tree.specs.Tree.{Tree}
 use Rattle.lift_tree.specs.Types.{PlainTy}
 use Rattle.lift_tree.specs.Typing.{Declared}
-use Rattle.lift_tree.specs.Annotations.{Annotation, type_in}
+use Rattle.lift_tree.specs.Annotations.{type_in}
 use Rattle.kernel_tree.specs.Code.{Kernel}
 use Rattle.lift_ir.specs.Types.{Shape, Scalar, PairOf, ArrayOf}
 use Rattle.lift_ir.specs.Layouts.{Layout, Split, Join, Transpose, Slide, Pad}
 use Rattle.lift_ir.specs.Terms.{Term, Literal, Bound, Source, Apply, ApplyNumber, Select, Both, Project, Reshape, LetArray, LetElement, Map, Fold, Store, Copy}
 use Rattle.lift_ir.specs.AtLaunch.{shape_of}
 use Rattle.printed_form.specs.Programs.{input_shape, lowered_root}
-use Rattle.printed_grammar.specs.Sound.{IsSpelledIn, AllLengths, IsSoundLayout, IsSound}
+use Rattle.printed_grammar.specs.Sound.{AllLengths, IsSoundLayout, IsSound}
 use Rattle.printed_grammar.specs.Law.{IsSourceIn, KernelsAreOfTheGrammar}
 use Rattle.kernel_limits.specs.Within.{TermsNestWithin}
 use Rattle.length_spelling.specs.Formulas.{length_formula}
 use Rattle.length_spelling.specs.Laws.{LengthsAreBounds, length_height}
-use Rattle.printable_terms.specs.Sound.{IsHeld, IsHeldType}
-use Rattle.printable_terms.specs.Laws.{kernel_of_term, KernelsAreInTheGrammar}
+use Rattle.printable_terms.specs.Sound.{IsHeld, IsHeldType, IsLengthIn}
+use Rattle.printable_terms.specs.Laws.{kernel_of_term, SoundPartsAreSpelled, KernelsAreInTheGrammar}
 
 -- ---- sound by one measure, sound by a wider one
 module _ {A : Type 0} (P R : A → Type 0) (wider : (n : A) → P n → R n) where
-  pub lengths_wider : (s : Shape A) → AllLengths P s → AllLengths R s
+  lengths_wider : (s : Shape A) → AllLengths P s → AllLengths R s
   lengths_wider Scalar h = tt
   lengths_wider (PairOf a b) h = (lengths_wider a h.0, lengths_wider b h.1)
   lengths_wider (ArrayOf n a) h = (wider n h.0, lengths_wider a h.1)
@@ -35,7 +34,7 @@ module _ {A : Type 0} (P R : A → Type 0) (wider : (n : A) → P n → R n) whe
   layout_wider (Pad l r n) h = (h.0, wider n h.1)
 
   module _ (Q S : ℕ → Type 0) (sources : (s : ℕ) → Q s → S s) where
-    pub sound_wider : (t : Term A) → IsSound P Q t → IsSound R S t
+    sound_wider : (t : Term A) → IsSound P Q t → IsSound R S t
     sound_wider (Literal c) h = h
     sound_wider (Bound v) h = tt
     sound_wider (Source s) h = sources s h
@@ -53,42 +52,47 @@ module _ {A : Type 0} (P R : A → Type 0) (wider : (n : A) → P n → R n) whe
     sound_wider (Copy space ty a) h = (h.0, h.1, sound_wider a h.2, h.3, h.4)
 
 -- ---- inputs
-pub input_is_held : (tys : List PlainTy) (s : ℕ) → Every IsHeldType tys → s < length tys → (a : PlainTy) × (input_shape tys s ≡ shape_of a) × IsHeldType a
+input_is_held : (tys : List PlainTy) (s : ℕ) → Every IsHeldType tys → s < length tys → (a : PlainTy) × (input_shape tys s ≡ shape_of a) × IsHeldType a
 input_is_held [] s h lt = absurd (omega arith)
 input_is_held (a ∷ tys) zero h lt = (a, refl, h.0)
 input_is_held (a ∷ tys) (suc s) h lt = input_is_held tys s h.1 (omega arith)
 
 -- ---- the whole
-module _ (bounds : LengthsAreBounds) (d : Declared) (t : Tree) (n : Annotation) where
-  abbrev kernel : Kernel
-  kernel = kernel_of_term d t n
+module _ (bounds : LengthsAreBounds) (k : Kernel) (d : Declared) (sizes : k.sizes ≡ length d.names) where
+  spelled : (p : List Monomial) → IsHeld p → IsLengthIn k d p
+  spelled p h = let b = bounds d.names k p sizes h.terms h.degree in record { constant = b.constant; declared = b.declared; low = b.low }
 
-  spelled : (p : List Monomial) → IsHeld p → IsSpelledIn kernel length_height (length_formula d.names p)
-  spelled p h = let b = bounds d.names kernel p refl h.terms h.degree in record { constant = b.constant; declared = b.declared; low = b.low }
+  lengths_are_spelled : (s : Shape (List Monomial)) → AllLengths IsHeld s → AllLengths (IsLengthIn k d) s
+  lengths_are_spelled s h = lengths_wider IsHeld (IsLengthIn k d) spelled s h
 
-  abbrev Spelled : List Monomial → Type 0
-  Spelled p = IsSpelledIn kernel length_height (length_formula d.names p)
-
-  source : Every IsHeldType d.inputs → (s : ℕ) → s < length d.inputs → IsSourceIn kernel (length_formula d.names) length_height d s
+  source : Every IsHeldType d.inputs → (s : ℕ) → s < length d.inputs → IsSourceIn k (length_formula d.names) length_height d s
   source all s lt =
       let i = input_is_held d.inputs s all lt in
       record {
         declared = lt;
-        lengths = rw i.1 (lengths_wider IsHeld Spelled spelled (shape_of i.0) i.2.lengths);
+        lengths = rw i.1 (lengths_are_spelled (shape_of i.0) i.2.lengths);
         few = rw i.1 i.2.few;
       }
 
-pub in_the_grammar : KernelsAreOfTheGrammar → LengthsAreBounds → TermsNestWithin → KernelsAreInTheGrammar
-in_the_grammar grammar bounds nests d t n typed output staged written few low sound =
+pub parts_are_spelled : LengthsAreBounds → SoundPartsAreSpelled
+parts_are_spelled bounds k d t n sizes sound = record {
+  parts = sound_wider IsHeld (IsLengthIn k d) (spelled bounds k d sizes) (λ s. s < length d.inputs) (IsSourceIn k (length_formula d.names) length_height d) (source bounds k d sizes sound.inputs) (lowered_root t n) sound.parts;
+  output = lengths_are_spelled bounds k d sizes (shape_of (type_in n)) sound.output.lengths;
+  few = sound.output.few;
+}
+
+pub in_the_grammar : KernelsAreOfTheGrammar → SoundPartsAreSpelled → TermsNestWithin → KernelsAreInTheGrammar
+in_the_grammar grammar spelled nests d t n typed output staged written few low sound =
     let within = nests d 24 t n typed output staged written (omega arith) few low in
+    let has = spelled (kernel_of_term d t n) d t n refl sound in
     grammar (length_formula d.names) length_height 24 d t n (record {
       some = omega arith;
       fits = omega arith;
       written = written;
-      sound = sound_wider IsHeld (Spelled bounds d t n) (spelled bounds d t n) (λ s. s < length d.inputs) (IsSourceIn (kernel_of_term d t n) (length_formula d.names) length_height d) (source bounds d t n sound.inputs) (lowered_root t n) sound.parts;
+      sound = has.parts;
       layouts = within.0;
       low = within.1;
       loops = within.2;
-      lengths = lengths_wider IsHeld (Spelled bounds d t n) (spelled bounds d t n) (shape_of (type_in n)) sound.output.lengths;
-      few = sound.output.few;
+      lengths = has.output;
+      few = has.few;
     })

@@ -1,5 +1,7 @@
 -- What a typed term is printed as.
-use Rattle.std.specs.Prelude.{ℕ, ◌≡◌, ◌≤◌, List, [], true}
+use Rattle.std.specs.Prelude.{ℕ, ◌≡◌, ◌≤◌, List, [], length, true}
+use Rattle.size_arith.specs.declared.names.Name.{Name}
+use Rattle.size_arith.specs.Ranges.{AreNames, Admissible, sizes_at}
 use Rattle.lift_tree.specs.Tree.{Tree, height}
 use Rattle.lift_tree.specs.Types.{IsOutput}
 use Rattle.lift_tree.specs.Typing.{Declared}
@@ -11,15 +13,28 @@ use Rattle.lift_ir.specs.Lowering.{Written}
 use Rattle.lift_ir.specs.Lowerable.{IsStaged}
 use Rattle.lowered_tree.specs.Kinds.{is_task}
 use Rattle.buffer_allocation.specs.Layouts.{layouts}
-use Rattle.printed_form.specs.Programs.{IsLaunchOf, lowered_root, printed_kernel, Prints}
+use Rattle.printed_form.specs.Programs.{IsLaunchOf, IsSpelling, lowered_root, printed_kernel, Prints}
 use Rattle.printed_grammar.specs.Sound.{CanBeWritten}
 use Rattle.nest_premises.specs.Printable.{IsPrintable}
 use Rattle.length_spelling.specs.Formulas.{length_formula}
-use Rattle.printable_terms.specs.Sound.{HasSoundParts}
+use Rattle.printable_terms.specs.Sound.{HasSoundParts, HasSpelledParts}
 
 -- the kernel that a typed term is printed as
 abbrev pub kernel_of_term : Declared → Tree → Annotation → Kernel
 kernel_of_term d t n = printed_kernel (length_formula d.names) d t n
+
+-- at each admissible launch the formulas of lengths spell them
+abbrev pub FormulasSpellLengths : Type 0
+FormulasSpellLengths =
+    (names : List Name) (bases : List ℕ) (l : Launch)
+    → AreNames names → Admissible names bases → l.sizes ≡ sizes_at names bases
+    → IsSpelling (length_formula names) bases l
+
+-- in every kernel that has the program's sizes, the parts of a term of sound parts are spelled
+abbrev pub SoundPartsAreSpelled : Type 0
+SoundPartsAreSpelled =
+    (k : Kernel) (d : Declared) (t : Tree) (n : Annotation)
+    → k.sizes ≡ length d.names → HasSoundParts d t n → HasSpelledParts k d t n
 
 -- a typed term of sound parts, within the limits on layouts and height, is printed as a kernel of the kernel grammar
 abbrev pub KernelsAreInTheGrammar : Type 0

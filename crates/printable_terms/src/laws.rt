@@ -1,11 +1,26 @@
 //! Laws of the kernels that terms are printed as, each carried by a function that does nothing.
 
-ghost use Rattle.printable_terms.specs.Laws.{KernelsAreInTheGrammar, TermsArePrinted};
+ghost use Rattle.printable_terms.specs.Laws.{FormulasSpellLengths, KernelsAreInTheGrammar, SoundPartsAreSpelled, TermsArePrinted};
 
 use kernel_limits::laws::terms_nest_within;
 use length_spelling::laws::{lengths_are_bounds, lengths_are_spelled};
 use printed_form::laws::programs_are_printed;
 use printed_grammar::laws::kernels_are_of_the_grammar;
+
+/// At each admissible launch the formulas of lengths spell them.
+pub fn formulas_spell_lengths()
+    ensures { FormulasSpellLengths }
+{
+    lengths_are_spelled();
+}
+
+/// In every kernel that has a program's sizes, the inputs, the output and the lengths of a term of
+/// sound parts are spelled.
+pub fn sound_parts_are_spelled()
+    ensures { SoundPartsAreSpelled }
+{
+    lengths_are_bounds();
+}
 
 /// A typed term of sound parts, of at most 24 layouts and at most 512 high, is printed as a kernel
 /// of the kernel grammar.
@@ -13,7 +28,7 @@ pub fn kernels_are_in_the_grammar()
     ensures { KernelsAreInTheGrammar }
 {
     kernels_are_of_the_grammar();
-    lengths_are_bounds();
+    sound_parts_are_spelled();
     terms_nest_within();
 }
 
@@ -21,6 +36,6 @@ pub fn kernels_are_in_the_grammar()
 pub fn terms_are_printed()
     ensures { TermsArePrinted }
 {
-    lengths_are_spelled();
+    formulas_spell_lengths();
     programs_are_printed();
 }

@@ -12,8 +12,9 @@ use Rattle.printed_form.specs.Form.{start_of, stride_of}
 use Rattle.printed_form.specs.Views.{Sign, Blank, Held, Read, View, held_sign, held_view, loaded_view}
 use Rattle.printed_form.specs.Printer.{or_number, sign_exprs, print_assigned, print_reassigned, print_element, print_store, print_load, print_stored, print_loaded, print_fold_turn}
 use Rattle.printed_grammar.specs.Sound.{IsGood, IsSpelledIn, IsSound, expression_height}
+use Rattle.printed_grammar.specs.Views.{IsGoodSign, IsTargetSign, IsGoodView, IsTarget, AllReadWithin}
 use Rattle.printed_grammar.proofs.Expressions.{both, as_expression, good_number, or_good, some_higher, good_both, good_one, good_three, IsGoodSome}
-use Rattle.printed_grammar.proofs.Views.{IsGoodSign, IsTargetSign, IsGoodView, IsTarget, view_more, part_good, part_target, held_good, loaded_good}
+use Rattle.printed_grammar.proofs.Views.{view_more, part_good, part_target, held_good, loaded_good}
 
 module _ (k : Kernel) (S : ℕ) (one : 1 ≤ S) (small : S ≤ 1024) where
   -- statements within so many loops
@@ -27,17 +28,17 @@ module _ (k : Kernel) (S : ℕ) (one : 1 ≤ S) (small : S ≤ 1024) where
   assign_fine : (l v : ℕ) (e : Formula) (rest : Code) → v < k.variables → IsGood k l 1024 e → Fine l rest → Fine l (Assigns v e rest)
   assign_fine l v e rest lt g f = both (nat_lt v k.variables) _ (lt-ltb v k.variables lt) (both (is_expression k l e) _ (as_expression k l 1024 e (omega arith) g) f)
 
-  load_fine : (l v : ℕ) (s : Sign) (rest : Code) (n h : ℕ) → v < k.variables → h ≤ 1024 → IsGoodSign k S one n l h s → Fine l rest → Fine l (print_load s v rest)
+  load_fine : (l v : ℕ) (s : Sign) (rest : Code) (n h : ℕ) → v < k.variables → h ≤ 1024 → IsGoodSign k n l h s → Fine l rest → Fine l (print_load s v rest)
   load_fine l v Blank rest n h lt le g f = f
   load_fine l v (Held u) rest n h lt le g f = f
   load_fine l v (Read a i) rest n h lt le g f = both (nat_lt v k.variables) _ (lt-ltb v k.variables lt) (both (is_readable k a) _ g.0 (both (is_expression k l i) _ (as_expression k l h i le g.1) f))
 
-  store_fine : (l : ℕ) (s : Sign) (e : Formula) (rest : Code) (h : ℕ) → h ≤ 1024 → IsTargetSign k S one l h s → IsGood k l 1024 e → Fine l rest → Fine l (print_store s e rest)
+  store_fine : (l : ℕ) (s : Sign) (e : Formula) (rest : Code) (h : ℕ) → h ≤ 1024 → IsTargetSign k l h s → IsGood k l 1024 e → Fine l rest → Fine l (print_store s e rest)
   store_fine l Blank e rest h le g x f = absurd g
   store_fine l (Held u) e rest h le g x f = absurd g
   store_fine l (Read a i) e rest h le g x f = both (is_writable k a) _ g.0 (both (is_expression k l i) _ (as_expression k l h i le g.1) (both (is_expression k l e) _ (as_expression k l 1024 e (omega arith) x) f))
 
-  store_does : (l : ℕ) (s : Sign) (e : Formula) (rest : Code) (h : ℕ) → IsTargetSign k S one l h s → Does (print_store s e rest)
+  store_does : (l : ℕ) (s : Sign) (e : Formula) (rest : Code) (h : ℕ) → IsTargetSign k l h s → Does (print_store s e rest)
   store_does l Blank e rest h g = absurd g
   store_does l (Held u) e rest h g = absurd g
   store_does l (Read a i) e rest h g = refl
@@ -68,7 +69,7 @@ module _ (k : Kernel) (S : ℕ) (one : 1 ≤ S) (small : S ≤ 1024) where
   assigned_kept (PairOf a b) f n rest d = assigned_kept a (λ cs. f (false ∷ cs)) n (print_assigned b (λ cs. f (true ∷ cs)) (n + width a) rest) (assigned_kept b (λ cs. f (true ∷ cs)) (n + width a) rest d)
   assigned_kept (ArrayOf m t) f n rest d = d
 
-  held_low : (l h : ℕ) (s : Sign) → IsGoodSign k S one k.variables l h s → IsGoodSome k l 1 (held_sign s)
+  held_low : (l h : ℕ) (s : Sign) → IsGoodSign k k.variables l h s → IsGoodSome k l 1 (held_sign s)
   held_low l h Blank g = tt
   held_low l h (Held v) g = (lt-ltb v k.variables g, omega arith)
   held_low l h (Read a i) g = tt
@@ -88,14 +89,14 @@ module _ (k : Kernel) (S : ℕ) (one : 1 ≤ S) (small : S ≤ 1024) where
   reassigned_does (PairOf a b) f acc n e = assigned_does (PairOf a b) f n (print_assigned (PairOf a b) (λ cs. held_sign (held_view (PairOf a b) n cs [])) acc End) e
   reassigned_does (ArrayOf m t) f acc n e = absurd e
 
-  pub stored_fine : (l : ℕ) (ty : Ty) (f : List Bool → Option Formula) (w : View) (H : ℕ) (rest : Code) → S + H ≤ 1024 → IsTarget k S one l H w → AllSome l 1024 f → Fine l rest → Fine l (print_stored ty f w rest)
+  pub stored_fine : (l : ℕ) (ty : Ty) (f : List Bool → Option Formula) (w : View) (H : ℕ) (rest : Code) → S + H ≤ 1024 → IsTarget k S l H w → AllSome l 1024 f → Fine l rest → Fine l (print_stored ty f w rest)
   stored_fine l Scalar f w H rest le t g r = store_fine l (w [] []) (or_number (f [])) rest (S + H) le (t l S [] [] (omega arith) (omega arith) tt) (or_good k l 1024 (f []) (omega arith) (g [])) r
   stored_fine l (PairOf a b) f w H rest le t g r =
       stored_fine l a (λ cs. f (false ∷ cs)) (λ cs. w (false ∷ cs)) H (print_stored b (λ cs. f (true ∷ cs)) (λ cs. w (true ∷ cs)) rest) le (part_target k S one l H w false t) (λ cs. g (false ∷ cs))
       (stored_fine l b (λ cs. f (true ∷ cs)) (λ cs. w (true ∷ cs)) H rest le (part_target k S one l H w true t) (λ cs. g (true ∷ cs)) r)
   stored_fine l (ArrayOf m t1) f w H rest le t g r = r
 
-  pub stored_does : (l : ℕ) (ty : Ty) (f : List Bool → Option Formula) (w : View) (H : ℕ) (rest : Code) → IsElement ty → IsTarget k S one l H w → Does (print_stored ty f w rest)
+  pub stored_does : (l : ℕ) (ty : Ty) (f : List Bool → Option Formula) (w : View) (H : ℕ) (rest : Code) → IsElement ty → IsTarget k S l H w → Does (print_stored ty f w rest)
   stored_does l Scalar f w H rest e t = store_does l (w [] []) (or_number (f [])) rest (S + H) (t l S [] [] (omega arith) (omega arith) tt)
   stored_does l (PairOf a b) f w H rest e t = stored_does l a (λ cs. f (false ∷ cs)) (λ cs. w (false ∷ cs)) H (print_stored b (λ cs. f (true ∷ cs)) (λ cs. w (true ∷ cs)) rest) e.0 (part_target k S one l H w false t)
   stored_does l (ArrayOf m t1) f w H rest e t = absurd e
@@ -110,7 +111,7 @@ module _ (k : Kernel) (S : ℕ) (one : 1 ≤ S) (small : S ≤ 1024) where
   stored_kept (PairOf a b) f w rest d = stored_kept a (λ cs. f (false ∷ cs)) (λ cs. w (false ∷ cs)) (print_stored b (λ cs. f (true ∷ cs)) (λ cs. w (true ∷ cs)) rest) (stored_kept b (λ cs. f (true ∷ cs)) (λ cs. w (true ∷ cs)) rest d)
   stored_kept (ArrayOf m t) f w rest d = d
 
-  pub loads_fine : (l : ℕ) (ls : LoadSet) (x : View) (n p H : ℕ) (rest : Code) → S + H ≤ 1024 → n + load_count ls ≤ k.variables → IsGoodView k S one p l H x → Fine l rest → Fine l (print_loaded ls x n rest)
+  pub loads_fine : (l : ℕ) (ls : LoadSet) (x : View) (n p H : ℕ) (rest : Code) → S + H ≤ 1024 → n + load_count ls ≤ k.variables → IsGoodView k S p l H x → Fine l rest → Fine l (print_loaded ls x n rest)
   loads_fine l Skip x n p H rest le lt g f = f
   loads_fine l Take x n p H rest le lt g f = load_fine l n (x [] []) rest p (S + H) (omega arith) le (g l S [] [] (omega arith) (omega arith) tt) f
   loads_fine l (Each a b) x n p H rest le lt g f =
@@ -122,19 +123,24 @@ module _ (k : Kernel) (S : ℕ) (one : 1 ≤ S) (small : S ≤ 1024) where
   loads_does Take x n rest d = load_does (x [] []) n rest d
   loads_does (Each a b) x n rest d = loads_does a (λ cs. x (false ∷ cs)) n (print_loaded b (λ cs. x (true ∷ cs)) (n + load_count a) rest) (loads_does b (λ cs. x (true ∷ cs)) (n + load_count a) rest d)
 
-  -- ---- what stands for binders, each at most so much higher than its indices
-  abbrev pub AllViews : (l : ℕ) → (ℕ → ℕ) → (ℕ → View) → Type 0
-  AllViews l g env = (v : ℕ) → IsGoodView k S one k.variables l (8 + 3 * g v) (env v)
-
-  pub views_deeper : (l m : ℕ) (g : ℕ → ℕ) (env : ℕ → View) → l ≤ m → AllViews l g env → AllViews m g env
+  -- ---- what stands for binders
+  pub views_deeper : (l m : ℕ) (g : ℕ → ℕ) (env : ℕ → View) → l ≤ m → AllReadWithin k S l g env → AllReadWithin k S m g env
   views_deeper l m g env le h = λ v. view_more k S one k.variables k.variables l m (8 + 3 * g v) (8 + 3 * g v) (env v) (omega arith) le (omega arith) (h v)
 
-  pub pushed : (l : ℕ) (g : ℕ → ℕ) (env : ℕ → View) (j : ℕ) (x : View) → IsGoodView k S one k.variables l (8 + 3 * j) x → AllViews l g env → AllViews l (push j g) (push x env)
+  pub pushed : (l : ℕ) (g : ℕ → ℕ) (env : ℕ → View) (j : ℕ) (x : View) → IsGoodView k S k.variables l (8 + 3 * j) x → AllReadWithin k S l g env → AllReadWithin k S l (push j g) (push x env)
   pushed l g env j x h all zero = h
   pushed l g env j x h all (suc v) = all v
 
-  pub held_pushed : (l : ℕ) (g : ℕ → ℕ) (env : ℕ → View) (ty : Ty) (n : ℕ) → n + width ty ≤ k.variables → AllViews l g env → AllViews l (push 0 g) (push (held_view ty n) env)
+  pub held_pushed : (l : ℕ) (g : ℕ → ℕ) (env : ℕ → View) (ty : Ty) (n : ℕ) → n + width ty ≤ k.variables → AllReadWithin k S l g env → AllReadWithin k S l (push 0 g) (push (held_view ty n) env)
   held_pushed l g env ty n le all = pushed l g env 0 (held_view ty n) (held_good k S one ty n k.variables l (8 + 3 * 0) le) all
+
+  -- ---- loops
+  pub loop_fine : (l : ℕ) (kind : Kind) (b : Formula) (body rest : Code) → l < 1024 → IsSpelledIn k S b → Does body → Fine (suc l) body → Fine l rest → Fine l (Loops (start_of kind) b (stride_of kind) body rest)
+  loop_fine l kind b body rest lt s d f r =
+      both (nat_lt l deepest) _ (lt-ltb l 1024 lt)
+      (both (is_constant b) _ s.constant
+      (both (is_expression k l b) _ (as_expression k l S b small (s.declared l, s.low))
+      (both (has_statement body) _ d (both (are_statements k (suc l) body) _ f r))))
 
   module _ {A : Type 0} (P : A → Type 0) (Q : ℕ → Type 0) where
     high_some : (t : Term A) → 1 ≤ expression_height t
@@ -154,7 +160,7 @@ module _ (k : Kernel) (S : ℕ) (one : 1 ≤ S) (small : S ≤ 1024) where
     high_some (Store ty t) = omega arith
     high_some (Copy space ty a) = omega arith
 
-    exprs_good : (l n : ℕ) (g : ℕ → ℕ) (env : ℕ → View) (t : Term A) → AllViews l g env → n + let_variables t ≤ k.variables → IsSound P Q t → (cs : List Bool) → IsGoodSome k l (expression_height t) (sign_exprs env n t cs)
+    exprs_good : (l n : ℕ) (g : ℕ → ℕ) (env : ℕ → View) (t : Term A) → AllReadWithin k S l g env → n + let_variables t ≤ k.variables → IsSound P Q t → (cs : List Bool) → IsGoodSome k l (expression_height t) (sign_exprs env n t cs)
     exprs_good l n g env (Literal c) all le s cs = good_number k l 1 c s (omega arith)
     exprs_good l n g env (Bound v) all le s cs = held_low l (S + (8 + 3 * g v)) (env v cs []) (all v l S cs [] (omega arith) (omega arith) tt)
     exprs_good l n g env (Source v) all le s cs = tt
@@ -183,10 +189,10 @@ module _ (k : Kernel) (S : ℕ) (one : 1 ≤ S) (small : S ≤ 1024) where
     exprs_good l n g env (Store ty t) all le s cs = tt
     exprs_good l n g env (Copy space ty a) all le s cs = tt
 
-    pub all_exprs : (l n : ℕ) (g : ℕ → ℕ) (env : ℕ → View) (t : Term A) → AllViews l g env → n + let_variables t ≤ k.variables → IsSound P Q t → expression_height t ≤ 1024 → AllSome l 1024 (sign_exprs env n t)
+    pub all_exprs : (l n : ℕ) (g : ℕ → ℕ) (env : ℕ → View) (t : Term A) → AllReadWithin k S l g env → n + let_variables t ≤ k.variables → IsSound P Q t → expression_height t ≤ 1024 → AllSome l 1024 (sign_exprs env n t)
     all_exprs l n g env t all le s low = λ cs. some_higher k l (expression_height t) 1024 (sign_exprs env n t cs) low (exprs_good l n g env t all le s cs)
 
-    pub element_fine : (l n : ℕ) (g : ℕ → ℕ) (env : ℕ → View) (t : Term A) (rest : Code) → AllViews l g env → n + let_variables t ≤ k.variables → IsSound P Q t → expression_height t ≤ 1024 → Fine l rest → Fine l (print_element env n t rest)
+    pub element_fine : (l n : ℕ) (g : ℕ → ℕ) (env : ℕ → View) (t : Term A) (rest : Code) → AllReadWithin k S l g env → n + let_variables t ≤ k.variables → IsSound P Q t → expression_height t ≤ 1024 → Fine l rest → Fine l (print_element env n t rest)
     element_fine l n g env (Literal c) rest all le s low f = f
     element_fine l n g env (Bound v) rest all le s low f = f
     element_fine l n g env (Source v) rest all le s low f = f
@@ -233,15 +239,8 @@ module _ (k : Kernel) (S : ℕ) (one : 1 ≤ S) (small : S ≤ 1024) where
     element_kept n env (Store ty t) rest d = d
     element_kept n env (Copy space ty a) rest d = d
 
-    -- ---- loops
-    pub loop_fine : (l : ℕ) (kind : Kind) (b : Formula) (body rest : Code) → l < 1024 → IsSpelledIn k S b → Does body → Fine (suc l) body → Fine l rest → Fine l (Loops (start_of kind) b (stride_of kind) body rest)
-    loop_fine l kind b body rest lt s d f r =
-        both (nat_lt l deepest) _ (lt-ltb l 1024 lt)
-        (both (is_constant b) _ s.constant
-        (both (is_expression k l b) _ (as_expression k l S b small (s.declared l, s.low))
-        (both (has_statement body) _ d (both (are_statements k (suc l) body) _ f r))))
-
-    pub turn_fine : (l : ℕ) (g : ℕ → ℕ) (env : ℕ → View) (ls : LoadSet) (ty : Ty) (x : View) (H acc : ℕ) (b : Term A) → S + (8 + 3 * H) ≤ 1024 → AllViews l g env → IsGoodView k S one k.variables l (8 + 3 * H) x
+    -- ---- a fold's turns
+    pub turn_fine : (l : ℕ) (g : ℕ → ℕ) (env : ℕ → View) (ls : LoadSet) (ty : Ty) (x : View) (H acc : ℕ) (b : Term A) → S + (8 + 3 * H) ≤ 1024 → AllReadWithin k S l g env → IsGoodView k S k.variables l (8 + 3 * H) x
         → acc + (width ty + (load_count ls + (let_variables b + temporaries ty))) ≤ k.variables → IsSound P Q b → expression_height b ≤ 1024 → Fine l (print_fold_turn env ls ty x acc b)
     turn_fine l g env ls ty x H acc b low all good le s high =
         let accumulated = held_pushed l g env ty acc (omega arith) all in

@@ -2,4 +2,5 @@ pub mod Expressions
 pub mod Views
 pub mod Codes
 pub mod Terms
+pub mod Pieces
 pub mod Kernels

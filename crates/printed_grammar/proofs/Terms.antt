@@ -5,22 +5,23 @@ use Rattle.std.proofs.lemmas.Bool.{lt-ltb}
 use Rattle.kernel_tree.specs.Formula.{Formula, Number, LoopVariable}
 use Rattle.kernel_tree.specs.Code.{Private, Code, End, Loops, Kernel}
 use Rattle.kernel_tree.specs.Grammar.{is_readable}
-use Rattle.lift_ir.specs.Types.{Ty, Scalar, PairOf, ArrayOf, width}
+use Rattle.lift_ir.specs.Types.{Ty, width}
 use Rattle.lift_ir.specs.Terms.{Sequential, LocalMemory, PrivateMemory, Term, Literal, Bound, Source, Apply, ApplyNumber, Select, Both, Project, Reshape, LetArray, LetElement, Map, Fold, Store, Copy, push}
 use Rattle.printed_form.specs.Counts.{let_variables, load_count, variable_count, private_count}
 use Rattle.printed_form.specs.Form.{start_of, stride_of}
 use Rattle.printed_form.specs.Views.{View, held_sign, held_view, loaded_view, view_at, operand_indices, result_indices, laid_view}
 use Rattle.printed_form.specs.Printer.{sign_exprs, print_assigned, print_element, print_stored, print_loaded, print_fold_turn, argument_view, print_argument, print_written}
 use Rattle.printed_grammar.specs.Sound.{IsSpelledIn, AllLengths, IsSound, dimensions, stacked, IsReadWithin, IsWrittenWithin, loop_depth, AreLow, CanBeWritten, CanBeRead}
-use Rattle.printed_grammar.proofs.Views.{IsGoodView, IsTarget, view_more, target_within, blank_good, sides_good, part_good, turned_good, turned_target, first_target, loaded_good, Spelled, reshaped_good, reshaped_target, placed_good, placed_target}
-use Rattle.printed_grammar.proofs.Codes.{Fine, Does, AllViews, views_deeper, pushed, held_pushed, assigned_fine, assigned_kept, held_all, stored_fine, stored_does, stored_kept, loads_fine, loads_does, all_exprs, element_fine, element_kept, loop_fine, turn_fine, turn_does}
+use Rattle.printed_grammar.specs.Views.{IsGoodView, IsTarget, AllReadWithin}
+use Rattle.printed_grammar.proofs.Views.{view_more, target_within, blank_good, sides_good, part_good, turned_good, turned_target, first_target, loaded_good, reshaped_good, reshaped_target, laid_reads, laid_fills}
+use Rattle.printed_grammar.proofs.Codes.{Fine, Does, views_deeper, pushed, held_pushed, assigned_fine, assigned_kept, held_all, stored_fine, stored_does, stored_kept, loads_fine, loads_does, all_exprs, element_fine, element_kept, loop_fine, turn_fine, turn_does}
 
-module _ (k : Kernel) (S : ℕ) (one : 1 ≤ S) (small : S ≤ 1024) {A : Type 0} (spell : A → Formula) (ins : ℕ → View) (Q : ℕ → Type 0) (inputs : (s : ℕ) → Q s → IsGoodView k S one k.variables 0 8 (ins s)) (M : ℕ) (low : S + (8 + 3 * M) ≤ 1024) where
+module _ (k : Kernel) (S : ℕ) (one : 1 ≤ S) (small : S ≤ 1024) {A : Type 0} (spell : A → Formula) (ins : ℕ → View) (Q : ℕ → Type 0) (inputs : (s : ℕ) → Q s → IsGoodView k S k.variables 0 8 (ins s)) (M : ℕ) (low : S + (8 + 3 * M) ≤ 1024) where
   abbrev Sp : A → Type 0
   Sp n = IsSpelledIn k S (spell n)
 
   abbrev Views : ℕ → (ℕ → ℕ) → (ℕ → View) → Type 0
-  Views l g env = AllViews k S one small l g env
+  Views l g env = AllReadWithin k S l g env
 
   abbrev viewed : (ℕ → View) → ℕ → Term A → View
   viewed env a t = argument_view spell ins env a t
@@ -28,30 +29,17 @@ module _ (k : Kernel) (S : ℕ) (one : 1 ≤ S) (small : S ≤ 1024) {A : Type 0
   is_private : (p : ℕ) → p < length k.privates → is_readable k (Private p) ≡ true
   is_private p lt = lt-ltb p (length k.privates) lt
 
-  -- arrays of literal lengths
-  number_spelled : (n : ℕ) → n < 2 ^ 32 → IsSpelledIn k S (Number n)
-  number_spelled n lt = record { constant = refl; declared = λ l. lt-ltb n (2 ^ 32) lt; low = one }
+  laid_good : (p : ℕ) (ty : Ty) (l : ℕ) → p + width ty ≤ length k.privates → AllLengths (λ n. n < 2 ^ 32) ty → dimensions ty ≤ 4 → IsGoodView k S k.variables l (8 + 3 * 0) (laid_view Private p ty)
+  laid_good p ty l le h d = laid_reads k S one Private p ty l (λ c lt. is_private (p + c) (omega arith)) h d
 
-  pub all_spelled : (t : Ty) → AllLengths (λ n. n < 2 ^ 32) t → AllLengths (Spelled k S one Number) t
-  all_spelled Scalar h = tt
-  all_spelled (PairOf a b) h = (all_spelled a h.0, all_spelled b h.1)
-  all_spelled (ArrayOf n t) h = (number_spelled n h.0, all_spelled t h.1)
+  laid_target : (p : ℕ) (ty : Ty) (l : ℕ) → p + width ty ≤ length k.privates → AllLengths (λ n. n < 2 ^ 32) ty → dimensions ty ≤ 4 → IsTarget k S l (8 + 3 * 0) (laid_view Private p ty)
+  laid_target p ty l le h d = laid_fills k S one Private p ty l (λ c lt. is_private (p + c) (omega arith)) h d
 
-  laid_good : (p : ℕ) (ty : Ty) (l : ℕ) → p + width ty ≤ length k.privates → AllLengths (λ n. n < 2 ^ 32) ty → dimensions ty ≤ 4 → IsGoodView k S one k.variables l (8 + 3 * 0) (laid_view Private p ty)
-  laid_good p ty l le h d =
-      view_more k S one k.variables k.variables l l (2 * dimensions ty) (8 + 3 * 0) (laid_view Private p ty) (omega arith) (omega arith) (omega arith)
-      (placed_good k S one Number Private p ty k.variables l (λ c lt. is_private (p + c) (omega arith)) (all_spelled ty h))
-
-  laid_target : (p : ℕ) (ty : Ty) (l : ℕ) → p + width ty ≤ length k.privates → AllLengths (λ n. n < 2 ^ 32) ty → dimensions ty ≤ 4 → IsTarget k S one l (8 + 3 * 0) (laid_view Private p ty)
-  laid_target p ty l le h d =
-      target_within k S one l l (2 * dimensions ty) (8 + 3 * 0) (laid_view Private p ty) (omega arith) (omega arith)
-      (placed_target k S one Number Private p ty l (λ c lt. is_private (p + c) (omega arith)) (all_spelled ty h))
-
-  higher : (l H I : ℕ) (v : View) → H ≤ I → IsGoodView k S one k.variables l H v → IsGoodView k S one k.variables l I v
+  higher : (l H I : ℕ) (v : View) → H ≤ I → IsGoodView k S k.variables l H v → IsGoodView k S k.variables l I v
   higher l H I v le g = view_more k S one k.variables k.variables l l H I v (omega arith) (omega arith) le g
 
   -- what stands for an argument
-  pub viewed_good : (l : ℕ) (g : ℕ → ℕ) (env : ℕ → View) (a : ℕ) (t : Term A) → Views l g env → a + private_count t ≤ length k.privates → IsSound Sp Q t → IsGoodView k S one k.variables l (8 + 3 * stacked g t) (viewed env a t)
+  pub viewed_good : (l : ℕ) (g : ℕ → ℕ) (env : ℕ → View) (a : ℕ) (t : Term A) → Views l g env → a + private_count t ≤ length k.privates → IsSound Sp Q t → IsGoodView k S k.variables l (8 + 3 * stacked g t) (viewed env a t)
   viewed_good l g env a (Literal c) all le s = blank_good k S one k.variables l (8 + 3 * 0)
   viewed_good l g env a (Bound v) all le s = all v
   viewed_good l g env a (Source v) all le s = view_more k S one k.variables k.variables 0 l 8 (8 + 3 * 0) (ins v) (omega arith) (omega arith) (omega arith) (inputs v s)
@@ -135,7 +123,7 @@ module _ (k : Kernel) (S : ℕ) (one : 1 ≤ S) (small : S ≤ 1024) {A : Type 0
     written_kept d env a n (Copy space ty x) w rest r = r
 
   -- a term that can be written has a statement
-  pub written_does : (d : ℕ) (env : ℕ → View) (a n : ℕ) (t : Term A) (w : View) (W : ℕ) (rest : Code) → CanBeWritten t → IsSound Sp Q t → IsTarget k S one d W w → Does k S one small (print_written spell ins d env a n t w rest)
+  pub written_does : (d : ℕ) (env : ℕ → View) (a n : ℕ) (t : Term A) (w : View) (W : ℕ) (rest : Code) → CanBeWritten t → IsSound Sp Q t → IsTarget k S d W w → Does k S one small (print_written spell ins d env a n t w rest)
   written_does d env a n (Literal c) w W rest can s g = absurd can
   written_does d env a n (Bound v) w W rest can s g = absurd can
   written_does d env a n (Source v) w W rest can s g = absurd can
@@ -205,7 +193,7 @@ module _ (k : Kernel) (S : ℕ) (one : 1 ≤ S) (small : S ≤ 1024) {A : Type 0
     argument_fine d g env a n (Copy PrivateMemory ty x) rest all can s most low deep vars priv f =
         written_fine d g env a n x (laid_view Private (a + private_count x) ty) 0 rest all (laid_target (a + private_count x) ty d (omega arith) s.0 s.1) can s.2 most low deep vars (omega arith) f
 
-    pub written_fine : (d : ℕ) (g : ℕ → ℕ) (env : ℕ → View) (a n : ℕ) (t : Term A) (w : View) (W : ℕ) (rest : Code) → Views d g env → IsTarget k S one d (8 + 3 * W) w → CanBeWritten t → IsSound Sp Q t → IsWrittenWithin M g W t → AreLow 1024 t → d + loop_depth t ≤ 1024
+    pub written_fine : (d : ℕ) (g : ℕ → ℕ) (env : ℕ → View) (a n : ℕ) (t : Term A) (w : View) (W : ℕ) (rest : Code) → Views d g env → IsTarget k S d (8 + 3 * W) w → CanBeWritten t → IsSound Sp Q t → IsWrittenWithin M g W t → AreLow 1024 t → d + loop_depth t ≤ 1024
         → n + variable_count t ≤ k.variables → a + private_count t ≤ length k.privates → Right d rest → Right d (print_written spell ins d env a n t w rest)
     written_fine d g env a n (Literal c) w W rest all tg can s most low deep vars priv f = absurd can
     written_fine d g env a n (Bound v) w W rest all tg can s most low deep vars priv f = absurd can
@@ -239,7 +227,7 @@ module _ (k : Kernel) (S : ℕ) (one : 1 ≤ S) (small : S ≤ 1024) {A : Type 0
         let good = turned_good k S one k.variables d (8 + 3 * stacked g x) (viewed env a x) (viewed_good d g env a x all (omega arith) s.1) in
         let inner = pushed k S one small (suc d) g env (stacked g x) (loaded_view ls x1 N) (loaded_good k S one ls x1 N k.variables k.variables (suc d) (8 + 3 * stacked g x) (omega arith) (omega arith) good) (views_deeper k S one small d (suc d) g env (omega arith) all) in
         let turned = turned_target k S one d (8 + 3 * W) w tg in
-        loop_fine k S one small Sp Q d kind (spell m) (print_loaded ls x1 N (print_written spell ins (suc d) (push (loaded_view ls x1 N) env) (a + private_count x) (N + load_count ls) b (view_at (LoopVariable d) w) End)) rest (omega arith) s.0
+        loop_fine k S one small d kind (spell m) (print_loaded ls x1 N (print_written spell ins (suc d) (push (loaded_view ls x1 N) env) (a + private_count x) (N + load_count ls) b (view_at (LoopVariable d) w) End)) rest (omega arith) s.0
         (loads_does k S one small ls x1 N (print_written spell ins (suc d) (push (loaded_view ls x1 N) env) (a + private_count x) (N + load_count ls) b (view_at (LoopVariable d) w) End)
         (written_does (suc d) (push (loaded_view ls x1 N) env) (a + private_count x) (N + load_count ls) b (view_at (LoopVariable d) w) (8 + 3 * W) End can.1 s.2 turned))
         (loads_fine k S one small (suc d) ls x1 N k.variables (8 + 3 * stacked g x) (print_written spell ins (suc d) (push (loaded_view ls x1 N) env) (a + private_count x) (N + load_count ls) b (view_at (LoopVariable d) w) End) fits (omega arith) good
@@ -255,7 +243,7 @@ module _ (k : Kernel) (S : ℕ) (one : 1 ≤ S) (small : S ≤ 1024) {A : Type 0
         argument_fine d g env a n x (print_element env N s1 (print_assigned ty (sign_exprs env N s1) acc loop)) all can s.2 most.2 high.0 (omega arith) (omega arith) (omega arith)
         (element_fine k S one small Sp Q d N g env s1 (print_assigned ty (sign_exprs env N s1) acc loop) all (omega arith) s.3 high.1
         (assigned_fine k S one small d ty (sign_exprs env N s1) acc loop (omega arith) (all_exprs k S one small Sp Q d N g env s1 all (omega arith) s.3 high.1)
-        (loop_fine k S one small Sp Q d Sequential (spell m) (print_fold_turn env ls ty x1 acc b) stored (omega arith) s.0
+        (loop_fine k S one small d Sequential (spell m) (print_fold_turn env ls ty x1 acc b) stored (omega arith) s.0
         (turn_does k S one small Sp Q env ls ty x1 acc b s.1)
         (turn_fine k S one small Sp Q (suc d) g env ls ty x1 (stacked g x) acc b fits (views_deeper k S one small d (suc d) g env (omega arith) all) good (omega arith) s.4 high.2)
         (stored_fine k S one small d ty (λ cs. held_sign (held_view ty acc cs [])) (view_at (Number 0) w) (8 + 3 * W) rest (let e = most.0 in omega arith) (first_target k S one d (8 + 3 * W) w tg) (held_all k S one small d ty acc (omega arith)) f))))

@@ -1,5 +1,5 @@
 -- What views stand for is of the kernel grammar.
-use Rattle.std.proofs.Common.{◌≡◌, ℕ, suc, ◌+◌, ◌*◌, ◌<◌, ◌≤◌, Bool, true, false, List, [], ◌∷◌, refl, arith}
+use Rattle.std.proofs.Common.{◌≡◌, ℕ, suc, ◌+◌, ◌*◌, ◌<◌, ◌≤◌, ◌^◌, Bool, true, false, List, [], ◌∷◌, refl, arith}
 use Rattle.std.specs.Prelude.{max, ◌&&◌, if◌then◌else◌}
 use Rattle.scalar_ops.specs.declared.op.Op.TheVariants.{Add, Sub, Mul, Min, Max, Div, Rem}
 use Rattle.kernel_tree.specs.Formula.{Formula, Number, Variable, LoopVariable, Size, Id, Binary, Choose}
@@ -11,88 +11,67 @@ use Rattle.lift_ir.specs.Layouts.{Layout, Split, Join, Transpose, Slide, Pad}
 use Rattle.lift_ir.specs.Terms.{LoadSet, Skip, Take, Each}
 use Rattle.lift_ir.specs.Scalars.{by_side}
 use Rattle.printed_form.specs.Counts.{load_count}
-use Rattle.printed_form.specs.Views.{Sign, Blank, Held, Read, View, held_sign, held_view, loaded_view, view_at, are_parts, dividend, cell_in_rows, operand_indices, result_indices, index_from, index_in, placed_view}
+use Rattle.printed_form.specs.Views.{Sign, Blank, Held, Read, View, held_sign, held_view, loaded_view, view_at, are_parts, dividend, cell_in_rows, operand_indices, result_indices, index_from, index_in, placed_view, laid_view}
 use Rattle.printed_grammar.specs.Sound.{IsGood, IsSpelledIn, AllLengths, IsSoundLayout, dimensions}
+use Rattle.printed_grammar.specs.Views.{AllGood, IsGoodSign, IsTargetSign, IsGoodView, IsTarget, ReadsWithin, FillsWithin}
 use Rattle.printed_grammar.proofs.Expressions.{first_of, second_of, good_higher, good_number, good_binary, IsGoodSome}
 
 module _ (k : Kernel) (S : ℕ) (one : 1 ≤ S) where
-  abbrev pub AllGood : (l h : ℕ) → List Formula → Type 0
-  AllGood l h [] = Unit {0}
-  AllGood l h (i ∷ is) = IsGood k l h i × AllGood l h is
-
-  pub all_higher : (l h i : ℕ) (is : List Formula) → h ≤ i → AllGood l h is → AllGood l i is
+  pub all_higher : (l h i : ℕ) (is : List Formula) → h ≤ i → AllGood k l h is → AllGood k l i is
   all_higher l h i [] le g = tt
   all_higher l h i (e ∷ es) le g = (good_higher k l h i e le g.0, all_higher l h i es le g.1)
 
-  -- with so many variables
-  abbrev pub IsGoodSign : (n l h : ℕ) → Sign → Type 0
-  IsGoodSign n l h Blank = Unit {0}
-  IsGoodSign n l h (Held v) = v < n
-  IsGoodSign n l h (Read a i) = (is_readable k a ≡ true) × IsGood k l h i
-
-  abbrev pub IsTargetSign : (l h : ℕ) → Sign → Type 0
-  IsTargetSign l h Blank = ⊥
-  IsTargetSign l h (Held v) = ⊥
-  IsTargetSign l h (Read a i) = (is_writable k a ≡ true) × IsGood k l h i
-
-  sign_more : (n m l h i : ℕ) (s : Sign) → n ≤ m → h ≤ i → IsGoodSign n l h s → IsGoodSign m l i s
+  sign_more : (n m l h i : ℕ) (s : Sign) → n ≤ m → h ≤ i → IsGoodSign k n l h s → IsGoodSign k m l i s
   sign_more n m l h i Blank le lh g = tt
   sign_more n m l h i (Held v) le lh g = omega arith
   sign_more n m l h i (Read a e) le lh g = (g.0, good_higher k l h i e lh g.1)
 
-  target_more : (l h i : ℕ) (s : Sign) → h ≤ i → IsTargetSign l h s → IsTargetSign l i s
+  target_more : (l h i : ℕ) (s : Sign) → h ≤ i → IsTargetSign k l h s → IsTargetSign k l i s
   target_more l h i Blank lh g = absurd g
   target_more l h i (Held v) lh g = absurd g
   target_more l h i (Read a e) lh g = (g.0, good_higher k l h i e lh g.1)
 
-  -- a view adds at most H to the height of its indices, from so many loops on
-  abbrev pub IsGoodView : (n L H : ℕ) → View → Type 0
-  IsGoodView n L H v = (l h : ℕ) (cs : List Bool) (is : List Formula) → L ≤ l → S ≤ h → AllGood l h is → IsGoodSign n l (h + H) (v cs is)
-
-  abbrev pub IsTarget : (L H : ℕ) → View → Type 0
-  IsTarget L H v = (l h : ℕ) (cs : List Bool) (is : List Formula) → L ≤ l → S ≤ h → AllGood l h is → IsTargetSign l (h + H) (v cs is)
-
-  pub view_more : (n m L M H I : ℕ) (v : View) → n ≤ m → L ≤ M → H ≤ I → IsGoodView n L H v → IsGoodView m M I v
+  pub view_more : (n m L M H I : ℕ) (v : View) → n ≤ m → L ≤ M → H ≤ I → IsGoodView k S n L H v → IsGoodView k S m M I v
   view_more n m L M H I v le lm lh g = λ l h cs is a b c. sign_more n m l (h + H) (h + I) (v cs is) le (omega arith) (g l h cs is (omega arith) b c)
 
-  pub target_within : (L M H I : ℕ) (v : View) → L ≤ M → H ≤ I → IsTarget L H v → IsTarget M I v
+  pub target_within : (L M H I : ℕ) (v : View) → L ≤ M → H ≤ I → IsTarget k S L H v → IsTarget k S M I v
   target_within L M H I v lm lh g = λ l h cs is a b c. target_more l (h + H) (h + I) (v cs is) (omega arith) (g l h cs is (omega arith) b c)
 
-  pub blank_good : (n L H : ℕ) → IsGoodView n L H (λ cs is. Blank)
+  pub blank_good : (n L H : ℕ) → IsGoodView k S n L H (λ cs is. Blank)
   blank_good n L H = λ l h cs is a b c. tt
 
-  pub sides_good : (n L H : ℕ) (x y : View) → IsGoodView n L H x → IsGoodView n L H y → IsGoodView n L H (by_side (λ is. Blank) x y)
+  pub sides_good : (n L H : ℕ) (x y : View) → IsGoodView k S n L H x → IsGoodView k S n L H y → IsGoodView k S n L H (by_side (λ is. Blank) x y)
   sides_good n L H x y g w = go where
-    go : IsGoodView n L H (by_side (λ is. Blank) x y)
+    go : IsGoodView k S n L H (by_side (λ is. Blank) x y)
     go l h [] is a b c = tt
     go l h (false ∷ cs) is a b c = g l h cs is a b c
     go l h (true ∷ cs) is a b c = w l h cs is a b c
 
-  pub part_good : (n L H : ℕ) (x : View) (s : Bool) → IsGoodView n L H x → IsGoodView n L H (λ cs is. x (s ∷ cs) is)
+  pub part_good : (n L H : ℕ) (x : View) (s : Bool) → IsGoodView k S n L H x → IsGoodView k S n L H (λ cs is. x (s ∷ cs) is)
   part_good n L H x s g = λ l h cs is a b c. g l h (s ∷ cs) is a b c
 
-  pub part_target : (L H : ℕ) (x : View) (s : Bool) → IsTarget L H x → IsTarget L H (λ cs is. x (s ∷ cs) is)
+  pub part_target : (L H : ℕ) (x : View) (s : Bool) → IsTarget k S L H x → IsTarget k S L H (λ cs is. x (s ∷ cs) is)
   part_target L H x s g = λ l h cs is a b c. g l h (s ∷ cs) is a b c
 
   loop_good : (l L h : ℕ) → L < l → 1 ≤ h → IsGood k l h (LoopVariable L)
   loop_good l L h lt p = (lt-ltb L l lt, p)
 
-  pub turned_good : (n L H : ℕ) (x : View) → IsGoodView n L H x → IsGoodView n (suc L) H (view_at (LoopVariable L) x)
+  pub turned_good : (n L H : ℕ) (x : View) → IsGoodView k S n L H x → IsGoodView k S n (suc L) H (view_at (LoopVariable L) x)
   turned_good n L H x g = λ l h cs is a b c. g l h cs (LoopVariable L ∷ is) (omega arith) b (loop_good l L h (omega arith) (omega arith), c)
 
-  pub turned_target : (L H : ℕ) (x : View) → IsTarget L H x → IsTarget (suc L) H (view_at (LoopVariable L) x)
+  pub turned_target : (L H : ℕ) (x : View) → IsTarget k S L H x → IsTarget k S (suc L) H (view_at (LoopVariable L) x)
   turned_target L H x g = λ l h cs is a b c. g l h cs (LoopVariable L ∷ is) (omega arith) b (loop_good l L h (omega arith) (omega arith), c)
 
-  pub first_target : (L H : ℕ) (x : View) → IsTarget L H x → IsTarget L H (view_at (Number 0) x)
+  pub first_target : (L H : ℕ) (x : View) → IsTarget k S L H x → IsTarget k S L H (view_at (Number 0) x)
   first_target L H x g = λ l h cs is a b c. g l h cs (Number 0 ∷ is) a b (good_number k l h 0 (omega arith) (omega arith), c)
 
   -- ---- variables
-  pub held_good : (ty : Ty) (n m L H : ℕ) → n + width ty ≤ m → IsGoodView m L H (held_view ty n)
+  pub held_good : (ty : Ty) (n m L H : ℕ) → n + width ty ≤ m → IsGoodView k S m L H (held_view ty n)
   held_good Scalar n m L H le = λ l h cs is a b c. omega arith
   held_good (PairOf x y) n m L H le = sides_good m L H (held_view x n) (held_view y (n + width x)) (held_good x n m L H (omega arith)) (held_good y (n + width x) m L H (omega arith))
   held_good (ArrayOf j t) n m L H le = blank_good m L H
 
-  pub loaded_good : (ls : LoadSet) (x : View) (n m p L H : ℕ) → p ≤ m → n + load_count ls ≤ m → IsGoodView p L H x → IsGoodView m L H (loaded_view ls x n)
+  pub loaded_good : (ls : LoadSet) (x : View) (n m p L H : ℕ) → p ≤ m → n + load_count ls ≤ m → IsGoodView k S p L H x → IsGoodView k S m L H (loaded_view ls x n)
   loaded_good Skip x n m p L H pm le g = view_more p m L L H H x pm (omega arith) (omega arith) g
   loaded_good Take x n m p L H pm le g = λ l h cs is a b c. omega arith
   loaded_good (Each y z) x n m p L H pm le g =
@@ -100,7 +79,7 @@ module _ (k : Kernel) (S : ℕ) (one : 1 ≤ S) where
       (loaded_good y (λ cs. x (false ∷ cs)) n m p L H pm (omega arith) (part_good p L H x false g))
       (loaded_good z (λ cs. x (true ∷ cs)) (n + load_count y) m p L H pm (omega arith) (part_good p L H x true g))
 
-  pub held_some : (n l h : ℕ) (s : Sign) → n ≤ k.variables → 1 ≤ h → IsGoodSign n l h s → IsGoodSome k l h (held_sign s)
+  pub held_some : (n l h : ℕ) (s : Sign) → n ≤ k.variables → 1 ≤ h → IsGoodSign k n l h s → IsGoodSome k l h (held_sign s)
   held_some n l h Blank le p g = tt
   held_some n l h (Held v) le p g = (lt-ltb v k.variables (omega arith), p)
   held_some n l h (Read a i) le p g = tt
@@ -126,13 +105,13 @@ module _ (k : Kernel) (S : ℕ) (one : 1 ≤ S) where
 
   -- ---- layouts and arrays, whose lengths are spelled so
   module _ {A : Type 0} (spell : A → Formula) where
-    abbrev pub Spelled : A → Type 0
+    abbrev Spelled : A → Type 0
     Spelled n = IsSpelledIn k S (spell n)
 
     spelled_good : (n : A) (l h : ℕ) → S ≤ h → Spelled n → IsGood k l h (spell n)
     spelled_good n l h le s = (s.declared l, (let x = s.low in omega arith))
 
-    operand_good : (y : Layout A) (l h : ℕ) (is : List Formula) → S ≤ h → IsSoundLayout Spelled y → AllGood l h is → AllGood l (h + 3) (operand_indices spell y is)
+    operand_good : (y : Layout A) (l h : ℕ) (is : List Formula) → S ≤ h → IsSoundLayout Spelled y → AllGood k l h is → AllGood k l (h + 3) (operand_indices spell y is)
     operand_good (Split m) l h [] le s g = tt
     operand_good (Split m) l h (i ∷ []) le s g = all_higher l h (h + 3) (i ∷ []) (omega arith) g
     operand_good (Split m) l h (i ∷ j ∷ p) le s g =
@@ -161,24 +140,24 @@ module _ (k : Kernel) (S : ℕ) (one : 1 ≤ S) where
         let w = good_binary k l (suc (suc h)) Min (Binary Sub (Binary Max i (Number a)) (Number a)) (Binary Sub (spell n) (Number 1)) refl y (good_higher k l (suc h) (suc (suc h)) (Binary Sub (spell n) (Number 1)) (omega arith) z) in
         (good_higher k l (suc (suc (suc h))) (h + 3) (Binary Min (Binary Sub (Binary Max i (Number a)) (Number a)) (Binary Sub (spell n) (Number 1))) (omega arith) w, all_higher l h (h + 3) p (omega arith) g.1)
 
-    result_good : (y : Layout A) (l h : ℕ) (is : List Formula) → S ≤ h → IsSoundLayout Spelled y → AllGood l h is → AllGood l (h + 3) (result_indices spell y is)
+    result_good : (y : Layout A) (l h : ℕ) (is : List Formula) → S ≤ h → IsSoundLayout Spelled y → AllGood k l h is → AllGood k l (h + 3) (result_indices spell y is)
     result_good (Split m) l h is le s g = operand_good (Join m) l h is le s g
     result_good (Join m) l h is le s g = operand_good (Split m) l h is le s g
     result_good Transpose l h is le s g = operand_good Transpose l h is le s g
     result_good (Slide a t) l h is le s g = all_higher l h (h + 3) is (omega arith) g
     result_good (Pad a b n) l h is le s g = all_higher l h (h + 3) is (omega arith) g
 
-    sum_is : (n l h H : ℕ) (s : Sign) → IsGoodSign n l (h + 3 + H) s → IsGoodSign n l (h + (H + 3)) s
+    sum_is : (n l h H : ℕ) (s : Sign) → IsGoodSign k n l (h + 3 + H) s → IsGoodSign k n l (h + (H + 3)) s
     sum_is n l h H s g = sign_more n n l (h + 3 + H) (h + (H + 3)) s (omega arith) (omega arith) g
 
-    pub reshaped_good : (y : Layout A) (n L H : ℕ) (x : View) → IsSoundLayout Spelled y → IsGoodView n L H x → IsGoodView n L (H + 3) (λ cs is. x cs (operand_indices spell y is))
+    pub reshaped_good : (y : Layout A) (n L H : ℕ) (x : View) → IsSoundLayout Spelled y → IsGoodView k S n L H x → IsGoodView k S n L (H + 3) (λ cs is. x cs (operand_indices spell y is))
     reshaped_good y n L H x s g = λ l h cs is a b c. sum_is n l h H (x cs (operand_indices spell y is)) (g l (h + 3) cs (operand_indices spell y is) a (omega arith) (operand_good y l h is b s c))
 
-    pub reshaped_target : (y : Layout A) (L H : ℕ) (x : View) → IsSoundLayout Spelled y → IsTarget L H x → IsTarget L (H + 3) (λ cs is. x cs (result_indices spell y is))
+    pub reshaped_target : (y : Layout A) (L H : ℕ) (x : View) → IsSoundLayout Spelled y → IsTarget k S L H x → IsTarget k S L (H + 3) (λ cs is. x cs (result_indices spell y is))
     reshaped_target y L H x s g = λ l h cs is a b c. target_more l (h + 3 + H) (h + (H + 3)) (x cs (result_indices spell y is)) (omega arith) (g l (h + 3) cs (result_indices spell y is) a (omega arith) (result_good y l h is b s c))
 
     -- two for each further dimension
-    index_good : (t : Shape A) (l h : ℕ) (i : Formula) (q : List Formula) → S ≤ h → AllLengths Spelled t → IsGood k l h i → AllGood l h q → IsGood k l (h + 2 * dimensions t) (index_from spell i t q)
+    index_good : (t : Shape A) (l h : ℕ) (i : Formula) (q : List Formula) → S ≤ h → AllLengths Spelled t → IsGood k l h i → AllGood k l h q → IsGood k l (h + 2 * dimensions t) (index_from spell i t q)
     index_good Scalar l h i q le s g w = good_higher k l h (h + 2 * 0) i (omega arith) g
     index_good (PairOf a b) l h i q le s g w = good_higher k l h (h + 2 * max (dimensions a) (dimensions b)) i (omega arith) g
     index_good (ArrayOf m t) l h i [] le s g w = good_higher k l h (h + 2 * suc (dimensions t)) i (omega arith) g
@@ -188,7 +167,7 @@ module _ (k : Kernel) (S : ℕ) (one : 1 ≤ S) where
         let z = index_good t l (suc (suc h)) (Binary Add (Binary Mul i (spell m)) j) q (omega arith) s.1 y (all_higher l h (suc (suc h)) q (omega arith) w.1) in
         good_higher k l (suc (suc h) + 2 * dimensions t) (h + 2 * suc (dimensions t)) (index_from spell (Binary Add (Binary Mul i (spell m)) j) t q) (omega arith) z
 
-    placed_index : (t : Shape A) (l h : ℕ) (q : List Formula) → S ≤ h → AllLengths Spelled t → AllGood l h q → IsGood k l (h + 2 * dimensions t) (index_in spell t q)
+    placed_index : (t : Shape A) (l h : ℕ) (q : List Formula) → S ≤ h → AllLengths Spelled t → AllGood k l h q → IsGood k l (h + 2 * dimensions t) (index_in spell t q)
     placed_index Scalar l h q le s w = good_number k l (h + 2 * 0) 0 (omega arith) (omega arith)
     placed_index (PairOf a b) l h q le s w = good_number k l (h + 2 * max (dimensions a) (dimensions b)) 0 (omega arith) (omega arith)
     placed_index (ArrayOf m t) l h [] le s w = good_number k l (h + 2 * suc (dimensions t)) 0 (omega arith) (omega arith)
@@ -207,8 +186,25 @@ module _ (k : Kernel) (S : ℕ) (one : 1 ≤ S) where
     component_below (PairOf a b) (true ∷ cs) = let x = component_below b cs in omega arith
     component_below (ArrayOf n t) cs = component_below t cs
 
-    pub placed_good : (form : ℕ → Array) (first : ℕ) (t : Shape A) (n L : ℕ) → ((c : ℕ) → c < width t → is_readable k (form (first + c)) ≡ true) → AllLengths Spelled t → IsGoodView n L (2 * dimensions t) (placed_view spell form first t)
+    pub placed_good : (form : ℕ → Array) (first : ℕ) (t : Shape A) (n L : ℕ) → ((c : ℕ) → c < width t → is_readable k (form (first + c)) ≡ true) → AllLengths Spelled t → IsGoodView k S n L (2 * dimensions t) (placed_view spell form first t)
     placed_good form first t n L r s = λ l h cs is a b c. (r (component t cs) (component_below t cs), placed_index t l h is b s c)
 
-    pub placed_target : (form : ℕ → Array) (first : ℕ) (t : Shape A) (L : ℕ) → ((c : ℕ) → c < width t → is_writable k (form (first + c)) ≡ true) → AllLengths Spelled t → IsTarget L (2 * dimensions t) (placed_view spell form first t)
+    pub placed_target : (form : ℕ → Array) (first : ℕ) (t : Shape A) (L : ℕ) → ((c : ℕ) → c < width t → is_writable k (form (first + c)) ≡ true) → AllLengths Spelled t → IsTarget k S L (2 * dimensions t) (placed_view spell form first t)
     placed_target form first t L r s = λ l h cs is a b c. (r (component t cs) (component_below t cs), placed_index t l h is b s c)
+
+  -- ---- arrays of literal lengths
+  number_spelled : (n : ℕ) → n < 2 ^ 32 → IsSpelledIn k S (Number n)
+  number_spelled n lt = record { constant = refl; declared = λ l. lt-ltb n (2 ^ 32) lt; low = one }
+
+  all_spelled : (t : Ty) → AllLengths (λ n. n < 2 ^ 32) t → AllLengths (Spelled Number) t
+  all_spelled Scalar h = tt
+  all_spelled (PairOf a b) h = (all_spelled a h.0, all_spelled b h.1)
+  all_spelled (ArrayOf n t) h = (number_spelled n h.0, all_spelled t h.1)
+
+  pub laid_reads : (form : ℕ → Array) (first : ℕ) (t : Ty) (l : ℕ) → ((c : ℕ) → c < width t → is_readable k (form (first + c)) ≡ true) → AllLengths (λ n. n < 2 ^ 32) t → dimensions t ≤ 4 → ReadsWithin k S l 0 (laid_view form first t)
+  laid_reads form first t l r h d =
+      view_more k.variables k.variables l l (2 * dimensions t) (8 + 3 * 0) (laid_view form first t) (omega arith) (omega arith) (omega arith) (placed_good Number form first t k.variables l r (all_spelled t h))
+
+  pub laid_fills : (form : ℕ → Array) (first : ℕ) (t : Ty) (l : ℕ) → ((c : ℕ) → c < width t → is_writable k (form (first + c)) ≡ true) → AllLengths (λ n. n < 2 ^ 32) t → dimensions t ≤ 4 → FillsWithin k S l 0 (laid_view form first t)
+  laid_fills form first t l r h d =
+      target_within l l (2 * dimensions t) (8 + 3 * 0) (laid_view form first t) (omega arith) (omega arith) (placed_target Number form first t l r (all_spelled t h))

@@ -1,2 +1,4 @@
 pub mod Sound
+pub mod Views
 pub mod Law
+pub mod Pieces

@@ -9,8 +9,8 @@ use Rattle.lift_tree.specs.Launches.{lists_of}
 use Rattle.lift_tree.specs.Types.{PlainTy, U32, PairOf, ArrayOf, HoldsElements, IsElement}
 use Rattle.lift_tree.specs.Limits.{components}
 use Rattle.lift_tree.specs.Values.{Value, list_of}
+use Rattle.value_lists.specs.Laws.{ComponentsAreCounted}
 use Rattle.value_lists.specs.Lists.{IsSmall, length_at, width}
-use Rattle.value_lists.proofs.Held.{width_is}
 
 -- ---- facts that a truncated fact gives
 
@@ -58,10 +58,10 @@ rows_are (r ∷ rs) (o ∷ os) (w ∷ ws) count long shape same =
     (rows_are rs os ws (omega (arith, count)) (λ a. long (suc a)) later (λ a i lt. same (suc a) i lt))
 
 -- there are as many lists as components
-pub wide : {X : Type 0} (a : PlainTy) (v : Value) (f : X → List ℕ) (outs : List X) → map f outs ≡ lists_of a v → width a ≤ length outs
-wide a v f outs left =
+pub wide : {X : Type 0} → ComponentsAreCounted → (a : PlainTy) (v : Value) (f : X → List ℕ) (outs : List X) → map f outs ≡ lists_of a v → width a ≤ length outs
+wide counted a v f outs left =
     let here : length (map f outs) ≡ length outs = length-map outs f in
     let there : length (map (list_of v) (components a)) ≡ length (components a) = length-map (components a) (list_of v) in
     let same : length (map f outs) ≡ length (map (list_of v) (components a)) = ap length left in
-    let all = width_is a in
+    let all = counted a in
     omega (arith, here, there, same, all)

@@ -1,30 +1,31 @@
 -- Runs and evaluations come to one end.
-use Rattle.std.proofs.Common.{◌∙◌, ℕ, List, ap, sym, inl, inr, Ok, Err}
-use Rattle.std.proofs.lemmas.Option.{same_Some}
-use Rattle.lift_reader.specs.ProgramText.{ProgramsMayBeTyped}
+use Rattle.std.proofs.Common.{◌≡◌, ◌∙◌, ℕ, List, ap, sym, subst, refl, inl, inr, None, Result, Ok, Err}
+use Rattle.std.proofs.lemmas.Option.{none-some, same_Some}
+use Rattle.lift_reader.specs.ProgramText.{IsProgramText, first_limit}
+use Rattle.lift_reader.specs.declared.refusal.ReadRefusal.TheVariants as readings
 use Rattle.lift_tree.specs.Limits.{HasProperInputs}
 use Rattle.lift_tree.specs.Programs.{PlainProgram}
-use Rattle.pattern_types.specs.Judgement.{JudgedInputsAreProper}
 use Rattle.lowered_tree.specs.Kinds.{is_task}
-use Rattle.lowered_tree.specs.Nest.{LegalWithoutFault}
 use Rattle.launch_file.specs.Judged as launches
 use Rattle.launch_file.specs.Laws.{FilesAreNotRefused, FilesGiveOneThing}
 use Rattle.launch_file.specs.declared.file.Ask.{Ask}
 use Rattle.launch_file.specs.declared.file.Ask.TheVariants as asks
 use Rattle.fault_lines.specs.Failure as failures
-use Rattle.program_source.specs.Ends.{HasOneEnd}
-use Rattle.program_source.specs.Program.{IsRead, TypesOf}
-use Rattle.program_source.specs.Stages.{As, IsOne}
-use Rattle.program_source.proofs.Once.{TokensAreOne, as_one, one_end, then_one, types_one}
-use Rattle.program_source.proofs.Proper.{proper}
+use Rattle.fault_lines.specs.Failure.{Failure}
+use Rattle.fault_lines.specs.declared.refusal.Refusal.TheVariants as told
+use Rattle.stages.specs.Stages.{As, IsOne}
+use Rattle.stages.proofs.One.{as_one, err_same, then_one}
+use Rattle.program_source.specs.Ends.{Accepts, HasOneEnd, OnSource}
+use Rattle.program_source.specs.Laws.{SourcesEndOnce, TypedProgramsAreProper}
+use Rattle.program_source.specs.Program.{IsRead, ReadsProgram, TypesOf}
+use Rattle.program_source.specs.Terms.{TermsOf}
+use Rattle.compilation.specs.Laws.{CompilationEndsOnce}
 use Rattle.compilation.specs.Legal.{LegalOf}
-use Rattle.compilation.proofs.Once.{legal_one}
 use Rattle.program_runs.specs.Started.{EvalOf, LaunchOf, RunOf}
 
 -- what is known of programs that are typed, and of their launch files
 pub record LaunchLaws : Type 0 where
-  pub typable : ProgramsMayBeTyped
-  pub judged : JudgedInputsAreProper
+  pub proper : TypedProgramsAreProper
   pub refused : FilesAreNotRefused
   pub one : FilesGiveOneThing
 
@@ -38,21 +39,47 @@ launch_one well one p ask launch proper (Err e) (Err f) (inr a) (inl b) = absurd
 launch_one well one p ask launch proper (Err e) (Err f) (inr a) (inr b) =
     sym a.2 ∙ ap (launches.judged p ask) (same_Some a.0 b.0 (sym a.1.1 ∙ b.1.1)) ∙ b.2
 
-run_one : LegalWithoutFault → LaunchLaws → (text : List ℕ) (p : PlainProgram) (script launch : List ℕ) → IsRead text p → IsOne (RunOf p script launch)
-run_one law laws text p script launch read =
-    then_one _ _ (as_one failures.Source (LegalOf p script) (legal_one law p script)) (λ last is.
-    as_one (failures.Launch p) (LaunchOf p (asks.Run (is_task last.tree)) launch) (launch_one laws.refused laws.one p (asks.Run (is_task last.tree)) launch (proper laws.typable laws.judged text p read is.1.0 is.1.1)))
+run_one : CompilationEndsOnce → LaunchLaws → (text : List ℕ) (p : PlainProgram) (script launch : List ℕ) → IsRead text p → IsOne (RunOf p script launch)
+run_one compiled laws text p script launch read =
+    then_one _ _ (as_one failures.Source (LegalOf p script) (compiled p script)) (λ last is.
+    as_one (failures.Launch p) (LaunchOf p (asks.Run (is_task last.tree)) launch) (launch_one laws.refused laws.one p (asks.Run (is_task last.tree)) launch (laws.proper text p is.1.0 read is.1.1)))
 
-eval_one : LaunchLaws → (text : List ℕ) (p : PlainProgram) (launch : List ℕ) → IsRead text p → IsOne (EvalOf p launch)
-eval_one laws text p launch read =
-    then_one _ _ (as_one failures.Source (TypesOf p) (types_one p)) (λ types is.
-    as_one (failures.Launch p) (LaunchOf p asks.Eval launch) (launch_one laws.refused laws.one p asks.Eval launch (proper laws.typable laws.judged text p read types is)))
+eval_one : SourcesEndOnce → LaunchLaws → (text : List ℕ) (p : PlainProgram) (launch : List ℕ) → IsRead text p → IsOne (EvalOf p launch)
+eval_one sources laws text p launch read =
+    then_one _ _ (as_one failures.Source (TypesOf p) (sources.types p)) (λ types is.
+    as_one (failures.Launch p) (LaunchOf p asks.Eval launch) (launch_one laws.refused laws.one p asks.Eval launch (laws.proper text p types read is)))
 
-pub kernel_end : TokensAreOne → LegalWithoutFault → (program script : List ℕ) → HasOneEnd program (λ p. As failures.Source (LegalOf p script))
-kernel_end tokens law program script = one_end tokens program (λ p. As failures.Source (LegalOf p script)) (λ p read. as_one failures.Source (LegalOf p script) (legal_one law p script))
+-- ---- whole texts
 
-pub run_end : TokensAreOne → LegalWithoutFault → LaunchLaws → (program script launch : List ℕ) → HasOneEnd program (λ p. RunOf p script launch)
-run_end tokens law laws program script launch = one_end tokens program (λ p. RunOf p script launch) (λ p read. run_one law laws program p script launch read)
+one_cause : {A : Type 0} (text : List ℕ) (S : PlainProgram → Result A Failure → Type 0) → IsOne (OnSource text S) → (f g : Failure) → OnSource text S (Err f) → OnSource text S (Err g) → f ≡ g
+one_cause text S one f g h k = err_same _ f g refl (one (Err f) (Err g) h k)
 
-pub eval_end : TokensAreOne → LaunchLaws → (program launch : List ℕ) → HasOneEnd program (λ p. EvalOf p launch)
-eval_end law laws program launch = one_end law program (λ p. EvalOf p launch) (λ p read. eval_one laws program p launch read)
+-- a program's text is read as that program, unless it is refused
+read_or_refused : {A : Type 0} (text : List ℕ) (S : PlainProgram → Result A Failure → Type 0) (f : Failure) (p : PlainProgram) → IsProgramText text p → first_limit p ≡ None → OnSource text S (Err f) → IsRead text p
+read_or_refused text S f p is within (inl (readings.Syntax token offset, h, e)) = absurd (h.1 p is)
+read_or_refused text S f p is within (inl (readings.Limit which count, h, e)) = absurd (none-some _ (sym within ∙ h.passes p is))
+read_or_refused text S f p is within (inl (readings.Memory, h, e)) = absurd h
+read_or_refused text S f p is within (inr (q, read, h)) = subst (IsRead text) (sym (read.only p is)) read
+
+no_cause : {A : Type 0} (text : List ℕ) (S : PlainProgram → Result A Failure → Type 0) → IsOne (OnSource text S) → (f : Failure) → Accepts text S → OnSource text S (Err f) → ⊥
+no_cause text S one f (p, is, within, (a, h)) refused =
+    let read = read_or_refused text S f p is within refused in
+    let two : Ok a ≡ Err f = one (Ok a) (Err f) (p, read, h) refused in
+    cc (two)
+
+one_end : {A : Type 0} → SourcesEndOnce → (text : List ℕ) (S : PlainProgram → Result A Failure → Type 0) → ((p : PlainProgram) → IsRead text p → IsOne (S p)) → HasOneEnd text S
+one_end sources text S each =
+    let one : IsOne (OnSource text S) = then_one _ S (as_one (λ why. failures.Source (told.Program why)) (ReadsProgram text) (sources.read text)) each in
+    record { cause = one_cause text S one; none = no_cause text S one }
+
+pub terms_end : SourcesEndOnce → (program script : List ℕ) → HasOneEnd program (λ p. As failures.Source (TermsOf p script))
+terms_end sources program script = one_end sources program (λ p. As failures.Source (TermsOf p script)) (λ p read. as_one failures.Source (TermsOf p script) (sources.terms p script))
+
+pub kernel_end : SourcesEndOnce → CompilationEndsOnce → (program script : List ℕ) → HasOneEnd program (λ p. As failures.Source (LegalOf p script))
+kernel_end sources compiled program script = one_end sources program (λ p. As failures.Source (LegalOf p script)) (λ p read. as_one failures.Source (LegalOf p script) (compiled p script))
+
+pub run_end : SourcesEndOnce → CompilationEndsOnce → LaunchLaws → (program script launch : List ℕ) → HasOneEnd program (λ p. RunOf p script launch)
+run_end sources compiled laws program script launch = one_end sources program (λ p. RunOf p script launch) (λ p read. run_one compiled laws program p script launch read)
+
+pub eval_end : SourcesEndOnce → LaunchLaws → (program launch : List ℕ) → HasOneEnd program (λ p. EvalOf p launch)
+eval_end sources laws program launch = one_end sources program (λ p. EvalOf p launch) (λ p read. eval_one sources laws program p launch read)

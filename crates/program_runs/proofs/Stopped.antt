@@ -9,7 +9,7 @@ use Rattle.fault_lines.specs.Failure as failures
 use Rattle.fault_lines.specs.declared.refusal.Refusal.{Refusal}
 use Rattle.program_source.specs.Ends.{FailsFor, OnSource}
 use Rattle.program_source.specs.Program.{IsRead}
-use Rattle.program_source.specs.Stages.{As, Then}
+use Rattle.stages.specs.Stages.{As, Then}
 use Rattle.program_runs.specs.Started.{LaunchOf}
 
 pub launch_fails : {A : Type 0} (text : List ℕ) (p : PlainProgram) (ask : A → Ask) (launch : List ℕ) (S : PlainProgram → Result A Refusal → Type 0) (a : A) (why : LaunchNo)

@@ -1,14 +1,10 @@
 -- No stage refuses the demo, and its launch is admissible.
-use Rattle.std.proofs.Common.{◌≡◌, ◌∙◌, ap, sym, subst, refl, inl, inr, Bool, ℕ, List, false, Ok, Err, Result}
-use Rattle.std.specs.Prelude.{IfErr}
-use Rattle.std.specs.Result.{IsErrAnd}
+use Rattle.std.proofs.Common.{◌≡◌, ◌∙◌, ap, sym, subst, refl, inl, inr, Bool, ℕ, List, false, Ok, Err}
 use Rattle.lift_tree.specs.Programs.{PlainProgram}
 use Rattle.lift_tree.specs.Types.{PlainTy}
 use Rattle.lowered_tree.specs.Kinds.{is_task}
 use Rattle.lowered_tree.specs.Nest.{LegalWithoutFault}
 use Rattle.fault_lines.specs.Failure as failures
-use Rattle.fault_lines.specs.Shown.{failure_of}
-use Rattle.fault_lines.specs.declared.failure.Failure as code
 use Rattle.fault_lines.specs.Refusal as refusals
 use Rattle.fault_lines.specs.declared.refusal.Refusal.{Refusal}
 use Rattle.demo_program.specs.Accepted.{DemoIsAccepted, demo_program}
@@ -17,11 +13,11 @@ use Rattle.demo_program.specs.Data.{demo_given}
 use Rattle.demo_program.specs.Texts.{program_text, script_text}
 use Rattle.program_source.specs.Ends.{OnSource}
 use Rattle.program_source.specs.Program.{OnProgram, StopsFor}
-use Rattle.program_source.specs.Stages.{As}
-use Rattle.program_source.proofs.Once.{ok_same}
+use Rattle.stages.specs.Stages.{As}
+use Rattle.stages.proofs.One.{ok_same}
 use Rattle.compilation.specs.Compiled.{IsCompiled}
+use Rattle.compilation.specs.Laws.{CompilationEndsOnce}
 use Rattle.compilation.specs.Legal.{LegalOf}
-use Rattle.compilation.proofs.Once.{legal_one}
 use Rattle.program_runs.specs.Runs.{IsAdmissibleFor}
 use Rattle.program_runs.specs.Started.{StagesEndOnce}
 
@@ -42,11 +38,11 @@ refused_for_memory ends law d why (inl memory) = memory
 refused_for_memory ends law d why (inr h) = absurd ((ends.kernel program_text script_text).none (failures.Source why) (demo_program, d.read, d.within, (d.last, compiles law d)) (stopped why h))
 
 -- the demo's launch is admissible for what is compiled
-pub admitted : LegalWithoutFault → DemoIsAccepted → DemosMayRun → (p : PlainProgram) (output : PlainTy) (task : Bool) (text : List ℕ) (seed : ℕ) → IsCompiled program_text script_text p output task text → IsAdmissibleFor p task (demo_given seed)
-admitted law d may p output task text seed c =
+pub admitted : CompilationEndsOnce → LegalWithoutFault → DemoIsAccepted → DemosMayRun → (p : PlainProgram) (output : PlainTy) (task : Bool) (text : List ℕ) (seed : ℕ) → IsCompiled program_text script_text p output task text → IsAdmissibleFor p task (demo_given seed)
+admitted once law d may p output task text seed c =
     let same : demo_program ≡ p = c.read.only demo_program d.read in
     let legal : LegalOf demo_program script_text (Ok c.last) = subst (λ q. LegalOf q script_text (Ok c.last)) (sym same) c.legal in
-    let last : d.last ≡ c.last = ok_same _ _ _ refl (legal_one law demo_program script_text (Ok d.last) (Ok c.last) (compiles law d) legal) in
+    let last : d.last ≡ c.last = ok_same _ _ _ refl (once demo_program script_text (Ok d.last) (Ok c.last) (compiles law d) legal) in
     let parallel : false ≡ task = sym d.parallel ∙ ap (λ s. is_task s.tree) last ∙ c.alone in
     let m = may seed in
     subst (λ b. IsAdmissibleFor p b (demo_given seed)) parallel
@@ -54,16 +50,11 @@ admitted law d may p output task text seed c =
 
 -- ---- the texts as they are handed over
 
-pub admitted_at : LegalWithoutFault → DemoIsAccepted → DemosMayRun → (program script : List ℕ) → program ≡ program_text → script ≡ script_text → (p : PlainProgram) (output : PlainTy) (task : Bool) (text : List ℕ) (seed : ℕ)
+pub admitted_at : CompilationEndsOnce → LegalWithoutFault → DemoIsAccepted → DemosMayRun → (program script : List ℕ) → program ≡ program_text → script ≡ script_text → (p : PlainProgram) (output : PlainTy) (task : Bool) (text : List ℕ) (seed : ℕ)
     → IsCompiled program script p output task text → IsAdmissibleFor p task (demo_given seed)
-admitted_at law d may program script first second p output task text seed c =
-    admitted law d may p output task text seed (subst (λ x. IsCompiled program_text x p output task text) second (subst (λ x. IsCompiled x script p output task text) first c))
+admitted_at once law d may program script first second p output task text seed c =
+    admitted once law d may p output task text seed (subst (λ x. IsCompiled program_text x p output task text) second (subst (λ x. IsCompiled x script p output task text) first c))
 
 pub memory_alone : StagesEndOnce → LegalWithoutFault → DemoIsAccepted → (program script : List ℕ) → program ≡ program_text → script ≡ script_text → (why : Refusal) → StopsFor (OnProgram program (λ p. LegalOf p script)) why → refusals.status_of why ≡ 13
 memory_alone ends law d program script first second why h =
     refused_for_memory ends law d why (subst (λ x. StopsFor (OnProgram program_text (λ p. LegalOf p x)) why) second (subst (λ x. StopsFor (OnProgram x (λ p. LegalOf p script)) why) first h))
-
--- a refusal that is handed on keeps its status
-pub handed_on : {V : Type 0} (r : Result V code.Failure) (e : code.Failure) → IsErrAnd r (λ x. x ≡ e) → failures.status_of (failure_of e) ≡ 13 → IfErr r (λ x. failures.status_of (failure_of x) ≡ 13)
-handed_on (Ok v) e same h = tt
-handed_on (Err x) e same h = subst (λ y. failures.status_of (failure_of y) ≡ 13) (sym same) h

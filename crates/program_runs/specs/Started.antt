@@ -13,7 +13,7 @@ use Rattle.fault_lines.specs.Failure as failures
 use Rattle.fault_lines.specs.Failure.{Failure}
 use Rattle.program_source.specs.Ends.{HasOneEnd}
 use Rattle.program_source.specs.Program.{IsRead, TypesOf, source_value}
-use Rattle.program_source.specs.Stages.{As, Then}
+use Rattle.stages.specs.Stages.{As, Then}
 use Rattle.program_source.specs.Terms.{TermsOf}
 use Rattle.compilation.specs.Compiled.{IsCompiled}
 use Rattle.compilation.specs.Legal.{LegalOf}

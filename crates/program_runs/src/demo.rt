@@ -10,6 +10,7 @@ ghost use Rattle.program_runs.specs.Runs.{IsAdmissibleFor};
 
 use crate::laws::one_end;
 use crate::run::run_back;
+use compilation::laws::compilation_ends_once;
 use compilation::{Compiled, compile_text};
 use demo_program::data::demo_launch;
 use demo_program::laws::{demo_is_accepted, demos_may_run};
@@ -41,6 +42,7 @@ pub fn demo_text(alloc: Global, seed: u32) -> Result<Vec<u8>, Failure>
     ensures refused { IfErr result (λ failure. status_of (failure_of failure) ≡ 13) }
 {
     one_end();
+    compilation_ends_once();
     legal_without_fault();
     demo_is_accepted();
     demos_may_run();

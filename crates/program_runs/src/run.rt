@@ -32,13 +32,12 @@ use kernel_tree::tree::Kernel;
 use launch_file::file::{Ask, LaunchFile, read_launch};
 use launch_file::result::result_text;
 use launch_file::trace::trace_text;
-use lift_reader::program::programs_may_be_typed;
 use lift_tree::laws::values_have_their_types;
 use lift_tree::value::Val;
 use ndrange_device::{DeviceNo, Outcome, launch};
-use pattern_types::laws::judged_inputs_are_proper;
+use program_source::laws::typed_programs_are_proper;
 use std::alloc::{AllocError, Global};
-use value_lists::laws::{lists_have_lengths, lists_hold_one_value};
+use value_lists::laws::{components_are_counted, lists_have_lengths, lists_hold_one_value};
 use value_lists::value_of_lists;
 
 // The kernel that is read back from the text.
@@ -135,6 +134,7 @@ fn value_left(
     ensures { IfOk result (λ v. value_of v ≡ value_in (given_by file.now).bases
         (ty_of compiled.now.output) (map (λ l. l.items) outs.now) 0 0) }
 {
+    components_are_counted();
     value_of_lists(alloc, &compiled.output, &file.sizes, outs)
 }
 
@@ -189,8 +189,7 @@ pub fn run_text(
     ensures refused { IfErr result (λ failure. FailsFor
         (OnSource program.now (λ p. RunOf p script.now launch.now)) (failure_of failure)) }
 {
-    programs_may_be_typed();
-    judged_inputs_are_proper();
+    typed_programs_are_proper();
     let compiled = compile_text(alloc, program, script)?;
     let ask = Ask::Run {
         task: compiled.is_task,

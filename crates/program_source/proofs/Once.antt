@@ -1,5 +1,5 @@
--- Stages come to one end.
-use Rattle.std.proofs.Common.{◌≡◌, ◌∙◌, ◌++◌, ◌+◌, ◌<◌, ◌≤◌, ℕ, suc, List, [], ◌∷◌, ap, sym, subst, length, take, drop, refl, ◌-◌, arith, None, Result, Ok, Err, inl, inr, append_assoc}
+-- A text is read, typed and rewritten in one way.
+use Rattle.std.proofs.Common.{◌≡◌, ◌∙◌, ◌++◌, ◌+◌, ◌<◌, ◌≤◌, ℕ, suc, List, [], ◌∷◌, ap, sym, subst, length, take, drop, refl, ◌-◌, arith, Ok, Err, inl, inr, append_assoc}
 use Rattle.std.proofs.lemmas.Bool.{cases_order}
 use Rattle.std.proofs.lemmas.List.{length-drop, length-take-le, take-append-drop}
 use Rattle.std.proofs.lemmas.Option.{none-some, same_Some}
@@ -8,59 +8,18 @@ use Rattle.readings.specs.Readings.{GoesOn, Grammar, Owed, Reads, Stops, Token, 
 use Rattle.readings.specs.Exactly.{StopsAt}
 use Rattle.lift_tree.specs.Programs.{PlainProgram}
 use Rattle.lift_reader.specs.Grammar as grammar
-use Rattle.lift_reader.specs.ProgramText.{IsProgramText, StopsAtToken, first_limit, lexemes, place_of}
+use Rattle.lift_reader.specs.ProgramText.{StopsAtToken, lexemes, place_of}
 use Rattle.lift_reader.specs.Tokens.{AreTokens, Lexeme}
 use Rattle.lift_reader.specs.declared.refusal.ReadRefusal.TheVariants as readings
 use Rattle.pattern_types.specs.Judged.{program_judged}
 use Rattle.strategy_script.specs.Steps.{State, terms_of}
 use Rattle.strategy_script.specs.declared.script.ScriptLimit.TheVariants as limits
 use Rattle.strategy_script.specs.declared.script.ScriptNo.TheVariants as scripts
-use Rattle.fault_lines.specs.Failure as failures
-use Rattle.fault_lines.specs.Failure.{Failure}
 use Rattle.fault_lines.specs.declared.refusal.Refusal.TheVariants as told
-use Rattle.program_source.specs.Ends.{Accepts, HasOneEnd, OnSource}
-use Rattle.program_source.specs.Program.{IsRead, ReadsProgram, TypesOf}
-use Rattle.program_source.specs.Stages.{As, Gives, IsOne, Then}
+use Rattle.program_source.specs.Program.{ReadsProgram, TypesOf}
+use Rattle.stages.specs.Stages.{IsOne}
+use Rattle.stages.proofs.One.{as_one, equal_one, then_one}
 use Rattle.program_source.specs.Terms.{LastOf, ReadsScript, TermsOf, source_of}
-
--- ---- stages
-
-pub ok_same : {A E : Type 0} (r : Result A E) (a b : A) → r ≡ Ok a → r ≡ Ok b → a ≡ b
-ok_same r a b h k = cc (h, k)
-
-pub err_same : {A E : Type 0} (r : Result A E) (e f : E) → r ≡ Err e → r ≡ Err f → e ≡ f
-err_same r e f h k = cc (h, k)
-
-pub then_one : {A B E : Type 0} (R : Result A E → Type 0) (S : A → Result B E → Type 0) → IsOne R → ((a : A) → R (Ok a) → IsOne (S a)) → IsOne (Then R S)
-then_one R S one next (Ok b) (Ok c) h k =
-    let same = ok_same _ h.0 k.0 refl (one (Ok h.0) (Ok k.0) h.1 k.1) in
-    next k.0 k.1 (Ok b) (Ok c) (subst (λ a. S a (Ok b)) same h.2) k.2
-then_one R S one next (Ok b) (Err e) h (inl k) = absurd (cc (one (Ok h.0) (Err e) h.1 k))
-then_one R S one next (Ok b) (Err e) h (inr k) =
-    let same = ok_same _ h.0 k.0 refl (one (Ok h.0) (Ok k.0) h.1 k.1) in
-    next k.0 k.1 (Ok b) (Err e) (subst (λ a. S a (Ok b)) same h.2) k.2
-then_one R S one next (Err e) (Ok c) (inl h) k = absurd (cc (one (Err e) (Ok k.0) h k.1))
-then_one R S one next (Err e) (Ok c) (inr h) k =
-    let same = ok_same _ h.0 k.0 refl (one (Ok h.0) (Ok k.0) h.1 k.1) in
-    next k.0 k.1 (Err e) (Ok c) (subst (λ a. S a (Err e)) same h.2) k.2
-then_one R S one next (Err e) (Err f) (inl h) (inl k) = ap Err (err_same _ e f refl (one (Err e) (Err f) h k))
-then_one R S one next (Err e) (Err f) (inl h) (inr k) = absurd (cc (one (Err e) (Ok k.0) h k.1))
-then_one R S one next (Err e) (Err f) (inr h) (inl k) = absurd (cc (one (Ok h.0) (Err f) h.1 k))
-then_one R S one next (Err e) (Err f) (inr h) (inr k) =
-    let same = ok_same _ h.0 k.0 refl (one (Ok h.0) (Ok k.0) h.1 k.1) in
-    next k.0 k.1 (Err e) (Err f) (subst (λ a. S a (Err e)) same h.2) k.2
-
-pub as_one : {A E F : Type 0} (tell : E → F) (R : Result A E → Type 0) → IsOne R → IsOne (As tell R)
-as_one tell R one (Ok a) (Ok b) h k = ap Ok (ok_same _ a b refl (one (Ok a) (Ok b) h k))
-as_one tell R one (Ok a) (Err f) h k = absurd (cc (one (Ok a) (Err k.0) h k.1))
-as_one tell R one (Err e) (Ok b) h k = absurd (cc (one (Err h.0) (Ok b) h.1 k))
-as_one tell R one (Err e) (Err f) h k = ap Err (h.2 ∙ ap tell (err_same _ h.0 k.0 refl (one (Err h.0) (Err k.0) h.1 k.1)) ∙ sym k.2)
-
-pub gives_one : {A E : Type 0} (a : A) → IsOne (Gives {A = A} {E = E} a)
-gives_one a r s h k = h ∙ sym k
-
-pub equal_one : {A : Type 0} (x : A) → IsOne (λ (r : A). x ≡ r)
-equal_one x r s h k = sym h ∙ k
 
 -- ---- the program's text
 
@@ -120,7 +79,7 @@ tokens_one law text t o u q h k =
     let offset : o ≡ q = h.place ∙ ap (λ ts. place_of ts h.before (length text)) same ∙ ap (λ n. place_of k.tokens n (length text)) before ∙ sym k.place in
     (token, offset)
 
-reads_one : TokensAreOne → (text : List ℕ) → IsOne (ReadsProgram text)
+pub reads_one : TokensAreOne → (text : List ℕ) → IsOne (ReadsProgram text)
 reads_one law text (Ok p) (Ok q) h k = ap Ok (k.only p h.is)
 reads_one law text (Ok p) (Err (readings.Syntax t o)) h k = absurd (k.1 p h.is)
 reads_one law text (Ok p) (Err (readings.Limit w c)) h k = absurd (none-some _ (sym h.within ∙ k.passes p h.is))
@@ -176,29 +135,3 @@ last_one terms (Ok s) (Ok t) h k =
     ap Ok (sym (last_in-append s h.front s) ∙ ap (last_in s) (sym h.is ∙ k.is) ∙ last_in-append s k.front t)
 last_one terms (Err e) r h k = absurd h
 last_one terms r (Err e) h k = absurd k
-
--- ---- whole texts
-
-one_cause : {A : Type 0} (text : List ℕ) (S : PlainProgram → Result A Failure → Type 0) → IsOne (OnSource text S) → (f g : Failure) → OnSource text S (Err f) → OnSource text S (Err g) → f ≡ g
-one_cause text S one f g h k = err_same _ f g refl (one (Err f) (Err g) h k)
-
--- a program's text is read as that program, unless it is refused
-read_or_refused : {A : Type 0} (text : List ℕ) (S : PlainProgram → Result A Failure → Type 0) (f : Failure) (p : PlainProgram) → IsProgramText text p → first_limit p ≡ None → OnSource text S (Err f) → IsRead text p
-read_or_refused text S f p is within (inl (readings.Syntax token offset, h, e)) = absurd (h.1 p is)
-read_or_refused text S f p is within (inl (readings.Limit which count, h, e)) = absurd (none-some _ (sym within ∙ h.passes p is))
-read_or_refused text S f p is within (inl (readings.Memory, h, e)) = absurd h
-read_or_refused text S f p is within (inr (q, read, h)) = subst (IsRead text) (sym (read.only p is)) read
-
-no_cause : {A : Type 0} (text : List ℕ) (S : PlainProgram → Result A Failure → Type 0) → IsOne (OnSource text S) → (f : Failure) → Accepts text S → OnSource text S (Err f) → ⊥
-no_cause text S one f (p, is, within, (a, h)) refused =
-    let read = read_or_refused text S f p is within refused in
-    let two : Ok a ≡ Err f = one (Ok a) (Err f) (p, read, h) refused in
-    cc (two)
-
-pub one_end : {A : Type 0} → TokensAreOne → (text : List ℕ) (S : PlainProgram → Result A Failure → Type 0) → ((p : PlainProgram) → IsRead text p → IsOne (S p)) → HasOneEnd text S
-one_end law text S each =
-    let one : IsOne (OnSource text S) = then_one _ S (as_one (λ why. failures.Source (told.Program why)) (ReadsProgram text) (reads_one law text)) each in
-    record { cause = one_cause text S one; none = no_cause text S one }
-
-pub terms_end : TokensAreOne → (program script : List ℕ) → HasOneEnd program (λ p. As failures.Source (TermsOf p script))
-terms_end law program script = one_end law program (λ p. As failures.Source (TermsOf p script)) (λ p read. as_one failures.Source (TermsOf p script) (terms_one p script))

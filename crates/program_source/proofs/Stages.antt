@@ -1,7 +1,5 @@
 -- What each stage gives, and why it stops.
-use Rattle.std.proofs.Common.{◌≡◌, ◌≢◌, ◌≤◌, ℕ, List, sym, ap, subst, length, refl, inl, inr, Result, Ok, Err}
-use Rattle.std.specs.Prelude.{IfErr}
-use Rattle.std.specs.Result.{IsErrAnd}
+use Rattle.std.proofs.Common.{◌≡◌, ◌≢◌, ◌≤◌, ℕ, List, ap, subst, length, refl, inl, inr, Result, Ok, Err}
 use Rattle.lift_tree.specs.Annotations.{Annotation}
 use Rattle.lift_tree.specs.Programs.{PlainProgram}
 use Rattle.lift_tree.specs.Tree.{Tree}
@@ -25,13 +23,8 @@ use Rattle.fault_lines.specs.declared.refusal.Refusal.{Refusal}
 use Rattle.fault_lines.specs.declared.refusal.Refusal.TheVariants as told
 use Rattle.program_source.specs.Ends.{FailsFor, OnSource}
 use Rattle.program_source.specs.Program.{IsRead, OnProgram, StopsFor, TypesOf}
-use Rattle.program_source.specs.Stages.{As, Then}
+use Rattle.stages.specs.Stages.{As, Then}
 use Rattle.program_source.specs.Terms.{TermsOf, source_of}
-
--- a refusal that is handed on keeps its cause
-pub handed_on : {V R : Type 0} (P : R → Type 0) (r : Result V R) (e : R) → IsErrAnd r (λ x. x ≡ e) → P e → IfErr r P
-handed_on P (Ok v) e same h = tt
-handed_on P (Err x) e same h = subst P (sym same) h
 
 -- ---- the program's text
 

@@ -30,6 +30,7 @@ use Rattle.program_source.specs.SourceTerms.{AreSourceTerms, IsBegun, IsLastTerm
 use Rattle.program_source.specs.StepsText.{IsStepsText, term_lines}
 use Rattle.program_source.specs.Terms as of_terms
 use Rattle.program_source.specs.Terms.{TermsOf, source_of}
+use Rattle.program_source.proofs.FewNodes.{few_inputs}
 
 -- ---- the source
 
@@ -201,6 +202,7 @@ last_is program script source t steps law lows begun last after =
     record {
       read = mine.read;
       proper = mine.proper;
+      few = few_inputs (program_of t.program) mine.read.within;
       terms = mine.terms;
       made = mine.made;
       is_last = mine.is_last;

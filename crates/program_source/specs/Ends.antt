@@ -6,7 +6,7 @@ use Rattle.fault_lines.specs.Failure as failures
 use Rattle.fault_lines.specs.Failure.{Failure}
 use Rattle.fault_lines.specs.declared.refusal.Refusal.TheVariants as told
 use Rattle.program_source.specs.Program.{ReadsProgram}
-use Rattle.program_source.specs.Stages.{As, Then}
+use Rattle.stages.specs.Stages.{As, Then}
 
 -- why a call stops: for its cause, or for want of memory, which is free
 abbrev pub FailsFor : {A : Type 0} → (Result A Failure → Type 0) → Failure → Type 0

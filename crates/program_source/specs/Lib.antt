@@ -1,6 +1,6 @@
 pub mod Ends
+pub mod Laws
 pub mod Program
 pub mod SourceTerms
-pub mod Stages
 pub mod StepsText
 pub mod Terms

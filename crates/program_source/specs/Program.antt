@@ -13,7 +13,7 @@ use Rattle.pattern_types.specs.Judged.{program_judged}
 use Rattle.fault_lines.specs.Refusal.{status_of}
 use Rattle.fault_lines.specs.declared.refusal.Refusal.{Refusal}
 use Rattle.fault_lines.specs.declared.refusal.Refusal.TheVariants as told
-use Rattle.program_source.specs.Stages.{As, Then}
+use Rattle.stages.specs.Stages.{As, Then}
 
 -- why a stage stops: for its cause, or for want of memory, which is free
 abbrev pub StopsFor : {A : Type 0} → (Result A Refusal → Type 0) → Refusal → Type 0

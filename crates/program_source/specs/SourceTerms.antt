@@ -43,6 +43,7 @@ pub record AreSourceTerms (program script : List ℕ) (terms : List Typed) : Typ
 pub record IsLastTerm (program script : List ℕ) (t : Typed) : Type 0 where
   pub read : IsRead program (program_of t.program)
   pub proper : IsProper (program_of t.program)
+  pub few : length (program_of t.program).inputs ≤ 8
   pub terms : List State
   pub made : TermsOf (program_of t.program) script (Ok terms)
   pub is_last : IsLast (state_of t) terms

@@ -10,7 +10,7 @@ use Rattle.strategy_script.specs.declared.script.Step.{Step}
 use Rattle.fault_lines.specs.declared.refusal.Refusal.{Refusal}
 use Rattle.fault_lines.specs.declared.refusal.Refusal.TheVariants as told
 use Rattle.program_source.specs.Program.{TypesOf}
-use Rattle.program_source.specs.Stages.{As, Then}
+use Rattle.stages.specs.Stages.{As, Then}
 
 -- the steps of a script's text, at most 256, or why it is none
 abbrev pub ReadsScript : List ℕ → Result (List Step) ScriptNo → Type 0

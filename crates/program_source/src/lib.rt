@@ -1,6 +1,7 @@
 //! A program's text: the program with its types, and the terms that a script makes of it.
 #![tactic(auto)]
 
+pub mod laws;
 mod source;
 mod terms;
 

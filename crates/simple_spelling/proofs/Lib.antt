@@ -1,3 +1,3 @@
-pub mod Sizes
-pub mod Values
-pub mod Shapes
+mod Sizes
+mod Values
+mod Shapes

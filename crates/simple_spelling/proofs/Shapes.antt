@@ -11,7 +11,7 @@ use Rattle.length_spelling.specs.Formulas.{index_formula, operator_of}
 use Rattle.index_simplify.specs.Operations.{simple}
 use Rattle.index_simplify.specs.Shapes as shape
 use Rattle.index_simplify.specs.Shapes.{EachNode, IsPlain}
-use Rattle.index_simplify.proofs.Operations.{simple_is_simplified}
+use Rattle.index_simplify.specs.Promises.{ExpressionsAreSimplified}
 use Rattle.simple_spelling.specs.Redundant.{IsRedundant, SumOfNumbers, ProductOfNumbers, LeastOfNumbers, GreatestOfNumbers, QuotientOfNumbers, RemainderOfNumbers, PlusZero, ZeroPlus, MinusZero, TimesOne, OneTimes, TimesZero, ZeroTimes, OverOne, ModuloOne, CellOfParts, IsIrredundant}
 use Rattle.simple_spelling.specs.Laws.{SimpleFormulasAreIrredundant}
 
@@ -130,5 +130,5 @@ irredundant (Literal n) h = tt
 irredundant (Size k) h = tt
 irredundant (Binary o a b) h = ((λ red. h.0.irredundant (redundant_back (Binary o a b) _ red refl)), irredundant a h.1, irredundant b h.2)
 
-pub are_irredundant : SimpleFormulasAreIrredundant
-are_irredundant r e = irredundant (simple r e) (simple_is_simplified r e).simple
+pub are_irredundant : ExpressionsAreSimplified → SimpleFormulasAreIrredundant
+are_irredundant simplified r e = irredundant (simple r e) (simplified r e).simple

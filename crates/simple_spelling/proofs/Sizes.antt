@@ -11,7 +11,7 @@ use Rattle.kernel_tree.specs.Grammar.{is_constant, is_operator, names_declared}
 use Rattle.length_spelling.specs.Formulas.{index_formula, operator_of}
 use Rattle.index_simplify.specs.Operations.{simple}
 use Rattle.index_simplify.specs.Simplified.{height, names_are, HasWordLiterals}
-use Rattle.index_simplify.proofs.Operations.{simple_is_simplified}
+use Rattle.index_simplify.specs.Promises.{ExpressionsAreSimplified}
 use Rattle.simple_spelling.specs.Formulas.{formula_nodes}
 use Rattle.simple_spelling.specs.Laws.{SimpleFormulasAreNoLarger}
 
@@ -73,9 +73,9 @@ module _ (k : Kernel) (loops : ℕ) where
       let parts = both (AreNames a) (AreNames b) h in
       and_both (is_operator (operator_of o)) _ (operators o) (and_both (names_declared k loops (index_formula a)) (names_declared k loops (index_formula b)) (names_back a parts.0 w.0) (names_back b parts.1 w.1))
 
-pub are_no_larger : SimpleFormulasAreNoLarger
-are_no_larger r e =
-    let made = simple_is_simplified r e in
+pub are_no_larger : ExpressionsAreSimplified → SimpleFormulasAreNoLarger
+are_no_larger simplified r e =
+    let made = simplified r e in
     record {
       declared = λ k loops h. let names = names_of k loops e h in names_back k loops (simple r e) (made.small.names (λ i. nat_lt i loops) (λ s. nat_lt s k.sizes) names.0) (made.literals names.1);
       constant = λ h. same_constant (simple r e) ∙ made.small.names (λ i. false) (λ s. true) (sym (same_constant e) ∙ h);

@@ -13,7 +13,15 @@ use Rattle.index_simplify.specs.Simplified.{HasWordLiterals}
 use Rattle.simple_spelling.specs.Formulas.{formula_nodes, simple_formula}
 use Rattle.simple_spelling.specs.Redundant.{IsIrredundant}
 
--- among words, at a point of the ranges at which the expression is ranged and divides by no 0
+-- among words, where an expression is ranged and divides by no 0, it has its exact value
+abbrev pub RangedFormulasHaveTheValues : Type 0
+RangedFormulasHaveTheValues =
+    (ids : Ids) (loops variables : List ℕ) (e : Expression) (n : ℕ)
+    → AreWords ids.sizes → AreWords loops → HasWordLiterals e
+    → IsRangedAt ids.sizes loops e → HasNoZeroDivisorAt ids.sizes loops e
+    → exact ids.sizes loops e ≡ pos n → value ids loops variables (index_formula e) ≡ Some n
+
+-- and simplified too, at a point of the ranges
 abbrev pub SimpleFormulasHaveTheValues : Type 0
 SimpleFormulasHaveTheValues =
     (r : PlainRanges) (ids : Ids) (loops variables : List ℕ) (e : Expression) (n : ℕ)

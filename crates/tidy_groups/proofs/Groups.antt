@@ -12,7 +12,7 @@ use Rattle.lift_ir.specs.Terms.{LoadSet, WorkGroup, Local, LocalMemory, Term, Bo
 use Rattle.lift_ir.specs.Scalars.{at_index}
 use Rattle.printed_form.specs.Counts.{load_count}
 use Rattle.printed_form.specs.Marks.{Marks, laid_in, loaded_marks}
-use Rattle.printed_form.specs.Form.{argument_marks, IsLoaded, IsWritten}
+use Rattle.printed_form.specs.Form.{argument_marks}
 use Rattle.printed_form.specs.Whole.{no_marks, output_marks}
 use Rattle.printed_form.specs.Printer.{input_marks}
 use Rattle.printed_form.specs.Programs.{input_shape, first_buffer, lowered_root}
@@ -23,15 +23,14 @@ use Rattle.group_terms.specs.Uses.{phases_in}
 use Rattle.group_terms.specs.Form.{Used, used_after, IsLocalLoop, IsGroupArgument, IsGroupWritten, IsGroupTurn, IsOverGroups}
 use Rattle.tidy_indices.specs.Laws.{AreBelow, Change, KeepsValues}
 use Rattle.tidy_kernels.specs.Pass.{tidied_code}
-use Rattle.tidy_terms.proofs.Statements.{loaded, loop}
-use Rattle.tidy_terms.proofs.Terms.{written}
+use Rattle.tidy_terms.specs.Laws.{TidiedLoadsArePrinted, TidiedMapLoopsArePrinted}
 use Rattle.tidy_groups.specs.Laws.{TidiedGroupCodesArePrinted, TidiedGroupKernelsArePrinted}
 
 past : (tidy : Change) (around : List Formula) (f : Fencing) (before after : Code) → IsPast f before after → IsPast f (tidied_code tidy around before) (tidied_code tidy around after)
 past tidy around Open before after h = ap (tidied_code tidy around) h
 past tidy around (Fenced on_local on_global) before after h = ap (tidied_code tidy around) h
 
-module _ {A : Type 0} (num : A → ℕ) (l : Launch) (ins : ℕ → Marks) (fence : ℕ → Fencing) (tidy : Change) (keeps : KeepsValues tidy l.sizes) where
+module _ {A : Type 0} (loaded : TidiedLoadsArePrinted) (looped : TidiedMapLoopsArePrinted A) (num : A → ℕ) (l : Launch) (ins : ℕ → Marks) (fence : ℕ → Fencing) (tidy : Change) (keeps : KeepsValues tidy l.sizes) where
   -- within the loop over groups
   module _ (bound : Formula) (turns : ℕ) (is : bound_value l.sizes bound ≡ Some turns) where
     abbrev around : List Formula
@@ -46,16 +45,7 @@ module _ {A : Type 0} (num : A → ℕ) (l : Launch) (ins : ℕ → Marks) (fenc
     local_loop : (env : (turn var : ℕ) → Marks) (u : Used) (len : ℕ) (loads : LoadSet) (marks : ℕ → Marks) (b : Term A) (w : ℕ → Marks) (code rest : Code)
         → IsLocalLoop num l ins fence turns env u len loads marks b w code rest → IsLocalLoop num l ins fence turns env u len loads marks b w (tidied code) (tidied rest)
     local_loop env u len loads marks b w code rest h = λ i lt.
-        loop l ins tidy keeps around (i ∷ []) (below i lt) Local len
-        (λ j body. (inner : Code) × IsLoaded l ins (i ∷ j ∷ []) loads (at_index j (marks i)) u.variables body inner
-        × IsWritten l ins num (i ∷ j ∷ []) (push (loaded_marks loads (at_index j (marks i)) u.variables) (env i)) u.privates (u.variables + load_count loads) b (at_index j (w i)) inner End)
-        code rest
-        (λ c j body at turn. (
-          tidied_code tidy (bound ∷ c ∷ []) turn.0,
-          loaded l ins tidy keeps (bound ∷ c ∷ []) (i ∷ j ∷ []) at loads (at_index j (marks i)) u.variables body turn.0 turn.1,
-          written l ins num tidy keeps (bound ∷ c ∷ []) (i ∷ j ∷ []) at (push (loaded_marks loads (at_index j (marks i)) u.variables) (env i)) u.privates (u.variables + load_count loads) b (at_index j (w i)) turn.0 End turn.2,
-        ))
-        (h i lt)
+        looped l ins num tidy around (i ∷ []) Local len (env i) u.privates u.variables loads (marks i) (w i) b code rest keeps (below i lt) (h i lt)
 
     mutual
       group_argument : (env : (turn var : ℕ) → Marks) (u : Used) (t : Term A) (code rest : Code)
@@ -89,7 +79,7 @@ module _ {A : Type 0} (num : A → ℕ) (l : Launch) (ins : ℕ → Marks) (fenc
     group_turn env loads marks b w code h = (
       tidied h.0,
       tidied h.1,
-      λ i lt. loaded l ins tidy keeps around (i ∷ []) (below i lt) loads (at_index i marks) 0 code h.0 (h.2 i lt),
+      λ i lt. loaded l ins tidy around (i ∷ []) loads (at_index i marks) 0 code h.0 keeps (below i lt) (h.2 i lt),
       group_written (λ i. push (loaded_marks loads (at_index i marks) 0) env) (record { locals = 0; privates = 0; variables = load_count loads; phases = 0 }) b (λ i. at_index i w) h.0 h.1 h.3,
       past tidy around (fence (phases_in b)) h.1 End h.4,
     )
@@ -106,11 +96,11 @@ module _ {A : Type 0} (num : A → ℕ) (l : Launch) (ins : ℕ → Marks) (fenc
   )
   over_groups env _ w code h = absurd h
 
-pub code_is : TidiedGroupCodesArePrinted (List Monomial)
-code_is num l ins fence env tidy t to code keeps h = over_groups num l ins fence tidy keeps env t to code h
+pub code_is : TidiedLoadsArePrinted → TidiedMapLoopsArePrinted (List Monomial) → TidiedGroupCodesArePrinted (List Monomial)
+code_is loaded looped num l ins fence env tidy t to code keeps h = over_groups loaded looped num l ins fence tidy keeps env t to code h
 
-pub kernel_is : TidiedGroupKernelsArePrinted
-kernel_is d bases t a l tidy k keeps h = record {
+pub kernel_is : TidiedLoadsArePrinted → TidiedMapLoopsArePrinted (List Monomial) → TidiedGroupKernelsArePrinted
+kernel_is loaded looped d bases t a l tidy k keeps h = record {
   inputs = h.inputs;
   outputs = h.outputs;
   sizes = h.sizes;
@@ -119,5 +109,5 @@ kernel_is d bases t a l tidy k keeps h = record {
   variables = h.variables;
   fence = h.fence;
   needed = h.needed;
-  code = over_groups (length_at bases) l (input_marks (length_at bases) (first_buffer d.inputs) (input_shape d.inputs)) h.fence tidy keeps no_marks (lowered_root t a) (output_marks (ty_at bases (type_in a))) k.code h.code;
+  code = over_groups loaded looped (length_at bases) l (input_marks (length_at bases) (first_buffer d.inputs) (input_shape d.inputs)) h.fence tidy keeps no_marks (lowered_root t a) (output_marks (ty_at bases (type_in a))) k.code h.code;
 }

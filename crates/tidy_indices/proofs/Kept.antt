@@ -11,26 +11,24 @@ use Rattle.index_simplify.specs.PlainRanges.{PlainRanges}
 use Rattle.index_simplify.specs.Operations.{simple}
 use Rattle.index_simplify.specs.Ranges.{AreMultiples}
 use Rattle.index_simplify.specs.Simplified.{AreDeclared}
-use Rattle.index_simplify.proofs.Operations.{simple_is_simplified}
+use Rattle.index_simplify.specs.Promises.{ExpressionsAreSimplified}
 use Rattle.simple_spelling.specs.Formulas.{formula_nodes, simple_formula}
 use Rattle.simple_spelling.specs.Redundant.{IsIrredundant}
-use Rattle.simple_spelling.specs.Laws.{IsNoLarger}
-use Rattle.simple_spelling.proofs.Shapes.{are_irredundant}
-use Rattle.simple_spelling.proofs.Sizes.{are_no_larger}
-use Rattle.simple_spelling.proofs.Values.{have_the_values}
+use Rattle.simple_spelling.specs.Laws.{IsNoLarger, SimpleFormulasAreIrredundant, SimpleFormulasAreNoLarger}
 use Rattle.tidy_indices.specs.declared.spans.Span.{Span}
 use Rattle.tidy_indices.specs.Reading.{reading, IsIndexFormula}
 use Rattle.tidy_indices.specs.Spans.{span_of}
 use Rattle.tidy_indices.specs.Places.{PlainPlace, ranges_outside, in_loop_of, in_loop, inside, inside_all, place_of}
 use Rattle.tidy_indices.specs.Tidy.{ranges_by, tidied_reading, tidied_at}
 use Rattle.tidy_indices.specs.Laws.{AreBelow, EachIsIndexFormula, TidyFormulasKeepValues, TidyFormulasAreNoLarger, TidyFormulasAreIrredundant, TidyFormulasAreShort}
+use Rattle.tidy_indices.proofs.Known.{Known}
 use Rattle.tidy_indices.proofs.Readings.{is_read, index_reads}
 use Rattle.tidy_indices.proofs.Worths.{simple_worth}
 use Rattle.tidy_indices.proofs.Intervals.{AreSizesOf, is_shown, is_ranged}
 use Rattle.tidy_indices.proofs.Turns.{Holds, place_is_of, place_holds, turns_fit, turns_up_to, are_below_lengths, multiples_at, sizes_fit, sizes_within, sizes_divide, shown_value}
 
 -- ---- values
-module _ (names : List Name) (ids : Ids) (fit : AreWords ids.sizes) (sizes_are : AreSizesOf names ids.sizes) (all : AreMultiples (ranges_outside names) ids.sizes) (turns variables : List ℕ) (p : PlainPlace) (h : Holds names ids.sizes fit sizes_are all p turns) (f : Formula) (n : ℕ) (is : value ids turns variables f ≡ Some n) where
+module _ (facts : Known) (names : List Name) (ids : Ids) (fit : AreWords ids.sizes) (sizes_are : AreSizesOf names ids.sizes) (all : AreMultiples (ranges_outside names) ids.sizes) (turns variables : List ℕ) (p : PlainPlace) (h : Holds names ids.sizes fit sizes_are all p turns) (f : Formula) (n : ℕ) (is : value ids turns variables f ≡ Some n) where
   module _ (known : p.is_known ≡ true) (e : Expression) (read : reading f ≡ Some e) where
     words : AreWords turns
     words = turns_fit names ids.sizes fit sizes_are all p.around.lengths p.lasts turns (h.loops known)
@@ -43,15 +41,15 @@ module _ (names : List Name) (ids : Ids) (fit : AreWords ids.sizes) (sizes_are :
         let it = is_read f e read in
         let up_to = turns_up_to names ids.sizes fit sizes_are all p.around.lengths p.lasts turns (h.loops known) in
         let shown = is_shown names ids.sizes p.lasts turns sizes_are up_to e s it.literals (ap (λ z. span_of z p.lasts e) (sym h.is_of.sizes) ∙ span) in
-        let twice : Some n ≡ Some shown.at = sym worth ∙ shown_value names ids p.lasts turns variables sizes_are up_to e s fit words it.literals shown in
-        have_the_values p.around ids turns variables e shown.at fit words it.literals
+        let twice : Some n ≡ Some shown.at = sym worth ∙ shown_value facts names ids p.lasts turns variables sizes_are up_to e s fit words it.literals shown in
+        facts.simple p.around ids turns variables e shown.at fit words it.literals
         (record { loops = are_below_lengths names ids.sizes fit sizes_are all p turns (h.loops known); multiples = multiples_at names ids.sizes fit sizes_are all p h.is_of; own = it.wide turns words })
         (is_ranged names ids.sizes p.lasts turns sizes_are up_to e s shown) shown.divisors shown.exact_is
         ∙ sym twice
 
     by_span : (s : Option Span) → span_of p.sizes p.lasts e ≡ s → value ids turns variables (simple_formula (ranges_by p s) e) ≡ Some n
     by_span (Some s) span = ranged_value s span
-    by_span None span = let it = is_read f e read in simple_worth p.around.multiples ids turns variables fit words (multiples_at names ids.sizes fit sizes_are all p h.is_of) e n it.literals it.wide worth
+    by_span None span = let it = is_read f e read in simple_worth facts p.around.multiples ids turns variables fit words (multiples_at names ids.sizes fit sizes_are all p h.is_of) e n it.literals it.wide worth
 
   by_reading : (known : p.is_known ≡ true) (e : Option Expression) → reading f ≡ e → value ids turns variables (tidied_reading p f e) ≡ Some n
   by_reading known (Some e) read = by_span known e read (span_of p.sizes p.lasts e) refl
@@ -61,29 +59,29 @@ module _ (names : List Name) (ids : Ids) (fit : AreWords ids.sizes) (sizes_are :
   by_known true known = by_reading known (reading f) refl
   by_known false known = is
 
-pub keep_values : TidyFormulasKeepValues
-keep_values names bases are ok ids bounds turns variables f n same below is =
+pub keep_values : Known → TidyFormulasKeepValues
+keep_values facts names bases are ok ids bounds turns variables f n same below is =
     let fit = subst AreWords (sym same) (sizes_fit names bases are ok) in
     let within = subst (AreSizesOf names) (sym same) (sizes_within names bases are ok) in
     let divide = subst (AreMultiples (ranges_outside names)) (sym same) (sizes_divide names bases ok) in
     let p : PlainPlace = place_of names bounds in
-    by_known names ids fit within divide turns variables p
-    (place_holds names ids.sizes fit within divide bounds turns (subst (λ z. AreBelow z bounds turns) (sym same) below)) f n is p.is_known refl
+    by_known facts names ids fit within divide turns variables p
+    (place_holds names ids.sizes fit within divide facts bounds turns (subst (λ z. AreBelow z bounds turns) (sym same) below)) f n is p.is_known refl
 
 -- ---- sizes
 itself : (f : Formula) → IsNoLarger f f
 itself f = record { declared = λ k loops h. h; constant = λ h. h; low = omega arith; nodes = omega arith }
 
-no_larger_by : (p : PlainPlace) (f : Formula) (e : Option Expression) → reading f ≡ e → IsNoLarger f (tidied_reading p f e)
-no_larger_by p f (Some e) read = let r = ranges_by p (span_of p.sizes p.lasts e) in subst (λ z. IsNoLarger z (simple_formula r e)) (is_read f e read).same (are_no_larger r e)
-no_larger_by p f None read = itself f
+no_larger_by : SimpleFormulasAreNoLarger → (p : PlainPlace) (f : Formula) (e : Option Expression) → reading f ≡ e → IsNoLarger f (tidied_reading p f e)
+no_larger_by small p f (Some e) read = let r = ranges_by p (span_of p.sizes p.lasts e) in subst (λ z. IsNoLarger z (simple_formula r e)) (is_read f e read).same (small r e)
+no_larger_by small p f None read = itself f
 
-no_larger_at : (p : PlainPlace) (f : Formula) (b : Bool) → IsNoLarger f (if b then tidied_reading p f (reading f) else f)
-no_larger_at p f true = no_larger_by p f (reading f) refl
-no_larger_at p f false = itself f
+no_larger_at : SimpleFormulasAreNoLarger → (p : PlainPlace) (f : Formula) (b : Bool) → IsNoLarger f (if b then tidied_reading p f (reading f) else f)
+no_larger_at small p f true = no_larger_by small p f (reading f) refl
+no_larger_at small p f false = itself f
 
-pub no_larger : TidyFormulasAreNoLarger
-no_larger names bounds f = let p : PlainPlace = place_of names bounds in no_larger_at p f p.is_known
+pub no_larger : SimpleFormulasAreNoLarger → TidyFormulasAreNoLarger
+no_larger small names bounds f = let p : PlainPlace = place_of names bounds in no_larger_at small p f p.is_known
 
 -- ---- in loops whose bounds are read
 loop_known : (p : PlainPlace) (e : Expression) (s : Option Span) → p.is_known ≡ true → (in_loop_of p e s).is_known ≡ true
@@ -116,11 +114,11 @@ simplified_here p f e known read = record {
   same = ap (λ (b : Bool). if b then tidied_reading p f (reading f) else f) known ∙ ap (tidied_reading p f) read;
 }
 
-pub irredundant : TidyFormulasAreIrredundant
-irredundant names bounds f each is =
+pub irredundant : SimpleFormulasAreIrredundant → TidyFormulasAreIrredundant
+irredundant plain names bounds f each is =
     let read = index_reads f is in
     let here = simplified_here (place_of names bounds) f read.0 (all_known _ bounds each refl) read.1 in
-    subst IsIrredundant (sym here.same) (are_irredundant here.ranges read.0)
+    subst IsIrredundant (sym here.same) (plain here.ranges read.0)
 
 same_nodes : (e : Expression) → formula_nodes (index_formula e) ≡ nodes e
 same_nodes (index.Variable k l g) = refl
@@ -132,12 +130,12 @@ same_nodes (index.Binary o a b) = let x = same_nodes a in let y = same_nodes b i
 declared_by : (r q : PlainRanges) (e : Expression) → r.multiples ≡ q.multiples → AreDeclared r e → AreDeclared q e
 declared_by r q e same h = subst (λ ms. AreDeclared (record { lengths = q.lengths; multiples = ms }) e) same h
 
-pub short : TidyFormulasAreShort
-short names bounds f e each read declared =
+pub short : ExpressionsAreSimplified → TidyFormulasAreShort
+short simplified names bounds f e each read declared =
     let here = simplified_here (place_of names bounds) f e (all_known _ bounds each refl) read in
     let of = place_is_of names bounds in
     let fine = declared_by (ranges_outside names) here.ranges e (sym (here.multiples ∙ of.multiples)) declared in
-    let few = (simple_is_simplified here.ranges e).short fine in
+    let few = (simplified here.ranges e).short fine in
     let count = same_nodes (simple here.ranges e) in
     let same = ap formula_nodes here.same in
     omega arith

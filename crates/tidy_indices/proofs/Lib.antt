@@ -1,5 +1,6 @@
-pub mod Readings
-pub mod Worths
-pub mod Intervals
-pub mod Turns
-pub mod Kept
+mod Known
+mod Readings
+mod Worths
+mod Intervals
+mod Turns
+mod Kept

@@ -1,7 +1,7 @@
 -- What is known at a place holds at the turns of the loops around.
 use Rattle.std.proofs.Common.{◌≡◌, ℕ, zero, suc, pos, ◌-◌, ◌*◌, ◌%◌, ◌^◌, ◌<◌, ◌≤◌, true, Option, Some, None, List, [], ◌∷◌, ◌++◌, refl, sym, ap, ◌∙◌, subst, arith}
-use Rattle.std.specs.Prelude.{◌<ℤ◌, map, slice_get, slice_index, unsigned_abs}
-use Rattle.std.proofs.Math.Nat.{mod-eq_of_lt, mul-mod_right}
+use Rattle.std.specs.Prelude.{◌<ℤ◌, map, slice_get, slice_index}
+use Rattle.std.proofs.Math.Nat.{mul-mod_right}
 use Rattle.std.proofs.lemmas.Int.{ints}
 use Rattle.std.proofs.lemmas.List.{append-nil}
 use Rattle.size_arith.specs.declared.names.Name.{Name}
@@ -9,38 +9,22 @@ use Rattle.size_arith.specs.Ranges.{AreNames, Admissible, sizes_at}
 use Rattle.index_expr.specs.declared.operation.Operation.{Operation}
 use Rattle.index_expr.specs.Expression as index
 use Rattle.index_expr.specs.Expression.{Expression}
-use Rattle.index_expr.specs.Values.{operate, exact, wrapped}
-use Rattle.index_expr.proofs.Words.{ranged_is_exact, ranged_divisors}
+use Rattle.index_expr.specs.Values.{operate, exact}
 use Rattle.kernel_tree.specs.Formula.{Formula, Ids, value, bound_value, sizes_alone}
-use Rattle.length_spelling.specs.Formulas.{in_words, index_formula}
+use Rattle.length_spelling.specs.Formulas.{index_formula}
 use Rattle.length_spelling.specs.Laws.{AreWords}
-use Rattle.length_spelling.proofs.Values.{indices_are_spelled}
 use Rattle.index_simplify.specs.Operations.{simple}
 use Rattle.index_simplify.specs.Ranges.{AreMultiples, AreBelowLengths}
 use Rattle.index_simplify.specs.Simplified.{HasWordLiterals}
-use Rattle.index_simplify.proofs.Operations.{simple_is_simplified}
 use Rattle.tidy_indices.specs.declared.spans.Span.{Span}
 use Rattle.tidy_indices.specs.Reading.{reading}
 use Rattle.tidy_indices.specs.Spans.{from_to, operated_on, span_of}
 use Rattle.tidy_indices.specs.Places.{PlainPlace, ranges_outside, without_loops, beyond_words, in_loop_of, in_loop, inside, inside_all, place_of}
 use Rattle.tidy_indices.specs.Laws.{AreBelow}
+use Rattle.tidy_indices.proofs.Known.{Known}
 use Rattle.tidy_indices.proofs.Readings.{AreWide, is_read}
 use Rattle.tidy_indices.proofs.Worths.{word_of}
 use Rattle.tidy_indices.proofs.Intervals.{IsIn, AreSizesOf, AreUpTo, IsShown, is_shown, is_ranged}
-
--- ---- lists of bounds and turns
-pub below_more : (sizes : List ℕ) (bounds : List Formula) (turns : List ℕ) (b : Formula) (n t : ℕ) → AreBelow sizes bounds turns → bound_value sizes b ≡ Some n → t < n → AreBelow sizes (bounds ++ b ∷ []) (turns ++ t ∷ [])
-below_more sizes [] [] b n t h e lt = (n, e, lt, tt)
-below_more sizes [] (u ∷ turns) b n t h e lt = absurd h
-below_more sizes (c ∷ bounds) [] b n t h e lt = absurd h
-below_more sizes (c ∷ bounds) (u ∷ turns) b n t h e lt = (h.0, h.1, h.2, below_more sizes bounds turns b n t h.3 e lt)
-
-inside_more : (p : PlainPlace) (bounds : List Formula) (b : Formula) → inside_all p (bounds ++ b ∷ []) ≡ inside (inside_all p bounds) b
-inside_more p [] b = refl
-inside_more p (c ∷ bounds) b = inside_more (inside p c) bounds b
-
-pub inside_last : (names : List Name) (bounds : List Formula) (b : Formula) → place_of names (bounds ++ b ∷ []) ≡ inside (place_of names bounds) b
-inside_last names bounds b = inside_more _ bounds b
 
 -- ---- what is known of sizes stays
 pub record IsOf (names : List Name) (p : PlainPlace) : Type 0 where
@@ -86,20 +70,11 @@ sizes_divide (n ∷ names) (y ∷ bases) ok zero m h =
 sizes_divide (n ∷ names) (y ∷ bases) ok (suc k) m h = sizes_divide names bases ok.1 k m h
 
 -- ---- an expression that has a span is worth what it is exactly
-of_words : (e : Expression) → HasWordLiterals e → in_words e ≡ e
-of_words (index.Variable k l g) h = refl
-of_words (index.Literal n) h = ap index.Literal (mod-eq_of_lt h)
-of_words (index.Size k) h = refl
-of_words (index.Binary o a b) h = ap (λ x. index.Binary o x (in_words b)) (of_words a h.0) ∙ ap (index.Binary o a) (of_words b h.1)
-
-pub shown_value : (names : List Name) (ids : Ids) (lasts turns variables : List ℕ) (sizes_are : AreSizesOf names ids.sizes) (turns_are : AreUpTo lasts turns) (e : Expression) (s : Span)
+pub shown_value : Known → (names : List Name) (ids : Ids) (lasts turns variables : List ℕ) (sizes_are : AreSizesOf names ids.sizes) (turns_are : AreUpTo lasts turns) (e : Expression) (s : Span)
     → AreWords ids.sizes → AreWords turns → HasWordLiterals e → (h : IsShown names ids.sizes lasts turns sizes_are turns_are e s)
     → value ids turns variables (index_formula e) ≡ Some h.at
-shown_value names ids lasts turns variables sizes_are turns_are e s fit turns_fit lits h =
-    let fine = is_ranged names ids.sizes lasts turns sizes_are turns_are e s h in
-    let some = indices_are_spelled ids turns variables e fit turns_fit (ranged_divisors ids.sizes turns e fine h.divisors) in
-    let same : pos (wrapped ids.sizes turns e) ≡ pos h.at = ranged_is_exact ids.sizes turns e fine ∙ h.exact_is in
-    ap (λ f. value ids turns variables (index_formula f)) (sym (of_words e lits)) ∙ some ∙ ap (λ z. Some (unsigned_abs z)) same
+shown_value facts names ids lasts turns variables sizes_are turns_are e s fit turns_fit lits h =
+    facts.ranged ids turns variables e h.at fit turns_fit lits (is_ranged names ids.sizes lasts turns sizes_are turns_are e s h) h.divisors h.exact_is
 
 no_turns : (o : Operation) (p q : Option Span) (s : Span) → operated_on o p q ≡ Some s → ((t : Span) × (p ≡ Some t)) × ((t : Span) × (q ≡ Some t))
 no_turns o (Some p) (Some q) s h = ((p, refl), (q, refl))
@@ -186,54 +161,55 @@ module _ (names : List Name) (sizes : List ℕ) (fit : AreWords sizes) (sizes_ar
   no_words : AreWords []
   no_words k = omega arith
 
-  -- the turn of a loop whose bound has a span
-  shown_turn : (p : PlainPlace) (e : Expression) (s : Span) (n t : ℕ) → IsOf names p → HasWordLiterals e → AreWide e → span_of names [] e ≡ Some s → value (sizes_alone sizes) [] [] (index_formula e) ≡ Some n → t < n → IsTurn (simple (without_loops p.around) e) (s.greatest - 1) t
-  shown_turn p e s n t is_of lits wide h w lt =
-      let shown = is_shown names sizes [] [] sizes_are (λ k g f. absurd (cc f)) e s lits h in
-      let same : n ≡ shown.at = (let both : Some n ≡ Some shown.at = sym w ∙ shown_value names (sizes_alone sizes) [] [] [] sizes_are (λ k g f. absurd (cc f)) e s fit no_words lits shown in cc both) in
-      let below = shown.within.below in
-      let fits = shown.within.fits in
-      record {
-        count = n;
-        length_is = λ turns words.
-            ((simple_is_simplified (without_loops p.around) e).stands sizes turns (record { loops = λ k m f. absurd (cc f); multiples = multiples_at p is_of; own = wide turns words })).value
-            ∙ same_turns names sizes turns [] e s h ∙ shown.exact_is ∙ ap pos (sym same);
-        below = lt;
-        last = omega arith;
-        fits = omega arith;
-      }
+  module _ (facts : Known) where
+    -- the turn of a loop whose bound has a span
+    shown_turn : (p : PlainPlace) (e : Expression) (s : Span) (n t : ℕ) → IsOf names p → HasWordLiterals e → AreWide e → span_of names [] e ≡ Some s → value (sizes_alone sizes) [] [] (index_formula e) ≡ Some n → t < n → IsTurn (simple (without_loops p.around) e) (s.greatest - 1) t
+    shown_turn p e s n t is_of lits wide h w lt =
+        let shown = is_shown names sizes [] [] sizes_are (λ k g f. absurd (cc f)) e s lits h in
+        let same : n ≡ shown.at = (let both : Some n ≡ Some shown.at = sym w ∙ shown_value facts names (sizes_alone sizes) [] [] [] sizes_are (λ k g f. absurd (cc f)) e s fit no_words lits shown in cc both) in
+        let below = shown.within.below in
+        let fits = shown.within.fits in
+        record {
+          count = n;
+          length_is = λ turns words.
+              ((facts.simplified (without_loops p.around) e).stands sizes turns (record { loops = λ k m f. absurd (cc f); multiples = multiples_at p is_of; own = wide turns words })).value
+              ∙ same_turns names sizes turns [] e s h ∙ shown.exact_is ∙ ap pos (sym same);
+          below = lt;
+          last = omega arith;
+          fits = omega arith;
+        }
 
-  -- and of one whose bound may wrap
-  word_turn : (p : PlainPlace) (e : Expression) (n t : ℕ) → IsOf names p → HasWordLiterals e → value (sizes_alone sizes) [] [] (index_formula e) ≡ Some n → t < n → IsTurn beyond_words 4294967295 t
-  word_turn p e n t is_of lits w lt =
-      let word = word_of p.around.multiples (sizes_alone sizes) [] [] fit no_words (multiples_at p is_of) e n lits w in
-      record { count = 4294967296; length_is = λ turns words. refl; below = omega arith; last = omega arith; fits = omega arith }
+    -- and of one whose bound may wrap
+    word_turn : (p : PlainPlace) (e : Expression) (n t : ℕ) → IsOf names p → HasWordLiterals e → value (sizes_alone sizes) [] [] (index_formula e) ≡ Some n → t < n → IsTurn beyond_words 4294967295 t
+    word_turn p e n t is_of lits w lt =
+        let word = word_of facts p.around.multiples (sizes_alone sizes) [] [] fit no_words (multiples_at p is_of) e n lits w in
+        record { count = 4294967296; length_is = λ turns words. refl; below = omega arith; last = omega arith; fits = omega arith }
 
-  loop_holds : (p : PlainPlace) (us : List ℕ) (e : Expression) (n t : ℕ) → Holds p us → HasWordLiterals e → AreWide e → value (sizes_alone sizes) [] [] (index_formula e) ≡ Some n → t < n → (s : Option Span) → span_of p.sizes [] e ≡ s → Holds (in_loop_of p e s) (us ++ t ∷ [])
-  loop_holds p us e n t h lits wide w lt (Some s) f =
-      let turn = shown_turn p e s n t h.is_of lits wide (ap (λ z. span_of z [] e) (sym h.is_of.sizes) ∙ f) w lt in
-      record { is_of = loop_is_of names p e (Some s) h.is_of; loops = λ known. one_more p.around.lengths p.lasts us (simple (without_loops p.around) e) (s.greatest - 1) t (h.loops known) turn }
-  loop_holds p us e n t h lits wide w lt None f =
-      let turn = word_turn p e n t h.is_of lits w lt in
-      record { is_of = loop_is_of names p e None h.is_of; loops = λ known. one_more p.around.lengths p.lasts us beyond_words 4294967295 t (h.loops known) turn }
+    loop_holds : (p : PlainPlace) (us : List ℕ) (e : Expression) (n t : ℕ) → Holds p us → HasWordLiterals e → AreWide e → value (sizes_alone sizes) [] [] (index_formula e) ≡ Some n → t < n → (s : Option Span) → span_of p.sizes [] e ≡ s → Holds (in_loop_of p e s) (us ++ t ∷ [])
+    loop_holds p us e n t h lits wide w lt (Some s) f =
+        let turn = shown_turn p e s n t h.is_of lits wide (ap (λ z. span_of z [] e) (sym h.is_of.sizes) ∙ f) w lt in
+        record { is_of = loop_is_of names p e (Some s) h.is_of; loops = λ known. one_more p.around.lengths p.lasts us (simple (without_loops p.around) e) (s.greatest - 1) t (h.loops known) turn }
+    loop_holds p us e n t h lits wide w lt None f =
+        let turn = word_turn p e n t h.is_of lits w lt in
+        record { is_of = loop_is_of names p e None h.is_of; loops = λ known. one_more p.around.lengths p.lasts us beyond_words 4294967295 t (h.loops known) turn }
 
-  in_holds : (p : PlainPlace) (us : List ℕ) (b : Formula) (n t : ℕ) → Holds p us → bound_value sizes b ≡ Some n → t < n → (e : Option Expression) → reading b ≡ e → Holds (in_loop p e) (us ++ t ∷ [])
-  in_holds p us b n t h w lt (Some e) f =
-      let read = is_read b e f in
-      loop_holds p us e n t h read.literals read.wide (ap (value (sizes_alone sizes) [] []) read.same ∙ w) lt (span_of p.sizes [] e) refl
-  in_holds p us b n t h w lt None f = record { is_of = in_is_of names p None h.is_of; loops = λ known. absurd (cc known) }
+    in_holds : (p : PlainPlace) (us : List ℕ) (b : Formula) (n t : ℕ) → Holds p us → bound_value sizes b ≡ Some n → t < n → (e : Option Expression) → reading b ≡ e → Holds (in_loop p e) (us ++ t ∷ [])
+    in_holds p us b n t h w lt (Some e) f =
+        let read = is_read b e f in
+        loop_holds p us e n t h read.literals read.wide (ap (value (sizes_alone sizes) [] []) read.same ∙ w) lt (span_of p.sizes [] e) refl
+    in_holds p us b n t h w lt None f = record { is_of = in_is_of names p None h.is_of; loops = λ known. absurd (cc known) }
 
-  append_more : (us : List ℕ) (t : ℕ) (ts : List ℕ) → (us ++ t ∷ []) ++ ts ≡ us ++ t ∷ ts
-  append_more [] t ts = refl
-  append_more (u ∷ us) t ts = ap (λ z. u ∷ z) (append_more us t ts)
+    append_more : (us : List ℕ) (t : ℕ) (ts : List ℕ) → (us ++ t ∷ []) ++ ts ≡ us ++ t ∷ ts
+    append_more [] t ts = refl
+    append_more (u ∷ us) t ts = ap (λ z. u ∷ z) (append_more us t ts)
 
-  all_hold : (p : PlainPlace) (us : List ℕ) (bounds : List Formula) (turns : List ℕ) → Holds p us → AreBelow sizes bounds turns → Holds (inside_all p bounds) (us ++ turns)
-  all_hold p us [] [] h below = subst (Holds p) (sym (append-nil us)) h
-  all_hold p us [] (t ∷ turns) h below = absurd below
-  all_hold p us (b ∷ bounds) [] h below = absurd below
-  all_hold p us (b ∷ bounds) (t ∷ turns) h below =
-      subst (Holds (inside_all (inside p b) bounds)) (append_more us t turns)
-      (all_hold (inside p b) (us ++ t ∷ []) bounds turns (in_holds p us b below.0 t h below.1 below.2 (reading b) refl) below.3)
+    all_hold : (p : PlainPlace) (us : List ℕ) (bounds : List Formula) (turns : List ℕ) → Holds p us → AreBelow sizes bounds turns → Holds (inside_all p bounds) (us ++ turns)
+    all_hold p us [] [] h below = subst (Holds p) (sym (append-nil us)) h
+    all_hold p us [] (t ∷ turns) h below = absurd below
+    all_hold p us (b ∷ bounds) [] h below = absurd below
+    all_hold p us (b ∷ bounds) (t ∷ turns) h below =
+        subst (Holds (inside_all (inside p b) bounds)) (append_more us t turns)
+        (all_hold (inside p b) (us ++ t ∷ []) bounds turns (in_holds p us b below.0 t h below.1 below.2 (reading b) refl) below.3)
 
-  pub place_holds : (bounds : List Formula) (turns : List ℕ) → AreBelow sizes bounds turns → Holds (place_of names bounds) turns
-  place_holds bounds turns below = all_hold _ [] bounds turns (record { is_of = record { sizes = refl; multiples = refl }; loops = λ known. tt }) below
+    pub place_holds : (bounds : List Formula) (turns : List ℕ) → AreBelow sizes bounds turns → Holds (place_of names bounds) turns
+    place_holds bounds turns below = all_hold _ [] bounds turns (record { is_of = record { sizes = refl; multiples = refl }; loops = λ known. tt }) below

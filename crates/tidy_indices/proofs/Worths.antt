@@ -2,7 +2,7 @@
 use Rattle.std.proofs.Common.{◌≡◌, ◌≢◌, ℕ, zero, suc, ◌+◌, ◌-◌, ◌*◌, ◌/◌, ◌%◌, ◌^◌, ◌<◌, ◌≤◌, Bool, true, false, Option, Some, None, List, [], refl, sym, ap, ◌∙◌, subst, ⊎_elim, arith}
 use Rattle.std.specs.Prelude.{◌==◌, ◌&&◌, ◌||◌, nat_lt, nat_le, is_some, unwrap_or, if◌then◌else◌, slice_get, slice_index, replicate}
 use Rattle.std.proofs.Math.Nat.{mod-lt, mod-le, mod-eq_of_lt, div-le_self, div-add-mod, mul_assoc, mul_comm, div-one, mod-one}
-use Rattle.std.proofs.lemmas.Bool.{cases_Bool, eqb-true, eq-eqb, ltb-true, leb-true}
+use Rattle.std.proofs.lemmas.Bool.{and_parts, cases_Bool, eqb-true, eq-eqb, ltb-true, leb-true}
 use Rattle.index_expr.specs.declared.operation.Operation.{Operation}
 use Rattle.index_expr.specs.declared.operation.Operation.TheVariants.{Sum, Difference, Product, Quotient, Remainder, Least, Greatest}
 use Rattle.index_expr.specs.Expression.{Expression, Variable, Literal, Size, Binary}
@@ -21,10 +21,8 @@ use Rattle.index_simplify.specs.Laws.{first_part, scaled, applies, applied}
 use Rattle.index_simplify.specs.Operations.{first_law, by_law, simple}
 use Rattle.index_simplify.specs.Ranges.{AreMultiples}
 use Rattle.index_simplify.specs.Simplified.{HasWordLiterals}
-use Rattle.index_simplify.proofs.Tests.{both, is_operation}
-use Rattle.index_simplify.proofs.Shapes.{found_applies}
-use Rattle.index_simplify.proofs.Operations.{simple_is_simplified}
-use Rattle.index_simplify.proofs.Words.{simple_words}
+use Rattle.index_simplify.specs.Promises.{SameOperationsAreEqual}
+use Rattle.tidy_indices.proofs.Known.{Known}
 use Rattle.tidy_indices.proofs.Readings.{AreWide}
 
 -- ---- words
@@ -135,17 +133,17 @@ size_formula : (k : ℕ) (e : Expression) → same_size k e ≡ true → index_f
 size_formula k (Size j) e = ap formula.Size (eqb-true k j e)
 size_formula k _ e = absurd (cc e)
 
-same_formula : (a b : Expression) → same a b ≡ true → index_formula a ≡ index_formula b
-same_formula (Variable k l g) b h = variable_formula k l g b h
-same_formula (Literal n) b h = ap index_formula (sym (number_is n b h))
-same_formula (Size k) b h = size_formula k b h
-same_formula (Binary o a b) (Binary p c d) h =
-    let parts = both (same_operation o p && same a c) (same b d) h in
-    let front = both (same_operation o p) (same a c) parts.0 in
-    ap (λ q. formula.Binary (operator_of q) (index_formula a) (index_formula b)) (is_operation o p front.0)
-    ∙ ap (λ z. formula.Binary (operator_of p) z (index_formula b)) (same_formula a c front.1)
-    ∙ ap (formula.Binary (operator_of p) (index_formula c)) (same_formula b d parts.1)
-same_formula (Binary o a b) _ h = absurd (cc h)
+same_formula : SameOperationsAreEqual → (a b : Expression) → same a b ≡ true → index_formula a ≡ index_formula b
+same_formula equal (Variable k l g) b h = variable_formula k l g b h
+same_formula equal (Literal n) b h = ap index_formula (sym (number_is n b h))
+same_formula equal (Size k) b h = size_formula k b h
+same_formula equal (Binary o a b) (Binary p c d) h =
+    let parts = and_parts (same_operation o p && same a c) (same b d) h in
+    let front = and_parts (same_operation o p) (same a c) parts.0 in
+    ap (λ q. formula.Binary (operator_of q) (index_formula a) (index_formula b)) (equal o p front.0)
+    ∙ ap (λ z. formula.Binary (operator_of p) z (index_formula b)) (same_formula equal a c front.1)
+    ∙ ap (formula.Binary (operator_of p) (index_formula c)) (same_formula equal b d parts.1)
+same_formula equal (Binary o a b) _ h = absurd (cc h)
 
 -- ---- the shapes that the laws' tests ask for
 multiple_known : (k : ℕ) (known : Option ℕ) (d : Expression) → is_known_multiple known d ≡ true → (m : ℕ) × (known ≡ Some m) × (d ≡ Literal m)
@@ -181,7 +179,7 @@ whole_is r (Literal c) b h = base_is r c b h
   where
     base_is : (r : PlainRanges) (c : ℕ) (b : Expression) → is_base r c b ≡ true → (p : IsScaled r (Literal c) b) × (p.divisor ≡ p.times)
     base_is r c (Binary Quotient size d) h =
-        let parts = both (is_number c d) (is_multiple r size d) h in
+        let parts = and_parts (is_number c d) (is_multiple r size d) h in
         let m = multiple_is r size d parts.1 in
         let twice : Literal m.divisor ≡ Literal c = sym m.divisor_is ∙ number_is c d parts.0 in (
           record {
@@ -201,7 +199,7 @@ part_is : (c m : ℕ) (d : Expression) → d ≡ Literal m → is_part_of c d �
 part_is c m d e h = go (subst (λ x. is_part_of c x ≡ true) e h)
   where
     go : is_part_of c (Literal m) ≡ true → c % m ≡ 0
-    go t = eqb-true (c % m) 0 (both (nat_lt 0 m && nat_lt m c) (c % m == 0) t).1
+    go t = eqb-true (c % m) 0 (and_parts (nat_lt 0 m && nat_lt m c) (c % m == 0) t).1
 
 -- the same, and the literal is a multiple of the divisor
 scaled_is : (r : PlainRanges) (a b : Expression) → is_scaled_size r a b ≡ true → (p : IsScaled r a b) × (p.times % p.divisor ≡ 0)
@@ -209,7 +207,7 @@ scaled_is r (Literal c) b h = part_base r c b h
   where
     part_base : (r : PlainRanges) (c : ℕ) (b : Expression) → is_part_base r c b ≡ true → (p : IsScaled r (Literal c) b) × (p.times % p.divisor ≡ 0)
     part_base r c (Binary Quotient size d) h =
-        let parts = both (is_part_of c d) (is_multiple r size d) h in
+        let parts = and_parts (is_part_of c d) (is_multiple r size d) h in
         let m = multiple_is r size d parts.1 in (
           record {
             times = c;
@@ -232,28 +230,28 @@ record AreParts (a b : Expression) : Type 0 where
   first_is : index_formula a ≡ formula.Binary (operator_of Product) (formula.Binary (operator_of Quotient) (index_formula number) divisor) divisor
   second_is : index_formula b ≡ formula.Binary (operator_of Remainder) (index_formula number) divisor
 
-quotient_is : (q d m : Expression) → is_quotient q d m ≡ true → (index_formula q ≡ formula.Binary (operator_of Quotient) (index_formula (first_part q)) (index_formula m)) × (index_formula (first_part q) ≡ index_formula d)
-quotient_is (Binary Quotient e n) d m h =
-    let parts = both (same n m) (same e d) h in
-    (ap (formula.Binary (operator_of Quotient) (index_formula e)) (same_formula n m parts.0), same_formula e d parts.1)
-quotient_is _ d m h = absurd (cc h)
+quotient_is : SameOperationsAreEqual → (q d m : Expression) → is_quotient q d m ≡ true → (index_formula q ≡ formula.Binary (operator_of Quotient) (index_formula (first_part q)) (index_formula m)) × (index_formula (first_part q) ≡ index_formula d)
+quotient_is equal (Binary Quotient e n) d m h =
+    let parts = and_parts (same n m) (same e d) h in
+    (ap (formula.Binary (operator_of Quotient) (index_formula e)) (same_formula equal n m parts.0), same_formula equal e d parts.1)
+quotient_is equal _ d m h = absurd (cc h)
 
-rounded_is : (a d m : Expression) → is_rounded a d m ≡ true → AreParts a (Binary Remainder d m)
-rounded_is (Binary Product q n) d m h =
-    let parts = both (same n m) (is_quotient q d m) h in
-    let x = quotient_is q d m parts.1 in
+rounded_is : SameOperationsAreEqual → (a d m : Expression) → is_rounded a d m ≡ true → AreParts a (Binary Remainder d m)
+rounded_is equal (Binary Product q n) d m h =
+    let parts = and_parts (same n m) (is_quotient q d m) h in
+    let x = quotient_is equal q d m parts.1 in
     record {
       number = first_part q;
       divisor = index_formula m;
       number_is = refl;
-      first_is = ap (formula.Binary (operator_of Product) (index_formula q)) (same_formula n m parts.0) ∙ ap (λ z. formula.Binary (operator_of Product) z (index_formula m)) x.0;
+      first_is = ap (formula.Binary (operator_of Product) (index_formula q)) (same_formula equal n m parts.0) ∙ ap (λ z. formula.Binary (operator_of Product) z (index_formula m)) x.0;
       second_is = ap (λ z. formula.Binary (operator_of Remainder) z (index_formula m)) (sym x.1);
     }
-rounded_is _ d m h = absurd (cc h)
+rounded_is equal _ d m h = absurd (cc h)
 
-parts_are : (a b : Expression) → are_parts a b ≡ true → AreParts a b
-parts_are a (Binary Remainder d m) h = rounded_is a d m h
-parts_are a _ h = absurd (cc h)
+parts_are : SameOperationsAreEqual → (a b : Expression) → are_parts a b ≡ true → AreParts a b
+parts_are equal a (Binary Remainder d m) h = rounded_is equal a d m h
+parts_are equal a _ h = absurd (cc h)
 
 -- ---- no variable that may be any word stays below a word
 filled : (k n : ℕ) → slice_index (replicate (suc k) n) k ≡ n
@@ -274,7 +272,7 @@ only true h = refl
 only false h = absurd (cc h)
 
 -- by what is known of sizes alone
-module _ (multiples : List ℕ) where
+module _ (facts : Known) (multiples : List ℕ) where
   abbrev Sizes : PlainRanges
   Sizes = record { lengths = []; multiples = multiples }
 
@@ -286,7 +284,7 @@ module _ (multiples : List ℕ) where
   not_below _ n wide lt h = absurd (cc h)
 
   not_cell : (e n : Expression) → AreWide e → HasWordLiterals n → is_cell Sizes e n ≡ true → ⊥
-  not_cell (Binary Sum begin column) n wide lt h = not_below column n (λ turns w. (wide turns w).1) lt (both (is_begin begin n) (is_below Sizes column n) h).1
+  not_cell (Binary Sum begin column) n wide lt h = not_below column n (λ turns w. (wide turns w).1) lt (and_parts (is_begin begin n) (is_below Sizes column n) h).1
   not_cell _ n wide lt h = absurd (cc h)
 
   module _ (ids : Ids) (turns variables : List ℕ) (sizes_fit : AreWords ids.sizes) (turns_fit : AreWords turns) (all : AreMultiples Sizes ids.sizes) where
@@ -328,19 +326,19 @@ module _ (multiples : List ℕ) where
     -- a law's operation, and one argument that it knows
     second_known : (o p : Operation) (k n : ℕ) (a b : Expression) → (same_operation o p && is_number k b) ≡ true → IsWorth (Binary o a b) n → (x : ℕ) × (IsWorth a x) × (n ≡ operate_words p x k)
     second_known o p k n a b h w =
-        let tests = both (same_operation o p) (is_number k b) h in
+        let tests = and_parts (same_operation o p) (is_number k b) h in
         let q = parts o (index_formula a) (index_formula b) n w in
         let is = number_is k b tests.1 in
         let same : q.second ≡ k = some _ _ (sym q.second_is ∙ ap (λ e. value ids turns variables (index_formula e)) is) in
-        (q.first, q.first_is, q.is_result.result ∙ ap (λ x. operate_words x q.first q.second) (is_operation o p tests.0) ∙ ap (operate_words p q.first) same)
+        (q.first, q.first_is, q.is_result.result ∙ ap (λ x. operate_words x q.first q.second) (facts.operations o p tests.0) ∙ ap (operate_words p q.first) same)
 
     first_known : (o p : Operation) (k n : ℕ) (a b : Expression) → (same_operation o p && is_number k a) ≡ true → IsWorth (Binary o a b) n → (y : ℕ) × (IsWorth b y) × (n ≡ operate_words p k y)
     first_known o p k n a b h w =
-        let tests = both (same_operation o p) (is_number k a) h in
+        let tests = and_parts (same_operation o p) (is_number k a) h in
         let q = parts o (index_formula a) (index_formula b) n w in
         let is = number_is k a tests.1 in
         let same : q.first ≡ k = some _ _ (sym q.first_is ∙ ap (λ e. value ids turns variables (index_formula e)) is) in
-        (q.second, q.second_is, q.is_result.result ∙ ap (λ x. operate_words x q.first q.second) (is_operation o p tests.0) ∙ ap (λ z. operate_words p z q.second) same)
+        (q.second, q.second_is, q.is_result.result ∙ ap (λ x. operate_words x q.first q.second) (facts.operations o p tests.0) ∙ ap (λ z. operate_words p z q.second) same)
 
     -- the second stands where it has the first's worth
     keeps_second : (o p : Operation) (k n : ℕ) (a b : Expression) → HasWordLiterals a → ((x : ℕ) → x < 2 ^ 32 → operate_words p x k ≡ x) → (same_operation o p && is_number k b) ≡ true → IsWorth (Binary o a b) n → IsWorth a n
@@ -371,10 +369,10 @@ module _ (multiples : List ℕ) where
 
     minus_worth : (o : Operation) (a b : Expression) (n : ℕ) → HasWordLiterals a → (same_operation o Difference && same a b) ≡ true → IsWorth (Binary o a b) n → IsWorth (Literal 0) n
     minus_worth o a b n lits h w =
-        let tests = both (same_operation o Difference) (same a b) h in
+        let tests = and_parts (same_operation o Difference) (same a b) h in
         let q = parts o (index_formula a) (index_formula b) n w in
-        let alike : q.first ≡ q.second = some _ _ (sym q.first_is ∙ ap (value ids turns variables) (same_formula a b tests.1) ∙ q.second_is) in
-        ap Some (sym (q.is_result.result ∙ ap (λ x. operate_words x q.first q.second) (is_operation o Difference tests.0) ∙ ap (operate_words Difference q.first) (sym alike) ∙ minus_same q.first (word_of a q.first lits q.first_is)))
+        let alike : q.first ≡ q.second = some _ _ (sym q.first_is ∙ ap (value ids turns variables) (same_formula facts.operations a b tests.1) ∙ q.second_is) in
+        ap Some (sym (q.is_result.result ∙ ap (λ x. operate_words x q.first q.second) (facts.operations o Difference tests.0) ∙ ap (operate_words Difference q.first) (sym alike) ∙ minus_same q.first (word_of a q.first lits q.first_is)))
 
     -- ---- a literal times a size over its divisor
     times_over : (c s d : ℕ) → c % d ≡ 0 → s % d ≡ 0 → (c / d) * s ≡ c * (s / d)
@@ -394,13 +392,13 @@ module _ (multiples : List ℕ) where
         let size : over.first ≡ slice_index ids.sizes p.number = some _ _ (sym over.first_is) in
         let divisor : over.second ≡ p.divisor = some _ _ (sym over.second_is) in
         let quotient : q.second ≡ slice_index ids.sizes p.number / p.divisor = over.is_result.result ∙ ap (λ z. z / over.second) size ∙ ap (λ z. slice_index ids.sizes p.number / z) divisor in (
-          q.is_result.result ∙ ap (λ x. operate_words x q.first q.second) (is_operation o Product h) ∙ ap (λ z. operate_words Product z q.second) times ∙ ap (operate_words Product p.times) quotient,
+          q.is_result.result ∙ ap (λ x. operate_words x q.first q.second) (facts.operations o Product h) ∙ ap (λ z. operate_words Product z q.second) times ∙ ap (operate_words Product p.times) quotient,
           λ z. over.is_result.divisor tt (divisor ∙ z),
         )
 
     whole_worth : (o : Operation) (a b : Expression) (n : ℕ) → (same_operation o Product && is_whole_size Sizes a b) ≡ true → IsWorth (Binary o a b) n → IsWorth (first_part b) n
     whole_worth o a b n h w =
-        let tests = both (same_operation o Product) (is_whole_size Sizes a b) h in
+        let tests = and_parts (same_operation o Product) (is_whole_size Sizes a b) h in
         let p = whole_is Sizes a b tests.1 in
         let worth = scaled_worth o a b n tests.0 p.0 w in
         let rest = all p.0.number p.0.divisor p.0.known in
@@ -411,7 +409,7 @@ module _ (multiples : List ℕ) where
 
     part_worth : (o : Operation) (a b : Expression) (n : ℕ) → (same_operation o Product && is_scaled_size Sizes a b) ≡ true → IsWorth (Binary o a b) n → IsWorth (scaled a b) n
     part_worth o a b n h w =
-        let tests = both (same_operation o Product) (is_scaled_size Sizes a b) h in
+        let tests = and_parts (same_operation o Product) (is_scaled_size Sizes a b) h in
         let p = scaled_is Sizes a b tests.1 in
         let worth = scaled_worth o a b n tests.0 p.0 w in
         let rest = all p.0.number p.0.divisor p.0.known in
@@ -423,8 +421,8 @@ module _ (multiples : List ℕ) where
     -- the two parts of a number are that number
     parts_worth : (o : Operation) (a b : Expression) (n : ℕ) → HasWordLiterals a → (same_operation o Sum && are_parts a b) ≡ true → IsWorth (Binary o a b) n → IsWorth (first_part (first_part a)) n
     parts_worth o a b n lits h w =
-        let tests = both (same_operation o Sum) (are_parts a b) h in
-        let p = parts_are a b tests.1 in
+        let tests = and_parts (same_operation o Sum) (are_parts a b) h in
+        let p = parts_are facts.operations a b tests.1 in
         let q = parts o (index_formula a) (index_formula b) n w in
         let begin = parts Product (formula.Binary (operator_of Quotient) (index_formula p.number) p.divisor) p.divisor q.first (ap (value ids turns variables) (sym p.first_is) ∙ q.first_is) in
         let row = parts Quotient (index_formula p.number) p.divisor begin.first begin.first_is in
@@ -433,7 +431,7 @@ module _ (multiples : List ℕ) where
         let other : column.second ≡ row.second = some _ _ (sym column.second_is ∙ row.second_is) in
         let number : column.first ≡ row.first = some _ _ (sym column.first_is ∙ row.first_is) in
         let lt : row.first < 2 ^ 32 = word_of p.number row.first (subst HasWordLiterals p.number_is (first_words (first_part a) (first_words a lits))) row.first_is in
-        let sum : n ≡ operate_words Sum q.first q.second = q.is_result.result ∙ ap (λ x. operate_words x q.first q.second) (is_operation o Sum tests.0) in
+        let sum : n ≡ operate_words Sum q.first q.second = q.is_result.result ∙ ap (λ x. operate_words x q.first q.second) (facts.operations o Sum tests.0) in
         let is : n ≡ row.first = whole_from n q.first q.second begin.first begin.second row.first row.second column.first column.second sum begin.is_result.result row.is_result.result column.is_result.result divisor other number lt in
         ap (λ e. value ids turns variables (index_formula e)) p.number_is ∙ row.first_is ∙ ap Some (sym is)
       where
@@ -466,16 +464,16 @@ module _ (multiples : List ℕ) where
     law_worth law.ModuloOne o a b n x y wide h w = gives_second o Remainder 1 0 n a b mod-one h w
     law_worth law.WholeSize o a b n x y wide h w = whole_worth o a b n h w
     law_worth law.ScaledSize o a b n x y wide h w = part_worth o a b n h w
-    law_worth law.RowOfCell o a b n x y wide h w = absurd (not_cell a b wide y (both (same_operation o Quotient) (is_cell Sizes a b) h).1)
-    law_worth law.ColumnOfCell o a b n x y wide h w = absurd (not_cell a b wide y (both (same_operation o Remainder) (is_cell Sizes a b) h).1)
+    law_worth law.RowOfCell o a b n x y wide h w = absurd (not_cell a b wide y (and_parts (same_operation o Quotient) (is_cell Sizes a b) h).1)
+    law_worth law.ColumnOfCell o a b n x y wide h w = absurd (not_cell a b wide y (and_parts (same_operation o Remainder) (is_cell Sizes a b) h).1)
     law_worth law.CellOfParts o a b n x y wide h w = parts_worth o a b n x h w
 
     simple_wide : (e : Expression) → AreWide e → AreWide (simple Sizes e)
-    simple_wide e wide turns fit = ((simple_is_simplified Sizes e).stands ids.sizes turns (record { loops = λ k n h. absurd (cc h); multiples = all; own = wide turns fit })).own
+    simple_wide e wide turns fit = ((facts.simplified Sizes e).stands ids.sizes turns (record { loops = λ k n h. absurd (cc h); multiples = all; own = wide turns fit })).own
 
     by_worth : (o : Operation) (a b : Expression) (n : ℕ) (found : Option Law) → first_law Sizes o a b LAWS ≡ found → HasWordLiterals a → HasWordLiterals b → AreWide a → IsWorth (Binary o a b) n → IsWorth (by_law found o a b) n
     by_worth o a b n None e x y wide w = w
-    by_worth o a b n (Some l) e x y wide w = law_worth l o a b n x y wide (found_applies Sizes o a b LAWS l e) w
+    by_worth o a b n (Some l) e x y wide w = law_worth l o a b n x y wide (facts.found Sizes o a b LAWS l e) w
 
     -- on words a simplified expression has the expression's value
     pub simple_worth : (e : Expression) (n : ℕ) → HasWordLiterals e → AreWide e → IsWorth e n → IsWorth (simple Sizes e) n
@@ -490,5 +488,5 @@ module _ (multiples : List ℕ) where
         let y = simple_worth b q.second h.1 right q.second_is in
         let both_are = joined o (simple Sizes a) (simple Sizes b) q.first q.second x y q.is_result.divisor in
         by_worth o (simple Sizes a) (simple Sizes b) n (first_law Sizes o (simple Sizes a) (simple Sizes b) LAWS) refl
-        (simple_words Sizes a h.0) (simple_words Sizes b h.1) (simple_wide a left)
+        ((facts.simplified Sizes a).literals h.0) ((facts.simplified Sizes b).literals h.1) (simple_wide a left)
         (subst (IsWorth (Binary o (simple Sizes a) (simple Sizes b))) (sym q.is_result.result) both_are)

@@ -1,3 +1,3 @@
 mod Grammar
-pub mod Blocks
-pub mod Places
+mod Blocks
+mod Places

@@ -7,11 +7,14 @@ use Rattle.kernel_tree.specs.declared.tree.Stmt.{Stmt}
 use Rattle.kernel_tree.specs.Kernels.{kernel_of}
 use Rattle.kernel_tree.specs.Tree.{code_then, kernel_with}
 use Rattle.kernel_tree.specs.Code.{Code, End, Assigns, Loads, Stores, Loops, Syncs}
-use Rattle.tidy_indices.specs.Places.{PlainPlace, outside, place_of}
+use Rattle.tidy_indices.specs.Places.{PlainPlace, outside, inside, inside_all, place_of}
 use Rattle.tidy_indices.specs.Tidy.{tidy_formula}
-use Rattle.tidy_indices.proofs.Turns.{inside_last}
 use Rattle.tidy_kernels.specs.Pass.{tidied_code, tidied_kernel}
 use Rattle.tidy_kernels.specs.Places.{tidied_in}
+
+inside_last : (p : PlainPlace) (bounds : List Formula) (b : Formula) → inside_all p (bounds ++ b ∷ []) ≡ inside (inside_all p bounds) b
+inside_last p [] b = refl
+inside_last p (c ∷ bounds) b = inside_last (inside p c) bounds b
 
 pub by_bounds : (names : List Name) (around : List Formula) (code : Code) → tidied_in (outside names) (place_of names around) code ≡ tidied_code (tidy_formula names) around code
 by_bounds names around End = refl
@@ -20,7 +23,7 @@ by_bounds names around (Loads v a i after) = ap (Loads v a (tidy_formula names a
 by_bounds names around (Stores a i e after) = ap (Stores a (tidy_formula names around i) e) (by_bounds names around after)
 by_bounds names around (Loops s b c body after) =
     ap (λ k. Loops s (tidy_formula names [] b) c k (tidied_in (outside names) (place_of names around) after))
-    (ap (λ p. tidied_in (outside names) p body) (sym (inside_last names around b)) ∙ by_bounds names (around ++ b ∷ []) body)
+    (ap (λ p. tidied_in (outside names) p body) (sym (inside_last _ around b)) ∙ by_bounds names (around ++ b ∷ []) body)
     ∙ ap (Loops s (tidy_formula names [] b) c (tidied_code (tidy_formula names) (around ++ b ∷ []) body)) (by_bounds names around after)
 by_bounds names around (Syncs on_local on_global after) = ap (Syncs on_local on_global) (by_bounds names around after)
 

@@ -1,4 +1,4 @@
-pub mod Elements
-pub mod Statements
-pub mod Terms
+mod Elements
+mod Statements
+mod Terms
 mod Whole

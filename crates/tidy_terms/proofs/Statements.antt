@@ -1,6 +1,6 @@
 -- Tidied, loads, stores and loops are what they were printed for: indices and bounds keep their values.
-use Rattle.std.proofs.Common.{ℕ, ◌+◌, Bool, true, false, List, [], ◌∷◌, ◌++◌, Option, refl, ap}
-use Rattle.kernel_tree.specs.Formula.{Formula, sizes_alone}
+use Rattle.std.proofs.Common.{◌≡◌, ℕ, ◌+◌, ◌<◌, Bool, true, false, List, [], ◌∷◌, ◌++◌, Option, Some, refl, ap}
+use Rattle.kernel_tree.specs.Formula.{Formula, bound_value, sizes_alone}
 use Rattle.kernel_tree.specs.Code.{Array, Code, End}
 use Rattle.kernel_tree.specs.Launch.{Launch, ids_of}
 use Rattle.lift_ir.specs.Types.{Ty, Scalar, PairOf, ArrayOf, width}
@@ -11,8 +11,15 @@ use Rattle.printed_form.specs.Expressions.{exprs}
 use Rattle.printed_form.specs.Form.{IsSpot, IsStored, IsLoaded, IsLoop, IsFoldTurn}
 use Rattle.tidy_indices.specs.Laws.{AreBelow, Change, KeepsValues}
 use Rattle.tidy_kernels.specs.Pass.{tidied_code}
-use Rattle.tidy_indices.proofs.Turns.{below_more}
+use Rattle.tidy_terms.specs.Laws.{TidiedLoadsArePrinted}
 use Rattle.tidy_terms.proofs.Elements.{reassigned, element}
+
+-- one loop more
+below_more : (sizes : List ℕ) (bounds : List Formula) (turns : List ℕ) (b : Formula) (n t : ℕ) → AreBelow sizes bounds turns → bound_value sizes b ≡ Some n → t < n → AreBelow sizes (bounds ++ b ∷ []) (turns ++ t ∷ [])
+below_more sizes [] [] b n t h e lt = (n, e, lt, tt)
+below_more sizes [] (u ∷ turns) b n t h e lt = absurd h
+below_more sizes (c ∷ bounds) [] b n t h e lt = absurd h
+below_more sizes (c ∷ bounds) (u ∷ turns) b n t h e lt = (h.0, h.1, h.2, below_more sizes bounds turns b n t h.3 e lt)
 
 module _ (l : Launch) (ins : ℕ → Marks) (tidy : Change) (keeps : KeepsValues tidy l.sizes) (around : List Formula) (ts : List ℕ) (below : AreBelow l.sizes around ts) where
   abbrev tidied : Code → Code
@@ -56,3 +63,6 @@ module _ (l : Launch) (ins : ℕ → Marks) (tidy : Change) (keeps : KeepsValues
         element tidy around inside n b h.0 h.1 h.3,
         reassigned tidy around ty (exprs inside n b) acc (n + let_variables b) h.1 End h.4,
       )
+
+pub loads_are : TidiedLoadsArePrinted
+loads_are l ins tidy around ts loads x n code rest keeps below h = loaded l ins tidy keeps around ts below loads x n code rest h

@@ -1,5 +1,5 @@
 -- Tidied, a whole kernel is printed for its term.
-use Rattle.std.proofs.Common.{ℕ, ◌+◌, List, [], ◌∷◌, inl, inr}
+use Rattle.std.proofs.Common.{ℕ, ◌+◌, List, [], inl, inr}
 use Rattle.size_arith.specs.declared.poly.Monomial.{Monomial}
 use Rattle.kernel_tree.specs.Code.{Code, End}
 use Rattle.kernel_tree.specs.Launch.{Launch}
@@ -7,9 +7,8 @@ use Rattle.lift_tree.specs.Annotations.{type_in}
 use Rattle.lift_ir.specs.AtLaunch.{length_at, ty_at}
 use Rattle.lift_ir.specs.Layouts.{result_position}
 use Rattle.lift_ir.specs.Terms.{Global, Term, Reshape, LetArray, Map, push}
-use Rattle.lift_ir.specs.Scalars.{at_index}
-use Rattle.printed_form.specs.Counts.{load_count, variable_count, private_count}
-use Rattle.printed_form.specs.Marks.{Marks, loaded_marks}
+use Rattle.printed_form.specs.Counts.{variable_count, private_count}
+use Rattle.printed_form.specs.Marks.{Marks}
 use Rattle.printed_form.specs.Form.{argument_marks}
 use Rattle.printed_form.specs.Whole.{IsOverLaunch, no_marks, output_marks}
 use Rattle.printed_form.specs.Printer.{input_marks}
@@ -17,8 +16,7 @@ use Rattle.printed_form.specs.Programs.{input_shape, first_buffer, lowered_root}
 use Rattle.tidy_indices.specs.Laws.{Change, KeepsValues}
 use Rattle.tidy_kernels.specs.Pass.{tidied_code}
 use Rattle.tidy_terms.specs.Laws.{TidiedCodesArePrinted, TidiedKernelsArePrinted}
-use Rattle.tidy_terms.proofs.Statements.{loaded, loop}
-use Rattle.tidy_terms.proofs.Terms.{IsTurn, argument, written}
+use Rattle.tidy_terms.proofs.Terms.{argument, written, map_loops_are}
 
 module _ {A : Type 0} (l : Launch) (ins : ℕ → Marks) (num : A → ℕ) (tidy : Change) (keeps : KeepsValues tidy l.sizes) where
   over_launch : (env : ℕ → Marks) (a n : ℕ) (t : Term A) (w : Marks) (code rest : Code)
@@ -29,18 +27,11 @@ module _ {A : Type 0} (l : Launch) (ins : ℕ → Marks) (num : A → ℕ) (tidy
     argument l ins num tidy keeps [] [] tt env a n v code h.0 h.1,
     over_launch (push (argument_marks l ins num env a v) env) (a + private_count v) (n + variable_count v) b w h.0 rest h.2,
   )
-  over_launch env a n (Map Global len loads xs b) w code rest h =
-      let x = argument_marks l ins num env a xs in (
-        tidied_code tidy [] h.0,
-        argument l ins num tidy keeps [] [] tt env a n xs code h.0 h.1,
-        loop l ins tidy keeps [] [] tt Global (num len) (IsTurn l ins num tidy keeps [] env (a + private_count xs) (n + variable_count xs) loads x w b) h.0 rest
-            (λ bound i body at turn. (
-              tidied_code tidy (bound ∷ []) turn.0,
-              loaded l ins tidy keeps (bound ∷ []) (i ∷ []) at loads (at_index i x) (n + variable_count xs) body turn.0 turn.1,
-              written l ins num tidy keeps (bound ∷ []) (i ∷ []) at (push (loaded_marks loads (at_index i x) (n + variable_count xs)) env) (a + private_count xs) (n + variable_count xs + load_count loads) b (at_index i w) turn.0 End turn.2,
-            ))
-            h.2,
-      )
+  over_launch env a n (Map Global len loads xs b) w code rest h = (
+    tidied_code tidy [] h.0,
+    argument l ins num tidy keeps [] [] tt env a n xs code h.0 h.1,
+    map_loops_are l ins num tidy [] [] Global (num len) env (a + private_count xs) (n + variable_count xs) loads (argument_marks l ins num env a xs) w b h.0 rest keeps tt h.2,
+  )
   over_launch env a n _ w code rest h = absurd h
 
 pub code_is : TidiedCodesArePrinted (List Monomial)

@@ -8,7 +8,7 @@ use Rattle.lift_tree.specs.Limits.{components, HasFewScalars}
 use Rattle.lift_tree.specs.Types.{PlainTy, HasType, HoldsElements, IsFormed, IsOutput}
 use Rattle.lift_tree.specs.Values.{Value}
 use Rattle.lift_tree.specs.WorkedOut.{worked_out}
-use Rattle.value_lists.specs.Lists.{list_lengths, IsSmall, value_in, ways}
+use Rattle.value_lists.specs.Lists.{list_lengths, IsSmall, value_in, ways, width}
 
 -- the lists of a value are as long as its type says
 abbrev pub ListsHaveLengths : Type 0
@@ -31,6 +31,10 @@ ListsTellValues =
 -- a type as written has the ways of the type that it is worked out to
 abbrev pub WaysAreComponents : Type 0
 WaysAreComponents = (names : List Name) (a : Written) → ways a ≡ components (worked_out names a)
+
+-- a type has as many components as its width says
+abbrev pub ComponentsAreCounted : Type 0
+ComponentsAreCounted = (a : PlainTy) → length (components a) ≡ width a
 
 -- an output's type that is formed within its limits has few scalars at all admissible sizes
 abbrev pub TypedOutputsAreSmall : Type 0

@@ -1,6 +1,6 @@
 //! Laws of the lists of values, each carried by a function that does nothing.
 
-ghost use Rattle.value_lists.specs.Laws.{ListsHaveLengths, ListsHoldOneValue, ListsTellValues, TypedOutputsAreSmall, WaysAreComponents};
+ghost use Rattle.value_lists.specs.Laws.{ComponentsAreCounted, ListsHaveLengths, ListsHoldOneValue, ListsTellValues, TypedOutputsAreSmall, WaysAreComponents};
 
 /// The lists of a value are as long as its type says.
 #[tactic(auto, using(crate::proofs::Lengths::lists_have_lengths))]
@@ -24,6 +24,12 @@ pub fn lists_tell_values()
 #[tactic(auto, using(crate::proofs::Ways::ways_are_components))]
 pub fn ways_are_components()
     ensures { WaysAreComponents }
+{}
+
+/// A type has as many components as its width says.
+#[tactic(auto, using(crate::proofs::Held::width_is))]
+pub fn components_are_counted()
+    ensures { ComponentsAreCounted }
 {}
 
 /// The value of a typed output may be read from its lists.

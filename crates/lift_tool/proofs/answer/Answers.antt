@@ -1,13 +1,12 @@
 use Rattle.std.proofs.Common.{Err, Global, ap, List, map, subst, ℕ}
 use Rattle.std.specs.Prelude.{Vec, string_bytes}
 use Rattle.command_line.specs.Requests.{Asks, CommandLine, line_of}
-use Rattle.command_line.proofs.Entered.{asked-stands}
 use Rattle.fault_lines.specs.Shown.{failure_of}
 use Rattle.lift_tool.specs.Files.{AsksAll, AsksFirst, Told}
 use Rattle.lift_tool.specs.Outcome.{Answers, FailsFor, IsAnswer, OnTexts, WordsCause}
 use Rattle.lift_tool.specs.Request.{files_of}
 use Rattle.lift_tool.proofs.Asked.{asks_none}
-use Rattle.lift_tool.proofs.Ends.{one_request}
+use Rattle.lift_tool.proofs.Ends.{asked_stands, one_request}
 use Rattle.lift_tool.proofs.Unread.{if_err, if_ok, request_fails, rose_between, words_fail}
 use Rattle.lift_tool.proofs.answer.Goals as goal
 
@@ -48,4 +47,4 @@ returns-clause-asks_all g c =
     subst (λ q. AsksAll before after (files_of q)) (one_request (map (string_bytes {Z = Global}) c.args.words.now) request (line_of c.in_ok-request.request) asks c.in_ok-request.ensures.asked) h) c.answer_of.ensures.asks_all
 
 pub returns-clause-asks_none : goal.returns-clause-asks_none
-returns-clause-asks_none g c = λ refused. absurd (asked-stands (map (string_bytes {Z = Global}) c.args.words.now) _ c.in_ok-request.ensures.asked refused)
+returns-clause-asks_none g c = λ refused. absurd (asked_stands (map (string_bytes {Z = Global}) c.args.words.now) _ c.in_ok-request.ensures.asked refused)

@@ -1,12 +1,11 @@
 use Rattle.std.proofs.Common.{◌≡◌, ◌∙◌, Global, List, arith, inl, inr, map, refl, subst, sym, ℕ}
 use Rattle.std.specs.Prelude.{◌≢◌, ◌⊎◌, string_bytes}
 use Rattle.lift_io.specs.Causes.{Rose}
-use Rattle.command_line.proofs.Entered.{asked-stands}
 use Rattle.fault_lines.specs.Failure.{Write}
 use Rattle.fault_lines.specs.Lines.{TakesLine}
 use Rattle.fault_lines.specs.Shown.{failure_of}
 use Rattle.lift_tool.specs.Files.{Told}
-use Rattle.lift_tool.proofs.Ends.{demo_stands, words_answered, words_cause, words_fail_before, words_refused, words_stand, words_taken}
+use Rattle.lift_tool.proofs.Ends.{asked_stands, demo_stands, words_answered, words_cause, words_fail_before, words_refused, words_stand, words_taken}
 use Rattle.lift_tool.proofs.Unread.{rose_between}
 use Rattle.lift_tool.proofs.lift_tool.Goals as goal
 
@@ -51,7 +50,7 @@ pub returns-in-Ok-write_whole-clause-plain : goal.returns-in-Ok-write_whole-clau
 returns-in-Ok-write_whole-clause-plain g c = λ request plain is. (c.answer.ensures.plain request plain is, λ e. cc (e))
 
 pub returns-in-Ok-write_whole-clause-words : goal.returns-in-Ok-write_whole-clause-words
-returns-in-Ok-write_whole-clause-words g c = λ refused. absurd (asked-stands (map (string_bytes {Z = Global}) c.args.words.now) _ c.in-Ok.ensures.ok.1 refused)
+returns-in-Ok-write_whole-clause-words g c = λ refused. absurd (asked_stands (map (string_bytes {Z = Global}) c.args.words.now) _ c.in-Ok.ensures.ok.1 refused)
 
 pub returns-in-Ok-clause-plain : goal.returns-in-Ok-clause-plain
 returns-in-Ok-clause-plain g c = λ request plain is.

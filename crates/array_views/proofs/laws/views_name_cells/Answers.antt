@@ -1,5 +1,5 @@
-use Rattle.array_views.proofs.Cells.{names_cell}
+use Rattle.array_views.proofs.Cells.{views_name_cells}
 use Rattle.array_views.proofs.laws.views_name_cells.Goals as goal
 
 pub returns : goal.returns
-returns c = names_cell
+returns c = views_name_cells c.same_expressions_have_one_value.ensures

@@ -1,7 +1,7 @@
 use Rattle.std.proofs.Common.{sym}
 use Rattle.kernel_tree.specs.Kernels.{kernel_of}
 use Rattle.program_source.specs.Program.{OnProgram, StopsFor}
-use Rattle.program_source.proofs.Stages.{handed_on}
+use Rattle.stages.proofs.HandedOn.{handed_on}
 use Rattle.compilation.specs.Legal.{LegalOf}
 use Rattle.compilation.proofs.Compiling.{compiled_found, last_stops, terms_first, text_for, typed_last}
 use Rattle.compilation.proofs.compile.compile_text.Goals as goal

@@ -2,7 +2,7 @@ use Rattle.lift_tree.specs.Annotations.{annotation_of}
 use Rattle.kernel_tree.specs.Kernels.{kernel_of}
 use Rattle.lift_tree.specs.Programs.{program_of}
 use Rattle.lift_tree.specs.Tree.{tree_of}
-use Rattle.program_source.proofs.Stages.{handed_on}
+use Rattle.stages.proofs.HandedOn.{handed_on}
 use Rattle.program_source.specs.Program.{StopsFor}
 use Rattle.strategy_script.specs.Steps.{state_of}
 use Rattle.compilation.specs.Legal.{CompilesTerm}

@@ -1,9 +1,9 @@
 use Rattle.std.proofs.Common.{subst, sym}
 use Rattle.fault_lines.specs.declared.refusal.Refusal.TheVariants as told
 use Rattle.lowered_tree.specs.declared.lowered.Mapped.{Mapped}
-use Rattle.program_source.proofs.Stages.{handed_on}
+use Rattle.stages.proofs.HandedOn.{handed_on}
 use Rattle.program_source.specs.Program.{StopsFor}
-use Rattle.program_source.specs.Stages.{As}
+use Rattle.stages.specs.Stages.{As}
 use Rattle.strategy_script.specs.Steps.{state_of}
 use Rattle.compilation.specs.Legal.{BuffersOf, IsLoweredOf}
 use Rattle.compilation.proofs.Legality.{buffers_stop, within_is}

@@ -1,8 +1,8 @@
 use Rattle.std.proofs.Common.{arith}
 use Rattle.fault_lines.specs.declared.refusal.Refusal.TheVariants as told
-use Rattle.program_source.proofs.Stages.{handed_on}
+use Rattle.stages.proofs.HandedOn.{handed_on}
 use Rattle.program_source.specs.Program.{StopsFor}
-use Rattle.program_source.specs.Stages.{As}
+use Rattle.stages.specs.Stages.{As}
 use Rattle.strategy_script.specs.Steps.{state_of}
 use Rattle.compilation.specs.Legal.{NestOf}
 use Rattle.compilation.proofs.Legality.{is_legal, lowered_of, nest_stops, typed_inputs}

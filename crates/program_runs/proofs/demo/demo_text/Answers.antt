@@ -1,11 +1,15 @@
-use Rattle.program_runs.proofs.Unrefused.{admitted_at, handed_on, memory_alone}
+use Rattle.std.proofs.Common.{◌≡◌}
+use Rattle.fault_lines.specs.Failure.{status_of}
+use Rattle.fault_lines.specs.Shown.{failure_of}
+use Rattle.stages.proofs.HandedOn.{handed_on}
+use Rattle.program_runs.proofs.Unrefused.{admitted_at, memory_alone}
 use Rattle.program_runs.proofs.demo.demo_text.Goals as goal
 
 pub seeded_line-requires : goal.seeded_line-requires
 seeded_line-requires c =
-    admitted_at c.legal_without_fault.ensures c.demo_is_accepted.ensures c.demos_may_run.ensures c.program.result.now c.script.result.now c.program.ensures c.script.ensures _ _ _ _ c.args.seed c.in_ok-compiled.ensures.found
+    admitted_at c.compilation_ends_once.ensures c.legal_without_fault.ensures c.demo_is_accepted.ensures c.demos_may_run.ensures c.program.result.now c.script.result.now c.program.ensures c.script.ensures _ _ _ _ c.args.seed c.in_ok-compiled.ensures.found
 
 pub returns-in_err-compiled-clause-refused : goal.returns-in_err-compiled-clause-refused
 returns-in_err-compiled-clause-refused c =
-    handed_on _ _ c.from_residual.ensures.1
+    handed_on (λ failure. status_of (failure_of failure) ≡ 13) _ _ c.from_residual.ensures.1
     (memory_alone c.one_end.ensures c.legal_without_fault.ensures c.demo_is_accepted.ensures c.program.result.now c.script.result.now c.program.ensures c.script.ensures _ c.in_err-compiled.ensures.refused)

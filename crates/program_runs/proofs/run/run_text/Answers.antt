@@ -6,7 +6,6 @@ use Rattle.launch_file.specs.declared.file.Ask.TheVariants as asks
 use Rattle.launch_file.specs.LaunchFile.{given_by}
 use Rattle.lowered_tree.specs.Kinds.{is_task}
 use Rattle.compilation.specs.Legal.{LegalOf}
-use Rattle.program_source.proofs.Proper.{proper}
 use Rattle.program_runs.proofs.Admitted.{given_is_admissible}
 use Rattle.program_runs.proofs.Stopped.{launch_fails}
 use Rattle.program_runs.proofs.run.run_text.Goals as goal
@@ -14,7 +13,7 @@ use Rattle.program_runs.proofs.run.run_text.Goals as goal
 pub read_launch-requires : goal.read_launch-requires
 read_launch-requires c =
     let found = c.in_ok-compiled.ensures.found in
-    proper c.programs_may_be_typed.ensures c.judged_inputs_are_proper.ensures c.args.program.now _ found.read found.legal.1.0 found.legal.1.1
+    c.typed_programs_are_proper.ensures c.args.program.now _ found.legal.1.0 found.read found.legal.1.1
 
 pub run_launch-requires : goal.run_launch-requires
 run_launch-requires c = given_is_admissible _ _ _ _ c.in-Ok.ensures.ok

@@ -13,4 +13,4 @@ value_of_lists-requires-clause-small c =
     ∥∥₁_elim compiled.text_for (small_once _ 1 (ty_of compiled.output)) (λ t. t.laid_out.small (given_by c.args.file.now).bases c.requires.admissible.launch.sizes)
 
 pub value_of_lists-requires-clause-within : goal.value_of_lists-requires-clause-within
-value_of_lists-requires-clause-within c = wide (ty_of c.args.compiled.now.output) (source_value (program_of c.args.compiled.now.program) (world_given (given_by c.args.file.now))) _ c.args.outs.now c.requires.left
+value_of_lists-requires-clause-within c = wide c.components_are_counted.ensures (ty_of c.args.compiled.now.output) (source_value (program_of c.args.compiled.now.program) (world_given (given_by c.args.file.now))) _ c.args.outs.now c.requires.left

@@ -1,6 +1,7 @@
 use Rattle.std.proofs.Common.{sym}
 use Rattle.program_source.specs.Program.{OnProgram, StopsFor, TypesOf}
-use Rattle.program_source.proofs.Stages.{handed_on, program_stops}
+use Rattle.stages.proofs.HandedOn.{handed_on}
+use Rattle.program_source.proofs.Stages.{program_stops}
 use Rattle.program_source.proofs.source.read_source.Goals as goal
 
 pub returns-in_err-read_program-clause-refused : goal.returns-in_err-read_program-clause-refused

@@ -8,7 +8,8 @@ use Rattle.lift_tree.specs.declared.term.Term.{Term}
 use Rattle.pattern_types.specs.Judged.{program_judged}
 use Rattle.program_source.specs.Program.{OnProgram, StopsFor, TypesOf}
 use Rattle.program_source.proofs.FewNodes.{few_nodes}
-use Rattle.program_source.proofs.Stages.{handed_on, on_program, types_stop}
+use Rattle.stages.proofs.HandedOn.{handed_on}
+use Rattle.program_source.proofs.Stages.{on_program, types_stop}
 use Rattle.program_source.proofs.source.typed_source.Goals as goal
 
 pub type_of-requires-clause-term : goal.type_of-requires-clause-term

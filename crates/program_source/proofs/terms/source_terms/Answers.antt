@@ -2,7 +2,8 @@ use Rattle.lift_tree.specs.Annotations.{annotation_of}
 use Rattle.lift_tree.specs.Programs.{program_of}
 use Rattle.program_source.specs.Program.{OnProgram, StopsFor}
 use Rattle.program_source.specs.Terms.{TermsOf}
-use Rattle.program_source.proofs.Stages.{handed_on, on_program, step_stops}
+use Rattle.stages.proofs.HandedOn.{handed_on}
+use Rattle.program_source.proofs.Stages.{on_program, step_stops}
 use Rattle.program_source.proofs.TermsMade.{source_made, source_terms_are}
 use Rattle.program_source.proofs.terms.source_terms.Goals as goal
 

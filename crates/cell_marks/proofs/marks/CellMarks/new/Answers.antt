@@ -17,7 +17,7 @@ returns-clause-begins c = λ d s groups ins outs locals.
     let ra = ap (λ (v : Kept). v.shape) a ∙ c.in_ok-rows_of.ensures in
     let rb = ap (λ (v : Kept). v.shape) b ∙ c.in_ok-rows_of-2.ensures in
     let re = ap (λ (v : Kept). v.shape) e ∙ c.in_ok-rows_for.ensures in
-    begun d s (record { groups = c.args.groups; inputs = c.in_ok-new.field-0; outputs = c.in_ok-new-2.field-0; locals = c.in_ok-new-3.field-0 })
+    begun c.all_marks_tell.ensures.begin d s (record { groups = c.args.groups; inputs = c.in_ok-new.field-0; outputs = c.in_ok-new-2.field-0; locals = c.in_ok-new-3.field-0 })
     groups (ap (λ (v : Shape). v.homes) ra) (ap (λ (v : Shape). v.homes) rb) (ap (λ (v : Shape). v.homes) re ∙ groups)
     (λ r. ap (λ (v : Shape). slice_index v.lengths r) ra ∙ ins r) (λ r. ap (λ (v : Shape). slice_index v.lengths r) rb ∙ outs r) (λ r. ap (λ (v : Shape). slice_index v.lengths r) re ∙ locals r)
     (fresh c.in_ok-new.field-0 (kept c.args.groups c.in_ok-rows_of.field-0) a refl) (fresh c.in_ok-new-2.field-0 (kept c.args.groups c.in_ok-rows_of-2.field-0) b refl) (fresh c.in_ok-new-3.field-0 (kept c.args.groups c.in_ok-rows_for.field-0) e refl)

@@ -19,7 +19,7 @@ returns-in-Fails c = λ k l d es st clean en.
 pub returns-in-Changes : goal.returns-in-Changes
 returns-in-Changes c = λ k l d es st clean en.
     as_seen_kind k l d es _ _ c.seen-in-Changes.result None None _ _ c.seen-in-Changes.ensures refl c.fault_kind.ensures
-    (took_change k l d c.args.self.now es st clean c.args.item en c.change.new.self c.settle-diverges.new.self c.in-Changes.change c.in-Changes.line c.settle-diverges.result (subst (IsWanted c.args.self.now c.args.item) c.in-Changes.is c.want.ensures) c.change.ensures.item c.change.ensures.memory c.change.ensures.marks c.change.ensures.ready c.settle-diverges.ensures.core c.settle-diverges.ensures.marks c.settle-diverges.ensures.settles)
+    (took_change k l d c.args.self.now es st clean c.args.item en c.marks_stay.ensures c.change.new.self c.settle-diverges.new.self c.in-Changes.change c.in-Changes.line c.settle-diverges.result (subst (IsWanted c.args.self.now c.args.item) c.in-Changes.is c.want.ensures) c.change.ensures.item c.change.ensures.memory c.change.ensures.marks c.change.ensures.ready c.settle-diverges.ensures.core c.settle-diverges.ensures.marks c.settle-diverges.ensures.settles)
 
 pub returns-in-Reads : goal.returns-in-Reads
 returns-in-Reads c = c.load.ensures (subst (IsWanted c.args.self.now c.args.item) c.in-Reads.is c.want.ensures)

@@ -3,13 +3,13 @@ use Rattle.ndrange_machine.proofs.Settling.{settles_going, settles_some, settles
 use Rattle.ndrange_machine.proofs.machine.Machine.settle.Goals as goal
 
 pub returns-then-can_step-clause-settles : goal.returns-then-can_step-clause-settles
-returns-then-can_step-clause-settles c = settles_going c.args.self.now c.args.item c.can_step.result c.can_step.ensures c.if-can_step.true
+returns-then-can_step-clause-settles c = settles_going c.flags_follow.ensures c.args.self.now c.args.item c.can_step.result c.can_step.ensures c.if-can_step.true
 
 pub returns-then-has_stopped-clause-settles : goal.returns-then-has_stopped-clause-settles
 returns-then-has_stopped-clause-settles c =
-    settles_met c.args.self.now c.args.item c.can_step.result c.can_step.ensures c.if-can_step.false c.set_item.new.self c.set_item.ensures c.group_of-group.result c.group_of-group.ensures c.has_stopped.result c.has_stopped.ensures c.if-has_stopped.true
+    settles_met c.flags_follow.ensures c.args.self.now c.args.item c.can_step.result c.can_step.ensures c.if-can_step.false c.set_item.new.self c.set_item.ensures c.group_of-group.result c.group_of-group.ensures c.has_stopped.result c.has_stopped.ensures c.if-has_stopped.true
     _ c.meet.new.self.ready c.meet.result (record { lines = refl; launch = refl; memory = refl; items = refl }) refl c.meet.ensures.meets
 
 pub returns-else-has_stopped-clause-settles : goal.returns-else-has_stopped-clause-settles
 returns-else-has_stopped-clause-settles c =
-    settles_some c.args.self.now c.args.item c.can_step.result c.can_step.ensures c.if-can_step.false c.set_item.new.self c.set_item.ensures c.group_of-group.result c.group_of-group.ensures c.has_stopped.result c.has_stopped.ensures c.if-has_stopped.false
+    settles_some c.flags_follow.ensures c.args.self.now c.args.item c.can_step.result c.can_step.ensures c.if-can_step.false c.set_item.new.self c.set_item.ensures c.group_of-group.result c.group_of-group.ensures c.has_stopped.result c.has_stopped.ensures c.if-has_stopped.false

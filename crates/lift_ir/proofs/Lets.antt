@@ -1,5 +1,6 @@
 -- What a let of an array is lowered to.
 use Rattle.std.proofs.Common.{◌≡◌, Bool, true, false, refl, inl, inr}
+use Rattle.std.proofs.lemmas.Bool.{both_ways}
 use Rattle.std.specs.Prelude.{if◌then◌else◌}
 use Rattle.lift_tree.specs.Tree as tree
 use Rattle.lift_tree.specs.Tree.{Tree}
@@ -8,7 +9,6 @@ use Rattle.lift_tree.specs.Annotations.{Annotation, Two, type_in}
 use Rattle.lift_ir.specs.Terms.{LetArray, LetElement, Store}
 use Rattle.lift_ir.specs.Lowerable.{IsStaged}
 use Rattle.lift_ir.specs.Lowering.{Written, Argument, Element, is_element, element_ty, lower}
-use Rattle.nest_premises.proofs.Rules.{true_is_not_false}
 
 -- in writing position, where it is no element itself
 pub written_let : (v b : Tree) (a : PlainTy) (n m : Annotation) → is_element a ≡ false → is_element (type_in n) ≡ false → lower Written (tree.Let v b) (Two a n m) ≡ LetArray (lower Argument v n) (lower Written b m)
@@ -31,7 +31,8 @@ argument_let v b a n m e = go (is_element a) (is_element (type_in n)) e
     go true false e = refl
     go false false e = refl
 
-pub let_parts : (v b : Tree) (a : PlainTy) (n m : Annotation) → IsStaged Written (tree.Let v b) (Two a n m) → is_element a ≡ false → is_element (type_in n) ≡ false → IsStaged Argument v n × IsStaged Written b m
-let_parts v b a n m (inl o) e i = true_is_not_false (is_element a) o.0 e
-let_parts v b a n m (inr (inl o)) e i = true_is_not_false (is_element (type_in n)) o.1 i
-let_parts v b a n m (inr (inr o)) e i = (o.2, o.3)
+-- in writing position it is no element, its value is an argument, and its body is written
+pub let_parts : (v b : Tree) (a : PlainTy) (n m : Annotation) → IsStaged Written (tree.Let v b) (Two a n m) → is_element (type_in n) ≡ false → (is_element a ≡ false) × IsStaged Argument v n × IsStaged Written b m
+let_parts v b a n m (inl o) i = absurd (both_ways (is_element (type_in n)) i o.1)
+let_parts v b a n m (inr (inl o)) i = absurd (both_ways (is_element (type_in n)) i o.1)
+let_parts v b a n m (inr (inr o)) i = (o.0, o.2, o.3)

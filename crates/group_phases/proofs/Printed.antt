@@ -11,6 +11,7 @@ use Rattle.kernel_tree.proofs.Stride.{turns_of, turn_below}
 use Rattle.barrier_placement.specs.Conflicts as placed
 use Rattle.barrier_placement.specs.Conflicts.{space_of}
 use Rattle.barrier_placement.specs.Fencing.{Fencing}
+use Rattle.barrier_placement.specs.Laws.{NeededBarriersSeparate}
 use Rattle.barrier_placement.specs.Needed.{Needed}
 use Rattle.barrier_placement.specs.Separates.{Separates}
 use Rattle.printed_form.specs.Headline.{EveryRunKeeps}
@@ -27,12 +28,12 @@ use Rattle.group_phases.specs.Groups.{loop_turns}
 use Rattle.group_phases.specs.Phased.{IsGroupKernel, PhasedMap}
 use Rattle.group_phases.specs.Outcome.{BarriersServeAll}
 use Rattle.group_phases.proofs.Bodies.{silent_then}
-use Rattle.group_phases.proofs.Phased.{phased_leaves, phased_serves, needed_leave}
-use Rattle.group_printing.specs.Phases.{PhaseList, turn_of, row_of, cell_of, phase_scalars, targets, HoldsTurn, knows, work_of, IsPhaseLoop, IsPhase, IsRead, IsFillable}
-use Rattle.group_printing.specs.Printed.{IsPhased}
-use Rattle.group_printing.proofs.Keeps.{keeps_from_chunks}
-use Rattle.group_printing.proofs.LocalLoop.{local_run}
-use Rattle.group_printing.proofs.Parts.{part_of_run, scratch_private}
+use Rattle.group_phases.proofs.Phased.{phased_leaves, phased_serves}
+use Rattle.group_phases.specs.Phases.{PhaseList, turn_of, row_of, cell_of, phase_scalars, targets, HoldsTurn, knows, work_of, IsPhaseLoop, IsPhase, IsRead, IsFillable}
+use Rattle.group_phases.specs.Printed.{IsPhased}
+use Rattle.group_phases.proofs.Keeps.{keeps_from_chunks}
+use Rattle.group_phases.proofs.LocalLoop.{local_run}
+use Rattle.group_phases.proofs.Parts.{part_of_run, scratch_private}
 
 rest_is : (i j : ℕ) (p r : List ℕ) → i ∷ p ≡ j ∷ r → p ≡ r
 rest_is i j p r e = ap tail e
@@ -183,5 +184,5 @@ module _ {A : Type 0} (num : A → ℕ) (k : Kernel) (l : Launch) (c : Cells) (o
   phases_serve fence sep printed = phased_serves k l c owner wanted p.turns p.count (IsPhase num l p) (work_of num l p) phased fence sep printed
 
   -- with the needed barriers, where all uses are of local arrays
-  pub needed_keep : (fence : ℕ → Fencing) → All (λ x. space_of x.local ≡ placed.Local) p.touches → Needed p.touches p.count fence → IsGroupKernel k l p.turns p.count fence (IsPhase num l p) → EveryRunKeeps k l c owner wanted
-  needed_keep fence local needed printed = keeps_from_chunks k l c owner wanted h.room.whole h.shape (needed_leave k l c owner wanted p.turns p.count (IsPhase num l p) (work_of num l p) phased fence local needed printed)
+  pub needed_keep : NeededBarriersSeparate → (fence : ℕ → Fencing) → All (λ x. space_of x.local ≡ placed.Local) p.touches → Needed p.touches p.count fence → IsGroupKernel k l p.turns p.count fence (IsPhase num l p) → EveryRunKeeps k l c owner wanted
+  needed_keep separate fence local needed printed = phased_keeps fence (separate p.touches placed.Local p.count fence local needed) printed

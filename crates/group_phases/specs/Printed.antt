@@ -21,7 +21,7 @@ use Rattle.group_phases.specs.Work.{IsOwnLocal}
 use Rattle.group_phases.specs.Groups.{GroupOutputs, loop_turns}
 use Rattle.group_phases.specs.Phased.{IsGroupKernel}
 use Rattle.group_phases.specs.Outcome.{BarriersServeAll}
-use Rattle.group_printing.specs.Phases.{PhaseList, turn_of, row_of, cell_of, phase_scalars, targets, work_of, IsPhase, AreRead, IsFillable}
+use Rattle.group_phases.specs.Phases.{PhaseList, turn_of, row_of, cell_of, phase_scalars, targets, work_of, IsPhase, AreRead, IsFillable}
 
 module _ {A : Type 0} (p : PhaseList A) where
   -- a position of phase q's value

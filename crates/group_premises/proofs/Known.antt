@@ -1,0 +1,13 @@
+-- What is known of legal nests.
+use Rattle.nest_premises.specs.Laws.{LegalTermsCanBeLowered, KindsTellTasks, TasksStand, LaunchesStand, LegalNestsAreUnbroken, ItemBodiesStand, LetsAroundGroupsBindNoElement, ElementTestsAgree, ElementTypesPass}
+
+pub record Known : Type 0 where
+  pub lowerable : LegalTermsCanBeLowered
+  pub kinds : KindsTellTasks
+  pub tasks : TasksStand
+  pub launches : LaunchesStand
+  pub unbroken : LegalNestsAreUnbroken
+  pub bodies : ItemBodiesStand
+  pub lets : LetsAroundGroupsBindNoElement
+  pub tests : ElementTestsAgree
+  pub elements : ElementTypesPass

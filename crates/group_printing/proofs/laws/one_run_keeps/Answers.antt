@@ -1,5 +1,0 @@
-use Rattle.group_printing.proofs.Keeps.{keeps_from_chunks}
-use Rattle.group_printing.proofs.laws.one_run_keeps.Goals as goal
-
-pub returns : goal.returns
-returns c = keeps_from_chunks

@@ -1,0 +1,26 @@
+//! Laws of simplified expressions, each carried by a function that does nothing.
+
+ghost use Rattle.index_simplify.specs.Promises.{ExpressionsAreSimplified, FoundLawsApply};
+ghost use Rattle.index_simplify.specs.Promises.{SameExpressionsHaveOneValue};
+ghost use Rattle.index_simplify.specs.Promises.{SameOperationsAreEqual};
+
+/// What an expression is simplified to has its value at every point of the ranges, ranged wherever
+/// it is; it has no more nodes, and none of a shape that something simpler has the value of.
+pub fn expressions_are_simplified()
+    ensures { ExpressionsAreSimplified }
+{}
+
+/// The first law that is found for an operation on two expressions is of it.
+pub fn found_laws_apply()
+    ensures { FoundLawsApply }
+{}
+
+/// The test for the same operation passes for one operation alone.
+pub fn same_operations_are_equal()
+    ensures { SameOperationsAreEqual }
+{}
+
+/// Expressions that are the same but for the ranges that their variables carry have one value.
+pub fn same_expressions_have_one_value()
+    ensures { SameExpressionsHaveOneValue }
+{}

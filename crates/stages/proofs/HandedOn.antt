@@ -1,0 +1,9 @@
+-- A refusal that is handed on.
+use Rattle.std.proofs.Common.{◌≡◌, Err, Ok, Result, subst, sym}
+use Rattle.std.specs.Prelude.{IfErr}
+use Rattle.std.specs.Result.{IsErrAnd}
+
+-- it keeps its cause
+pub handed_on : {V R : Type 0} (P : R → Type 0) (r : Result V R) (e : R) → IsErrAnd r (λ x. x ≡ e) → P e → IfErr r P
+handed_on P (Ok v) e same h = tt
+handed_on P (Err x) e same h = subst P (sym same) h
