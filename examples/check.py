@@ -1,23 +1,40 @@
 #!/usr/bin/env python3
-"""Runs the built program on every example, and compares its kernels and result lines with those that are stored.
+"""Runs the built program on every example, and compares what it writes with what is stored.
 
     examples/check.py [--store] [PROGRAM]      PROGRAM is ./lift where none is given
 
-Beside a script NAME.txt, NAME.cl is its kernel and NAME.result the line of its run on NAME.json, or on launch.json where there
-is none. The value in that line is compared with that of `lift eval`, and with that of values.py.
+Beside a script NAME.txt, NAME.cl is its kernel and NAME.result the line of its run on NAME.json, or
+on launch.json where there is none. The value in that line is compared with that of `lift eval`, and
+with that of values.py, its counts with those that counts.py makes of the kernel's text. A launch
+file may say more, for this check alone:
 
-With --store the kernels and the lines are written anew, but for an example whose values differ. Look at what changed before it
-is handed on: no other check knows what a kernel's text should be.
+    "given": 41             the caller has 41 elements, and filled up what is missing: values.py has
+                            the first 41 of each input, and the first 41 of the value are compared
+    "after": "EXAMPLE"      the first input is that example's value: the second of two calls
+
+Then each rule of docs/RULES.md has to stand in some script, and docs/STRATEGIES.md has to show the
+files as they are (pages.py).
+
+With --store the kernels and the lines are written anew, but for an example whose values differ.
+Look at what changed before it is handed on: no other check knows what a kernel's text should be.
 """
 import json
 import os
 import subprocess
 import sys
+from functools import cached_property
 from pathlib import Path
 
+import pages
+from counts import counts
 from values import VALUES
 
 EXAMPLES = Path(__file__).resolve().parent
+
+
+def value_in(line):
+    """The value in a result line, None where there is no line."""
+    return None if line is None else json.loads(line)["value"]
 
 
 class Example:
@@ -28,36 +45,94 @@ class Example:
         self.source = script.parent / "program.lift"
         self.kernel, self.result, launch = map(script.with_suffix, (".cl", ".result", ".json"))
         self.launch = launch if launch.exists() else script.parent / "launch.json"
+        self.told = json.loads(self.launch.read_text())
 
     def made(self, command, *files):
         """What the program writes, or None where it refuses."""
-        done = subprocess.run([self.lift, command, self.source, *files], capture_output=True, text=True)
+        words = [self.lift, command, self.source, *files]
+        done = subprocess.run(words, capture_output=True, text=True)
         return done.stdout if done.returncode == 0 else None
 
+    @cached_property
     def of_kernel(self):
         return self.made("compile", self.script)
 
+    @cached_property
     def of_run(self):
         return self.made("run", self.script, self.launch)
 
     def values_differ(self):
-        """Which of the three values isn't that of the others: of the run, of `eval`, of values.py."""
-        lines = {"run": self.of_run(), "eval": self.made("eval", self.launch)}
-        value = VALUES[self.script.parent.name](**json.loads(self.launch.read_text())["inputs"])
-        return [f"value of {command}" for command, line in lines.items() if line is None or json.loads(line)["value"] != value]
+        """Which value isn't that of values.py: of the run, of `eval`, of the call before."""
+        given = slice(self.told.get("given"))
+        inputs = {name: value[given] for name, value in self.told["inputs"].items()}
+        wanted = VALUES[self.script.parent.name](**inputs)
+        lines = {"run": self.of_run, "eval": self.made("eval", self.launch)}
+        values = {command: value_in(line) for command, line in lines.items()}
+        wrong = [name for name, value in values.items() if value is None or value[given] != wanted]
+        return [f"value of {name}" for name in wrong + self.calls_before_differ()]
+
+    def counts_differ(self):
+        """Whether the run's counts aren't those of its kernel's text."""
+        kernel, line = self.of_kernel, self.of_run
+        if kernel is None or line is None:
+            return ["counts"]
+        run = json.loads(line)
+        same = (run["events"], run["releases"]) == counts(kernel, self.told)
+        return [] if same else ["counts"]
+
+    def calls_before_differ(self):
+        """The example that the launch file has at `after`, if its value isn't the first input."""
+        name = self.told.get("after")
+        if name is None:
+            return []
+        first = json.loads((EXAMPLES / name / "launch.json").read_text())["inputs"]
+        same = VALUES[name](**first) == next(iter(self.told["inputs"].values()))
+        return [] if same else [name]
 
     def differs(self):
         """What isn't as stored."""
-        texts = {"compile": (self.kernel, self.of_kernel()), "run": (self.result, self.of_run())}
-        return [command for command, (file, text) in texts.items() if not file.exists() or file.read_text() != text]
+        texts = {"compile": (self.kernel, self.of_kernel), "run": (self.result, self.of_run)}
+        return [
+            command
+            for command, (file, text) in texts.items()
+            if not file.exists() or file.read_text() != text
+        ]
 
     def store(self):
         """Writes the kernel and the result line anew, and says whether one of them changed."""
         changed = self.differs()
-        kernel, line = self.of_kernel(), self.of_run()
+        kernel, line = self.of_kernel, self.of_run
         self.kernel.write_text(kernel)
         self.result.write_text(line)
         return changed
+
+
+def examples_differ(program, store):
+    """Checks each example, tells of each that isn't as stored, and says how many aren't."""
+    failed = 0
+    examples = [Example(program, script) for script in sorted(EXAMPLES.glob("*/*.txt"))]
+    for it in examples:
+        wrong = it.values_differ() + it.counts_differ()
+        stored = it.store() if store and not wrong else []
+        wrong += it.differs()
+        failed += bool(wrong)
+        for what, commands in (("stored anew", stored), ("differs", wrong)):
+            if commands:
+                print(f"{it.script.relative_to(EXAMPLES)}: {', '.join(commands)}: {what}")
+    print(f"examples: {len(examples) - failed} as stored, {failed} not")
+    return failed
+
+
+def pages_differ():
+    """Tells what the pages say of the examples that isn't so, and says how much that is."""
+    unused, unknown = pages.rules_otherwise()
+    wrong = [f"{rule}: in no script of an example" for rule in unused]
+    wrong += [f"{rule}: in a script, and not in docs/RULES.md" for rule in unknown]
+    wrong += [f"{file}: docs/STRATEGIES.md has it otherwise" for file in pages.shown_otherwise()]
+    for line in wrong:
+        print(line)
+    print(f"pages: {len(pages.rules())} rules, {len(pages.shown())} blocks, {len(wrong)} not so")
+    return len(wrong)
 
 
 def main():
@@ -65,18 +140,8 @@ def main():
     program = Path(words[0] if words else EXAMPLES.parent / "lift").resolve()
     if not os.access(program, os.X_OK):
         sys.exit(f"examples/check.py: there is no program {program}")
-    failed = 0
-    examples = [Example(program, script) for script in sorted(EXAMPLES.glob("*/*.txt"))]
-    for it in examples:
-        wrong, stored = it.values_differ(), []
-        if "--store" in sys.argv and not wrong:
-            stored = it.store()
-        wrong += it.differs()
-        failed += bool(wrong)
-        for what, commands in (("stored anew", stored), ("differs", wrong)):
-            if commands:
-                print(f"{it.script.relative_to(EXAMPLES)}: {', '.join(commands)}: {what}")
-    print(f"examples: {len(examples) - failed} as stored, {failed} not")
+    failed = examples_differ(program, "--store" in sys.argv)
+    failed += pages_differ()
     return bool(failed)
 
 

@@ -1,5 +1,6 @@
 #!/usr/bin/env python3
-"""Runs the built program on an input for each refusal of docs/REFUSALS.md, and compares status and line.
+"""Runs the built program on an input for each refusal of docs/REFUSALS.md, and compares status and
+line; and on inputs mended as the page says, which may not be refused.
 
     examples/refusals.py [PROGRAM]      PROGRAM is ./lift where none is given
 
@@ -86,7 +87,7 @@ ROWS = [
     (ADDED, "at 0 copy\nat 0 to-seq\nat . to-seq", None, 11, "lift: nest: N7 at 0"),
     (ADDED, "at 0 private-copy\nat . to-seq", None, 11, "lift: nest: N8 at 0"),
     (ROWS_OF + "map(\\r. map(\\x. x, r), xs)", "at 1 to-glb\nat . to-seq", None, 11, "lift: nest: N9 at 1"),
-    (ARRAY + "slide(1, 1, map(\\x. x, xs))", "at 0 to-seq", None, 11, "lift: nest: N10 at ."),
+    ("input xs: [u32; 5]; output slide(3, 1, xs)", "", None, 11, "lift: nest: N10 at ."),
     ("input xs: [u32; 5]; output xs", "", None, 11, "lift: nest: N11 at ."),
     (ARRAY + f"map(\\x. x, {'join(split(1, ' * 13}xs{'))' * 13})", "at . to-seq", None, 10, "lift: limit layouts: 26"),
     ("input xs: [u32; 16386]; output map(\\x. x, xs)", "at . split-map 8193\nat 0.1.0 local-copy\nat 0.1 to-lcl\nat 0 to-wrg", None, 10, "lift: limit local: 32772"),
@@ -100,6 +101,50 @@ ROWS = [
     (ADDED, "at . to-seq", launch(**{"global": 2}), 12, "lift: launch: global 2 for one item"),
     (ADDED, "at . to-seq", launch(inputs={"xs": [1, 2]}), 12, "lift: launch: shape xs"),
     ("#" * 65537, None, None, 10, "lift: limit bytes: 65537"),
+]
+
+MULTIPLE = ADDED.replace("from 1", "multiple 4 from 4")
+TILED = "at . split-map 4\nat 0.1 to-lcl\nat 0 to-wrg"
+NESTED = ROWS_OF + "map(\\r. map(\\x. x, r), xs)"
+LAYERS = ARRAY + f"map(\\x. x, {'join(split(1, ' * 13}xs{'))' * 13})"
+ARRAY_3 = ARRAY.replace("from 1", "from 3")
+DOUBLED = ARRAY + "reduce(add, 0, map(\\x. mul(x, 2), xs))"
+LARGE = "input xs: [u32; 16386]; output map(\\x. x, xs)"
+LOCAL_COPY = "at . split-map {}\nat 0.1.0 local-copy\nat 0.1 to-lcl\nat 0 to-wrg"
+# (what the page says of it, program, script or None): with a script a kernel is made, and without
+# one the program is typed
+MENDED = [
+    ("operator", ARRAY + "map(\\x. add(x, 1), xs)", None),
+    ("project", ARRAY + "map(\\p. first(p), zip(xs, xs))", None),
+    ("pair", ARRAY + "zip(xs, xs)", None),
+    ("fold", ARRAY + "fold(\\a x. pair(x, first(a)), pair(0, 0), xs)", None),
+    ("split", ARRAY.replace("from 1", "multiple 4 from 4") + "split(4, xs)", None),
+    ("split", "size T from 1 to 9; input xs: [u32; 4*T]; output split(4, xs)", None),
+    ("join", ARRAY + "join(split(1, xs))", None),
+    ("slide", ARRAY_3 + "slide(3, 1, xs)", None),
+    ("slide", ARRAY + "slide(3, 1, pad(1, 1, xs))", None),
+    ("length", "size N from 2 to 9; input xs: [u32; N - 1]; output xs", None),
+    ("output", ARRAY + "reduce(add, 0, xs)", None),
+    ("shape", DOUBLED, "at . reduce-fold\nat . fuse-fold\nat . fold-seq"),
+    ("side divides", MULTIPLE, "at . split-map 4\nat 0.1 to-seq\nat 0 to-seq"),
+    ("side length", "input xs: [u32; 4]; output map(\\w. reduce(add, 0, w), slide(3, 1, xs))", "at 0 tile-slide 2\nat . map-join\nat 0 fuse-map\nat 0.1 let-inline\nat 0.1.1 reduce-fold\nat 0.1.1 fold-seq\nat 0.1 to-seq\nat 0 to-seq"),
+    ("N1", ADDED, "at . to-seq"),
+    ("N2", MULTIPLE, TILED),
+    ("N2", ADDED, "at . to-glb"),
+    ("N3", NESTED, "at . to-glb\nat 1 to-seq"),
+    ("N3", NESTED, "at . to-wrg\nat 1 to-lcl"),
+    ("N5", MULTIPLE, LOCAL_COPY.format(4)),
+    ("N6", "size N from 1 to 64; input xs: [u32; 64*N]; output join(map(\\r. map(\\x. x, r), split(64, xs)))", "at 0.1.0 local-copy\nat 0.1 to-lcl\nat 0 to-wrg"),
+    ("N7", ADDED, "at 0 copy\nat . fuse-map\nat . to-seq"),
+    ("N7", ADDED.replace("u32; N", "u32; 9"), "at 0 copy\nat 0 to-seq\nat 0 private\nat . to-seq"),
+    ("N7", ARRAY + "map(\\x. let ys = xs in x, xs)", "at 1 let-inline\nat . to-seq"),
+    ("N8", MULTIPLE, "at . split-map 4\nat 0.1.0 private-copy\nat 0.1 to-seq\nat 0 to-glb"),
+    ("N9", NESTED, "at . to-glb\nat 1 to-seq"),
+    ("N10", "input xs: [u32; 5]; output slide(3, 1, xs)", "at . copy\nat 1 copy\nat 1 to-seq\nat . to-seq"),
+    ("N11", "input xs: [u32; 5]; output xs", "at . copy\nat . to-seq"),
+    ("layouts", LAYERS, "at 0 join-split\nat . to-seq"),
+    ("local", LARGE, LOCAL_COPY.format(6)),
+    ("private", LARGE.replace("16386", "257"), "at . to-seq"),
 ]
 
 
@@ -138,6 +183,16 @@ def answers(folder):
     yield (4, "lift: write"), (status, line, "")
 
 
+def mended(folder):
+    """What the page says how to mend, and the line where it is refused all the same."""
+    for what, program, script in MENDED:
+        for name, text in {"program.lift": program, "script.txt": script}.items():
+            with open(f"{folder}/{name}", "w") as file:
+                file.write(text or "")
+        words = ["steps" if script is None else "compile", "program.lift", "script.txt"]
+        yield what, called(folder, words)[1]
+
+
 def told():
     """The lines of the page, but for want of memory: they stand in the second column of its tables, behind a status."""
     with open(f"{TOP}/docs/REFUSALS.md") as page:
@@ -156,6 +211,10 @@ def main():
             if came != (status, line + "\n", ""):
                 failed += 1
                 print(f"{line!r} wanted with status {status}: status {came[0]}, {came[1]!r}")
+        for count, (what, line) in enumerate(mended(folder), count + 1):
+            if line:
+                failed += 1
+                print(f"{what} mended as docs/REFUSALS.md says: {line!r}")
     for line in sorted(untold):
         print(f"{line!r} stands in docs/REFUSALS.md, and no input here gives it")
     print(f"refusals: {count - failed} as told, {failed + len(untold)} not")

@@ -1,4 +1,4 @@
-"""What each example computes, in plain Python: the value of the folder's program, from its inputs by name.
+"""What each example computes, in plain Python: the value of the folder's program, from its inputs.
 
 Nothing here knows a pattern or a script, so a value that is the same here was reached in two ways.
 """
@@ -9,8 +9,12 @@ def word(number):
     return number % 2**32
 
 
+def total(numbers):
+    return word(sum(numbers))
+
+
 def dot(xs, ys):
-    return word(sum(x * y for x, y in zip(xs, ys)))
+    return total(x * y for x, y in zip(xs, ys))
 
 
 def columns(rows):
@@ -21,22 +25,70 @@ def product(a, b):
     return [[dot(row, column) for column in columns(b)] for row in a]
 
 
+def parts(xs, length):
+    return [xs[k : k + length] for k in range(0, len(xs), length)]
+
+
+def at(xs, k):
+    """The element at k, or at the end that is nearest."""
+    return xs[min(max(k, 0), len(xs) - 1)]
+
+
+def convolution(xs, weights):
+    middle = len(weights) // 2
+    return [
+        total(weight * at(xs, n + k - middle) for k, weight in enumerate(weights))
+        for n in range(len(xs))
+    ]
+
+
 def stencil(xs):
-    last = len(xs) - 1
-    return [word(xs[max(k - 1, 0)] + xs[k] + xs[min(k + 1, last)]) for k in range(len(xs))]
+    return convolution(xs, [1, 1, 1])
 
 
-def sums_of_four(xs, ys):
-    return [dot(xs[k : k + 4], ys[k : k + 4]) for k in range(0, len(xs), 4)]
+def weighted_neighbours(xs, weights):
+    """Each cell and its eight neighbours, with weights row after row."""
+
+    def cell(n, m):
+        return total(at(at(xs, n + k // 3 - 1), m + k % 3 - 1) * weights[k] for k in range(9))
+
+    return [[cell(n, m) for m in range(len(xs[0]))] for n in range(len(xs))]
+
+
+def least(row):
+    """The least number, and where it stands first."""
+    return [min(row), row.index(min(row))]
+
+
+def sums_so_far(xs):
+    return [total(xs[: k + 1]) for k in range(len(xs))]
+
+
+def framed_squares(xs):
+    return [word(x * x + 1) for x in [xs[0], *xs, xs[-1], xs[-1]]]
 
 
 VALUES = {
+    "argmin": lambda rows, columns: [least(row) for row in rows],
+    "convolution": convolution,
     "dot_product": lambda xs, ys: [dot(xs, ys)],
+    "five_point": weighted_neighbours,
+    "framed": framed_squares,
+    "histogram": lambda xs, bins: [[part.count(bin) for bin in bins] for part in parts(xs, 64)],
     "increment": lambda xs: [word(x + 1) for x in xs],
     "matrix_product": product,
     "matrix_product_short": product,
-    "partial_sums": sums_of_four,
+    "matrix_product_tiles": product,
+    "matrix_vector": lambda a, x: [dot(row, x) for row in a],
+    "partial_sums": lambda xs, ys: [dot(*pair) for pair in zip(parts(xs, 4), parts(ys, 4))],
+    "prefix_sums": lambda xs, ids: [it for part in parts(xs, 16) for it in sums_so_far(part)],
+    "rounded_up": stencil,
+    "row_sums": lambda rows: [total(row) for row in rows],
+    "squares_smoothed": lambda rows: [stencil([x * x for x in row]) for row in rows],
     "stencil": stencil,
+    "sum": lambda xs, one: [total(xs)],
+    "sum_of_parts": lambda parts, one: [total(part) for part in parts],
     "transpose": columns,
     "transpose_tiles": columns,
+    "two_passes": lambda rows: [[word(2 * x + 1) for x in row] for row in rows],
 }

@@ -27,7 +27,10 @@ def fail(message):
 
 def lift(*words):
     """What `lift` writes; where it refuses, its line stands on standard error."""
-    ran = subprocess.run([LIFT, *words], stdout=subprocess.PIPE, text=True)
+    try:
+        ran = subprocess.run([LIFT, *words], stdout=subprocess.PIPE, text=True)
+    except OSError:
+        fail(f"can't run {LIFT}")
     if ran.returncode != 0:
         fail(f"lift {words[0]} ended with status {ran.returncode}")
     return ran.stdout

@@ -1,0 +1,63 @@
+"""How many events and releases a kernel's run has, counted from its text alone.
+
+docs/DEVICE.md says what an event is: an assignment, a load, a store, the entry of a loop, the end
+of a turn, and one release for each barrier that a group goes past. Which order they come in doesn't
+matter to their number, so each work-item's steps are counted by themselves.
+"""
+import re
+
+LOOP = re.compile(r"for \(uint (i\d+) = (.*); i\d+ < (.*); i\d+ \+= (.*)\) \{")
+DECLARATION = re.compile(r"(__local )?uint \w+(\[\d+\])?;")
+
+
+def statements(kernel):
+    """A kernel's body: its statements, a loop as its head's four parts and its body."""
+    lines = [line.strip() for line in kernel.splitlines()[2:]]
+    return block(iter([line for line in lines if not DECLARATION.fullmatch(line)]))
+
+
+def block(lines):
+    made = []
+    for line in lines:
+        loop = LOOP.fullmatch(line)
+        if line == "}":
+            break
+        made.append((*loop.groups(), block(lines)) if loop else line)
+    return made
+
+
+def number(expression, names):
+    """The value of a start, bound or step; no such expression wraps."""
+    python = re.sub(r"\(uint\)get_(\w+)\(0\)", r"\1", expression)
+    return eval(re.sub(r"\b(\d+)u\b", r"\1", python).replace("/", "//"), {}, names)
+
+
+def steps(body, names):
+    """The steps of one work-item, and how many barriers it goes past."""
+    events = barriers = 0
+    for it in body:
+        if isinstance(it, str):
+            barrier = it.startswith("barrier")
+            events, barriers = events + (not barrier), barriers + barrier
+            continue
+        variable, start, bound, step, inner = it
+        turns = range(*(number(part, names) for part in (start, bound, step)))
+        events += 1
+        for turn in turns:
+            more, past = steps(inner, {**names, variable: turn})
+            events, barriers = events + more + 1, barriers + past
+    return events, barriers
+
+
+def counts(kernel, launch):
+    """Events, releases among them, and releases of a run under a launch file."""
+    total, group = launch["global"], launch["local"]
+    sizes = {f"s{k}": size for k, size in enumerate(launch["sizes"].values())}
+    sizes |= {"global_size": total, "local_size": group, "num_groups": total // group}
+    body, events, releases = statements(kernel), 0, 0
+    for item in range(total):
+        ids = {"global_id": item, "local_id": item % group, "group_id": item // group}
+        taken, barriers = steps(body, sizes | ids)
+        events += taken
+        releases += barriers if item % group == 0 else 0
+    return events + releases, releases

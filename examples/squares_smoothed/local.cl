@@ -1,0 +1,23 @@
+__kernel void lift(__global const uint *a0, __global uint *o0, const uint s0)
+{
+  __local uint l0[8];
+  uint v0;
+  uint v1;
+  uint v2;
+  for (uint i0 = (uint)get_group_id(0); i0 < s0; i0 += (uint)get_num_groups(0)) {
+    for (uint i1 = (uint)get_local_id(0); i1 < 8u; i1 += (uint)get_local_size(0)) {
+      v0 = a0[((i0 * 8u) + i1)];
+      l0[i1] = (v0 * v0);
+    }
+    barrier(CLK_LOCAL_MEM_FENCE);
+    for (uint i1 = (uint)get_local_id(0); i1 < 8u; i1 += (uint)get_local_size(0)) {
+      v1 = 0u;
+      for (uint i2 = 0u; i2 < 3u; i2 += 1u) {
+        v2 = l0[min((max((i1 + i2), 1u) - 1u), 7u)];
+        v1 = (v1 + v2);
+      }
+      o0[((i0 * 8u) + i1)] = v1;
+    }
+    barrier(CLK_LOCAL_MEM_FENCE);
+  }
+}
