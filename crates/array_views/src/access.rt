@@ -1,4 +1,4 @@
-// What stands for a scalar.
+//! What stands for a scalar.
 
 ghost use Rattle.std.specs.Prelude.{◌≡◌};
 ghost use Rattle.array_views.specs.Accesses.{access_of, cell_alone, target_of};

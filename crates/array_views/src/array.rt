@@ -1,4 +1,4 @@
-// The arrays of a kernel.
+//! The arrays of a kernel.
 
 /// Where an array lies, and whose it is.
 #[derive(Clone, Copy, PartialEq, Eq)]

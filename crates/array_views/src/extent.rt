@@ -1,4 +1,4 @@
-// Types whose lengths are index expressions.
+//! Types whose lengths are index expressions.
 
 ghost use Rattle.std.specs.Prelude.{◌≡◌, ◌+◌, ◌≤◌, ◌<◌, ◌^◌, [], IfOk};
 ghost use Rattle.lift_tree.specs.Types.{ty_of};

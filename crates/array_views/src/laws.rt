@@ -1,4 +1,4 @@
-// Laws of views, each carried by a function that does nothing.
+//! Laws of views, each carried by a function that does nothing.
 
 ghost use Rattle.array_views.specs.NodeCounts.{IndicesHaveNoMoreNodes};
 ghost use Rattle.array_views.specs.Promises.{ViewsNameCells, CellsAreWithin, GoalsDiffer, GoalsAreFull};

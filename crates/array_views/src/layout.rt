@@ -1,4 +1,4 @@
-// Layouts, as functions on stacks of indices.
+//! Layouts, as functions on stacks of indices.
 
 ghost use Rattle.std.specs.Prelude.{◌≡◌, IfOk, OnOk};
 ghost use Rattle.lift_tree.specs.declared.term.UnaryForm.{UnaryForm};

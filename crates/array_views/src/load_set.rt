@@ -1,4 +1,4 @@
-// Which scalars of an element are loaded.
+//! Which scalars of an element are loaded.
 
 ghost use Rattle.std.specs.Prelude.{◌≡◌, ◌<◌, ◌^◌};
 ghost use Rattle.printed_form.specs.Counts.{load_count};

@@ -1,4 +1,4 @@
-// Views as trees that share their parts.
+//! Views as trees that share their parts.
 
 ghost use Rattle.std.specs.Prelude.{◌≡◌, IfOk};
 ghost use Rattle.array_views.specs.Stacks.{indices_in};

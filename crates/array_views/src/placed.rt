@@ -1,4 +1,4 @@
-// A value in arrays.
+//! A value in arrays.
 
 ghost use Rattle.std.specs.Prelude.{◌+◌, ◌≤◌, ◌^◌};
 ghost use Rattle.lift_ir.specs.Types.{width};

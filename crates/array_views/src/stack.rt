@@ -1,4 +1,4 @@
-// Stacks of pair choices and of indices, eight entries inline.
+//! Stacks of pair choices and of indices, eight entries inline.
 
 ghost use Rattle.std.specs.Prelude.{◌≡◌, [], ◌∷◌, IfOk, OnOk, MatchOption};
 ghost use Rattle.index_expr.specs.Expression.{expression_of};

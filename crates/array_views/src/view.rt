@@ -1,4 +1,4 @@
-// Views, and how they are made.
+//! Views, and how they are made.
 
 ghost use Rattle.std.specs.Prelude.{◌≡◌, ◌+◌, ◌≤◌, ◌<◌, ◌^◌, false, true, [], ◌∷◌, IfOk, map};
 ghost use Rattle.lift_tree.specs.Types.{ty_of};

@@ -1,4 +1,4 @@
-// Conflicts between two stretches of phases.
+//! Conflicts between two stretches of phases.
 
 ghost use Rattle.std.specs.Prelude.{◌≡◌, ◌<◌, ◌↔◌, ℕ, IsTrue, MatchOption, Contains};
 ghost use Rattle.barrier_placement.specs.declared.touches.Touch.{Touch};

@@ -1,4 +1,4 @@
-// Laws of the needed barriers, each carried by a function that does nothing.
+//! Laws of the needed barriers, each carried by a function that does nothing.
 
 ghost use Rattle.barrier_placement.specs.Laws.{NeededBarriersSeparate, NeededBarriersAreFewest, NeededBarriersAreDetermined};
 

@@ -1,4 +1,4 @@
-// The needed barriers of a body.
+//! The needed barriers of a body.
 
 ghost use Rattle.std.specs.Prelude.{◌+◌, ◌<◌, ◌≤◌, ◌^◌, IfSome, IfOk, All};
 ghost use Rattle.barrier_placement.specs.Fencing.{fence, InOrder};
@@ -88,7 +88,7 @@ fn closing_barrier(touches: &[Touch], phases: u32, first: u32, last: u32) -> Opt
 
 /// The needed barriers of a body with so many phases, which has these uses of arrays.
 ///
-/// Going forward, a barrier stands just before a phase that conflicts with a phase since the last barrier. One more closes the body where a phase after the last barrier conflicts with one before the first; where there is no barrier, where any two phases conflict, or one with itself. The time is of the order of the uses times the uses and phases.
+/// Going forward, a barrier stands just before a phase that conflicts with a phase since the last barrier. One more closes the body where a phase after the last barrier conflicts with one before the first; where there is no barrier, where any two phases conflict, or one with itself.
 pub fn place(alloc: Global, touches: &[Touch], phases: u32) -> Result<Barriers, AllocError>
     requires some { 1 ≤ phases }
     requires within { All (λ touch. touch.phase < phases) touches.now }

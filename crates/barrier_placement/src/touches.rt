@@ -1,4 +1,4 @@
-// A phase's uses of arrays.
+//! A phase's uses of arrays.
 
 ghost use Rattle.std.specs.Prelude.{◌↔◌, IsTrue};
 

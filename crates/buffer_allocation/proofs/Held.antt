@@ -68,3 +68,7 @@ pub times_four : (s : ℕ) → min (held s * 4) 18446744073709551615 ≡ held (4
 times_four s = omega arith
 
 pub ruleset bytes = (times_four)
+
+-- what is counted is within a limit where the count is
+pub within : (n limit count : ℕ) → limit < 18446744073709551615 → count ≡ held n → count ≤ limit → n ≤ limit
+within n limit count low e h = omega arith

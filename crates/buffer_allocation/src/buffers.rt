@@ -1,6 +1,7 @@
 //! Buffers, and why a term has none.
 
-ghost use Rattle.std.specs.Prelude.{◌≡◌};
+ghost use Rattle.std.specs.Prelude.{◌≡◌, ◌≤◌, ◌*◌};
+ghost use Rattle.std.specs.List.{sum};
 
 use std::alloc::AllocError;
 
@@ -35,9 +36,12 @@ impl From<AllocError> for AllocNo {
 }
 
 /// The buffers of a term's copies, one for each component, each by its length in scalars: in the
-/// order of the copies, a copy after those in it.
+/// order of the copies, a copy after those in it. They keep within the limits on memory.
 #[derive(Drop)]
 pub struct Buffers {
     pub local: Vec<u64>,
     pub private: Vec<u64>,
+    // A scalar takes four bytes.
+    ghost local_bytes: { 4 * sum local.items ≤ 32768 },
+    ghost private_cells: { sum private.items ≤ 256 },
 }

@@ -30,26 +30,26 @@ use Rattle.lift_ir.specs.Types.{IsShort, measured, size}
 use Rattle.lowered_tree.specs.declared.lowered.Lowered.{Lowered}
 use Rattle.lowered_tree.specs.Kinds.{is_task}
 use Rattle.nest_premises.specs.Legal.{IsLegalTerm}
-use Rattle.nest_premises.specs.Kind.{nest_kind}
+use Rattle.lowered_tree.specs.Kind.{nest_kind}
 use Rattle.nest_premises.specs.Printable.{CanBeLowered, IsPrintable}
-use Rattle.nest_premises.specs.declared.kind.NestKind.{NestKind}
-use Rattle.nest_premises.specs.declared.kind.NestKind.TheVariants.{Task, OverLaunch, OverGroups}
+use Rattle.lowered_tree.specs.declared.kind.NestKind.{NestKind}
+use Rattle.lowered_tree.specs.declared.kind.NestKind.TheVariants.{Task, OverLaunch, OverGroups}
 use Rattle.barrier_placement.specs.Fencing.{Fencing, fence}
 use Rattle.barrier_placement.specs.Needed.{Needed}
 use Rattle.barrier_placement.specs.declared.placing.Barrier.{Barrier}
-use Rattle.group_terms.specs.Forms.{StandsOverGroups}
-use Rattle.group_terms.specs.Uses.{group_touches, phase_count}
-use Rattle.group_premises.specs.Laws.{LegalGroupsStandOverGroups}
-use Rattle.printable_groups.specs.Laws.{AreNeeded, LegalGroupKernelsAreInTheGrammar, kernel_of_groups}
+use Rattle.group_form.specs.Forms.{StandsOverGroups}
+use Rattle.group_form.specs.Uses.{group_touches, phase_count}
+use Rattle.nest_premises.specs.Groups.{LegalGroupsStandOverGroups}
+use Rattle.kernel_premises.specs.Groups.{AreNeeded, LegalGroupKernelsAreInTheGrammar, kernel_of_groups}
 use Rattle.group_emit.specs.Emittable.{IsGroupEmittable, fence_with}
 use Rattle.buffer_allocation.specs.Layouts.{layouts}
 use Rattle.buffer_allocation.specs.Limits.{passed_limit}
 use Rattle.value_lists.specs.Lists as lists
 use Rattle.value_lists.specs.Lists.{IsSmall}
-use Rattle.kernel_limits.specs.Within.{TermsCanBeWritten}
+use Rattle.kernel_premises.specs.Within.{TermsCanBeWritten}
 use Rattle.printed_form.specs.Programs.{IsLaunchOf, StandsAt, lowered_root}
-use Rattle.printable_terms.specs.Laws.{KernelsAreInTheGrammar, kernel_of_term}
-use Rattle.sound_parts.specs.Laws.{LeastSizesAreAdmissible, TermsHaveSoundParts}
+use Rattle.kernel_premises.specs.Terms.{KernelsAreInTheGrammar, kernel_of_term}
+use Rattle.kernel_premises.specs.Soundness.{LeastSizesAreAdmissible, TermsHaveSoundParts}
 use Rattle.kernel_emit.specs.Copies.{HasShortCopies}
 use Rattle.kernel_emit.specs.Emittable.{IsEmittable, declared_of}
 use Rattle.strategy_script.specs.Steps.{State, state_of}
@@ -93,7 +93,7 @@ emittable p t n accepted printable sound grammar least written serve short =
     let can = written (lowered_root t n) (stands_somewhere (least_launch d.names) (lowered_root t n) (printable.stands (leasts d.names) (least_launch d.names) (at_least d (is_task t) ok))) in
     let lowerable = printable.lowerable (leasts d.names) ok in
     record {
-      grammar = grammar d t n legal.nodes legal.output printable.staged can (few_layouts t n accepted.within) accepted.low (sound p t n legal accepted.words printable);
+      grammar = grammar d t n legal.nodes legal.output printable.staged can (few_layouts t n accepted.within) accepted.low (sound p t n legal printable);
       copies = short _ (lowered_root t n) (serve.loads d (leasts d.names) t n legal.nodes lowerable.lowerable printable.staged);
     }
 
@@ -107,7 +107,7 @@ group_emittable p t n barriers accepted kind needed grammar stand least serve sh
     let printable = stand p t n legal accepted.copies kind in
     let lowerable = (printable.program (leasts d.names) (least d.names legal.declared.names)).lowerable in
     record {
-      grammar = grammar p (fence_with barriers t n) t n legal accepted.copies accepted.words kind needed (few_layouts t n accepted.within) accepted.low;
+      grammar = grammar p (fence_with barriers t n) t n legal accepted.copies kind needed (few_layouts t n accepted.within) accepted.low;
       copies = short _ (lowered_root t n) (serve.loads d (leasts d.names) t n legal.nodes lowerable.lowerable printable.staged);
     }
 

@@ -10,8 +10,8 @@ use Rattle.strategy_script.specs.Steps.{State}
 use Rattle.lowered_tree.specs.Nest.{IsLegalNest, LegalWithoutFault, nest_fault}
 use Rattle.lowered_tree.specs.Inputs.{HasTypedInputs}
 use Rattle.lowered_tree.specs.declared.lowered.Lowered.{Lowered}
-use Rattle.nest_premises.specs.Legal.{HasWordSteps, IsLegalTerm}
-use Rattle.sound_parts.specs.Words.{FormsHaveWords}
+use Rattle.nest_premises.specs.Legal.{IsLegalTerm}
+use Rattle.lowered_tree.specs.Words.{FormsHaveWords}
 use Rattle.thread_mapping.specs.Found as nest
 use Rattle.thread_mapping.specs.declared.judging.NestNo.{NestNo}
 use Rattle.thread_mapping.specs.declared.judging.NestNo.TheVariants as nests
@@ -27,24 +27,23 @@ use Rattle.compilation.specs.Legal.{BuffersOf, CompilesTerm, IsAccepted, IsLower
 pub typed_inputs : (t : Typed) → IsTypedLast t → HasTypedInputs (program_of t.program)
 typed_inputs t last = record { proper = last.proper; declared = last.typed.declared; within = last.within.inputs }
 
-pub legal_term : (t : Typed) → IsTypedLast t → HasWordSteps (tree_of t.term) → IsLegalNest (tree_of t.term) (annotation_of t.types) → IsLegalTerm (program_of t.program) (tree_of t.term) (annotation_of t.types)
-legal_term t last steps legal = record {
+pub legal_term : (t : Typed) → IsTypedLast t → FormsHaveWords (tree_of t.term) → IsLegalNest (tree_of t.term) (annotation_of t.types) → IsLegalTerm (program_of t.program) (tree_of t.term) (annotation_of t.types)
+legal_term t last words legal = record {
   declared = last.typed.declared;
   nodes = last.typed.nodes;
   output = last.typed.output;
   within = last.within;
-  steps = steps;
+  words = words;
   legal = legal;
 }
 
-pub accepted_term : (t : Typed) → IsTypedLast t → HasWordSteps (tree_of t.term) → FormsHaveWords (tree_of t.term) → IsLegalNest (tree_of t.term) (annotation_of t.types)
+pub accepted_term : (t : Typed) → IsTypedLast t → FormsHaveWords (tree_of t.term) → IsLegalNest (tree_of t.term) (annotation_of t.types)
     → limits.passed_limit (tree_of t.term) (annotation_of t.types) ≡ None → IsAccepted (program_of t.program) (tree_of t.term) (annotation_of t.types)
-accepted_term t last steps words legal within =
+accepted_term t last words legal within =
     let low = last.low in
     record {
-      legal = legal_term t last steps legal;
+      legal = legal_term t last words legal;
       copies = last.copies;
-      words = words;
       within = within;
       low = omega (arith, low);
     }

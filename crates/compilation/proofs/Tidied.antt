@@ -9,25 +9,25 @@ use Rattle.kernel_tree.specs.Code.{Kernel}
 use Rattle.kernel_tree.specs.Grammar.{is_kernel}
 use Rattle.kernel_tree.specs.Launch.{Launch}
 use Rattle.lowered_tree.specs.Kinds.{is_task}
-use Rattle.nest_premises.specs.Kind.{nest_kind}
+use Rattle.lowered_tree.specs.Kind.{nest_kind}
 use Rattle.nest_premises.specs.Laws.{UngroupedTermsArePrintable}
 use Rattle.nest_premises.specs.Printable.{IsPrintable}
-use Rattle.nest_premises.specs.declared.kind.NestKind.{NestKind}
-use Rattle.nest_premises.specs.declared.kind.NestKind.TheVariants.{Task, OverLaunch, OverGroups}
+use Rattle.lowered_tree.specs.declared.kind.NestKind.{NestKind}
+use Rattle.lowered_tree.specs.declared.kind.NestKind.TheVariants.{Task, OverLaunch, OverGroups}
 use Rattle.barrier_placement.specs.Fencing.{Fencing}
-use Rattle.group_premises.specs.Laws.{LegalGroupsStandOverGroups}
-use Rattle.group_premises.specs.Stands.{IsGroupPrintable}
-use Rattle.group_terms.specs.Programs.{PrintedGroupProgramsKeep, PrintedGroupProgramsServe, PrintedGroupProgramsStart, PrintsGroups}
+use Rattle.nest_premises.specs.Groups.{LegalGroupsStandOverGroups}
+use Rattle.nest_premises.specs.Stands.{IsGroupPrintable}
+use Rattle.group_form.specs.Programs.{PrintedGroupProgramsKeep, PrintedGroupProgramsServe, PrintedGroupProgramsStart, PrintsGroups}
 use Rattle.printed_form.specs.Programs.{IsLaunchOf, PrintedProgramsKeep, PrintedProgramsStart, Prints}
 use Rattle.barrier_free.specs.Laws.{PrintedProgramsServe}
-use Rattle.printable_terms.specs.Laws.{TermsArePrinted, kernel_of_term}
-use Rattle.printable_groups.specs.Laws.{AreNeeded, GroupTermsArePrinted, kernel_of_groups}
+use Rattle.kernel_premises.specs.Terms.{TermsArePrinted, kernel_of_term}
+use Rattle.kernel_premises.specs.Groups.{AreNeeded, GroupTermsArePrinted, kernel_of_groups}
 use Rattle.tidy_indices.specs.Laws.{KeepsValues, TidyFormulasKeepValues}
 use Rattle.tidy_indices.specs.Tidy.{tidy_formula}
 use Rattle.tidy_kernels.specs.Pass.{tidied_kernel}
-use Rattle.tidy_terms.specs.Laws.{TidiedKernelsArePrinted}
-use Rattle.tidy_groups.specs.Laws.{TidiedGroupKernelsArePrinted}
-use Rattle.printed_indices.specs.Laws.{TidiedGroupsAreTidy, TidiedTermsAreTidy, TidyFormulasMakeTidy}
+use Rattle.tidy_printed.specs.Terms.{TidiedKernelsArePrinted}
+use Rattle.tidy_printed.specs.Groups.{TidiedGroupKernelsArePrinted}
+use Rattle.tidy_printed.specs.TidyLaws.{TidiedGroupsAreTidy, TidiedTermsAreTidy, TidyFormulasMakeTidy}
 use Rattle.strategy_script.specs.Steps.{State}
 use Rattle.compilation.specs.Compiled.{IsKernelFor, IsPlainAs, IsPlainFor, PrintsAs}
 use Rattle.compilation.specs.Legal.{IsAccepted}

@@ -14,17 +14,17 @@ use Rattle.lift_tree.specs.Launches.{lists_of}
 use Rattle.lift_tree.specs.Meaning.{World, meaning}
 use Rattle.lift_tree.specs.Tree.{Tree}
 use Rattle.lowered_tree.specs.Kinds.{is_task}
-use Rattle.nest_premises.specs.Kind.{nest_kind}
-use Rattle.nest_premises.specs.declared.kind.NestKind.{NestKind}
-use Rattle.nest_premises.specs.declared.kind.NestKind.TheVariants.{Task, OverLaunch, OverGroups}
+use Rattle.lowered_tree.specs.Kind.{nest_kind}
+use Rattle.lowered_tree.specs.declared.kind.NestKind.{NestKind}
+use Rattle.lowered_tree.specs.declared.kind.NestKind.TheVariants.{Task, OverLaunch, OverGroups}
 use Rattle.printed_form.specs.Headline.{EveryRunKeeps}
 use Rattle.printed_form.specs.Programs.{AreBuffersOf, IsLaunchOf, Prints, cell_owner}
 use Rattle.group_phases.specs.Outcome.{BarriersServeAll}
-use Rattle.group_terms.specs.Programs.{PrintsGroups}
+use Rattle.group_form.specs.Programs.{PrintsGroups}
 use Rattle.barrier_placement.specs.Fencing.{Fencing}
-use Rattle.printable_terms.specs.Laws.{kernel_of_term}
-use Rattle.printable_groups.specs.Laws.{AreNeeded, kernel_of_groups}
-use Rattle.printed_indices.specs.Tidy.{IsTidyFor}
+use Rattle.kernel_premises.specs.Terms.{kernel_of_term}
+use Rattle.kernel_premises.specs.Groups.{AreNeeded, kernel_of_groups}
+use Rattle.tidy_printed.specs.Tidy.{IsTidyFor}
 use Rattle.rewriting.specs.Keeps.{Keeps}
 use Rattle.strategy_script.specs.Steps.{State}
 use Rattle.program_source.specs.Program.{IsRead}

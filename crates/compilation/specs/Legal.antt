@@ -13,7 +13,6 @@ use Rattle.strategy_script.specs.Steps.{State}
 use Rattle.lowered_tree.specs.Nest.{IsLegalNest, nest_fault}
 use Rattle.lowered_tree.specs.Copies.{CopiesArrays}
 use Rattle.nest_premises.specs.Legal.{IsLegalTerm}
-use Rattle.sound_parts.specs.Words.{FormsHaveWords}
 use Rattle.thread_mapping.specs.declared.judging.NestNo.{NestNo}
 use Rattle.thread_mapping.specs.declared.judging.NestNo.TheVariants as nests
 use Rattle.buffer_allocation.specs.Limits.{passed_limit}
@@ -37,7 +36,6 @@ pub record IsTypedLast (t : Typed) : Type 0 where
 pub record IsAccepted (p : PlainProgram) (t : Tree) (n : Annotation) : Type 0 where
   pub legal : IsLegalTerm p t n
   pub copies : CopiesArrays t n
-  pub words : FormsHaveWords t
   pub within : passed_limit t n ≡ None
   pub low : height t ≤ 512
 

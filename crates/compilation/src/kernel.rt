@@ -5,8 +5,8 @@ ghost use Rattle.lift_tree.specs.Programs.{program_of};
 ghost use Rattle.lift_tree.specs.Tree.{tree_of};
 ghost use Rattle.kernel_tree.specs.Kernels.{kernel_of};
 ghost use Rattle.strategy_script.specs.Steps.{state_of};
-ghost use Rattle.nest_premises.specs.Kind.{nest_kind};
-ghost use Rattle.nest_premises.specs.declared.kind.NestKind.TheVariants.{OverGroups};
+ghost use Rattle.lowered_tree.specs.Kind.{nest_kind};
+ghost use Rattle.lowered_tree.specs.declared.kind.NestKind.TheVariants.{OverGroups};
 ghost use Rattle.program_source.specs.Program.{StopsFor};
 ghost use Rattle.compilation.specs.Compiled.{IsKernelFor, IsPlainFor};
 ghost use Rattle.compilation.specs.Legal.{CompilesTerm, IsAccepted, IsLoweredOf, IsTypedLast};
@@ -16,33 +16,32 @@ use crate::legal::{buffered, mapped};
 use barrier_free::laws::printed_programs_serve;
 use fault_lines::Refusal;
 use group_emit::kernel::emit_groups;
-use group_premises::laws::legal_groups_stand_over_groups;
-use group_terms::laws::{printed_group_programs_keep, printed_group_programs_start};
+use group_form::laws::{printed_group_programs_keep, printed_group_programs_start};
 use kernel_emit::kernel::emit;
 use kernel_emit::laws::copies_are_short;
-use kernel_limits::laws::terms_can_be_written;
+use kernel_premises::groups::{group_terms_are_printed, legal_group_kernels_are_in_the_grammar};
+use kernel_premises::limits::terms_can_be_written;
+use kernel_premises::soundness::{least_sizes_are_admissible, terms_have_sound_parts};
+use kernel_premises::terms::{kernels_are_in_the_grammar, terms_are_printed};
 use kernel_tree::tree::Kernel;
 use lift_ir::laws::lowered_terms_serve;
 use lift_tree::typed::Typed;
+use lowered_tree::kind::{NestKind, nest_kind};
 use lowered_tree::lowered::Lowered;
+use lowered_tree::words::forms_have_words;
 use lowering::lower::lower;
-use nest_premises::kind::{NestKind, nest_kind};
+use nest_premises::groups::legal_groups_stand_over_groups;
 use nest_premises::laws::{legal_terms_can_be_lowered, ungrouped_terms_are_printable};
-use nest_premises::steps::has_word_steps;
 use phase_plan::needed_barriers;
-use printable_groups::laws::{group_terms_are_printed, legal_group_kernels_are_in_the_grammar};
-use printable_terms::laws::{kernels_are_in_the_grammar, terms_are_printed};
 use printed_form::laws::{printed_programs_keep, printed_programs_start};
-use printed_indices::laws::{
-    tidied_groups_are_tidy, tidied_terms_are_tidy, tidy_formulas_make_tidy,
-};
-use sound_parts::laws::{least_sizes_are_admissible, terms_have_sound_parts};
-use sound_parts::words::forms_have_words;
 use std::alloc::{AllocError, Global};
-use tidy_groups::laws::tidied_group_kernels_are_printed;
 use tidy_indices::laws::tidy_formulas_keep_values;
 use tidy_kernels::pass::tidied;
-use tidy_terms::laws::tidied_kernels_are_printed;
+use tidy_printed::groups::tidied_group_kernels_are_printed;
+use tidy_printed::indices::{
+    tidied_groups_are_tidy, tidied_terms_are_tidy, tidy_formulas_make_tidy,
+};
+use tidy_printed::terms::tidied_kernels_are_printed;
 
 // Outputs have numbers of 32 bits.
 fn has_few_outputs(kernel: &Kernel)
@@ -145,7 +144,6 @@ pub fn compiled_kernel(alloc: Global, last: &Typed) -> Result<Kernel, Refusal>
 {
     legal_terms_can_be_lowered();
     forms_have_words(&last.term);
-    has_word_steps(&last.term);
     let mapped = mapped(alloc, last)?;
     let lowered = buffered(alloc, mapped, last)?;
     let kernel = emitted(alloc, last, &lowered)?;

@@ -1,7 +1,11 @@
 //! Tests of the device: kernels of the whole language, run by one work-item and by many, along
-//! schedules.
+//! schedules; the marks of cells, and the enabled events.
 #![tactic(auto)]
 
+#[cfg(test)]
+mod cells;
+#[cfg(test)]
+mod events;
 #[cfg(test)]
 mod faults;
 #[cfg(test)]

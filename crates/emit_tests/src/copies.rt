@@ -1,4 +1,4 @@
-// Whether the copies of a lowered term are short enough to be printed.
+//! Whether the copies of a lowered term are short enough to be printed.
 
 ghost use Rattle.std.specs.Prelude.{◌≡◌, ◌<◌, ◌^◌, [], IfSome, IsTrue};
 ghost use Rattle.lift_tree.specs.Types.{ty_of};

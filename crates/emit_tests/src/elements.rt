@@ -1,4 +1,4 @@
-// Elements that are worked out.
+//! Elements that are worked out.
 
 use crate::emission::{Row, all_are_emitted};
 use std::test::Fail;

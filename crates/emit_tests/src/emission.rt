@@ -1,4 +1,4 @@
-// What is emitted for a program along a script, part by part, beside the kernel of a text.
+//! What is emitted for a program along a script, part by part, beside the kernel of a text.
 
 ghost use Rattle.lowering.specs.Terms.{term_of};
 ghost use Rattle.kernel_emit.specs.Copies.{HasShortCopies};

@@ -1,4 +1,4 @@
-// Folds.
+//! Folds.
 
 use crate::emission::{Row, all_are_emitted};
 use std::test::Fail;

@@ -1,4 +1,4 @@
-// Maps over all work-items of a launch.
+//! Maps over all work-items of a launch.
 
 use crate::emission::{Row, all_are_emitted};
 use std::test::Fail;

@@ -1,4 +1,4 @@
-// Programs and scripts, run and lowered.
+//! Programs and scripts, run and lowered.
 
 ghost use Rattle.std.specs.Prelude.{IfOk, IfSome};
 ghost use Rattle.lift_tree.specs.Programs.{program_of};

@@ -1,6 +1,9 @@
-//! Tests of printed kernels' code, over public items alone: whole kernels by their texts, for programs along scripts, and one that is built by hand.
+//! Tests of printed kernels' code, over public items alone: whole kernels by their texts, for programs
+//! along scripts, and one that is built by hand; and of what plans are made of.
 #![tactic(auto)]
 
+#[cfg(test)]
+mod barriers;
 #[cfg(test)]
 mod copies;
 #[cfg(test)]
@@ -10,15 +13,21 @@ mod emission;
 #[cfg(test)]
 mod folds;
 #[cfg(test)]
+mod indices;
+#[cfg(test)]
 mod items;
 #[cfg(test)]
 mod last_terms;
+#[cfg(test)]
+mod phases;
 #[cfg(test)]
 mod private_copies;
 #[cfg(test)]
 mod reading;
 #[cfg(test)]
 mod sameness;
+#[cfg(test)]
+mod spelling;
 #[cfg(test)]
 mod tiles;
 #[cfg(test)]

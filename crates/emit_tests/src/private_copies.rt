@@ -1,4 +1,4 @@
-// Copies in private memory.
+//! Copies in private memory.
 
 use crate::emission::{Row, all_are_emitted};
 use std::test::Fail;

@@ -1,4 +1,4 @@
-// Arrays that are read through layouts.
+//! Arrays that are read through layouts.
 
 use crate::emission::{Row, all_are_emitted};
 use std::test::Fail;

@@ -1,4 +1,4 @@
-// Whether two pieces of code are the same.
+//! Whether two pieces of code are the same.
 
 use kernel_tree::tree::{Expr, Stmt};
 

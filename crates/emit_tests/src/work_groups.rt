@@ -1,4 +1,4 @@
-// Maps over work-groups, with the barriers that their phases need.
+//! Maps over work-groups, with the barriers that their phases need.
 
 use crate::emission::{Row, all_are_emitted_with};
 use barrier_placement::Barrier;

@@ -1,4 +1,4 @@
-// Arrays that are written through layouts.
+//! Arrays that are written through layouts.
 
 use crate::emission::{Row, all_are_emitted};
 use std::test::Fail;

@@ -1,4 +1,4 @@
-// Launch files of programs, and the lines that tell of them.
+//! Launch files of programs, and the lines that tell of them.
 
 ghost use Rattle.std.specs.Prelude.{IfSome};
 ghost use Rattle.lift_tree.specs.Limits.{HasProperInputs};

@@ -1,4 +1,4 @@
-// Texts of programs: their tokens, what they are read as, and where they are refused.
+//! Texts of programs: their tokens, what they are read as, and where they are refused.
 
 use lift_reader::program::read_program;
 use lift_reader::refusal::{Quantity, ReadRefusal};

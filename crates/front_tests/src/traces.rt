@@ -1,4 +1,4 @@
-// The lines of events as they were seen.
+//! The lines of events as they were seen.
 
 use kernel_tree::events::{Access, Cell, Event, Fault, FaultKind, Seen};
 use kernel_tree::tree::Array;

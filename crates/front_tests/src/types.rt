@@ -1,4 +1,4 @@
-// Programs, and the types or the refusals that the typing table gives.
+//! Programs, and the types or the refusals that the typing table gives.
 
 use lift_reader::program::read_program;
 use lift_tree::ty::Ty;

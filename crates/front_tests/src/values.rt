@@ -1,4 +1,4 @@
-// Programs, and their values at given inputs.
+//! Programs, and their values at given inputs.
 
 use crate::types::typed;
 use lift_tree::program::Program;

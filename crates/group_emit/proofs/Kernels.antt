@@ -17,8 +17,8 @@ use Rattle.printed_form.specs.Counts.{copy_lengths, variable_count}
 use Rattle.printed_form.specs.Programs.{buffer_count, first_buffer, input_shape, lowered_root}
 use Rattle.barrier_placement.specs.declared.placing.Barrier.{Barrier}
 use Rattle.barrier_placement.specs.Fencing.{fence}
-use Rattle.group_terms.specs.Printer.{group_kernel_code, printed_group_kernel}
-use Rattle.group_terms.specs.Uses.{phase_count}
+use Rattle.group_form.specs.Printer.{group_kernel_code, printed_group_kernel}
+use Rattle.group_form.specs.Uses.{phase_count}
 use Rattle.group_emit.specs.Emittable.{fence_with}
 
 -- what is made of the parts of a printed kernel is that kernel

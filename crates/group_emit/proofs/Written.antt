@@ -5,8 +5,8 @@ use Rattle.kernel_tree.specs.Code.{Code}
 use Rattle.lift_ir.specs.Terms.{Kind, LoadSet, Term, LetArray, Map, push}
 use Rattle.printed_form.specs.Views.{View}
 use Rattle.barrier_placement.specs.Fencing.{Fencing}
-use Rattle.group_terms.specs.Form.{Used, used_after}
-use Rattle.group_terms.specs.Printer.{group_view, print_fence, print_group_argument, print_group_written, print_local_loop}
+use Rattle.group_form.specs.Form.{Used, used_after}
+use Rattle.group_form.specs.Printer.{group_view, print_fence, print_group_argument, print_group_written, print_local_loop}
 
 module _ {A : Type 0} (spell : A → Formula) (ins : ℕ → View) (fence : ℕ → Fencing) (env : ℕ → View) (u : Used) where
   pub argument_let : (v b : Term A) (rest code : Code) (bound : View) (after : Used) → bound ≡ group_view spell ins fence env u.locals v → after ≡ used_after u v

@@ -8,8 +8,8 @@ use Rattle.barrier_placement.specs.declared.placing.Barrier.{Barrier}
 use Rattle.barrier_placement.specs.Fencing.{Fencing, fence}
 use Rattle.printed_form.specs.Programs.{lowered_root}
 use Rattle.length_spelling.specs.Formulas.{length_formula}
-use Rattle.group_terms.specs.Printer.{printed_group_kernel}
-use Rattle.group_terms.specs.Uses.{phase_count}
+use Rattle.group_form.specs.Printer.{printed_group_kernel}
+use Rattle.group_form.specs.Uses.{phase_count}
 use Rattle.kernel_emit.specs.Copies.{HasShortCopies}
 
 -- what these barriers put before each phase of the term, and at the end of its body

@@ -1,5 +1,5 @@
 -- What is in use before a part of the code, as the Rust code holds it.
-use Rattle.group_terms.specs.Form as form
+use Rattle.group_form.specs.Form as form
 use Rattle.group_emit.specs.declared.counts.Used.{Used}
 
 abbrev pub used_of : Used → form.Used

@@ -7,7 +7,7 @@ ghost use Rattle.lift_ir.specs.AtLaunch.{ty_at};
 ghost use Rattle.lift_ir.specs.Types.{IsShort};
 ghost use Rattle.printed_form.specs.Views as views;
 ghost use Rattle.array_views.specs.Views.{view_in};
-ghost use Rattle.group_terms.specs.Printer as printer;
+ghost use Rattle.group_form.specs.Printer as printer;
 ghost use Rattle.lowering.specs.Terms.{term_of};
 ghost use Rattle.kernel_emit.specs.Copies.{HasShortCopies};
 ghost use Rattle.kernel_emit.specs.Scopes.{scope_of};

@@ -1,9 +1,9 @@
 //! What the code of a map over work-groups uses. A count that would pass 2^32 - 1 is answered as want of memory: what it counts takes more.
 
 ghost use Rattle.std.specs.Prelude.{◌≡◌, IfOk};
-ghost use Rattle.group_terms.specs.Form as form;
-ghost use Rattle.group_terms.specs.Origins as origins;
-ghost use Rattle.group_terms.specs.Uses as uses;
+ghost use Rattle.group_form.specs.Form as form;
+ghost use Rattle.group_form.specs.Origins as origins;
+ghost use Rattle.group_form.specs.Uses as uses;
 ghost use Rattle.lowering.specs.Terms.{term_of};
 ghost use Rattle.group_emit.specs.Used.{used_of};
 

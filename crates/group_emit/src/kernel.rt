@@ -1,7 +1,7 @@
 //! From a lowered term and its barriers to its kernel.
 
 ghost use Rattle.std.specs.Prelude.{◌≡◌, IfOk, map};
-ghost use Rattle.group_terms.specs.Printer as printer;
+ghost use Rattle.group_form.specs.Printer as printer;
 ghost use Rattle.kernel_tree.specs.Kernels.{kernel_of};
 ghost use Rattle.kernel_tree.specs.Code.{End};
 ghost use Rattle.kernel_tree.specs.Tree.{code_then};

@@ -2,7 +2,7 @@
 
 ghost use Rattle.std.specs.Prelude.{◌≡◌, OnOk};
 ghost use Rattle.barrier_placement.specs.Fencing.{fence};
-ghost use Rattle.group_terms.specs.Printer as printer;
+ghost use Rattle.group_form.specs.Printer as printer;
 ghost use Rattle.kernel_emit.specs.Blocks.{code_in};
 ghost use Rattle.group_emit.specs.Settings.{fence_in, fencing_in};
 

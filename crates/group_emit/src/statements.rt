@@ -1,7 +1,7 @@
 //! The code of the items of a group together: local maps, and the copies to local memory that they fill.
 
 ghost use Rattle.std.specs.Prelude.{◌≡◌, OnOk};
-ghost use Rattle.group_terms.specs.Printer as printer;
+ghost use Rattle.group_form.specs.Printer as printer;
 ghost use Rattle.lift_ir.specs.Terms as terms;
 ghost use Rattle.array_views.specs.Views.{view_in};
 ghost use Rattle.lowering.specs.Terms.{kind_of, load_set_of, term_of};

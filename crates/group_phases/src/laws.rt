@@ -1,4 +1,4 @@
-// Laws of barriers between phases, each carried by a function that does nothing.
+//! Laws of barriers between phases, each carried by a function that does nothing.
 
 ghost use Rattle.std.specs.Prelude.{◌≡◌, ℕ, ◌≤◌, List, length, map};
 ghost use Rattle.size_arith.specs.declared.poly.Monomial.{Monomial};

@@ -2,6 +2,10 @@ mod Tests
 mod Parts
 mod Values
 mod Shapes
+mod Standing
+mod Divided
+mod Bounds
+mod Parted
 mod Operations
 mod Short
 mod Words

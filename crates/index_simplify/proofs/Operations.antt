@@ -1,5 +1,5 @@
 -- An operation on two simplified expressions, by a law or as it is, is simplified.
-use Rattle.std.proofs.Common.{◌≡◌, ◌≢◌, ℕ, pos, true, Option, Some, None, List, refl, sym, ap, ◌∙◌, subst}
+use Rattle.std.proofs.Common.{◌≡◌, ◌≢◌, ℕ, pos, true, Option, Some, None, List, refl, sym, ap, ◌∙◌, subst, arith}
 use Rattle.index_expr.specs.declared.operation.Operation.{Operation}
 use Rattle.index_expr.specs.declared.operation.Operation.TheVariants.{Product}
 use Rattle.index_expr.specs.Expression.{Expression, Variable, Literal, Size, Binary, expression_of}
@@ -9,7 +9,7 @@ use Rattle.index_simplify.specs.declared.law.Law.{Law}
 use Rattle.index_simplify.specs.declared.law.Law.TheVariants.{Computed, PlusZero, ZeroPlus, MinusZero, MinusItself, TimesOne, OneTimes, TimesZero, ZeroTimes, OverOne, ModuloOne, WholeSize, ScaledSize, RowOfCell, ColumnOfCell, CellOfParts}
 use Rattle.index_simplify.specs.declared.law.TheConstants.{LAWS}
 use Rattle.index_simplify.specs.Laws.{first_part, scaled, applies, applied}
-use Rattle.index_simplify.specs.Operations.{first_law, by_law, operation_on, simple}
+use Rattle.index_simplify.specs.Operations.{first_law, by_law, operation_on, tabled, recut, simple}
 use Rattle.index_simplify.specs.Ranges.{AreBelowLengths, AreMultiples, AreWithin, IsPoint}
 use Rattle.index_simplify.specs.Shapes.{IsSimple}
 use Rattle.index_simplify.specs.Simplified.{StandsFor, IsNoLarger, IsSimplified}
@@ -18,8 +18,11 @@ use Rattle.std.specs.declared.alloc.AllocError.{AllocError}
 use Rattle.index_expr.specs.declared.index.Index.{Index}
 use Rattle.index_simplify.proofs.Parts.{first_operations, second_operations, first_within, second_within, same_small, then_small, joined_small, applied_small, applied_simple}
 use Rattle.index_simplify.proofs.Values.{law_value}
-use Rattle.index_simplify.proofs.Short.{simple_is_short}
-use Rattle.index_simplify.proofs.Words.{simple_words}
+use Rattle.index_simplify.proofs.Short.{tabled_is_short}
+use Rattle.index_simplify.proofs.Words.{tabled_words}
+use Rattle.index_simplify.specs.Cells.{parted}
+use Rattle.index_simplify.proofs.Parted.{parted_moved}
+use Rattle.index_simplify.proofs.Standing.{stands_by, stands_itself, stands_then, stands_joined}
 use Rattle.index_simplify.proofs.Shapes.{found_applies, no_law_is_plain}
 
 -- ---- what holds of each operation, and of each variable, holds in what a law leaves
@@ -72,32 +75,9 @@ applied_within variables ColumnOfCell o a b x y = second_within variables a x
 applied_within variables CellOfParts o a b x y = first_within variables (first_part a) (first_within variables a x)
 
 module _ (sizes variables : List ℕ) where
-  stands_by : (e s : Expression) → exact sizes variables s ≡ exact sizes variables e → (HasWordArgumentsAt sizes variables e → HasWordArgumentsAt sizes variables s) → (HasNoZeroDivisorAt sizes variables e → HasNoZeroDivisorAt sizes variables s) → AreWithin variables s → StandsFor sizes variables e s
-  stands_by e s value words divisors own = record {
-    value = value;
-    words = words;
-    ranged = λ h. (words h.0, subst IsWord (sym value) h.1);
-    divisors = divisors;
-    own = own;
-  }
-
-  pub stands_itself : (e : Expression) → AreWithin variables e → StandsFor sizes variables e e
-  stands_itself e own = stands_by e e refl (λ h. h) (λ h. h) own
-
-  stands_then : (e f g : Expression) → StandsFor sizes variables e f → StandsFor sizes variables f g → StandsFor sizes variables e g
-  stands_then e f g x y = stands_by e g (y.value ∙ x.value) (λ h. y.words (x.words h)) (λ h. y.divisors (x.divisors h)) y.own
-
-  stands_joined : (o : Operation) (a b c d : Expression) → StandsFor sizes variables a c → StandsFor sizes variables b d → StandsFor sizes variables (Binary o a b) (Binary o c d)
-  stands_joined o a b c d x y =
-      stands_by (Binary o a b) (Binary o c d)
-      (ap (λ z. operate o z (exact sizes variables d)) x.value ∙ ap (operate o (exact sizes variables a)) y.value)
-      (λ h. ((λ w. (subst IsWord (sym x.value) (h.0 w).0, subst IsWord (sym y.value) (h.0 w).1)), x.words h.1, y.words h.2))
-      (λ h. ((λ w e. h.0 w (sym y.value ∙ e)), x.divisors h.1, y.divisors h.2))
-      (x.own, y.own)
-
   law_stands : (r : PlainRanges) → AreBelowLengths r sizes variables → AreMultiples r sizes → (law : Law) (o : Operation) (a b : Expression) → AreWithin variables a → AreWithin variables b → applies r law o a b ≡ true → StandsFor sizes variables (Binary o a b) (applied law o a b)
   law_stands r loops all law o a b x y h =
-      stands_by (Binary o a b) (applied law o a b)
+      stands_by sizes variables (Binary o a b) (applied law o a b)
       (law_value sizes variables r loops all law o a b x h)
       (λ w. applied_operations (λ q c d. WantsWords q → IsWord (exact sizes variables c) × IsWord (exact sizes variables d)) (λ c d w. absurd w) law o a b w.1 w.2)
       (λ w. applied_operations (λ q c d. Divides q → exact sizes variables d ≢ pos 0) (λ c d w. absurd w) law o a b w.1 w.2)
@@ -143,16 +123,42 @@ module _ (r : PlainRanges) (o : Operation) (a b c d : Expression) (x : IsKept r 
 itself : (r : PlainRanges) (e : Expression) → IsSimple e → IsKept r e e
 itself r e h = record { stands = λ sizes variables p. stands_itself sizes variables e p.own; small = same_small e; simple = h }
 
-simple_is_kept : (r : PlainRanges) (e : Expression) → IsKept r e (simple r e)
-simple_is_kept r (Variable k l g) = itself r (Variable k l g) tt
-simple_is_kept r (Literal n) = itself r (Literal n) tt
-simple_is_kept r (Size k) = itself r (Size k) tt
-simple_is_kept r (Binary o a b) = operation_kept r o a b (simple r a) (simple r b) (simple_is_kept r a) (simple_is_kept r b)
+tabled_is_kept : (r : PlainRanges) (e : Expression) → IsKept r e (tabled r e)
+tabled_is_kept r (Variable k l g) = itself r (Variable k l g) tt
+tabled_is_kept r (Literal n) = itself r (Literal n) tt
+tabled_is_kept r (Size k) = itself r (Size k) tt
+tabled_is_kept r (Binary o a b) = operation_kept r o a b (tabled r a) (tabled r b) (tabled_is_kept r a) (tabled_is_kept r b)
+
+pub tabled_is_simplified : (r : PlainRanges) (e : Expression) → IsSimplified r e (tabled r e)
+tabled_is_simplified r e =
+    let kept = tabled_is_kept r e in
+    record { stands = kept.stands; small = kept.small; literals = tabled_words r e; short = tabled_is_short r e; simple = kept.simple }
+
+-- ---- cut into parts
+recut_is_simplified : (r : PlainRanges) (e s : Expression) → IsSimplified r e s → IsSimplified r e (recut r s)
+recut_is_simplified r e s x =
+    let moved = parted_moved r s in
+    let t = tabled_is_simplified r (parted r s) in
+    let small = then_small s (parted r s) (tabled r (parted r s)) moved.small t.small in
+    let few = small.nodes in
+    record {
+      stands = λ sizes variables p.
+          let at_s = x.stands sizes variables p in
+          let at_parted = moved.stands sizes variables (record { loops = p.loops; multiples = p.multiples; own = at_s.own }) in
+          stands_then sizes variables e s (tabled r (parted r s)) at_s
+          (stands_then sizes variables s (parted r s) (tabled r (parted r s)) at_parted
+          (t.stands sizes variables (record { loops = p.loops; multiples = p.multiples; own = at_parted.own })));
+      small = then_small e s (tabled r (parted r s)) x.small small;
+      literals = λ h. t.literals (moved.literals (x.literals h));
+      short = λ h. let le = x.short h in omega arith;
+      simple = t.simple;
+    }
 
 pub simple_is_simplified : (r : PlainRanges) (e : Expression) → IsSimplified r e (simple r e)
 simple_is_simplified r e =
-    let kept = simple_is_kept r e in
-    record { stands = kept.stands; small = kept.small; literals = simple_words r e; short = simple_is_short r e; simple = kept.simple }
+    let once = recut_is_simplified r e (tabled r e) (tabled_is_simplified r e) in
+    let twice = recut_is_simplified r e (recut r (tabled r e)) once in
+    recut_is_simplified r e (recut r (recut r (tabled r e))) twice
 
 pub all_simplified : (r : PlainRanges) (e : Expression) (result : Result Index AllocError) → IfOk result (λ s. expression_of s ≡ simple r e) → IfOk result (λ s. IsSimplified r e (expression_of s))
 all_simplified r e (Err x) h = h

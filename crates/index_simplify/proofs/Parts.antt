@@ -82,7 +82,7 @@ then_small e f g x y = record {
   names = λ v s h. y.names v s (x.names v s h);
 }
 
-left_small : (o : Operation) (a b : Expression) → IsNoLarger (Binary o a b) a
+pub left_small : (o : Operation) (a b : Expression) → IsNoLarger (Binary o a b) a
 left_small o a b = record {
   nodes = omega arith;
   height = omega arith;
@@ -96,7 +96,7 @@ right_small o a b = record {
   names = λ v s h. (both (names_are v s a) (names_are v s b) h).1;
 }
 
-literal_small : (e : Expression) (n : ℕ) → IsNoLarger e (Literal n)
+pub literal_small : (e : Expression) (n : ℕ) → IsNoLarger e (Literal n)
 literal_small e n = record { nodes = some_node e; height = some_height e; names = λ v s h. refl }
 
 first_small : (e : Expression) → IsNoLarger e (first_part e)

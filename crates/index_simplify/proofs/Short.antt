@@ -13,7 +13,7 @@ use Rattle.index_simplify.specs.declared.law.Law.TheVariants as law
 use Rattle.index_simplify.specs.declared.law.TheConstants.{LAWS}
 use Rattle.index_simplify.specs.Tests.{is_multiple, is_part_of}
 use Rattle.index_simplify.specs.Laws.{applies, applied}
-use Rattle.index_simplify.specs.Operations.{first_law, by_law, operation_on, simple}
+use Rattle.index_simplify.specs.Operations.{first_law, by_law, operation_on, tabled}
 use Rattle.index_simplify.specs.Simplified.{AreDeclared}
 use Rattle.index_simplify.proofs.Parts.{applied_small}
 use Rattle.index_simplify.proofs.Tests.{both}
@@ -106,30 +106,30 @@ module _ (r : PlainRanges) where
       go None = omega arith
       go (Some l) = (applied_small l o a b).nodes
 
-  base_stays : (k d : ℕ) → (1 == d) ≡ false → simple r (Binary Quotient (Size k) (Literal d)) ≡ Binary Quotient (Size k) (Literal d)
+  base_stays : (k d : ℕ) → (1 == d) ≡ false → tabled r (Binary Quotient (Size k) (Literal d)) ≡ Binary Quotient (Size k) (Literal d)
   base_stays k d e = ap (λ (b : Bool). by_law (if b then Some law.OverOne else None) Quotient (Size k) (Literal d)) e
 
-  base_of_one : (k d : ℕ) → (1 == d) ≡ true → simple r (Binary Quotient (Size k) (Literal d)) ≡ Size k
+  base_of_one : (k d : ℕ) → (1 == d) ≡ true → tabled r (Binary Quotient (Size k) (Literal d)) ≡ Size k
   base_of_one k d e = ap (λ (b : Bool). by_law (if b then Some law.OverOne else None) Quotient (Size k) (Literal d)) e
 
   one_size : (c k : ℕ) → c ≡ 1 → nodes (operation_on r Product (Literal c) (Size k)) ≤ 1
   one_size c k e = subst (λ x. nodes (operation_on r Product (Literal x) (Size k)) ≤ 1) (sym e) (omega arith)
 
-  plain_short : (o : Operation) (a b : Expression) → nodes (simple r a) ≤ short_nodes a → nodes (simple r b) ≤ short_nodes b → nodes (simple r (Binary o a b)) ≤ short_nodes a + short_nodes b + 1
-  plain_short o a b x y = let most = no_more o (simple r a) (simple r b) in omega arith
+  plain_short : (o : Operation) (a b : Expression) → nodes (tabled r a) ≤ short_nodes a → nodes (tabled r b) ≤ short_nodes b → nodes (tabled r (Binary o a b)) ≤ short_nodes a + short_nodes b + 1
+  plain_short o a b x y = let most = no_more o (tabled r a) (tabled r b) in omega arith
 
-  other_short : (c : ℕ) (b : Expression) → divisor_of b ≡ 0 → nodes (simple r b) ≤ short_nodes b → nodes (simple r (Binary Product (Literal c) b)) ≤ short_nodes (Binary Product (Literal c) b)
-  other_short c b e y = subst (λ d. nodes (simple r (Binary Product (Literal c) b)) ≤ scaled_nodes c d (1 + short_nodes b + 1)) (sym e) (plain_short Product (Literal c) b (omega arith) y)
+  other_short : (c : ℕ) (b : Expression) → divisor_of b ≡ 0 → nodes (tabled r b) ≤ short_nodes b → nodes (tabled r (Binary Product (Literal c) b)) ≤ short_nodes (Binary Product (Literal c) b)
+  other_short c b e y = subst (λ d. nodes (tabled r (Binary Product (Literal c) b)) ≤ scaled_nodes c d (1 + short_nodes b + 1)) (sym e) (plain_short Product (Literal c) b (omega arith) y)
 
   -- the number of the divisor
-  whole_short : (c k d : ℕ) → is_multiple r (Size k) (Literal d) ≡ true → c ≡ d → nodes (operation_on r Product (Literal c) (simple r (Binary Quotient (Size k) (Literal d)))) ≤ 1
+  whole_short : (c k d : ℕ) → is_multiple r (Size k) (Literal d) ≡ true → c ≡ d → nodes (operation_on r Product (Literal c) (tabled r (Binary Quotient (Size k) (Literal d)))) ≤ 1
   whole_short c k d m same =
       ⊎_elim
       (λ one. rw (base_of_one k d one) (one_size c k (same ∙ sym (eqb-true 1 d one))))
       (λ more. rw (base_stays k d more) (by_some r c k d 1 (λ l h. one_left r c k d (ap (λ x. 1 == x) same ∙ more) l (sym same) h) law.WholeSize (whole_law r c k d m same)))
       (cases_Bool (1 == d))
 
-  part_short : (c k d : ℕ) → is_multiple r (Size k) (Literal d) ≡ true → 0 < d → c % d ≡ 0 → (c ≡ d → ⊥) → nodes (operation_on r Product (Literal c) (simple r (Binary Quotient (Size k) (Literal d)))) ≤ 3
+  part_short : (c k d : ℕ) → is_multiple r (Size k) (Literal d) ≡ true → 0 < d → c % d ≡ 0 → (c ≡ d → ⊥) → nodes (operation_on r Product (Literal c) (tabled r (Binary Quotient (Size k) (Literal d)))) ≤ 3
   part_short c k d m some rest other =
       ⊎_elim
       (λ one. rw (base_of_one k d one) (no_more Product (Literal c) (Size k)))
@@ -141,35 +141,35 @@ module _ (r : PlainRanges) where
       (cases_Bool (0 == c))))
       (cases_Bool (1 == d))
 
-  quotient_short : (k d : ℕ) → nodes (simple r (Binary Quotient (Size k) (Literal d))) ≤ short_nodes (Binary Quotient (Size k) (Literal d))
+  quotient_short : (k d : ℕ) → nodes (tabled r (Binary Quotient (Size k) (Literal d))) ≤ short_nodes (Binary Quotient (Size k) (Literal d))
   quotient_short k d = go (d == 1) refl
     where
-      go : (b : Bool) → (d == 1) ≡ b → nodes (simple r (Binary Quotient (Size k) (Literal d))) ≤ (if b then 1 else 3)
+      go : (b : Bool) → (d == 1) ≡ b → nodes (tabled r (Binary Quotient (Size k) (Literal d))) ≤ (if b then 1 else 3)
       go true e = let f : (1 == d) ≡ true = eq-eqb 1 d (sym (eqb-true d 1 e)) in rw (base_of_one k d f) (omega arith)
       go false e = no_more Quotient (Size k) (Literal d)
 
-  base_short : (c k d : ℕ) → is_multiple r (Size k) (Literal d) ≡ true → nodes (simple r (Binary Product (Literal c) (Binary Quotient (Size k) (Literal d)))) ≤ short_nodes (Binary Product (Literal c) (Binary Quotient (Size k) (Literal d)))
+  base_short : (c k d : ℕ) → is_multiple r (Size k) (Literal d) ≡ true → nodes (tabled r (Binary Product (Literal c) (Binary Quotient (Size k) (Literal d)))) ≤ short_nodes (Binary Product (Literal c) (Binary Quotient (Size k) (Literal d)))
   base_short c k d m = go (nat_lt 0 d && (c % d == 0)) refl
     where
-      whole_or : (b : Bool) → (c == d) ≡ b → 0 < d → c % d ≡ 0 → nodes (simple r (Binary Product (Literal c) (Binary Quotient (Size k) (Literal d)))) ≤ (if b then 1 else 3)
+      whole_or : (b : Bool) → (c == d) ≡ b → 0 < d → c % d ≡ 0 → nodes (tabled r (Binary Product (Literal c) (Binary Quotient (Size k) (Literal d)))) ≤ (if b then 1 else 3)
       whole_or true e some rest = whole_short c k d m (eqb-true c d e)
       whole_or false e some rest = part_short c k d m some rest (λ same. let f : (c == d) ≡ true = eq-eqb c d same in absurd (cc (e, f)))
 
-      go : (b : Bool) → (nat_lt 0 d && (c % d == 0)) ≡ b → nodes (simple r (Binary Product (Literal c) (Binary Quotient (Size k) (Literal d)))) ≤ (if b then (if c == d then 1 else 3) else (1 + short_nodes (Binary Quotient (Size k) (Literal d)) + 1))
+      go : (b : Bool) → (nat_lt 0 d && (c % d == 0)) ≡ b → nodes (tabled r (Binary Product (Literal c) (Binary Quotient (Size k) (Literal d)))) ≤ (if b then (if c == d then 1 else 3) else (1 + short_nodes (Binary Quotient (Size k) (Literal d)) + 1))
       go true e = let parts = both (nat_lt 0 d) (c % d == 0) e in whole_or (c == d) refl (ltb-true 0 d parts.0) (eqb-true (c % d) 0 parts.1)
       go false e = plain_short Product (Literal c) (Binary Quotient (Size k) (Literal d)) (omega arith) (quotient_short k d)
 
-  product_short : (c : ℕ) (b : Expression) → AreDeclared r b → nodes (simple r b) ≤ short_nodes b → nodes (simple r (Binary Product (Literal c) b)) ≤ short_nodes (Binary Product (Literal c) b)
+  product_short : (c : ℕ) (b : Expression) → AreDeclared r b → nodes (tabled r b) ≤ short_nodes b → nodes (tabled r (Binary Product (Literal c) b)) ≤ short_nodes (Binary Product (Literal c) b)
   product_short c (Binary Quotient (Size k) (Literal d)) all y = base_short c k d all.0
   product_short c b all y = other_short c b refl y
 
-  binary_short : (o : Operation) (a b : Expression) → AreDeclared r (Binary o a b) → nodes (simple r a) ≤ short_nodes a → nodes (simple r b) ≤ short_nodes b → nodes (simple r (Binary o a b)) ≤ short_nodes (Binary o a b)
+  binary_short : (o : Operation) (a b : Expression) → AreDeclared r (Binary o a b) → nodes (tabled r a) ≤ short_nodes a → nodes (tabled r b) ≤ short_nodes b → nodes (tabled r (Binary o a b)) ≤ short_nodes (Binary o a b)
   binary_short Product (Literal c) b all x y = product_short c b all.2 y
   binary_short Quotient (Size k) (Literal d) all x y = quotient_short k d
   binary_short o a b all x y = plain_short o a b x y
 
-  pub simple_is_short : (e : Expression) → AreDeclared r e → nodes (simple r e) ≤ short_nodes e
-  simple_is_short (Variable k l g) all = omega arith
-  simple_is_short (Literal n) all = omega arith
-  simple_is_short (Size k) all = omega arith
-  simple_is_short (Binary o a b) all = binary_short o a b all (simple_is_short a all.1) (simple_is_short b all.2)
+  pub tabled_is_short : (e : Expression) → AreDeclared r e → nodes (tabled r e) ≤ short_nodes e
+  tabled_is_short (Variable k l g) all = omega arith
+  tabled_is_short (Literal n) all = omega arith
+  tabled_is_short (Size k) all = omega arith
+  tabled_is_short (Binary o a b) all = binary_short o a b all (tabled_is_short a all.1) (tabled_is_short b all.2)

@@ -61,7 +61,7 @@ module _ (sizes variables : List ℕ) where
   same_value (Binary o a b) _ h = absurd (cc h)
 
   -- its value is a natural number
-  abbrev IsNatural : Expression → Type 0
+  abbrev pub IsNatural : Expression → Type 0
   IsNatural e = (v : ℕ) × (exact sizes variables e ≡ pos v)
 
   natural_result : (o : Operation) (x y : ℕ) → (same_operation o Difference ≡ false) → (v : ℕ) × (operate o (pos x) (pos y) ≡ pos v)
@@ -78,7 +78,7 @@ module _ (sizes variables : List ℕ) where
       let z = natural_result o x.0 y.0 h in
       (z.0, ap (λ v. operate o v (exact sizes variables b)) x.1 ∙ ap (operate o (pos x.0)) y.1 ∙ z.1)
 
-  count_value : (depth : ℕ) (e : Expression) → is_count depth e ≡ true → IsNatural e
+  pub count_value : (depth : ℕ) (e : Expression) → is_count depth e ≡ true → IsNatural e
   count_value depth (Variable k l g) h = (slice_index variables k, refl)
   count_value depth (Literal n) h = (n, refl)
   count_value depth (Size k) h = (slice_index sizes k, refl)
@@ -101,19 +101,19 @@ module _ (sizes variables : List ℕ) where
   count_value (suc depth) (Binary Greatest a b) h = let parts = both (is_count depth a) (is_count depth b) h in natural_of Greatest a b refl (count_value depth a parts.0) (count_value depth b parts.1)
 
   -- the values of a column and of a length above it
-  record IsColumn (column length : Expression) : Type 0 where
-    at : ℕ
-    count : ℕ
-    column_is : exact sizes variables column ≡ pos at
-    length_is : exact sizes variables length ≡ pos count
-    below : at < count
+  pub record IsColumn (column length : Expression) : Type 0 where
+    pub at : ℕ
+    pub count : ℕ
+    pub column_is : exact sizes variables column ≡ pos at
+    pub length_is : exact sizes variables length ≡ pos count
+    pub below : at < count
 
   above_number : (k l g : ℕ) (n : Expression) → slice_index variables k ≤ g → is_above n g ≡ true → IsColumn (Variable k l g) n
   above_number k l g (Literal n) le h = let lt = ltb-true g n h in record { at = slice_index variables k; count = n; column_is = refl; length_is = refl; below = omega arith }
   above_number k l g _ le h = absurd (cc h)
 
   -- a natural number below the value
-  abbrev IsAbove : ℕ → ℤ → Type 0
+  abbrev pub IsAbove : ℕ → ℤ → Type 0
   IsAbove v z = (n : ℕ) × (z ≡ pos n) × (v < n)
 
   counted : (v : ℕ) (z : ℤ) → pos v <ℤ z → IsAbove v z
@@ -123,11 +123,11 @@ module _ (sizes variables : List ℕ) where
   counted_same : (v : ℕ) (known n : Expression) → pos v <ℤ exact sizes variables known → same known n ≡ true → IsAbove v (exact sizes variables n)
   counted_same v known n lt h = subst (IsAbove v) (same_value known n h) (counted v (exact sizes variables known) lt)
 
-  counted_least : (v m : ℕ) (n : Expression) → pos v <ℤ pos m → is_at_least n m ≡ true → IsAbove v (exact sizes variables n)
+  pub counted_least : (v m : ℕ) (n : Expression) → pos v <ℤ pos m → is_at_least n m ≡ true → IsAbove v (exact sizes variables n)
   counted_least v m (Literal n) lt h = let le = leb-true m n h in (n, refl, omega (arith, ints))
   counted_least v m _ lt h = absurd (cc h)
 
-  counted_longer : (v : ℕ) (known n : Expression) → pos v <ℤ exact sizes variables known → is_no_longer known n ≡ true → IsAbove v (exact sizes variables n)
+  pub counted_longer : (v : ℕ) (known n : Expression) → pos v <ℤ exact sizes variables known → is_no_longer known n ≡ true → IsAbove v (exact sizes variables n)
   counted_longer v (Literal m) n lt h = counted_least v m n lt h
   counted_longer v (Variable k l g) n lt h = counted_same v (Variable k l g) n lt h
   counted_longer v (Size k) n lt h = counted_same v (Size k) n lt h
@@ -140,7 +140,7 @@ module _ (sizes variables : List ℕ) where
         let count = counted_longer (slice_index variables k) known n (loops k known at) h in
         record { at = slice_index variables k; count = count.0; column_is = refl; length_is = count.1; below = count.2 }
 
-    column_of : (e n : Expression) → AreWithin variables e → is_below r e n ≡ true → IsColumn e n
+    pub column_of : (e n : Expression) → AreWithin variables e → is_below r e n ≡ true → IsColumn e n
     column_of (Variable k l g) n own h =
         elim (one_of (is_above n g) (is_loop_within r k n) h) [
           | inl a ↦ above_number k l g n own.1 a

@@ -12,7 +12,7 @@ use Rattle.index_simplify.specs.declared.law.Law.TheVariants as law
 use Rattle.index_simplify.specs.declared.law.TheConstants.{LAWS}
 use Rattle.index_simplify.specs.Literals.{word, difference, computed_from, computed_with, computed}
 use Rattle.index_simplify.specs.Laws.{first_part, second_part, scaled, applied}
-use Rattle.index_simplify.specs.Operations.{first_law, by_law, simple}
+use Rattle.index_simplify.specs.Operations.{first_law, by_law, tabled}
 use Rattle.index_simplify.specs.Simplified.{HasWordLiterals}
 
 -- ---- operations on two words
@@ -88,8 +88,8 @@ by_words : (found : Option Law) (o : Operation) (a b : Expression) → HasWordLi
 by_words None o a b x y = (x, y)
 by_words (Some l) o a b x y = applied_words l o a b x y
 
-pub simple_words : (r : PlainRanges) (e : Expression) → HasWordLiterals e → HasWordLiterals (simple r e)
-simple_words r (Variable k l g) h = h
-simple_words r (Literal n) h = h
-simple_words r (Size k) h = h
-simple_words r (Binary o a b) h = by_words (first_law r o (simple r a) (simple r b) LAWS) o (simple r a) (simple r b) (simple_words r a h.0) (simple_words r b h.1)
+pub tabled_words : (r : PlainRanges) (e : Expression) → HasWordLiterals e → HasWordLiterals (tabled r e)
+tabled_words r (Variable k l g) h = h
+tabled_words r (Literal n) h = h
+tabled_words r (Size k) h = h
+tabled_words r (Binary o a b) h = by_words (first_law r o (tabled r a) (tabled r b) LAWS) o (tabled r a) (tabled r b) (tabled_words r a h.0) (tabled_words r b h.1)

@@ -7,3 +7,6 @@ pub mod Shapes
 pub mod Simplified
 pub mod Operations
 pub mod Promises
+pub mod Factors
+pub mod Below
+pub mod Cells

@@ -6,6 +6,7 @@ use Rattle.index_simplify.specs.PlainRanges.{PlainRanges}
 use Rattle.index_simplify.specs.declared.law.Law.{Law}
 use Rattle.index_simplify.specs.declared.law.TheConstants.{LAWS}
 use Rattle.index_simplify.specs.Laws.{applies, applied}
+use Rattle.index_simplify.specs.Cells.{parted}
 
 -- the first of the laws that is of the operation on these expressions
 abbrev pub first_law : PlainRanges → Operation → Expression → Expression → List Law → Option Law
@@ -20,9 +21,17 @@ by_law (Some law) o a b = applied law o a b
 abbrev pub operation_on : PlainRanges → Operation → Expression → Expression → Expression
 operation_on r o a b = by_law (first_law r o a b LAWS) o a b
 
--- each operation on what its arguments are simplified to
+-- each operation on what its arguments are simplified to by the table
+abbrev pub tabled : PlainRanges → Expression → Expression
+tabled r (Variable k l g) = Variable k l g
+tabled r (Literal n) = Literal n
+tabled r (Size k) = Size k
+tabled r (Binary o a b) = operation_on r o (tabled r a) (tabled r b)
+
+-- cut into parts, and simplified by the table again
+abbrev pub recut : PlainRanges → Expression → Expression
+recut r e = tabled r (parted r e)
+
+-- by the table, and three times cut into parts: each time lays open what the next can take apart
 abbrev pub simple : PlainRanges → Expression → Expression
-simple r (Variable k l g) = Variable k l g
-simple r (Literal n) = Literal n
-simple r (Size k) = Size k
-simple r (Binary o a b) = operation_on r o (simple r a) (simple r b)
+simple r e = recut r (recut r (recut r (tabled r e)))

@@ -8,11 +8,15 @@ use Rattle.index_simplify.specs.Tests.{same_operation, same}
 use Rattle.index_simplify.specs.declared.law.Law.{Law}
 use Rattle.index_simplify.specs.Laws.{applies}
 use Rattle.index_simplify.specs.Simplified.{IsSimplified}
-use Rattle.index_simplify.specs.Operations.{first_law, simple}
+use Rattle.index_simplify.specs.Operations.{first_law, tabled, simple}
 
 -- with its value at every point of the ranges, no larger, and simple
 abbrev pub ExpressionsAreSimplified : Type 0
 ExpressionsAreSimplified = (r : PlainRanges) (e : Expression) → IsSimplified r e (simple r e)
+
+-- and so is what the table alone makes of it
+abbrev pub TabledExpressionsAreSimplified : Type 0
+TabledExpressionsAreSimplified = (r : PlainRanges) (e : Expression) → IsSimplified r e (tabled r e)
 
 -- the first of some laws that is found for an operation is of it
 abbrev pub FoundLawsApply : Type 0

@@ -82,12 +82,19 @@ fn is_count(e: &Index, depth: u32) -> bool
     }
 }
 
+/// Whether nothing is taken away in it, as far as three operations deep tell: then it is never below 0.
+pub fn is_natural(e: &Index) -> bool
+    ensures { result ≡ tests.is_count 3 (expression_of e.now) }
+{
+    is_count(e, DEEPEST)
+}
+
 // Whether it is a row that is never below 0, times this length.
 fn is_begin(e: &Index, length: &Index) -> bool
     ensures { result ≡ tests.is_begin (expression_of e.now) (expression_of length.now) }
 {
     match e {
-        Index::Binary(Operation::Product, row, n) => same(n, length) && is_count(row, DEEPEST),
+        Index::Binary(Operation::Product, row, n) => same(n, length) && is_natural(row),
         _ => false,
     }
 }

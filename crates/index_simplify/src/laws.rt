@@ -3,11 +3,17 @@
 ghost use Rattle.index_simplify.specs.Promises.{ExpressionsAreSimplified, FoundLawsApply};
 ghost use Rattle.index_simplify.specs.Promises.{SameExpressionsHaveOneValue};
 ghost use Rattle.index_simplify.specs.Promises.{SameOperationsAreEqual};
+ghost use Rattle.index_simplify.specs.Promises.{TabledExpressionsAreSimplified};
 
 /// What an expression is simplified to has its value at every point of the ranges, ranged wherever
 /// it is; it has no more nodes, and none of a shape that something simpler has the value of.
 pub fn expressions_are_simplified()
     ensures { ExpressionsAreSimplified }
+{}
+
+/// So is what the table of laws alone makes of an expression, without what is known of cells.
+pub fn tabled_expressions_are_simplified()
+    ensures { TabledExpressionsAreSimplified }
 {}
 
 /// The first law that is found for an operation on two expressions is of it.

@@ -1,6 +1,9 @@
 //! Simplified index expressions: the same values, no more nodes, and none that undoes another.
 #![tactic(auto)]
 
+pub mod below;
+pub mod cells;
+pub mod factors;
 pub mod law;
 pub mod laws;
 pub mod literals;

@@ -80,8 +80,8 @@ fn is_above(length: &Index, greatest: u32) -> bool
     }
 }
 
-// Whether it is a number, and at least this one.
-fn is_at_least(length: &Index, least: u32) -> bool
+/// Whether it is a number, and at least this one.
+pub fn is_at_least(length: &Index, least: u32) -> bool
     ensures { result ≡ spec.is_at_least (expression_of length.now) least }
 {
     match length {
@@ -90,8 +90,8 @@ fn is_at_least(length: &Index, least: u32) -> bool
     }
 }
 
-// Whether a length is the other, or both are numbers and it is no greater.
-fn is_no_longer(known: &Index, length: &Index) -> bool
+/// Whether a length is the other, or both are numbers and it is no greater.
+pub fn is_no_longer(known: &Index, length: &Index) -> bool
     ensures { result ≡ spec.is_no_longer (expression_of known.now) (expression_of length.now) }
 {
     match known {

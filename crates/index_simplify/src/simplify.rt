@@ -6,6 +6,7 @@ ghost use Rattle.index_simplify.specs.Operations as spec;
 ghost use Rattle.index_simplify.specs.Simplified.{IsSimplified};
 ghost use Rattle.index_simplify.specs.PlainRanges.{ranges_of};
 
+use crate::cells::parted;
 use crate::law::{LAWS, Law};
 use crate::ranges::Ranges;
 use index_expr::{Index, Operation};
@@ -51,23 +52,45 @@ fn operation_on(
     }
 }
 
-fn simple(alloc: Global, index: &Index, ranges: &Ranges) -> Result<Index, AllocError>
+// Each operation by the first law of the table that is of it, from the leaves up.
+fn tabled(alloc: Global, index: &Index, ranges: &Ranges) -> Result<Index, AllocError>
     ensures { IfOk result
-        (λ e. expression_of e ≡ spec.simple (ranges_of ranges.now) (expression_of index.now)) }
+        (λ e. expression_of e ≡ spec.tabled (ranges_of ranges.now) (expression_of index.now)) }
 {
     match index {
         Index::Binary(operation, a, b) => {
-            let a = simple(alloc, a, ranges)?;
-            let b = simple(alloc, b, ranges)?;
+            let a = tabled(alloc, a, ranges)?;
+            let b = tabled(alloc, b, ranges)?;
             operation_on(alloc, *operation, a, b, ranges)
         }
         Index::Variable { .. } | Index::Literal(_) | Index::Size(_) => index.copy(alloc),
     }
 }
 
-/// An expression with the value of this one at every point of the ranges, ranged wherever it is; it has no more nodes, and none of a shape that something simpler has the value of.
+// Cut into parts, and simplified by the table again.
+fn recut(alloc: Global, index: &Index, ranges: &Ranges) -> Result<Index, AllocError>
+    ensures { IfOk result
+        (λ e. expression_of e ≡ spec.recut (ranges_of ranges.now) (expression_of index.now)) }
+{
+    let index = parted(alloc, index, ranges)?;
+    tabled(alloc, &index, ranges)
+}
+
+// By the table, and three times cut into parts: each time lays open what the next can take apart.
+fn simple(alloc: Global, index: &Index, ranges: &Ranges) -> Result<Index, AllocError>
+    ensures { IfOk result
+        (λ e. expression_of e ≡ spec.simple (ranges_of ranges.now) (expression_of index.now)) }
+{
+    let index = tabled(alloc, index, ranges)?;
+    let index = recut(alloc, &index, ranges)?;
+    let index = recut(alloc, &index, ranges)?;
+    recut(alloc, &index, ranges)
+}
+
+/// An expression with the value of this one at every point of the ranges, ranged wherever it is; it
+/// has no more nodes, and none of a shape that something simpler has the value of.
 ///
-/// It is found in one pass, from the leaves up, and in memory of its own. Its work is of as many steps as the expression has nodes.
+/// It is found in a fixed number of passes from the leaves up, and in memory of its own.
 pub fn simplified(alloc: Global, index: &Index, ranges: &Ranges) -> Result<Index, AllocError>
     ensures function { IfOk result
         (λ e. expression_of e ≡ spec.simple (ranges_of ranges.now) (expression_of index.now)) }

@@ -1,10 +1,20 @@
-//! Tests of simplified index expressions and of their spelling, over public items alone.
+//! Tests of views, of simplified index expressions and of their spelling, over public items alone.
 #![tactic(auto)]
 
+#[cfg(test)]
+mod cells;
+#[cfg(test)]
+mod kinds;
+#[cfg(test)]
+mod layouts;
+#[cfg(test)]
+mod pairs;
 #[cfg(test)]
 mod rows;
 #[cfg(test)]
 mod spelled;
+#[cfg(test)]
+mod texts;
 #[cfg(test)]
 mod tidied;
 #[cfg(test)]

@@ -5,10 +5,10 @@ use index_expr::Operation::{Product, Quotient, Remainder, Sum};
 use index_simplify::Ranges;
 use kernel_tree::tree::Expr;
 use length_spelling::spelled_length;
-use simple_spelling::spell_simplified;
 use size_arith::{Monomial, Name, Names, Poly};
 use std::alloc::Global;
 use std::test::Fail;
+use tidy_indices::spell_simplified;
 
 const I: Tree = Tree::Variable(0, 4294967295);
 

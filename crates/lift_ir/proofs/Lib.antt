@@ -8,7 +8,6 @@ pub mod Lowering
 pub mod Lets
 pub mod Named
 pub mod Typed
-pub mod WorkedTerms
 pub mod Owner
 pub mod Values
 pub mod Served

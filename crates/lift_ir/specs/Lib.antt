@@ -10,4 +10,3 @@ pub mod Loads
 pub mod Forms
 pub mod Owner
 pub mod Promises
-pub mod Worked

@@ -1,6 +1,5 @@
-// Laws of the intermediate representation, each carried by a function that does nothing.
+//! Laws of the intermediate representation, each carried by a function that does nothing.
 
-ghost use Rattle.lift_ir.specs.Worked.{IncrementsAreLowered, SumsAreLowered};
 ghost use Rattle.lift_ir.specs.Promises.{LayoutsLeadPositions, LayoutsAreByPosition, TermsHaveTheSourceValue, ValuesAreByPosition, LoweredTermsServe, OwnersAreOfTheLaunch};
 
 /// Layouts are functions on positions: each leads the result's to the operand's, and join, split and transpose back again.
@@ -31,10 +30,4 @@ pub fn lowered_terms_serve()
 /// The owner of each scalar is a work-item of the launch.
 pub fn owners_are_of_the_launch()
     ensures { OwnersAreOfTheLaunch }
-{}
-
-/// Worked terms: a map over the launch, and a fold over a private copy.
-pub fn worked_terms_are_lowered()
-    ensures increments { IncrementsAreLowered }
-    ensures sums { SumsAreLowered }
 {}

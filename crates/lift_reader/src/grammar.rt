@@ -1,4 +1,4 @@
-// The forms and marks of the grammar of programs, as the reader owes them.
+//! The forms and marks of the grammar of programs, as the reader owes them.
 
 ghost use Rattle.std.specs.Prelude.{◌≡◌, option_map};
 ghost use Rattle.lift_reader.specs.Meant.{reducer_of, binary_of, unary_of};

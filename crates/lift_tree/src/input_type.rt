@@ -1,4 +1,4 @@
-// Types as a program writes them.
+//! Types as a program writes them.
 
 ghost use Rattle.std.specs.Prelude.{◌≡◌, IfOk};
 ghost use Rattle.lift_tree.specs.InputTypes.{written_of};

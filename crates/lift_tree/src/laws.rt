@@ -1,4 +1,4 @@
-// Laws of the definitions.
+//! Laws of the definitions.
 
 ghost use Rattle.lift_tree.specs.Annotations.{AnnotatedIsTyped};
 ghost use Rattle.lift_tree.specs.Typing.{OneType, ValuesHaveTypes};

@@ -1,4 +1,4 @@
-// Lengths as a program writes them.
+//! Lengths as a program writes them.
 
 ghost use Rattle.std.specs.Prelude.{◌≡◌, IfOk};
 

@@ -1,4 +1,4 @@
-// Places in a term.
+//! Places in a term.
 
 ghost use Rattle.std.specs.Prelude.{◌≡◌, Some, None, IfOk, IfErr, OnOk, option_map};
 ghost use Rattle.lift_tree.specs.Tree.{tree_of};

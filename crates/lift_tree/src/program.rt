@@ -1,4 +1,4 @@
-// Programs.
+//! Programs.
 
 ghost use Rattle.std.specs.Prelude.{◌≡◌, ◌≤◌, ◌+◌, ◌++◌, IfOk, OnOk, length, map};
 ghost use Rattle.size_arith.specs.Ranges.{AreNames};

@@ -1,4 +1,4 @@
-// Renumbering of variables where binders are put in or taken out.
+//! Renumbering of variables where binders are put in or taken out.
 
 ghost use Rattle.std.specs.Prelude.{◌≡◌, ◌+◌, ◌*◌, ◌<◌, ◌^◌, ◌↔◌, Some, None, IfOk, OnOk, IfSome, IsNone, IsTrue, false, nat_eq};
 ghost use Rattle.lift_tree.specs.Tree.{tree_of, height};

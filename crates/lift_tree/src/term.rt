@@ -1,4 +1,4 @@
-// Terms.
+//! Terms.
 
 ghost use Rattle.std.specs.Prelude.{◌≡◌, IfOk, min, option_map};
 ghost use Rattle.lift_tree.specs.Places.{child_at};

@@ -1,4 +1,4 @@
-// Types.
+//! Types.
 
 ghost use Rattle.std.specs.Prelude.{◌≡◌, IfOk};
 ghost use Rattle.lift_tree.specs.Types.{is_array, ty_of};

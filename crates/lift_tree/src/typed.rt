@@ -1,4 +1,4 @@
-// Terms with the types of their nodes.
+//! Terms with the types of their nodes.
 
 ghost use Rattle.std.specs.Prelude.{◌≡◌};
 ghost use Rattle.lift_tree.specs.Types.{ty_of};

@@ -1,4 +1,4 @@
-// Values.
+//! Values.
 
 /// A number, a pair or a list.
 #[derive(Debug, Drop)]

@@ -7,3 +7,5 @@ pub mod Nodes
 pub mod Spaces
 pub mod Copies
 pub mod Inputs
+pub mod Kind
+pub mod Words

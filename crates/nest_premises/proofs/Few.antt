@@ -1,4 +1,5 @@
--- Types within the limits have few scalars: at admissible sizes their lengths, and the scalars of each component, are below 2^31.
+-- Types within the limits have few scalars: at admissible sizes their lengths, and the scalars of
+-- each component, are below 2^31.
 use Rattle.std.proofs.Common.{◌≡◌, ◌∙◌, ℕ, ◌*◌, ◌≤◌, ◌<◌, ◌^◌, List, refl, sym, ap, subst, arith, ℤ, pos, negsuc, ◌*ℤ◌, ◌≤ℤ◌}
 use Rattle.std.proofs.lemmas.Int.{ints}
 use Rattle.std.proofs.lemmas.Nat.{mul-le}

@@ -11,3 +11,9 @@ pub mod Launches
 pub mod InGroups
 pub mod Limited
 pub mod Whole
+pub mod Known
+pub mod Inputs
+pub mod Bodies
+pub mod OverGroups
+pub mod LegalNests
+pub mod Phases

@@ -20,7 +20,7 @@ use Rattle.lift_tree.proofs.Formed.{formed}
 use Rattle.lift_tree.proofs.Annotated.{annotated_is_typed}
 use Rattle.lift_ir.specs.Types.{IsShort, size}
 use Rattle.lift_ir.specs.AtLaunch.{length_at, ty_at}
-use Rattle.nest_premises.specs.Legal.{HasWordStep, HasWordSteps}
+use Rattle.lowered_tree.specs.Words.{FormHasWords, FormsHaveWords}
 use Rattle.nest_premises.proofs.Fits.{FormFits, Fits}
 use Rattle.nest_premises.proofs.Few.{Few, fewer, short_of, size_of, few_of}
 
@@ -81,7 +81,7 @@ module _ (d : Declared) (declared : IsDeclared d) (scalars : Every (HasFewScalar
   binary_few binary.Zip b c a r u f h k = outer a _ _ r.5 f u
   binary_few (binary.Reduce o) b c a r u f h k = outer a _ _ r.3 f u
 
-  form_fits : (f : UnaryForm) (a : PlainTy) → HasWordStep f → IsFew a → FormFits bases f a
+  form_fits : (f : UnaryForm) (a : PlainTy) → FormHasWords f → IsFew a → FormFits bases f a
   form_fits (unary.Div n) a s h = tt
   form_fits (unary.Rem n) a s h = tt
   form_fits unary.First a s h = tt
@@ -97,7 +97,7 @@ module _ (d : Declared) (declared : IsDeclared d) (scalars : Every (HasFewScalar
   formed_in : (g : List PlainTy) (t : Tree) (n : Annotation) → Every (IsFormed d.names) g → Annotates d g t n → IsFormed d.names (type_in n)
   formed_in g t n all y = formed d declared.inputs g t (type_in n) all (annotated_is_typed d g t n y)
 
-  pub fits_in : (g : List PlainTy) (t : Tree) (n : Annotation) → Every (IsFormed d.names) g → Every IsFew g → Annotates d g t n → NodesFit d.names t n → HasWordSteps t → Fits bases t n × IsFew (type_in n)
+  pub fits_in : (g : List PlainTy) (t : Tree) (n : Annotation) → Every (IsFormed d.names) g → Every IsFew g → Annotates d g t n → NodesFit d.names t n → FormsHaveWords t → Fits bases t n × IsFew (type_in n)
   fits_in g (tree.Variable v) (Leaf a) all few y h s = let b = every_at IsFew g v a few y in (short a b, b)
   fits_in g (tree.Number v) (Leaf a) all few y h s = let b = number a y.1 in (short a b, b)
   fits_in g (tree.Input i) (Leaf a) all few y h s = let b = every_at IsFew d.inputs i a (few_all d.inputs declared.inputs scalars) y in (short a b, b)

@@ -5,9 +5,9 @@ use Rattle.lift_tree.specs.Tree.{Tree}
 use Rattle.lift_tree.specs.Typing.{Declared}
 use Rattle.lift_tree.specs.Annotations.{Annotation, Annotates}
 use Rattle.lowered_tree.specs.Kinds.{is_global, is_over_groups, is_task}
-use Rattle.nest_premises.specs.Legal.{shows_map}
-use Rattle.nest_premises.specs.Kind.{nest_kind}
-use Rattle.nest_premises.specs.declared.kind.NestKind.TheVariants.{Task, OverLaunch, OverGroups}
+use Rattle.lowered_tree.specs.Kind.{shows_map}
+use Rattle.lowered_tree.specs.Kind.{nest_kind}
+use Rattle.lowered_tree.specs.declared.kind.NestKind.TheVariants.{Task, OverLaunch, OverGroups}
 use Rattle.nest_premises.proofs.Top.{over_shows, task_shows_none, global_parallel, group_parallel, IsOfAKind}
 
 pub groups_kind : (t : Tree) → shows_map is_over_groups t ≡ true → nest_kind t ≡ OverGroups

@@ -1,4 +1,5 @@
--- Terms without a broken rule are staged: elements, arguments and what is written each have the forms of their place.
+-- Terms without a broken rule are staged: elements, arguments and what is written each have the
+-- forms of their place.
 use Rattle.std.proofs.Common.{◌≡◌, ◌<◌, ◌^◌, ℕ, zero, suc, Bool, true, false, List, [], ◌∷◌, Some, refl, sym, ap, ◌∙◌, subst, inl, inr}
 use Rattle.std.proofs.lemmas.Bool.{or_left, or_right, not-false, not_from_false}
 use Rattle.std.proofs.Math.Nat.{pow-zero}

@@ -1,4 +1,5 @@
--- What a term without a broken rule is lowered to, for one work-item, has the forms of their places.
+-- What a term without a broken rule is lowered to, for one work-item, has the forms of their
+-- places.
 use Rattle.std.proofs.Common.{◌≡◌, Bool, true, false, List, ◌∷◌, refl, sym, subst, inl, inr}
 use Rattle.std.proofs.lemmas.Bool.{not-false}
 use Rattle.std.specs.Prelude.{not, ◌&&◌, ◌||◌, if◌then◌else◌}

@@ -18,7 +18,7 @@ use Rattle.lowered_tree.specs.declared.around.Around.{Around}
 use Rattle.lowered_tree.specs.declared.rule.NestRule.TheVariants.{N1, N2, N9, N10}
 use Rattle.lowered_tree.specs.Elements.{is_element}
 use Rattle.lowered_tree.specs.Kinds.{is_global, is_over_groups, is_parallel, is_task}
-use Rattle.nest_premises.specs.Legal.{shows_map}
+use Rattle.lowered_tree.specs.Kind.{shows_map}
 use Rattle.nest_premises.specs.Unbroken.{AllUnbroken}
 use Rattle.nest_premises.proofs.Rules.{spared, true_is_not_false, moved, from_ir}
 use Rattle.nest_premises.proofs.Staged.{passes, refused}

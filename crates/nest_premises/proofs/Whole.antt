@@ -28,8 +28,8 @@ use Rattle.lowered_tree.specs.Elements.{is_element}
 use Rattle.lowered_tree.specs.Kinds.{is_global, is_over_groups, is_task}
 use Rattle.lowered_tree.specs.Copies.{CopiesArrays}
 use Rattle.nest_premises.specs.Legal.{shows_global_map, IsLegalTerm}
-use Rattle.nest_premises.specs.Kind.{nest_kind}
-use Rattle.nest_premises.specs.declared.kind.NestKind.TheVariants.{Task}
+use Rattle.lowered_tree.specs.Kind.{nest_kind}
+use Rattle.lowered_tree.specs.declared.kind.NestKind.TheVariants.{Task}
 use Rattle.nest_premises.specs.Printable.{CanBeLowered, IsPrintable}
 use Rattle.nest_premises.specs.Laws.{LegalTermsCanBeLowered, KindsTellTasks, UngroupedTermsArePrintable, TasksArePrintable, LaunchesArePrintable, LegalNestsAreUnbroken, TasksStand, LaunchesStand}
 use Rattle.nest_premises.specs.Unbroken.{AllUnbroken}
@@ -81,7 +81,7 @@ module _ (p : PlainProgram) (t : Tree) (n : Annotation) (r : IsLegalTerm p t n) 
   scalars = all_few (map range_of p.sizes) p.inputs r.within.inputs
 
   limited : (bases : List ℕ) (ok : Admissible d.names bases) → Fits bases t n × IsFew d r.declared scalars bases ok (type_in n)
-  limited bases ok = fits_in d r.declared scalars bases ok [] t n tt tt r.nodes r.within.nodes r.steps
+  limited bases ok = fits_in d r.declared scalars bases ok [] t n tt tt r.nodes r.within.nodes r.words
 
   -- at the least sizes, and so at all
   staged : IsStaged ir.Written t n

@@ -18,30 +18,40 @@ use Rattle.lowered_tree.specs.Kinds.{is_task}
 use Rattle.lowered_tree.specs.Nest.{IsLegalNest}
 use Rattle.lowered_tree.specs.Copies.{CopiesArrays}
 use Rattle.nest_premises.specs.Legal.{IsLegalTerm, shows_global_map}
-use Rattle.nest_premises.specs.Kind.{nest_kind}
-use Rattle.nest_premises.specs.declared.kind.NestKind.TheVariants.{Task, OverLaunch, OverGroups}
+use Rattle.lowered_tree.specs.Kind.{nest_kind}
+use Rattle.lowered_tree.specs.declared.kind.NestKind.TheVariants.{Task, OverLaunch, OverGroups}
 use Rattle.nest_premises.specs.Printable.{CanBeLowered, IsPrintable}
 use Rattle.nest_premises.specs.Unbroken.{AllUnbroken}
 
 -- a legal term, whatever its maps
 abbrev pub LegalTermsCanBeLowered : Type 0
-LegalTermsCanBeLowered = (p : PlainProgram) (t : Tree) (n : Annotation) → IsLegalTerm p t n → CopiesArrays t n → CanBeLowered (declared_by p) t n
+LegalTermsCanBeLowered =
+    (p : PlainProgram) (t : Tree) (n : Annotation) → IsLegalTerm p t n → CopiesArrays t n
+    → CanBeLowered (declared_by p) t n
 
 -- it has no parallel map just where none is on top
 abbrev pub KindsTellTasks : Type 0
-KindsTellTasks = (p : PlainProgram) (t : Tree) (n : Annotation) → IsLegalTerm p t n → CopiesArrays t n → (nest_kind t ≡ Task) ↔ (is_task t ≡ true)
+KindsTellTasks =
+    (p : PlainProgram) (t : Tree) (n : Annotation) → IsLegalTerm p t n → CopiesArrays t n
+    → (nest_kind t ≡ Task) ↔ (is_task t ≡ true)
 
 -- a legal term with no map over work-groups on top
 abbrev pub UngroupedTermsArePrintable : Type 0
-UngroupedTermsArePrintable = (p : PlainProgram) (t : Tree) (n : Annotation) → IsLegalTerm p t n → CopiesArrays t n → nest_kind t ≢ OverGroups → IsPrintable (declared_by p) t n
+UngroupedTermsArePrintable =
+    (p : PlainProgram) (t : Tree) (n : Annotation) → IsLegalTerm p t n → CopiesArrays t n
+    → nest_kind t ≢ OverGroups → IsPrintable (declared_by p) t n
 
 -- a legal term without parallel maps
 abbrev pub TasksArePrintable : Type 0
-TasksArePrintable = (p : PlainProgram) (t : Tree) (n : Annotation) → IsLegalTerm p t n → CopiesArrays t n → is_task t ≡ true → IsPrintable (declared_by p) t n
+TasksArePrintable =
+    (p : PlainProgram) (t : Tree) (n : Annotation) → IsLegalTerm p t n → CopiesArrays t n
+    → is_task t ≡ true → IsPrintable (declared_by p) t n
 
 -- a legal term with a map over all work-items on top
 abbrev pub LaunchesArePrintable : Type 0
-LaunchesArePrintable = (p : PlainProgram) (t : Tree) (n : Annotation) → IsLegalTerm p t n → CopiesArrays t n → shows_global_map t ≡ true → IsPrintable (declared_by p) t n
+LaunchesArePrintable =
+    (p : PlainProgram) (t : Tree) (n : Annotation) → IsLegalTerm p t n → CopiesArrays t n
+    → shows_global_map t ≡ true → IsPrintable (declared_by p) t n
 
 -- ---- what stands for whom
 

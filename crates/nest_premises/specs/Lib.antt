@@ -1,5 +1,6 @@
 pub mod Legal
-pub mod Kind
 pub mod Printable
 pub mod Unbroken
 pub mod Laws
+pub mod Stands
+pub mod Groups

@@ -1,4 +1,4 @@
-// Buffers of terms' copies, and the limits on layouts, local and private memory.
+//! Buffers of terms' copies, and the limits on layouts, local and private memory.
 
 use crate::lowering::lowered_last;
 use address_spaces::spaces;

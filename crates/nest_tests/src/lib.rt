@@ -7,3 +7,5 @@ mod buffers;
 mod lowering;
 #[cfg(test)]
 mod nests;
+#[cfg(test)]
+mod owners;

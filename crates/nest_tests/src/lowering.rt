@@ -1,4 +1,4 @@
-// Programs and scripts, run and lowered.
+//! Programs and scripts, run and lowered.
 
 ghost use Rattle.std.specs.Prelude.{IfOk, IfSome};
 ghost use Rattle.lift_tree.specs.Programs.{program_of};
@@ -11,7 +11,7 @@ use lift_tree::ty::Ty;
 use lift_tree::typed::Typed;
 use lowered_tree::lowered::Lowered;
 use lowered_tree::typed::lowered;
-use nest_premises::steps::has_word_steps;
+use lowered_tree::words::forms_have_words;
 use pattern_types::{belongs_to, is_proper, type_of};
 use std::alloc::Global;
 use std::test::Fail;
@@ -67,7 +67,7 @@ fn lowering_keeps_the_term_and_its_names(rt: HostRuntime) -> Result<(), Fail> {
                 )
             );
             assert!(rt; lowered.is_task());
-            has_word_steps(&lowered.term);
+            forms_have_words(&lowered.term);
         }
         None => assert!(rt; false),
     }

@@ -1,11 +1,11 @@
-// Nests that are legal or not, and the address spaces of legal ones.
+//! Nests that are legal or not, and the address spaces of legal ones.
 
 use crate::lowering::lowered_last;
 use address_spaces::spaces;
 use lowered_tree::around::AddressSpace;
+use lowered_tree::kind::{NestKind, nest_kind};
 use lowered_tree::lowered::Mapped;
 use lowered_tree::rule::NestRule;
-use nest_premises::kind::{NestKind, nest_kind};
 use std::alloc::Global;
 use std::test::Fail;
 use thread_mapping::{NestNo, judge};

@@ -1,4 +1,4 @@
-// Arrays that are formed, and tests of types.
+//! Arrays that are formed, and tests of types.
 
 ghost use Rattle.std.specs.Prelude.{◌≡◌, ◌≢◌, IfErr, IfOk, OnOk, Err, Ok, length};
 ghost use Rattle.lift_tree.specs.Types.{ty_of, ArrayOf};

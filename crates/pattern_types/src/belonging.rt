@@ -1,4 +1,4 @@
-// Whether terms and types name what the program declares.
+//! Whether terms and types name what the program declares.
 
 ghost use Rattle.std.specs.Prelude.{◌<◌, ◌↔◌, ◌+◌, ◌*◌, ◌^◌, IsTrue, map};
 ghost use Rattle.size_arith.specs.Ranges.{IsName, AreNames};

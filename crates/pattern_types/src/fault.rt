@@ -1,4 +1,4 @@
-// Faults of a node, before their place is known.
+//! Faults of a node, before their place is known.
 
 ghost use Rattle.std.specs.Prelude.{◌≡◌, ◌≢◌, IfErr, OnOk, Err, Ok, ◌∷◌, []};
 ghost use Rattle.pattern_types.specs.declared.fault.Fault.TheVariants.{Memory};

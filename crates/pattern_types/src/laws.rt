@@ -1,4 +1,4 @@
-// Laws of the judgement.
+//! Laws of the judgement.
 
 ghost use Rattle.pattern_types.specs.Judgement.{JudgedTypesAreRight, JudgedInputsAreProper, TypesAreJudged, OutputsHaveTypes, OutputsBelong};
 ghost use Rattle.pattern_types.specs.Refusals.{RefusalsNameTheFirst};

@@ -1,4 +1,4 @@
-// Lengths, worked out over the base names.
+//! Lengths, worked out over the base names.
 
 ghost use Rattle.std.specs.Prelude.{◌≡◌, ◌≢◌, ◌<◌, ◌∷◌, [], IfErr, IfOk, Err, Ok, length};
 ghost use Rattle.size_arith.specs.Polynomial.{plus, minus, times, of_monomial};

@@ -1,4 +1,4 @@
-// The types of a term's nodes, children before their parent.
+//! The types of a term's nodes, children before their parent.
 
 ghost use Rattle.std.specs.Prelude.{◌≡◌, ◌≢◌, ◌<◌, IfErr, IfOk, OnOk, Err, Ok, ◌∷◌, length, map};
 ghost use Rattle.lift_tree.specs.Types.{ty_of};

@@ -1,4 +1,4 @@
-// The types of a program: its inputs in order, then the term.
+//! The types of a program: its inputs in order, then the term.
 
 ghost use Rattle.std.specs.Prelude.{◌≡◌, ◌≢◌, ◌≤◌, ◌<◌, ◌+◌, IfErr, IfOk, OnOk, Err, Ok, [], ◌∷◌, length, map};
 ghost use Rattle.lift_tree.specs.InputTypes.{written_of};

@@ -1,4 +1,4 @@
-// Why a program is refused.
+//! Why a program is refused.
 
 use lift_tree::place::Place;
 

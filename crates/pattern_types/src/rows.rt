@@ -1,4 +1,4 @@
-// The typing table: a form's type from its children's.
+//! The typing table: a form's type from its children's.
 
 ghost use Rattle.std.specs.Prelude.{◌≡◌, ◌≢◌, IfErr, IfOk, Err, Ok, Some, length};
 ghost use Rattle.lift_tree.specs.Types.{ty_of, PairOf};

@@ -1,4 +1,4 @@
-// The value of a term, by recursion on it.
+//! The value of a term, by recursion on it.
 
 ghost use Rattle.std.specs.Prelude.{◌≡◌, ◌∷◌, ◌/◌, [], IfOk, map, min, length};
 ghost use Rattle.size_arith.specs.Ranges.{sizes_at};

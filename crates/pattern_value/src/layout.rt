@@ -1,4 +1,4 @@
-// The patterns that lay out the members of lists anew.
+//! The patterns that lay out the members of lists anew.
 
 ghost use Rattle.std.specs.Prelude.{◌≡◌, ◌++◌, [], ◌/◌, IfOk, OnOk, map, replicate, length, take, drop};
 ghost use Rattle.lift_tree.specs.Values.{Both, value_of, members, array, nth};

@@ -1,4 +1,4 @@
-// Operators on words.
+//! Operators on words.
 
 ghost use Rattle.std.specs.Prelude.{◌≡◌, ◌/◌, ◌%◌};
 ghost use Rattle.scalar_ops.specs.Operators.{apply_op, combine};

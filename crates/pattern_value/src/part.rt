@@ -1,4 +1,4 @@
-// What values hold. Where a value is of another kind, a part is a default.
+//! What values hold. Where a value is of another kind, a part is a default.
 
 ghost use Rattle.std.specs.Prelude.{◌≡◌, IfOk, map};
 ghost use Rattle.lift_tree.specs.Values.{value_of, array, word, members, first, second, nth};

@@ -1,4 +1,4 @@
-// The value of a typed term.
+//! The value of a typed term.
 
 ghost use Rattle.std.specs.Prelude.{◌≡◌, IfOk, []};
 ghost use Rattle.lift_tree.specs.Meaning.{meaning};

@@ -2,7 +2,7 @@
 use Rattle.std.proofs.Common.{◌≡◌, ℕ, suc, ◌+◌, List, [], ◌∷◌, ◌++◌, length, length-append, ap, sym, ◌∙◌, subst, subst₂, arith}
 use Rattle.std.specs.Prelude.{Result, Ok, Err, OnOk}
 use Rattle.std.proofs.lemmas.List.{append_assoc, append-nil}
-use Rattle.group_terms.specs.Uses.{Use, touches_in, numbered}
+use Rattle.group_form.specs.Uses.{Use, touches_in, numbered}
 use Rattle.phase_plan.specs.declared.walk.Walk.{Walk}
 use Rattle.phase_plan.specs.Walks.{GoesOn}
 

@@ -2,8 +2,8 @@
 use Rattle.std.proofs.Common.{◌≡◌, ℕ, suc, ◌+◌, ◌-◌, ◌<◌, Bool, true, false, List, [], ◌∷◌, ◌++◌, refl, ap, sym, ◌∙◌, arith}
 use Rattle.std.proofs.lemmas.List.{append_assoc, append-nil}
 use Rattle.barrier_placement.specs.declared.touches.Touch.{Touch}
-use Rattle.group_terms.specs.Origins.{Elsewhere, Within, at_way}
-use Rattle.group_terms.specs.Uses.{Use, writes_from, touch_of, touches_in, numbered}
+use Rattle.group_form.specs.Origins.{Elsewhere, Within, at_way}
+use Rattle.group_form.specs.Uses.{Use, writes_from, touch_of, touches_in, numbered}
 
 pub touched_append : (q : ℕ) (us vs : List Use) → touches_in q (us ++ vs) ≡ touches_in q us ++ touches_in q vs
 touched_append q [] vs = refl

@@ -1,7 +1,7 @@
 -- Where arguments lie, as the Rust code holds it.
 use Rattle.std.specs.Prelude.{ℕ}
 use Rattle.lift_ir.specs.Terms.{push}
-use Rattle.group_terms.specs.Origins as origins
+use Rattle.group_form.specs.Origins as origins
 use Rattle.phase_plan.specs.declared.origin.Origin.{Origin}
 use Rattle.phase_plan.specs.declared.origin.Origin as origin
 use Rattle.phase_plan.specs.declared.scope.Scope.{Scope}

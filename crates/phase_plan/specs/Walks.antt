@@ -3,9 +3,9 @@ use Rattle.std.specs.Prelude.{◌≡◌, ℕ, ◌+◌, ◌++◌, List, [], lengt
 use Rattle.lift_tree.specs.Types.{ty_of}
 use Rattle.lift_ir.specs.AtLaunch.{ty_at}
 use Rattle.lift_ir.specs.Types.{width}
-use Rattle.group_terms.specs.Origins as origins
-use Rattle.group_terms.specs.Uses as uses
-use Rattle.group_terms.specs.Uses.{Use, numbered}
+use Rattle.group_form.specs.Origins as origins
+use Rattle.group_form.specs.Uses as uses
+use Rattle.group_form.specs.Uses.{Use, numbered}
 use Rattle.phase_plan.specs.declared.walk.Destination.{Destination}
 use Rattle.phase_plan.specs.declared.walk.Destination.TheVariants as destination
 use Rattle.phase_plan.specs.declared.walk.Walk.{Walk}

@@ -1,7 +1,7 @@
-// Components of variables.
+//! Components of variables.
 
 ghost use Rattle.std.specs.Prelude.{◌≡◌, ◌++◌, OnOk};
-ghost use Rattle.group_terms.specs.Named as spec;
+ghost use Rattle.group_form.specs.Named as spec;
 
 use crate::way::Way;
 use std::alloc::{AllocError, Global};
@@ -15,7 +15,7 @@ pub struct Component {
 }
 
 impl Model for Component {
-    ghost use Rattle.group_terms.specs.Named as spec;
+    ghost use Rattle.group_form.specs.Named as spec;
 
     ghost Value = { spec.Component };
 

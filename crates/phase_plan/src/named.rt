@@ -1,7 +1,7 @@
-// Which components of its variables a term names.
+//! Which components of its variables a term names.
 
 ghost use Rattle.std.specs.Prelude.{◌≡◌, ◌++◌, IfOk, OnOk};
-ghost use Rattle.group_terms.specs.Named as spec;
+ghost use Rattle.group_form.specs.Named as spec;
 ghost use Rattle.lowering.specs.Terms.{load_set_of, term_of};
 
 use crate::component::{Component, add_components, add_nearest, add_outside};

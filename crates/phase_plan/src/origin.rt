@@ -1,7 +1,7 @@
-// Where arguments lie.
+//! Where arguments lie.
 
 ghost use Rattle.std.specs.Prelude.{◌≡◌, IfOk};
-ghost use Rattle.group_terms.specs.Origins as spec;
+ghost use Rattle.group_form.specs.Origins as spec;
 ghost use Rattle.phase_plan.specs.Origins.{origin_in};
 
 use std::alloc::{AllocError, Global};

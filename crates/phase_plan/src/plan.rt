@@ -1,15 +1,15 @@
-// Plans.
+//! Plans.
 
 ghost use Rattle.std.specs.Prelude.{◌≡◌, IfOk, All};
 ghost use Rattle.barrier_placement.specs.Fencing.{fence, InOrder};
 ghost use Rattle.barrier_placement.specs.Needed.{Needed, NeededBy};
 ghost use Rattle.lowering.specs.Terms.{term_of};
-ghost use Rattle.group_terms.specs.Forms.{StandsOverGroups};
-ghost use Rattle.group_terms.specs.Uses.{group_touches, phase_count};
+ghost use Rattle.group_form.specs.Forms.{StandsOverGroups};
+ghost use Rattle.group_form.specs.Uses.{group_touches, phase_count};
 
 use crate::walk::Walk;
 use barrier_placement::{Barriers, Touch, place};
-use group_terms::laws::uses_tell_barriers;
+use group_form::laws::uses_tell_barriers;
 use lowering::term::Term;
 use std::alloc::{AllocError, Global};
 

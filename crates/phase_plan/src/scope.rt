@@ -1,7 +1,7 @@
-// Where the arrays lie that are bound.
+//! Where the arrays lie that are bound.
 
 ghost use Rattle.std.specs.Prelude.{◌≡◌, MatchOption};
-ghost use Rattle.group_terms.specs.Origins as spec;
+ghost use Rattle.group_form.specs.Origins as spec;
 ghost use Rattle.phase_plan.specs.Origins.{origin_in, origins_in};
 
 use crate::origin::Origin;

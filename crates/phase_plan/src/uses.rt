@@ -1,8 +1,8 @@
-// The uses of local arrays by one phase.
+//! The uses of local arrays by one phase.
 
 ghost use Rattle.std.specs.Prelude.{◌≡◌, ◌++◌, ◌≤◌, ◌-◌, OnOk};
-ghost use Rattle.group_terms.specs.Origins.{at_way, bent};
-ghost use Rattle.group_terms.specs.Uses as spec;
+ghost use Rattle.group_form.specs.Origins.{at_way, bent};
+ghost use Rattle.group_form.specs.Uses as spec;
 ghost use Rattle.phase_plan.specs.Origins.{origin_in, origins_in};
 
 use crate::component::Component;

@@ -1,13 +1,13 @@
-// The walk through a body, phase by phase.
+//! The walk through a body, phase by phase.
 
 ghost use Rattle.std.specs.Prelude.{◌≡◌, ◌+◌, ◌++◌, [], ◌∷◌, IfOk, OnOk, false, true};
 ghost use Rattle.lift_tree.specs.Types.{ty_of};
 ghost use Rattle.lift_ir.specs.AtLaunch.{ty_at};
 ghost use Rattle.lift_ir.specs.Types.{width};
 ghost use Rattle.lowering.specs.Terms.{load_set_of, term_of};
-ghost use Rattle.group_terms.specs.Forms.{StandsInGroup, StandsOverGroups};
-ghost use Rattle.group_terms.specs.Origins as origins;
-ghost use Rattle.group_terms.specs.Uses as uses;
+ghost use Rattle.group_form.specs.Forms.{StandsInGroup, StandsOverGroups};
+ghost use Rattle.group_form.specs.Origins as origins;
+ghost use Rattle.group_form.specs.Uses as uses;
 ghost use Rattle.phase_plan.specs.Origins.{origin_in, origins_in};
 ghost use Rattle.phase_plan.specs.Walks.{destination_from, origin_from, width_of, GoesOn};
 

@@ -1,7 +1,7 @@
-// Ways to components.
+//! Ways to components.
 
 ghost use Rattle.std.specs.Prelude.{◌≡◌, ◌++◌, [], ◌∷◌, map, option_to_list, IfOk, OnOk};
-ghost use Rattle.group_terms.specs.Named as spec;
+ghost use Rattle.group_form.specs.Named as spec;
 
 use std::alloc::{AllocError, Global};
 use std::marker::Model;

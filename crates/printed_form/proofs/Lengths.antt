@@ -1,4 +1,5 @@
--- The private arrays of a term are as long as their values, where a kernel has them by their lengths.
+-- The private arrays of a term are as long as their values, where a kernel has them by their
+-- lengths.
 use Rattle.std.proofs.Common.{◌≡◌, ℕ, zero, suc, ◌+◌, ◌-◌, ◌<◌, List, [], ◌∷◌, ◌++◌, length, get_or, refl, sym, ap, ◌∙◌, arith, length-append}
 use Rattle.std.specs.Prelude.{map, replicate, slice_index}
 use Rattle.std.proofs.lemmas.List.{length-replicate, get_or-replicate}

@@ -16,5 +16,9 @@ pub mod SameRuns
 pub mod Lengths
 pub mod Printed
 pub mod Programs
-pub mod WorkedKernels
-pub mod Increments
+pub mod GrammarExpressions
+pub mod GrammarViews
+pub mod GrammarCodes
+pub mod GrammarTerms
+pub mod GrammarPieces
+pub mod GrammarKernels

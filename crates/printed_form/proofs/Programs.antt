@@ -1,4 +1,5 @@
--- Kernels printed for a program's typed term: they keep what they owe, they may be started, and the printer's kernel is one.
+-- Kernels printed for a program's typed term: they keep what they owe, they may be started, and the
+-- printer's kernel is one.
 use Rattle.std.proofs.Common.{◌≡◌, ℕ, zero, suc, ◌+◌, ◌*◌, ◌/◌, ◌%◌, ◌-◌, ◌<◌, ◌≤◌, Bool, List, [], ◌∷◌, ◌++◌, length, get_or, Some, refl, sym, ap, ◌∙◌, subst, pos, ◌≤ℤ◌, arith, length-append}
 use Rattle.std.specs.Prelude.{map, slice_get, slice_index}
 use Rattle.std.proofs.Math.ListN.{get_or-append}

@@ -1,4 +1,5 @@
--- An item runs the code of a term in writing position: each of its scalars is written once, and nothing else but private copies.
+-- An item runs the code of a term in writing position: each of its scalars is written once, and
+-- nothing else but private copies.
 use Rattle.std.proofs.Common.{◌≡◌, ℕ, suc, ◌+◌, ◌*◌, ◌<◌, ◌≤◌, ◌^◌, Bool, true, false, List, [], ◌∷◌, ◌++◌, length, Some, refl, sym, ap, ◌∙◌, subst, ◌⊎◌, ⊎_elim, inl, inr, arith}
 use Rattle.kernel_tree.specs.Formula.{Formula, bound_value}
 use Rattle.kernel_tree.specs.Code.{Array, Input, Output, Local, Private, FromZero, ByOne, Code, End}

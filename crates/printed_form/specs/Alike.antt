@@ -52,7 +52,8 @@ module _ (l : Launch) where
     pub memory : s.memory ≡ t.memory
     pub epochs : (g : ℕ) (f : Fence) → s.epochs g f ≡ t.epochs g f
 
--- the same run, on a device with the same launch whose arrays are as long: the same events can come, with the same accesses, deeds and failures
+-- the same run, on a device with the same launch whose arrays are as long: the same events can
+-- come, with the same accesses, deeds and failures
 pub record SameRun (d e : Device) (s t : State) (es : List Event) : Type 0 where
   pub is_run : IsRun e t es
   pub accesses : accesses d s es ≡ accesses e t es
@@ -68,7 +69,8 @@ pub record BeginAlike (l : Launch) (k k2 : Kernel) (s t : State) : Type 0 where
   pub memory : s.memory ≡ t.memory
   pub epochs : (g : ℕ) (f : Fence) → s.epochs g f ≡ t.epochs g f
 
--- any two kernels that are printed for one term have, at one launch and from the same contents, the same events with the same accesses
+-- any two kernels that are printed for one term have, at one launch and from the same contents, the
+-- same events with the same accesses
 abbrev pub PrintedKernelsAreAlike : Type 0 → Type 0
 PrintedKernelsAreAlike A =
     (num : A → ℕ) (l : Launch) (ins : ℕ → Marks) (t : Term A) (ty : Ty) (k k2 : Kernel) (c : Cells) (s s2 : State) (es : List Event)

@@ -1,4 +1,5 @@
--- What a term needs: private variables, in the order of their first assignment, and arrays, in postorder.
+-- What a term needs: private variables, in the order of their first assignment, and arrays, in
+-- postorder.
 use Rattle.std.specs.Prelude.{ℕ, ◌+◌, List, [], ◌++◌, replicate}
 use Rattle.lift_ir.specs.Types.{Ty, PairOf, width, size}
 use Rattle.lift_ir.specs.Terms.{LoadSet, Skip, Take, Each, Space, LocalMemory, PrivateMemory, Term, Apply, ApplyNumber, Select, Both, Project, Reshape, LetArray, LetElement, Map, Fold, Store, Copy}
@@ -32,7 +33,9 @@ variable_count (Reshape l a) = variable_count a
 variable_count (LetArray v b) = variable_count v + variable_count b
 variable_count (LetElement ty v b) = let_variables v + (width ty + variable_count b)
 variable_count (Map k n loads xs b) = variable_count xs + (load_count loads + variable_count b)
-variable_count (Fold n loads ty xs s b) = variable_count xs + (let_variables s + (width ty + (load_count loads + (let_variables b + temporaries ty))))
+variable_count (Fold n loads ty xs s b) =
+    variable_count xs +
+    (let_variables s + (width ty + (load_count loads + (let_variables b + temporaries ty))))
 variable_count (Store ty a) = let_variables a
 variable_count (Copy space ty a) = variable_count a
 variable_count _ = 0

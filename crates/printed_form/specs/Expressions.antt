@@ -18,11 +18,13 @@ abbrev pub of_one : (Formula → Formula) → Option Formula → Option Formula
 of_one f (Some x) = Some (f x)
 of_one f None = None
 
-abbrev pub of_both : (Formula → Formula → Formula) → Option Formula → Option Formula → Option Formula
+abbrev pub of_both : (Formula → Formula → Formula) → Option Formula → Option Formula
+    → Option Formula
 of_both f (Some x) y = of_one (f x) y
 of_both f None y = None
 
-abbrev pub of_three : (Formula → Formula → Formula → Formula) → Option Formula → Option Formula → Option Formula → Option Formula
+abbrev pub of_three : (Formula → Formula → Formula → Formula) → Option Formula → Option Formula
+    → Option Formula → Option Formula
 of_three f (Some x) y z = of_both (f x) y z
 of_three f None y z = None
 
@@ -38,10 +40,14 @@ selection c x y = Choose Equal c (Number 0) y x
 abbrev pub exprs : {A : Type 0} → (ℕ → Marks) → ℕ → Term A → List Bool → Option Formula
 exprs env n (Literal c) = λ cs. Some (Number c)
 exprs env n (Bound v) = λ cs. held (env v cs [])
-exprs env n (Apply o a b) = λ cs. of_both (operation o) (exprs env n a []) (exprs env (n + let_variables a) b [])
+exprs env n (Apply o a b) =
+    λ cs. of_both (operation o) (exprs env n a []) (exprs env (n + let_variables a) b [])
 exprs env n (ApplyNumber o m a) = λ cs. of_one (λ x. Binary o x (Number m)) (exprs env n a [])
-exprs env n (Select c a b) = λ cs. of_three selection (exprs env n c []) (exprs env (n + let_variables c) a []) (exprs env (n + let_variables c + let_variables a) b [])
+exprs env n (Select c a b) =
+    λ cs. of_three selection (exprs env n c []) (exprs env (n + let_variables c) a [])
+    (exprs env (n + let_variables c + let_variables a) b [])
 exprs env n (Both zips a b) = by_side None (exprs env n a) (exprs env (n + let_variables a) b)
 exprs env n (Project s a) = λ cs. exprs env n a (s ∷ cs)
-exprs env n (LetElement ty v b) = exprs (push (held_marks ty (n + let_variables v)) env) (n + let_variables v + width ty) b
+exprs env n (LetElement ty v b) =
+    exprs (push (held_marks ty (n + let_variables v)) env) (n + let_variables v + width ty) b
 exprs env n _ = λ cs. None

@@ -1,4 +1,5 @@
--- Which code is printed for a term by one work-item, at given turns of the loops around it: any index expressions and bounds of the right values.
+-- Which code is printed for a term by one work-item, at given turns of the loops around it: any
+-- index expressions and bounds of the right values.
 use Rattle.std.specs.Prelude.{◌≡◌, ℕ, ◌+◌, ◌<◌, Bool, true, false, List, [], ◌∷◌, ◌++◌, Option, Some}
 use Rattle.kernel_tree.specs.Formula.{Formula, value, bound_value}
 use Rattle.kernel_tree.specs.Code.{Array, Private, Start, FromZero, FromGlobalId, FromGroupId, FromLocalId, Stride, ByOne, ByGlobalSize, ByGroupCount, ByLocalSize, Code, End, Assigns, Loads, Stores, Loops}
@@ -26,28 +27,41 @@ stride_of Sequential = ByOne
 -- one assignment for each component, each to the next variable
 abbrev pub IsAssigned : Ty → (List Bool → Option Formula) → ℕ → (code rest : Code) → Type 0
 IsAssigned Scalar f n code rest = (e : Formula) × (f [] ≡ Some e) × (code ≡ Assigns n e rest)
-IsAssigned (PairOf a b) f n code rest = (mid : Code) × IsAssigned a (λ cs. f (false ∷ cs)) n code mid × IsAssigned b (λ cs. f (true ∷ cs)) (n + width a) mid rest
+IsAssigned (PairOf a b) f n code rest =
+    (mid : Code) × IsAssigned a (λ cs. f (false ∷ cs)) n code mid
+    × IsAssigned b (λ cs. f (true ∷ cs)) (n + width a) mid rest
 IsAssigned (ArrayOf m t) f n code rest = ⊥
 
 -- the new accumulator, from variable n on where it goes through temporaries
-abbrev pub IsReassigned : Ty → (List Bool → Option Formula) → (acc n : ℕ) → (code rest : Code) → Type 0
+abbrev pub IsReassigned : Ty → (List Bool → Option Formula) → (acc n : ℕ) → (code rest : Code)
+    → Type 0
 IsReassigned Scalar f acc n code rest = IsAssigned Scalar f acc code rest
-IsReassigned (PairOf a b) f acc n code rest = (mid : Code) × IsAssigned (PairOf a b) f n code mid × IsAssigned (PairOf a b) (λ cs. held (held_marks (PairOf a b) n cs [])) acc mid rest
+IsReassigned (PairOf a b) f acc n code rest =
+    (mid : Code) × IsAssigned (PairOf a b) f n code mid
+    × IsAssigned (PairOf a b) (λ cs. held (held_marks (PairOf a b) n cs [])) acc mid rest
 IsReassigned (ArrayOf m t) f acc n code rest = ⊥
 
 -- the lets of an element term, from variable n on
 abbrev pub IsElementWork : {A : Type 0} → (ℕ → Marks) → ℕ → Term A → (code rest : Code) → Type 0
 IsElementWork env n (Literal c) code rest = code ≡ rest
 IsElementWork env n (Bound v) code rest = code ≡ rest
-IsElementWork env n (Apply o a b) code rest = (mid : Code) × IsElementWork env n a code mid × IsElementWork env (n + let_variables a) b mid rest
+IsElementWork env n (Apply o a b) code rest =
+    (mid : Code) × IsElementWork env n a code mid
+    × IsElementWork env (n + let_variables a) b mid rest
 IsElementWork env n (ApplyNumber o m a) code rest = IsElementWork env n a code rest
 IsElementWork env n (Select c a b) code rest =
-    (mid mid2 : Code) × IsElementWork env n c code mid × IsElementWork env (n + let_variables c) a mid mid2 × IsElementWork env (n + let_variables c + let_variables a) b mid2 rest
-IsElementWork env n (Both zips a b) code rest = (mid : Code) × IsElementWork env n a code mid × IsElementWork env (n + let_variables a) b mid rest
+    (mid mid2 : Code) × IsElementWork env n c code mid
+    × IsElementWork env (n + let_variables c) a mid mid2
+    × IsElementWork env (n + let_variables c + let_variables a) b mid2 rest
+IsElementWork env n (Both zips a b) code rest =
+    (mid : Code) × IsElementWork env n a code mid
+    × IsElementWork env (n + let_variables a) b mid rest
 IsElementWork env n (Project s a) code rest = IsElementWork env n a code rest
 IsElementWork env n (LetElement ty v b) code rest =
-    (mid mid2 : Code) × IsElementWork env n v code mid × IsAssigned ty (exprs env n v) (n + let_variables v) mid mid2
-    × IsElementWork (push (held_marks ty (n + let_variables v)) env) (n + let_variables v + width ty) b mid2 rest
+    (mid mid2 : Code) × IsElementWork env n v code mid
+    × IsAssigned ty (exprs env n v) (n + let_variables v) mid mid2
+    × IsElementWork (push (held_marks ty (n + let_variables v)) env)
+    (n + let_variables v + width ty) b mid2 rest
 IsElementWork env n _ code rest = ⊥
 
 module _ (l : Launch) (ins : ℕ → Marks) where
@@ -63,76 +77,120 @@ module _ (l : Launch) (ins : ℕ → Marks) where
   IsLength b n = bound_value l.sizes b ≡ Some n
 
   -- one store for each component
-  abbrev pub IsStored : List ℕ → Ty → (List Bool → Option Formula) → Marks → (code rest : Code) → Type 0
-  IsStored ts Scalar f w code rest = (a : Array) × (i e : Formula) × (f [] ≡ Some e) × IsSpot ts (w [] []) a i × (code ≡ Stores a i e rest)
-  IsStored ts (PairOf a b) f w code rest = (mid : Code) × IsStored ts a (λ cs. f (false ∷ cs)) (λ cs. w (false ∷ cs)) code mid × IsStored ts b (λ cs. f (true ∷ cs)) (λ cs. w (true ∷ cs)) mid rest
+  abbrev pub IsStored : List ℕ → Ty → (List Bool → Option Formula) → Marks → (code rest : Code)
+      → Type 0
+  IsStored ts Scalar f w code rest =
+      (a : Array) × (i e : Formula) × (f [] ≡ Some e) × IsSpot ts (w [] []) a i
+      × (code ≡ Stores a i e rest)
+  IsStored ts (PairOf a b) f w code rest =
+      (mid : Code) × IsStored ts a (λ cs. f (false ∷ cs)) (λ cs. w (false ∷ cs)) code mid
+      × IsStored ts b (λ cs. f (true ∷ cs)) (λ cs. w (true ∷ cs)) mid rest
   IsStored ts (ArrayOf m t) f w code rest = ⊥
 
   -- one load for each of these components, each into the next variable
   abbrev pub IsLoaded : List ℕ → LoadSet → Marks → ℕ → (code rest : Code) → Type 0
   IsLoaded ts Skip x n code rest = code ≡ rest
-  IsLoaded ts Take x n code rest = (a : Array) × (i : Formula) × IsSpot ts (x [] []) a i × (code ≡ Loads n a i rest)
-  IsLoaded ts (Each a b) x n code rest = (mid : Code) × IsLoaded ts a (λ cs. x (false ∷ cs)) n code mid × IsLoaded ts b (λ cs. x (true ∷ cs)) (n + load_count a) mid rest
+  IsLoaded ts Take x n code rest =
+      (a : Array) × (i : Formula) × IsSpot ts (x [] []) a i × (code ≡ Loads n a i rest)
+  IsLoaded ts (Each a b) x n code rest =
+      (mid : Code) × IsLoaded ts a (λ cs. x (false ∷ cs)) n code mid
+      × IsLoaded ts b (λ cs. x (true ∷ cs)) (n + load_count a) mid rest
 
   -- a loop of a kind over n, whose body is printed so at each turn
   abbrev pub IsLoop : Kind → ℕ → (ℕ → Code → Type 0) → (code rest : Code) → Type 0
   IsLoop k n B code rest =
-      (b : Formula) × (body : Code) × (code ≡ Loops (start_of k) b (stride_of k) body rest) × IsLength b n × ((i : ℕ) → i < n → B i body)
+      (b : Formula) × (body : Code) × (code ≡ Loops (start_of k) b (stride_of k) body rest)
+      × IsLength b n × ((i : ℕ) → i < n → B i body)
 
   -- what stands for an argument, whose first private array is this
   abbrev pub argument_marks : {A : Type 0} → (A → ℕ) → (ℕ → Marks) → ℕ → Term A → Marks
   argument_marks num env a (Bound v) = env v
   argument_marks num env a (Source s) = ins s
-  argument_marks num env a (Both zips x y) = by_side (λ q. Nowhere) (argument_marks num env a x) (argument_marks num env (a + private_count x) y)
+  argument_marks num env a (Both zips x y) =
+      by_side (λ q. Nowhere) (argument_marks num env a x)
+      (argument_marks num env (a + private_count x) y)
   argument_marks num env a (Project s x) = λ cs q. argument_marks num env a x (s ∷ cs) q
-  argument_marks num env a (Reshape y x) = λ cs q. argument_marks num env a x cs (operand_position num y q)
-  argument_marks num env a (LetArray v b) = argument_marks num (push (argument_marks num env a v) env) (a + private_count v) b
+  argument_marks num env a (Reshape y x) =
+      λ cs q. argument_marks num env a x cs (operand_position num y q)
+  argument_marks num env a (LetArray v b) =
+      argument_marks num (push (argument_marks num env a v) env) (a + private_count v) b
   argument_marks num env a (Copy PrivateMemory ty x) = laid_in Private (a + private_count x) ty
   argument_marks num env a _ = λ cs q. Nowhere
 
   -- a turn of a fold, whose accumulator is held from variable acc on
-  abbrev pub IsFoldTurn : {A : Type 0} → List ℕ → (ℕ → Marks) → LoadSet → Ty → Marks → (acc : ℕ) → Term A → Code → Type 0
+  abbrev pub IsFoldTurn : {A : Type 0} → List ℕ → (ℕ → Marks) → LoadSet → Ty → Marks → (acc : ℕ)
+      → Term A → Code → Type 0
   IsFoldTurn ts env loads ty x acc b body =
       (mid mid2 : Code) × IsLoaded ts loads x (acc + width ty) body mid
-      × IsElementWork (push (loaded_marks loads x (acc + width ty)) (push (held_marks ty acc) env)) (acc + width ty + load_count loads) b mid mid2
-      × IsReassigned ty (exprs (push (loaded_marks loads x (acc + width ty)) (push (held_marks ty acc) env)) (acc + width ty + load_count loads) b) acc (acc + width ty + load_count loads + let_variables b) mid2 End
+      × IsElementWork (push (loaded_marks loads x (acc + width ty)) (push (held_marks ty acc) env))
+      (acc + width ty + load_count loads) b mid mid2
+      × IsReassigned ty
+      (exprs (push (loaded_marks loads x (acc + width ty)) (push (held_marks ty acc) env))
+      (acc + width ty + load_count loads) b) acc
+      (acc + width ty + load_count loads + let_variables b) mid2 End
 
   abbrev mutual
     -- the work of an argument: its copies to private arrays, from private array a and variable n on
-    pub IsArgumentWork : {A : Type 0} → (A → ℕ) → List ℕ → (ℕ → Marks) → (a n : ℕ) → Term A → (code rest : Code) → Type 0
+    pub IsArgumentWork : {A : Type 0} → (A → ℕ) → List ℕ → (ℕ → Marks) → (a n : ℕ) → Term A
+        → (code rest : Code) → Type 0
     IsArgumentWork num ts env a n (Bound v) code rest = code ≡ rest
     IsArgumentWork num ts env a n (Source s) code rest = code ≡ rest
-    IsArgumentWork num ts env a n (Both zips x y) code rest = (mid : Code) × IsArgumentWork num ts env a n x code mid × IsArgumentWork num ts env (a + private_count x) (n + variable_count x) y mid rest
-    IsArgumentWork num ts env a n (Project s x) code rest = IsArgumentWork num ts env a n x code rest
-    IsArgumentWork num ts env a n (Reshape y x) code rest = IsArgumentWork num ts env a n x code rest
+    IsArgumentWork num ts env a n (Both zips x y) code rest =
+        (mid : Code) × IsArgumentWork num ts env a n x code mid
+        × IsArgumentWork num ts env (a + private_count x) (n + variable_count x) y mid rest
+    IsArgumentWork num ts env a n (Project s x) code rest =
+        IsArgumentWork num ts env a n x code rest
+    IsArgumentWork num ts env a n (Reshape y x) code rest =
+        IsArgumentWork num ts env a n x code rest
     IsArgumentWork num ts env a n (LetArray v b) code rest =
-        (mid : Code) × IsArgumentWork num ts env a n v code mid × IsArgumentWork num ts (push (argument_marks num env a v) env) (a + private_count v) (n + variable_count v) b mid rest
-    IsArgumentWork num ts env a n (Copy PrivateMemory ty x) code rest = IsWritten num ts env a n x (laid_in Private (a + private_count x) ty) code rest
+        (mid : Code) × IsArgumentWork num ts env a n v code mid
+        × IsArgumentWork num ts (push (argument_marks num env a v) env) (a + private_count v)
+        (n + variable_count v) b mid rest
+    IsArgumentWork num ts env a n (Copy PrivateMemory ty x) code rest =
+        IsWritten num ts env a n x (laid_in Private (a + private_count x) ty) code rest
     IsArgumentWork num ts env a n _ code rest = ⊥
 
     -- a term in writing position, which goes to w
-    pub IsWritten : {A : Type 0} → (A → ℕ) → List ℕ → (ℕ → Marks) → (a n : ℕ) → Term A → Marks → (code rest : Code) → Type 0
-    IsWritten num ts env a n (Store ty t) w code rest = (mid : Code) × IsElementWork env n t code mid × IsStored ts ty (exprs env n t) w mid rest
-    IsWritten num ts env a n (Reshape y t) w code rest = IsInvertible y × IsWritten num ts env a n t (λ cs q. w cs (result_position num y q)) code rest
+    pub IsWritten : {A : Type 0} → (A → ℕ) → List ℕ → (ℕ → Marks) → (a n : ℕ) → Term A → Marks
+        → (code rest : Code) → Type 0
+    IsWritten num ts env a n (Store ty t) w code rest =
+        (mid : Code) × IsElementWork env n t code mid × IsStored ts ty (exprs env n t) w mid rest
+    IsWritten num ts env a n (Reshape y t) w code rest =
+        IsInvertible y
+        × IsWritten num ts env a n t (λ cs q. w cs (result_position num y q)) code rest
     IsWritten num ts env a n (LetArray v b) w code rest =
-        (mid : Code) × IsArgumentWork num ts env a n v code mid × IsWritten num ts (push (argument_marks num env a v) env) (a + private_count v) (n + variable_count v) b w mid rest
+        (mid : Code) × IsArgumentWork num ts env a n v code mid
+        × IsWritten num ts (push (argument_marks num env a v) env) (a + private_count v)
+        (n + variable_count v) b w mid rest
     IsWritten num ts env a n (LetElement ty v b) w code rest =
-        (mid mid2 : Code) × IsElementWork env n v code mid × IsAssigned ty (exprs env n v) (n + let_variables v) mid mid2
-        × IsWritten num ts (push (held_marks ty (n + let_variables v)) env) a (n + let_variables v + width ty) b w mid2 rest
+        (mid mid2 : Code) × IsElementWork env n v code mid
+        × IsAssigned ty (exprs env n v) (n + let_variables v) mid mid2
+        × IsWritten num ts (push (held_marks ty (n + let_variables v)) env) a
+        (n + let_variables v + width ty) b w mid2 rest
     IsWritten num ts env a n (Map Sequential len loads xs b) w code rest =
         (mid : Code) × IsArgumentWork num ts env a n xs code mid
         × IsLoop Sequential (num len)
-        (λ i body. (inner : Code) × IsLoaded (ts ++ i ∷ []) loads (at_index i (argument_marks num env a xs)) (n + variable_count xs) body inner
-        × IsWritten num (ts ++ i ∷ []) (push (loaded_marks loads (at_index i (argument_marks num env a xs)) (n + variable_count xs)) env) (a + private_count xs) (n + variable_count xs + load_count loads) b (at_index i w) inner End)
+        (λ i body. (inner : Code)
+        × IsLoaded (ts ++ i ∷ []) loads (at_index i (argument_marks num env a xs)) (n
+        + variable_count xs) body inner
+        × IsWritten num (ts ++ i ∷ [])
+        (push
+        (loaded_marks loads (at_index i (argument_marks num env a xs)) (n
+        + variable_count xs)) env) (a + private_count xs)
+        (n + variable_count xs + load_count loads) b (at_index i w) inner End)
         mid rest
     IsWritten num ts env a n (Fold len loads ty xs s b) w code rest =
         (mid mid2 mid3 mid4 : Code) × IsArgumentWork num ts env a n xs code mid
         × IsElementWork env (n + variable_count xs) s mid mid2
-        × IsAssigned ty (exprs env (n + variable_count xs) s) (n + variable_count xs + let_variables s) mid2 mid3
+        × IsAssigned ty (exprs env (n + variable_count xs) s)
+        (n + variable_count xs + let_variables s) mid2 mid3
         × IsLoop Sequential (num len)
-        (λ i body. IsFoldTurn (ts ++ i ∷ []) env loads ty (at_index i (argument_marks num env a xs)) (n + variable_count xs + let_variables s) b body)
+        (λ i body. IsFoldTurn (ts ++ i ∷ []) env loads ty (at_index i (argument_marks num env a xs))
+        (n + variable_count xs + let_variables s) b body)
         mid3 mid4
-        × IsStored ts ty (λ cs. held (held_marks ty (n + variable_count xs + let_variables s) cs [])) (at_index 0 w) mid4 rest
+        × IsStored ts ty
+        (λ cs. held (held_marks ty (n + variable_count xs + let_variables s) cs []))
+        (at_index 0 w) mid4 rest
     IsWritten num ts env a n _ w code rest = ⊥
 
 -- the private arrays of a term, the first of which is this, are as long as their values
@@ -144,6 +202,8 @@ Declares long a (LetArray v b) = Declares long a v × Declares long (a + private
 Declares long a (LetElement ty v b) = Declares long a b
 Declares long a (Map k n loads xs b) = Declares long a xs × Declares long (a + private_count xs) b
 Declares long a (Fold n loads ty xs s b) = Declares long a xs
-Declares long a (Copy PrivateMemory ty x) = Declares long a x × ((c : ℕ) → c < width ty → long (Private (a + private_count x + c)) ≡ size ty)
+Declares long a (Copy PrivateMemory ty x) =
+    Declares long a x
+    × ((c : ℕ) → c < width ty → long (Private (a + private_count x + c)) ≡ size ty)
 Declares long a (Copy LocalMemory ty x) = Declares long a x
 Declares long a _ = Unit {0}

@@ -13,4 +13,7 @@ pub mod PrinterLaw
 pub mod Alike
 pub mod Theorem
 pub mod Programs
-pub mod Worked
+pub mod Sound
+pub mod GrammarViews
+pub mod KernelGrammar
+pub mod GrammarPieces

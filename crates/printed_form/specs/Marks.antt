@@ -30,4 +30,6 @@ held_marks (ArrayOf m t) n = λ cs q. Nowhere
 abbrev pub loaded_marks : LoadSet → Marks → ℕ → Marks
 loaded_marks Skip x n = x
 loaded_marks Take x n = λ cs q. Register n
-loaded_marks (Each a b) x n = by_side (λ q. Nowhere) (loaded_marks a (λ cs. x (false ∷ cs)) n) (loaded_marks b (λ cs. x (true ∷ cs)) (n + load_count a))
+loaded_marks (Each a b) x n =
+    by_side (λ q. Nowhere) (loaded_marks a (λ cs. x (false ∷ cs)) n)
+    (loaded_marks b (λ cs. x (true ∷ cs)) (n + load_count a))

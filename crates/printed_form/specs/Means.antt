@@ -8,7 +8,9 @@ use Rattle.printed_form.specs.Views.{Sign, Held, Read, View}
 
 -- an expression that has this value, whatever the loops and the variables
 abbrev pub IsSpelled : Launch → Formula → ℕ → Type 0
-IsSpelled l f n = (bound_value l.sizes f ≡ Some n) × ((k : ℕ) (ts vs : List ℕ) → value (ids_of l k) ts vs f ≡ Some n)
+IsSpelled l f n =
+    (bound_value l.sizes f ≡ Some n)
+    × ((k : ℕ) (ts vs : List ℕ) → value (ids_of l k) ts vs f ≡ Some n)
 
 module _ (l : Launch) where
   -- an index expression's value at these turns, a word
@@ -33,11 +35,15 @@ module _ (l : Launch) where
 
   -- the view has these cells, at these turns and within further loops
   abbrev pub HasCells : List ℕ → Ty → View → Marks → Type 0
-  HasCells ts t x y = (us : List ℕ) (cs : List Bool) (is : List Formula) (q : List ℕ) → IsPosition t cs q → AllMean (ts ++ us) is q → IsCell (ts ++ us) (x cs is) (y cs q)
+  HasCells ts t x y =
+      (us : List ℕ) (cs : List Bool) (is : List Formula) (q : List ℕ) → IsPosition t cs q
+      → AllMean (ts ++ us) is q → IsCell (ts ++ us) (x cs is) (y cs q)
 
   abbrev pub Shows : List ℕ → Ty → View → Marks → Type 0
   Shows ts Scalar x y = (us : List ℕ) → IsScalar (ts ++ us) (x [] []) (y [] [])
-  Shows ts (PairOf a b) x y = Shows ts a (λ cs. x (false ∷ cs)) (λ cs. y (false ∷ cs)) × Shows ts b (λ cs. x (true ∷ cs)) (λ cs. y (true ∷ cs))
+  Shows ts (PairOf a b) x y =
+      Shows ts a (λ cs. x (false ∷ cs)) (λ cs. y (false ∷ cs))
+      × Shows ts b (λ cs. x (true ∷ cs)) (λ cs. y (true ∷ cs))
   Shows ts (ArrayOf n t) x y = HasCells ts (ArrayOf n t) x y
 
   abbrev pub AllShow : List ℕ → (ℕ → Ty) → (ℕ → View) → (ℕ → Marks) → Type 0

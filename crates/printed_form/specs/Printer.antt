@@ -19,29 +19,44 @@ or_number None = Number 0
 abbrev pub sign_exprs : {A : Type 0} → (ℕ → View) → ℕ → Term A → List Bool → Option Formula
 sign_exprs env n (Literal c) = λ cs. Some (Number c)
 sign_exprs env n (Bound v) = λ cs. held_sign (env v cs [])
-sign_exprs env n (Apply o a b) = λ cs. of_both (operation o) (sign_exprs env n a []) (sign_exprs env (n + let_variables a) b [])
-sign_exprs env n (ApplyNumber o m a) = λ cs. of_one (λ x. Binary o x (Number m)) (sign_exprs env n a [])
-sign_exprs env n (Select c a b) = λ cs. of_three selection (sign_exprs env n c []) (sign_exprs env (n + let_variables c) a []) (sign_exprs env (n + let_variables c + let_variables a) b [])
-sign_exprs env n (Both zips a b) = by_side None (sign_exprs env n a) (sign_exprs env (n + let_variables a) b)
+sign_exprs env n (Apply o a b) =
+    λ cs. of_both (operation o) (sign_exprs env n a []) (sign_exprs env (n + let_variables a) b [])
+sign_exprs env n (ApplyNumber o m a) =
+    λ cs. of_one (λ x. Binary o x (Number m)) (sign_exprs env n a [])
+sign_exprs env n (Select c a b) =
+    λ cs. of_three selection (sign_exprs env n c []) (sign_exprs env (n + let_variables c) a [])
+    (sign_exprs env (n + let_variables c + let_variables a) b [])
+sign_exprs env n (Both zips a b) =
+    by_side None (sign_exprs env n a) (sign_exprs env (n + let_variables a) b)
 sign_exprs env n (Project s a) = λ cs. sign_exprs env n a (s ∷ cs)
-sign_exprs env n (LetElement ty v b) = sign_exprs (push (held_view ty (n + let_variables v)) env) (n + let_variables v + width ty) b
+sign_exprs env n (LetElement ty v b) =
+    sign_exprs (push (held_view ty (n + let_variables v)) env) (n + let_variables v + width ty) b
 sign_exprs env n _ = λ cs. None
 
 abbrev pub print_assigned : Ty → (List Bool → Option Formula) → ℕ → (rest : Code) → Code
 print_assigned Scalar f n rest = Assigns n (or_number (f [])) rest
-print_assigned (PairOf a b) f n rest = print_assigned a (λ cs. f (false ∷ cs)) n (print_assigned b (λ cs. f (true ∷ cs)) (n + width a) rest)
+print_assigned (PairOf a b) f n rest =
+    print_assigned a (λ cs. f (false ∷ cs)) n
+    (print_assigned b (λ cs. f (true ∷ cs)) (n + width a) rest)
 print_assigned (ArrayOf m t) f n rest = rest
 
 abbrev pub print_reassigned : Ty → (List Bool → Option Formula) → (acc n : ℕ) → (rest : Code) → Code
 print_reassigned Scalar f acc n rest = print_assigned Scalar f acc rest
-print_reassigned (PairOf a b) f acc n rest = print_assigned (PairOf a b) f n (print_assigned (PairOf a b) (λ cs. held_sign (held_view (PairOf a b) n cs [])) acc rest)
+print_reassigned (PairOf a b) f acc n rest =
+    print_assigned (PairOf a b) f n
+    (print_assigned (PairOf a b) (λ cs. held_sign (held_view (PairOf a b) n cs [])) acc rest)
 print_reassigned (ArrayOf m t) f acc n rest = rest
 
 abbrev pub print_element : {A : Type 0} → (ℕ → View) → ℕ → Term A → (rest : Code) → Code
-print_element env n (Apply o a b) rest = print_element env n a (print_element env (n + let_variables a) b rest)
+print_element env n (Apply o a b) rest =
+    print_element env n a (print_element env (n + let_variables a) b rest)
 print_element env n (ApplyNumber o m a) rest = print_element env n a rest
-print_element env n (Select c a b) rest = print_element env n c (print_element env (n + let_variables c) a (print_element env (n + let_variables c + let_variables a) b rest))
-print_element env n (Both zips a b) rest = print_element env n a (print_element env (n + let_variables a) b rest)
+print_element env n (Select c a b) rest =
+    print_element env n c
+    (print_element env (n + let_variables c) a
+    (print_element env (n + let_variables c + let_variables a) b rest))
+print_element env n (Both zips a b) rest =
+    print_element env n a (print_element env (n + let_variables a) b rest)
 print_element env n (Project s a) rest = print_element env n a rest
 print_element env n (LetElement ty v b) rest =
     print_element env n v (print_assigned ty (sign_exprs env n v) (n + let_variables v) (print_element (push (held_view ty (n + let_variables v)) env) (n + let_variables v + width ty) b rest))
@@ -57,61 +72,91 @@ print_load _ n rest = rest
 
 abbrev pub print_stored : Ty → (List Bool → Option Formula) → View → (rest : Code) → Code
 print_stored Scalar f w rest = print_store (w [] []) (or_number (f [])) rest
-print_stored (PairOf a b) f w rest = print_stored a (λ cs. f (false ∷ cs)) (λ cs. w (false ∷ cs)) (print_stored b (λ cs. f (true ∷ cs)) (λ cs. w (true ∷ cs)) rest)
+print_stored (PairOf a b) f w rest =
+    print_stored a (λ cs. f (false ∷ cs)) (λ cs. w (false ∷ cs))
+    (print_stored b (λ cs. f (true ∷ cs)) (λ cs. w (true ∷ cs)) rest)
 print_stored (ArrayOf m t) f w rest = rest
 
 abbrev pub print_loaded : LoadSet → View → ℕ → (rest : Code) → Code
 print_loaded Skip x n rest = rest
 print_loaded Take x n rest = print_load (x [] []) n rest
-print_loaded (Each a b) x n rest = print_loaded a (λ cs. x (false ∷ cs)) n (print_loaded b (λ cs. x (true ∷ cs)) (n + load_count a) rest)
+print_loaded (Each a b) x n rest =
+    print_loaded a (λ cs. x (false ∷ cs)) n
+    (print_loaded b (λ cs. x (true ∷ cs)) (n + load_count a) rest)
 
-abbrev pub print_fold_turn : {A : Type 0} → (ℕ → View) → LoadSet → Ty → View → (acc : ℕ) → Term A → Code
+abbrev pub print_fold_turn : {A : Type 0} → (ℕ → View) → LoadSet → Ty → View → (acc : ℕ) → Term A
+    → Code
 print_fold_turn env loads ty x acc b =
     print_loaded loads x (acc + width ty)
-    (print_element (push (loaded_view loads x (acc + width ty)) (push (held_view ty acc) env)) (acc + width ty + load_count loads) b
-    (print_reassigned ty (sign_exprs (push (loaded_view loads x (acc + width ty)) (push (held_view ty acc) env)) (acc + width ty + load_count loads) b) acc (acc + width ty + load_count loads + let_variables b) End))
+    (print_element (push (loaded_view loads x (acc + width ty)) (push (held_view ty acc) env))
+    (acc + width ty + load_count loads) b
+    (print_reassigned ty
+    (sign_exprs (push (loaded_view loads x (acc + width ty)) (push (held_view ty acc) env)) (acc
+    + width ty + load_count loads) b) acc
+    (acc + width ty + load_count loads + let_variables b) End))
 
 -- lengths are spelled so, and the inputs stand so
 module _ {A : Type 0} (spell : A → Formula) (ins : ℕ → View) where
   abbrev pub argument_view : (ℕ → View) → ℕ → Term A → View
   argument_view env a (Bound v) = env v
   argument_view env a (Source s) = ins s
-  argument_view env a (Both zips x y) = by_side (λ is. Blank) (argument_view env a x) (argument_view env (a + private_count x) y)
+  argument_view env a (Both zips x y) =
+      by_side (λ is. Blank) (argument_view env a x) (argument_view env (a + private_count x) y)
   argument_view env a (Project s x) = λ cs is. argument_view env a x (s ∷ cs) is
   argument_view env a (Reshape y x) = λ cs is. argument_view env a x cs (operand_indices spell y is)
-  argument_view env a (LetArray v b) = argument_view (push (argument_view env a v) env) (a + private_count v) b
+  argument_view env a (LetArray v b) =
+      argument_view (push (argument_view env a v) env) (a + private_count v) b
   argument_view env a (Copy PrivateMemory ty x) = laid_view Private (a + private_count x) ty
   argument_view env a _ = λ cs is. Blank
 
   abbrev mutual
     pub print_argument : (depth : ℕ) → (ℕ → View) → (a n : ℕ) → Term A → (rest : Code) → Code
-    print_argument depth env a n (Both zips x y) rest = print_argument depth env a n x (print_argument depth env (a + private_count x) (n + variable_count x) y rest)
+    print_argument depth env a n (Both zips x y) rest =
+        print_argument depth env a n x
+        (print_argument depth env (a + private_count x) (n + variable_count x) y rest)
     print_argument depth env a n (Project s x) rest = print_argument depth env a n x rest
     print_argument depth env a n (Reshape y x) rest = print_argument depth env a n x rest
-    print_argument depth env a n (LetArray v b) rest = print_argument depth env a n v (print_argument depth (push (argument_view env a v) env) (a + private_count v) (n + variable_count v) b rest)
-    print_argument depth env a n (Copy PrivateMemory ty x) rest = print_written depth env a n x (laid_view Private (a + private_count x) ty) rest
+    print_argument depth env a n (LetArray v b) rest =
+        print_argument depth env a n v
+        (print_argument depth (push (argument_view env a v) env) (a + private_count v)
+        (n + variable_count v) b rest)
+    print_argument depth env a n (Copy PrivateMemory ty x) rest =
+        print_written depth env a n x (laid_view Private (a + private_count x) ty) rest
     print_argument depth env a n _ rest = rest
 
     -- a term in writing position, which goes to w, within so many loops
     pub print_written : (depth : ℕ) → (ℕ → View) → (a n : ℕ) → Term A → View → (rest : Code) → Code
-    print_written depth env a n (Store ty t) w rest = print_element env n t (print_stored ty (sign_exprs env n t) w rest)
-    print_written depth env a n (Reshape y t) w rest = print_written depth env a n t (λ cs is. w cs (result_indices spell y is)) rest
-    print_written depth env a n (LetArray v b) w rest = print_argument depth env a n v (print_written depth (push (argument_view env a v) env) (a + private_count v) (n + variable_count v) b w rest)
+    print_written depth env a n (Store ty t) w rest =
+        print_element env n t (print_stored ty (sign_exprs env n t) w rest)
+    print_written depth env a n (Reshape y t) w rest =
+        print_written depth env a n t (λ cs is. w cs (result_indices spell y is)) rest
+    print_written depth env a n (LetArray v b) w rest =
+        print_argument depth env a n v
+        (print_written depth (push (argument_view env a v) env) (a + private_count v)
+        (n + variable_count v) b w rest)
     print_written depth env a n (LetElement ty v b) w rest =
         print_element env n v (print_assigned ty (sign_exprs env n v) (n + let_variables v) (print_written depth (push (held_view ty (n + let_variables v)) env) a (n + let_variables v + width ty) b w rest))
     print_written depth env a n (Map k len loads xs b) w rest =
         print_argument depth env a n xs
         (Loops (start_of k) (spell len) (stride_of k)
-        (print_loaded loads (view_at (LoopVariable depth) (argument_view env a xs)) (n + variable_count xs)
-        (print_written (suc depth) (push (loaded_view loads (view_at (LoopVariable depth) (argument_view env a xs)) (n + variable_count xs)) env) (a + private_count xs) (n + variable_count xs + load_count loads) b (view_at (LoopVariable depth) w) End))
+        (print_loaded loads (view_at (LoopVariable depth) (argument_view env a xs))
+        (n + variable_count xs)
+        (print_written (suc depth)
+        (push (loaded_view loads (view_at (LoopVariable depth) (argument_view env a xs))
+        (n + variable_count xs)) env) (a + private_count xs)
+        (n + variable_count xs + load_count loads) b (view_at (LoopVariable depth) w) End))
         rest)
     print_written depth env a n (Fold len loads ty xs s b) w rest =
         print_argument depth env a n xs
         (print_element env (n + variable_count xs) s
-        (print_assigned ty (sign_exprs env (n + variable_count xs) s) (n + variable_count xs + let_variables s)
+        (print_assigned ty (sign_exprs env (n + variable_count xs) s)
+        (n + variable_count xs + let_variables s)
         (Loops (start_of Sequential) (spell len) (stride_of Sequential)
-        (print_fold_turn env loads ty (view_at (LoopVariable depth) (argument_view env a xs)) (n + variable_count xs + let_variables s) b)
-        (print_stored ty (λ cs. held_sign (held_view ty (n + variable_count xs + let_variables s) cs [])) (view_at (Number 0) w) rest))))
+        (print_fold_turn env loads ty (view_at (LoopVariable depth) (argument_view env a xs))
+        (n + variable_count xs + let_variables s) b)
+        (print_stored ty
+        (λ cs. held_sign (held_view ty (n + variable_count xs + let_variables s) cs []))
+        (view_at (Number 0) w) rest))))
     print_written depth env a n _ w rest = rest
 
 abbrev pub no_view : ℕ → View
@@ -123,6 +168,10 @@ input_views spell first src v = placed_view spell Input (first v) (src v)
 abbrev pub input_marks : {A : Type 0} → (A → ℕ) → (first : ℕ → ℕ) → (ℕ → Shape A) → ℕ → Marks
 input_marks num first src v = laid_in Input (first v) (measured num (src v))
 
--- the code of a term that one work-item runs, or all of the launch, where input v's arrays begin with the number `first v`. It is the same at all launches
-abbrev pub kernel_code : {A : Type 0} → (A → Formula) → (first : ℕ → ℕ) → (ℕ → Shape A) → Term A → Shape A → Code
-kernel_code spell first src t ty = print_written spell (input_views spell first src) 0 no_view 0 0 t (placed_view spell Output 0 ty) End
+-- the code of a term that one work-item runs, or all of the launch, where input v's arrays begin
+-- with the number `first v`. It is the same at all launches
+abbrev pub kernel_code : {A : Type 0} → (A → Formula) → (first : ℕ → ℕ) → (ℕ → Shape A) → Term A
+    → Shape A → Code
+kernel_code spell first src t ty =
+    print_written spell (input_views spell first src) 0 no_view 0 0 t
+    (placed_view spell Output 0 ty) End

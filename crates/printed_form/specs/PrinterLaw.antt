@@ -10,9 +10,15 @@ use Rattle.printed_form.specs.Whole.{IsCode}
 use Rattle.printed_form.specs.Means.{IsSpelled}
 use Rattle.printed_form.specs.Printer.{input_marks, kernel_code}
 
--- at each launch, of one work-item where there is no map over the launch, where the lengths' spellings have their values, the code is printed for the term; the code is one for all launches
+-- at each launch, of one work-item where there is no map over the launch, where the lengths'
+-- spellings have their values, the code is printed for the term; the code is one for all launches
 abbrev pub PrinterPrints : Type 0 → Type 0
 PrinterPrints A =
-    (l : Launch) (num : A → ℕ) (spell : A → Formula) → ((n : A) → num n < 2 ^ 31 → IsSpelled l (spell n) (num n)) → (first : ℕ → ℕ) (src : ℕ → Shape A) (t : Term A) (ty : Shape A) → ((l.global ≡ 1) × Stands true t) ⊎ StandsOverLaunch t
-    → HasType num (λ v. measured num (src v)) no_type t (measured num ty) → LoadsSuffice (λ v. none) t → IsPlaced num ty → ((v : ℕ) → IsPlaced num (src v))
-    → IsCode l (input_marks num first src) num t (measured num ty) (kernel_code spell first src t ty)
+    (l : Launch) (num : A → ℕ) (spell : A → Formula)
+    → ((n : A) → num n < 2 ^ 31 → IsSpelled l (spell n) (num n)) → (first : ℕ → ℕ)
+    (src : ℕ → Shape A) (t : Term A) (ty : Shape A) → ((l.global ≡ 1) × Stands true t)
+    ⊎ StandsOverLaunch t
+    → HasType num (λ v. measured num (src v)) no_type t (measured num ty)
+    → LoadsSuffice (λ v. none) t → IsPlaced num ty → ((v : ℕ) → IsPlaced num (src v))
+    → IsCode l (input_marks num first src) num t (measured num ty)
+    (kernel_code spell first src t ty)

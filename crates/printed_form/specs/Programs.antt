@@ -48,15 +48,19 @@ buffer_count (a ∷ tys) = width (shape_of a) + buffer_count tys
 abbrev pub lowered_root : Tree → Annotation → Lowered
 lowered_root t a = lower Written t a
 
--- The kernel is printed for the typed term at a launch, where the base names have these values: it has a parameter for each component of each input, then of the output, then for each size; private variables and arrays as the term needs them; and its code is printed for the term.
-pub record Prints (d : Declared) (bases : List ℕ) (t : Tree) (a : Annotation) (l : Launch) (k : Kernel) : Type 0 where
+-- The kernel is printed for the typed term at a launch, where the base names have these values: it
+-- has a parameter for each component of each input, then of the output, then for each size; private
+-- variables and arrays as the term needs them; and its code is printed for the term.
+pub record Prints (d : Declared) (bases : List ℕ) (t : Tree) (a : Annotation) (l : Launch)
+    (k : Kernel) : Type 0 where
   pub inputs : k.inputs ≡ buffer_count d.inputs
   pub outputs : k.outputs ≡ width (shape_of (type_in a))
   pub sizes : k.sizes ≡ length d.names
   pub locals : k.locals ≡ copy_lengths LocalMemory (lowered_root t a)
   pub privates : k.privates ≡ copy_lengths PrivateMemory (lowered_root t a)
   pub variables : k.variables ≡ variable_count (lowered_root t a)
-  pub code : IsCode l (input_marks (length_at bases) (first_buffer d.inputs) (input_shape d.inputs)) (length_at bases) (lowered_root t a) (ty_at bases (type_in a)) k.code
+  pub code : IsCode l (input_marks (length_at bases) (first_buffer d.inputs) (input_shape d.inputs))
+      (length_at bases) (lowered_root t a) (ty_at bases (type_in a)) k.code
 
 -- the kernel that the printer makes of a typed term, where lengths are spelled so
 abbrev pub printed_kernel : (List Monomial → Formula) → Declared → Tree → Annotation → Kernel
@@ -67,12 +71,15 @@ printed_kernel spell d t a = record {
   locals = copy_lengths LocalMemory (lowered_root t a);
   privates = copy_lengths PrivateMemory (lowered_root t a);
   variables = variable_count (lowered_root t a);
-  code = kernel_code spell (first_buffer d.inputs) (input_shape d.inputs) (lowered_root t a) (shape_of (type_in a));
+  code =
+      kernel_code spell (first_buffer d.inputs) (input_shape d.inputs) (lowered_root t a)
+      (shape_of (type_in a));
 }
 
 -- whose a cell of the output is: the owner of its scalar
 abbrev pub cell_owner : (bases : List ℕ) → Launch → Tree → Annotation → (array index : ℕ) → ℕ
-cell_owner bases l t a array index = owner (length_at bases) l (lowered_root t a) (unflat (ty_at bases (type_in a)) index)
+cell_owner bases l t a array index =
+    owner (length_at bases) l (lowered_root t a) (unflat (ty_at bases (type_in a)) index)
 
 -- the launch has these sizes, and one work-item where the term is a task
 pub record IsLaunchOf (d : Declared) (is_task : Bool) (bases : List ℕ) (l : Launch) : Type 0 where
@@ -80,33 +87,41 @@ pub record IsLaunchOf (d : Declared) (is_task : Bool) (bases : List ℕ) (l : La
   pub sizes : l.sizes ≡ sizes_at d.names bases
 
 -- the buffers hold the inputs, and the output's are as long as the value's lists
-pub record AreBuffersOf (d : Declared) (w : World) (t : Tree) (a : Annotation) (c : Cells) : Type 0 where
+pub record AreBuffersOf (d : Declared) (w : World) (t : Tree) (a : Annotation)
+    (c : Cells) : Type 0 where
   pub inputs : c.ins ≡ buffers_of d.inputs w.inputs
   pub outputs : map length c.outs ≡ map length (lists_of (type_in a) (meaning w [] t))
 
 -- a typed term of a program, which can be lowered where the base names have these values
-pub record IsLowerableProgram (d : Declared) (bases : List ℕ) (t : Tree) (a : Annotation) : Type 0 where
+pub record IsLowerableProgram (d : Declared) (bases : List ℕ) (t : Tree)
+    (a : Annotation) : Type 0 where
   pub declared : IsDeclared d
   pub nodes : Annotates d [] t a
   pub output : IsOutput (type_in a)
   pub lowerable : IsLowerable bases Written t a
 
--- every run of a kernel that is printed for a typed term keeps what the kernel owes, with the source value
+-- every run of a kernel that is printed for a typed term keeps what the kernel owes, with the
+-- source value
 abbrev pub PrintedProgramsKeep : Type 0
 PrintedProgramsKeep =
-    (d : Declared) (is_task : Bool) (w : World) (t : Tree) (a : Annotation) (l : Launch) (k : Kernel) (c : Cells)
-    → IsLowerableProgram d w.bases t a → IsAdmissible d w → IsLaunchOf d is_task w.bases l → AreBuffersOf d w t a c → Prints d w.bases t a l k
+    (d : Declared) (is_task : Bool) (w : World) (t : Tree) (a : Annotation) (l : Launch)
+    (k : Kernel) (c : Cells)
+    → IsLowerableProgram d w.bases t a → IsAdmissible d w → IsLaunchOf d is_task w.bases l
+    → AreBuffersOf d w t a c → Prints d w.bases t a l k
     → EveryRunKeeps k l c (cell_owner w.bases l t a) (lists_of (type_in a) (meaning w [] t))
 
 -- and it may be started there
 abbrev pub PrintedProgramsStart : Type 0
 PrintedProgramsStart =
-    (d : Declared) (is_task : Bool) (w : World) (t : Tree) (a : Annotation) (l : Launch) (k : Kernel) (c : Cells)
-    → IsLowerableProgram d w.bases t a → IsAdmissible d w → IsLaunchOf d is_task w.bases l → AreBuffersOf d w t a c → Prints d w.bases t a l k → MayStart k l c
+    (d : Declared) (is_task : Bool) (w : World) (t : Tree) (a : Annotation) (l : Launch)
+    (k : Kernel) (c : Cells)
+    → IsLowerableProgram d w.bases t a → IsAdmissible d w → IsLaunchOf d is_task w.bases l
+    → AreBuffersOf d w t a c → Prints d w.bases t a l k → MayStart k l c
 
 -- lengths are spelled with their values at the launch
 abbrev pub IsSpelling : (List Monomial → Formula) → (bases : List ℕ) → Launch → Type 0
-IsSpelling spell bases l = (n : List Monomial) → length_at bases n < 2 ^ 31 → IsSpelled l (spell n) (length_at bases n)
+IsSpelling spell bases l =
+    (n : List Monomial) → length_at bases n < 2 ^ 31 → IsSpelled l (spell n) (length_at bases n)
 
 -- a term that one work-item runs, where there is but one, or a map over the launch
 abbrev pub StandsAt : Launch → Lowered → Type 0
@@ -119,8 +134,10 @@ FitsBuffers d bases a = Every (λ b. IsPlaced (length_at bases) (shape_of b)) (t
 -- what the printer makes of a typed term is printed for it, at each admissible launch
 abbrev pub ProgramsArePrinted : Type 0
 ProgramsArePrinted =
-    (d : Declared) (is_task : Bool) (bases : List ℕ) (t : Tree) (a : Annotation) (l : Launch) (spell : List Monomial → Formula)
-    → IsLowerableProgram d bases t a → IsLaunchOf d is_task bases l → IsStaged Written t a → StandsAt l (lowered_root t a) → FitsBuffers d bases a → IsSpelling spell bases l
+    (d : Declared) (is_task : Bool) (bases : List ℕ) (t : Tree) (a : Annotation) (l : Launch)
+    (spell : List Monomial → Formula)
+    → IsLowerableProgram d bases t a → IsLaunchOf d is_task bases l → IsStaged Written t a
+    → StandsAt l (lowered_root t a) → FitsBuffers d bases a → IsSpelling spell bases l
     → Prints d bases t a l (printed_kernel spell d t a)
 
 -- states that hold the same contents: the items' variables, and memory
@@ -128,9 +145,14 @@ pub record SameContents (l : Launch) (s r : State) : Type 0 where
   pub variables : (j : ℕ) → j < item_count l → (s.items j).vars ≡ (r.items j).vars
   pub memory : s.memory ≡ r.memory
 
--- any two kernels that are printed for one typed term go alike at one launch and from the same contents: the same events can come, with the same accesses, and each schedule makes the same run of both
+-- any two kernels that are printed for one typed term go alike at one launch and from the same
+-- contents: the same events can come, with the same accesses, and each schedule makes the same run
+-- of both
 abbrev pub PrintedProgramsGoAlike : Type 0
 PrintedProgramsGoAlike =
-    (d : Declared) (is_task : Bool) (w : World) (t : Tree) (a : Annotation) (l : Launch) (k m : Kernel) (c : Cells) (s r : State)
-    → IsLowerableProgram d w.bases t a → IsAdmissible d w → IsLaunchOf d is_task w.bases l → AreBuffersOf d w t a c → Prints d w.bases t a l k → Prints d w.bases t a l m
-    → IsStart k l c s → IsStart m l c r → SameContents l s r → GoesAlike (device_of k l c) s (device_of m l c) r
+    (d : Declared) (is_task : Bool) (w : World) (t : Tree) (a : Annotation) (l : Launch)
+    (k m : Kernel) (c : Cells) (s r : State)
+    → IsLowerableProgram d w.bases t a → IsAdmissible d w → IsLaunchOf d is_task w.bases l
+    → AreBuffersOf d w t a c → Prints d w.bases t a l k → Prints d w.bases t a l m
+    → IsStart k l c s → IsStart m l c r → SameContents l s r
+    → GoesAlike (device_of k l c) s (device_of m l c) r

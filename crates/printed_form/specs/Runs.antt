@@ -18,7 +18,8 @@ pub record Setting : Type 0 where
   pub owners : Owners
   pub locals : ℕ
 
--- what it knows: memory where it may read, its variables, and how many variables and private arrays are in use
+-- what it knows: memory where it may read, its variables, and how many variables and private arrays
+-- are in use
 pub record Known : Type 0 where
   pub memory : Memory
   pub vars : List ℕ
@@ -88,25 +89,34 @@ module _ (st : Setting) where
 
   -- expressions have an element's scalars, now and as long as the variables in use are kept
   abbrev pub Values : List ℕ → Known → Ty → (List Bool → Option Formula) → Scalars → Type 0
-  Values ts x ty f s = (cs : List Bool) (e : Formula) → IsPosition ty cs [] → f cs ≡ Some e → (later : List ℕ) → Kept x.count x.vars later → value (ids_of st.device.launch st.item) ts later e ≡ Some (s cs [])
+  Values ts x ty f s =
+      (cs : List Bool) (e : Formula) → IsPosition ty cs [] → f cs ≡ Some e → (later : List ℕ)
+      → Kept x.count x.vars later
+      → value (ids_of st.device.launch st.item) ts later e ≡ Some (s cs [])
 
   -- a cell that the item is to write
   abbrev pub DueAt : ℕ → Mark → Type 0
-  DueAt a (Spot b i) = (i < st.device.lengths b) × (st.owners (spot_cell b i) ≡ Some st.item) × IsOpen st.locals a b
+  DueAt a (Spot b i) =
+      (i < st.device.lengths b) × (st.owners (spot_cell b i) ≡ Some st.item) × IsOpen st.locals a b
   DueAt a _ = ⊥
 
-  -- where a value of a type goes, private arrays below a being in use: each scalar has a cell of its own
+  -- where a value of a type goes, private arrays below a being in use: each scalar has a cell of
+  -- its own
   pub record Due (a : ℕ) (ty : Ty) (w : Marks) : Type 0 where
     pub at : (cs : List Bool) (q : List ℕ) → IsPosition ty cs q → DueAt a (w cs q)
-    pub choices : (cs ds : List Bool) (q p : List ℕ) → IsPosition ty cs q → IsPosition ty ds p → mark_cell (w cs q) ≡ mark_cell (w ds p) → cs ≡ ds
-    pub places : (cs ds : List Bool) (q p : List ℕ) → IsPosition ty cs q → IsPosition ty ds p → mark_cell (w cs q) ≡ mark_cell (w ds p) → q ≡ p
+    pub choices : (cs ds : List Bool) (q p : List ℕ) → IsPosition ty cs q → IsPosition ty ds p
+        → mark_cell (w cs q) ≡ mark_cell (w ds p) → cs ≡ ds
+    pub places : (cs ds : List Bool) (q p : List ℕ) → IsPosition ty cs q → IsPosition ty ds p
+        → mark_cell (w cs q) ≡ mark_cell (w ds p) → q ≡ p
 
   -- the cells of a value, and what they are to hold
   abbrev pub Targets : Ty → Marks → Scalars → Cell → ℕ → Type 0
-  Targets ty w s c v = (cs : List Bool) × (q : List ℕ) × IsPosition ty cs q × (c ≡ mark_cell (w cs q)) × (v ≡ s cs q)
+  Targets ty w s c v =
+      (cs : List Bool) × (q : List ℕ) × IsPosition ty cs q × (c ≡ mark_cell (w cs q)) × (v ≡ s cs q)
 
 -- deeds that write each target once, with its value, and besides scratch cells alone
-pub record Wrote (S : Cell → Type 0) (T : Cell → ℕ → Type 0) (m : Memory) (ds : List Deed) : Type 0 where
+pub record Wrote (S : Cell → Type 0) (T : Cell → ℕ → Type 0) (m : Memory)
+    (ds : List Deed) : Type 0 where
   pub once : (c : Cell) (v : ℕ) → T c v → write_count c ds ≡ 1
   pub holds : (c : Cell) (v : ℕ) → T c v → written ds m c ≡ v
   pub quiet : (c : Cell) → (S c → ⊥) → ((v : ℕ) → T c v → ⊥) → write_count c ds ≡ 0
@@ -118,20 +128,28 @@ abbrev pub no_target : Cell → ℕ → Type 0
 no_target c v = ⊥
 
 abbrev pub known_after : Known → List Deed → List ℕ → (count arrays : ℕ) → Known
-known_after x ds vars n a = record { memory = written ds x.memory; vars = vars; count = n; arrays = a }
+known_after x ds vars n a = record {
+  memory = written ds x.memory;
+  vars = vars;
+  count = n;
+  arrays = a;
+}
 
 -- the item goes through the code up to the rest, in whatever memory agrees with what it knows
-pub record Ran (st : Setting) (x : Known) (fs : List Frame) (code rest : Code) (n a : ℕ) (S : Cell → Type 0) (T : Cell → ℕ → Type 0) (G : Known → Type 0) : Type 0 where
+pub record Ran (st : Setting) (x : Known) (fs : List Frame) (code rest : Code) (n a : ℕ)
+    (S : Cell → Type 0) (T : Cell → ℕ → Type 0) (G : Known → Type 0) : Type 0 where
   pub after : List ℕ
   pub deeds : List Deed
-  pub goes : (m : Memory) → Agrees st.owners st.item x.memory m → Goes st.device st.item (item code fs x.vars) m deeds (item rest fs after)
+  pub goes : (m : Memory) → Agrees st.owners st.item x.memory m
+      → Goes st.device st.item (item code fs x.vars) m deeds (item rest fs after)
   pub later : Later st x (known_after x deeds after n a)
   pub allowed : Every (IsAllowed st.owners st.item) deeds
   pub wrote : Wrote S T x.memory deeds
   pub good : G (known_after x deeds after n a)
 
 -- targets and scratch cells of two stretches one after another
-pub record Apart (S1 : Cell → Type 0) (T1 : Cell → ℕ → Type 0) (S2 : Cell → Type 0) (T2 : Cell → ℕ → Type 0) (S : Cell → Type 0) (T : Cell → ℕ → Type 0) : Type 0 where
+pub record Apart (S1 : Cell → Type 0) (T1 : Cell → ℕ → Type 0) (S2 : Cell → Type 0)
+    (T2 : Cell → ℕ → Type 0) (S : Cell → Type 0) (T : Cell → ℕ → Type 0) : Type 0 where
   pub targets : (c : Cell) (v u : ℕ) → T1 c v → T2 c u → ⊥
   pub first_kept : (c : Cell) (v : ℕ) → T1 c v → S2 c → ⊥
   pub second_free : (c : Cell) (v : ℕ) → T2 c v → S1 c → ⊥

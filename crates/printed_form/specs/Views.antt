@@ -35,7 +35,9 @@ held_view (ArrayOf m t) n = λ cs is. Blank
 abbrev pub loaded_view : LoadSet → View → ℕ → View
 loaded_view Skip x n = x
 loaded_view Take x n = λ cs is. Held n
-loaded_view (Each a b) x n = by_side (λ is. Blank) (loaded_view a (λ cs. x (false ∷ cs)) n) (loaded_view b (λ cs. x (true ∷ cs)) (n + load_count a))
+loaded_view (Each a b) x n =
+    by_side (λ is. Blank) (loaded_view a (λ cs. x (false ∷ cs)) n)
+    (loaded_view b (λ cs. x (true ∷ cs)) (n + load_count a))
 
 -- the element at an index of whatever is by position
 abbrev pub view_at : Formula → View → View
@@ -57,19 +59,22 @@ abbrev pub same_formula : Formula → Formula → Bool
 same_formula (Number m) (Number n) = m == n
 same_formula (LoopVariable i) (LoopVariable j) = i == j
 same_formula (Size s) (Size t) = s == t
-same_formula (Binary o a b) (Binary p c d) = same_operator o p && same_formula a c && same_formula b d
+same_formula (Binary o a b) (Binary p c d) =
+    same_operator o p && same_formula a c && same_formula b d
 same_formula _ _ = false
 
 -- the row and the column of one index in rows of this length
 abbrev pub are_parts : (row length column : Formula) → Bool
-are_parts (Binary Div e n) m (Binary Rem f k) = same_formula e f && same_formula n m && same_formula k m
+are_parts (Binary Div e n) m (Binary Rem f k) =
+    same_formula e f && same_formula n m && same_formula k m
 are_parts _ _ _ = false
 
 abbrev pub dividend : Formula → Formula
 dividend (Binary o e n) = e
 dividend e = e
 
--- the index of a column in a row of this length; the row and the column of one index are that index again
+-- the index of a column in a row of this length; the row and the column of one index are that index
+-- again
 abbrev pub cell_in_rows : (row length column : Formula) → Formula
 cell_in_rows i m j = if are_parts i m j then dividend i else Binary Add (Binary Mul i m) j
 
@@ -81,7 +86,9 @@ module _ {A : Type 0} (spell : A → Formula) where
   operand_indices (Join m) (i ∷ p) = Binary Div i (spell m) ∷ Binary Rem i (spell m) ∷ p
   operand_indices Transpose (i ∷ j ∷ p) = j ∷ i ∷ p
   operand_indices (Slide s t) (i ∷ j ∷ p) = cell_in_rows i (Number t) j ∷ p
-  operand_indices (Pad l r n) (i ∷ p) = Binary Min (Binary Sub (Binary Max i (Number l)) (Number l)) (Binary Sub (spell n) (Number 1)) ∷ p
+  operand_indices (Pad l r n) (i ∷ p) =
+      Binary Min (Binary Sub (Binary Max i (Number l)) (Number l)) (Binary Sub (spell n) (Number 1))
+      ∷ p
   operand_indices _ p = p
 
   -- the indices in the result of indices in the operand, for join, split and transpose
@@ -103,7 +110,8 @@ module _ {A : Type 0} (spell : A → Formula) where
 
   -- a value laid in arrays, one a component, the first of which is this
   abbrev pub placed_view : (ℕ → Array) → ℕ → Shape A → View
-  placed_view form first shape = λ cs is. Read (form (first + component shape cs)) (index_in shape is)
+  placed_view form first shape =
+      λ cs is. Read (form (first + component shape cs)) (index_in shape is)
 
 -- the same of literal lengths
 abbrev pub laid_view : (ℕ → Array) → ℕ → Ty → View

@@ -1,4 +1,4 @@
-// Why a text could not be read.
+//! Why a text could not be read.
 
 ghost use Rattle.std.specs.Prelude.{◌≡◌};
 ghost use Rattle.readings.specs.declared.error.ReadError.TheVariants.{Memory};

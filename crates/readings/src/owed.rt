@@ -1,4 +1,4 @@
-// What a reading still owes.
+//! What a reading still owes.
 
 ghost use Rattle.std.specs.Prelude.{◌≡◌, ◌++◌, OnOk, IfOk, true};
 

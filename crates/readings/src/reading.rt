@@ -1,4 +1,4 @@
-// A reading: the notes, and what is still owed.
+//! A reading: the notes, and what is still owed.
 
 ghost use Rattle.std.specs.Prelude.{◌≡◌, IfOk, IfErr, map, []};
 ghost use Rattle.readings.specs.Readings.{Grammar, Reads};

@@ -1,4 +1,4 @@
-// Laws of what a rewrite keeps.
+//! Laws of what a rewrite keeps.
 
 ghost use Rattle.rewriting.specs.Laws.{PlacesHaveContexts, RewritesKeepTheWhole, KeepingGoesOn};
 

@@ -1,4 +1,4 @@
-// Why a rule doesn't rewrite a term.
+//! Why a rule doesn't rewrite a term.
 
 ghost use Rattle.std.specs.Prelude.{◌≡◌};
 ghost use Rattle.rewriting.specs.Conditions.{condition_name};

@@ -1,4 +1,4 @@
-// Rules that join two loops into one.
+//! Rules that join two loops into one.
 
 ghost use Rattle.std.specs.Prelude.{◌≡◌, MatchBool, IfOk};
 ghost use Rattle.lift_tree.specs.Tree.{tree_of, Let};

@@ -1,4 +1,4 @@
-// A let's value in its body's place, and a map that copies.
+//! A let's value in its body's place, and a map that copies.
 
 ghost use Rattle.std.specs.Prelude.{◌≡◌, MatchBool};
 ghost use Rattle.lift_tree.specs.Tree.{tree_of};

@@ -1,4 +1,4 @@
-// Laws of the definitions.
+//! Laws of the definitions.
 
 ghost use Rattle.rules_algebra.specs.Layouts.{PiecesHaveTheirLength};
 

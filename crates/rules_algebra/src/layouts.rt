@@ -1,4 +1,4 @@
-// Rules on join, split and transpose.
+//! Rules on join, split and transpose.
 
 ghost use Rattle.std.specs.Prelude.{◌≡◌, MatchBool, IfOk, true};
 ghost use Rattle.lift_tree.specs.Tree.{tree_of};

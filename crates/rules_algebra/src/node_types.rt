@@ -1,4 +1,4 @@
-// The types of nodes, and the lengths of arrays.
+//! The types of nodes, and the lengths of arrays.
 
 ghost use Rattle.std.specs.Prelude.{◌≡◌, option_map};
 ghost use Rattle.lift_tree.specs.Types.{ty_of};

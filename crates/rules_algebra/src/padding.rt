@@ -1,4 +1,4 @@
-// Rules that move a map over padding.
+//! Rules that move a map over padding.
 
 ghost use Rattle.std.specs.Prelude.{◌≡◌, MatchBool};
 ghost use Rattle.lift_tree.specs.Tree.{tree_of};

@@ -1,4 +1,4 @@
-// The parts of terms, moved out, and terms from their parts.
+//! The parts of terms, moved out, and terms from their parts.
 
 ghost use Rattle.std.specs.Prelude.{◌≡◌, IfOk};
 ghost use Rattle.lift_tree.specs.declared.term.MapKind.TheVariants.{Plain};

@@ -1,4 +1,4 @@
-// The rules by name.
+//! The rules by name.
 
 ghost use Rattle.std.specs.Prelude.{IfOk};
 ghost use Rattle.lift_tree.specs.Tree.{tree_of};

@@ -1,4 +1,4 @@
-// Laws of the rules.
+//! Laws of the rules.
 
 ghost use Rattle.rules_lower.specs.Laws.{LoweringKeeps};
 

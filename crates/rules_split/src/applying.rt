@@ -1,4 +1,4 @@
-// The rules applied.
+//! The rules applied.
 
 ghost use Rattle.std.specs.Prelude.{◌≡◌, ◌+◌, ◌-◌, Some, IfOk};
 ghost use Rattle.lift_tree.specs.Tree.{tree_of};

@@ -1,4 +1,4 @@
-// What the rules give.
+//! What the rules give.
 
 ghost use Rattle.std.specs.Prelude.{◌≡◌, IfOk};
 ghost use Rattle.scalar_ops.specs.Operators.{neutral};

@@ -1,4 +1,4 @@
-// The rules.
+//! The rules.
 
 /// A rule, with its number where it has one. In each, n is the length of the array xs.
 #[derive(Clone, Copy, PartialEq, Eq)]

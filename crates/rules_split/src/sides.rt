@@ -1,4 +1,4 @@
-// The rules' conditions.
+//! The rules' conditions.
 
 ghost use Rattle.std.specs.Prelude.{◌≡◌, ◌<◌, ◌≤◌, ◌%◌, ◌^◌, ◌&&◌, ◌+ℤ◌, [], pos, neg_ℤ, unsigned_abs, int_rem, nat_le, nat_eq};
 ghost use Rattle.size_arith.specs.Polynomial.{is_zero, minus, IsPoly};

@@ -1,4 +1,4 @@
-// Limits on the terms of a script.
+//! Limits on the terms of a script.
 
 use crate::running::{declared, has_lines, stops};
 use pattern_types::TypeLimit;

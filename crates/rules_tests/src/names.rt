@@ -1,4 +1,4 @@
-// The names that messages give.
+//! The names that messages give.
 
 use rewriting::Condition;
 use std::test::Fail;

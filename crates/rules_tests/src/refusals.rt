@@ -1,4 +1,4 @@
-// Steps that aren't made.
+//! Steps that aren't made.
 
 use crate::running::{declared, stops};
 use rewriting::Condition;

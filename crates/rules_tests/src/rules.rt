@@ -1,4 +1,4 @@
-// What each rule makes of a term.
+//! What each rule makes of a term.
 
 use crate::running::{becomes, declared, has_lines};
 use std::alloc::Global;

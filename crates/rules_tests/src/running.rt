@@ -1,4 +1,4 @@
-// Programs and scripts, run.
+//! Programs and scripts, run.
 
 ghost use Rattle.std.specs.Prelude.{IfOk, IfSome};
 ghost use Rattle.strategy_script.specs.Steps.{IsReady};

@@ -1,4 +1,4 @@
-// The text of a script.
+//! The text of a script.
 
 use rules_algebra::Rule as Algebra;
 use rules_lower::Rule as Lower;

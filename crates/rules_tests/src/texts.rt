@@ -1,4 +1,4 @@
-// Terms as texts.
+//! Terms as texts.
 
 use crate::running::{becomes, declared};
 use std::alloc::Global;

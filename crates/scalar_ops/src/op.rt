@@ -1,4 +1,4 @@
-// The operators and what they give.
+//! The operators and what they give.
 
 ghost use Rattle.std.specs.Prelude.{◌≡◌};
 ghost use Rattle.scalar_ops.specs.Operators;

@@ -1,4 +1,4 @@
-// Operators by which a list may be reduced in any grouping.
+//! Operators by which a list may be reduced in any grouping.
 
 ghost use Rattle.std.specs.Prelude.{◌≡◌};
 ghost use Rattle.scalar_ops.specs.Operators;

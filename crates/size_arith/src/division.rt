@@ -1,4 +1,4 @@
-// Exact division by a monomial.
+//! Exact division by a monomial.
 
 ghost use Rattle.std.specs.Prelude.{◌≡◌, ◌≤◌, ◌^◌, ◌↔◌, pos, unsigned_abs, int_rem, int_div, IsTrue, IfOk, false};
 ghost use Rattle.size_arith.specs.Polynomial.{Divides, AllDivide, AtMost, AllSmall, is_zero, less_powers, divided, quotient};

@@ -1,4 +1,4 @@
-// Sums of monomials, kept in order by one insertion.
+//! Sums of monomials, kept in order by one insertion.
 
 ghost use Rattle.std.specs.Prelude.{◌≡◌, ℤ, ◌+◌, ◌*◌, ◌≤◌, ◌<◌, ◌^◌, ◌++◌, [], length, take, drop, true, unsigned_abs, IfOk, max};
 ghost use Rattle.size_arith.specs.Polynomial.{place, put, added, times, is_zero, add_powers, total, degree, greatest, AllSmall, AllLow};

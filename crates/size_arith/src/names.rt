@@ -1,4 +1,4 @@
-// The names of sizes, and their values.
+//! The names of sizes, and their values.
 
 ghost use Rattle.std.specs.Prelude.{◌≡◌, ℕ, ◌≤◌, ◌<◌, ◌/◌, ◌%◌, [], ◌∷◌, ◌++◌, length, OnOk, OnErr, IfOk};
 ghost use Rattle.size_arith.specs.Ranges;

@@ -1,4 +1,4 @@
-// Sums and products of whole numbers, within 128 bits.
+//! Sums and products of whole numbers, within 128 bits.
 
 ghost use Rattle.std.specs.Prelude.{◌≡◌, ◌*◌, ◌≤◌, ◌^◌, ◌+ℤ◌, ◌*ℤ◌, pos, unsigned_abs};
 ghost use Rattle.size_arith.specs.Polynomial.{is_zero};

@@ -1,4 +1,4 @@
-// Polynomials over base names.
+//! Polynomials over base names.
 
 ghost use Rattle.std.specs.Prelude.{◌≡◌, ℕ, ℤ, ◌≤◌, ◌<◌, ◌+ℤ◌, ◌-ℤ◌, ◌*ℤ◌, pos, ◌≤ℤ◌, IfOk, IfSome, IsSome, IsTrue, ◌↔◌, List, [], unsigned_abs, length, slice_index_or, ◌*◌, ◌+◌};
 ghost use Rattle.size_arith.specs.Polynomial;

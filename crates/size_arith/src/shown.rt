@@ -1,4 +1,4 @@
-// Values of polynomials, and what is shown of them over the ranges of their names, without memory.
+//! Values of polynomials, and what is shown of them over the ranges of their names, without memory.
 
 ghost use Rattle.std.specs.Prelude.{◌≡◌, ℤ, ◌+◌, ◌-◌, ◌*◌, ◌≤◌, ◌<◌, ◌^◌, ◌≤ℤ◌, ◌↔◌, ◌∷◌, pos, neg_ℤ, length, take, unsigned_abs, IsTrue};
 ghost use Rattle.size_arith.specs.Polynomial.{product, total, value_at, number, AllSmall, AllLow, IsPoly};

@@ -1,4 +1,4 @@
-// The rules applied, each by its crate.
+//! The rules applied, each by its crate.
 
 ghost use Rattle.std.specs.Prelude.{IfOk};
 ghost use Rattle.lift_tree.specs.Renumbering.{IsRenumberable};

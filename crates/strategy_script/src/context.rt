@@ -1,4 +1,4 @@
-// What stands around a whole typed term.
+//! What stands around a whole typed term.
 
 ghost use Rattle.std.specs.Prelude.{◌≡◌, IfOk};
 ghost use Rattle.lift_tree.specs.Annotations.{annotation_of};

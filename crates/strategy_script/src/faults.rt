@@ -1,4 +1,4 @@
-// Why a script's step isn't made.
+//! Why a script's step isn't made.
 
 ghost use Rattle.std.specs.Prelude.{◌≡◌};
 ghost use Rattle.strategy_script.specs.declared.faults.Fault.TheVariants as fault;

@@ -1,4 +1,4 @@
-// Laws of scripts.
+//! Laws of scripts.
 
 ghost use Rattle.strategy_script.specs.Laws.{FewNodesAreReady};
 

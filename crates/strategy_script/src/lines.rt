@@ -1,4 +1,4 @@
-// Lines and their words.
+//! Lines and their words.
 
 ghost use Rattle.std.specs.Prelude.{◌≡◌, ◌<◌, ◌≤◌, ◌∷◌, length};
 ghost use Rattle.std.specs.List.{position_or_len, prefix_len};

@@ -1,4 +1,4 @@
-// Numbers and places.
+//! Numbers and places.
 
 ghost use Rattle.std.specs.Prelude.{◌≡◌, ◌<◌, ◌≤◌, ◌∷◌, IfOk, IfSome, length, option_map};
 ghost use Rattle.std.specs.List.{position_or_len, slice_split};

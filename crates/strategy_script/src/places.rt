@@ -1,4 +1,4 @@
-// What stands around the nodes of a term.
+//! What stands around the nodes of a term.
 
 ghost use Rattle.std.specs.Prelude.{◌≡◌, ◌∷◌, IfOk, OnOk, map, option_map};
 ghost use Rattle.lift_tree.specs.Annotations.{annotation_of};

@@ -1,4 +1,4 @@
-// The rules by their names.
+//! The rules by their names.
 
 ghost use Rattle.std.specs.Prelude.{◌≡◌};
 ghost use Rattle.strategy_script.specs.RuleNames.{algebra_name, lower_name, numbered_named, plain_named, rule_name, split_name};

@@ -1,4 +1,4 @@
-// Scripts, and why a text is none.
+//! Scripts, and why a text is none.
 
 ghost use Rattle.std.specs.Prelude.{◌≡◌};
 ghost use Rattle.strategy_script.specs.declared.script.ScriptNo.TheVariants.{Memory};

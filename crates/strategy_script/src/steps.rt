@@ -1,4 +1,4 @@
-// One step of a script.
+//! One step of a script.
 
 ghost use Rattle.std.specs.Prelude.{◌≡◌, ◌≢◌, Ok, Err, Some, None, IfOk, IfErr, OnOk};
 ghost use Rattle.lift_tree.specs.Annotations.{annotation_of, type_in};

@@ -1,4 +1,4 @@
-// Names in a term's text.
+//! Names in a term's text.
 
 ghost use Rattle.std.specs.Prelude.{◌≡◌, ◌≤◌, ◌+◌, ◌∷◌, ◌++◌, OnOk, decimal, length, map};
 ghost use Rattle.lift_tree.specs.Programs.{input_of};

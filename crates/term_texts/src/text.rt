@@ -1,4 +1,4 @@
-// Terms as texts.
+//! Terms as texts.
 
 ghost use Rattle.std.specs.Prelude.{◌≡◌, ◌+◌, ◌++◌, IfErr, IfOk, OnOk, codes};
 ghost use Rattle.lift_tree.specs.Tree.{tree_of};

@@ -12,9 +12,9 @@ use Rattle.index_simplify.specs.Operations.{simple}
 use Rattle.index_simplify.specs.Ranges.{AreMultiples}
 use Rattle.index_simplify.specs.Simplified.{AreDeclared}
 use Rattle.index_simplify.specs.Promises.{ExpressionsAreSimplified}
-use Rattle.simple_spelling.specs.Formulas.{formula_nodes, simple_formula}
-use Rattle.simple_spelling.specs.Redundant.{IsIrredundant}
-use Rattle.simple_spelling.specs.Laws.{IsNoLarger, SimpleFormulasAreIrredundant, SimpleFormulasAreNoLarger}
+use Rattle.tidy_indices.specs.Formulas.{formula_nodes, simple_formula}
+use Rattle.tidy_indices.specs.Redundant.{IsIrredundant}
+use Rattle.tidy_indices.specs.Spelling.{IsNoLarger, SimpleFormulasAreIrredundant, SimpleFormulasAreNoLarger}
 use Rattle.tidy_indices.specs.declared.spans.Span.{Span}
 use Rattle.tidy_indices.specs.Reading.{reading, IsIndexFormula}
 use Rattle.tidy_indices.specs.Spans.{span_of}

@@ -1,3 +1,6 @@
+mod Sizes
+mod Shapes
+mod Values
 mod Known
 mod Readings
 mod Worths

@@ -1,6 +1,6 @@
 -- By the laws that know of no loop, an expression keeps its value on words, also where something in it wraps: one lemma a law.
 use Rattle.std.proofs.Common.{◌≡◌, ◌≢◌, ℕ, zero, suc, ◌+◌, ◌-◌, ◌*◌, ◌/◌, ◌%◌, ◌^◌, ◌<◌, ◌≤◌, Bool, true, false, Option, Some, None, List, [], refl, sym, ap, ◌∙◌, subst, ⊎_elim, arith}
-use Rattle.std.specs.Prelude.{◌==◌, ◌&&◌, ◌||◌, nat_lt, nat_le, is_some, unwrap_or, if◌then◌else◌, slice_get, slice_index, replicate}
+use Rattle.std.specs.Prelude.{◌==◌, ◌&&◌, ◌||◌, nat_lt, nat_le, is_some, unwrap_or, option_map, if◌then◌else◌, slice_get, slice_index, replicate}
 use Rattle.std.proofs.Math.Nat.{mod-lt, mod-le, mod-eq_of_lt, div-le_self, div-add-mod, mul_assoc, mul_comm, div-one, mod-one}
 use Rattle.std.proofs.lemmas.Bool.{and_parts, cases_Bool, eqb-true, eq-eqb, ltb-true, leb-true}
 use Rattle.index_expr.specs.declared.operation.Operation.{Operation}
@@ -16,9 +16,13 @@ use Rattle.index_simplify.specs.declared.law.Law.{Law}
 use Rattle.index_simplify.specs.declared.law.Law.TheVariants as law
 use Rattle.index_simplify.specs.declared.law.TheConstants.{LAWS}
 use Rattle.index_simplify.specs.Literals.{word, difference, computed_from, computed_with, computed}
-use Rattle.index_simplify.specs.Tests.{same_operation, same_variable, is_number, same_size, same, is_above, is_below, is_begin, is_cell, is_quotient, is_rounded, are_parts, is_known_multiple, is_multiple, is_part_of, is_base, is_part_base, is_whole_size, is_scaled_size}
+use Rattle.index_simplify.specs.Tests.{same_operation, same_variable, is_number, same_size, same, is_above, is_at_least, is_below, is_begin, is_cell, is_quotient, is_rounded, are_parts, is_known_multiple, is_multiple, is_part_of, is_base, is_part_base, is_whole_size, is_scaled_size}
 use Rattle.index_simplify.specs.Laws.{first_part, scaled, applies, applied}
-use Rattle.index_simplify.specs.Operations.{first_law, by_law, simple}
+use Rattle.index_simplify.specs.Operations.{first_law, by_law, tabled, recut, simple}
+use Rattle.index_simplify.specs.Factors.{over}
+use Rattle.index_simplify.specs.Below.{is_natural, is_passed, is_quotient_below, is_remainder_below, is_digit_below, rows_within, is_sum_below, stays_below}
+use Rattle.index_simplify.specs.Cells as cells
+use Rattle.index_simplify.specs.Cells.{natural_over, cell_over, sum_over, sum_modulo, rows_around, remainder_over, remainder_modulo, quotient_of, remainder_of, part_of, parted_operation, parted}
 use Rattle.index_simplify.specs.Ranges.{AreMultiples}
 use Rattle.index_simplify.specs.Simplified.{HasWordLiterals}
 use Rattle.index_simplify.specs.Promises.{SameOperationsAreEqual}
@@ -271,6 +275,10 @@ only : (b : Bool) → (b || false) ≡ true → b ≡ true
 only true h = refl
 only false h = absurd (cc h)
 
+both_of : (a b : Bool) → (if a then b else false) ≡ true → (a ≡ true) × (b ≡ true)
+both_of true b h = (refl, h)
+both_of false b h = absurd (cc h)
+
 -- by what is known of sizes alone
 module _ (facts : Known) (multiples : List ℕ) where
   abbrev Sizes : PlainRanges
@@ -286,6 +294,90 @@ module _ (facts : Known) (multiples : List ℕ) where
   not_cell : (e n : Expression) → AreWide e → HasWordLiterals n → is_cell Sizes e n ≡ true → ⊥
   not_cell (Binary Sum begin column) n wide lt h = not_below column n (λ turns w. (wide turns w).1) lt (and_parts (is_begin begin n) (is_below Sizes column n) h).1
   not_cell _ n wide lt h = absurd (cc h)
+
+  -- ---- so no law of what stays below a length is of any operation
+  unless : (b : Bool) (x : Option Expression) → (b ≡ true → ⊥) → (if b then x else None) ≡ None
+  unless true x h = absurd (h refl)
+  unless false x h = refl
+
+  no_quotient : (a d n : Expression) → is_quotient_below Sizes a d n ≡ true → ⊥
+  no_quotient (Variable k l g) d n h = absurd (cc h)
+  no_quotient _ d n h = absurd (cc h)
+
+  no_remainder : (a d n : Expression) → is_remainder_below Sizes a d n ≡ true → ⊥
+  no_remainder a (Literal d) n h =
+      let front = and_parts (nat_lt 0 d && false && is_natural a) (is_at_least n d) h in
+      let rest = and_parts (nat_lt 0 d && false) (is_natural a) front.0 in
+      absurd (cc (and_parts (nat_lt 0 d) false rest.0).1)
+  no_remainder a _ n h = absurd (cc h)
+
+  no_digit : (e n : Expression) → AreWide e → HasWordLiterals n → is_digit_below Sizes e n ≡ true → ⊥
+  no_digit (Variable k l g) n wide y h = not_below (Variable k l g) n wide y h
+  no_digit (Binary Quotient a b) n wide y h = no_quotient a b n h
+  no_digit (Binary Remainder a b) n wide y h = no_remainder a b n h
+  no_digit _ n wide y h = absurd (cc h)
+
+  no_sum : (begin column n : Expression) → AreWide column → HasWordLiterals begin → is_sum_below Sizes begin column n ≡ true → ⊥
+  no_sum (Binary Product row width) column n wide x h =
+      let none : rows_within Sizes width column n ≡ None = unless (is_digit_below Sizes column width) (over n width) (no_digit column width wide x.1) in
+      let passed : is_passed (λ q. is_digit_below Sizes row q) None ≡ true = subst (λ o. is_passed (λ q. is_digit_below Sizes row q) o ≡ true) none h in
+      absurd (cc passed)
+  no_sum _ column n wide x h = absurd (cc h)
+
+  stays_nowhere : (e n : Expression) → AreWide e → HasWordLiterals e → HasWordLiterals n → stays_below Sizes e n ≡ true → ⊥
+  stays_nowhere (Binary Sum begin column) n wide x y h = no_sum begin column n (λ turns w. (wide turns w).1) x.0 h
+  stays_nowhere e n wide x y h = no_digit e n wide y h
+
+  no_cell : (row width column : Expression) → AreWide column → HasWordLiterals column → HasWordLiterals width → cells.is_cell Sizes row width column ≡ true → ⊥
+  no_cell row width column wide x y h = stays_nowhere column width wide x y (both_of (is_natural row) (stays_below Sizes column width) h).1
+
+  no_sum_over : (begin column n : Expression) → AreWide column → HasWordLiterals begin → HasWordLiterals column → sum_over Sizes begin column n ≡ None
+  no_sum_over (Binary Product row width) column n wide x y = unless (cells.is_cell Sizes row width column) (cell_over row width column n) (no_cell row width column wide y x.1)
+  no_sum_over _ column n wide x y = refl
+
+  no_sum_modulo : (begin column n : Expression) → AreWide column → HasWordLiterals begin → HasWordLiterals column → sum_modulo Sizes begin column n ≡ None
+  no_sum_modulo (Binary Product row width) column n wide x y = unless (is_natural n && cells.is_cell Sizes row width column) _ (λ h. no_cell row width column wide y x.1 (and_parts (is_natural n) (cells.is_cell Sizes row width column) h).1)
+  no_sum_modulo _ column n wide x y = refl
+
+  no_rows : (begin column m n : Expression) → AreWide column → HasWordLiterals begin → HasWordLiterals column → rows_around Sizes begin column m n ≡ None
+  no_rows (Binary Product row width) column m n wide x y = unless (same width n && cells.is_cell Sizes row width column) (natural_over m width) (λ h. no_cell row width column wide y x.1 (and_parts (same width n) (cells.is_cell Sizes row width column) h).1)
+  no_rows _ column m n wide x y = refl
+
+  no_remainder_over : (e m n : Expression) → AreWide e → HasWordLiterals e → remainder_over Sizes e m n ≡ None
+  no_remainder_over (Binary Sum begin column) m n wide x = ap (option_map (λ rows. Binary Remainder (first_part begin) rows)) (no_rows begin column m n (λ turns w. (wide turns w).1) x.0 x.1)
+  no_remainder_over _ m n wide x = refl
+
+  no_remainder_modulo : (e m n : Expression) → AreWide e → HasWordLiterals e → remainder_modulo Sizes e m n ≡ None
+  no_remainder_modulo (Binary Sum begin column) m n wide x = ap (option_map (λ rows. column)) (no_rows begin column m n (λ turns w. (wide turns w).1) x.0 x.1)
+  no_remainder_modulo _ m n wide x = refl
+
+  no_quotient_of : (a n : Expression) → AreWide a → HasWordLiterals a → quotient_of Sizes a n ≡ None
+  no_quotient_of (Binary Sum begin column) n wide x = no_sum_over begin column n (λ turns w. (wide turns w).1) x.0 x.1
+  no_quotient_of (Binary Remainder e m) n wide x = no_remainder_over e m n (λ turns w. (wide turns w).0) x.0
+  no_quotient_of _ n wide x = refl
+
+  no_remainder_of : (a n : Expression) → AreWide a → HasWordLiterals a → remainder_of Sizes a n ≡ None
+  no_remainder_of (Binary Sum begin column) n wide x = no_sum_modulo begin column n (λ turns w. (wide turns w).1) x.0 x.1
+  no_remainder_of (Binary Remainder e m) n wide x = no_remainder_modulo e m n (λ turns w. (wide turns w).0) x.0
+  no_remainder_of _ n wide x = refl
+
+  otherwise : (b : Bool) (x y : Option Expression) → (b ≡ true → ⊥) → y ≡ None → (if b then x else y) ≡ None
+  otherwise true x y h e = absurd (h refl)
+  otherwise false x y h e = e
+
+  no_part : (o : Operation) (a b : Expression) → AreWide a → HasWordLiterals a → HasWordLiterals b → part_of Sizes o a b ≡ None
+  no_part Quotient a b wide x y = otherwise (stays_below Sizes a b) (Some (Literal 0)) (quotient_of Sizes a b) (stays_nowhere a b wide x y) (no_quotient_of a b wide x)
+  no_part Remainder a b wide x y = otherwise (stays_below Sizes a b) (Some a) (remainder_of Sizes a b) (stays_nowhere a b wide x y) (no_remainder_of a b wide x)
+  no_part _ a b wide x y = refl
+
+  parted_same : (e : Expression) → AreWide e → HasWordLiterals e → parted Sizes e ≡ e
+  parted_same (Variable k l g) wide h = refl
+  parted_same (Literal n) wide h = refl
+  parted_same (Size k) wide h = refl
+  parted_same (Binary o a b) wide h =
+      ap (λ z. parted_operation Sizes o z (parted Sizes b)) (parted_same a (λ turns w. (wide turns w).0) h.0)
+      ∙ ap (parted_operation Sizes o a) (parted_same b (λ turns w. (wide turns w).1) h.1)
+      ∙ ap (λ z. unwrap_or z (Binary o a b)) (no_part o a b (λ turns w. (wide turns w).0) h.0 h.1)
 
   module _ (ids : Ids) (turns variables : List ℕ) (sizes_fit : AreWords ids.sizes) (turns_fit : AreWords turns) (all : AreMultiples Sizes ids.sizes) where
     abbrev IsWorth : Expression → ℕ → Type 0
@@ -468,25 +560,48 @@ module _ (facts : Known) (multiples : List ℕ) where
     law_worth law.ColumnOfCell o a b n x y wide h w = absurd (not_cell a b wide y (and_parts (same_operation o Remainder) (is_cell Sizes a b) h).1)
     law_worth law.CellOfParts o a b n x y wide h w = parts_worth o a b n x h w
 
-    simple_wide : (e : Expression) → AreWide e → AreWide (simple Sizes e)
-    simple_wide e wide turns fit = ((facts.simplified Sizes e).stands ids.sizes turns (record { loops = λ k n h. absurd (cc h); multiples = all; own = wide turns fit })).own
+    tabled_wide : (e : Expression) → AreWide e → AreWide (tabled Sizes e)
+    tabled_wide e wide turns fit = ((facts.tabled Sizes e).stands ids.sizes turns (record { loops = λ k n h. absurd (cc h); multiples = all; own = wide turns fit })).own
 
     by_worth : (o : Operation) (a b : Expression) (n : ℕ) (found : Option Law) → first_law Sizes o a b LAWS ≡ found → HasWordLiterals a → HasWordLiterals b → AreWide a → IsWorth (Binary o a b) n → IsWorth (by_law found o a b) n
     by_worth o a b n None e x y wide w = w
     by_worth o a b n (Some l) e x y wide w = law_worth l o a b n x y wide (facts.found Sizes o a b LAWS l e) w
 
-    -- on words a simplified expression has the expression's value
-    pub simple_worth : (e : Expression) (n : ℕ) → HasWordLiterals e → AreWide e → IsWorth e n → IsWorth (simple Sizes e) n
-    simple_worth (Variable k l g) n h wide w = w
-    simple_worth (Literal m) n h wide w = w
-    simple_worth (Size k) n h wide w = w
-    simple_worth (Binary o a b) n h wide w =
+    -- on words what the table makes of an expression has its value
+    tabled_worth : (e : Expression) (n : ℕ) → HasWordLiterals e → AreWide e → IsWorth e n → IsWorth (tabled Sizes e) n
+    tabled_worth (Variable k l g) n h wide w = w
+    tabled_worth (Literal m) n h wide w = w
+    tabled_worth (Size k) n h wide w = w
+    tabled_worth (Binary o a b) n h wide w =
         let left : AreWide a = λ turns fit. (wide turns fit).0 in
         let right : AreWide b = λ turns fit. (wide turns fit).1 in
         let q = parts o (index_formula a) (index_formula b) n w in
-        let x = simple_worth a q.first h.0 left q.first_is in
-        let y = simple_worth b q.second h.1 right q.second_is in
-        let both_are = joined o (simple Sizes a) (simple Sizes b) q.first q.second x y q.is_result.divisor in
-        by_worth o (simple Sizes a) (simple Sizes b) n (first_law Sizes o (simple Sizes a) (simple Sizes b) LAWS) refl
-        ((facts.simplified Sizes a).literals h.0) ((facts.simplified Sizes b).literals h.1) (simple_wide a left)
-        (subst (IsWorth (Binary o (simple Sizes a) (simple Sizes b))) (sym q.is_result.result) both_are)
+        let x = tabled_worth a q.first h.0 left q.first_is in
+        let y = tabled_worth b q.second h.1 right q.second_is in
+        let both_are = joined o (tabled Sizes a) (tabled Sizes b) q.first q.second x y q.is_result.divisor in
+        by_worth o (tabled Sizes a) (tabled Sizes b) n (first_law Sizes o (tabled Sizes a) (tabled Sizes b) LAWS) refl
+        ((facts.tabled Sizes a).literals h.0) ((facts.tabled Sizes b).literals h.1) (tabled_wide a left)
+        (subst (IsWorth (Binary o (tabled Sizes a) (tabled Sizes b))) (sym q.is_result.result) both_are)
+
+    -- cut into parts it is as it was
+    recut_worth : (e : Expression) (n : ℕ) → HasWordLiterals e → AreWide e → IsWorth e n → IsWorth (recut Sizes e) n
+    recut_worth e n h wide w = subst (λ z. IsWorth (tabled Sizes z) n) (sym (parted_same e wide h)) (tabled_worth e n h wide w)
+
+    recut_literals : (e : Expression) → HasWordLiterals e → AreWide e → HasWordLiterals (recut Sizes e)
+    recut_literals e h wide = subst (λ z. HasWordLiterals (tabled Sizes z)) (sym (parted_same e wide h)) ((facts.tabled Sizes e).literals h)
+
+    recut_wide : (e : Expression) → HasWordLiterals e → AreWide e → AreWide (recut Sizes e)
+    recut_wide e h wide = subst (λ z. AreWide (tabled Sizes z)) (sym (parted_same e wide h)) (tabled_wide e wide)
+
+    -- on words a simplified expression has the expression's value
+    pub simple_worth : (e : Expression) (n : ℕ) → HasWordLiterals e → AreWide e → IsWorth e n → IsWorth (simple Sizes e) n
+    simple_worth e n h wide w =
+        let first : Expression = tabled Sizes e in
+        let first_literals : HasWordLiterals first = (facts.tabled Sizes e).literals h in
+        let first_wide : AreWide first = tabled_wide e wide in
+        let second : Expression = recut Sizes first in
+        let second_literals : HasWordLiterals second = recut_literals first first_literals first_wide in
+        let second_wide : AreWide second = recut_wide first first_literals first_wide in
+        let third : Expression = recut Sizes second in
+        recut_worth third n (recut_literals second second_literals second_wide) (recut_wide second second_literals second_wide)
+        (recut_worth second n second_literals second_wide (recut_worth first n first_literals first_wide (tabled_worth e n h wide w)))

@@ -5,9 +5,9 @@ use Rattle.size_arith.specs.Ranges.{AreNames, Admissible, sizes_at}
 use Rattle.index_expr.specs.Expression.{Expression, short_nodes}
 use Rattle.kernel_tree.specs.Formula.{Formula, Ids, value, bound_value}
 use Rattle.index_simplify.specs.Simplified.{AreDeclared}
-use Rattle.simple_spelling.specs.Formulas.{formula_nodes}
-use Rattle.simple_spelling.specs.Redundant.{IsIrredundant}
-use Rattle.simple_spelling.specs.Laws.{IsNoLarger}
+use Rattle.tidy_indices.specs.Formulas.{formula_nodes}
+use Rattle.tidy_indices.specs.Redundant.{IsIrredundant}
+use Rattle.tidy_indices.specs.Spelling.{IsNoLarger}
 use Rattle.tidy_indices.specs.Reading.{reading, IsIndexFormula}
 use Rattle.tidy_indices.specs.Places.{ranges_outside}
 use Rattle.tidy_indices.specs.Tidy.{tidy_formula}

@@ -1,3 +1,6 @@
+pub mod Formulas
+pub mod Redundant
+pub mod Spelling
 pub mod Reading
 pub mod Spans
 pub mod Places

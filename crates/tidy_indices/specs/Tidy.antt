@@ -4,7 +4,7 @@ use Rattle.size_arith.specs.declared.names.Name.{Name}
 use Rattle.index_expr.specs.Expression.{Expression}
 use Rattle.kernel_tree.specs.Formula.{Formula}
 use Rattle.index_simplify.specs.PlainRanges.{PlainRanges}
-use Rattle.simple_spelling.specs.Formulas.{simple_formula}
+use Rattle.tidy_indices.specs.Formulas.{simple_formula}
 use Rattle.tidy_indices.specs.declared.spans.Span.{Span}
 use Rattle.tidy_indices.specs.Reading.{reading}
 use Rattle.tidy_indices.specs.Spans.{span_of}

@@ -1,5 +1,5 @@
-//! Tidy indices: what stands for the indices and bounds of a kernel, with the same values and no
-//! more nodes.
+//! Simplified index expressions in a kernel: how they are spelled, and what stands for the indices
+//! and bounds of a kernel, with the same values and no more nodes.
 #![tactic(auto)]
 
 pub mod copies;
@@ -7,6 +7,8 @@ pub mod laws;
 pub mod places;
 pub mod reading;
 pub mod spans;
+pub mod spelling;
 
 pub use copies::copied;
 pub use places::Place;
+pub use spelling::spell_simplified;

@@ -5,17 +5,17 @@ ghost use Rattle.index_expr.specs.Expression.{expression_of};
 ghost use Rattle.kernel_tree.specs.Tree.{formula_of};
 ghost use Rattle.index_simplify.specs.PlainRanges.{ranges_of};
 ghost use Rattle.tidy_indices.specs.Places as spec;
-ghost use Rattle.simple_spelling.specs.Formulas.{simple_formula};
+ghost use Rattle.tidy_indices.specs.Formulas.{simple_formula};
 ghost use Rattle.tidy_indices.specs.Spans.{span_of};
 ghost use Rattle.tidy_indices.specs.Tidy as tidy;
 
 use crate::copies::copied;
 use crate::reading::reading;
 use crate::spans::span_of;
+use crate::spelling::spell_simplified;
 use index_expr::{Index, Operation};
 use index_simplify::{Ranges, simplified};
 use kernel_tree::tree::Expr;
-use simple_spelling::spell_simplified;
 use size_arith::{Name, Names};
 use std::alloc::{AllocError, Global};
 

@@ -1,4 +1,4 @@
-// Alternatives of sizes and inputs, and of what a number stands for.
+//! Alternatives of sizes and inputs, and of what a number stands for.
 
 ghost use Rattle.std.specs.Prelude.{◌≡◌, Some};
 ghost use Rattle.readings.specs.Given.{Gave};

@@ -1,4 +1,4 @@
-// Alternatives of terms.
+//! Alternatives of terms.
 
 ghost use Rattle.std.specs.Prelude.{◌<◌, Some};
 ghost use Rattle.readings.specs.Given.{Gave};

@@ -1,4 +1,4 @@
-// Alternatives of types, and of the lengths in them.
+//! Alternatives of types, and of the lengths in them.
 
 ghost use Rattle.std.specs.Prelude.{◌≤◌, Some};
 ghost use Rattle.readings.specs.Given.{Gave};

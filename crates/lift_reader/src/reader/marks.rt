@@ -1,4 +1,4 @@
-// What the marks of a reading note.
+//! What the marks of a reading note.
 
 ghost use Rattle.std.specs.Prelude.{◌≡◌, IfOk};
 ghost use Rattle.readings.specs.Given.{Noticed};

@@ -1,4 +1,4 @@
-// What names mean where they stand.
+//! What names mean where they stand.
 
 ghost use Rattle.std.specs.Prelude.{◌≡◌, IfOk, position, bytes_eq};
 ghost use Rattle.readings.specs.Given.{Gave};

@@ -16,7 +16,7 @@ buffered-requires c = c.in_ok-mapped.ensures.is
 pub emitted-requires : goal.emitted-requires
 emitted-requires c = record {
   lowered = c.in_ok-lowered.ensures.is;
-  accepted = accepted_term c.args.last.now c.requires c.has_word_steps.ensures c.forms_have_words.ensures c.in_ok-mapped.ensures.legal c.in_ok-lowered.ensures.within;
+  accepted = accepted_term c.args.last.now c.requires c.forms_have_words.ensures c.in_ok-mapped.ensures.legal c.in_ok-lowered.ensures.within;
 }
 
 pub returns-clause-compiles : goal.returns-clause-compiles
@@ -29,7 +29,7 @@ returns-clause-laid_out c =
     let p = program_of last.program in
     let t = tree_of last.term in
     let n = annotation_of last.types in
-    let legal = legal_term last c.requires c.has_word_steps.ensures c.in_ok-mapped.ensures.legal in
+    let legal = legal_term last c.requires c.forms_have_words.ensures c.in_ok-mapped.ensures.legal in
     laid_out p t n (kernel_of c.in_ok-kernel.kernel) legal (c.legal_terms_can_be_lowered.ensures p t n legal c.requires.copies) c.in_ok-kernel.ensures.outputs c.has_few_outputs.ensures
 
 pub returns-in_err-mapped-clause-refused : goal.returns-in_err-mapped-clause-refused

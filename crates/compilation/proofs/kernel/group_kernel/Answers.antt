@@ -9,7 +9,7 @@ use Rattle.kernel_tree.specs.declared.tree.Kernel.{Kernel as EmittedKernel}
 use Rattle.lowering.specs.Terms.{term_of}
 use Rattle.kernel_emit.specs.Emittable.{declared_of}
 use Rattle.group_emit.specs.Emittable.{fence_with}
-use Rattle.printable_groups.specs.Laws.{kernel_of_groups}
+use Rattle.kernel_premises.specs.Groups.{kernel_of_groups}
 use Rattle.strategy_script.specs.Steps.{state_of}
 use Rattle.compilation.specs.Compiled.{IsPlainFor}
 use Rattle.compilation.proofs.Emitting.{group_emittable_lowered, groups_lowered, over_groups, plain_groups}

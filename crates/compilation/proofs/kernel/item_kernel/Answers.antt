@@ -5,7 +5,7 @@ use Rattle.lift_tree.specs.Annotations.{annotation_of}
 use Rattle.lift_tree.specs.Programs.{program_of}
 use Rattle.lift_tree.specs.Tree.{tree_of}
 use Rattle.lift_tree.specs.Typing.{declared_by}
-use Rattle.nest_premises.specs.Kind.{nest_kind}
+use Rattle.lowered_tree.specs.Kind.{nest_kind}
 use Rattle.compilation.proofs.Emitting.{by_items, emittable, emittable_lowered, kernel_lowered}
 
 pub emit-requires : goal.emit-requires

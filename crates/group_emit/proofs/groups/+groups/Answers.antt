@@ -1,6 +1,6 @@
 use Rattle.std.proofs.Common.{◌≡◌, IfOk, ap, subst₂}
 use Rattle.lift_ir.specs.Terms.{Map}
-use Rattle.group_terms.specs.Printer.{print_groups}
+use Rattle.group_form.specs.Printer.{print_groups}
 use Rattle.array_views.specs.Views.{view_in}
 use Rattle.lowering.specs.Terms.{kind_of, load_set_of, term_of}
 use Rattle.kernel_emit.specs.Blocks.{code_in}

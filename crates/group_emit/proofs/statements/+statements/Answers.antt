@@ -1,6 +1,6 @@
 use Rattle.std.proofs.Common.{◌≡◌, List, OnOk, ap, subst, subst₂}
 use Rattle.size_arith.specs.declared.poly.Monomial.{Monomial}
-use Rattle.group_terms.specs.Printer.{print_group_written}
+use Rattle.group_form.specs.Printer.{print_group_written}
 use Rattle.array_views.specs.Views.{view_in}
 use Rattle.lowering.specs.Terms.{kind_of, load_set_of, term_of}
 use Rattle.kernel_emit.specs.Blocks.{code_in}

@@ -1,5 +1,5 @@
 use Rattle.std.proofs.Common.{◌≡◌, ◌++◌, drop}
-use Rattle.group_terms.specs.Named.{components_of}
+use Rattle.group_form.specs.Named.{components_of}
 use Rattle.phase_plan.proofs.component.add_components.Given as goal
 
 abbrev pub invariant-loop-way : goal.invariant-loop-way

@@ -1,5 +1,5 @@
 use Rattle.std.proofs.Common.{◌≡◌, ◌++◌, drop}
-use Rattle.group_terms.specs.Named.{ways}
+use Rattle.group_form.specs.Named.{ways}
 use Rattle.phase_plan.proofs.component.add_nearest.Given as goal
 
 abbrev pub invariant-loop-component : goal.invariant-loop-component

@@ -1,5 +1,5 @@
 use Rattle.std.proofs.Common.{◌≡◌, ◌++◌, drop}
-use Rattle.group_terms.specs.Named.{outside}
+use Rattle.group_form.specs.Named.{outside}
 use Rattle.phase_plan.proofs.component.add_outside.Given as goal
 
 abbrev pub invariant-loop-component : goal.invariant-loop-component

@@ -1,6 +1,6 @@
 use Rattle.std.proofs.Common.{◌≡◌, List, Bool, false, true, ◌∷◌, ◌++◌, sym, ap, ◌∙◌}
 use Rattle.std.specs.Prelude.{map}
-use Rattle.group_terms.specs.Named as spec
+use Rattle.group_form.specs.Named as spec
 use Rattle.lowering.specs.Terms.{load_set_of}
 use Rattle.phase_plan.proofs.named.+taken.Goals as goal
 

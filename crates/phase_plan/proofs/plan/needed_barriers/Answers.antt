@@ -4,7 +4,7 @@ use Rattle.barrier_placement.specs.declared.touches.Touch.{Touch}
 use Rattle.barrier_placement.specs.Fencing.{fence}
 use Rattle.barrier_placement.specs.Needed.{Needed}
 use Rattle.lowering.specs.Terms.{term_of}
-use Rattle.group_terms.specs.Theorem.{CanBePlaced}
+use Rattle.group_form.specs.Theorem.{CanBePlaced}
 use Rattle.phase_plan.proofs.plan.needed_barriers.Goals as goal
 
 pub place-requires-clause-some : goal.place-requires-clause-some

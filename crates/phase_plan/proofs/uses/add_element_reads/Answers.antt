@@ -1,6 +1,6 @@
 use Rattle.std.proofs.Common.{◌+◌, ◌++◌, List, Bool, ap, ◌∙◌, drop}
-use Rattle.group_terms.specs.Origins.{at_way}
-use Rattle.group_terms.specs.Uses.{reads_of, element_reads, touches_in}
+use Rattle.group_form.specs.Origins.{at_way}
+use Rattle.group_form.specs.Uses.{reads_of, element_reads, touches_in}
 use Rattle.phase_plan.specs.Origins.{origin_in}
 use Rattle.phase_plan.proofs.Loops.{stepped}
 use Rattle.phase_plan.proofs.Touching.{touched_append}

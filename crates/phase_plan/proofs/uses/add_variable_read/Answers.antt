@@ -1,7 +1,7 @@
 use Rattle.std.proofs.Common.{◌≡◌, [], ◌++◌, sym, ap, ◌∙◌}
 use Rattle.std.proofs.lemmas.List.{append-nil}
-use Rattle.group_terms.specs.Origins.{at_way, bent}
-use Rattle.group_terms.specs.Uses.{reads_of, touches_in}
+use Rattle.group_form.specs.Origins.{at_way, bent}
+use Rattle.group_form.specs.Uses.{reads_of, touches_in}
 use Rattle.phase_plan.specs.Origins.{origins_in}
 use Rattle.phase_plan.proofs.Touching.{nowhere}
 use Rattle.phase_plan.proofs.uses.add_variable_read.Goals as goal

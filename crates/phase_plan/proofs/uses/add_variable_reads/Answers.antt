@@ -1,7 +1,7 @@
 use Rattle.std.proofs.Common.{◌+◌, ◌++◌, List, drop}
-use Rattle.group_terms.specs.Named.{Component}
-use Rattle.group_terms.specs.Origins.{at_way, bent}
-use Rattle.group_terms.specs.Uses.{reads_of, variable_reads, touches_in}
+use Rattle.group_form.specs.Named.{Component}
+use Rattle.group_form.specs.Origins.{at_way, bent}
+use Rattle.group_form.specs.Uses.{reads_of, variable_reads, touches_in}
 use Rattle.phase_plan.specs.Origins.{origins_in}
 use Rattle.phase_plan.proofs.Loops.{stepped}
 use Rattle.phase_plan.proofs.Touching.{touched_append}

@@ -1,5 +1,5 @@
 use Rattle.std.proofs.Common.{◌≡◌, ◌++◌, drop}
-use Rattle.group_terms.specs.Uses.{touches_in, variable_reads}
+use Rattle.group_form.specs.Uses.{touches_in, variable_reads}
 use Rattle.phase_plan.specs.Origins.{origins_in}
 use Rattle.phase_plan.proofs.uses.add_variable_reads.Given as goal
 

@@ -1,6 +1,6 @@
 use Rattle.std.proofs.Common.{◌∷◌, [], ◌++◌, ◌-◌, sym, ap, ◌∙◌, arith, true}
 use Rattle.std.proofs.lemmas.List.{append_assoc}
-use Rattle.group_terms.specs.Uses.{touches_in, writes_from, touch_of}
+use Rattle.group_form.specs.Uses.{touches_in, writes_from, touch_of}
 use Rattle.phase_plan.proofs.Touching.{last_first}
 use Rattle.phase_plan.proofs.uses.add_writes.Goals as goal
 

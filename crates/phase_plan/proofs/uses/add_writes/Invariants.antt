@@ -1,5 +1,5 @@
 use Rattle.std.proofs.Common.{◌≡◌, ◌≤◌, ◌-◌, ◌++◌}
-use Rattle.group_terms.specs.Uses.{touches_in, writes_from}
+use Rattle.group_form.specs.Uses.{touches_in, writes_from}
 use Rattle.phase_plan.proofs.uses.add_writes.Given as goal
 
 abbrev pub invariant-loop-array : goal.invariant-loop-array

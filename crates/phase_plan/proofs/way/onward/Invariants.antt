@@ -1,5 +1,5 @@
 use Rattle.std.proofs.Common.{◌≡◌, ◌++◌, drop}
-use Rattle.group_terms.specs.Named.{onward}
+use Rattle.group_form.specs.Named.{onward}
 use Rattle.phase_plan.proofs.way.onward.Given as goal
 
 abbrev pub invariant-loop-way : goal.invariant-loop-way

@@ -6,6 +6,7 @@ pub returns : goal.returns
 returns c =
     let known : Known = record {
       simplified = c.expressions_are_simplified.ensures;
+      tabled = c.tabled_expressions_are_simplified.ensures;
       found = c.found_laws_apply.ensures;
       operations = c.same_operations_are_equal.ensures;
       ranged = c.ranged_formulas_have_the_values.ensures;

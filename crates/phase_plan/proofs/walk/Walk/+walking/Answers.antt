@@ -3,8 +3,8 @@ use Rattle.std.proofs.lemmas.Result.{on_ok_weaker}
 use Rattle.lift_ir.specs.Terms.{push}
 use Rattle.lowering.specs.Terms.{load_set_of, term_of}
 use Rattle.lowering.specs.declared.term.Term.{Term}
-use Rattle.group_terms.specs.Origins.{Origin, local_count, origin_of}
-use Rattle.group_terms.specs.Uses.{argument_uses, written_uses, loop_uses}
+use Rattle.group_form.specs.Origins.{Origin, local_count, origin_of}
+use Rattle.group_form.specs.Uses.{argument_uses, written_uses, loop_uses}
 use Rattle.phase_plan.specs.Origins.{origin_in, origins_in}
 use Rattle.phase_plan.specs.Walks.{destination_from, width_of, GoesOn}
 use Rattle.phase_plan.proofs.Going.{goes_further, goes_further_to, granted}

@@ -1,7 +1,7 @@
 use Rattle.std.proofs.Common.{◌≡◌, ◌+◌, ◌++◌, ap, ◌∙◌}
 use Rattle.lowering.specs.Terms.{load_set_of, term_of}
-use Rattle.group_terms.specs.Named.{element_ways, named_outside}
-use Rattle.group_terms.specs.Uses.{element_reads, variable_reads, writes_to, touches_in}
+use Rattle.group_form.specs.Named.{element_ways, named_outside}
+use Rattle.group_form.specs.Uses.{element_reads, variable_reads, writes_to, touches_in}
 use Rattle.phase_plan.specs.Origins.{origin_in, origins_in}
 use Rattle.phase_plan.specs.Walks.{destination_from}
 use Rattle.phase_plan.proofs.Touching.{phase_added}

@@ -1,0 +1,99 @@
+-- Any two kernels printed for one map over work-groups go alike.
+use Rattle.std.proofs.Common.{◌≡◌, ℕ, ◌≤◌, Bool, List, [], refl, sym, ap, ◌∙◌, subst}
+use Rattle.std.proofs.Math.Path.{fun_ext}
+use Rattle.lift_tree.specs.Tree.{Tree}
+use Rattle.lift_tree.specs.Typing.{Declared, IsAdmissible}
+use Rattle.lift_tree.specs.Annotations.{Annotation, type_in}
+use Rattle.lift_tree.specs.Launches.{lists_of}
+use Rattle.lift_tree.specs.Meaning.{World, meaning}
+use Rattle.barrier_placement.specs.declared.touches.Touch.{Touch}
+use Rattle.barrier_placement.specs.Fencing.{Fencing}
+use Rattle.barrier_placement.specs.Needed.{Needed}
+use Rattle.kernel_tree.specs.declared.events.Event.{Event}
+use Rattle.kernel_tree.specs.Alike.{Enacts, GoesAlike, Histories}
+use Rattle.kernel_tree.specs.Bound.{bound}
+use Rattle.kernel_tree.specs.Code.{Array, Kernel}
+use Rattle.kernel_tree.specs.Device.{State, device_of, length_in, IsStart, run, IsRun, IsStuck}
+use Rattle.kernel_tree.specs.EveryRun.{Completes}
+use Rattle.kernel_tree.specs.Histories.{history}
+use Rattle.kernel_tree.specs.Item.{Item, item}
+use Rattle.kernel_tree.specs.Launch.{Launch, Cells, IsWhole}
+use Rattle.kernel_tree.specs.Meets.{MeetTogether}
+use Rattle.lift_ir.specs.AtLaunch.{length_at, ty_at}
+use Rattle.printed_form.specs.Headline.{EveryRunKeeps}
+use Rattle.printed_form.specs.Printer.{input_marks}
+use Rattle.printed_form.specs.Programs.{input_shape, first_buffer, lowered_root, cell_owner, IsLaunchOf, AreBuffersOf, SameContents}
+use Rattle.printed_form.specs.Whole.{no_marks, output_marks}
+use Rattle.group_form.specs.Programs.{PrintsGroups, IsGroupProgram, PrintedGroupProgramsKeep, PrintedGroupProgramsServe, PrintedGroupProgramsStart}
+use Rattle.group_form.specs.Uses.{group_touches, phase_count}
+use Rattle.group_form.specs.Alike.{PrintedGroupProgramsGoAlike}
+use Rattle.group_form.proofs.AlikeCodes.{over_groups}
+use Rattle.group_form.proofs.AlikeEnds.{runs_out}
+use Rattle.group_form.proofs.AlikeMatches.{Matches, MatchingItems, MatchingStates}
+use Rattle.group_form.proofs.AlikeRuns.{IsRunToo, is_run_too}
+
+-- the uses tell the needed barriers
+abbrev pub BarriersAreDetermined : Type 0
+BarriersAreDetermined = (touches : List Touch) (n : ℕ) (one other : ℕ → Fencing) → Needed touches n one → Needed touches n other → (q : ℕ) → q ≤ n → one q ≡ other q
+
+-- kernels of one history go alike
+abbrev pub OneHistoryGoesAlike : Type 0
+OneHistoryGoesAlike =
+    (l : Launch) (m n : Array → ℕ) (s t : State) (h : Histories) → IsWhole l → s.epochs ≡ t.epochs → Enacts (record { launch = l; lengths = m }) s h → Enacts (record { launch = l; lengths = n }) t h
+    → GoesAlike (record { launch = l; lengths = m }) s (record { launch = l; lengths = n }) t
+
+module _ (determined : BarriersAreDetermined) (alike : OneHistoryGoesAlike) (keep : PrintedGroupProgramsKeep) (serve : PrintedGroupProgramsServe) (begins : PrintedGroupProgramsStart)
+    (d : Declared) (is_task : Bool) (w : World) (t : Tree) (a : Annotation) (l : Launch) (c : Cells) (program : IsGroupProgram d w.bases t a) (ok : IsAdmissible d w) (launch : IsLaunchOf d is_task w.bases l) (buffers : AreBuffersOf d w t a c) where
+  module _ (k : Kernel) (s : State) (printed : PrintsGroups d w.bases t a l k) (start : IsStart k l c s) where
+    keeps : EveryRunKeeps k l c (cell_owner w.bases l t a) (lists_of (type_in a) (meaning w [] t))
+    keeps = keep d is_task w t a l k c program ok launch buffers printed
+
+    meet : (es : List Event) → IsRun (device_of k l c) s es → MeetTogether (device_of k l c) (run (device_of k l c) s es)
+    meet es r = ((serve d is_task w t a l k c program ok launch buffers printed).1 s es start r).meet
+
+    whole : IsWhole l
+    whole = (begins d is_task w t a l k c program ok launch buffers printed).whole
+
+    -- some run goes on to the end
+    full : (es : List Event) × IsRun (device_of k l c) s es × IsStuck (device_of k l c) (run (device_of k l c) s es)
+    full = runs_out (device_of k l c) whole s (bound k l) (λ es r. (keeps s es start r).leaves.bounded) meet
+
+  module _ (k m : Kernel) (s r : State) (one : PrintsGroups d w.bases t a l k) (two : PrintsGroups d w.bases t a l m) (start : IsStart k l c s) (begin : IsStart m l c r) (same : SameContents l s r) where
+    codes : Matches l [] k.code m.code
+    codes =
+        over_groups l (input_marks (length_at w.bases) (first_buffer d.inputs) (input_shape d.inputs)) (length_at w.bases) one.fence two.fence (lowered_root t a) no_marks (output_marks (ty_at w.bases (type_in a))) k.code m.code
+        (determined (group_touches (lowered_root t a)) (phase_count (lowered_root t a)) one.fence two.fence one.needed two.needed) one.code two.code
+
+    states : MatchingStates l s r
+    states = record {
+      items = λ j lt.
+          let vars : start.vars j ≡ begin.vars j = sym (ap Item.vars (start.items j lt)) ∙ same.variables j lt ∙ ap Item.vars (begin.items j lt) in
+          subst (λ z. MatchingItems l z (r.items j)) (sym (start.items j lt)) (subst (λ z. MatchingItems l (item k.code [] (start.vars j)) z) (sym (begin.items j lt)) (record { code = codes; frames = tt; vars = vars }));
+      memory = same.memory;
+    }
+
+    abbrev events : List Event
+    events = (full k s one start).0
+
+    too : IsRunToo (device_of k l c) (length_in m c) (whole k s one start) s r events
+    too = is_run_too (device_of k l c) (length_in m c) (whole k s one start) s r events states (meet m r two begin) (full k s one start).1
+
+    completes : Completes (device_of k l c) s events
+    completes =
+        let h = (keeps k s one start s events start (full k s one start).1).leaves in
+        record { is_run = (full k s one start).1; no_failure = h.faultless.no_failure; no_race = h.faultless.no_race; ended = h.ended (full k s one start).2 }
+
+    completes_too : Completes (device_of m l c) r events
+    completes_too =
+        let h = (keeps m r two begin r events begin too.is_run).leaves in
+        record { is_run = too.is_run; no_failure = h.faultless.no_failure; no_race = h.faultless.no_race; ended = too.ended completes.ended }
+
+    go_alike : GoesAlike (device_of k l c) s (device_of m l c) r
+    go_alike =
+        alike l (length_in k c) (length_in m c) s r (history (device_of k l c) s events) (whole k s one start) (fun_ext (λ g. fun_ext (λ f. start.epochs g f ∙ sym (begin.epochs g f))))
+        (record { events = events; completes = completes; acts = λ j lt. refl })
+        (record { events = events; completes = completes_too; acts = too.histories })
+
+pub group_programs_go_alike : BarriersAreDetermined → OneHistoryGoesAlike → PrintedGroupProgramsKeep → PrintedGroupProgramsServe → PrintedGroupProgramsStart → PrintedGroupProgramsGoAlike
+group_programs_go_alike determined alike keep serve begins d is_task w t a l k m c s r program ok launch buffers one two start begin same =
+    go_alike determined alike keep serve begins d is_task w t a l c program ok launch buffers k m s r one two start begin same

@@ -1,0 +1,24 @@
+pub mod Lists
+pub mod Named
+pub mod Seen
+pub mod Sight
+pub mod Counters
+pub mod Uses
+pub mod Phased
+pub mod Form
+pub mod Copies
+pub mod Outputs
+pub mod Whole
+pub mod Theorem
+pub mod Needed
+pub mod Programs
+pub mod Shown
+pub mod Typing
+pub mod Printer
+pub mod Placed
+mod AlikeMatches
+mod AlikeWants
+mod AlikeRuns
+mod AlikeEnds
+mod AlikeCodes
+mod AlikeTheorem

@@ -1,0 +1,261 @@
+-- What the printer prints for a map over work-groups is printed for it.
+use Rattle.std.proofs.Common.{◌≡◌, ℕ, zero, suc, ◌+◌, ◌<◌, ◌^◌, Bool, true, false, List, [], ◌∷◌, Some, refl, sym, subst, arith}
+use Rattle.size_arith.specs.declared.poly.Monomial.{Monomial}
+use Rattle.lift_tree.specs.Lists.{Every}
+use Rattle.lift_tree.specs.Types.{PlainTy}
+use Rattle.lift_tree.specs.Annotations.{type_in}
+use Rattle.kernel_tree.specs.Formula.{Formula, LoopVariable}
+use Rattle.kernel_tree.specs.Code.{Input, Output, Local as LocalArray, Code, End}
+use Rattle.kernel_tree.specs.Launch.{Launch}
+use Rattle.barrier_placement.specs.Fencing.{Fencing, Open, Fenced}
+use Rattle.lift_ir.specs.Types.{Ty, PairOf, ArrayOf, IsPosition, IsPlaced, measured}
+use Rattle.lift_ir.specs.Layouts.{result_position}
+use Rattle.lift_ir.specs.Terms.{WorkGroup, Local, LocalMemory, Term, Bound, Source, Both, Project, Reshape, LetArray, Map, Copy, push, HasType, no_type}
+use Rattle.lift_ir.specs.Scalars.{at_index}
+use Rattle.lift_ir.specs.AtLaunch.{length_at, shape_of}
+use Rattle.lift_ir.specs.Loads.{covers, none, held_scalars, LoadsSuffice}
+use Rattle.lift_ir.proofs.Named.{names_suffice}
+use Rattle.lift_ir.proofs.Values.{shape_is}
+use Rattle.printed_form.specs.Counts.{load_count, private_count}
+use Rattle.printed_form.specs.Expressions.{held}
+use Rattle.printed_form.specs.Form.{argument_marks}
+use Rattle.printed_form.specs.Marks.{Marks, laid_in, loaded_marks}
+use Rattle.printed_form.specs.Means.{IsSpelled, HasCells, Shows, AllShow}
+use Rattle.printed_form.specs.Printer.{argument_view, print_loaded, print_written, no_view, input_views, input_marks}
+use Rattle.printed_form.specs.Programs.{input_shape, first_buffer, lowered_root}
+use Rattle.printed_form.specs.Views.{View, loaded_view, view_at, result_indices, placed_view, laid_view}
+use Rattle.printed_form.specs.Whole.{no_marks, output_marks}
+use Rattle.printed_form.proofs.Indices.{laid_cells, placed_cells}
+use Rattle.printed_form.proofs.Printer.{cells_show, HeldIn, written_is}
+use Rattle.group_phases.specs.Epochs.{IsPast}
+use Rattle.group_form.specs.Forms.{StandsInGroup, IsOfInputs, StandsOverGroups}
+use Rattle.group_form.specs.Form.{Used, used_after, IsGroupArgument, IsGroupWritten, IsOverGroups}
+use Rattle.group_form.specs.Origins.{local_count}
+use Rattle.group_form.specs.Stages.{marks_of}
+use Rattle.group_form.specs.Uses.{phases_in}
+use Rattle.group_form.specs.Printer.{print_fence, group_view, print_local_loop, print_group_argument, print_group_written, print_groups, group_kernel_code, GroupPrinterPrints, GroupProgramsArePrinted}
+use Rattle.group_form.proofs.Shown.{all_within, all_push, turned_cells, held_push, loaded_held, loaded_is, loaded_shows, back_cells, moved_shows, zip_cells}
+use Rattle.group_form.proofs.Typing.{lowered_has}
+
+past_fence : (f : Fencing) (rest : Code) → IsPast f (print_fence f rest) rest
+past_fence Open rest = refl
+past_fence (Fenced a b) rest = refl
+
+module _ (l : Launch) {A : Type 0} (num : A → ℕ) (spell : A → Formula) (spelled : (n : A) → num n < 2 ^ 31 → IsSpelled l (spell n) (num n)) (src : ℕ → Ty) (ins : ℕ → Marks) (sins : ℕ → View) (fence : ℕ → Fencing) where
+  -- what is held of a copied argument at a turn
+  kept : (t : Term A) (g : ℕ → Ty) (env : (turn var : ℕ) → Marks) (h : ℕ → List Bool → Bool) (k i : ℕ) (ty : Ty) (cs : List Bool) → StandsInGroup false t → HasType num src g t ty → IsPosition ty cs [] → held_scalars h t cs ≡ true → HeldIn l g (env i) h → (e : Formula) × (held (marks_of num ins env k t i cs []) ≡ Some e)
+  kept (Bound v) g env h k i ty cs f ok w z r = r v cs (subst (λ y. IsPosition y cs []) ok w) z
+  kept (Source v) g env h k i ty cs f ok w z r = absurd (cc)
+  kept (Both true x y) g env h k i ty cs f ok w z r = absurd (subst (λ y. IsPosition y cs []) ok.3 w)
+  kept (Project false x) g env h k i ty cs f ok w z r = kept x g env h k i (PairOf ty ok.0) (false ∷ cs) f ok.1 w z r
+  kept (Project true x) g env h k i ty cs f ok w z r = kept x g env h k i (PairOf ok.0 ty) (true ∷ cs) f ok.1 w z r
+  kept (Reshape y x) g env h k i ty cs f ok w z r = absurd (cc)
+  kept (LetArray v b) g env h k i ty cs f ok w z r =
+      kept b (push ok.0 g) (λ j. push (marks_of num ins env k v j) (env j)) (push (held_scalars h v) h) (k + local_count v) i ty cs f.1 ok.2 w z
+      (held_push l ok.0 (marks_of num ins env k v i) (held_scalars h v) g (env i) h (λ cs w z. kept v g env h k i ok.0 cs f.0 ok.1 w z r) r)
+  kept (Copy LocalMemory ty2 x) g env h k i ty cs f ok w z r = absurd (cc)
+  kept _ g env h k i ty cs f ok w z r = absurd (assumption)
+
+  module _ (turns : ℕ) where
+    abbrev Showing : Ty → View → (ℕ → Marks) → Type 0
+    Showing ty x y = (i : ℕ) → i < turns → Shows l (i ∷ []) ty x (y i)
+
+    abbrev AllShowing : (ℕ → Ty) → (ℕ → View) → ((turn var : ℕ) → Marks) → Type 0
+    AllShowing g views env = (i : ℕ) → i < turns → AllShow l (i ∷ []) g views (env i)
+
+    abbrev AllHolding : (ℕ → Ty) → ((turn var : ℕ) → Marks) → (ℕ → List Bool → Bool) → Type 0
+    AllHolding g env h = (i : ℕ) → i < turns → HeldIn l g (env i) h
+
+    abbrev Inputs : Type 0
+    Inputs = (i : ℕ) → AllShow l (i ∷ []) src sins ins
+
+    abbrev Printed : ((turn var : ℕ) → Marks) → (ℕ → View) → Used → Term A → (rest : Code) → Type 0
+    Printed env views u t rest = IsGroupArgument num l ins fence turns env u t (print_group_argument spell sins fence views u t rest) rest
+
+    mutual
+      argument_is : (t : Term A) (g : ℕ → Ty) (views : ℕ → View) (env : (turn var : ℕ) → Marks) (h : ℕ → List Bool → Bool) (u : Used) (ty : Ty) (rest : Code) → HasType num src g t ty → LoadsSuffice h t → StandsInGroup false t → AllShowing g views env → Inputs → AllHolding g env h
+          → Printed env views u t rest × Showing ty (group_view spell sins fence views u.locals t) (marks_of num ins env u.locals t)
+      argument_is (Bound v) g views env h u ty rest ok nm sd es gs r = (refl, λ i il. subst (λ z. Shows l (i ∷ []) z (views v) (env i v)) (sym ok) (es i il v))
+      argument_is (Source v) g views env h u ty rest ok nm sd es gs r = (refl, λ i il. subst (λ z. Shows l (i ∷ []) z (sins v) (ins v)) (sym ok) (gs i v))
+      argument_is (Both true x y) g views env h u ty rest ok nm sd es gs r =
+          let next = print_group_argument spell sins fence views (used_after u x) y rest in
+          let p = argument_is x g views env h u (ArrayOf ok.0 ok.1) next ok.4 nm.0 sd.0 es gs r in
+          let q = argument_is y g views env h (used_after u x) (ArrayOf ok.0 ok.2) rest ok.5 nm.1 sd.1 es gs r in
+          ((next, p.0, q.0), λ i il. subst (λ z. Shows l (i ∷ []) z (group_view spell sins fence views u.locals (Both true x y)) (marks_of num ins env u.locals (Both true x y) i)) (sym ok.3) (zip_cells l num spell spelled (i ∷ []) ok.0 ok.1 ok.2 _ _ _ _ (p.1 i il) (q.1 i il)))
+      argument_is (Project false x) g views env h u ty rest ok nm sd es gs r = let p = argument_is x g views env h u (PairOf ty ok.0) rest ok.1 nm sd es gs r in (p.0, λ i il. (p.1 i il).0)
+      argument_is (Project true x) g views env h u ty rest ok nm sd es gs r = let p = argument_is x g views env h u (PairOf ok.0 ty) rest ok.1 nm sd es gs r in (p.0, λ i il. (p.1 i il).1)
+      argument_is (Reshape y x) g views env h u ty rest ok nm sd es gs r =
+          let p = argument_is x g views env h u ok.0 rest ok.1 nm sd es gs r in
+          (p.0, λ i il. moved_shows l num spell spelled (i ∷ []) y ok.0 ty (group_view spell sins fence views u.locals x) (marks_of num ins env u.locals x i) ok.5 ok.2 ok.3 ok.4 (p.1 i il))
+      argument_is (LetArray v b) g views env h u ty rest ok nm sd es gs r =
+          let x = group_view spell sins fence views u.locals v in
+          let y = marks_of num ins env u.locals v in
+          let next = print_group_argument spell sins fence (push x views) (used_after u v) b rest in
+          let p = argument_is v g views env h u ok.0 next ok.1 nm.0 sd.0 es gs r in
+          let q = argument_is b (push ok.0 g) (push x views) (λ i. push (y i) (env i)) (push (held_scalars h v) h) (used_after u v) ty rest ok.2 nm.1 sd.1 (λ i il. all_push l (i ∷ []) ok.0 x (y i) g views (env i) (p.1 i il) (es i il)) gs
+          (λ i il. held_push l ok.0 (y i) (held_scalars h v) g (env i) h (λ cs w z. kept v g env h u.locals i ok.0 cs sd.0 ok.1 w z (r i il)) (r i il)) in
+          ((next, p.0, q.0), q.1)
+      argument_is (Copy LocalMemory t2 x) g views env h u ty rest ok nm sd es gs r =
+          let first = u.locals + local_count x in
+          let c = λ (i : ℕ). laid_cells l num spell spelled (i ∷ []) LocalArray first t2 ok.1 nm.1 nm.0 in (
+            group_written_is x g views env h u t2 (laid_view LocalArray first t2) (λ i. laid_in LocalArray first t2) rest (subst (HasType num src g x) ok.0 ok.2) nm.2 sd es gs r (λ i il. c i),
+            λ i il. subst (λ z. Shows l (i ∷ []) z (laid_view LocalArray first t2) (laid_in LocalArray first t2)) (sym ok.0) (cells_show l (i ∷ []) t2 _ _ (c i)),
+          )
+      argument_is _ g views env h u ty rest ok nm sd es gs r = absurd (assumption)
+
+      group_written_is : (t : Term A) (g : ℕ → Ty) (views : ℕ → View) (env : (turn var : ℕ) → Marks) (h : ℕ → List Bool → Bool) (u : Used) (ty : Ty) (v : View) (w : ℕ → Marks) (rest : Code) → HasType num src g t ty → LoadsSuffice h t → StandsInGroup true t → AllShowing g views env → Inputs → AllHolding g env h → ((i : ℕ) → i < turns → HasCells l (i ∷ []) ty v (w i))
+          → IsGroupWritten num l ins fence turns env u t w (print_group_written spell sins fence views u t v rest) rest
+      group_written_is (Reshape y t) g views env h u ty v w rest ok nm sd es gs r cells =
+          (sd.0, group_written_is t g views env h u ok.0 (λ cs is. v cs (result_indices spell y is)) (λ i cs q. w i cs (result_position num y q)) rest ok.1 nm sd.1 es gs r (λ i il. back_cells l num spell spelled (i ∷ []) y ok.0 ty v (w i) sd.0 ok.2 ok.3 ok.4 (cells i il)))
+      group_written_is (LetArray s b) g views env h u ty v w rest ok nm sd es gs r cells =
+          let x = group_view spell sins fence views u.locals s in
+          let y = marks_of num ins env u.locals s in
+          let next = print_group_written spell sins fence (push x views) (used_after u s) b v rest in
+          let p = argument_is s g views env h u ok.0 next ok.1 nm.0 sd.0 es gs r in (
+            next,
+            p.0,
+            group_written_is b (push ok.0 g) (push x views) (λ i. push (y i) (env i)) (push (held_scalars h s) h) (used_after u s) ty v w rest ok.2 nm.1 sd.1 (λ i il. all_push l (i ∷ []) ok.0 x (y i) g views (env i) (p.1 i il) (es i il)) gs
+                (λ i il. held_push l ok.0 (y i) (held_scalars h s) g (env i) h (λ cs q z. kept s g env h u.locals i ok.0 cs sd.0 ok.1 q z (r i il)) (r i il)) cells,
+          )
+      group_written_is (Map Local z0 loads xs b) g views env h u ty v w rest ok nm sd es gs r cells =
+          let len = num z0 in
+          let e = group_view spell sins fence views u.locals xs in
+          let f = marks_of num ins env u.locals xs in
+          let u2 = used_after u xs in
+          let n1 = u2.variables in
+          let x = loaded_view loads (view_at (LoopVariable 1) e) n1 in
+          let inner = print_written spell sins 2 (push x views) u2.privates (n1 + load_count loads) b (view_at (LoopVariable 1) v) End in
+          let loop = print_local_loop spell sins fence views u2 z0 loads e b v rest in
+          let mid = print_fence (fence (u.phases + phases_in xs)) loop in
+          let p = argument_is xs g views env h u (ArrayOf len ok.0) mid ok.4 nm.0 sd.0 es gs r in (
+            mid,
+            loop,
+            p.0,
+            past_fence (fence (u.phases + phases_in xs)) loop,
+            λ i il. (
+              spell z0,
+              print_loaded loads (view_at (LoopVariable 1) e) n1 inner,
+              refl,
+              (spelled z0 ok.2).0,
+              λ j jl.
+                  let ts = i ∷ j ∷ [] in
+                  let y = loaded_marks loads (at_index j (f i)) n1 in
+                  let c = turned_cells l (i ∷ []) 1 j len ok.0 e (f i) refl jl ok.2 (p.1 i il) in
+                  let es2 = all_push l ts ok.0 x y g views (env i) (loaded_shows l ins ts loads ok.0 (view_at (LoopVariable 1) e) (at_index j (f i)) n1 ok.3 c) (all_within l (i ∷ []) j g views (env i) (es i il)) in
+                  let r2 = held_push l ok.0 y (covers loads) g (env i) h (λ cs z q. loaded_held l loads (at_index j (f i)) n1 cs q) (r i il) in
+                  let cells2 = subst (λ z. HasCells l (i ∷ []) z v (w i)) ok.6 (cells i il) in (
+                    inner,
+                    loaded_is l ins ts loads ok.0 (view_at (LoopVariable 1) e) (at_index j (f i)) n1 inner ok.3 c,
+                    written_is l num spell spelled src ins sins b ts 2 (push ok.0 g) (push x views) (push y (env i)) (push (covers loads) h) u2.privates (n1 + load_count loads) ok.1 (view_at (LoopVariable 1) v) (at_index j (w i)) End refl ok.5 nm.1 sd.1 es2 (all_within l (i ∷ []) j src sins ins (gs i)) r2
+                        (turned_cells l (i ∷ []) 1 j len ok.1 v (w i) refl jl ok.2 cells2),
+                  ),
+            ),
+          )
+      group_written_is _ g views env h u ty v w rest ok nm sd es gs r cells = absurd (assumption)
+
+  -- an argument of inputs
+
+  held_input : (t : Term A) (g : ℕ → Ty) (env : ℕ → Marks) (h : ℕ → List Bool → Bool) (a : ℕ) (ty : Ty) (cs : List Bool) → IsOfInputs t → HasType num src g t ty → IsPosition ty cs [] → held_scalars h t cs ≡ true → HeldIn l g env h → (e : Formula) × (held (argument_marks l ins num env a t cs []) ≡ Some e)
+  held_input (Bound v) g env h a ty cs f ok w z r = r v cs (subst (λ y. IsPosition y cs []) ok w) z
+  held_input (Source v) g env h a ty cs f ok w z r = absurd (cc)
+  held_input (Both true x y) g env h a ty cs f ok w z r = absurd (subst (λ y. IsPosition y cs []) ok.3 w)
+  held_input (Project false x) g env h a ty cs f ok w z r = held_input x g env h a (PairOf ty ok.0) (false ∷ cs) f ok.1 w z r
+  held_input (Project true x) g env h a ty cs f ok w z r = held_input x g env h a (PairOf ok.0 ty) (true ∷ cs) f ok.1 w z r
+  held_input (Reshape y x) g env h a ty cs f ok w z r = absurd (cc)
+  held_input (LetArray v b) g env h a ty cs f ok w z r =
+      held_input b (push ok.0 g) (push (argument_marks l ins num env a v) env) (push (held_scalars h v) h) (a + private_count v) ty cs f.1 ok.2 w z
+      (held_push l ok.0 (argument_marks l ins num env a v) (held_scalars h v) g env h (λ cs w z. held_input v g env h a ok.0 cs f.0 ok.1 w z r) r)
+  held_input _ g env h a ty cs f ok w z r = absurd (assumption)
+
+  input_shows : (t : Term A) (g : ℕ → Ty) (views : ℕ → View) (env : ℕ → Marks) (a : ℕ) (ty : Ty) → IsOfInputs t → HasType num src g t ty → AllShow l [] g views env → AllShow l [] src sins ins → Shows l [] ty (argument_view spell sins views a t) (argument_marks l ins num env a t)
+  input_shows (Bound v) g views env a ty f ok es gs = subst (λ z. Shows l [] z (views v) (env v)) (sym ok) (es v)
+  input_shows (Source v) g views env a ty f ok es gs = subst (λ z. Shows l [] z (sins v) (ins v)) (sym ok) (gs v)
+  input_shows (Both true x y) g views env a ty f ok es gs =
+      subst (λ z. Shows l [] z (argument_view spell sins views a (Both true x y)) (argument_marks l ins num env a (Both true x y))) (sym ok.3)
+      (zip_cells l num spell spelled [] ok.0 ok.1 ok.2 _ _ _ _ (input_shows x g views env a (ArrayOf ok.0 ok.1) f.0 ok.4 es gs) (input_shows y g views env (a + private_count x) (ArrayOf ok.0 ok.2) f.1 ok.5 es gs))
+  input_shows (Project false x) g views env a ty f ok es gs = (input_shows x g views env a (PairOf ty ok.0) f ok.1 es gs).0
+  input_shows (Project true x) g views env a ty f ok es gs = (input_shows x g views env a (PairOf ok.0 ty) f ok.1 es gs).1
+  input_shows (Reshape y x) g views env a ty f ok es gs = moved_shows l num spell spelled [] y ok.0 ty (argument_view spell sins views a x) (argument_marks l ins num env a x) ok.5 ok.2 ok.3 ok.4 (input_shows x g views env a ok.0 f ok.1 es gs)
+  input_shows (LetArray v b) g views env a ty f ok es gs =
+      let x = argument_view spell sins views a v in
+      let y = argument_marks l ins num env a v in
+      input_shows b (push ok.0 g) (push x views) (push y env) (a + private_count v) ty f.1 ok.2 (all_push l [] ok.0 x y g views env (input_shows v g views env a ok.0 f.0 ok.1 es gs) es) gs
+  input_shows _ g views env a ty f ok es gs = absurd (assumption)
+
+  -- the whole term
+  pub over_groups_is : (t : Term A) (g : ℕ → Ty) (views : ℕ → View) (env : ℕ → Marks) (h : ℕ → List Bool → Bool) (ty : Ty) (v : View) (w : Marks) → HasType num src g t ty → LoadsSuffice h t → StandsOverGroups t → AllShow l [] g views env → AllShow l [] src sins ins → HeldIn l g env h → HasCells l [] ty v w
+      → IsOverGroups num l ins fence env t w (print_groups spell sins fence views t v)
+  over_groups_is (Reshape y t) g views env h ty v w ok nm sd es gs r cells =
+      (sd.0, over_groups_is t g views env h ok.0 (λ cs is. v cs (result_indices spell y is)) (λ cs q. w cs (result_position num y q)) ok.1 nm sd.1 es gs r (back_cells l num spell spelled [] y ok.0 ty v w sd.0 ok.2 ok.3 ok.4 cells))
+  over_groups_is (LetArray s b) g views env h ty v w ok nm sd es gs r cells =
+      let x = argument_view spell sins views 0 s in
+      let y = argument_marks l ins num env 0 s in
+      over_groups_is b (push ok.0 g) (push x views) (push y env) (push (held_scalars h s) h) ty v w ok.2 nm.1 sd.1 (all_push l [] ok.0 x y g views env (input_shows s g views env 0 ok.0 sd.0 ok.1 es gs) es) gs
+      (held_push l ok.0 y (held_scalars h s) g env h (λ cs q z. held_input s g env h 0 ok.0 cs sd.0 ok.1 q z r) r) cells
+  over_groups_is (Map WorkGroup z0 loads xs b) g views env h ty v w ok nm sd es gs r cells =
+      let len = num z0 in
+      let e = argument_view spell sins views 0 xs in
+      let f = argument_marks l ins num env 0 xs in
+      let el = view_at (LoopVariable 0) e in
+      let x = loaded_view loads el 0 in
+      let u : Used = record { locals = 0; privates = 0; variables = load_count loads; phases = 0 } in
+      let last = print_fence (fence (phases_in b)) End in
+      let first = print_group_written spell sins fence (push x views) u b (view_at (LoopVariable 0) v) last in
+      let shows = input_shows xs g views env 0 (ArrayOf len ok.0) sd.0 ok.4 es gs in
+      let cells2 = subst (λ z. HasCells l [] z v w) ok.6 cells in
+      let c = λ (i : ℕ) (il : i < len). turned_cells l [] 0 i len ok.0 e f refl il ok.2 shows in (
+        spell z0,
+        print_loaded loads el 0 first,
+        refl,
+        (spelled z0 ok.2).0,
+        (
+          first,
+          last,
+          λ i il. loaded_is l ins (i ∷ []) loads ok.0 el (at_index i f) 0 first ok.3 (c i il),
+          group_written_is len b (push ok.0 g) (push x views) (λ i. push (loaded_marks loads (at_index i f) 0) env) (push (covers loads) h) u ok.1 (view_at (LoopVariable 0) v) (λ i. at_index i w) last ok.5 nm.1 sd.1
+              (λ i il. all_push l (i ∷ []) ok.0 x (loaded_marks loads (at_index i f) 0) g views env (loaded_shows l ins (i ∷ []) loads ok.0 el (at_index i f) 0 ok.3 (c i il)) (all_within l [] i g views env es))
+              (λ i. all_within l [] i src sins ins gs)
+              (λ i il. held_push l ok.0 (loaded_marks loads (at_index i f) 0) (covers loads) g env h (λ cs z q. loaded_held l loads (at_index i f) 0 cs q) r)
+              (λ i il. turned_cells l [] 0 i len ok.1 v w refl il ok.2 cells2),
+          past_fence (fence (phases_in b)) End,
+        ),
+      )
+  over_groups_is _ g views env h ty v w ok nm sd es gs r cells = absurd (assumption)
+
+nothing_shown : (l : Launch) → AllShow l [] no_type no_view no_marks
+nothing_shown l v us cs is [] w g = absurd w
+nothing_shown l v us cs is (i ∷ q) w g = let z = w.0 in absurd (omega arith)
+
+nothing_held : (l : Launch) → HeldIn l no_type no_marks (λ v. none)
+nothing_held l v cs w h = absurd w
+
+pub group_code_is : (A : Type 0) → GroupPrinterPrints A
+group_code_is A l num spell spelled first src fence t ty stands ok nm out inputs =
+    let shown = λ (v : ℕ). cells_show l [] (measured num (src v)) _ _ (let p = inputs v in placed_cells l num spell spelled [] Input (first v) (src v) p.flat p.short p.small) in
+    let place = placed_cells l num spell spelled [] Output 0 ty out.flat out.short out.small in
+    over_groups_is l num spell spelled (λ v. measured num (src v)) (input_marks num first src) (input_views spell first src) fence t no_type no_view no_marks (λ v. none) (measured num ty) (placed_view spell Output 0 ty) (output_marks (measured num ty)) ok nm stands (nothing_shown l) shown (nothing_held l) place
+
+inputs_placed : (num : List Monomial → ℕ) (tys : List PlainTy) → Every (λ b. IsPlaced num (shape_of b)) tys → num [] ≡ 0 → (v : ℕ) → IsPlaced num (input_shape tys v)
+inputs_placed num [] all z v = record { flat = tt; short = (omega arith, tt); small = omega arith }
+inputs_placed num (a ∷ tys) all z zero = all.0
+inputs_placed num (a ∷ tys) all z (suc v) = inputs_placed num tys all.1 z v
+
+pub group_programs_are_printed : GroupProgramsArePrinted
+group_programs_are_printed d is_task bases t a l spell fence program launch staged placed spelled needed =
+    let num = length_at bases in
+    let low = lowered_root t a in
+    let same = shape_is bases (type_in a) in
+    record {
+      inputs = refl;
+      outputs = refl;
+      sizes = refl;
+      locals = refl;
+      privates = refl;
+      variables = refl;
+      fence = fence;
+      needed = needed;
+      code =
+          subst (λ z. IsOverGroups num l (input_marks num (first_buffer d.inputs) (input_shape d.inputs)) fence no_marks low (output_marks z) (group_kernel_code spell (first_buffer d.inputs) (input_shape d.inputs) fence low (shape_of (type_in a)))) same
+          (group_code_is (List Monomial) l num spell spelled (first_buffer d.inputs) (input_shape d.inputs) fence low (shape_of (type_in a)) program.stands
+          (subst (λ z. HasType num (λ v. measured num (input_shape d.inputs v)) no_type low z) (sym same) (lowered_has d is_task bases t a l program launch)) (names_suffice d bases t a program.lowerable.nodes program.lowerable.lowerable staged) placed.0 (inputs_placed num d.inputs placed.1 refl));
+    }

@@ -1,0 +1,21 @@
+-- Kernels printed for one program's typed term that is a map over work-groups.
+use Rattle.std.specs.Prelude.{Bool}
+use Rattle.lift_tree.specs.Tree.{Tree}
+use Rattle.lift_tree.specs.Typing.{Declared, IsAdmissible}
+use Rattle.lift_tree.specs.Annotations.{Annotation}
+use Rattle.lift_tree.specs.Meaning.{World}
+use Rattle.kernel_tree.specs.Alike.{GoesAlike}
+use Rattle.kernel_tree.specs.Code.{Kernel}
+use Rattle.kernel_tree.specs.Launch.{Launch, Cells}
+use Rattle.kernel_tree.specs.Device.{State, device_of, IsStart}
+use Rattle.printed_form.specs.Programs.{IsLaunchOf, AreBuffersOf, SameContents}
+use Rattle.group_form.specs.Programs.{PrintsGroups, IsGroupProgram}
+
+-- any two kernels that are printed for one typed term go alike at one launch and from the same
+-- contents: the same events can come, with the same accesses, and each schedule makes the same run
+-- of both
+abbrev pub PrintedGroupProgramsGoAlike : Type 0
+PrintedGroupProgramsGoAlike =
+    (d : Declared) (is_task : Bool) (w : World) (t : Tree) (a : Annotation) (l : Launch) (k m : Kernel) (c : Cells) (s r : State)
+    → IsGroupProgram d w.bases t a → IsAdmissible d w → IsLaunchOf d is_task w.bases l → AreBuffersOf d w t a c → PrintsGroups d w.bases t a l k → PrintsGroups d w.bases t a l m
+    → IsStart k l c s → IsStart m l c r → SameContents l s r → GoesAlike (device_of k l c) s (device_of m l c) r

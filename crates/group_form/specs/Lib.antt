@@ -1,0 +1,12 @@
+pub mod Named
+pub mod Origins
+pub mod Forms
+pub mod Uses
+pub mod Stages
+pub mod Body
+pub mod Form
+pub mod Whole
+pub mod Theorem
+pub mod Programs
+pub mod Printer
+pub mod Alike

@@ -1,0 +1,70 @@
+//! Laws of maps over work-groups, each carried by a function that does nothing.
+
+ghost use Rattle.size_arith.specs.declared.poly.Monomial.{Monomial};
+ghost use Rattle.std.specs.Prelude.{ℕ, List};
+ghost use Rattle.group_form.specs.Printer.{GroupPrinterPrints, GroupProgramsArePrinted};
+ghost use Rattle.group_form.specs.Programs.{PrintedGroupProgramsKeep, PrintedGroupProgramsServe, PrintedGroupProgramsStart};
+ghost use Rattle.group_form.specs.Theorem.{LocalArraysAreCounted, NeededKeepApart, NeededGroupsKeep, SeparatedGroupsKeep, SeparatedGroupsServe, UsesTellBarriers, AlignedNeedNone, GroupUsesCanBePlaced};
+
+use barrier_placement::laws::needed_barriers_separate;
+use group_phases::laws::{numbered_phases_keep, phases_keep};
+
+/// At every launch, on all inputs, every run of a kernel that is printed for a map over work-groups
+/// with the needed barriers keeps what it owes: the source value's lists, each cell by its owner.
+/// With any barriers that keep conflicting phases apart it leaves the term's scalars, and its
+/// barriers serve.
+pub fn printed_groups_keep()
+    ensures needed { NeededGroupsKeep (List Monomial) }
+    ensures separated { SeparatedGroupsKeep (List Monomial) }
+    ensures serve { SeparatedGroupsServe (List Monomial) }
+    ensures apart { NeededKeepApart (List Monomial) }
+{
+    needed_barriers_separate();
+    phases_keep();
+}
+
+/// The same of terms whose lengths are numbers.
+pub fn numbered_groups_keep()
+    ensures separated { SeparatedGroupsKeep ℕ }
+    ensures apart { NeededKeepApart ℕ }
+{
+    needed_barriers_separate();
+    numbered_phases_keep();
+}
+
+/// The uses of a term can be placed. The needed barriers hang on which uses there are alone; where
+/// all are aligned none is needed.
+pub fn uses_tell_barriers()
+    ensures placed { GroupUsesCanBePlaced (List Monomial) }
+    ensures told { UsesTellBarriers }
+    ensures aligned { AlignedNeedNone }
+{}
+
+/// At every admissible launch, on all inputs, every run of a kernel that is printed for a program's
+/// typed term, a map over work-groups, with the needed barriers keeps what the kernel owes: the
+/// source value's lists, each cell by its owner. And its barriers serve.
+pub fn printed_group_programs_keep()
+    ensures keep { PrintedGroupProgramsKeep }
+    ensures serve { PrintedGroupProgramsServe }
+{
+    printed_groups_keep();
+}
+
+/// A kernel that is printed for a program's typed term, a map over work-groups, may be started at
+/// each admissible launch.
+pub fn printed_group_programs_start()
+    ensures { PrintedGroupProgramsStart }
+{}
+
+/// What the printer makes of a map over work-groups is printed for it, with whatever barriers it is
+/// given, at every launch; of a program's typed term with the needed ones it is one kernel for all
+/// admissible launches.
+pub fn the_group_printer_prints()
+    ensures code { GroupPrinterPrints (List Monomial) }
+    ensures programs { GroupProgramsArePrinted }
+{}
+
+/// In a group's turn as many local arrays are declared as are counted.
+pub fn local_arrays_are_counted()
+    ensures { LocalArraysAreCounted (List Monomial) }
+{}

@@ -1,0 +1,7 @@
+//! The printed form of maps over work-groups: from a term to its phases, which code is printed for
+//! it with which barriers, a printer, what holds of every printed kernel (`laws`), and that any two
+//! run alike (`alike`).
+#![tactic(auto)]
+
+pub mod alike;
+pub mod laws;

@@ -1,5 +1,0 @@
-use Rattle.group_premises.proofs.Whole.{legal_groups_stand_over_groups}
-use Rattle.group_premises.proofs.laws.legal_groups_stand_over_groups.Goals as goal
-
-pub returns : goal.returns
-returns c = legal_groups_stand_over_groups c.legal_terms_can_be_lowered.ensures c.legal_nests_stand.ensures

@@ -1,5 +1,0 @@
-use Rattle.group_premises.proofs.Whole.{legal_terms_are_printable}
-use Rattle.group_premises.proofs.laws.legal_terms_are_printable.Goals as goal
-
-pub returns : goal.returns
-returns c = legal_terms_are_printable c.ungrouped_terms_are_printable.ensures c.legal_groups_stand_over_groups.ensures

@@ -1,3 +1,0 @@
-pub mod Tiles
-pub mod TileBarriers
-pub mod TileRuns

@@ -1,4 +1,0 @@
-//! A worked map over work-groups: tiles by way of local memory.
-#![tactic(auto)]
-
-pub mod laws;

@@ -1,6 +1,0 @@
-mod Matches
-mod Wants
-mod Runs
-mod Ends
-mod Codes
-mod Theorem

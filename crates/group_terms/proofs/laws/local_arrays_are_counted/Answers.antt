@@ -1,6 +1,0 @@
-use Rattle.std.specs.Prelude.{true}
-use Rattle.group_terms.proofs.Copies.{counted}
-use Rattle.group_terms.proofs.laws.local_arrays_are_counted.Goals as goal
-
-pub returns : goal.returns
-returns c = counted true

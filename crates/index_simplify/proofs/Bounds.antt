@@ -1,0 +1,121 @@
+-- What passes the test stays below the length.
+use Rattle.std.proofs.Common.{◌≡◌, ℕ, zero, suc, ℤ, pos, ◌+◌, ◌*◌, ◌/◌, ◌%◌, ◌<◌, ◌≤◌, ◌+ℤ◌, ◌*ℤ◌, Bool, true, false, Option, Some, None, List, refl, sym, ap, ◌∙◌, subst, arith}
+use Rattle.std.specs.Prelude.{◌&&◌, ◌<ℤ◌, nat_lt, if◌then◌else◌, is_some, slice_get, slice_index, int_div, int_rem}
+use Rattle.std.proofs.lemmas.Bool.{ltb-true}
+use Rattle.std.proofs.lemmas.Int.{ints}
+use Rattle.std.proofs.Math.Nat.{div-lt_iff_lt-mul, mod-lt, mul-le-mul_right}
+use Rattle.index_expr.specs.declared.operation.Operation.TheVariants.{Sum, Product, Quotient, Remainder}
+use Rattle.index_expr.specs.Expression.{Expression, Variable, Literal, Size, Binary}
+use Rattle.index_expr.specs.Values.{exact}
+use Rattle.index_simplify.specs.PlainRanges.{PlainRanges}
+use Rattle.index_simplify.specs.Tests.{is_at_least, is_no_longer}
+use Rattle.index_simplify.specs.Factors.{over}
+use Rattle.index_simplify.specs.Below.{is_natural, is_passed, is_part_within, is_quotient_below, is_remainder_below, is_digit_below, rows_within, is_sum_below, stays_below}
+use Rattle.index_simplify.specs.Ranges.{AreBelowLengths, AreWithin}
+use Rattle.index_simplify.proofs.Tests.{both, IsNatural, count_value, IsColumn, IsAbove, counted_least, counted_longer, column_of}
+use Rattle.index_simplify.proofs.Divided.{IfLeft, over_left, over_value}
+
+cell_below_rows : (x q y w : ℕ) → x < q → y < w → x * w + y < q * w
+cell_below_rows x q y w lt below = let most : suc x * w ≤ q * w = mul-le-mul_right w lt in omega arith
+
+part_below : (v q d : ℕ) → v < q * d → v / d < q
+part_below v q zero lt = absurd (omega arith)
+part_below v q (suc d) lt = (div-lt_iff_lt-mul (omega arith)).1 lt
+
+pub length_from : (N Q W : ℤ) (q w : ℕ) → N ≡ Q *ℤ W → Q ≡ pos q → W ≡ pos w → N ≡ pos (q * w)
+length_from N Q W q w e f g = rw (e, f, g) refl
+
+pub cell_from : (X W Y : ℤ) (x w y : ℕ) → X ≡ pos x → W ≡ pos w → Y ≡ pos y → (X *ℤ W) +ℤ Y ≡ pos (x * w + y)
+cell_from X W Y x w y e f g = rw (e, f, g) refl
+
+pub both_of : (a b : Bool) → (if a then b else false) ≡ true → (a ≡ true) × (b ≡ true)
+both_of true b h = (refl, h)
+both_of false b h = absurd (cc h)
+
+rows_are : (b : Bool) (o : Option Expression) (q : Expression) → (if b then o else None) ≡ Some q → (b ≡ true) × (o ≡ Some q)
+rows_are true o q h = (refl, h)
+rows_are false o q h = absurd (cc h)
+
+module _ (sizes variables : List ℕ) (r : PlainRanges) (loops : AreBelowLengths r sizes variables) where
+  cell_below : (row width column n : Expression) (rows : Option Expression) → rows_within r width column n ≡ rows → is_passed (λ q. is_digit_below r row q) rows ≡ true → (is_digit_below r column width ≡ true → IsColumn sizes variables column width) → ((q : Expression) → is_digit_below r row q ≡ true → IsColumn sizes variables row q) → IsColumn sizes variables (Binary Sum (Binary Product row width) column) n
+  cell_below row width column n None e h within each = absurd (cc h)
+  cell_below row width column n (Some q) e h within each =
+      let parts = rows_are (is_digit_below r column width) (over n width) q e in
+      let left = over_value sizes variables n width q parts.1 in
+      let c = within parts.0 in
+      let x = each q h in
+      record {
+        at = x.at * c.count + c.at;
+        count = x.count * c.count;
+        column_is = cell_from (exact sizes variables row) (exact sizes variables width) (exact sizes variables column) x.at c.count c.at x.column_is c.length_is c.column_is;
+        length_is = length_from (exact sizes variables n) (exact sizes variables q) (exact sizes variables width) x.count c.count left x.length_is c.length_is;
+        below = cell_below_rows x.at x.count c.at c.count x.below c.below;
+      }
+
+  quotient_is : (V D : ℤ) (v d : ℕ) → V ≡ pos v → D ≡ pos d → int_div V D ≡ pos (v / d)
+  quotient_is V D v d e f = rw (e, f) refl
+
+  remainder_is : (V D : ℤ) (v d : ℕ) → V ≡ pos v → D ≡ pos d → int_rem V D ≡ pos (v % d)
+  remainder_is V D v d e f = rw (e, f) refl
+
+  below_part : (v q d : ℕ) (K : ℤ) → pos v <ℤ K → K ≡ pos (q * d) → v / d < q
+  below_part v q d K lt e = let less : pos v <ℤ pos (q * d) = subst (λ z. pos v <ℤ z) e lt in part_below v q d (omega (arith, ints))
+
+  part_within : (k l g : ℕ) (d n known : Expression) (part : Option Expression) → pos (slice_index variables k) <ℤ exact sizes variables known → IfLeft sizes variables known d part → is_passed (is_part_within d n) part ≡ true → IsColumn sizes variables (Binary Quotient (Variable k l g) d) n
+  part_within k l g d n known None lt left h = absurd (cc h)
+  part_within k l g d n known (Some q) lt left h =
+      let parts = both (is_natural q && is_natural d) (is_no_longer q n) h in
+      let numbers = both (is_natural q) (is_natural d) parts.0 in
+      let qn = count_value sizes variables 3 q numbers.0 in
+      let dn = count_value sizes variables 3 d numbers.1 in
+      let v : ℕ = slice_index variables k in
+      let less = below_part v qn.0 dn.0 (exact sizes variables known) lt (length_from (exact sizes variables known) (exact sizes variables q) (exact sizes variables d) qn.0 dn.0 left qn.1 dn.1) in
+      let under : pos (v / dn.0) <ℤ exact sizes variables q = subst (λ z. pos (v / dn.0) <ℤ z) (sym qn.1) (omega (arith, ints)) in
+      let count = counted_longer sizes variables (v / dn.0) q n under parts.1 in
+      record {
+        at = v / dn.0;
+        count = count.0;
+        column_is = quotient_is (pos v) (exact sizes variables d) v dn.0 refl dn.1;
+        length_is = count.1;
+        below = count.2;
+      }
+
+  known_below : (k l g : ℕ) (d n : Expression) (known : Option Expression) → slice_get r.lengths k ≡ known → is_passed (λ e. is_passed (is_part_within d n) (over e d)) known ≡ true → IsColumn sizes variables (Binary Quotient (Variable k l g) d) n
+  known_below k l g d n None at h = absurd (cc h)
+  known_below k l g d n (Some known) at h = part_within k l g d n known (over known d) (loops k known at) (over_left sizes variables known d) h
+
+  quotient_below : (e d n : Expression) → is_quotient_below r e d n ≡ true → IsColumn sizes variables (Binary Quotient e d) n
+  quotient_below (Variable k l g) d n h = known_below k l g d n (slice_get r.lengths k) refl h
+  quotient_below _ d n h = absurd (cc h)
+
+  remainder_below : (e d n : Expression) → is_remainder_below r e d n ≡ true → IsColumn sizes variables (Binary Remainder e d) n
+  remainder_below e (Literal d) n h =
+      let parts = both (nat_lt 0 d && is_some (slice_get r.lengths 0) && is_natural e) (is_at_least n d) h in
+      let rest = both (nat_lt 0 d && is_some (slice_get r.lengths 0)) (is_natural e) parts.0 in
+      let some = ltb-true 0 d (both (nat_lt 0 d) (is_some (slice_get r.lengths 0)) rest.0).0 in
+      let v = count_value sizes variables 3 e rest.1 in
+      let less : v.0 % d < d = mod-lt v.0 some in
+      let count = counted_least sizes variables (v.0 % d) d n (omega (arith, ints)) parts.1 in
+      record {
+        at = v.0 % d;
+        count = count.0;
+        column_is = remainder_is (exact sizes variables e) (pos d) v.0 d v.1 refl;
+        length_is = count.1;
+        below = count.2;
+      }
+  remainder_below e _ n h = absurd (cc h)
+
+  digit_is : (e n : Expression) → AreWithin variables e → is_digit_below r e n ≡ true → IsColumn sizes variables e n
+  digit_is (Variable k l g) n own h = column_of sizes variables r loops (Variable k l g) n own h
+  digit_is (Binary Quotient a b) n own h = quotient_below a b n h
+  digit_is (Binary Remainder a b) n own h = remainder_below a b n h
+  digit_is _ n own h = absurd (cc h)
+
+  sum_is : (begin column n : Expression) → AreWithin variables (Binary Sum begin column) → is_sum_below r begin column n ≡ true → IsColumn sizes variables (Binary Sum begin column) n
+  sum_is (Binary Product row width) column n own h =
+      cell_below row width column n (rows_within r width column n) refl h (λ passed. digit_is column width own.1 passed) (λ q passed. digit_is row q own.0.0 passed)
+  sum_is _ column n own h = absurd (cc h)
+
+  pub below_is : (e n : Expression) → AreWithin variables e → stays_below r e n ≡ true → IsColumn sizes variables e n
+  below_is (Binary Sum begin column) n own h = sum_is begin column n own h
+  below_is e n own h = digit_is e n own h

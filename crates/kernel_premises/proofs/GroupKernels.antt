@@ -1,0 +1,40 @@
+-- The kernel that is printed for a map over work-groups is of the kernel grammar.
+use Rattle.std.proofs.Common.{◌≤◌, List, length, refl, arith}
+use Rattle.std.proofs.lemmas.List.{length-append}
+use Rattle.size_arith.specs.declared.poly.Monomial.{Monomial}
+use Rattle.kernel_tree.specs.Code.{Output}
+use Rattle.lift_tree.specs.Annotations.{type_in}
+use Rattle.lift_ir.specs.Terms.{WorkGroup, LocalMemory, Term, Reshape, LetArray, Map}
+use Rattle.lift_ir.specs.AtLaunch.{shape_of}
+use Rattle.printed_form.specs.Counts.{copy_lengths}
+use Rattle.printed_form.specs.Views.{placed_view}
+use Rattle.printed_form.specs.Printer.{no_view}
+use Rattle.printed_form.specs.Programs.{lowered_root}
+use Rattle.printed_form.proofs.Lengths as privates
+use Rattle.printed_form.specs.GrammarPieces.{ViewsStayWithin, LoopsAreOfTheGrammar, HasRoomFor, TermsArePrintedWithin}
+use Rattle.group_form.specs.Forms.{StandsOverGroups}
+use Rattle.group_form.specs.Theorem.{LocalArraysAreCounted}
+use Rattle.group_form.specs.Uses.{phase_count}
+use Rattle.group_form.specs.Printer.{printed_group_kernel}
+use Rattle.kernel_premises.specs.GroupGrammar.{GroupKernelsAreOfTheGrammar}
+use Rattle.kernel_premises.proofs.GroupCodes.{locals_of, Pieces, groups_come, groups_fine}
+
+-- as many local arrays are declared as a turn has
+enough_locals : {A : Type 0} → LocalArraysAreCounted A → (t : Term A) → StandsOverGroups t → locals_of t ≤ length (copy_lengths LocalMemory t)
+enough_locals counted (Reshape y t) st = enough_locals counted t st.1
+enough_locals counted (LetArray v b) st = let e = length-append (copy_lengths LocalMemory v) (copy_lengths LocalMemory b) in let r = enough_locals counted b st.1 in omega arith
+enough_locals counted (Map WorkGroup n loads xs b) st = let e = length-append (copy_lengths LocalMemory xs) (copy_lengths LocalMemory b) in let c = counted b st.1 in omega arith
+enough_locals counted _ st = absurd st
+
+pub group_kernels_are_of_the_grammar : ViewsStayWithin → LoopsAreOfTheGrammar → TermsArePrintedWithin → LocalArraysAreCounted (List Monomial) → GroupKernelsAreOfTheGrammar
+group_kernels_are_of_the_grammar stay loops printed counted spell fence S M d t a h =
+    let k = printed_group_kernel spell fence d t a in
+    let r = lowered_root t a in
+    let ty = shape_of (type_in a) in
+    let w = placed_view spell Output 0 ty in
+    let room : HasRoomFor k S M d = record { some = h.some; fits = h.fits; inputs = refl } in
+    let known : Pieces k spell S M d = record { room = room; views = stay k S h.some; loops = loops; terms = printed k spell S M d room } in
+    let private = privates.counted r in
+    known.terms.kernel ty r refl refl refl h.sound (groups_come k spell S M d known fence (phase_count r) h.flagged no_view r w h.stands)
+    (groups_fine k spell S M d known fence (phase_count r) h.flagged (λ v. 0) no_view r w 0 (λ v. known.views.blank 0 0) (known.terms.output ty refl h.lengths h.few) h.stands h.written h.sound h.layouts h.low h.loops
+    (omega arith) (omega arith) (enough_locals counted r h.stands) (omega arith))

@@ -1,0 +1,196 @@
+-- The parts of what a typed term is lowered to.
+use Rattle.std.proofs.Common.{◌≡◌, ◌∙◌, ℕ, suc, ◌<◌, ◌≤◌, ◌^◌, Bool, true, false, List, [], ◌∷◌, length, refl, sym, ap, subst, inl, inr, arith}
+use Rattle.std.specs.Prelude.{if◌then◌else◌, max}
+use Rattle.std.proofs.lemmas.Option.{slice_get_within}
+use Rattle.size_arith.specs.Ranges.{leasts}
+use Rattle.lift_tree.specs.declared.term.UnaryForm.TheVariants as unary
+use Rattle.lift_tree.specs.declared.term.BinaryForm.TheVariants as binary
+use Rattle.lift_tree.specs.Lists.{Every}
+use Rattle.lift_tree.specs.Limits.{NodesFit}
+use Rattle.lift_tree.specs.Tree as tree
+use Rattle.lift_tree.specs.Tree.{Tree}
+use Rattle.lift_tree.specs.Types as types
+use Rattle.lift_tree.specs.Types.{PlainTy}
+use Rattle.lift_tree.specs.Typing.{Declared}
+use Rattle.lift_tree.specs.Annotations.{Annotates, Annotation, Leaf, One, Three, Two, type_in}
+use Rattle.lift_ir.specs.Types as ir
+use Rattle.lift_ir.specs.Types.{IsShort, size, Ty}
+use Rattle.lift_ir.specs.Terms.{Copy, LetArray, LetElement, LocalMemory, PrivateMemory, Space, Store}
+use Rattle.lift_ir.specs.AtLaunch.{shape_of, ty_at}
+use Rattle.lift_ir.specs.Lowering.{Argument, body_place, Element, element_ty, is_element, lower, lower_let, Lowered, Place, placed_element, value_place, Written}
+use Rattle.lift_ir.specs.Lowerable.{IsElementTerm, IsLowerable, IsStaged}
+use Rattle.printed_form.specs.Sound.{AllLengths, dimensions, IsSound}
+use Rattle.kernel_premises.specs.Sound.{IsHeld}
+use Rattle.lowered_tree.specs.Words.{FormsHaveWords}
+use Rattle.kernel_premises.proofs.Leasts.{has_a_cell}
+use Rattle.kernel_premises.proofs.Types.{good_element, good_in, inner_held, IsGood, outer_held}
+
+-- ---- elements
+element_is : (a : PlainTy) → ir.IsElement (element_ty a)
+element_is types.U32 = tt
+element_is (types.PairOf a b) = (element_is a, element_is b)
+element_is (types.ArrayOf a n) = tt
+
+-- ---- copies
+short_words : (t : Ty) → IsShort t → AllLengths (λ n. n < 2 ^ 32) t
+short_words ir.Scalar h = tt
+short_words (ir.PairOf a b) h = (short_words a h.0, short_words b h.1)
+short_words (ir.ArrayOf n t) h = let s = h.0 in (omega (arith, s), short_words t h.1)
+
+dimensions_at : (ys : List ℕ) (a : PlainTy) → dimensions (ty_at ys a) ≡ dimensions (shape_of a)
+dimensions_at ys types.U32 = refl
+dimensions_at ys (types.PairOf a b) = ap (λ m. max m (dimensions (ty_at ys b))) (dimensions_at ys a) ∙ ap (λ m. max (dimensions (shape_of a)) m) (dimensions_at ys b)
+dimensions_at ys (types.ArrayOf a n) = ap suc (dimensions_at ys a)
+
+-- ---- where a let is of an element, and where it is one
+value_element : (n : Annotation) → is_element (type_in n) ≡ true → value_place n ≡ Element
+value_element n e = ap (λ (b : Bool). if b then Element else Argument) e
+
+value_argument : (n : Annotation) → is_element (type_in n) ≡ false → value_place n ≡ Argument
+value_argument n e = ap (λ (b : Bool). if b then Element else Argument) e
+
+body_element : (a : PlainTy) → is_element a ≡ true → body_place Written a ≡ Element
+body_element a e = ap (λ (b : Bool). if b then Element else Written) e
+
+body_written : (a : PlainTy) → is_element a ≡ false → body_place Written a ≡ Written
+body_written a e = ap (λ (b : Bool). if b then Element else Written) e
+
+module _ (d : Declared) (inputs : Every (IsGood d.names) d.inputs) where
+  abbrev Declares : ℕ → Type 0
+  Declares s = s < length d.inputs
+
+  abbrev Sound : Lowered → Type 0
+  Sound t = IsSound IsHeld Declares t
+
+  -- ---- lets
+  let_element : (c : PlainTy) (v b : Lowered) → is_element c ≡ true → Sound v → Sound b → Sound (lower_let c v b)
+  let_element c v b e h k = subst (λ (x : Bool). Sound (if x then LetElement (element_ty c) v b else LetArray v b)) (sym e) (h, k)
+
+  let_array : (c : PlainTy) (v b : Lowered) → is_element c ≡ false → Sound v → Sound b → Sound (lower_let c v b)
+  let_array c v b e h k = subst (λ (x : Bool). Sound (if x then LetElement (element_ty c) v b else LetArray v b)) (sym e) (h, k)
+
+  same_either : (b : Bool) (t : Lowered) → Sound t → Sound (if b then t else t)
+  same_either true t h = h
+  same_either false t h = h
+
+  stored : (a : PlainTy) (t : Lowered) → is_element a ≡ true → Sound t → Sound (placed_element Written a t)
+  stored a t e h = subst (λ (x : Bool). Sound (if x then Store (element_ty a) t else t)) (sym e) (element_is a, h)
+
+  written : (a : PlainTy) (t : Lowered) → is_element a ≡ false → Sound t → Sound (placed_element Written a t)
+  written a t e h = subst (λ (x : Bool). Sound (if x then Store (element_ty a) t else t)) (sym e) h
+
+  -- what is lowered at a place that is this one
+  moved : (p q : Place) (t : Tree) (n : Annotation) → p ≡ q → Sound (lower q t n) → Sound (lower p t n)
+  moved p q t n e h = subst (λ r. Sound (lower r t n)) (sym e) h
+
+  lowerable_at : (p q : Place) (t : Tree) (n : Annotation) → p ≡ q → IsLowerable (leasts d.names) p t n → IsLowerable (leasts d.names) q t n
+  lowerable_at p q t n e h = subst (λ r. IsLowerable (leasts d.names) r t n) e h
+
+  -- ---- element terms
+  element : (g : List PlainTy) (t : Tree) (n : Annotation) → Annotates d g t n → FormsHaveWords t → IsElementTerm t n → Sound (lower Element t n)
+  element g (tree.Variable v) (Leaf a) y w o = tt
+  element g (tree.Number c) (Leaf a) y w o = y.0
+  element g (tree.Unary (unary.Div k) t) (One a n) y w o = (refl, w.0, element g t n y.0 w.1 o)
+  element g (tree.Unary (unary.Rem k) t) (One a n) y w o = (refl, w.0, element g t n y.0 w.1 o)
+  element g (tree.Unary unary.First t) (One a n) y w o = element g t n y.0 w.1 o
+  element g (tree.Unary unary.Second t) (One a n) y w o = element g t n y.0 w.1 o
+  element g (tree.Binary (binary.Operator f) t u) (Two a n m) y w o = (element g t n y.0 w.0 o.0, element g u m y.1 w.1 o.1)
+  element g (tree.Binary binary.Pair t u) (Two a n m) y w o = (element g t n y.0 w.0 o.0, element g u m y.1 w.1 o.1)
+  element g (tree.Select t u x) (Three a n m l) y w o = (element g t n y.0 w.0 o.0, element g u m y.1 w.1 o.1, element g x l y.2 w.2 o.2)
+  element g (tree.Let v b) (Two a n m) y w o =
+      let x = moved (value_place n) Element v n (value_element n o.0) (element g v n y.0 w.0 o.1) in
+      let z = element (type_in n ∷ g) b m y.1 w.1 o.2 in
+      same_either (is_element a) (lower_let (type_in n) (lower (value_place n) v n) (lower Element b m)) (let_element (type_in n) (lower (value_place n) v n) (lower Element b m) o.0 x z)
+  element g _ _ y w o = absurd o
+
+  -- an element term that is stored
+  store : (g : List PlainTy) (t : Tree) (n : Annotation) → Annotates d g t n → FormsHaveWords t → IsElementTerm t n → Sound (Store (element_ty (type_in n)) (lower Element t n))
+  store g t n y w o = (element_is (type_in n), element g t n y w o)
+
+  -- ---- copies
+  copy : (space : Space) (a : PlainTy) (t : Lowered) → IsGood d.names a → size (ty_at [] a) < 2 ^ 31 → IsShort (ty_at [] a) → ty_at (leasts d.names) a ≡ ty_at [] a → Sound t → Sound (Copy space (ty_at [] a) t)
+  copy space a t good small short same h =
+      let dims = dimensions_at [] a in
+      let few = good.held.few in
+      let cell = subst (λ z. 1 ≤ size z) same (has_a_cell d.names a good.formed) in
+      (short_words (ty_at [] a) short, omega (arith, dims, few), h, omega (arith, cell), omega (arith, small))
+
+  -- ---- terms in writing position, and arguments
+  mutual
+    pub sound_written : (g : List PlainTy) (t : Tree) (n : Annotation) → Every (IsGood d.names) g → Annotates d g t n → NodesFit d.names t n → FormsHaveWords t → IsLowerable (leasts d.names) Written t n → IsStaged Written t n → Sound (lower Written t n)
+    sound_written g (tree.Variable v) (Leaf a) all y f w l o = (element_is a, tt)
+    sound_written g (tree.Number c) (Leaf a) all y f w l o = (element_is a, y.0)
+    sound_written g (tree.Unary (unary.Div k) t) (One a n) all y f w l o = (element_is a, (refl, w.0, element g t n y.0 w.1 o))
+    sound_written g (tree.Unary (unary.Rem k) t) (One a n) all y f w l o = (element_is a, (refl, w.0, element g t n y.0 w.1 o))
+    sound_written g (tree.Unary unary.First t) (One a n) all y f w l o = (element_is a, element g t n y.0 w.1 o)
+    sound_written g (tree.Unary unary.Second t) (One a n) all y f w l o = (element_is a, element g t n y.0 w.1 o)
+    sound_written g (tree.Unary unary.Join t) (One a n) all y f w l o =
+        (inner_held (type_in n) (good_in d inputs g t n all y.0 f.0).held, sound_written g t n all y.0 f.0 w.1 l.3 o)
+    sound_written g (tree.Unary unary.Transpose t) (One a n) all y f w l o = (tt, sound_written g t n all y.0 f.0 w.1 l.3 o)
+    sound_written g (tree.Unary (unary.Split fs) t) (One a n) all y f w l o =
+        (inner_held a (good_in d inputs g (tree.Unary (unary.Split fs) t) (One a n) all y f).held, sound_written g t n all y.0 f.0 w.1 l.3 o)
+    sound_written g (tree.Unary (unary.Slide s k) t) (One a n) all y f w l o = (w.0, sound_written g t n all y.0 f.0 w.1 l.3 o)
+    sound_written g (tree.Unary (unary.Pad s k) t) (One a n) all y f w l o =
+        ((w.0, outer_held (type_in n) (good_in d inputs g t n all y.0 f.0).held), sound_written g t n all y.0 f.0 w.1 l.3 o)
+    sound_written g (tree.Binary (binary.Operator p) t u) (Two a n m) all y f w l o = (element_is a, (element g t n y.0 w.0 o.0, element g u m y.1 w.1 o.1))
+    sound_written g (tree.Binary binary.Pair t u) (Two a n m) all y f w l o = (element_is a, (element g t n y.0 w.0 o.0, element g u m y.1 w.1 o.1))
+    sound_written g (tree.Select t u x) (Three a n m k) all y f w l o = (element_is a, (element g t n y.0 w.0 o.0, element g u m y.1 w.1 o.1, element g x k y.2 w.2 o.2))
+    sound_written g (tree.Let v b) (Two a n m) all y f w l (inl o) =
+        let x = moved (value_place n) Element v n (value_element n o.1) (element g v n y.0 w.0 o.2) in
+        let z = moved (body_place Written a) Element b m (body_element a o.0) (element (type_in n ∷ g) b m y.1 w.1 o.3) in
+        stored a (lower_let (type_in n) (lower (value_place n) v n) (lower (body_place Written a) b m)) o.0 (let_element (type_in n) (lower (value_place n) v n) (lower (body_place Written a) b m) o.1 x z)
+    sound_written g (tree.Let v b) (Two a n m) all y f w l (inr (inl o)) =
+        let x = moved (value_place n) Element v n (value_element n o.1) (element g v n y.0 w.0 o.2) in
+        let good = good_in d inputs g v n all y.0 f.0 in
+        let under = lowerable_at (body_place Written a) Written b m (body_written a o.0) l.1 in
+        let z = moved (body_place Written a) Written b m (body_written a o.0) (sound_written (type_in n ∷ g) b m (good, all) y.1 f.1 w.1 under o.3) in
+        written a (lower_let (type_in n) (lower (value_place n) v n) (lower (body_place Written a) b m)) o.0 (let_element (type_in n) (lower (value_place n) v n) (lower (body_place Written a) b m) o.1 x z)
+    sound_written g (tree.Let v b) (Two a n m) all y f w l (inr (inr o)) =
+        let value = lowerable_at (value_place n) Argument v n (value_argument n o.1) l.0 in
+        let x = moved (value_place n) Argument v n (value_argument n o.1) (sound_argument g v n all y.0 f.0 w.0 value o.2) in
+        let good = good_in d inputs g v n all y.0 f.0 in
+        let under = lowerable_at (body_place Written a) Written b m (body_written a o.0) l.1 in
+        let z = moved (body_place Written a) Written b m (body_written a o.0) (sound_written (type_in n ∷ g) b m (good, all) y.1 f.1 w.1 under o.3) in
+        written a (lower_let (type_in n) (lower (value_place n) v n) (lower (body_place Written a) b m)) o.0 (let_array (type_in n) (lower (value_place n) v n) (lower (body_place Written a) b m) o.1 x z)
+    sound_written g (tree.Map j xs b) (Two a n m) all y f w l o =
+        let good = good_in d inputs g xs n all y.2 f.0 in (
+          outer_held (type_in n) good.held,
+          sound_argument g xs n all y.2 f.0 w.0 l.1 o.0,
+          sound_written (y.0 ∷ g) b m (good_element d inputs (type_in n) y.0 y.1 y.3 good, all) y.4 f.1 w.1 l.2 o.1,
+        )
+    sound_written g (tree.Fold j xs s b) (Three a n m k) all y f w l o =
+        let good = good_in d inputs g xs n all y.2 f.0 in (
+          outer_held (type_in n) good.held,
+          element_is (type_in m),
+          sound_argument g xs n all y.2 f.0 w.0 l.1 o.0,
+          element g s m y.4 w.1 o.1,
+          element (y.0 ∷ type_in m ∷ g) b k y.6 w.2 o.2,
+        )
+    sound_written g _ _ all y f w l o = absurd o
+
+    pub sound_argument : (g : List PlainTy) (t : Tree) (n : Annotation) → Every (IsGood d.names) g → Annotates d g t n → NodesFit d.names t n → FormsHaveWords t → IsLowerable (leasts d.names) Argument t n → IsStaged Argument t n → Sound (lower Argument t n)
+    sound_argument g (tree.Variable v) (Leaf a) all y f w l o = tt
+    sound_argument g (tree.Input i) (Leaf a) all y f w l o = slice_get_within d.inputs i a y
+    sound_argument g (tree.Unary unary.First t) (One a n) all y f w l o = sound_argument g t n all y.0 f.0 w.1 l.3 o
+    sound_argument g (tree.Unary unary.Second t) (One a n) all y f w l o = sound_argument g t n all y.0 f.0 w.1 l.3 o
+    sound_argument g (tree.Unary unary.Join t) (One a n) all y f w l o =
+        (inner_held (type_in n) (good_in d inputs g t n all y.0 f.0).held, sound_argument g t n all y.0 f.0 w.1 l.3 o)
+    sound_argument g (tree.Unary unary.Transpose t) (One a n) all y f w l o = (tt, sound_argument g t n all y.0 f.0 w.1 l.3 o)
+    sound_argument g (tree.Unary (unary.Split fs) t) (One a n) all y f w l o =
+        (inner_held a (good_in d inputs g (tree.Unary (unary.Split fs) t) (One a n) all y f).held, sound_argument g t n all y.0 f.0 w.1 l.3 o)
+    sound_argument g (tree.Unary (unary.Slide s k) t) (One a n) all y f w l o = (w.0, sound_argument g t n all y.0 f.0 w.1 l.3 o)
+    sound_argument g (tree.Unary (unary.Pad s k) t) (One a n) all y f w l o =
+        ((w.0, outer_held (type_in n) (good_in d inputs g t n all y.0 f.0).held), sound_argument g t n all y.0 f.0 w.1 l.3 o)
+    sound_argument g (tree.Unary unary.ToLocal t) (One a n) all y f w l o =
+        copy LocalMemory a (lower Written t n) (good_in d inputs g (tree.Unary unary.ToLocal t) (One a n) all y f) o.1 o.2 l.2.1 (sound_written g t n all y.0 f.0 w.1 l.3 o.3)
+    sound_argument g (tree.Unary unary.ToPrivate t) (One a n) all y f w l o =
+        copy PrivateMemory a (lower Written t n) (good_in d inputs g (tree.Unary unary.ToPrivate t) (One a n) all y f) o.1 o.2 l.2.1 (sound_written g t n all y.0 f.0 w.1 l.3 o.3)
+    sound_argument g (tree.Binary binary.Zip t u) (Two a n m) all y f w l o =
+        (sound_argument g t n all y.0 f.0 w.0 l.1 o.0, sound_argument g u m all y.1 f.1 w.1 l.2 o.1)
+    sound_argument g (tree.Let v b) (Two a n m) all y f w l o =
+        let value = lowerable_at (value_place n) Argument v n (value_argument n o.0) l.0 in
+        let x = moved (value_place n) Argument v n (value_argument n o.0) (sound_argument g v n all y.0 f.0 w.0 value o.1) in
+        let good = good_in d inputs g v n all y.0 f.0 in
+        let z = sound_argument (type_in n ∷ g) b m (good, all) y.1 f.1 w.1 l.1 o.2 in
+        same_either (is_element a) (lower_let (type_in n) (lower (value_place n) v n) (lower Argument b m)) (let_array (type_in n) (lower (value_place n) v n) (lower Argument b m) o.0 x z)
+    sound_argument g _ _ all y f w l o = absurd o

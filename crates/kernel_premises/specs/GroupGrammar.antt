@@ -1,0 +1,56 @@
+-- The kernel that the printer of maps over work-groups makes is of the kernel grammar.
+use Rattle.std.specs.Prelude.{◌≡◌, ℕ, ◌+◌, ◌*◌, ◌≤◌, true, ◌||◌, List}
+use Rattle.size_arith.specs.declared.poly.Monomial.{Monomial}
+use Rattle.lift_tree.specs.Tree.{Tree}
+use Rattle.lift_tree.specs.Annotations.{Annotation, type_in}
+use Rattle.lift_tree.specs.Typing.{Declared}
+use Rattle.kernel_tree.specs.Formula.{Formula}
+use Rattle.kernel_tree.specs.Grammar.{is_kernel}
+use Rattle.barrier_placement.specs.declared.touches.Touch.{Touch}
+use Rattle.barrier_placement.specs.Fencing.{Fencing, Open, Fenced}
+use Rattle.barrier_placement.specs.Needed.{Needed}
+use Rattle.lift_ir.specs.AtLaunch.{shape_of}
+use Rattle.printed_form.specs.Programs.{lowered_root}
+use Rattle.printed_form.specs.Sound.{IsSpelledIn, AllLengths, IsWrittenWithin, dimensions, loop_depth, AreLow, CanBeWritten}
+use Rattle.printed_form.specs.KernelGrammar.{IsSoundIn}
+use Rattle.group_form.specs.Forms.{StandsOverGroups}
+use Rattle.group_form.specs.Uses.{phase_count}
+use Rattle.group_form.specs.Printer.{printed_group_kernel}
+
+-- a barrier that stands has a flag
+abbrev pub IsFlagged : Fencing → Type 0
+IsFlagged Open = Unit {0}
+IsFlagged (Fenced on_local on_global) = (on_local || on_global) ≡ true
+
+-- A typed term that is a map over work-groups is printed within the grammar: barriers have flags;
+-- something is stored wherever it is written; its numbers are words, its lengths and inputs are
+-- spelled in the grammar, at most so high; at most so many layouts stand one on another; element
+-- terms and loops don't nest too deep.
+pub record IsGroupPrintedWithin (spell : List Monomial → Formula) (fence : ℕ → Fencing)
+    (high most : ℕ) (d : Declared) (t : Tree) (a : Annotation) : Type 0 where
+  pub some : 1 ≤ high
+  pub fits : high + (8 + 3 * most) ≤ 1024
+  pub stands : StandsOverGroups (lowered_root t a)
+  pub flagged : (q : ℕ) → q ≤ phase_count (lowered_root t a) → IsFlagged (fence q)
+  pub written : CanBeWritten (lowered_root t a)
+  pub sound : IsSoundIn (printed_group_kernel spell fence d t a) spell high d (lowered_root t a)
+  pub layouts : IsWrittenWithin most (λ v. 0) 0 (lowered_root t a)
+  pub low : AreLow 1024 (lowered_root t a)
+  pub loops : loop_depth (lowered_root t a) ≤ 1024
+  pub lengths : AllLengths
+      (λ n. IsSpelledIn (printed_group_kernel spell fence d t a) high (spell n))
+      (shape_of (type_in a))
+  pub few : dimensions (shape_of (type_in a)) ≤ 4
+
+abbrev pub GroupKernelsAreOfTheGrammar : Type 0
+GroupKernelsAreOfTheGrammar =
+    (spell : List Monomial → Formula) (fence : ℕ → Fencing) (high most : ℕ) (d : Declared)
+    (t : Tree) (a : Annotation)
+    → IsGroupPrintedWithin spell fence high most d t a
+    → is_kernel (printed_group_kernel spell fence d t a) ≡ true
+
+-- needed barriers have flags
+abbrev pub NeededAreFlagged : Type 0
+NeededAreFlagged =
+    (touches : List Touch) (n : ℕ) (fence : ℕ → Fencing) → Needed touches n fence → (q : ℕ) → q ≤ n
+    → IsFlagged (fence q)

@@ -1,0 +1,7 @@
+pub mod Within
+pub mod Sound
+pub mod Terms
+pub mod Soundness
+pub mod GroupGrammar
+pub mod Groups
+pub mod Arrays

@@ -1,0 +1,28 @@
+-- What the limits on a term give its kernel.
+use Rattle.std.specs.Prelude.{ℕ, ◌≤◌, ◌⊎◌, []}
+use Rattle.lift_tree.specs.Tree.{Tree, height}
+use Rattle.lift_tree.specs.Types.{IsOutput}
+use Rattle.lift_tree.specs.Annotations.{Annotation, Annotates, type_in}
+use Rattle.lift_tree.specs.Typing.{Declared}
+use Rattle.lift_ir.specs.Lowerable.{IsStaged}
+use Rattle.lift_ir.specs.Lowering.{Written}
+use Rattle.lift_ir.specs.Forms.{Stands, StandsOverLaunch}
+use Rattle.lift_ir.specs.Terms.{Term}
+use Rattle.std.specs.Prelude.{true}
+use Rattle.printed_form.specs.Programs.{lowered_root}
+use Rattle.printed_form.specs.Sound.{IsWrittenWithin, AreLow, loop_depth, CanBeWritten}
+use Rattle.buffer_allocation.specs.Layouts.{layouts}
+
+-- a term that one work-item runs, or that is a map over the launch, can be written
+abbrev pub TermsCanBeWritten : Type 0 → Type 0
+TermsCanBeWritten A = (t : Term A) → Stands true t ⊎ StandsOverLaunch t → CanBeWritten t
+
+-- a typed term of at most so many layouts, whose height is at most 512, is lowered to one that
+-- nests no deeper
+abbrev pub TermsNestWithin : Type 0
+TermsNestWithin =
+    (d : Declared) (most : ℕ) (t : Tree) (n : Annotation) → Annotates d [] t n
+    → IsOutput (type_in n) → IsStaged Written t n → CanBeWritten (lowered_root t n)
+    → most ≤ 256 → layouts t n ≤ most → height t ≤ 512
+    → IsWrittenWithin most (λ v. 0) 0 (lowered_root t n) × AreLow 1024 (lowered_root t n)
+    × (loop_depth (lowered_root t n) ≤ 1024)

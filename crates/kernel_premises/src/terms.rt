@@ -1,0 +1,41 @@
+//! Laws of the kernels that terms are printed as, each carried by a function that does nothing.
+
+ghost use Rattle.kernel_premises.specs.Terms.{FormulasSpellLengths, KernelsAreInTheGrammar, SoundPartsAreSpelled, TermsArePrinted};
+
+use crate::limits::terms_nest_within;
+use length_spelling::laws::{lengths_are_bounds, lengths_are_spelled};
+use printed_form::grammar::kernels_are_of_the_grammar;
+use printed_form::laws::programs_are_printed;
+
+/// At each admissible launch the formulas of lengths spell them.
+pub fn formulas_spell_lengths()
+    ensures { FormulasSpellLengths }
+{
+    lengths_are_spelled();
+}
+
+/// In every kernel that has a program's sizes, the inputs, the output and the lengths of a term of
+/// sound parts are spelled.
+pub fn sound_parts_are_spelled()
+    ensures { SoundPartsAreSpelled }
+{
+    lengths_are_bounds();
+}
+
+/// A typed term of sound parts, of at most 24 layouts and at most 512 high, is printed as a kernel
+/// of the kernel grammar.
+pub fn kernels_are_in_the_grammar()
+    ensures { KernelsAreInTheGrammar }
+{
+    kernels_are_of_the_grammar();
+    sound_parts_are_spelled();
+    terms_nest_within();
+}
+
+/// The kernel that a printable term is printed as is printed for it, at each admissible launch.
+pub fn terms_are_printed()
+    ensures { TermsArePrinted }
+{
+    formulas_spell_lengths();
+    programs_are_printed();
+}

@@ -1,8 +1,0 @@
-use Rattle.lift_ir.proofs.WorkedTerms.{increments_are_lowered, sums_are_lowered}
-use Rattle.lift_ir.proofs.laws.worked_terms_are_lowered.Goals as goal
-
-pub returns-clause-increments : goal.returns-clause-increments
-returns-clause-increments c = increments_are_lowered
-
-pub returns-clause-sums : goal.returns-clause-sums
-returns-clause-sums c = sums_are_lowered

@@ -1,0 +1,121 @@
+-- A term has no more phases than nodes.
+use Rattle.std.proofs.Common.{◌+◌, ◌≤◌, Bool, true, false, arith}
+use Rattle.std.specs.Prelude.{if◌then◌else◌}
+use Rattle.lift_tree.specs.declared.term.UnaryForm.{UnaryForm}
+use Rattle.lift_tree.specs.declared.term.UnaryForm.TheVariants as unary
+use Rattle.lift_tree.specs.declared.term.BinaryForm.{BinaryForm}
+use Rattle.lift_tree.specs.declared.term.BinaryForm.TheVariants as binary
+use Rattle.lift_tree.specs.Tree as tree
+use Rattle.lift_tree.specs.Tree.{Tree, nodes}
+use Rattle.lift_tree.specs.Types.{PlainTy}
+use Rattle.lift_tree.specs.Annotations.{Annotation, One, Two, Three, type_in}
+use Rattle.lift_ir.specs.Terms.{Both, LetArray, LetElement, Bound, Literal, Select}
+use Rattle.lift_ir.specs.Lowering.{Place, Written, Argument, Element, Lowered, is_element, element_ty, placed, placed_element, lower, lower_unary, lower_binary, lower_let, operand_place, binary_place, value_place, body_place}
+use Rattle.group_form.specs.Uses.{phases_in, phase_count}
+use Rattle.nest_premises.specs.Groups.{PhasesAreFew}
+
+-- ---- of a body
+placed_in : (p : Place) (a : PlainTy) (x : Lowered) → phases_in (placed p a x) ≤ phases_in x
+placed_in Written a x = omega arith
+placed_in Argument a x = omega arith
+placed_in Element a x = omega arith
+
+unary_in : (p : Place) (f : UnaryForm) (a b : PlainTy) (x : Lowered) → phases_in (lower_unary p f a b x) ≤ phases_in x
+unary_in p (unary.Div k) a b x = let e = placed_in p a (lower_unary Element (unary.Div k) a b x) in omega arith
+unary_in p (unary.Rem k) a b x = let e = placed_in p a (lower_unary Element (unary.Rem k) a b x) in omega arith
+unary_in p unary.First a b x = placed_in p a (lower_unary Element unary.First a b x)
+unary_in p unary.Second a b x = placed_in p a (lower_unary Element unary.Second a b x)
+unary_in p unary.ToPrivate a b x = omega arith
+unary_in p unary.ToLocal a b x = omega arith
+unary_in p unary.Join a b x = omega arith
+unary_in p unary.Transpose a b x = omega arith
+unary_in p (unary.Split fs) a b x = omega arith
+unary_in p (unary.Slide s k) a b x = omega arith
+unary_in p (unary.Pad s k) a b x = omega arith
+
+binary_in : (p : Place) (f : BinaryForm) (a : PlainTy) (x y : Lowered) → phases_in (lower_binary p f a x y) ≤ phases_in x + phases_in y
+binary_in p (binary.Operator o) a x y = let e = placed_in p a (lower_binary Element (binary.Operator o) a x y) in omega arith
+binary_in p binary.Pair a x y = placed_in p a (Both false x y)
+binary_in p binary.Zip a x y = omega arith
+binary_in p (binary.Reduce o) a x y = omega arith
+
+let_in : (p : Place) (a c : PlainTy) (v b : Lowered) → phases_in (placed_element p a (lower_let c v b)) ≤ phases_in v + phases_in b
+let_in p a c v b = go (is_element a) (is_element c)
+  where
+    go : (x y : Bool) → phases_in (let whole = if y then LetElement (element_ty c) v b else LetArray v b in if x then placed p a whole else whole) ≤ phases_in v + phases_in b
+    go true true = let e = placed_in p a (LetElement (element_ty c) v b) in omega arith
+    go true false = placed_in p a (LetArray v b)
+    go false true = omega arith
+    go false false = omega arith
+
+few_in : (p : Place) (t : Tree) (n : Annotation) → phases_in (lower p t n) ≤ nodes t
+few_in p (tree.Variable v) n = let e = placed_in p (type_in n) (Bound v) in omega arith
+few_in p (tree.Number c) n = let e = placed_in p (type_in n) (Literal c) in omega arith
+few_in p (tree.Input i) n = omega arith
+few_in p (tree.Unary f t) (One a n) = let e = unary_in p f a (type_in n) (lower (operand_place f p) t n) in let r = few_in (operand_place f p) t n in omega arith
+few_in p (tree.Binary f t u) (Two a n m) =
+    let e = binary_in p f a (lower (binary_place f) t n) (lower (binary_place f) u m) in
+    let r = few_in (binary_place f) t n in
+    let s = few_in (binary_place f) u m in
+    omega arith
+few_in p (tree.Select t u w) (Three a n m k) = let e = placed_in p a (Select (lower Element t n) (lower Element u m) (lower Element w k)) in omega arith
+few_in p (tree.Let v b) (Two a n m) =
+    let e = let_in p a (type_in n) (lower (value_place n) v n) (lower (body_place p a) b m) in
+    let r = few_in (value_place n) v n in
+    let s = few_in (body_place p a) b m in
+    omega arith
+few_in p (tree.Map j xs b) (Two a n m) = let r = few_in Argument xs n in omega arith
+few_in p (tree.Fold j xs s b) (Three a n m k) = omega arith
+few_in p _ n = omega arith
+
+-- ---- of a map over work-groups
+placed_of : (p : Place) (a : PlainTy) (x : Lowered) → phase_count (placed p a x) ≤ phase_count x
+placed_of Written a x = omega arith
+placed_of Argument a x = omega arith
+placed_of Element a x = omega arith
+
+unary_of : (p : Place) (f : UnaryForm) (a b : PlainTy) (x : Lowered) → phase_count (lower_unary p f a b x) ≤ phase_count x
+unary_of p (unary.Div k) a b x = let e = placed_of p a (lower_unary Element (unary.Div k) a b x) in omega arith
+unary_of p (unary.Rem k) a b x = let e = placed_of p a (lower_unary Element (unary.Rem k) a b x) in omega arith
+unary_of p unary.First a b x = let e = placed_of p a (lower_unary Element unary.First a b x) in omega arith
+unary_of p unary.Second a b x = let e = placed_of p a (lower_unary Element unary.Second a b x) in omega arith
+unary_of p unary.ToPrivate a b x = omega arith
+unary_of p unary.ToLocal a b x = omega arith
+unary_of p unary.Join a b x = omega arith
+unary_of p unary.Transpose a b x = omega arith
+unary_of p (unary.Split fs) a b x = omega arith
+unary_of p (unary.Slide s k) a b x = omega arith
+unary_of p (unary.Pad s k) a b x = omega arith
+
+binary_of : (p : Place) (f : BinaryForm) (a : PlainTy) (x y : Lowered) → phase_count (lower_binary p f a x y) ≤ 0
+binary_of p (binary.Operator o) a x y = placed_of p a (lower_binary Element (binary.Operator o) a x y)
+binary_of p binary.Pair a x y = placed_of p a (Both false x y)
+binary_of p binary.Zip a x y = omega arith
+binary_of p (binary.Reduce o) a x y = omega arith
+
+let_of : (p : Place) (a c : PlainTy) (v b : Lowered) → phase_count (placed_element p a (lower_let c v b)) ≤ phase_count b
+let_of p a c v b = go (is_element a) (is_element c)
+  where
+    go : (x y : Bool) → phase_count (let whole = if y then LetElement (element_ty c) v b else LetArray v b in if x then placed p a whole else whole) ≤ phase_count b
+    go true true = let e = placed_of p a (LetElement (element_ty c) v b) in omega arith
+    go true false = placed_of p a (LetArray v b)
+    go false true = omega arith
+    go false false = omega arith
+
+few_of : (p : Place) (t : Tree) (n : Annotation) → phase_count (lower p t n) ≤ nodes t
+few_of p (tree.Variable v) n = let e = placed_of p (type_in n) (Bound v) in omega arith
+few_of p (tree.Number c) n = let e = placed_of p (type_in n) (Literal c) in omega arith
+few_of p (tree.Input i) n = omega arith
+few_of p (tree.Unary f t) (One a n) = let e = unary_of p f a (type_in n) (lower (operand_place f p) t n) in let r = few_of (operand_place f p) t n in omega arith
+few_of p (tree.Binary f t u) (Two a n m) = let e = binary_of p f a (lower (binary_place f) t n) (lower (binary_place f) u m) in omega arith
+few_of p (tree.Select t u w) (Three a n m k) = let e = placed_of p a (Select (lower Element t n) (lower Element u m) (lower Element w k)) in omega arith
+few_of p (tree.Let v b) (Two a n m) =
+    let e = let_of p a (type_in n) (lower (value_place n) v n) (lower (body_place p a) b m) in
+    let s = few_of (body_place p a) b m in
+    omega arith
+few_of p (tree.Map j xs b) (Two a n m) = let r = few_in Written b m in omega arith
+few_of p (tree.Fold j xs s b) (Three a n m k) = omega arith
+few_of p _ n = omega arith
+
+pub phases_are_few : PhasesAreFew
+phases_are_few t n = few_of Written t n

@@ -1,0 +1,35 @@
+-- Each legal nest is for one work-item, over all of them, or over work-groups.
+use Rattle.std.specs.Prelude.{◌≡◌, ◌≤◌}
+use Rattle.lift_tree.specs.Tree.{Tree, nodes}
+use Rattle.lift_tree.specs.Typing.{declared_by}
+use Rattle.lift_tree.specs.Programs.{PlainProgram}
+use Rattle.lift_tree.specs.Annotations.{Annotation}
+use Rattle.printed_form.specs.Programs.{lowered_root}
+use Rattle.group_form.specs.Uses.{phase_count}
+use Rattle.lowered_tree.specs.Copies.{CopiesArrays}
+use Rattle.nest_premises.specs.Legal.{IsLegalTerm}
+use Rattle.lowered_tree.specs.Kind.{nest_kind}
+use Rattle.lowered_tree.specs.declared.kind.NestKind.TheVariants.{OverGroups}
+use Rattle.nest_premises.specs.Stands.{StandsAs, IsGroupPrintable, IsPrintableAs}
+
+-- what a legal term is lowered to stands as the term's kind says
+abbrev pub LegalNestsStand : Type 0
+LegalNestsStand =
+    (p : PlainProgram) (t : Tree) (n : Annotation) → IsLegalTerm p t n → CopiesArrays t n
+    → StandsAs (nest_kind t) (lowered_root t n)
+
+-- a legal term with a map over work-groups on top can be printed as such
+abbrev pub LegalGroupsStandOverGroups : Type 0
+LegalGroupsStandOverGroups =
+    (p : PlainProgram) (t : Tree) (n : Annotation) → IsLegalTerm p t n → CopiesArrays t n
+    → nest_kind t ≡ OverGroups → IsGroupPrintable (declared_by p) t n
+
+-- each legal term can be printed as its kind says
+abbrev pub LegalTermsArePrintable : Type 0
+LegalTermsArePrintable =
+    (p : PlainProgram) (t : Tree) (n : Annotation) → IsLegalTerm p t n → CopiesArrays t n
+    → IsPrintableAs (nest_kind t) (declared_by p) t n
+
+-- a term has no more phases than nodes
+abbrev pub PhasesAreFew : Type 0
+PhasesAreFew = (t : Tree) (n : Annotation) → phase_count (lowered_root t n) ≤ nodes t

@@ -1,0 +1,123 @@
+// Owners of cells, at launches of each kind.
+
+use crate::lowering::lowered_last;
+use kernel_tree::launches::Launch;
+use output_owner::owner;
+use std::alloc::Global;
+use std::test::Fail;
+
+// A program, a script, the launch's sizes and its work-items in all and in a group, and each cell's
+// owner.
+struct Row {
+    program: &'static str,
+    script: &'static str,
+    sizes: &'static [u32],
+    global: u32,
+    local: u32,
+    owners: &'static [u32],
+}
+
+const ADDED: &str = "size N from 1 to 1000; input xs: [u32; N]; output map(\\x. add(x, 1), xs)";
+
+const SUMS: &str =
+    "size N multiple 2 from 2 to 4096; input xs: [u32; N]; output join(map(\\w. reduce(add, 0, w), slide(3, 1, pad(1, 1, xs))))";
+
+const TILED: &str =
+    "at 0.0 tile-slide 2\nat 0 map-join\nat 0.0 fuse-map\nat 0.0.1 let-inline\nat 0.0.1.0.0 local-copy\nat 0.0.1.1 reduce-fold\nat 0.0.1.1 fold-seq\nat 0.0.1 to-lcl\nat 0.0 to-wrg";
+
+const COPIED: &str = "at . split-map 2\nat 0.1.0 local-copy\nat 0.1 to-lcl\nat 0 to-wrg";
+
+const TURNED: &str = "input xs: [[u32; 3]; 2]; output transpose(map(\\r. map(\\x. x, r), xs))";
+
+const ROWS: [Row; 7] = [
+    // One work-item has all.
+    Row {
+        program: ADDED,
+        script: "at . to-seq",
+        sizes: &[3],
+        global: 1,
+        local: 1,
+        owners: &[0, 0, 0],
+    },
+    // Item i mod 4 has cell i.
+    Row {
+        program: ADDED,
+        script: "at . to-glb",
+        sizes: &[5],
+        global: 4,
+        local: 2,
+        owners: &[0, 1, 2, 3, 0],
+    },
+    // Tiles of two cells, by one group.
+    Row {
+        program: SUMS,
+        script: TILED,
+        sizes: &[6],
+        global: 2,
+        local: 2,
+        owners: &[0, 1, 0, 1, 0, 1],
+    },
+    // Two tiles by the first two of five groups of three items.
+    Row {
+        program: SUMS,
+        script: TILED,
+        sizes: &[4],
+        global: 15,
+        local: 3,
+        owners: &[0, 1, 3, 4],
+    },
+    // Three tiles by two groups in turn.
+    Row {
+        program: SUMS,
+        script: TILED,
+        sizes: &[6],
+        global: 4,
+        local: 2,
+        owners: &[0, 1, 2, 3, 0, 1],
+    },
+    Row {
+        program: "size N multiple 2 from 2 to 1000; input xs: [u32; N]; output map(\\x. add(x, 1), xs)",
+        script: COPIED,
+        sizes: &[4],
+        global: 4,
+        local: 2,
+        owners: &[0, 1, 2, 3],
+    },
+    // Rows are spread over two items, and stand in columns.
+    Row {
+        program: TURNED,
+        script: "at 0.1 to-seq\nat 0 to-glb",
+        sizes: &[],
+        global: 2,
+        local: 1,
+        owners: &[0, 1, 0, 1, 0, 1],
+    },
+];
+
+fn has_owners(alloc: Global, row: &Row) -> Result<bool, Fail> {
+    let Some(lowered) = lowered_last(alloc, row.program, row.script)? else {
+        return Ok(false);
+    };
+    if row.local == 0 || row.global == 0 || row.global % row.local != 0 {
+        return Ok(false);
+    }
+    let launch = Launch {
+        global: row.global,
+        local: row.local,
+        sizes: row.sizes.to_vec(alloc)?,
+    };
+    for (cell, item) in row.owners.iter().enumerate() {
+        if owner(&lowered, &launch, cell as u64) != *item {
+            return Ok(false);
+        }
+    }
+    Ok(true)
+}
+
+#[test]
+fn each_cell_has_its_owner(rt: HostRuntime) -> Result<(), Fail> {
+    for row in &ROWS {
+        assert!(rt; has_owners(rt.alloc(), row)?);
+    }
+    Ok(())
+}

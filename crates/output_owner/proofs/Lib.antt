@@ -1,0 +1,6 @@
+pub mod Products
+pub mod Rows
+pub mod Bases
+pub mod Legal
+pub mod Through
+pub mod Roots

@@ -1,0 +1,278 @@
+-- Through layouts and the bodies of lets to the map on top.
+use Rattle.std.proofs.Common.{◌≡◌, ℕ, ◌+◌, ◌*◌, ◌/◌, ◌%◌, ◌<◌, ◌≤◌, ◌^◌, Bool, true, false, List, [], ◌∷◌, refl, sym, ap, ◌∙◌, subst, arith, pos, ◌≤ℤ◌, ◌⊎◌, inl, inr}
+use Rattle.std.specs.Prelude.{if◌then◌else◌, IfSome, MatchOption, Option, Some, None}
+use Rattle.std.proofs.Math.Nat.{mod-lt}
+use Rattle.size_arith.specs.declared.names.Name.{Name}
+use Rattle.size_arith.specs.declared.poly.Monomial.{Monomial}
+use Rattle.size_arith.specs.Polynomial.{value_at}
+use Rattle.size_arith.specs.Ranges.{Admissible, AreNames}
+use Rattle.size_arith.specs.Shown.{ShownAtLeast}
+use Rattle.size_arith.proofs.Soundness.{shown_at_least}
+use Rattle.lift_tree.specs.declared.length.Factor.{Factor}
+use Rattle.lift_tree.specs.declared.term.UnaryForm.TheVariants.{Div, First, Join, Pad, Rem, Second, Slide, Split, ToLocal, ToPrivate, Transpose}
+use Rattle.lift_tree.specs.declared.term.MapKind.{MapKind}
+use Rattle.lift_tree.specs.declared.term.UnaryForm.{UnaryForm}
+use Rattle.lift_tree.specs.declared.term.MapKind.TheVariants as map_kind
+use Rattle.lift_tree.specs.Annotations.{Annotation, One, Two, type_in}
+use Rattle.lift_tree.specs.Tree.{Tree, Unary, Let, Map}
+use Rattle.lift_tree.specs.Types.{PlainTy, ArrayOf}
+use Rattle.lift_tree.specs.Typing.{IsDeclared}
+use Rattle.kernel_tree.specs.Launch.{Launch}
+use Rattle.lift_ir.specs.AtLaunch.{inner_of, length_at, layout_of, ty_at, outer_of}
+use Rattle.lift_ir.specs.Layouts.{Layout, operand_position, Reshapes}
+use Rattle.lift_ir.specs.Layouts as layouts
+use Rattle.lift_ir.specs.Lowering as ir
+use Rattle.lift_ir.specs.Lowering.{Lowered, Written, kind_of, lower, element_ty, value_place}
+use Rattle.lift_ir.specs.Owner.{local_owner, owner}
+use Rattle.lift_ir.specs.Terms.{Kind, Global, WorkGroup, Local, Sequential, LoadSet, Literal, Reshape, Store, LetArray, LetElement}
+use Rattle.lift_ir.specs.Terms as terms
+use Rattle.lift_ir.specs.Types as shapes
+use Rattle.lift_ir.specs.Types.{Ty, size, unflat}
+use Rattle.lift_ir.proofs.AtLaunch.{join_reshapes, split_reshapes, transpose_reshapes}
+use Rattle.lowered_tree.specs.Elements.{is_element}
+use Rattle.output_owner.specs.Bases.{bases_of}
+use Rattle.output_owner.specs.declared.walk.OnTop.{OnTop}
+use Rattle.output_owner.specs.Owners.{HaveOneOwner, IsOfNone, IsOfTop, map_over, position, written}
+use Rattle.output_owner.specs.Transposed.{IsOfRows, moved, transposed}
+use Rattle.output_owner.specs.Written.{IsNumber, IsScalarOf, IsWritten}
+use Rattle.output_owner.proofs.Legal.{below_join, below_let, below_map, below_split, below_transpose, no_pad, no_slide, one_test, operand_formed}
+use Rattle.output_owner.proofs.Products.{first_some, second_below, second_some}
+use Rattle.output_owner.proofs.Rows.{join_position, moves, split_position, transpose_position}
+
+-- ---- of one owner
+
+pub through_layout : (bases : List ℕ) (y : Layout (List Monomial)) (t : Lowered) (q p : List ℕ) → operand_position (length_at bases) y q ≡ p → HaveOneOwner bases (Reshape y t) q t p
+through_layout bases y t q p e = record {
+  item = λ l. ap (owner (length_at bases) l t) e;
+  local = λ l. ap (local_owner (length_at bases) l t) e;
+}
+
+pub after : (bases : List ℕ) (t u v : Lowered) (q p r : List ℕ) → HaveOneOwner bases t q u p → HaveOneOwner bases u p v r → HaveOneOwner bases t q v r
+after bases t u v q p r h k = record { item = λ l. h.item l ∙ k.item l; local = λ l. h.local l ∙ k.local l }
+
+-- a map's owner is told by its kind, its turn and its body
+pub of_map : (bases : List ℕ) (k : Kind) (n : List Monomial) (loads : LoadSet) (xs b : Lowered) (i : ℕ) (q : List ℕ) → HaveOneOwner bases (terms.Map k n loads xs b) (i ∷ q) (map_over k b) (i ∷ q)
+of_map bases Global n loads xs b i q = record { item = λ l. refl; local = λ l. refl }
+of_map bases WorkGroup n loads xs b i q = record { item = λ l. refl; local = λ l. refl }
+of_map bases Local n loads xs b i q = record { item = λ l. refl; local = λ l. refl }
+of_map bases Sequential n loads xs b i q = record { item = λ l. refl; local = λ l. refl }
+
+-- a let, whose whole type and whose value's are tested so
+abbrev let_tested : (v b : Tree) (a : PlainTy) (n m : Annotation) (whole value : Bool) → Lowered
+let_tested v b a n m x y =
+    if x then Store (element_ty a) (if y then LetElement (element_ty (type_in n)) (lower (value_place n) v n) (lower (if x then ir.Element else Written) b m) else LetArray (lower (value_place n) v n) (lower (if x then ir.Element else Written) b m))
+    else (if y then LetElement (element_ty (type_in n)) (lower (value_place n) v n) (lower (if x then ir.Element else Written) b m) else LetArray (lower (value_place n) v n) (lower (if x then ir.Element else Written) b m))
+
+pub of_let : (bases : List ℕ) (v b : Tree) (a : PlainTy) (n m : Annotation) (q : List ℕ) → is_element a ≡ false → is_element (type_in n) ≡ false → HaveOneOwner bases (written (Let v b) (Two a n m)) q (written b m) q
+of_let bases v b a n m q e f =
+    subst (λ (x : Bool). HaveOneOwner bases (let_tested v b a n m x (ir.is_element (type_in n))) q (written b m) q) (sym (one_test a ∙ e))
+    (subst (λ (y : Bool). HaveOneOwner bases (let_tested v b a n m false y) q (written b m) q) (sym (one_test (type_in n) ∙ f)) (record { item = λ l. refl; local = λ l. refl }))
+
+pub of_element : (bases : List ℕ) (v b : Tree) (a : PlainTy) (n m : Annotation) (q : List ℕ) → is_element a ≡ true → HaveOneOwner bases (written (Let v b) (Two a n m)) q (Literal 0) []
+of_element bases v b a n m q e =
+    subst (λ (x : Bool). HaveOneOwner bases (let_tested v b a n m x (ir.is_element (type_in n))) q (Literal 0) []) (sym (one_test a ∙ e)) (record { item = λ l. refl; local = λ l. refl })
+
+pub of_bound_element : (bases : List ℕ) (v b : Tree) (a : PlainTy) (n m : Annotation) (q : List ℕ) → is_element a ≡ false → is_element (type_in n) ≡ true → HaveOneOwner bases (written (Let v b) (Two a n m)) q (Literal 0) []
+of_bound_element bases v b a n m q e f =
+    subst (λ (x : Bool). HaveOneOwner bases (let_tested v b a n m x (ir.is_element (type_in n))) q (Literal 0) []) (sym (one_test a ∙ e))
+    (subst (λ (y : Bool). HaveOneOwner bases (let_tested v b a n m false y) q (Literal 0) []) (sym (one_test (type_in n) ∙ f)) (record { item = λ l. refl; local = λ l. refl }))
+
+-- ---- one step
+
+module _ (names : List Name) (sizes : List ℕ) where
+  abbrev bases : List ℕ
+  bases = bases_of names sizes
+
+  -- a scalar of a whole is one of a part, of one owner
+  pub record Steps (t : Tree) (n : Annotation) (number : ℕ) (u : Tree) (m : Annotation) (other : ℕ) : Type 0 where
+    pub scalar : IsScalarOf names sizes u m other
+    pub owner : HaveOneOwner bases (written t n) (position bases n number) (written u m) (position bases m other)
+
+  module _ (t : Tree) (n : Annotation) (k : ℕ) (s : IsScalarOf names sizes t n k) where
+    pub shown : (j : ℕ) (p : List Monomial) → ShownAtLeast j s.term.declared.names p → pos j ≤ℤ value_at bases p
+    shown = shown_at_least s.term.declared.names bases s.term.proper.names (subst (λ (ns : List Name). Admissible ns bases) (sym s.term.same) s.admissible)
+
+    some : 0 < size (ty_at bases (type_in n))
+    some = let h = s.scalar.below in omega arith
+
+  -- the number stays, where the part has as many scalars
+  same_number : (t : Tree) (n : Annotation) (k : ℕ) (s : IsScalarOf names sizes t n k) (u : Tree) (m : Annotation) → IsWritten names u m → size (ty_at bases (type_in n)) ≡ size (ty_at bases (type_in m)) → IsScalarOf names sizes u m k
+  same_number t n k s u m w e = record {
+    admissible = s.admissible;
+    term = w;
+    scalar = record { few = subst (λ (z : ℕ). z < 2 ^ 31) e s.scalar.few; below = subst (λ (z : ℕ). k < z) e s.scalar.below };
+  }
+
+  join_size : (m : List Monomial) (t u : Ty) → Reshapes (length_at bases) (layouts.Join m) t u → size u ≡ size t
+  join_size m (shapes.ArrayOf n (shapes.ArrayOf c e)) u h =
+      ap size h.2 ∙ (let z : n * length_at bases m * size e ≡ n * (length_at bases m * size e) = grind arith in z) ∙ ap (λ x. n * (x * size e)) (sym h.1)
+  join_size m _ u h = absurd (assumption)
+
+  split_size : (m : List Monomial) (t u : Ty) → Reshapes (length_at bases) (layouts.Split m) t u → size u ≡ size t
+  split_size m (shapes.ArrayOf n e) u h =
+      ap size h.2 ∙ (let z : n / length_at bases m * (length_at bases m * size e) ≡ n / length_at bases m * length_at bases m * size e = grind arith in z) ∙ ap (λ x. x * size e) h.1
+  split_size m _ u h = absurd (assumption)
+
+  pub through_join : (t : Tree) (a : PlainTy) (n : Annotation) (k : ℕ) → IsScalarOf names sizes (Unary Join t) (One a n) k → Steps (Unary Join t) (One a n) k t n k
+  through_join t a n k s =
+      let w = below_join names t a n s.term in
+      let r = join_reshapes s.term.declared bases (shown (Unary Join t) (One a n) k s) (type_in n) a (operand_formed names Join t a n s.term) s.term.nodes.1 in
+      record {
+        scalar = same_number (Unary Join t) (One a n) k s t n w (join_size (inner_of (type_in n)) (ty_at bases (type_in n)) (ty_at bases a) r);
+        owner = through_layout bases (layouts.Join (inner_of (type_in n))) (written t n) (position bases (One a n) k) (position bases n k) (join_position (length_at bases) (inner_of (type_in n)) (ty_at bases (type_in n)) (ty_at bases a) k r (some (Unary Join t) (One a n) k s));
+      }
+
+  pub through_split : (fs : List Factor) (t : Tree) (a : PlainTy) (n : Annotation) (k : ℕ) → IsScalarOf names sizes (Unary (Split fs) t) (One a n) k → Steps (Unary (Split fs) t) (One a n) k t n k
+  through_split fs t a n k s =
+      let w = below_split names fs t a n s.term in
+      let r = split_reshapes s.term.declared bases (shown (Unary (Split fs) t) (One a n) k s) fs (type_in n) a (operand_formed names (Split fs) t a n s.term) s.term.nodes.1 in
+      record {
+        scalar = same_number (Unary (Split fs) t) (One a n) k s t n w (split_size (inner_of a) (ty_at bases (type_in n)) (ty_at bases a) r);
+        owner = through_layout bases (layouts.Split (inner_of a)) (written t n) (position bases (One a n) k) (position bases n k) (split_position (length_at bases) (inner_of a) (ty_at bases (type_in n)) (ty_at bases a) k r (some (Unary (Split fs) t) (One a n) k s));
+      }
+
+  -- columns of rows
+  module _ (t : Tree) (a : PlainTy) (n : Annotation) (k : ℕ) (s : IsScalarOf names sizes (Unary Transpose t) (One a n) k) where
+    rows_size : (x : PlainTy) (m c : List Monomial) → a ≡ ArrayOf (ArrayOf x c) m → size (ty_at bases a) ≡ length_at bases c * (length_at bases m * size (ty_at bases x))
+    rows_size x m c e = ap (λ z. size (ty_at bases z)) e ∙ (let z : length_at bases m * (length_at bases c * size (ty_at bases x)) ≡ length_at bases c * (length_at bases m * size (ty_at bases x)) = grind arith in z)
+
+    pub of_rows : IsOfRows bases (type_in n) k
+    of_rows =
+        let r = s.term.nodes.1 in
+        let e : size (ty_at bases a) ≡ size (ty_at bases (type_in n)) = rows_size r.0 r.1 r.2 r.4 ∙ sym (ap (λ z. size (ty_at bases z)) r.3) in
+        record { few = subst (λ (z : ℕ). z < 2 ^ 31) e s.scalar.few; below = subst (λ (z : ℕ). k < z) e s.scalar.below }
+
+    pub through_transpose : Steps (Unary Transpose t) (One a n) k t n (transposed bases (type_in n) k)
+    through_transpose =
+        let r = s.term.nodes.1 in
+        let x = r.0 in
+        let m = r.1 in
+        let c = r.2 in
+        let low : k < length_at bases c * (length_at bases m * size (ty_at bases x)) = subst (λ (z : ℕ). k < z) (rows_size x m c r.4) s.scalar.below in
+        let v = moves (length_at bases c) (length_at bases m) (size (ty_at bases x)) k low in
+        let few : length_at bases c * (length_at bases m * size (ty_at bases x)) < 2 ^ 31 = subst (λ (z : ℕ). z < 2 ^ 31) (rows_size x m c r.4) s.scalar.few in
+        record {
+          scalar = record {
+            admissible = s.admissible;
+            term = below_transpose names t a n s.term;
+            scalar = record {
+              few = subst (λ (b : PlainTy). size (ty_at bases b) < 2 ^ 31) (sym r.3) few;
+              below = subst (λ (b : PlainTy). transposed bases b k < size (ty_at bases b)) (sym r.3) v.below;
+            };
+          };
+          owner = through_layout bases layouts.Transpose (written t n) _ _
+              (subst (λ (b : PlainTy). operand_position (length_at bases) layouts.Transpose (unflat (ty_at bases a) k) ≡ unflat (ty_at bases b) (transposed bases b k)) (sym r.3)
+              (transpose_position (length_at bases) (length_at bases c) (length_at bases m) (ty_at bases x) (ty_at bases a) k (ap (ty_at bases) r.4) low));
+        }
+
+  pub through_let : (v b : Tree) (a : PlainTy) (n m : Annotation) (k : ℕ) → IsScalarOf names sizes (Let v b) (Two a n m) k → is_element a ≡ false → is_element (type_in n) ≡ false → Steps (Let v b) (Two a n m) k b m k
+  through_let v b a n m k s e f =
+      let w = below_let names v b a n m s.term e in
+      let same : a ≡ type_in m = s.term.nodes.2 in
+      record {
+        scalar = same_number (Let v b) (Two a n m) k s b m w (ap (λ z. size (ty_at bases z)) same);
+        owner = subst (λ (z : PlainTy). HaveOneOwner bases (written (Let v b) (Two a n m)) (unflat (ty_at bases a) k) (written b m) (unflat (ty_at bases z) k)) same (of_let bases v b a n m (unflat (ty_at bases a) k) e f);
+      }
+
+  -- the map on top
+  module _ (h : MapKind) (xs b : Tree) (a : PlainTy) (n m : Annotation) (k : ℕ) (s : IsScalarOf names sizes (Map h xs b) (Two a n m) k) where
+    row_size : ℕ
+    row_size = size (ty_at bases (type_in m))
+
+    whole_size : size (ty_at bases a) ≡ length_at bases (s.term.nodes.1) * size (ty_at bases (type_in m))
+    whole_size = ap (λ z. size (ty_at bases z)) s.term.nodes.5
+
+    pub row_some : 0 < size (ty_at bases (type_in m))
+    row_some = let c = s.scalar.below in let e = whole_size in second_some (length_at bases (s.term.nodes.1)) (size (ty_at bases (type_in m))) (omega arith)
+
+    row_few : size (ty_at bases (type_in m)) < 2 ^ 31
+    row_few =
+        let c = s.scalar.below in
+        let d = s.scalar.few in
+        let e = whole_size in
+        second_below (length_at bases (s.term.nodes.1)) (size (ty_at bases (type_in m))) (2 ^ 31) (omega arith) (omega arith)
+
+    pub row_word : size (ty_at bases (type_in m)) < 2 ^ 32
+    row_word = let r = row_few in omega arith
+
+    pub in_body : IsScalarOf names sizes b m (k % size (ty_at bases (type_in m)))
+    in_body = record {
+      admissible = s.admissible;
+      term = below_map names h xs b a n m s.term;
+      scalar = record { few = row_few; below = mod-lt k row_some };
+    }
+
+    pub on_map : HaveOneOwner bases (written (Map h xs b) (Two a n m)) (position bases (Two a n m) k) (map_over (kind_of h) (written b m)) (k / size (ty_at bases (type_in m)) ∷ position bases m (k % size (ty_at bases (type_in m))))
+    on_map =
+        subst (λ (z : PlainTy). HaveOneOwner bases (written (Map h xs b) (Two a n m)) (unflat (ty_at bases z) k) (map_over (kind_of h) (written b m)) (k / size (ty_at bases (type_in m)) ∷ position bases m (k % size (ty_at bases (type_in m))))) (sym s.term.nodes.5)
+        (of_map bases (kind_of h) _ _ _ (written b m) _ _)
+
+  -- ---- what is found from the part on
+
+  pub found_on : (t : Tree) (n : Annotation) (k : ℕ) (u : Tree) (m : Annotation) (j : ℕ) (found : Option OnTop) → (IsScalarOf names sizes t n k → Steps t n k u m j)
+      → (IsScalarOf names sizes u m j → MatchOption found (IsOfNone bases u m j) (IsOfTop bases u m j))
+      → IsScalarOf names sizes t n k → MatchOption found (IsOfNone bases t n k) (IsOfTop bases t n k)
+  found_on t n k u m j None step is s =
+      let e = step s in
+      after bases _ _ _ _ _ _ e.owner (is e.scalar)
+  found_on t n k u m j (Some top) step is s =
+      let e = step s in
+      after bases _ _ _ _ _ _ e.owner (is e.scalar)
+
+  pub scalar_on : (t : Tree) (n : Annotation) (k : ℕ) (u : Tree) (m : Annotation) (j : ℕ) (found : Option OnTop) (P : OnTop → Type 0) → (IsScalarOf names sizes t n k → Steps t n k u m j)
+      → (IsScalarOf names sizes u m j → IfSome found P) → IsScalarOf names sizes t n k → IfSome found P
+  scalar_on t n k u m j found P step is s = is (step s).scalar
+
+  -- ---- what is shown of the part is shown of the whole that it is
+
+  abbrev pub NoneOn : ℕ → Tree → Annotation → Type 0
+  NoneOn k t n = IsScalarOf names sizes t n k → IsOfNone bases t n k
+
+  abbrev pub FoundOn : Option OnTop → ℕ → Tree → Annotation → Type 0
+  FoundOn found k t n = IsScalarOf names sizes t n k → MatchOption found (IsOfNone bases t n k) (IsOfTop bases t n k)
+
+  pub of_equal : (P : Tree → Annotation → Type 0) (t u : Tree) (n m : Annotation) → t ≡ u → n ≡ m → P u m → P t n
+  of_equal P t u n m e f h = subst (λ (x : Tree). P x n) (sym e) (subst (λ (y : Annotation). P u y) (sym f) h)
+
+  -- ---- forms that are no layout
+
+  abbrev pub IsNoLayout : UnaryForm → Type 0
+  IsNoLayout Join = ⊥
+  IsNoLayout Transpose = ⊥
+  IsNoLayout (Split fs) = ⊥
+  IsNoLayout _ = Unit {0}
+
+  pub is_no_layout : (f : UnaryForm) → ((x : ℕ) × (f ≡ Div x)) ⊎ (((x : ℕ) × (f ≡ Rem x)) ⊎ ((f ≡ First) ⊎ ((f ≡ Second) ⊎ (((x : ℕ) × (y : ℕ) × (f ≡ Slide x y)) ⊎ (((x : ℕ) × (y : ℕ) × (f ≡ Pad x y)) ⊎ ((f ≡ ToLocal) ⊎ (f ≡ ToPrivate))))))) → IsNoLayout f
+  is_no_layout f (inl (x, e)) = subst IsNoLayout (sym e) tt
+  is_no_layout f (inr (inl (x, e))) = subst IsNoLayout (sym e) tt
+  is_no_layout f (inr (inr (inl e))) = subst IsNoLayout (sym e) tt
+  is_no_layout f (inr (inr (inr (inl e)))) = subst IsNoLayout (sym e) tt
+  is_no_layout f (inr (inr (inr (inr (inl (x, y, e)))))) = subst IsNoLayout (sym e) tt
+  is_no_layout f (inr (inr (inr (inr (inr (inl (x, y, e))))))) = subst IsNoLayout (sym e) tt
+  is_no_layout f (inr (inr (inr (inr (inr (inr (inl e))))))) = subst IsNoLayout (sym e) tt
+  is_no_layout f (inr (inr (inr (inr (inr (inr (inr e))))))) = subst IsNoLayout (sym e) tt
+
+  pub of_no_layout : (f : UnaryForm) (t : Tree) (a : PlainTy) (n : Annotation) (k : ℕ) → IsNoLayout f → NoneOn k (Unary f t) (One a n)
+  of_no_layout (Div x) t a n k other s = record { item = λ l. refl; local = λ l. refl }
+  of_no_layout (Rem x) t a n k other s = record { item = λ l. refl; local = λ l. refl }
+  of_no_layout First t a n k other s = record { item = λ l. refl; local = λ l. refl }
+  of_no_layout Second t a n k other s = record { item = λ l. refl; local = λ l. refl }
+  of_no_layout Join t a n k other s = absurd other
+  of_no_layout Transpose t a n k other s = absurd other
+  of_no_layout (Split fs) t a n k other s = absurd other
+  of_no_layout (Slide x y) t a n k other s = absurd (no_slide names x y t a n s.term)
+  of_no_layout (Pad x y) t a n k other s = absurd (no_pad names x y t a n s.term)
+  of_no_layout ToLocal t a n k other s = record { item = λ l. refl; local = λ l. refl }
+  of_no_layout ToPrivate t a n k other s = record { item = λ l. refl; local = λ l. refl }
+
+  -- ---- the map on top, whose rows have so many scalars
+
+  module _ (h : MapKind) (xs b : Tree) (a : PlainTy) (n m : Annotation) (k row : ℕ) (told : 0 < size (ty_at bases (type_in m)) → size (ty_at bases (type_in m)) < 2 ^ 32 → row ≡ size (ty_at bases (type_in m))) where
+    row_is : IsScalarOf names sizes (Map h xs b) (Two a n m) k → size (ty_at bases (type_in m)) ≡ row
+    row_is s = sym (told (row_some h xs b a n m k s) (row_word h xs b a n m k s))
+
+    pub map_found : IsScalarOf names sizes (Map h xs b) (Two a n m) k → HaveOneOwner bases (written (Map h xs b) (Two a n m)) (position bases (Two a n m) k) (map_over (kind_of h) (written b m)) (k / row ∷ position bases m (k % row))
+    map_found s = subst (λ (r : ℕ). HaveOneOwner bases (written (Map h xs b) (Two a n m)) (position bases (Two a n m) k) (map_over (kind_of h) (written b m)) (k / r ∷ position bases m (k % r))) (row_is s) (on_map h xs b a n m k s)
+
+    pub map_body : IsScalarOf names sizes (Map h xs b) (Two a n m) k → IsScalarOf names sizes b m (k % row)
+    map_body s = subst (λ (r : ℕ). IsScalarOf names sizes b m (k % r)) (row_is s) (in_body h xs b a n m k s)

@@ -1,0 +1,47 @@
+-- Scalars of one owner.
+use Rattle.std.specs.Prelude.{◌≡◌, ℕ, List, [], ◌∷◌}
+use Rattle.kernel_tree.specs.Launch.{Launch}
+use Rattle.lift_tree.specs.Annotations.{Annotation, annotation_of, type_in}
+use Rattle.lift_tree.specs.Tree.{Tree, tree_of}
+use Rattle.lift_tree.specs.declared.term.MapKind.{MapKind}
+use Rattle.lift_ir.specs.AtLaunch.{length_at, ty_at}
+use Rattle.lift_ir.specs.Lowering.{Lowered, Written, kind_of, lower}
+use Rattle.lift_ir.specs.Owner.{local_owner, owner}
+use Rattle.lift_ir.specs.Terms.{Kind, Literal, Map, Skip}
+use Rattle.lift_ir.specs.Types.{unflat}
+use Rattle.output_owner.specs.declared.walk.OnTop.{OnTop}
+
+-- two scalars have one owner, and are of one item of a group, at every launch
+pub record HaveOneOwner (bases : List ℕ) (t : Lowered) (q : List ℕ) (u : Lowered) (p : List ℕ) : Type 0 where
+  pub item : (l : Launch) → owner (length_at bases) l t q ≡ owner (length_at bases) l u p
+  pub local : (l : Launch) → local_owner (length_at bases) l t q ≡ local_owner (length_at bases) l u p
+
+-- the position of the scalar of this number
+abbrev pub position : (bases : List ℕ) → Annotation → ℕ → List ℕ
+position bases n number = unflat (ty_at bases (type_in n)) number
+
+-- what a term that is written is lowered to
+abbrev pub written : Tree → Annotation → Lowered
+written t n = lower Written t n
+
+-- a map of this kind over anything, with this body
+abbrev pub map_over : Kind → Lowered → Lowered
+map_over k b = Map k [] Skip (Literal 0) b
+
+-- the scalar is that of the map on top, at its turn
+abbrev pub IsOfTop : (bases : List ℕ) → Tree → Annotation → ℕ → OnTop → Type 0
+IsOfTop bases t n number top =
+    HaveOneOwner bases (written t n) (position bases n number)
+    (map_over (kind_of top.kind) (written (tree_of top.body.now) (annotation_of top.types.now)))
+    (top.turn ∷ position bases (annotation_of top.types.now) top.number)
+
+-- with no map on top
+abbrev pub IsOfNone : (bases : List ℕ) → Tree → Annotation → ℕ → Type 0
+IsOfNone bases t n number = HaveOneOwner bases (written t n) (position bases n number) (Literal 0) []
+
+-- the owner of the scalar of the map on top
+abbrev pub owner_on_top : (bases : List ℕ) → Launch → OnTop → ℕ
+owner_on_top bases l top =
+    owner (length_at bases) l
+    (map_over (kind_of top.kind) (written (tree_of top.body.now) (annotation_of top.types.now)))
+    (top.turn ∷ position bases (annotation_of top.types.now) top.number)

@@ -1,0 +1,97 @@
+//! The owner of a cell.
+
+ghost use Rattle.std.specs.Prelude.{◌≡◌, ◌+◌, ◌*◌, ◌%◌, ◌<◌, ℕ, List};
+ghost use Rattle.kernel_tree.specs.Launch.{IsWhole, group_count};
+ghost use Rattle.lift_tree.specs.Annotations.{annotation_of};
+ghost use Rattle.lift_tree.specs.Programs.{PlainProgram};
+ghost use Rattle.lift_tree.specs.Tree.{tree_of};
+ghost use Rattle.lift_tree.specs.Typing.{declared_by};
+ghost use Rattle.lift_ir.specs.AtLaunch.{length_at};
+ghost use Rattle.lift_ir.specs.Owner.{local_owner};
+ghost use Rattle.lowered_tree.specs.Kinds.{is_task};
+ghost use Rattle.output_owner.specs.Bases.{bases_of};
+ghost use Rattle.output_owner.specs.Outputs.{IsLegalFor, cell_count};
+ghost use Rattle.output_owner.specs.Owners.{owner_on_top, position, written};
+ghost use Rattle.output_owner.specs.Written.{IsScalarOf};
+ghost use Rattle.printed_form.specs.Programs.{IsLaunchOf, cell_owner};
+ghost use Rattle.size_arith.specs.Ranges.{AreNames};
+
+use crate::walk::{OnTop, on_top};
+use kernel_tree::launches::Launch;
+use lift_tree::term::MapKind;
+use lowered_tree::lowered::Lowered;
+use nest_premises::laws::legal_terms_can_be_lowered;
+use size_arith::Name;
+
+// Which of a group's items writes a scalar of the group's turn.
+fn local_item(top: &OnTop, launch: &Launch, names: &[Name]) -> u32
+    requires names { AreNames names.now }
+    requires some { 0 < launch.now.local }
+    ensures item { IsScalarOf names.now launch.now.sizes (tree_of top.now.body.now)
+        (annotation_of top.now.types.now) top.now.number
+        → result ≡ local_owner (length_at (bases_of names.now launch.now.sizes)) launch.now
+        (written (tree_of top.now.body.now) (annotation_of top.now.types.now))
+        (position (bases_of names.now launch.now.sizes) (annotation_of top.now.types.now)
+        top.now.number) }
+    ensures below { result < launch.now.local }
+{
+    match on_top(top.body, top.types, top.number, names, &launch.sizes) {
+        Some(inner) => match inner.kind {
+            MapKind::Local => (inner.turn % launch.local as u64) as u32,
+            MapKind::Global | MapKind::WorkGroup | MapKind::Plain | MapKind::Sequential => 0,
+        },
+        None => 0,
+    }
+}
+
+// The item of a local item of a group.
+fn in_group(launch: &Launch, turn: u64, local: u32) -> u32
+    requires whole { IsWhole launch.now }
+    requires some { 0 < launch.now.global }
+    requires below { local < launch.now.local }
+    ensures { result ≡ (turn % group_count launch.now) * launch.now.local + local }
+{
+    let groups = launch.global / launch.local;
+    let group = (turn % groups as u64) as u32;
+    group * launch.local + local
+}
+
+// The owner of a scalar of the map on top.
+fn item(top: &OnTop, launch: &Launch, names: &[Name]) -> u32
+    requires names { AreNames names.now }
+    requires whole { IsWhole launch.now }
+    requires some { 0 < launch.now.global }
+    ensures { IsScalarOf names.now launch.now.sizes (tree_of top.now.body.now)
+        (annotation_of top.now.types.now) top.now.number
+        → result ≡ owner_on_top (bases_of names.now launch.now.sizes) launch.now top.now }
+{
+    match top.kind {
+        MapKind::Global => (top.turn % launch.global as u64) as u32,
+        MapKind::WorkGroup => in_group(launch, top.turn, local_item(top, launch, names)),
+        MapKind::Local | MapKind::Plain | MapKind::Sequential => 0,
+    }
+}
+
+/// The work-item that writes the cell of this number, in row-major order, in each of the output's
+/// buffers: the one that a kernel for the term owes it by.
+///
+/// Under `mapGlb` at turn i it is item i mod G, where the launch has G; under `mapWrg` at turn i and
+/// `mapLcl` at turn j local item j mod L of group i mod (G / L), where a group has L; with no
+/// parallel map item 0. The term is a program's legal one, the launch is admissible for it, and the
+/// cell is in the output. It takes no memory.
+pub fn owner(lowered: &Lowered, launch: &Launch, cell: u64) -> u32
+    requires whole { IsWhole launch.now }
+    requires some { 0 < launch.now.global }
+    ensures { (p : PlainProgram) (bases : List ℕ) → IsLegalFor p lowered.now
+        → IsLaunchOf (declared_by p) (is_task (tree_of lowered.now.term)) bases launch.now
+        → (array : ℕ) → cell < cell_count bases lowered.now
+        → result ≡ cell_owner bases launch.now (tree_of lowered.now.term)
+        (annotation_of lowered.now.types) array cell }
+{
+    legal_terms_can_be_lowered();
+    let names = lowered.names.as_slice();
+    match on_top(&lowered.term, &lowered.types, cell, names, &launch.sizes) {
+        Some(top) => item(&top, launch, names),
+        None => 0,
+    }
+}

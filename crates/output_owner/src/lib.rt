@@ -1,0 +1,8 @@
+//! Whose each cell of the output is.
+#![tactic(auto)]
+
+mod cells;
+mod lengths;
+mod walk;
+
+pub use cells::owner;

@@ -1,5 +1,0 @@
-use Rattle.printable_groups.proofs.Grammar.{in_the_grammar}
-use Rattle.printable_groups.proofs.laws.group_kernels_are_in_the_grammar.Goals as goal
-
-pub returns : goal.returns
-returns c = in_the_grammar c.group_kernels_are_of_the_grammar.ensures c.needed_are_flagged.ensures c.groups_can_be_written.ensures c.sound_parts_are_spelled.ensures c.terms_nest_within.ensures

@@ -1,4 +1,0 @@
-//! What legal maps over work-groups are printed as.
-#![tactic(auto)]
-
-pub mod laws;

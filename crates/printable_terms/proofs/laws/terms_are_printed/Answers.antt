@@ -1,5 +1,0 @@
-use Rattle.printable_terms.proofs.Printed.{terms_are_printed}
-use Rattle.printable_terms.proofs.laws.terms_are_printed.Goals as goal
-
-pub returns : goal.returns
-returns c = terms_are_printed c.formulas_spell_lengths.ensures c.programs_are_printed.ensures

@@ -1,0 +1,109 @@
+-- Expressions of the kernel grammar.
+use Rattle.std.proofs.Common.{◌≡◌, ℕ, suc, ◌<◌, ◌≤◌, ◌^◌, Bool, true, false, refl, arith}
+use Rattle.std.specs.Prelude.{◌&&◌, nat_le, Option, Some, None}
+use Rattle.std.proofs.lemmas.Bool.{ltb-true, lt-ltb, le-leb}
+use Rattle.scalar_ops.specs.declared.op.Op.{Op}
+use Rattle.scalar_ops.specs.declared.op.Op.TheVariants as op
+use Rattle.kernel_tree.specs.Formula.{Formula, Number, Variable, LoopVariable, Size, Id, Binary, Choose, Comparison, Less, Equal}
+use Rattle.kernel_tree.specs.Code.{Kernel}
+use Rattle.kernel_tree.specs.Grammar.{height, is_operator, is_expression, names_declared, deepest}
+use Rattle.printed_form.specs.Expressions.{operation, selection, of_one, of_both, of_three}
+use Rattle.printed_form.specs.Printer.{or_number}
+use Rattle.printed_form.specs.Sound.{IsGood}
+
+pub both : (a b : Bool) → a ≡ true → b ≡ true → (a && b) ≡ true
+both true b h k = k
+both false b h k = absurd (cc)
+
+pub first_of : (a b : Bool) → (a && b) ≡ true → a ≡ true
+first_of true b h = refl
+first_of false b h = absurd (cc)
+
+pub second_of : (a b : Bool) → (a && b) ≡ true → b ≡ true
+second_of true b h = h
+second_of false b h = absurd (cc)
+
+module _ (k : Kernel) where
+  -- within more loops
+  pub deeper : (l m : ℕ) (e : Formula) → l ≤ m → names_declared k l e ≡ true → names_declared k m e ≡ true
+  deeper l m (Number n) le h = h
+  deeper l m (Variable v) le h = h
+  deeper l m (LoopVariable i) le h = let b = ltb-true i l h in lt-ltb i m (omega arith)
+  deeper l m (Size s) le h = h
+  deeper l m (Id form) le h = h
+  deeper l m (Binary o a b) le h =
+      let r = second_of (is_operator o) (names_declared k l a && names_declared k l b) h in
+      both (is_operator o) (names_declared k m a && names_declared k m b) (first_of (is_operator o) (names_declared k l a && names_declared k l b) h)
+      (both (names_declared k m a) (names_declared k m b) (deeper l m a le (first_of (names_declared k l a) (names_declared k l b) r)) (deeper l m b le (second_of (names_declared k l a) (names_declared k l b) r)))
+  deeper l m (Choose c a b x y) le h =
+      let p = first_of (names_declared k l a && names_declared k l b) (names_declared k l x && names_declared k l y) h in
+      let q = second_of (names_declared k l a && names_declared k l b) (names_declared k l x && names_declared k l y) h in
+      both (names_declared k m a && names_declared k m b) (names_declared k m x && names_declared k m y)
+      (both (names_declared k m a) (names_declared k m b) (deeper l m a le (first_of (names_declared k l a) (names_declared k l b) p)) (deeper l m b le (second_of (names_declared k l a) (names_declared k l b) p)))
+      (both (names_declared k m x) (names_declared k m y) (deeper l m x le (first_of (names_declared k l x) (names_declared k l y) q)) (deeper l m y le (second_of (names_declared k l x) (names_declared k l y) q)))
+
+  pub good_deeper : (l m h : ℕ) (e : Formula) → l ≤ m → IsGood k l h e → IsGood k m h e
+  good_deeper l m h e le g = (deeper l m e le g.0, g.1)
+
+  pub good_higher : (l h i : ℕ) (e : Formula) → h ≤ i → IsGood k l h e → IsGood k l i e
+  good_higher l h i e le g = (g.0, (let x = g.1 in omega arith))
+
+  pub good_number : (l h n : ℕ) → n < 2 ^ 32 → 1 ≤ h → IsGood k l h (Number n)
+  good_number l h n lt one = (lt-ltb n (2 ^ 32) lt, one)
+
+  pub good_binary : (l h : ℕ) (o : Op) (a b : Formula) → is_operator o ≡ true → IsGood k l h a → IsGood k l h b → IsGood k l (suc h) (Binary o a b)
+  good_binary l h o a b e x y =
+      let p = x.1 in let q = y.1 in
+      (both (is_operator o) (names_declared k l a && names_declared k l b) e (both (names_declared k l a) (names_declared k l b) x.0 y.0), omega arith)
+
+  pub good_choose : (l h : ℕ) (c : Comparison) (a b x y : Formula) → IsGood k l h a → IsGood k l h b → IsGood k l h x → IsGood k l h y → IsGood k l (suc h) (Choose c a b x y)
+  good_choose l h c a b x y p q r s =
+      let p1 = p.1 in let q1 = q.1 in let r1 = r.1 in let s1 = s.1 in
+      (both (names_declared k l a && names_declared k l b) (names_declared k l x && names_declared k l y) (both (names_declared k l a) (names_declared k l b) p.0 q.0) (both (names_declared k l x) (names_declared k l y) r.0 s.0), omega arith)
+
+  pub as_expression : (l h : ℕ) (e : Formula) → h ≤ 1024 → IsGood k l h e → is_expression k l e ≡ true
+  as_expression l h e le g = both (names_declared k l e) (nat_le (height e) deepest) g.0 (let x = g.1 in le-leb (height e) 1024 (omega arith))
+
+  -- ---- expressions of element terms
+  abbrev pub IsGoodSome : (l h : ℕ) → Option Formula → Type 0
+  IsGoodSome l h (Some e) = IsGood k l h e
+  IsGoodSome l h None = Unit {0}
+
+  pub some_higher : (l h i : ℕ) (o : Option Formula) → h ≤ i → IsGoodSome l h o → IsGoodSome l i o
+  some_higher l h i (Some e) le g = good_higher l h i e le g
+  some_higher l h i None le g = tt
+
+  pub or_good : (l h : ℕ) (o : Option Formula) → 1 ≤ h → IsGoodSome l h o → IsGood k l h (or_number o)
+  or_good l h (Some e) one g = g
+  or_good l h None one g = good_number l h 0 (omega arith) one
+
+  good_operation : (l h : ℕ) (o : Op) (a b : Formula) → 1 ≤ h → IsGood k l h a → IsGood k l h b → IsGood k l (suc h) (operation o a b)
+  good_operation l h op.Lt a b one x y = good_choose l h Less a b (Number 1) (Number 0) x y (good_number l h 1 (omega arith) one) (good_number l h 0 (omega arith) one)
+  good_operation l h op.Eq a b one x y = good_choose l h Equal a b (Number 1) (Number 0) x y (good_number l h 1 (omega arith) one) (good_number l h 0 (omega arith) one)
+  good_operation l h op.Add a b one x y = good_binary l h op.Add a b refl x y
+  good_operation l h op.Mul a b one x y = good_binary l h op.Mul a b refl x y
+  good_operation l h op.Min a b one x y = good_binary l h op.Min a b refl x y
+  good_operation l h op.Max a b one x y = good_binary l h op.Max a b refl x y
+  good_operation l h op.And a b one x y = good_binary l h op.And a b refl x y
+  good_operation l h op.Or a b one x y = good_binary l h op.Or a b refl x y
+  good_operation l h op.Xor a b one x y = good_binary l h op.Xor a b refl x y
+  good_operation l h op.Sub a b one x y = good_binary l h op.Sub a b refl x y
+  good_operation l h op.Shl a b one x y = good_binary l h op.Shl a b refl x y
+  good_operation l h op.Shr a b one x y = good_binary l h op.Shr a b refl x y
+  good_operation l h op.Div a b one x y = good_binary l h op.Div a b refl x y
+  good_operation l h op.Rem a b one x y = good_binary l h op.Rem a b refl x y
+
+  pub good_both : (l h : ℕ) (o : Op) (a b : Option Formula) → 1 ≤ h → IsGoodSome l h a → IsGoodSome l h b → IsGoodSome l (suc h) (of_both (operation o) a b)
+  good_both l h o (Some a) (Some b) one x y = good_operation l h o a b one x y
+  good_both l h o (Some a) None one x y = tt
+  good_both l h o None b one x y = tt
+
+  pub good_one : (l h : ℕ) (o : Op) (m : ℕ) (a : Option Formula) → is_operator o ≡ true → m < 2 ^ 32 → 1 ≤ h → IsGoodSome l h a → IsGoodSome l (suc h) (of_one (λ x. Binary o x (Number m)) a)
+  good_one l h o m (Some a) e lt one x = good_binary l h o a (Number m) e x (good_number l h m lt one)
+  good_one l h o m None e lt one x = tt
+
+  pub good_three : (l h : ℕ) (c a b : Option Formula) → 1 ≤ h → IsGoodSome l h c → IsGoodSome l h a → IsGoodSome l h b → IsGoodSome l (suc h) (of_three selection c a b)
+  good_three l h (Some c) (Some a) (Some b) one x y z = good_choose l h Equal c (Number 0) b a x (good_number l h 0 (omega arith) one) z y
+  good_three l h (Some c) (Some a) None one x y z = tt
+  good_three l h (Some c) None b one x y z = tt
+  good_three l h None a b one x y z = tt

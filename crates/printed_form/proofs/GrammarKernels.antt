@@ -1,0 +1,27 @@
+-- The kernel that the printer makes of a typed term is of the kernel grammar.
+use Rattle.std.proofs.Common.{◌+◌, ◌*◌, refl, arith}
+use Rattle.kernel_tree.specs.Code.{Output, End}
+use Rattle.lift_tree.specs.Annotations.{type_in}
+use Rattle.lift_ir.specs.AtLaunch.{shape_of}
+use Rattle.printed_form.specs.Views.{placed_view}
+use Rattle.printed_form.specs.Printer.{no_view}
+use Rattle.printed_form.specs.Programs.{lowered_root, printed_kernel}
+use Rattle.printed_form.proofs.Lengths.{counted}
+use Rattle.printed_form.specs.KernelGrammar.{KernelsAreOfTheGrammar}
+use Rattle.printed_form.specs.GrammarPieces.{CanBePrinted}
+use Rattle.printed_form.proofs.GrammarViews.{blank_good}
+use Rattle.printed_form.proofs.GrammarPieces.{terms_printed}
+
+pub of_the_grammar : KernelsAreOfTheGrammar
+of_the_grammar spell S M d t a h =
+    let k = printed_kernel spell d t a in
+    let r = lowered_root t a in
+    let ty = shape_of (type_in a) in
+    let w = placed_view spell Output 0 ty in
+    let terms = terms_printed k spell S M d (record { some = h.some; fits = h.fits; inputs = refl }) in
+    let deep = h.loops in
+    let privates = counted r in
+    let can : CanBePrinted k spell S M d (λ v. 0) 0 0 0 0 r = record { written = h.written; sound = h.sound; layouts = h.layouts; low = h.low; deep = omega arith; variables = omega arith; privates = omega arith } in
+    let out = terms.output ty refl h.lengths h.few in
+    terms.kernel ty r refl refl refl h.sound (terms.statements 0 0 0 0 (λ v. 0) no_view r w End out can)
+    (terms.codes 0 0 0 0 (λ v. 0) no_view r w End (λ v. blank_good k S h.some k.variables 0 (8 + 3 * 0)) out can refl)

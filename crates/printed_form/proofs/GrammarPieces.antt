@@ -1,0 +1,129 @@
+-- The pieces of a printed kernel are of the kernel grammar.
+use Rattle.std.proofs.Common.{◌≡◌, ℕ, zero, suc, ◌+◌, ◌*◌, ◌<◌, ◌≤◌, ◌^◌, true, List, [], ◌∷◌, ◌++◌, length, nat_lt, refl, sym, subst, arith}
+use Rattle.std.specs.Prelude.{◌&&◌, replicate}
+use Rattle.std.proofs.lemmas.Bool.{lt-ltb}
+use Rattle.size_arith.specs.declared.poly.Monomial.{Monomial}
+use Rattle.lift_tree.specs.Types.{PlainTy}
+use Rattle.lift_tree.specs.Typing.{Declared}
+use Rattle.kernel_tree.specs.Formula.{Formula, LoopVariable}
+use Rattle.kernel_tree.specs.Code.{Input, Output, Kernel}
+use Rattle.kernel_tree.specs.Grammar.{are_lengths, has_statement}
+use Rattle.lift_ir.specs.Types.{Ty, width, size}
+use Rattle.lift_ir.specs.Terms.{Space, LocalMemory, PrivateMemory, Term, Literal, Bound, Source, Apply, ApplyNumber, Select, Both, Project, Reshape, LetArray, LetElement, Map, Fold, Store, Copy}
+use Rattle.printed_form.specs.Counts.{copied, copy_lengths}
+use Rattle.printed_form.specs.Views.{View, view_at, operand_indices, result_indices, placed_view}
+use Rattle.printed_form.specs.Printer.{print_loaded}
+use Rattle.printed_form.specs.Programs.{buffer_count, first_buffer, input_shape}
+use Rattle.printed_form.specs.Sound.{IsSpelledIn, IsSound, dimensions}
+use Rattle.printed_form.specs.GrammarViews.{IsGoodView}
+use Rattle.printed_form.specs.KernelGrammar.{IsSourceIn}
+use Rattle.printed_form.specs.GrammarPieces.{ViewsStayWithin, LoopsAreOfTheGrammar, HasRoomFor, views_of_inputs, TermsAreOfTheGrammar, TermsArePrintedWithin, ArraysCanBeDeclared}
+use Rattle.printed_form.proofs.GrammarExpressions.{both, first_of, second_of}
+use Rattle.printed_form.proofs.GrammarViews.{view_more, target_within, blank_good, sides_good, part_good, turned_good, turned_target, loaded_good, reshaped_good, reshaped_target, placed_good, placed_target, some_width, laid_reads, laid_fills}
+use Rattle.printed_form.proofs.GrammarCodes.{loads_fine, loads_does, loop_fine}
+use Rattle.printed_form.proofs.GrammarTerms.{viewed_good, written_does, written_fine}
+
+-- ---- lengths of arrays
+lengths_append : (xs ys : List ℕ) → are_lengths xs ≡ true → are_lengths ys ≡ true → are_lengths (xs ++ ys) ≡ true
+lengths_append [] ys h k = k
+lengths_append (x ∷ xs) ys h k =
+    let r = second_of (nat_lt 0 x) (nat_lt x (2 ^ 32) && are_lengths xs) h in
+    both (nat_lt 0 x) _ (first_of (nat_lt 0 x) (nat_lt x (2 ^ 32) && are_lengths xs) h)
+    (both (nat_lt x (2 ^ 32)) _ (first_of (nat_lt x (2 ^ 32)) (are_lengths xs) r) (lengths_append xs ys (second_of (nat_lt x (2 ^ 32)) (are_lengths xs) r) k))
+
+lengths_same : (n x : ℕ) → 0 < x → x < 2 ^ 32 → are_lengths (replicate n x) ≡ true
+lengths_same zero x p q = refl
+lengths_same (suc n) x p q = both (nat_lt 0 x) _ (lt-ltb 0 x p) (both (nat_lt x (2 ^ 32)) _ (lt-ltb x (2 ^ 32) q) (lengths_same n x p q))
+
+module _ {A : Type 0} (P : A → Type 0) (Q : ℕ → Type 0) where
+  copied_lengths : (s m : Space) (ty : Ty) → 0 < size ty → size ty < 2 ^ 32 → are_lengths (copied s m ty) ≡ true
+  copied_lengths LocalMemory LocalMemory ty p q = lengths_same (width ty) (size ty) p q
+  copied_lengths LocalMemory PrivateMemory ty p q = refl
+  copied_lengths PrivateMemory LocalMemory ty p q = refl
+  copied_lengths PrivateMemory PrivateMemory ty p q = lengths_same (width ty) (size ty) p q
+
+  declared_lengths : (s : Space) (t : Term A) → IsSound P Q t → are_lengths (copy_lengths s t) ≡ true
+  declared_lengths s (Literal c) h = refl
+  declared_lengths s (Bound v) h = refl
+  declared_lengths s (Source v) h = refl
+  declared_lengths s (Apply o x y) h = refl
+  declared_lengths s (ApplyNumber o m x) h = refl
+  declared_lengths s (Select c x y) h = refl
+  declared_lengths s (Both zips x y) h = lengths_append (copy_lengths s x) (copy_lengths s y) (declared_lengths s x h.0) (declared_lengths s y h.1)
+  declared_lengths s (Project d x) h = declared_lengths s x h
+  declared_lengths s (Reshape y x) h = declared_lengths s x h.1
+  declared_lengths s (LetArray v b) h = lengths_append (copy_lengths s v) (copy_lengths s b) (declared_lengths s v h.0) (declared_lengths s b h.1)
+  declared_lengths s (LetElement ty v b) h = declared_lengths s b h.1
+  declared_lengths s (Map kind m ls x b) h = lengths_append (copy_lengths s x) (copy_lengths s b) (declared_lengths s x h.1) (declared_lengths s b h.2)
+  declared_lengths s (Fold m ls ty x s1 b) h = declared_lengths s x h.2
+  declared_lengths s (Store ty x) h = refl
+  declared_lengths s (Copy m ty x) h = lengths_append (copy_lengths s x) (copied s m ty) (declared_lengths s x h.2) (copied_lengths s m ty h.3 h.4)
+
+pub arrays_declared : ArraysCanBeDeclared
+arrays_declared k spell S d s t sound = declared_lengths (λ n. IsSpelledIn k S (spell n)) (IsSourceIn k spell S d) s t sound
+
+-- an input's buffers are among those declared
+source_within : (tys : List PlainTy) (s : ℕ) → s < length tys → first_buffer tys s + width (input_shape tys s) ≤ buffer_count tys
+source_within [] s lt = absurd (omega arith)
+source_within (a ∷ tys) zero lt = omega arith
+source_within (a ∷ tys) (suc s) lt = let x = source_within tys s (omega arith) in omega arith
+
+-- ---- views
+pub views_stay : ViewsStayWithin
+views_stay k S one = record {
+  more = λ l m h i x lm hi r. view_more k S one k.variables k.variables l m (8 + 3 * h) (8 + 3 * i) x (omega arith) lm (omega arith) r;
+  blank = λ l h. blank_good k S one k.variables l (8 + 3 * h);
+  sides = λ l h x y r q. sides_good k S one k.variables l (8 + 3 * h) x y r q;
+  part = λ l h x s r. part_good k S one k.variables l (8 + 3 * h) x s r;
+  operand = λ spell y l h x s r.
+      view_more k S one k.variables k.variables l l (8 + 3 * h + 3) (8 + 3 * suc h) (λ cs is. x cs (operand_indices spell y is)) (omega arith) (omega arith) (omega arith)
+      (reshaped_good k S one spell y k.variables l (8 + 3 * h) x s r);
+  result = λ spell y l h w s f.
+      target_within k S one l l (8 + 3 * h + 3) (8 + 3 * suc h) (λ cs is. w cs (result_indices spell y is)) (omega arith) (omega arith) (reshaped_target k S one spell y l (8 + 3 * h) w s f);
+  element = λ loads l h n x le r. loaded_good k S one loads (view_at (LoopVariable l) x) n k.variables k.variables (suc l) (8 + 3 * h) (omega arith) le (turned_good k S one k.variables l (8 + 3 * h) x r);
+  place = λ l h w f. turned_target k S one l (8 + 3 * h) w f;
+  laid = laid_reads k S one;
+  laid_places = laid_fills k S one;
+}
+
+-- ---- loops
+pub loops_fine : LoopsAreOfTheGrammar
+loops_fine k S l h n kind bound loads x body rest one fits lt le s r d f g =
+    let small : S ≤ 1024 = omega arith in
+    let x1 = view_at (LoopVariable l) x in
+    loop_fine k S one small l kind bound (print_loaded loads x1 n body) rest lt s (loads_does k S one small loads x1 n body d)
+    (loads_fine k S one small (suc l) loads x1 n k.variables (8 + 3 * h) body fits le (turned_good k S one k.variables l (8 + 3 * h) x r) f) g
+
+-- ---- terms
+module _ (k : Kernel) (spell : List Monomial → Formula) (S M : ℕ) (d : Declared) (room : HasRoomFor k S M d) where
+  abbrev ins : ℕ → View
+  ins = views_of_inputs spell d
+
+  abbrev Q : ℕ → Type 0
+  Q = IsSourceIn k spell S d
+
+  inputs : (s : ℕ) → Q s → IsGoodView k S k.variables 0 8 (ins s)
+  inputs s q =
+      view_more k S room.some k.variables k.variables 0 0 (2 * dimensions (input_shape d.inputs s)) 8 (ins s) (omega arith) (omega arith) (let x = q.few in omega arith)
+      (placed_good k S room.some spell Input (first_buffer d.inputs s) (input_shape d.inputs s) k.variables 0
+      (λ c lt. lt-ltb (first_buffer d.inputs s + c) k.inputs (let x = source_within d.inputs s q.declared in let y = room.inputs in omega arith)) q.lengths)
+
+  small : S ≤ 1024
+  small = let f = room.fits in omega arith
+
+  terms_are : TermsAreOfTheGrammar k spell S M d
+  terms_are = record {
+    arguments = λ l a g env t all s le. viewed_good k S room.some small spell ins Q inputs M room.fits l g env a t all le s;
+    output = λ ty outs s few.
+        target_within k S room.some 0 0 (2 * dimensions ty) (8 + 3 * 0) (placed_view spell Output 0 ty) (omega arith) (omega arith)
+        (placed_target k S room.some spell Output 0 ty 0 (λ c lt. lt-ltb (0 + c) k.outputs (omega arith)) s);
+    codes = λ l above n a g env t w rest all f c r. written_fine k S room.some small spell ins Q inputs M room.fits l g env a n t w above rest all f c.written c.sound c.layouts c.low c.deep c.variables c.privates r;
+    statements = λ l above n a g env t w rest f c. written_does k S room.some small spell ins Q inputs M room.fits l env a n t w (8 + 3 * above) rest c.written c.sound f;
+    kernel = λ ty t outs locals privates s has are.
+        both (nat_lt 0 k.outputs) _ (lt-ltb 0 k.outputs (let x = some_width k S room.some spell ty in omega arith))
+        (both (are_lengths k.locals) _ (subst (λ ns. are_lengths ns ≡ true) (sym locals) (arrays_declared k spell S d LocalMemory t s))
+        (both (are_lengths k.privates) _ (subst (λ ns. are_lengths ns ≡ true) (sym privates) (arrays_declared k spell S d PrivateMemory t s)) (both (has_statement k.code) _ has are)));
+  }
+
+pub terms_printed : TermsArePrintedWithin
+terms_printed k spell S M d room = terms_are k spell S M d room

@@ -1,0 +1,135 @@
+-- What is printed of arguments and of terms in writing position, and the loops of maps, is of the
+-- kernel grammar.
+use Rattle.std.specs.Prelude.{◌≡◌, ℕ, suc, ◌+◌, ◌*◌, ◌<◌, ◌≤◌, ◌^◌, Bool, true, List, ◌∷◌, length}
+use Rattle.size_arith.specs.declared.poly.Monomial.{Monomial}
+use Rattle.lift_tree.specs.Typing.{Declared}
+use Rattle.kernel_tree.specs.Formula.{Formula, LoopVariable}
+use Rattle.kernel_tree.specs.Code.{Array, Output, Code, Loops, Kernel}
+use Rattle.kernel_tree.specs.Grammar.{are_lengths, are_statements, has_statement, is_kernel, is_readable, is_writable}
+use Rattle.lift_ir.specs.Types.{Shape, Ty, width}
+use Rattle.lift_ir.specs.Layouts.{Layout}
+use Rattle.lift_ir.specs.Scalars.{by_side}
+use Rattle.lift_ir.specs.Terms.{LoadSet, Kind, Space, LocalMemory, PrivateMemory, Term}
+use Rattle.printed_form.specs.Counts.{load_count, variable_count, private_count, copy_lengths}
+use Rattle.printed_form.specs.Form.{start_of, stride_of}
+use Rattle.printed_form.specs.Views.{View, Blank, loaded_view, view_at, operand_indices, result_indices, placed_view, laid_view}
+use Rattle.printed_form.specs.Printer.{argument_view, input_views, print_loaded, print_written}
+use Rattle.printed_form.specs.Programs.{buffer_count, first_buffer, input_shape}
+use Rattle.printed_form.specs.Sound.{IsSpelledIn, AllLengths, IsSoundLayout, dimensions, stacked, IsWrittenWithin, loop_depth, AreLow, CanBeWritten}
+use Rattle.printed_form.specs.GrammarViews.{ReadsWithin, FillsWithin, AllReadWithin}
+use Rattle.printed_form.specs.KernelGrammar.{IsSoundIn}
+
+-- which views read, and which tell where to write, within the grammar of a kernel, where lengths
+-- are at most so high
+pub record ViewsStay (k : Kernel) (high : ℕ) : Type 0 where
+  -- those that do, in more loops and through more layouts
+  pub more : (l m h i : ℕ) (x : View) → l ≤ m → h ≤ i
+      → ReadsWithin k high l h x → ReadsWithin k high m i x
+  pub blank : (l h : ℕ) → ReadsWithin k high l h (λ cs is. Blank)
+  -- two by side, and a part of one
+  pub sides : (l h : ℕ) (x y : View) → ReadsWithin k high l h x → ReadsWithin k high l h y
+      → ReadsWithin k high l h (by_side (λ is. Blank) x y)
+  pub part : (l h : ℕ) (x : View) (s : Bool) → ReadsWithin k high l h x
+      → ReadsWithin k high l h (λ cs is. x (s ∷ cs) is)
+  -- through one more layout
+  pub operand : (spell : List Monomial → Formula) (y : Layout (List Monomial)) (l h : ℕ) (x : View)
+      → IsSoundLayout (λ n. IsSpelledIn k high (spell n)) y → ReadsWithin k high l h x
+      → ReadsWithin k high l (suc h) (λ cs is. x cs (operand_indices spell y is))
+  pub result : (spell : List Monomial → Formula) (y : Layout (List Monomial)) (l h : ℕ) (w : View)
+      → IsSoundLayout (λ n. IsSpelledIn k high (spell n)) y → FillsWithin k high l h w
+      → FillsWithin k high l (suc h) (λ cs is. w cs (result_indices spell y is))
+  -- a loop's element, of which scalars are loaded, and its place
+  pub element : (loads : LoadSet) (l h n : ℕ) (x : View) → n + load_count loads ≤ k.variables
+      → ReadsWithin k high l h x
+      → ReadsWithin k high (suc l) h (loaded_view loads (view_at (LoopVariable l) x) n)
+  pub place : (l h : ℕ) (w : View) → FillsWithin k high l h w
+      → FillsWithin k high (suc l) h (view_at (LoopVariable l) w)
+  -- declared arrays of literal lengths
+  pub laid : (form : ℕ → Array) (first : ℕ) (ty : Ty) (l : ℕ)
+      → ((c : ℕ) → c < width ty → is_readable k (form (first + c)) ≡ true)
+      → AllLengths (λ n. n < 2 ^ 32) ty → dimensions ty ≤ 4
+      → ReadsWithin k high l 0 (laid_view form first ty)
+  pub laid_places : (form : ℕ → Array) (first : ℕ) (ty : Ty) (l : ℕ)
+      → ((c : ℕ) → c < width ty → is_writable k (form (first + c)) ≡ true)
+      → AllLengths (λ n. n < 2 ^ 32) ty → dimensions ty ≤ 4
+      → FillsWithin k high l 0 (laid_view form first ty)
+
+abbrev pub ViewsStayWithin : Type 0
+ViewsStayWithin = (k : Kernel) (high : ℕ) → 1 ≤ high → ViewsStay k high
+
+-- the loop of a map over what reads within the grammar is of it, where its body is
+abbrev pub LoopsAreOfTheGrammar : Type 0
+LoopsAreOfTheGrammar =
+    (k : Kernel) (high l h n : ℕ) (kind : Kind) (bound : Formula) (loads : LoadSet) (x : View)
+    (body rest : Code)
+    → 1 ≤ high → high + (8 + 3 * h) ≤ 1024 → l < 1024 → n + load_count loads ≤ k.variables
+    → IsSpelledIn k high bound → ReadsWithin k high l h x
+    → has_statement body ≡ true → are_statements k (suc l) body ≡ true
+    → are_statements k l rest ≡ true
+    → are_statements k l (Loops (start_of kind) bound (stride_of kind)
+    (print_loaded loads (view_at (LoopVariable l) x) n body) rest) ≡ true
+
+-- lengths are at most so high, at most so many layouts stand one on another, and the kernel has the
+-- program's inputs
+pub record HasRoomFor (k : Kernel) (high most : ℕ) (d : Declared) : Type 0 where
+  pub some : 1 ≤ high
+  pub fits : high + (8 + 3 * most) ≤ 1024
+  pub inputs : k.inputs ≡ buffer_count d.inputs
+
+-- what stands for the inputs
+abbrev pub views_of_inputs : (spell : List Monomial → Formula) → Declared → ℕ → View
+views_of_inputs spell d = input_views spell (first_buffer d.inputs) (input_shape d.inputs)
+
+module _ (k : Kernel) (spell : List Monomial → Formula) (high most : ℕ) (d : Declared) where
+  -- a term in writing position in so many loops and below so many layouts, where so many stand over
+  -- what binders stand for, from these variables and private arrays on
+  pub record CanBePrinted (g : ℕ → ℕ) (loops above variable private : ℕ) (t : Term (List Monomial))
+      : Type 0 where
+    pub written : CanBeWritten t
+    pub sound : IsSoundIn k spell high d t
+    pub layouts : IsWrittenWithin most g above t
+    pub low : AreLow 1024 t
+    pub deep : loops + loop_depth t ≤ 1024
+    pub variables : variable + variable_count t ≤ k.variables
+    pub privates : private + private_count t ≤ length k.privates
+
+  -- what is printed of a program's terms is of the grammar
+  pub record TermsAreOfTheGrammar : Type 0 where
+    -- what stands for an argument reads within it, and the output is filled within it
+    pub arguments : (l private : ℕ) (g : ℕ → ℕ) (env : ℕ → View) (t : Term (List Monomial))
+        → AllReadWithin k high l g env → IsSoundIn k spell high d t
+        → private + private_count t ≤ length k.privates
+        → ReadsWithin k high l (stacked g t)
+        (argument_view spell (views_of_inputs spell d) env private t)
+    pub output : (ty : Shape (List Monomial)) → k.outputs ≡ width ty
+        → AllLengths (λ n. IsSpelledIn k high (spell n)) ty → dimensions ty ≤ 4
+        → FillsWithin k high 0 0 (placed_view spell Output 0 ty)
+    -- the code of a term in writing position is of it, and has a statement
+    pub codes : (l above variable private : ℕ) (g : ℕ → ℕ) (env : ℕ → View)
+        (t : Term (List Monomial)) (w : View) (rest : Code)
+        → AllReadWithin k high l g env → FillsWithin k high l above w
+        → CanBePrinted g l above variable private t → are_statements k l rest ≡ true
+        → are_statements k l
+        (print_written spell (views_of_inputs spell d) l env private variable t w rest) ≡ true
+    pub statements : (l above variable private : ℕ) (g : ℕ → ℕ) (env : ℕ → View)
+        (t : Term (List Monomial)) (w : View) (rest : Code)
+        → FillsWithin k high l above w → CanBePrinted g l above variable private t
+        → has_statement
+        (print_written spell (views_of_inputs spell d) l env private variable t w rest) ≡ true
+    -- a kernel that declares a term's arrays is of the grammar where its code is
+    pub kernel : (ty : Shape (List Monomial)) (t : Term (List Monomial))
+        → k.outputs ≡ width ty → k.locals ≡ copy_lengths LocalMemory t
+        → k.privates ≡ copy_lengths PrivateMemory t → IsSoundIn k spell high d t
+        → has_statement k.code ≡ true → are_statements k 0 k.code ≡ true → is_kernel k ≡ true
+
+abbrev pub TermsArePrintedWithin : Type 0
+TermsArePrintedWithin =
+    (k : Kernel) (spell : List Monomial → Formula) (high most : ℕ) (d : Declared)
+    → HasRoomFor k high most d → TermsAreOfTheGrammar k spell high most d
+
+-- the arrays of a sound term's copies can be declared
+abbrev pub ArraysCanBeDeclared : Type 0
+ArraysCanBeDeclared =
+    (k : Kernel) (spell : List Monomial → Formula) (high : ℕ) (d : Declared) (s : Space)
+    (t : Term (List Monomial))
+    → IsSoundIn k spell high d t → are_lengths (copy_lengths s t) ≡ true

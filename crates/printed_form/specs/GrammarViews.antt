@@ -1,0 +1,51 @@
+-- What stands for values within the kernel grammar: it reads and fills declared arrays, at indices
+-- that name what is declared and aren't too high.
+use Rattle.std.specs.Prelude.{◌≡◌, ℕ, ◌+◌, ◌*◌, ◌<◌, ◌≤◌, Bool, true, List, [], ◌∷◌}
+use Rattle.kernel_tree.specs.Formula.{Formula}
+use Rattle.kernel_tree.specs.Code.{Kernel}
+use Rattle.kernel_tree.specs.Grammar.{is_readable, is_writable}
+use Rattle.printed_form.specs.Views.{Sign, Blank, Held, Read, View}
+use Rattle.printed_form.specs.Sound.{IsGood}
+
+module _ (k : Kernel) where
+  -- within so many loops, at most so high
+  abbrev pub AllGood : (loops high : ℕ) → List Formula → Type 0
+  AllGood l h [] = Unit {0}
+  AllGood l h (i ∷ is) = IsGood k l h i × AllGood l h is
+
+  -- one of so many variables, or a cell that is read
+  abbrev pub IsGoodSign : (variables loops high : ℕ) → Sign → Type 0
+  IsGoodSign n l h Blank = Unit {0}
+  IsGoodSign n l h (Held v) = v < n
+  IsGoodSign n l h (Read a i) = (is_readable k a ≡ true) × IsGood k l h i
+
+  -- a cell that is written
+  abbrev pub IsTargetSign : (loops high : ℕ) → Sign → Type 0
+  IsTargetSign l h Blank = ⊥
+  IsTargetSign l h (Held v) = ⊥
+  IsTargetSign l h (Read a i) = (is_writable k a ≡ true) × IsGood k l h i
+
+  -- where lengths are at most S high
+  module _ (S : ℕ) where
+    -- a view adds at most so much to the height of its indices, from so many loops on
+    abbrev pub IsGoodView : (variables loops more : ℕ) → View → Type 0
+    IsGoodView n L H v =
+        (l h : ℕ) (cs : List Bool) (is : List Formula) → L ≤ l → S ≤ h → AllGood l h is
+        → IsGoodSign n l (h + H) (v cs is)
+
+    abbrev pub IsTarget : (loops more : ℕ) → View → Type 0
+    IsTarget L H v =
+        (l h : ℕ) (cs : List Bool) (is : List Formula) → L ≤ l → S ≤ h → AllGood l h is
+        → IsTargetSign l (h + H) (v cs is)
+
+    -- a view reads within the grammar, in so many loops and through so many layouts
+    abbrev pub ReadsWithin : (loops layouts : ℕ) → View → Type 0
+    ReadsWithin l h x = IsGoodView k.variables l (8 + 3 * h) x
+
+    -- or tells where to write
+    abbrev pub FillsWithin : (loops layouts : ℕ) → View → Type 0
+    FillsWithin l h w = IsTarget l (8 + 3 * h) w
+
+    -- what stands for each binder reads so
+    abbrev pub AllReadWithin : (loops : ℕ) → (layouts : ℕ → ℕ) → (ℕ → View) → Type 0
+    AllReadWithin l g env = (v : ℕ) → ReadsWithin l (g v) (env v)

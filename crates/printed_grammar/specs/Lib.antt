@@ -1,4 +1,0 @@
-pub mod Sound
-pub mod Views
-pub mod Law
-pub mod Pieces

@@ -1,4 +1,0 @@
-pub mod Indices
-pub mod Tidy
-pub mod Laws
-pub mod Worked

@@ -1,3 +1,0 @@
-mod Sizes
-mod Values
-mod Shapes

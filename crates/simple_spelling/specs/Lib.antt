@@ -1,3 +1,0 @@
-pub mod Formulas
-pub mod Redundant
-pub mod Laws

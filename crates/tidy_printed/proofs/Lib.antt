@@ -1,0 +1,13 @@
+mod Elements
+mod Statements
+mod TidiedTerms
+mod TidiedKernels
+mod TidiedGroups
+pub mod Formulas
+pub mod Readings
+pub mod Lengths
+pub mod Views
+pub mod Codes
+pub mod TermIndices
+pub mod GroupIndices
+pub mod KernelIndices

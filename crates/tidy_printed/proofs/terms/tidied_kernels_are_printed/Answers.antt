@@ -1,0 +1,5 @@
+use Rattle.tidy_printed.proofs.TidiedKernels.{kernel_is}
+use Rattle.tidy_printed.proofs.terms.tidied_kernels_are_printed.Goals as goal
+
+pub returns : goal.returns
+returns c = kernel_is

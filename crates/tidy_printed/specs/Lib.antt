@@ -1,0 +1,5 @@
+pub mod Terms
+pub mod Groups
+pub mod Indices
+pub mod Tidy
+pub mod TidyLaws

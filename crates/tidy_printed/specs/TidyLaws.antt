@@ -1,0 +1,52 @@
+-- The indices and bounds of the kernels that are printed with lengths as they are spelled, and of
+-- those kernels tidied.
+use Rattle.std.specs.Prelude.{◌≡◌, ℕ, true, List}
+use Rattle.size_arith.specs.declared.names.Name.{Name}
+use Rattle.size_arith.specs.Ranges.{AreNames}
+use Rattle.lift_tree.specs.Tree.{Tree}
+use Rattle.lift_tree.specs.Annotations.{Annotation}
+use Rattle.lift_tree.specs.Typing.{Declared}
+use Rattle.kernel_tree.specs.Grammar.{is_kernel}
+use Rattle.barrier_placement.specs.Fencing.{Fencing}
+use Rattle.length_spelling.specs.Formulas.{length_formula}
+use Rattle.printed_form.specs.Programs.{printed_kernel}
+use Rattle.group_form.specs.Printer.{printed_group_kernel}
+use Rattle.tidy_indices.specs.Tidy.{tidy_formula}
+use Rattle.tidy_indices.specs.Laws.{Change}
+use Rattle.tidy_kernels.specs.Pass.{tidied_kernel}
+use Rattle.tidy_printed.specs.Indices.{EachIndexAndBound, IsDeclaredIndex}
+use Rattle.tidy_printed.specs.Tidy.{IsTidyFor, MakesTidy}
+
+abbrev pub TermsHaveIndexFormulas : Type 0
+TermsHaveIndexFormulas =
+    (d : Declared) (t : Tree) (a : Annotation)
+    →
+    (let plain = printed_kernel (length_formula d.names) d t a in AreNames d.names
+    → is_kernel plain ≡ true → EachIndexAndBound (IsDeclaredIndex d.names) plain.code)
+
+abbrev pub GroupsHaveIndexFormulas : Type 0
+GroupsHaveIndexFormulas =
+    (d : Declared) (fence : ℕ → Fencing) (t : Tree) (a : Annotation)
+    →
+    (let plain = printed_group_kernel (length_formula d.names) fence d t a in AreNames d.names
+    → is_kernel plain ≡ true → EachIndexAndBound (IsDeclaredIndex d.names) plain.code)
+
+abbrev pub TidiedTermsAreTidy : Type 0
+TidiedTermsAreTidy =
+    (d : Declared) (t : Tree) (a : Annotation) (tidy : Change)
+    →
+    (let plain = printed_kernel (length_formula d.names) d t a in AreNames d.names
+    → is_kernel plain ≡ true → MakesTidy d.names tidy
+    → IsTidyFor plain.code (tidied_kernel tidy plain).code)
+
+abbrev pub TidiedGroupsAreTidy : Type 0
+TidiedGroupsAreTidy =
+    (d : Declared) (fence : ℕ → Fencing) (t : Tree) (a : Annotation) (tidy : Change)
+    →
+    (let plain = printed_group_kernel (length_formula d.names) fence d t a in AreNames d.names
+    → is_kernel plain ≡ true → MakesTidy d.names tidy
+    → IsTidyFor plain.code (tidied_kernel tidy plain).code)
+
+-- the tidy formulas of the declared sizes are such
+abbrev pub TidyFormulasMakeTidy : Type 0
+TidyFormulasMakeTidy = (names : List Name) → MakesTidy names (tidy_formula names)

@@ -1,0 +1,34 @@
+//! Laws of the indices and bounds of printed kernels, each carried by a function that does nothing.
+
+ghost use Rattle.tidy_printed.specs.TidyLaws.{TermsHaveIndexFormulas, GroupsHaveIndexFormulas, TidiedTermsAreTidy, TidiedGroupsAreTidy, TidyFormulasMakeTidy};
+
+use tidy_indices::laws::{tidy_formulas_are_irredundant, tidy_formulas_are_short};
+
+/// Where the printer makes a kernel of the kernel grammar of a typed term, each index and each
+/// bound spells an index expression that divides sizes by their declared divisors alone.
+pub fn terms_have_index_formulas()
+    ensures { TermsHaveIndexFormulas }
+{}
+
+/// And where the printer of maps over work-groups makes one.
+pub fn groups_have_index_formulas()
+    ensures { GroupsHaveIndexFormulas }
+{}
+
+/// Such a kernel of a typed term, tidied, is tidy for the plain one.
+pub fn tidied_terms_are_tidy()
+    ensures { TidiedTermsAreTidy }
+{}
+
+/// And such a kernel of a map over work-groups.
+pub fn tidied_groups_are_tidy()
+    ensures { TidiedGroupsAreTidy }
+{}
+
+/// Tidy formulas are such.
+pub fn tidy_formulas_make_tidy()
+    ensures { TidyFormulasMakeTidy }
+{
+    tidy_formulas_are_irredundant();
+    tidy_formulas_are_short();
+}

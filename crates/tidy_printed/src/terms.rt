@@ -1,0 +1,29 @@
+//! The laws, each carried by a function that does nothing.
+
+ghost use Rattle.size_arith.specs.declared.poly.Monomial.{Monomial};
+ghost use Rattle.std.specs.Prelude.{List};
+ghost use Rattle.tidy_printed.specs.Terms.{TidiedCodesArePrinted, TidiedKernelsArePrinted};
+ghost use Rattle.tidy_printed.specs.Terms.{TidiedLoadsArePrinted, TidiedMapLoopsArePrinted};
+
+/// Code that is printed for the loads of an element, in loops of these bounds at these turns, is
+/// printed for them when it is tidied, where indices and bounds keep their values.
+pub fn tidied_loads_are_printed()
+    ensures { TidiedLoadsArePrinted }
+{}
+
+/// And so is a loop that is printed for a map, of whatever kind.
+pub fn tidied_map_loops_are_printed()
+    ensures { TidiedMapLoopsArePrinted (List Monomial) }
+{}
+
+/// Code that is printed for a term, by one work-item or over the launch, is printed for it when it
+/// is tidied, where indices and bounds keep their values.
+pub fn tidied_codes_are_printed()
+    ensures { TidiedCodesArePrinted (List Monomial) }
+{}
+
+/// A kernel that is printed for a program's typed term at a launch is printed for it when it is
+/// tidied, where indices and bounds keep their values at the launch.
+pub fn tidied_kernels_are_printed()
+    ensures { TidiedKernelsArePrinted }
+{}

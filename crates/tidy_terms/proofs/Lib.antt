@@ -1,4 +1,0 @@
-mod Elements
-mod Statements
-mod Terms
-mod Whole

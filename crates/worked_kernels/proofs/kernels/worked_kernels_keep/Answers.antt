@@ -1,0 +1,12 @@
+use Rattle.worked_kernels.proofs.KernelRuns.{sums_keep, swaps_keep}
+use Rattle.worked_kernels.proofs.Increments.{increments_keep}
+use Rattle.worked_kernels.proofs.kernels.worked_kernels_keep.Goals as goal
+
+pub returns-clause-sums : goal.returns-clause-sums
+returns-clause-sums c = sums_keep
+
+pub returns-clause-swaps : goal.returns-clause-swaps
+returns-clause-swaps c = swaps_keep
+
+pub returns-clause-increments : goal.returns-clause-increments
+returns-clause-increments c = increments_keep

@@ -1,0 +1,168 @@
+-- Worked kernels.
+use Rattle.std.specs.Prelude.{◌≡◌, ℕ, ◌+◌, ◌%◌, ◌<◌, ◌^◌, true, false, List, [], ◌∷◌, length, map}
+use Rattle.scalar_ops.specs.declared.op.Op.TheVariants.{Add, Mul}
+use Rattle.kernel_tree.specs.Formula.{Number, Variable, LoopVariable, Size, Binary}
+use Rattle.kernel_tree.specs.Code.{Input, Output, Private, FromZero, ByOne, FromGlobalId, ByGlobalSize, Code, End, Assigns, Loads, Stores, Loops, Kernel}
+use Rattle.kernel_tree.specs.Launch.{Launch, Cells, IsWhole}
+use Rattle.lift_ir.specs.Types.{Scalar, PairOf, ArrayOf}
+use Rattle.lift_ir.specs.Layouts.{Split, Join}
+use Rattle.lift_ir.specs.Terms.{Skip, Take, Global, Sequential, PrivateMemory, Term, Literal, Bound, Source, Apply, Both, Project, Reshape, Map, Fold, Store, Copy}
+use Rattle.printed_form.specs.Headline.{EveryRunKeeps}
+
+-- one work-item, and no sizes
+abbrev pub one_item : Launch
+one_item = record { global = 1; local = 1; sizes = [] }
+
+-- ---- a sum, from 5 on, of partial sums in a private array
+abbrev pub sums : Term ℕ
+sums =
+    Fold 2 Take Scalar
+    (Copy PrivateMemory (ArrayOf 2 Scalar)
+    (Reshape (Join 1) (Map Sequential 2 Skip (Reshape (Split 2) (Source 0))
+    (Fold 2 Take Scalar (Bound 0) (Literal 0) (Apply Add (Bound 1) (Bound 0))))))
+    (Literal 5) (Apply Add (Bound 1) (Bound 0))
+
+abbrev pub add_inner : Code
+add_inner = Assigns 0 (Binary Add (Variable 0) (Variable 1)) End
+
+abbrev pub inner_body : Code
+inner_body =
+    Loads 1 (Input 0)
+    (Binary Add (Binary Mul (LoopVariable 0) (Number 2)) (LoopVariable 1)) add_inner
+
+abbrev pub inner_store : Code
+inner_store = Stores (Private 0) (LoopVariable 0) (Variable 0) End
+
+abbrev pub inner_loop : Code
+inner_loop = Loops FromZero (Number 2) ByOne inner_body inner_store
+
+abbrev pub row_body : Code
+row_body = Assigns 0 (Number 0) inner_loop
+
+abbrev pub add_outer : Code
+add_outer = Assigns 2 (Binary Add (Variable 2) (Variable 3)) End
+
+abbrev pub outer_body : Code
+outer_body = Loads 3 (Private 0) (LoopVariable 0) add_outer
+
+abbrev pub outer_store : Code
+outer_store = Stores (Output 0) (Number 0) (Variable 2) End
+
+abbrev pub outer_loop : Code
+outer_loop = Loops FromZero (Number 2) ByOne outer_body outer_store
+
+abbrev pub outer : Code
+outer = Assigns 2 (Number 5) outer_loop
+
+-- for (i0 ..) { v0 = 0u; for (i1 ..) { v1 = a0[i0 * 2 + i1]; v0 = v0 + v1; } p0[i0] = v0; } v2 =
+-- 5u; for (i0 ..) { v3 = p0[i0]; v2 = v2 + v3; } o0[0u] = v2;
+abbrev pub sums_kernel : Kernel
+sums_kernel = record {
+  inputs = 1;
+  outputs = 1;
+  sizes = 0;
+  locals = [];
+  privates = 2 ∷ [];
+  variables = 4;
+  code = Loops FromZero (Number 2) ByOne row_body outer;
+}
+
+abbrev pub sums_cells : (rest out : ℕ) → Cells
+sums_cells rest out = record {
+  ins = (1 ∷ 2 ∷ 3 ∷ 4 ∷ []) ∷ [];
+  outs = (out ∷ []) ∷ [];
+  rest = rest;
+}
+
+-- of 1, 2, 3 and 4 every run leaves 15, whatever other memory holds
+abbrev pub SumsKeep : Type 0
+SumsKeep =
+    (rest out : ℕ)
+    → EveryRunKeeps sums_kernel one_item (sums_cells rest out) (λ array index. 0) ((15 ∷ []) ∷ [])
+
+-- ---- an accumulator of two components: from (0, 1) on, (a, b) and x give (b, a + x)
+abbrev pub swaps : Term ℕ
+swaps =
+    Fold 3 Take (PairOf Scalar Scalar) (Source 0) (Both false (Literal 0) (Literal 1))
+    (Both false (Project true (Bound 1)) (Apply Add (Project false (Bound 1)) (Bound 0)))
+
+abbrev pub swap_back : Code
+swap_back = Assigns 0 (Variable 3) (Assigns 1 (Variable 4) End)
+
+abbrev pub swap_new : Code
+swap_new = Assigns 3 (Variable 1) (Assigns 4 (Binary Add (Variable 0) (Variable 2)) swap_back)
+
+abbrev pub swap_body : Code
+swap_body = Loads 2 (Input 0) (LoopVariable 0) swap_new
+
+abbrev pub swap_store : Code
+swap_store =
+    Stores (Output 0) (Number 0) (Variable 0) (Stores (Output 1) (Number 0) (Variable 1) End)
+
+abbrev pub swap_loop : Code
+swap_loop = Loops FromZero (Number 3) ByOne swap_body swap_store
+
+-- v0 = 0u; v1 = 1u; for (i0 ..) { v2 = a0[i0]; v3 = v1; v4 = v0 + v2; v0 = v3; v1 = v4; } o0[0u] =
+-- v0; o1[0u] = v1;
+abbrev pub swaps_kernel : Kernel
+swaps_kernel = record {
+  inputs = 1;
+  outputs = 2;
+  sizes = 0;
+  locals = [];
+  privates = [];
+  variables = 5;
+  code = Assigns 0 (Number 0) (Assigns 1 (Number 1) swap_loop);
+}
+
+abbrev pub swaps_cells : (rest first second : ℕ) → Cells
+swaps_cells rest o p = record {
+  ins = (5 ∷ 6 ∷ 7 ∷ []) ∷ [];
+  outs = (o ∷ []) ∷ (p ∷ []) ∷ [];
+  rest = rest;
+}
+
+-- of 5, 6 and 7 every run leaves 7 and 12
+abbrev pub SwapsKeep : Type 0
+SwapsKeep =
+    (rest o p : ℕ)
+    → EveryRunKeeps swaps_kernel one_item (swaps_cells rest o p) (λ array index. 0)
+    ((7 ∷ []) ∷ (12 ∷ []) ∷ [])
+
+-- ---- a map over the launch that adds 1 to each of N elements
+abbrev pub increments : ℕ → Term ℕ
+increments n = Map Global n Take (Source 0) (Store Scalar (Apply Add (Bound 0) (Literal 1)))
+
+abbrev pub turn_store : Code
+turn_store = Stores (Output 0) (LoopVariable 0) (Binary Add (Variable 0) (Number 1)) End
+
+abbrev pub turn_body : Code
+turn_body = Loads 0 (Input 0) (LoopVariable 0) turn_store
+
+-- for (uint i0 = (uint)get_global_id(0); i0 < s0; i0 += (uint)get_global_size(0)) { v0 = a0[i0];
+-- o0[i0] = (v0 + 1u); }
+abbrev pub increments_kernel : Kernel
+increments_kernel = record {
+  inputs = 1;
+  outputs = 1;
+  sizes = 1;
+  locals = [];
+  privates = [];
+  variables = 1;
+  code = Loops FromGlobalId (Size 0) ByGlobalSize turn_body End;
+}
+
+abbrev pub increments_cells : List ℕ → List ℕ → ℕ → Cells
+increments_cells xs out rest = record { ins = xs ∷ []; outs = out ∷ []; rest = rest }
+
+abbrev pub incremented : List ℕ → List ℕ
+incremented xs = map (λ x. (x + 1) % 2 ^ 32) xs
+
+-- at every launch, over fewer than 2^31 elements, every run leaves the sums, each written by the
+-- work-item of its index modulo G
+abbrev pub IncrementsKeep : Type 0
+IncrementsKeep =
+    (l : Launch) (xs out : List ℕ) (rest : ℕ) → IsWhole l → 0 < l.global → l.global < 2 ^ 31
+    → l.sizes ≡ length xs ∷ [] → length xs < 2 ^ 31 → length out ≡ length xs
+    → EveryRunKeeps increments_kernel l (increments_cells xs out rest) (λ array i. i % l.global)
+    (incremented xs ∷ [])

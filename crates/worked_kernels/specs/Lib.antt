@@ -1,0 +1,5 @@
+pub mod Tiles
+pub mod Groups
+pub mod Kernels
+pub mod Indices
+pub mod Terms

@@ -1,0 +1,77 @@
+-- Worked terms.
+use Rattle.std.specs.Prelude.{◌≡◌, ℕ, ◌<◌, ◌^◌, List, [], Some, slice_get}
+use Rattle.scalar_ops.specs.declared.op.Op.TheVariants.{Add}
+use Rattle.scalar_ops.specs.declared.op.Reducer.TheVariants as reducer
+use Rattle.size_arith.specs.declared.poly.Monomial.{Monomial}
+use Rattle.lift_tree.specs.declared.term.Operator.TheVariants as operator
+use Rattle.lift_tree.specs.declared.term.UnaryForm.TheVariants as unary
+use Rattle.lift_tree.specs.declared.term.BinaryForm.TheVariants as binary
+use Rattle.lift_tree.specs.declared.term.MapKind.TheVariants as map_kind
+use Rattle.lift_tree.specs.declared.term.FoldKind.{FoldKind}
+use Rattle.lift_tree.specs.Tree as tree
+use Rattle.lift_tree.specs.Tree.{Tree}
+use Rattle.lift_tree.specs.Types as types
+use Rattle.lift_tree.specs.Typing.{Declared, constant}
+use Rattle.lift_tree.specs.Annotations.{Annotation, Leaf, One, Two, Three, Annotates}
+use Rattle.lift_ir.specs.Types.{Scalar, ArrayOf}
+use Rattle.lift_ir.specs.Terms.{Take, PrivateMemory, Global, Sequential, Literal, Bound, Source, Apply, Map, Fold, Store, Copy}
+use Rattle.lift_ir.specs.AtLaunch.{length_at}
+use Rattle.lift_ir.specs.Lowering.{Written, Lowered, lower}
+use Rattle.lift_ir.specs.Lowerable.{IsLowerable, IsStaged}
+
+abbrev pub sum : Tree → Tree → Tree
+sum t u = tree.Binary (binary.Operator (operator.Regrouping reducer.Add)) t u
+
+abbrev pub scalar : Annotation
+scalar = Leaf types.U32
+
+-- a typed term: what it is lowered to, and that it can be
+pub record IsLoweredTo (d : Declared) (bases : List ℕ) (t : Tree) (a : Annotation)
+    (u : Lowered) : Type 0 where
+  pub same : lower Written t a ≡ u
+  pub nodes : Annotates d [] t a
+  pub lowerable : IsLowerable bases Written t a
+  pub staged : IsStaged Written t a
+
+-- mapGlb(\x. x + 1, A)
+abbrev pub increments : Tree
+increments = tree.Map map_kind.Global (tree.Input 0) (sum (tree.Variable 0) (tree.Number 1))
+
+abbrev pub increments_types : List Monomial → Annotation
+increments_types n =
+    Two (types.ArrayOf types.U32 n) (Leaf (types.ArrayOf types.U32 n)) (Two types.U32 scalar scalar)
+
+abbrev pub IncrementsAreLowered : Type 0
+IncrementsAreLowered =
+    (d : Declared) (bases : List ℕ) (n : List Monomial)
+    → slice_get d.inputs 0 ≡ Some (types.ArrayOf types.U32 n) → length_at bases n < 2 ^ 31
+    → IsLoweredTo d bases increments (increments_types n)
+    (Map Global n Take (Source 0) (Store Scalar (Apply Add (Bound 0) (Literal 1))))
+
+-- foldSeq(\a x. a + x, 0, toPrivate(mapSeq(\x. x + 1, A))), of 5 elements
+abbrev pub five : List Monomial
+five = constant 5
+
+abbrev pub private_increments : Tree
+private_increments =
+    tree.Unary unary.ToPrivate
+    (tree.Map map_kind.Sequential (tree.Input 0) (sum (tree.Variable 0) (tree.Number 1)))
+
+abbrev pub sums : FoldKind → Tree
+sums k = tree.Fold k private_increments (tree.Number 0) (sum (tree.Variable 1) (tree.Variable 0))
+
+abbrev pub sums_types : Annotation
+sums_types =
+    Three (types.ArrayOf types.U32 (constant 1))
+    (One (types.ArrayOf types.U32 five) (increments_types five)) scalar
+    (Two types.U32 scalar scalar)
+
+abbrev pub SumsAreLowered : Type 0
+SumsAreLowered =
+    (d : Declared) (bases : List ℕ) (k : FoldKind)
+    → slice_get d.inputs 0 ≡ Some (types.ArrayOf types.U32 five)
+    → IsLoweredTo d bases (sums k) sums_types
+    (Fold five Take Scalar
+    (Copy PrivateMemory (ArrayOf 5 Scalar) (Map Sequential five Take (Source 0)
+    (Store Scalar (Apply Add (Bound 0) (Literal 1))))) (Literal 0)
+    (Apply Add (Bound 1) (Bound 0)))

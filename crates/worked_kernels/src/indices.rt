@@ -1,0 +1,11 @@
+//! Worked indices and bounds, carried by a function that does nothing.
+
+ghost use Rattle.worked_kernels.specs.Indices.{BoundsAreTidied, BoundsDoNotStay, IndicesDoNotGrow, JoinsAreTidied, JoinsDoNotStay};
+
+/// Worked indices: a cell of rows is read at the loop's variable, and a loop over twice the half of
+/// a size is bound by that size; neither may stay as it was, nor may an index grow.
+pub fn worked_indices()
+    ensures joins { JoinsAreTidied × JoinsDoNotStay }
+    ensures bounds { BoundsAreTidied × BoundsDoNotStay }
+    ensures others { IndicesDoNotGrow }
+{}

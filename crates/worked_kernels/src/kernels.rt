@@ -1,0 +1,11 @@
+//! Worked kernels by one work-item and over the launch, carried by a function that does nothing.
+
+ghost use Rattle.worked_kernels.specs.Kernels.{IncrementsKeep, SumsKeep, SwapsKeep};
+
+/// Worked kernels: one with a private array, one whose accumulator has two components, and a map
+/// over the launch at every launch.
+pub fn worked_kernels_keep()
+    ensures sums { SumsKeep }
+    ensures swaps { SwapsKeep }
+    ensures increments { IncrementsKeep }
+{}

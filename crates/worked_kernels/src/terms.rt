@@ -1,0 +1,9 @@
+//! Worked terms of the source, carried by a function that does nothing.
+
+ghost use Rattle.worked_kernels.specs.Terms.{IncrementsAreLowered, SumsAreLowered};
+
+/// Worked terms: a map over the launch, and a fold over a private copy.
+pub fn worked_terms_are_lowered()
+    ensures increments { IncrementsAreLowered }
+    ensures sums { SumsAreLowered }
+{}
