@@ -32,7 +32,7 @@ def on_device(folder, words):
     """The instructions of the device alone in one call of `lift run` or `lift demo`, with its start, and what the call wrote."""
     _, wrote = instructions(folder, words)
     told = subprocess.run(["callgrind_annotate", "--inclusive=yes", folder / "callgrind"], stdout=subprocess.PIPE, stderr=subprocess.DEVNULL, text=True, check=True)
-    return max(int(it.replace(",", "")) for it in re.findall(r"^ *([0-9,]+) .*ndrange_device::follow", told.stdout, re.M)), wrote
+    return max(int(it.replace(",", "")) for it in re.findall(r"^ *([0-9,]+) .*ndrange_device::", told.stdout, re.M)), wrote
 
 
 def seconds(words, times=1, program=LIFT):

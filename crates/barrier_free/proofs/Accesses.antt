@@ -1,13 +1,14 @@
 -- A run without a failure accesses cells of its arrays alone.
-use Rattle.std.proofs.Common.{◌≡◌, ℕ, ◌<◌, Bool, true, false, List, [], ◌∷◌, Some, None, refl, sym, subst, ⊎_elim}
+use Rattle.std.proofs.Common.{◌≡◌, ℕ, ◌+◌, ◌*◌, ◌<◌, Bool, true, false, List, [], ◌∷◌, Some, None, refl, ⊎_elim, arith}
 use Rattle.std.specs.Prelude.{if◌then◌else◌, nat_lt}
 use Rattle.std.proofs.lemmas.Bool.{ltb-true}
 use Rattle.kernel_tree.specs.declared.events.Event.{Event}
 use Rattle.kernel_tree.specs.declared.events.Event.TheVariants.{Step, Release}
 use Rattle.kernel_tree.specs.declared.events.FaultKind.TheVariants.{OutOfRange}
-use Rattle.kernel_tree.specs.Item.{Wants, Ends, Waits, Moves, Reads, Writes, Fails}
+use Rattle.kernel_tree.specs.Item.{Wants, Ends, Waits, Moves, Reads, Writes, ReadsFour, WritesFour, Fails}
 use Rattle.kernel_tree.specs.Device.{Device, Fence, State, wants, after}
 use Rattle.kernel_tree.specs.Faults.{Access, Among, accessed, accesses_of, accesses, failure, failure_of, NoFailure}
+use Rattle.kernel_tree.proofs.Accessed.{among_every}
 use Rattle.kernel_tree.proofs.Confluence.{among-append}
 
 in_range : (n m : ℕ) → (if nat_lt n m then None else Some OutOfRange) ≡ None → n < m
@@ -21,12 +22,19 @@ module _ (d : Device) where
   abbrev IsWithin : Access → Type 0
   IsWithin x = x.cell.index < d.lengths x.cell.array
 
-  only : (x y : Access) → Among x (y ∷ []) → IsWithin y → IsWithin x
-  only x y among h = ⊎_elim (λ e. subst IsWithin (sym e) h) (λ none. absurd none) among
+  -- of four cells each is within their array, as the last one is
+  four_within : (n m : ℕ) → 4 * n + 3 < m → (4 * n < m) × (4 * n + 1 < m) × (4 * n + 2 < m) × (4 * n + 3 < m)
+  four_within n m h = (omega arith, omega arith, omega arith, h)
 
   by_want : (k : ℕ) (w : Wants) (epochs : Fence → ℕ) → failure d w ≡ None → (x : Access) → Among x (accessed d.launch k w epochs) → IsWithin x
-  by_want k (Reads a n f) epochs fine x among = only x _ among (in_range n (d.lengths a) fine)
-  by_want k (Writes a n v y) epochs fine x among = only x _ among (in_range n (d.lengths a) fine)
+  by_want k (Reads a n f) epochs fine x among = among_every IsWithin (accessed d.launch k (Reads a n f) epochs) (in_range n (d.lengths a) fine, tt) x among
+  by_want k (Writes a n v y) epochs fine x among = among_every IsWithin (accessed d.launch k (Writes a n v y) epochs) (in_range n (d.lengths a) fine, tt) x among
+  by_want k (ReadsFour a n f) epochs fine x among =
+      let w = four_within n (d.lengths a) (in_range (4 * n + 3) (d.lengths a) fine) in
+      among_every IsWithin (accessed d.launch k (ReadsFour a n f) epochs) (w.0, (w.1, (w.2, (w.3, tt)))) x among
+  by_want k (WritesFour a n u y) epochs fine x among =
+      let w = four_within n (d.lengths a) (in_range (4 * n + 3) (d.lengths a) fine) in
+      among_every IsWithin (accessed d.launch k (WritesFour a n u y) epochs) (w.0, (w.1, (w.2, (w.3, tt)))) x among
   by_want k Ends epochs fine x among = absurd among
   by_want k (Waits a b y) epochs fine x among = absurd among
   by_want k (Moves y) epochs fine x among = absurd among

@@ -36,19 +36,19 @@ module _ (keep : PrintedProgramsKeep) (begins : PrintedProgramsStart) (d : Decla
   no_local x n lt is = let none : length_in k c x.cell.array ≡ 0 = ap (length_in k c) is ∙ none_long n in omega (arith, lt, none)
 
   -- its code is alike itself, so it has no barrier at which an item could wait
-  itself : Alike l [] k.code k.code
+  itself : (j : ℕ) → j < item_count l → Alike l j [] k.code k.code
   itself = codes_alike (length_at w.bases) l (input_marks (length_at w.bases) (first_buffer d.inputs) (input_shape d.inputs)) (lowered_root t a) (ty_at w.bases (type_in a)) k.code k.code printed.code printed.code
 
   module _ (s : State) (es : List Event) (start : IsStart k l c s) (r : IsRun (device_of k l c) s es) where
     begin : AlikeStates l s s
     begin = record {
-      items = λ j lt. subst (λ z. AlikeItems l z z) (sym (start.items j lt)) (record { code = itself; frames = tt; vars = refl });
+      items = λ j lt. subst (λ z. AlikeItems l j z z) (sym (start.items j lt)) (record { code = itself j lt; frames = tt; vars = refl });
       memory = refl;
       epochs = λ g f. refl;
     }
 
     none_waits : (j : ℕ) → j < item_count l → IsWaiting (wants (device_of k l c) (run (device_of k l c) s es) j) → ⊥
-    none_waits j lt h = never_waits l (ids_of l j) ((run (device_of k l c) s es).items j) ((same_runs (device_of k l c) (length_in k c) (λ b. refl) whole s s es begin r).ends.items j lt) h
+    none_waits j lt h = never_waits l j (ids_of l j) ((run (device_of k l c) s es).items j) ((same_runs (device_of k l c) (length_in k c) (λ b. refl) whole s s es begin r).ends.items j lt) h
 
     serves : BarriersServe (device_of k l c) (λ x. 0) s es
     serves = record {

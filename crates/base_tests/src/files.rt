@@ -1,6 +1,6 @@
 use lift_io::{
-    Files, HostFiles, HostSink, MemoryFiles, MemorySink, NamedText, NeverFails, ReadNo, Sink,
-    WriteFailed, write_whole,
+    AskedText, Files, HostFiles, HostSink, MemoryFiles, MemorySink, NamedText, NeverFails, ReadNo,
+    Sink, WriteFailed, write_whole,
 };
 use std::alloc::{AllocError, Global};
 use std::fs;
@@ -34,6 +34,14 @@ fn reads_a_real_file(rt: HostRuntime) -> Result<(), Fail> {
     Ok(())
 }
 
+// A read of the host takes a byte more than its limit, and no more: this file has no end.
+#[test]
+fn a_file_without_end_is_too_long(rt: HostRuntime) -> Result<(), Fail> {
+    let mut files = HostFiles::new(rt.clone()?);
+    assert!(rt; too_long(files.read_all(rt.alloc(), "/dev/zero", 65_536), 65_537));
+    Ok(())
+}
+
 #[test]
 fn writes_to_real_streams(rt: HostRuntime) -> Result<(), Fail> {
     assert!(rt; write_whole(&mut HostSink::new(rt.stdout()), b"seen\n").is_ok());
@@ -60,19 +68,17 @@ fn one_text(alloc: Global) -> Result<MemoryFiles, AllocError> {
     Ok(MemoryFiles::new(texts, [2u64].to_vec(alloc)?))
 }
 
-fn were_asked(files: &MemoryFiles, names: &[&str]) -> bool {
+fn were_asked(files: &MemoryFiles, reads: &[(&str, usize)]) -> bool {
     match files.asked() {
-        Some(asked) => are_same(asked, names),
+        Some(asked) => are_same(asked, reads),
         None => false,
     }
 }
 
-fn are_same(texts: &[String], names: &[&str]) -> bool {
-    texts.len() == names.len()
-        && texts
-            .iter()
-            .zip(names)
-            .all(|(text, name)| text.as_str() == *name)
+fn are_same(asked: &[AskedText], reads: &[(&str, usize)]) -> bool {
+    asked.len() == reads.len()
+        && asked.iter().zip(reads).all(|(asked, read)| asked.name.as_str() == read.0
+            && asked.limit == read.1)
 }
 
 #[test]
@@ -83,7 +89,12 @@ fn a_listed_read_fails(rt: HostRuntime) -> Result<(), Fail> {
     assert!(rt; failed(files.read_all(rt.alloc(), "p.lift", 9)));
     assert!(rt; too_long(files.read_all(rt.alloc(), "p.lift", 8), 9));
     assert!(rt; failed(files.read_all(rt.alloc(), "absent.lift", 9)));
-    let asked = ["p.lift", "p.lift", "p.lift", "absent.lift"];
+    let asked = [
+        ("p.lift", 9),
+        ("p.lift", 9),
+        ("p.lift", 8),
+        ("absent.lift", 9),
+    ];
     assert!(rt; were_asked(&files, asked.as_slice()));
     Ok(())
 }

@@ -1,7 +1,7 @@
 -- What is compiled of the last term of a program and a script.
 use Rattle.std.proofs.Common.{◌≡◌, ◌∙◌, List, ℕ, [], ◌∷◌, ◌++◌, Ok, Bool, ap, length, map, subst, sym, inl, inr}
 use Rattle.kernel_tree.specs.Code.{Kernel}
-use Rattle.kernel_tree.specs.KernelText.{IsKernelText}
+use Rattle.kernel_tree.specs.KernelText.{IsKernelText, lift}
 use Rattle.kernel_tree.specs.Launch.{Launch, Cells}
 use Rattle.lift_tree.specs.Annotations.{annotation_of, type_in}
 use Rattle.lift_tree.specs.Launches.{lists_of}
@@ -36,7 +36,7 @@ module _ (p : PlainProgram) (s : State) (k : Kernel) (for : IsKernelFor p s k) (
 
   module _ (w : World) (l : Launch) (c : Cells) (a : Admits p (type_in s.types) (is_task s.tree) w l c) where
     launch_of : IsLaunchOf (declared_by p) (is_task s.tree) w.bases l
-    launch_of = record { admissible = a.launch; sizes = a.sizes ∙ a.world.sizes }
+    launch_of = record { flat = a.flat; admissible = a.launch; sizes = a.sizes ∙ a.world.sizes }
 
     cells_of : AreBuffersOf (declared_by p) w s.tree s.types c
     cells_of = record { inputs = a.inputs; outputs = a.outputs ∙ ap (λ (v : Value). map length (lists_of (type_in s.types) v)) (sym (same_value w a.world)) }
@@ -85,7 +85,7 @@ typed_last law program script t last = record {
 
 pub compiled_found : (program script : List ℕ) (t : Typed) (output : PlainTy) (task : Bool) (text : List ℕ) (k : Kernel) → output ≡ type_in (annotation_of t.types)
     → is_task (tree_of t.term) ≡ task → IsLastTerm program script t → CompilesTerm (state_of t) (Ok (state_of t))
-    → IsKernelFor (program_of t.program) (state_of t) k → IsKernelText text k → IsCompiled program script (program_of t.program) output task text
+    → IsKernelFor (program_of t.program) (state_of t) k → IsKernelText lift text k → IsCompiled program script (program_of t.program) output task text
 compiled_found program script t output task text k same alone last compiles for written =
     let p = program_of t.program in
     subst (λ (a : PlainTy). IsCompiled program script p a task text) (sym same)
@@ -108,7 +108,7 @@ compiled_found program script t output task text k same alone last compiles for 
 -- what a type keeps of it
 pub text_for : (program script : List ℕ) (t : Typed) (output : PlainTy) (task : Bool) (text : List ℕ) (k : Kernel) → output ≡ type_in (annotation_of t.types)
     → is_task (tree_of t.term) ≡ task → IsLastTerm program script t → CanBeLaidOut (program_of t.program) (type_in (annotation_of t.types))
-    → IsKernelFor (program_of t.program) (state_of t) k → IsKernelText text k
+    → IsKernelFor (program_of t.program) (state_of t) k → IsKernelText lift text k
     → IsTextFor (program_of t.program) output task text
 text_for program script t output task text k same told last laid_out for written =
     let p = program_of t.program in

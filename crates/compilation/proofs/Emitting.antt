@@ -19,7 +19,7 @@ use Rattle.lift_tree.specs.declared.typed.Typed.{Typed}
 use Rattle.lift_tree.proofs.Annotated.{annotated_is_typed}
 use Rattle.lift_tree.proofs.Formed.{formed}
 use Rattle.kernel_tree.specs.Code.{Kernel}
-use Rattle.kernel_tree.specs.Launch.{Launch}
+use Rattle.kernel_tree.specs.Launch.{Launch, in_a_row}
 use Rattle.lift_ir.specs.AtLaunch.{length_at, natural, shape_of}
 use Rattle.lift_ir.specs.Forms.{Stands, StandsOverLaunch}
 use Rattle.lift_ir.specs.Loads.{LoadsSuffice}
@@ -68,10 +68,11 @@ few_layouts t n h = let few = ltb-false 24 (layouts t n) (not_chosen (nat_lt 24 
 
 -- one work-item at the least sizes
 abbrev least_launch : List Name → Launch
-least_launch names = record { global = 1; local = 1; sizes = sizes_at names (leasts names) }
+least_launch names = in_a_row 1 1 (sizes_at names (leasts names))
 
 at_least : (d : Declared) (task : Bool) → Admissible d.names (leasts d.names) → IsLaunchOf d task (leasts d.names) (least_launch d.names)
 at_least d task ok = record {
+  flat = record { one_row = refl; one_local_row = refl };
   admissible = record { sizes = ok; local_least = omega arith; local_most = omega arith; global_least = omega arith; global_most = omega arith; divides = refl; alone = λ e. refl };
   sizes = refl;
 }

@@ -2,7 +2,7 @@
 use Rattle.std.specs.Prelude.{◌≡◌, ℕ, List, [], Bool, Ok}
 use Rattle.kernel_tree.specs.Code.{Kernel}
 use Rattle.kernel_tree.specs.Device.{Cell}
-use Rattle.kernel_tree.specs.KernelText.{IsKernelText}
+use Rattle.kernel_tree.specs.KernelText.{IsKernelText, lift}
 use Rattle.kernel_tree.specs.Launch.{Cells, Launch, MayStart}
 use Rattle.lift_tree.specs.Programs.{PlainProgram}
 use Rattle.lift_tree.specs.Types.{PlainTy}
@@ -91,7 +91,7 @@ pub record IsCompiled (program script : List ℕ) (p : PlainProgram) (output : P
   pub alone : is_task last.tree ≡ task
   pub keeps : Keeps (declared_by p) [] p.body last.tree
   pub kernel : Kernel
-  pub written : IsKernelText text kernel
+  pub written : IsKernelText lift text kernel
   pub prints : PrintsAtAll p last kernel
   pub parameters : Starts p output (is_task last.tree) kernel
   pub meets : MeetsSource p output last kernel

@@ -1,8 +1,8 @@
 -- What a compiled kernel owes its program.
 use Rattle.std.specs.Prelude.{◌≡◌, ◌<◌, ◌^◌, ℕ, List, Bool, map, length}
 use Rattle.kernel_tree.specs.Code.{Kernel}
-use Rattle.kernel_tree.specs.KernelText.{IsKernelText}
-use Rattle.kernel_tree.specs.Launch.{Launch, Cells, MayStart}
+use Rattle.kernel_tree.specs.KernelText.{IsKernelText, lift}
+use Rattle.kernel_tree.specs.Launch.{Launch, Cells, IsFlat, MayStart}
 use Rattle.lift_tree.specs.Launches.{IsAdmissibleLaunch, buffers_of, lists_of}
 use Rattle.lift_tree.specs.Meaning.{World}
 use Rattle.lift_tree.specs.Programs.{PlainProgram}
@@ -16,10 +16,11 @@ use Rattle.printed_form.specs.Programs.{cell_owner}
 use Rattle.value_lists.specs.Lists.{IsSmall, width}
 use Rattle.program_source.specs.Program.{source_value}
 
--- A launch and cells at which a program may run, where the world has its sizes and inputs: the sizes are within their ranges and the inputs of their types, the buffers hold the inputs, and there is one for each component of the output, of its length. Outputs hold anything.
+-- A launch and cells at which a program may run, where the world has its sizes and inputs: the launch is one row, the sizes are within their ranges and the inputs of their types, the buffers hold the inputs, and there is one for each component of the output, of its length. Outputs hold anything.
 pub record Admits (p : PlainProgram) (output : PlainTy) (is_task : Bool) (w : World) (l : Launch) (c : Cells) : Type 0 where
   pub world : IsAdmissible (declared_by p) w
-  pub launch : IsAdmissibleLaunch (declared_by p).names is_task w.bases l.global l.local
+  pub flat : IsFlat l
+  pub launch : IsAdmissibleLaunch (declared_by p).names is_task w.bases l.global.0 l.local.0
   pub sizes : l.sizes ≡ w.sizes
   pub inputs : c.ins ≡ buffers_of (declared_by p).inputs w.inputs
   pub outputs : map length c.outs ≡ map length (lists_of output (source_value p w))
@@ -49,6 +50,6 @@ pub record IsTextFor (p : PlainProgram) (output : PlainTy) (is_task : Bool) (tex
   pub typed : HasOutput p p.body output
   pub laid_out : CanBeLaidOut p output
   pub kernel : Kernel
-  pub written : IsKernelText text kernel
+  pub written : IsKernelText lift text kernel
   pub starts : Starts p output is_task kernel
   pub leaves : LeavesSource p output is_task kernel

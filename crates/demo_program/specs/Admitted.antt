@@ -1,15 +1,17 @@
 -- The demo's launch is admissible for its program.
 use Rattle.std.specs.Prelude.{ℕ, false}
+use Rattle.kernel_tree.specs.Launch.{IsFlat}
 use Rattle.lift_tree.specs.Launches.{IsAdmissibleLaunch}
 use Rattle.lift_tree.specs.Typing.{IsAdmissible, declared_by}
 use Rattle.launch_file.specs.LaunchFile.{Given}
 use Rattle.demo_program.specs.Accepted.{demo_program}
 use Rattle.demo_program.specs.Data.{demo_given}
 
--- the sizes and inputs that are given are the program's, and its launch is one for a term with a parallel map
+-- the sizes and inputs that are given are the program's, and its launch is one row, for a term with a parallel map
 pub record MayRun (g : Given) : Type 0 where
   pub world : IsAdmissible (declared_by demo_program) (record { bases = g.bases; sizes = g.launch.sizes; inputs = g.inputs })
-  pub launch : IsAdmissibleLaunch (declared_by demo_program).names false g.bases g.launch.global g.launch.local
+  pub flat : IsFlat g.launch
+  pub launch : IsAdmissibleLaunch (declared_by demo_program).names false g.bases g.launch.global.0 g.launch.local.0
 
 abbrev pub DemosMayRun : Type 0
 DemosMayRun = (seed : ℕ) → MayRun (demo_given seed)

@@ -61,8 +61,8 @@ pub fn demo_launch(alloc: Global, seed: u32) -> Result<LaunchFile, AllocError>
     inputs.push(Val::List(data(alloc, seed, COUNT)?))?;
     Ok(LaunchFile {
         launch: Launch {
-            global: 256,
-            local: 32,
+            global: (256, 1),
+            local: (32, 1),
             sizes: words,
         },
         sizes,

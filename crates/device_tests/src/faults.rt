@@ -12,8 +12,11 @@ const RACE: Run = Run {
   o0[0u] = 1u;
 }
 ",
-    global: 2,
-    local: 1,
+    global: (2, 1),
+    local: (1, 1),
+    input: &[],
+    sizes: &[],
+    output: 1,
 };
 
 const OUT_OF_RANGE: Run = Run {
@@ -22,8 +25,11 @@ const OUT_OF_RANGE: Run = Run {
   o0[1u] = 1u;
 }
 ",
-    global: 1,
-    local: 1,
+    global: (1, 1),
+    local: (1, 1),
+    input: &[],
+    sizes: &[],
+    output: 1,
 };
 
 const ZERO_DIVISOR: Run = Run {
@@ -33,8 +39,11 @@ const ZERO_DIVISOR: Run = Run {
   v0 = (1u / 0u);
 }
 ",
-    global: 1,
-    local: 1,
+    global: (1, 1),
+    local: (1, 1),
+    input: &[],
+    sizes: &[],
+    output: 1,
 };
 
 // The first work-item of the group stands at the barrier, the second ends.
@@ -46,8 +55,11 @@ const DIVERGENT: Run = Run {
   }
 }
 ",
-    global: 2,
-    local: 2,
+    global: (2, 1),
+    local: (2, 1),
+    input: &[],
+    sizes: &[],
+    output: 1,
 };
 
 // The 65,536th turn's end: an event at the entry, and two a turn.
@@ -60,8 +72,11 @@ const LOOP_WRAP: Run = Run {
   }
 }
 ",
-    global: 65536,
-    local: 1,
+    global: (65536, 1),
+    local: (1, 1),
+    input: &[],
+    sizes: &[],
+    output: 1,
 };
 
 const WRITES_THE_OUTPUT: Option<Access> = Some(Access::Write(OUTPUT));
@@ -123,8 +138,11 @@ const READ_AND_WRITE: Run = Run {
   o0[0u] = 1u;
 }
 ",
-    global: 2,
-    local: 1,
+    global: (2, 1),
+    local: (1, 1),
+    input: &[],
+    sizes: &[],
+    output: 1,
 };
 
 // The first work-item has read when the second, which has read too, writes.
@@ -145,8 +163,11 @@ const BY_THE_GLOBAL_FLAG: Run = Run {
   v0 = l0[(1u - (uint)get_local_id(0))];
 }
 ",
-    global: 2,
-    local: 2,
+    global: (2, 1),
+    local: (2, 1),
+    input: &[],
+    sizes: &[],
+    output: 1,
 };
 
 const BY_THE_LOCAL_FLAG: Run = Run {
@@ -159,8 +180,11 @@ const BY_THE_LOCAL_FLAG: Run = Run {
   v0 = l0[(1u - (uint)get_local_id(0))];
 }
 ",
-    global: 2,
-    local: 2,
+    global: (2, 1),
+    local: (2, 1),
+    input: &[],
+    sizes: &[],
+    output: 1,
 };
 
 #[test]
@@ -182,8 +206,11 @@ const A_LOCAL_ARRAY_EACH: Run = Run {
   l0[0u] = 1u;
 }
 ",
-    global: 2,
-    local: 1,
+    global: (2, 1),
+    local: (1, 1),
+    input: &[],
+    sizes: &[],
+    output: 1,
 };
 
 #[test]
@@ -201,8 +228,11 @@ const BEHIND_BARRIERS: Run = Run {
   o0[0u] = v0;
 }
 ",
-    global: 2,
-    local: 1,
+    global: (2, 1),
+    local: (1, 1),
+    input: &[],
+    sizes: &[],
+    output: 1,
 };
 
 // In order the first group reads, passes its barrier and writes; then the second reads.

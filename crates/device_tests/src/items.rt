@@ -1,6 +1,6 @@
 //! Runs of many work-items.
 
-ghost use Rattle.std.specs.Prelude.{◌≡◌, ◌*◌, ◌/◌, ◌<◌, ◌≤◌, IfOk, length};
+ghost use Rattle.std.specs.Prelude.{◌≡◌, ◌*◌, ◌/◌, ◌<◌, ◌≤◌, None, IfOk, length};
 
 use crate::kernels::{a_barrier_for_some, one_store, strided_sums, two_barriers};
 use crate::runs::leaves;
@@ -12,7 +12,7 @@ use ndrange_machine::Machine;
 use std::alloc::{AllocError, Global};
 
 // A cell of the first input.
-fn input(index: u32) -> Cell {
+fn input(index: u64) -> Cell {
     Cell {
         array: Array::Input(0),
         index,
@@ -77,8 +77,8 @@ fn run_sums(
     let kernel = strided_sums(alloc)?;
     let cells = sum_cells(alloc, count)?;
     let launch_of = Launch {
-        global,
-        local,
+        global: (global, 1),
+        local: (local, 1),
         sizes: one_size(alloc, count)?,
     };
     launch(alloc, kernel, launch_of, cells, schedule, None)
@@ -89,14 +89,15 @@ fn run_two(alloc: Global, kernel: Kernel, local: u32) -> Result<Outcome, DeviceN
     requires inputs { kernel.inputs ≡ 0 }
     requires outputs { kernel.outputs ≡ 1 }
     requires sizes { kernel.sizes ≡ 0 }
+    requires local { kernel.local ≡ None }
     requires some { 0 < local }
     requires whole { 2 ≡ 2 / local * local }
     requires small { local ≤ 2 }
 {
     let cells = one_cell(alloc)?;
     let launch_of = Launch {
-        global: 2,
-        local,
+        global: (2, 1),
+        local: (local, 1),
         sizes: Vec::new(alloc),
     };
     launch(
@@ -218,8 +219,8 @@ fn start_sums(alloc: Global) -> Result<Machine, AllocError> {
     let kernel = strided_sums(alloc)?;
     let cells = sum_cells(alloc, 5)?;
     let launch = Launch {
-        global: 4,
-        local: 2,
+        global: (4, 1),
+        local: (2, 1),
         sizes: one_size(alloc, 5)?,
     };
     Machine::start(alloc, kernel, launch, cells)

@@ -1,8 +1,8 @@
 //! Kernels of one output, to be run.
 
-ghost use Rattle.std.specs.Prelude.{◌≡◌, IfOk};
+ghost use Rattle.std.specs.Prelude.{◌≡◌, None, IfOk};
 
-use kernel_tree::tree::{Array, Comparison, Expr, IdForm, Kernel, Start, Stmt, Stride};
+use kernel_tree::tree::{Array, Comparison, Dimension, Expr, IdForm, Kernel, Start, Stmt, Stride};
 use scalar_ops::op::Op;
 use std::alloc::{AllocError, Global};
 
@@ -11,6 +11,7 @@ pub fn two_barriers(alloc: Global) -> Result<Kernel, AllocError>
     ensures inputs { IfOk result (λ kernel. kernel.inputs ≡ 0) }
     ensures outputs { IfOk result (λ kernel. kernel.outputs ≡ 1) }
     ensures sizes { IfOk result (λ kernel. kernel.sizes ≡ 0) }
+    ensures local { IfOk result (λ kernel. kernel.local ≡ None) }
 {
     let locals = vec![in alloc; 1]?;
     let body = vec![in alloc;
@@ -33,6 +34,8 @@ pub fn two_barriers(alloc: Global) -> Result<Kernel, AllocError>
         locals,
         privates: Vec::new(alloc),
         variables: 1,
+        vectors: 0,
+        local: None,
         body,
     })
 }
@@ -42,6 +45,7 @@ pub fn private_cells(alloc: Global) -> Result<Kernel, AllocError>
     ensures inputs { IfOk result (λ kernel. kernel.inputs ≡ 0) }
     ensures outputs { IfOk result (λ kernel. kernel.outputs ≡ 1) }
     ensures sizes { IfOk result (λ kernel. kernel.sizes ≡ 0) }
+    ensures local { IfOk result (λ kernel. kernel.local ≡ None) }
 {
     let privates = vec![in alloc; 2]?;
     let body = vec![in alloc;
@@ -58,6 +62,8 @@ pub fn private_cells(alloc: Global) -> Result<Kernel, AllocError>
         locals: Vec::new(alloc),
         privates,
         variables: 1,
+        vectors: 0,
+        local: None,
         body,
     })
 }
@@ -67,6 +73,7 @@ pub fn barriers_in_a_loop(alloc: Global) -> Result<Kernel, AllocError>
     ensures inputs { IfOk result (λ kernel. kernel.inputs ≡ 0) }
     ensures outputs { IfOk result (λ kernel. kernel.outputs ≡ 1) }
     ensures sizes { IfOk result (λ kernel. kernel.sizes ≡ 0) }
+    ensures local { IfOk result (λ kernel. kernel.local ≡ None) }
 {
     let inner = vec![in alloc;
         Stmt::Barrier {
@@ -76,11 +83,16 @@ pub fn barriers_in_a_loop(alloc: Global) -> Result<Kernel, AllocError>
         Stmt::Store(
             Array::Output(0),
             Expr::LoopVariable(0),
-            Expr::Id(IdForm::GlobalSize)
+            Expr::Id(Dimension::X, IdForm::GlobalSize)
         ),
     ]?;
     let body = vec![in alloc;
-        Stmt::Loop(Start::LocalId, Expr::Number(2), Stride::LocalSize, inner),
+        Stmt::Loop(
+            Start::LocalId(Dimension::X),
+            Expr::Number(2),
+            Stride::LocalSize(Dimension::X),
+            inner
+        ),
     ]?;
     Ok(Kernel {
         inputs: 0,
@@ -89,6 +101,8 @@ pub fn barriers_in_a_loop(alloc: Global) -> Result<Kernel, AllocError>
         locals: Vec::new(alloc),
         privates: Vec::new(alloc),
         variables: 0,
+        vectors: 0,
+        local: None,
         body,
     })
 }
@@ -98,6 +112,7 @@ pub fn chosen(alloc: Global) -> Result<Kernel, AllocError>
     ensures inputs { IfOk result (λ kernel. kernel.inputs ≡ 0) }
     ensures outputs { IfOk result (λ kernel. kernel.outputs ≡ 1) }
     ensures sizes { IfOk result (λ kernel. kernel.sizes ≡ 0) }
+    ensures local { IfOk result (λ kernel. kernel.local ≡ None) }
 {
     let below = Expr::Binary(
         Op::Sub,
@@ -124,6 +139,8 @@ pub fn chosen(alloc: Global) -> Result<Kernel, AllocError>
         locals: Vec::new(alloc),
         privates: Vec::new(alloc),
         variables: 0,
+        vectors: 0,
+        local: None,
         body,
     })
 }
@@ -133,6 +150,7 @@ pub fn quotient_by_zero(alloc: Global) -> Result<Kernel, AllocError>
     ensures inputs { IfOk result (λ kernel. kernel.inputs ≡ 0) }
     ensures outputs { IfOk result (λ kernel. kernel.outputs ≡ 1) }
     ensures sizes { IfOk result (λ kernel. kernel.sizes ≡ 0) }
+    ensures local { IfOk result (λ kernel. kernel.local ≡ None) }
 {
     let value = Expr::Binary(
         Op::Div,
@@ -150,6 +168,8 @@ pub fn quotient_by_zero(alloc: Global) -> Result<Kernel, AllocError>
         locals: Vec::new(alloc),
         privates: Vec::new(alloc),
         variables: 0,
+        vectors: 0,
+        local: None,
         body,
     })
 }
@@ -159,6 +179,7 @@ pub fn past_the_output(alloc: Global) -> Result<Kernel, AllocError>
     ensures inputs { IfOk result (λ kernel. kernel.inputs ≡ 0) }
     ensures outputs { IfOk result (λ kernel. kernel.outputs ≡ 1) }
     ensures sizes { IfOk result (λ kernel. kernel.sizes ≡ 0) }
+    ensures local { IfOk result (λ kernel. kernel.local ≡ None) }
 {
     let body = vec![in alloc; Stmt::Store(Array::Output(0), Expr::Number(1), Expr::Number(1))]?;
     Ok(Kernel {
@@ -168,6 +189,8 @@ pub fn past_the_output(alloc: Global) -> Result<Kernel, AllocError>
         locals: Vec::new(alloc),
         privates: Vec::new(alloc),
         variables: 0,
+        vectors: 0,
+        local: None,
         body,
     })
 }
@@ -177,6 +200,7 @@ pub fn past_a_local_array(alloc: Global) -> Result<Kernel, AllocError>
     ensures inputs { IfOk result (λ kernel. kernel.inputs ≡ 0) }
     ensures outputs { IfOk result (λ kernel. kernel.outputs ≡ 1) }
     ensures sizes { IfOk result (λ kernel. kernel.sizes ≡ 0) }
+    ensures local { IfOk result (λ kernel. kernel.local ≡ None) }
 {
     let locals = vec![in alloc; 1]?;
     let body = vec![in alloc;
@@ -190,6 +214,8 @@ pub fn past_a_local_array(alloc: Global) -> Result<Kernel, AllocError>
         locals,
         privates: Vec::new(alloc),
         variables: 1,
+        vectors: 0,
+        local: None,
         body,
     })
 }
@@ -199,6 +225,7 @@ pub fn past_a_private_array(alloc: Global) -> Result<Kernel, AllocError>
     ensures inputs { IfOk result (λ kernel. kernel.inputs ≡ 0) }
     ensures outputs { IfOk result (λ kernel. kernel.outputs ≡ 1) }
     ensures sizes { IfOk result (λ kernel. kernel.sizes ≡ 0) }
+    ensures local { IfOk result (λ kernel. kernel.local ≡ None) }
 {
     let privates = vec![in alloc; 2]?;
     let body = vec![in alloc; Stmt::Store(Array::Private(0), Expr::Number(2), Expr::Number(1))]?;
@@ -209,6 +236,8 @@ pub fn past_a_private_array(alloc: Global) -> Result<Kernel, AllocError>
         locals: Vec::new(alloc),
         privates,
         variables: 0,
+        vectors: 0,
+        local: None,
         body,
     })
 }
@@ -218,6 +247,7 @@ pub fn sums(alloc: Global, addend: u32) -> Result<Kernel, AllocError>
     ensures inputs { IfOk result (λ kernel. kernel.inputs ≡ 1) }
     ensures outputs { IfOk result (λ kernel. kernel.outputs ≡ 1) }
     ensures sizes { IfOk result (λ kernel. kernel.sizes ≡ 1) }
+    ensures local { IfOk result (λ kernel. kernel.local ≡ None) }
 {
     let sum = Expr::Binary(
         Op::Add,
@@ -236,6 +266,8 @@ pub fn sums(alloc: Global, addend: u32) -> Result<Kernel, AllocError>
         locals: Vec::new(alloc),
         privates: Vec::new(alloc),
         variables: 1,
+        vectors: 0,
+        local: None,
         body,
     })
 }
@@ -245,6 +277,7 @@ pub fn nested(alloc: Global) -> Result<Kernel, AllocError>
     ensures inputs { IfOk result (λ kernel. kernel.inputs ≡ 0) }
     ensures outputs { IfOk result (λ kernel. kernel.outputs ≡ 1) }
     ensures sizes { IfOk result (λ kernel. kernel.sizes ≡ 1) }
+    ensures local { IfOk result (λ kernel. kernel.local ≡ None) }
 {
     let sum = Expr::Binary(
         Op::Add,
@@ -264,6 +297,8 @@ pub fn nested(alloc: Global) -> Result<Kernel, AllocError>
         locals: Vec::new(alloc),
         privates: Vec::new(alloc),
         variables: 1,
+        vectors: 0,
+        local: None,
         body,
     })
 }
@@ -273,6 +308,7 @@ pub fn strided_sums(alloc: Global) -> Result<Kernel, AllocError>
     ensures inputs { IfOk result (λ kernel. kernel.inputs ≡ 1) }
     ensures outputs { IfOk result (λ kernel. kernel.outputs ≡ 1) }
     ensures sizes { IfOk result (λ kernel. kernel.sizes ≡ 1) }
+    ensures local { IfOk result (λ kernel. kernel.local ≡ None) }
 {
     let sum = Expr::Binary(
         Op::Add,
@@ -284,7 +320,12 @@ pub fn strided_sums(alloc: Global) -> Result<Kernel, AllocError>
         Stmt::Store(Array::Output(0), Expr::LoopVariable(0), sum),
     ]?;
     let body = vec![in alloc;
-        Stmt::Loop(Start::GlobalId, Expr::Size(0), Stride::GlobalSize, inner),
+        Stmt::Loop(
+            Start::GlobalId(Dimension::X),
+            Expr::Size(0),
+            Stride::GlobalSize(Dimension::X),
+            inner
+        ),
     ]?;
     Ok(Kernel {
         inputs: 1,
@@ -293,6 +334,8 @@ pub fn strided_sums(alloc: Global) -> Result<Kernel, AllocError>
         locals: Vec::new(alloc),
         privates: Vec::new(alloc),
         variables: 1,
+        vectors: 0,
+        local: None,
         body,
     })
 }
@@ -302,6 +345,7 @@ pub fn one_store(alloc: Global) -> Result<Kernel, AllocError>
     ensures inputs { IfOk result (λ kernel. kernel.inputs ≡ 0) }
     ensures outputs { IfOk result (λ kernel. kernel.outputs ≡ 1) }
     ensures sizes { IfOk result (λ kernel. kernel.sizes ≡ 0) }
+    ensures local { IfOk result (λ kernel. kernel.local ≡ None) }
 {
     let body = vec![in alloc; Stmt::Store(Array::Output(0), Expr::Number(0), Expr::Number(1))]?;
     Ok(Kernel {
@@ -311,6 +355,8 @@ pub fn one_store(alloc: Global) -> Result<Kernel, AllocError>
         locals: Vec::new(alloc),
         privates: Vec::new(alloc),
         variables: 0,
+        vectors: 0,
+        local: None,
         body,
     })
 }
@@ -320,6 +366,7 @@ pub fn a_barrier_for_some(alloc: Global) -> Result<Kernel, AllocError>
     ensures inputs { IfOk result (λ kernel. kernel.inputs ≡ 0) }
     ensures outputs { IfOk result (λ kernel. kernel.outputs ≡ 1) }
     ensures sizes { IfOk result (λ kernel. kernel.sizes ≡ 0) }
+    ensures local { IfOk result (λ kernel. kernel.local ≡ None) }
 {
     let inner = vec![in alloc;
         Stmt::Barrier {
@@ -327,7 +374,14 @@ pub fn a_barrier_for_some(alloc: Global) -> Result<Kernel, AllocError>
             on_global: false
         },
     ]?;
-    let body = vec![in alloc; Stmt::Loop(Start::LocalId, Expr::Number(1), Stride::One, inner)]?;
+    let body = vec![in alloc;
+        Stmt::Loop(
+            Start::LocalId(Dimension::X),
+            Expr::Number(1),
+            Stride::One,
+            inner
+        ),
+    ]?;
     Ok(Kernel {
         inputs: 0,
         outputs: 1,
@@ -335,6 +389,8 @@ pub fn a_barrier_for_some(alloc: Global) -> Result<Kernel, AllocError>
         locals: Vec::new(alloc),
         privates: Vec::new(alloc),
         variables: 0,
+        vectors: 0,
+        local: None,
         body,
     })
 }

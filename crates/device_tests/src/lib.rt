@@ -1,5 +1,5 @@
 //! Tests of the device: kernels of the whole language, run by one work-item and by many, along
-//! schedules; the marks of cells, and the enabled events.
+//! schedules; of its marks of cells and its enabled events.
 #![tactic(auto)]
 
 #[cfg(test)]
@@ -8,6 +8,12 @@ mod cells;
 mod events;
 #[cfg(test)]
 mod faults;
+#[cfg(test)]
+mod fours;
+#[cfg(test)]
+mod grids;
+#[cfg(test)]
+mod ifs;
 #[cfg(test)]
 mod items;
 #[cfg(test)]

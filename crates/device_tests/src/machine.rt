@@ -1,6 +1,6 @@
 //! The machine, event by event.
 
-ghost use Rattle.std.specs.Prelude.{◌≡◌, length};
+ghost use Rattle.std.specs.Prelude.{◌≡◌, None, length};
 
 use crate::kernels::{nested, past_the_output, sums};
 use kernel_tree::events::{Access, Cell, Event, Fault, FaultKind, Seen};
@@ -38,10 +38,11 @@ fn start(
     requires inputs { kernel.inputs ≡ length ins.items }
     requires outputs { kernel.outputs ≡ 1 }
     requires sizes { kernel.sizes ≡ length sizes.items }
+    requires local { kernel.local ≡ None }
 {
     let launch = Launch {
-        global: 1,
-        local: 1,
+        global: (1, 1),
+        local: (1, 1),
         sizes,
     };
     let outs = vec![in alloc; out]?;

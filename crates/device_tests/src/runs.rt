@@ -1,6 +1,6 @@
 //! What runs leave, and their faults.
 
-ghost use Rattle.std.specs.Prelude.{◌≡◌, ◌∷◌, [], IfOk};
+ghost use Rattle.std.specs.Prelude.{◌≡◌, ◌∷◌, [], None, IfOk};
 
 use crate::kernels::{
     barriers_in_a_loop, chosen, past_a_local_array, past_a_private_array, past_the_output,
@@ -13,11 +13,11 @@ use ndrange_device::{DeviceNo, Outcome, launch, run_in_order};
 use std::alloc::{AllocError, Global};
 
 fn one_item(alloc: Global) -> Launch
-    ensures { result ≡ record { global = 1; local = 1; sizes = [] } }
+    ensures { result ≡ record { global = (1, 1); local = (1, 1); sizes = [] } }
 {
     Launch {
-        global: 1,
-        local: 1,
+        global: (1, 1),
+        local: (1, 1),
         sizes: Vec::new(alloc),
     }
 }
@@ -42,6 +42,7 @@ pub fn run(
     requires inputs { kernel.inputs ≡ 0 }
     requires outputs { kernel.outputs ≡ 1 }
     requires sizes { kernel.sizes ≡ 0 }
+    requires local { kernel.local ≡ None }
 {
     let cells = cells(alloc, out)?;
     launch(alloc, kernel, one_item(alloc), cells, schedule, None)
@@ -51,6 +52,7 @@ fn run_at_once(alloc: Global, kernel: Kernel, out: Vec<u32>) -> Result<Outcome, 
     requires inputs { kernel.inputs ≡ 0 }
     requires outputs { kernel.outputs ≡ 1 }
     requires sizes { kernel.sizes ≡ 0 }
+    requires local { kernel.local ≡ None }
 {
     let cells = cells(alloc, out)?;
     run_in_order(alloc, kernel, one_item(alloc), cells)
@@ -61,6 +63,7 @@ pub fn sights(alloc: Global, kernel: Kernel, out: Vec<u32>) -> Result<Vec<Seen>,
     requires inputs { kernel.inputs ≡ 0 }
     requires outputs { kernel.outputs ≡ 1 }
     requires sizes { kernel.sizes ≡ 0 }
+    requires local { kernel.local ≡ None }
 {
     let cells = cells(alloc, out)?;
     let schedule = Schedule::Numbers(Vec::new(alloc));

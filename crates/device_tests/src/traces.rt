@@ -13,11 +13,11 @@ const fn step(access: Option<Access>) -> Seen {
     }
 }
 
-const fn reads(array: Array, index: u32) -> Seen {
+const fn reads(array: Array, index: u64) -> Seen {
     step(Some(Access::Read(Cell { array, index })))
 }
 
-const fn writes(array: Array, index: u32) -> Seen {
+const fn writes(array: Array, index: u64) -> Seen {
     step(Some(Access::Write(Cell { array, index })))
 }
 

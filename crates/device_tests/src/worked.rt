@@ -17,8 +17,8 @@ use std::sync::ledger::{Blank, Ledger};
 #[derive(Clone, Copy)]
 enum Did {
     Tested(u32),
-    Read(u32, u32),
-    Wrote(u32, u32),
+    Read(u32, u64),
+    Wrote(u32, u64),
 }
 
 impl Did {
@@ -176,13 +176,13 @@ fn cells(alloc: Global) -> Result<Cells, AllocError>
 }
 
 fn five(alloc: Global) -> Result<Launch, AllocError>
-    ensures global { IfOk result (λ l. l.global ≡ 4) }
-    ensures local { IfOk result (λ l. l.local ≡ 2) }
+    ensures global { IfOk result (λ l. l.global ≡ (4, 1)) }
+    ensures local { IfOk result (λ l. l.local ≡ (2, 1)) }
     ensures sizes { IfOk result (λ l. length l.sizes ≡ 1) }
 {
     Ok(Launch {
-        global: 4,
-        local: 2,
+        global: (4, 1),
+        local: (2, 1),
         sizes: vec![in alloc; 5]?,
     })
 }

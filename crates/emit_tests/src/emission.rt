@@ -73,7 +73,8 @@ fn groups_code(
     Ok(block.into_statements())
 }
 
-// Whether the kernel declares what is counted for the term.
+// Whether the kernel declares what is counted for the term, and no variable of four words, and asks
+// for no size of groups.
 fn declares(
     alloc: Global,
     kernel: &Kernel,
@@ -90,6 +91,8 @@ fn declares(
             && counts.outputs == kernel.outputs
             && counts.sizes == kernel.sizes
             && counts.variables == kernel.variables
+            && kernel.vectors == 0
+            && kernel.local.is_none()
             && locals == kernel.locals
             && privates == kernel.privates,
     )

@@ -29,6 +29,8 @@ mod sameness;
 #[cfg(test)]
 mod spelling;
 #[cfg(test)]
+mod tidied;
+#[cfg(test)]
 mod tiles;
 #[cfg(test)]
 mod work_groups;

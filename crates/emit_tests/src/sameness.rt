@@ -1,6 +1,6 @@
 //! Whether two pieces of code are the same.
 
-use kernel_tree::tree::{Expr, Stmt};
+use kernel_tree::tree::{Expr, Lanes, Stmt};
 
 fn are_expressions(a: &Expr, b: &Expr) -> bool {
     match (a, b) {
@@ -8,7 +8,7 @@ fn are_expressions(a: &Expr, b: &Expr) -> bool {
         | (Expr::Variable(m), Expr::Variable(n))
         | (Expr::LoopVariable(m), Expr::LoopVariable(n))
         | (Expr::Size(m), Expr::Size(n)) => *m == *n,
-        (Expr::Id(m), Expr::Id(n)) => *m == *n,
+        (Expr::Id(m, form), Expr::Id(n, other)) => *m == *n && *form == *other,
         (Expr::Binary(op, p, q), Expr::Binary(other, r, s)) => {
             *op == *other && are_expressions(p, r) && are_expressions(q, s)
         }
@@ -18,6 +18,17 @@ fn are_expressions(a: &Expr, b: &Expr) -> bool {
                 && are_expressions(q, s)
                 && are_expressions(yes, then)
                 && are_expressions(no, otherwise)
+        }
+        _ => false,
+    }
+}
+
+fn are_lanes(a: &Lanes, b: &Lanes) -> bool {
+    match (a, b) {
+        (Lanes::Vector(m), Lanes::Vector(n)) => *m == *n,
+        (Lanes::Spread(x), Lanes::Spread(y)) => are_expressions(x, y),
+        (Lanes::Each(op, p, q), Lanes::Each(other, r, s)) => {
+            *op == *other && are_lanes(p, r) && are_lanes(q, s)
         }
         _ => false,
     }
@@ -33,8 +44,18 @@ fn are_statements(a: &Stmt, b: &Stmt) -> bool {
         (Stmt::Store(array, i, x), Stmt::Store(other, j, y)) => {
             *array == *other && are_expressions(i, j) && are_expressions(x, y)
         }
+        (Stmt::AssignFour(m, x), Stmt::AssignFour(n, y)) => *m == *n && are_lanes(x, y),
+        (Stmt::LoadFour(m, array, i), Stmt::LoadFour(n, other, j)) => {
+            *m == *n && *array == *other && are_expressions(i, j)
+        }
+        (Stmt::StoreFour(array, i, x), Stmt::StoreFour(other, j, y)) => {
+            *array == *other && are_expressions(i, j) && are_lanes(x, y)
+        }
         (Stmt::Loop(start, x, stride, turn), Stmt::Loop(begin, y, step, body)) => {
             *start == *begin && are_expressions(x, y) && *stride == *step && is_same(turn, body)
+        }
+        (Stmt::If(start, x, inside), Stmt::If(begin, y, body)) => {
+            *start == *begin && are_expressions(x, y) && is_same(inside, body)
         }
         (
             Stmt::Barrier {

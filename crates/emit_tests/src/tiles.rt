@@ -11,7 +11,7 @@ use group_emit::groups::groups;
 use group_emit::setting::Setting;
 use kernel_emit::arguments::{Declared, output};
 use kernel_emit::scope::Scope;
-use kernel_tree::tree::{Array, Expr, Start, Stmt, Stride};
+use kernel_tree::tree::{Array, Dimension, Expr, Start, Stmt, Stride};
 use lift_tree::length::Product;
 use lift_tree::term::UnaryForm;
 use lift_tree::ty::Ty;
@@ -214,7 +214,12 @@ fn is_sum(turn: &[Stmt]) -> bool {
 // The turn of a loop over the items of a group, of two turns.
 fn over_items(statement: &Stmt) -> Option<&[Stmt]> {
     match statement {
-        Stmt::Loop(Start::LocalId, Expr::Number(2), Stride::LocalSize, turn) => Some(turn),
+        Stmt::Loop(
+            Start::LocalId(Dimension::X),
+            Expr::Number(2),
+            Stride::LocalSize(Dimension::X),
+            turn,
+        ) => Some(turn),
         _ => None,
     }
 }
@@ -226,7 +231,14 @@ fn are_phases(copy: &Stmt, sum: &Stmt) -> bool {
 // The turn of the loop over three tiles.
 fn over_tiles(statements: &[Stmt]) -> Option<&[Stmt]> {
     match statements {
-        [Stmt::Loop(Start::GroupId, Expr::Number(3), Stride::GroupCount, turn)] => Some(turn),
+        [
+            Stmt::Loop(
+                Start::GroupId(Dimension::X),
+                Expr::Number(3),
+                Stride::GroupCount(Dimension::X),
+                turn,
+            ),
+        ] => Some(turn),
         _ => None,
     }
 }

@@ -1,11 +1,13 @@
 -- How many items of a group have an event of their own.
-use Rattle.std.proofs.Common.{◌≡◌, ◌≢◌, ◌+◌, ◌-◌, ◌*◌, ◌/◌, ◌^◌, ◌≤◌, ◌<◌, ℕ, zero, suc, Bool, true, false, List, length, set, replicate, refl, sym, ap, ◌∙◌, subst, ⊎_elim, inl, inr, ◌⊎◌, arith}
-use Rattle.std.specs.Prelude.{◌↔◌, ◌==◌, slice_index, slice_index_or, if◌then◌else◌, IsTrue}
+use Rattle.std.proofs.Common.{◌≡◌, ◌≢◌, ◌+◌, ◌-◌, ◌^◌, ◌≤◌, ◌<◌, ℕ, zero, suc, Bool, true, false, List, length, set, replicate, refl, sym, ap, ◌∙◌, subst, ⊎_elim, ◌⊎◌, inl, inr, arith}
+use Rattle.std.specs.Prelude.{◌↔◌, ◌==◌, ◌&&◌, slice_index, slice_index_or, if◌then◌else◌, IsTrue}
 use Rattle.std.proofs.Math.ListN.{length-set}
-use Rattle.std.proofs.Math.Nat.{div-lt_iff_lt-mul}
-use Rattle.std.proofs.lemmas.Bool.{cases_eq, cases_lt, eq-eqb, eqb-true}
-use Rattle.std.proofs.lemmas.List.{get_or-set_same, get_or-set_other}
-use Rattle.enabled_events.specs.Flags.{CountSteps, steps_from, NoneSteps}
+use Rattle.std.proofs.lemmas.Bool.{cases_eq, cases_lt, eq-eqb, ne_eqb, eqb-true}
+use Rattle.std.proofs.lemmas.List.{get_or-set_same, get_or-set_other, get_or_past}
+use Rattle.kernel_tree.specs.Launch.{group_of}
+use Rattle.enabled_events.specs.declared.grid.Grid.{Grid}
+use Rattle.enabled_events.specs.Grids.{laid}
+use Rattle.enabled_events.specs.Flags.{CountSteps, steps_among, NoneSteps}
 
 abbrev bit : Bool → ℕ
 bit b = if b then 1 else 0
@@ -14,150 +16,135 @@ bit_small : (b : Bool) → bit b ≤ 1
 bit_small true = omega arith
 bit_small false = omega arith
 
-pub few_steps : (items : List Bool) (n i : ℕ) → steps_from items i n ≤ n
-few_steps items zero i = omega arith
-few_steps items (suc n) i =
-    let a = bit_small (slice_index_or items i false) in
-    let b = few_steps items n (suc i) in
-    omega arith
+module _ (grid : Grid) where
+  abbrev its_group : ℕ → ℕ
+  its_group k = group_of (laid grid) k
 
-none_steps : (items : List Bool) (n i : ℕ) → steps_from items i n ≡ 0 → (p : ℕ) → i ≤ p → p < i + n → slice_index_or items p false ≡ false
-none_steps items zero i z p low high = absurd (omega arith)
-none_steps items (suc n) i z p low high =
-    ⊎_elim
-    (λ same. ap (λ q. slice_index_or items q false) same ∙ is_off (slice_index_or items i false) (omega arith))
-    (λ ne. none_steps items n (suc i) (omega arith) p (omega arith) (omega arith))
-    (cases_eq p i)
-  where
-    is_off : (b : Bool) → bit b ≡ 0 → b ≡ false
-    is_off true h = absurd (omega arith)
-    is_off false h = refl
+  few_steps : (items : List Bool) (g n : ℕ) → steps_among grid items g n ≤ n
+  few_steps items g zero = omega arith
+  few_steps items g (suc n) = let a = bit_small ((its_group n == g) && slice_index_or items n false) in let b = few_steps items g n in omega arith
 
-no_steps : (items : List Bool) (n i : ℕ) → ((p : ℕ) → i ≤ p → p < i + n → slice_index_or items p false ≡ false) → steps_from items i n ≡ 0
-no_steps items zero i none = refl
-no_steps items (suc n) i none =
-    let a : bit (slice_index_or items i false) ≡ 0 = ap bit (none i (omega arith) (omega arith)) in
-    let b = no_steps items n (suc i) (λ p low high. none p (omega arith) (omega arith)) in
-    omega arith
-
-module _ (items : List Bool) (k : ℕ) (b : Bool) (lt : k < length items) where
-  outside : (n i : ℕ) → (k < i) ⊎ (i + n ≤ k) → steps_from (set items k b) i n ≡ steps_from items i n
-  outside zero i h = refl
-  outside (suc n) i h =
-      let ne : i ≢ k = λ e. ⊎_elim (λ a. omega arith) (λ a. omega arith) h in
-      let head : bit (slice_index_or (set items k b) i false) ≡ bit (slice_index_or items i false) = ap bit (get_or-set_other items k i b false ne) in
-      let tail = outside n (suc i) (⊎_elim (λ a. inl (omega arith)) (λ a. inr (omega arith)) h) in
-      omega arith
-
-  inside : (n i : ℕ) → i ≤ k → k < i + n → steps_from (set items k b) i n + bit (slice_index_or items k false) ≡ steps_from items i n + bit b
-  inside zero i low high = absurd (omega arith)
-  inside (suc n) i low high =
+  none_steps : (items : List Bool) (g n : ℕ) → steps_among grid items g n ≡ 0 → (p : ℕ) → p < n → its_group p ≡ g → slice_index_or items p false ≡ false
+  none_steps items g zero z p lt own = absurd (omega arith)
+  none_steps items g (suc n) z p lt own =
       ⊎_elim
-      (λ same.
-      let head : bit (slice_index_or (set items k b) i false) ≡ bit b = ap (λ p. bit (slice_index_or (set items k b) p false)) same ∙ ap bit (get_or-set_same items k b false lt) in
-      let old : bit (slice_index_or items i false) ≡ bit (slice_index_or items k false) = ap (λ p. bit (slice_index_or items p false)) same in
-      let tail = outside n (suc i) (inl (omega arith)) in
-      omega arith)
-      (λ ne.
-      let head : bit (slice_index_or (set items k b) i false) ≡ bit (slice_index_or items i false) = ap bit (get_or-set_other items k i b false ne) in
-      let tail = inside n (suc i) (omega arith) (omega arith) in
-      omega arith)
-      (cases_eq i k)
+      (λ same. ap (λ q. slice_index_or items q false) same ∙ is_off (its_group n == g) (slice_index_or items n false) (eq-eqb (its_group n) g (ap its_group (sym same) ∙ own)) (omega arith))
+      (λ ne. none_steps items g n (omega arith) p (omega arith) own)
+      (cases_eq p n)
+    where
+      is_off : (a b : Bool) → a ≡ true → bit (a && b) ≡ 0 → b ≡ false
+      is_off true true e h = absurd (omega arith)
+      is_off true false e h = refl
+      is_off false b e h = cc
 
--- the items of a group, by their numbers
-module _ (l : ℕ) (positive : 0 < l) (g : ℕ) where
-  low_end : (i : ℕ) → i / l ≡ g → g * l ≤ i
-  low_end i e = ⊎_elim (λ lt. let less : i / l < g = (div-lt_iff_lt-mul positive).1 lt in absurd (omega arith)) (λ le. le) (cases_lt i (g * l))
+  no_steps : (items : List Bool) (g n : ℕ) → ((p : ℕ) → p < n → its_group p ≡ g → slice_index_or items p false ≡ false) → steps_among grid items g n ≡ 0
+  no_steps items g zero none = refl
+  no_steps items g (suc n) none =
+      let a : bit ((its_group n == g) && slice_index_or items n false) ≡ 0 = by_group (its_group n == g) refl in
+      let b = no_steps items g n (λ p lt own. none p (omega arith) own) in
+      omega arith
+    where
+      by_group : (x : Bool) → (its_group n == g) ≡ x → bit (x && slice_index_or items n false) ≡ 0
+      by_group true e = ap bit (none n (omega arith) (eqb-true (its_group n) g e))
+      by_group false e = refl
 
-  high_end : (i : ℕ) → i / l ≡ g → i < g * l + l
-  high_end i e = let top : i < suc g * l = (div-lt_iff_lt-mul positive).0 (let q : i / l ≡ g = e in omega arith) in omega arith
+  module _ (items : List Bool) (k : ℕ) (b : Bool) (lt : k < length items) where
+    -- of another group, or before the item
+    unmoved : (g n : ℕ) → (its_group k ≢ g) ⊎ (n ≤ k) → steps_among grid (set items k b) g n ≡ steps_among grid items g n
+    unmoved g zero h = refl
+    unmoved g (suc n) h =
+        let head : bit ((its_group n == g) && slice_index_or (set items k b) n false) ≡ bit ((its_group n == g) && slice_index_or items n false) = ⊎_elim (λ same. at_item same) (λ ne. ap (λ x. bit ((its_group n == g) && x)) (get_or-set_other items k n b false ne)) (cases_eq n k) in
+        let tail = unmoved g n (⊎_elim (λ a. inl a) (λ a. inr (omega arith)) h) in
+        omega arith
+      where
+        at_item : n ≡ k → bit ((its_group n == g) && slice_index_or (set items k b) n false) ≡ bit ((its_group n == g) && slice_index_or items n false)
+        at_item same = ⊎_elim
+            (λ other. let off : (its_group n == g) ≡ false = ne_eqb (its_group n) g (λ e. other (ap its_group (sym same) ∙ e)) in ap (λ x. bit (x && slice_index_or (set items k b) n false)) off ∙ sym (ap (λ x. bit (x && slice_index_or items n false)) off))
+            (λ low. absurd (omega arith))
+            h
 
-  in_group : (i : ℕ) → g * l ≤ i → i < g * l + l → i / l ≡ g
-  in_group i low high =
-      let top : i < suc g * l = omega arith in
-      let below : i / l < suc g = (div-lt_iff_lt-mul positive).1 top in
-      ⊎_elim (λ lt. let less : i < g * l = (div-lt_iff_lt-mul positive).0 lt in absurd (omega arith)) (λ le. omega arith) (cases_lt (i / l) g)
+    -- of its group
+    moved : (n : ℕ) → k < n → steps_among grid (set items k b) (its_group k) n + bit (slice_index_or items k false) ≡ steps_among grid items (its_group k) n + bit b
+    moved zero low = absurd (omega arith)
+    moved (suc n) low =
+        ⊎_elim
+        (λ same.
+        let on : (its_group n == its_group k) ≡ true = eq-eqb (its_group n) (its_group k) (ap its_group same) in
+        let head : bit ((its_group n == its_group k) && slice_index_or (set items k b) n false) ≡ bit b = ap (λ x. bit (x && slice_index_or (set items k b) n false)) on ∙ ap (λ p. bit (slice_index_or (set items k b) p false)) same ∙ ap bit (get_or-set_same items k b false lt) in
+        let old : bit ((its_group n == its_group k) && slice_index_or items n false) ≡ bit (slice_index_or items k false) = ap (λ x. bit (x && slice_index_or items n false)) on ∙ ap (λ p. bit (slice_index_or items p false)) same in
+        let tail = unmoved (its_group k) n (inr (omega arith)) in
+        omega arith)
+        (λ ne.
+        let head : bit ((its_group n == its_group k) && slice_index_or (set items k b) n false) ≡ bit ((its_group n == its_group k) && slice_index_or items n false) = ap (λ x. bit ((its_group n == its_group k) && x)) (get_or-set_other items k n b false ne) in
+        let tail = moved n (omega arith) in
+        omega arith)
+        (cases_eq n k)
 
-module _ (l : ℕ) (positive : 0 < l) (items groups : List Bool) (counts : List ℕ) (c : CountSteps l items groups counts) where
-  pub stopped : (g : ℕ) → g < length groups → (b : Bool) → b ≡ (slice_index counts g == 0) → IsTrue b ↔ NoneSteps (record { local = l; items = items; groups = groups }) g
-  stopped g lt b is = (
-    λ t k e. none_steps items l (g * l) (sym (c.each g lt) ∙ eqb-true (slice_index counts g) 0 (sym is ∙ t)) k (low_end l positive g k e) (high_end l positive g k e),
-    λ none. is ∙ eq-eqb (slice_index counts g) 0 (c.each g lt ∙ no_steps items l (g * l) (λ p low high. none p (in_group l positive g p low high))),
-  )
+  module _ (items groups : List Bool) (counts : List ℕ) (c : CountSteps grid items groups counts) where
+    pub stopped : (g : ℕ) → g < length groups → (b : Bool) → b ≡ (slice_index counts g == 0) → IsTrue b ↔ NoneSteps (record { grid = grid; items = items; groups = groups }) g
+    stopped g lt b is = (
+      λ t k own. ⊎_elim
+          (λ low. none_steps items g (length items) (sym (c.each g lt) ∙ eqb-true (slice_index counts g) 0 (sym is ∙ t)) k low own)
+          (λ past. get_or_past items k false past)
+          (cases_lt k (length items)),
+      λ none. is ∙ eq-eqb (slice_index counts g) 0 (c.each g lt ∙ no_steps items g (length items) (λ p low own. none p own)),
+    )
 
-  -- an item is set, and its group's count
-  pub recount : (k : ℕ) (b : Bool) (n : ℕ) → k < length items → k / l < length groups → l ≤ 65536
-      → (bit (slice_index_or items k false) ≤ slice_index counts (k / l) → slice_index counts (k / l) < 2 ^ 32 - 1 → n + bit (slice_index_or items k false) ≡ slice_index counts (k / l) + bit b)
-      → CountSteps l (set items k b) groups (set counts (k / l) n)
-  recount k b n lt within small h = record {
-    long = length-set counts (k / l) n ∙ c.long;
-    each = λ g low. ⊎_elim (λ same. subst (λ z. slice_index (set counts (k / l) n) z ≡ steps_from (set items k b) (z * l) l) (sym same) own) (λ ne. other g low ne) (cases_eq g (k / l));
+    -- an item is set, and its group's count
+    pub recount : (k : ℕ) (b : Bool) (n : ℕ) → k < length items → its_group k < length groups → length items ≤ 65536
+        → (bit (slice_index_or items k false) ≤ slice_index counts (its_group k) → slice_index counts (its_group k) < 2 ^ 32 - 1 → n + bit (slice_index_or items k false) ≡ slice_index counts (its_group k) + bit b)
+        → CountSteps grid (set items k b) groups (set counts (its_group k) n)
+    recount k b n lt within small h = record {
+      long = length-set counts (its_group k) n ∙ c.long;
+      each = λ g low. (⊎_elim (λ same. subst (λ z. slice_index (set counts (its_group k) n) z ≡ steps_among grid (set items k b) z (length items)) (sym same) own) (λ ne. other g low ne) (cases_eq g (its_group k))) ∙ ap (steps_among grid (set items k b) g) (sym (length-set items k b));
+    }
+      where
+        was : slice_index counts (its_group k) ≡ steps_among grid items (its_group k) (length items)
+        was = c.each (its_group k) within
+
+        own : slice_index (set counts (its_group k) n) (its_group k) ≡ steps_among grid (set items k b) (its_group k) (length items)
+        own =
+            let few = few_steps items (its_group k) (length items) in
+            let counted = was in
+            let changed = moved items k b lt (length items) lt in
+            let some : bit (slice_index_or items k false) ≤ steps_among grid items (its_group k) (length items) = one_there (slice_index_or items k false) refl in
+            let e : n + bit (slice_index_or items k false) ≡ slice_index counts (its_group k) + bit b = h (omega arith) (omega arith) in
+            let set_is : slice_index (set counts (its_group k) n) (its_group k) ≡ n = get_or-set_same counts (its_group k) n 0 (let z = c.long in omega arith) in
+            omega arith
+          where
+            one_there : (x : Bool) → slice_index_or items k false ≡ x → bit x ≤ steps_among grid items (its_group k) (length items)
+            one_there false e = omega arith
+            one_there true e =
+                ⊎_elim (λ z. let off = none_steps items (its_group k) (length items) (omega arith) k lt refl in let both : true ≡ false = sym e ∙ off in cc) (λ le. omega arith) (cases_lt (steps_among grid items (its_group k) (length items)) 1)
+
+        other : (g : ℕ) → g < length groups → g ≢ its_group k → slice_index (set counts (its_group k) n) g ≡ steps_among grid (set items k b) g (length items)
+        other g gl ne =
+            get_or-set_other counts (its_group k) g n 0 ne ∙ c.each g gl ∙ sym (unmoved items k b lt g (length items) (inl (λ e. ne (sym e))))
+
+  -- at the start
+  pub none_counted : (n m : ℕ) → CountSteps grid (replicate n false) (replicate m false) (replicate m 0)
+  none_counted n m = record {
+    long = length_same m zero ∙ sym (length_same m false);
+    each = λ g lt. at_zero m g ∙ sym (no_steps (replicate n false) g (length (replicate n false)) (λ p low own. at_off n p));
   }
     where
-      low : k / l * l ≤ k
-      low = low_end l positive (k / l) k refl
+      length_same : {A : Type 0} (m : ℕ) (x : A) → length (replicate m x) ≡ m
+      length_same zero x = refl
+      length_same (suc m) x = ap suc (length_same m x)
 
-      high : k < k / l * l + l
-      high = high_end l positive (k / l) k refl
+      at_zero : (m g : ℕ) → slice_index (replicate m 0) g ≡ 0
+      at_zero zero g = refl
+      at_zero (suc m) zero = refl
+      at_zero (suc m) (suc g) = at_zero m g
 
-      was : slice_index counts (k / l) ≡ steps_from items (k / l * l) l
-      was = c.each (k / l) within
+      at_off : (n p : ℕ) → slice_index_or (replicate n false) p false ≡ false
+      at_off zero p = refl
+      at_off (suc n) zero = refl
+      at_off (suc n) (suc p) = at_off n p
 
-      changed : steps_from (set items k b) (k / l * l) l + bit (slice_index_or items k false) ≡ steps_from items (k / l * l) l + bit b
-      changed = inside items k b lt l (k / l * l) low high
-
-      unchanged : steps_from (set items k (slice_index_or items k false)) (k / l * l) l + bit (slice_index_or items k false) ≡ steps_from items (k / l * l) l + bit (slice_index_or items k false)
-      unchanged = inside items k (slice_index_or items k false) lt l (k / l * l) low high
-
-      own : slice_index (set counts (k / l) n) (k / l) ≡ steps_from (set items k b) (k / l * l) l
-      own =
-          let some : bit (slice_index_or items k false) ≤ steps_from items (k / l * l) l = one_there (slice_index_or items k false) refl in
-          let few = few_steps items l (k / l * l) in
-          let counted = was in
-          let e : n + bit (slice_index_or items k false) ≡ slice_index counts (k / l) + bit b = h (omega arith) (omega arith) in
-          let set_is : slice_index (set counts (k / l) n) (k / l) ≡ n = get_or-set_same counts (k / l) n 0 (let z = c.long in omega arith) in
-          let same = changed in
-          omega arith
-        where
-          one_there : (x : Bool) → slice_index_or items k false ≡ x → bit x ≤ steps_from items (k / l * l) l
-          one_there false e = omega arith
-          one_there true e =
-              ⊎_elim (λ z. let off = none_steps items l (k / l * l) (omega arith) k low high in let both : true ≡ false = sym e ∙ off in cc) (λ le. omega arith) (cases_lt (steps_from items (k / l * l) l) 1)
-
-      other : (g : ℕ) → g < length groups → g ≢ k / l → slice_index (set counts (k / l) n) g ≡ steps_from (set items k b) (g * l) l
-      other g gl ne =
-          get_or-set_other counts (k / l) g n 0 ne ∙ c.each g gl
-          ∙ sym (outside items k b lt l (g * l) (⊎_elim (λ a. inl a) (λ a. inr (⊎_elim (λ q. absurd (ne (sym (in_group l positive g k a q)))) (λ q. q) (cases_lt k (g * l + l)))) (cases_lt k (g * l))))
-
--- at the start
-pub none_counted : (l n m : ℕ) → CountSteps l (replicate n false) (replicate m false) (replicate m 0)
-none_counted l n m = record {
-  long = length_same m zero ∙ sym (length_same m false);
-  each = λ g lt. at_zero m g ∙ sym (no_steps (replicate n false) l (g * l) (λ p low high. at_off n p));
-}
-  where
-    length_same : {A : Type 0} (m : ℕ) (x : A) → length (replicate m x) ≡ m
-    length_same zero x = refl
-    length_same (suc m) x = ap suc (length_same m x)
-
-    at_zero : (m g : ℕ) → slice_index (replicate m 0) g ≡ 0
-    at_zero zero g = refl
-    at_zero (suc m) zero = refl
-    at_zero (suc m) (suc g) = at_zero m g
-
-    at_off : (n p : ℕ) → slice_index_or (replicate n false) p false ≡ false
-    at_off zero p = refl
-    at_off (suc n) zero = refl
-    at_off (suc n) (suc p) = at_off n p
-
--- a group's flag counts nothing
-pub group_kept : (l : ℕ) (items groups : List Bool) (counts : List ℕ) (g : ℕ) (on : Bool) → CountSteps l items groups counts → CountSteps l items (set groups g on) counts
-group_kept l items groups counts g on c = record {
-  long = c.long ∙ sym (length-set groups g on);
-  each = λ h lt. c.each h (let e = length-set groups g on in omega arith);
-}
-
--- a group is no larger than all groups
-pub small_part : (l m n : ℕ) → n ≡ m * l → 0 < m → n ≤ 65536 → l ≤ 65536
-small_part l zero n e some few = absurd (omega arith)
-small_part l (suc m) n e some few = omega arith
+  -- a group's flag counts nothing
+  pub group_kept : (items groups : List Bool) (counts : List ℕ) (g : ℕ) (on : Bool) → CountSteps grid items groups counts → CountSteps grid items (set groups g on) counts
+  group_kept items groups counts g on c = record {
+    long = c.long ∙ sym (length-set groups g on);
+    each = λ h lt. c.each h (let e = length-set groups g on in omega arith);
+  }

@@ -1,9 +1,12 @@
 //! Flags of work-items and work-groups, and the events that they enable.
 
-ghost use Rattle.std.specs.Prelude.{◌≡◌, ◌↔◌, ◌+◌, ◌-◌, ◌*◌, ◌/◌, ◌^◌, ◌<◌, ◌≤◌, ℕ, false, Some, length, replicate, is_some, slice_get, slice_set, if◌then◌else◌, IfOk, IsTrue};
-ghost use Rattle.enabled_events.specs.Flags.{Counted, CountSteps, NoneSteps};
+ghost use Rattle.std.specs.Prelude.{◌≡◌, ◌↔◌, ◌+◌, ◌-◌, ◌^◌, ◌<◌, ◌≤◌, ℕ, false, Some, length, replicate, is_some, slice_get, slice_set, if◌then◌else◌, IfOk, IsTrue};
+ghost use Rattle.kernel_tree.specs.Launch.{item_count, group_count};
+ghost use Rattle.enabled_events.specs.Flags.{Counted, CountSteps, IsHeight, IsPlaceOf, NoneSteps};
+ghost use Rattle.enabled_events.specs.Grids.{laid, IsSmall};
 ghost use Rattle.enabled_events.specs.Listed.{Flags, event_at, flagged_events};
 
+use crate::grid::Grid;
 use count_tree::places::Places;
 use count_tree::steps::Steps;
 use kernel_tree::events::Event;
@@ -15,7 +18,7 @@ use std::sync::ledger::{Blank, Ledger};
 /// and how many items of each group have one.
 #[derive(Drop)]
 pub struct Ready {
-    local: u32,
+    grid: Grid,
     items: Vec<bool>,
     groups: Vec<bool>,
     places: Places,
@@ -26,38 +29,38 @@ impl Model for Ready {
     ghost Value = { Flags };
 
     ghost view = { λ r. record {
-      local = r.local;
+      grid = r.grid;
       items = r.items.items;
       groups = r.groups.items;
     } };
 
-    ghost invariant = { λ r. Counted r.local r.items.items r.groups.items r.places
-        × CountSteps r.local r.items.items r.groups.items r.steps.items };
+    ghost invariant = { λ r. Counted r.grid r.items.items r.groups.items r.places
+        × CountSteps r.grid r.items.items r.groups.items r.steps.items };
 }
 
 impl Ready {
-    /// Nothing is enabled yet, of so many work-items in groups of `local`. All memory is taken here.
-    pub fn new(alloc: Global, items: u32, local: u32) -> Result<Ready, AllocError>
-        requires few { items ≤ 65536 }
-        requires local { 0 < local }
-        requires whole { items ≡ items / local * local }
+    /// Nothing is enabled yet, of the work-items of this grid. All memory is taken here.
+    pub fn new(alloc: Global, grid: Grid) -> Result<Ready, AllocError>
+        requires { IsSmall grid }
         ensures { IfOk result (λ r. r ≡ record {
-          local = local;
-          items = replicate items false;
-          groups = replicate (items / local) false;
+          grid = grid;
+          items = replicate (item_count (laid grid)) false;
+          groups = replicate (group_count (laid grid)) false;
         }) }
     {
-        let groups = items / local;
+        let items = grid.item_count();
+        let groups = grid.group_count() as usize;
         Ok(Ready {
-            local,
+            grid,
             items: vec![in alloc; false; items as usize]?,
-            groups: vec![in alloc; false; groups as usize]?,
+            groups: vec![in alloc; false; groups]?,
             places: Places::new(alloc, items.max(1))?,
-            steps: vec![in alloc; 0u32; groups as usize]?,
+            steps: vec![in alloc; 0u32; groups]?,
         })
     }
 
     /// How many events are enabled.
+    #[inline(always)]
     pub fn enabled(&self) -> u32
         ensures { result ≡ length (flagged_events self.now) }
     {
@@ -65,26 +68,28 @@ impl Ready {
     }
 
     /// The enabled event of this number, in the order of the items, from 0. A step is a look at one
-    /// count: at most n of them where there are at most 2 ^ n items.
+    /// count: just n of them, where 2 ^ n is the least power that isn't below the number of items.
     pub fn nth_enabled_counted<L: Ledger>(&self, k: u32, steps: &mut Steps<L>) -> Event
         requires { k < length (flagged_events self.now) }
         ensures event { slice_get (flagged_events self.now) k ≡ Some result }
-        ensures cost { (n : ℕ) → length self.now.items ≤ 2 ^ n → steps.new ≤ steps.old + n }
+        ensures cost { (n : ℕ) → IsHeight (length self.now.items) n → steps.new ≡ steps.old + n }
     {
         let place = self.places.nth_flagged(k, steps);
-        if self.items[place as usize] {
-            Event::Step(place)
-        } else {
-            Event::Release(place / self.local)
-        }
+        self.event_of(place, k)
     }
 
-    /// The enabled event of this number, in the order of the items, from 0.
+    /// The enabled event of this number, in the order of the items, from 0. The first takes no look at
+    /// the counts.
+    #[inline(always)]
     pub fn nth_enabled(&self, k: u32) -> Event
         requires { k < length (flagged_events self.now) }
         ensures { slice_get (flagged_events self.now) k ≡ Some result }
     {
-        nth_from::<Brand>(self, k, Blank::new(1))
+        if k == 0 {
+            self.event_of(self.places.first(), k)
+        } else {
+            nth_from::<Brand>(self, k, Blank::new(1))
+        }
     }
 
     /// Whether no item of a group can step.
@@ -99,15 +104,15 @@ impl Ready {
     pub fn set_item(&mut self, item: u32, steps: bool)
         requires { item < length self.old.items }
         ensures { self.new ≡ record {
-          local = self.old.local;
+          grid = self.old.grid;
           items = slice_set self.old.items item steps;
           groups = self.old.groups;
         } }
     {
-        let group = (item / self.local) as usize;
+        let group = self.grid.group_of(item) as usize;
         self.steps[group] = recounted(self.steps[group], self.items[item as usize], steps);
         self.items[item as usize] = steps;
-        let flag = stands(&self.items, &self.groups, self.local, item);
+        let flag = stands(&self.items, &self.groups, self.grid, item);
         self.places.set(item, flag);
     }
 
@@ -115,15 +120,28 @@ impl Ready {
     pub fn set_group(&mut self, group: u32, together: bool)
         requires { group < length self.old.groups }
         ensures { self.new ≡ record {
-          local = self.old.local;
+          grid = self.old.grid;
           items = self.old.items;
           groups = slice_set self.old.groups group together;
         } }
     {
         self.groups[group as usize] = together;
-        let first = group * self.local;
-        let flag = stands(&self.items, &self.groups, self.local, first);
+        let first = self.grid.first_of(group);
+        let flag = stands(&self.items, &self.groups, self.grid, first);
         self.places.set(first, flag);
+    }
+
+    // The event at the place whose flag comes after `k` others.
+    #[inline(always)]
+    fn event_of(&self, place: u32, k: u32) -> Event
+        requires { IsPlaceOf self.now place k }
+        ensures { slice_get (flagged_events self.now) k ≡ Some result }
+    {
+        if self.items[place as usize] {
+            Event::Step(place)
+        } else {
+            Event::Release(self.grid.group_of(place))
+        }
     }
 }
 
@@ -151,15 +169,17 @@ fn recounted(count: u32, before: bool, now: bool) -> u32
 }
 
 // Whether an event stands at an item.
-fn stands(items: &[bool], groups: &[bool], local: u32, place: u32) -> bool
-    requires local { 0 < local }
-    requires whole { length items.now ≡ length groups.now * local }
+fn stands(items: &[bool], groups: &[bool], grid: Grid, place: u32) -> bool
+    requires small { IsSmall grid }
+    requires items { length items.now ≡ item_count (laid grid) }
+    requires groups { length groups.now ≡ group_count (laid grid) }
     requires place { place < length items.now }
-    ensures { result ≡ is_some (event_at local items.now groups.now place) }
+    ensures { result ≡ is_some (event_at grid items.now groups.now place) }
 {
     if items[place as usize] {
         true
     } else {
-        place % local == 0 && groups[(place / local) as usize]
+        let group = grid.group_of(place);
+        place == grid.first_of(group) && groups[group as usize]
     }
 }

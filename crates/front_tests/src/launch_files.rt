@@ -63,12 +63,12 @@ fn schedule_text(alloc: Global, schedule: &Schedule) -> Result<String, AllocErro
 }
 
 fn head_text(alloc: Global, file: &LaunchFile) -> Result<String, AllocError> {
-    let global = file.launch.global;
-    let local = file.launch.local;
+    let (global, rows) = file.launch.global;
+    let (local, local_rows) = file.launch.local;
     let sizes = file.launch.sizes.as_slice();
     let bases = file.sizes.as_slice();
     let schedule = schedule_text(alloc, &file.schedule)?;
-    format!(in alloc; "{global} {local} {sizes:?} {bases:?} {schedule} ")
+    format!(in alloc; "{global}x{rows} {local}x{local_rows} {sizes:?} {bases:?} {schedule} ")
 }
 
 // What a launch file gives, the inputs as result lines.
@@ -104,7 +104,7 @@ const ANSWERS: &[(Ask, &str, &str)] = &[
     (
         TASK,
         "{\"global\":1,\"local\":1,\"sizes\":{\"N\":3},\"inputs\":{\"xs\":[1,2,4294967295]}}",
-        "1 1 [3] [3] [] {\"value\":[1,2,4294967295]}\n",
+        "1x1 1x1 [3] [3] [] {\"value\":[1,2,4294967295]}\n",
     ),
     (
         TASK,
@@ -149,22 +149,22 @@ const ANSWERS: &[(Ask, &str, &str)] = &[
     (
         Ask::Eval,
         "{\"global\":-1,\"schedule\":7,\"sizes\":{\"N\":1},\"inputs\":{\"xs\":[7],\"ys\":8}}",
-        "1 1 [1] [1] [] {\"value\":[7]}\n",
+        "1x1 1x1 [1] [1] [] {\"value\":[7]}\n",
     ),
     (
         GROUPS,
         "{\"global\":4,\"local\":2,\"schedule\":{\"seed\":7},\"sizes\":{\"N\":1},\"inputs\":{\"xs\":[7]}}",
-        "4 2 [1] [1] seed 7 {\"value\":[7]}\n",
+        "4x1 2x1 [1] [1] seed 7 {\"value\":[7]}\n",
     ),
     (
         GROUPS,
         "{\"global\":4,\"local\":2,\"schedule\":[3,2],\"sizes\":{\"N\":1},\"inputs\":{\"xs\":[7]}}",
-        "4 2 [1] [1] [3, 2] {\"value\":[7]}\n",
+        "4x1 2x1 [1] [1] [3, 2] {\"value\":[7]}\n",
     ),
     (
         GROUPS,
         "{\"global\":512,\"local\":256,\"sizes\":{\"N\":1},\"inputs\":{\"xs\":[7]}}",
-        "512 256 [1] [1] [] {\"value\":[7]}\n",
+        "512x1 256x1 [1] [1] [] {\"value\":[7]}\n",
     ),
 ];
 
@@ -274,7 +274,7 @@ fn tables_of_pairs_are_read(rt: HostRuntime) -> Result<(), Fail> {
     let text =
         "{\"sizes\":{\"N\":4,\"M\":3},\"inputs\":{\"xs\":[0,4,0,7],\"ps\":[[[1,2],[3,4]],[[5,6],[7,8]],[[9,0],[4294967295,1]]]}}";
     let wanted =
-        "1 1 [4, 3] [2, 3] [] {\"value\":[0,4,0,7]}\n{\"value\":[[[1,2],[3,4]],[[5,6],[7,8]],[[9,0],[4294967295,1]]]}\n";
+        "1x1 1x1 [4, 3] [2, 3] [] {\"value\":[0,4,0,7]}\n{\"value\":[[[1,2],[3,4]],[[5,6],[7,8]],[[9,0],[4294967295,1]]]}\n";
     assert!(rt; gives(rt.alloc(), TABLES, Ask::Eval, text, wanted));
     Ok(())
 }

@@ -6,7 +6,7 @@ use launch_file::trace::trace_text;
 use std::alloc::{AllocError, Global};
 use std::test::Fail;
 
-const fn cell(array: Array, index: u32) -> Cell {
+const fn cell(array: Array, index: u64) -> Cell {
     Cell { array, index }
 }
 
@@ -61,6 +61,23 @@ fn local_arrays_are_told_and_private_ones_are_not(rt: HostRuntime) -> Result<(),
     ];
     let lines =
         "step 65535 writes l1 31\nrelease 255\nstep 65535 reads l0 4294967295\nstep 7\nstep 7\n";
+    assert!(rt; is_written(rt.alloc(), seen.as_slice(), lines)?);
+    Ok(())
+}
+
+// An access of four cells tells the first of them, which may lie past 2^32.
+#[test]
+fn four_cells_are_told_by_the_first(rt: HostRuntime) -> Result<(), Fail> {
+    let seen = [
+        step(1, Some(Access::ReadFour(cell(Array::Input(0), 4)))),
+        step(
+            1,
+            Some(Access::WriteFour(cell(Array::Output(0), 17179869180))),
+        ),
+        step(1, Some(Access::ReadFour(cell(Array::Local(2), 0)))),
+        step(1, Some(Access::WriteFour(cell(Array::Private(0), 8)))),
+    ];
+    let lines = "step 1 reads4 a0 4\nstep 1 writes4 o0 17179869180\nstep 1 reads4 l2 0\nstep 1\n";
     assert!(rt; is_written(rt.alloc(), seen.as_slice(), lines)?);
     Ok(())
 }

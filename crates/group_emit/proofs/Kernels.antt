@@ -1,5 +1,5 @@
 -- A kernel of these counts, lengths and statements.
-use Rattle.std.proofs.Common.{◌≡◌, ℕ, List, refl, length}
+use Rattle.std.proofs.Common.{◌≡◌, ℕ, List, refl, length, None}
 use Rattle.size_arith.specs.declared.poly.Monomial.{Monomial}
 use Rattle.kernel_tree.specs.Formula.{Formula}
 use Rattle.kernel_tree.specs.declared.tree.Stmt.{Stmt}
@@ -24,5 +24,5 @@ use Rattle.group_emit.specs.Emittable.{fence_with}
 -- what is made of the parts of a printed kernel is that kernel
 pub printed_is : (spell : List Monomial → Formula) (d : Declared) (t : Tree) (a : Annotation) (barriers : List Barrier) (term : Lowered) (tys : List PlainTy) (own : PlainTy) (phases inputs outputs sizes variables : ℕ) (locals privates : List ℕ) (body : List Stmt) → term ≡ lowered_root t a → tys ≡ d.inputs → own ≡ type_in a → phases ≡ phase_count term
     → inputs ≡ buffer_count d.inputs → outputs ≡ width (shape_of (type_in a)) → sizes ≡ length d.names → locals ≡ copy_lengths LocalMemory term → privates ≡ copy_lengths PrivateMemory term → variables ≡ variable_count term
-    → code_then body End ≡ group_kernel_code spell (first_buffer tys) (input_shape tys) (fence phases barriers) term (shape_of own) → kernel_with inputs outputs sizes locals privates variables body ≡ printed_group_kernel spell (fence_with barriers t a) d t a
+    → code_then body End ≡ group_kernel_code spell (first_buffer tys) (input_shape tys) (fence phases barriers) term (shape_of own) → kernel_with inputs outputs sizes locals privates variables 0 None body ≡ printed_group_kernel spell (fence_with barriers t a) d t a
 printed_is spell d t a barriers term tys own phases i o s v ls ps body et ei eo ep hi ho hs hl hp hv hc = rw (hi, ho, hs, hl, hp, hv, hc, ep, ei, eo, et) refl

@@ -20,7 +20,7 @@ use kernel_emit::block::Block;
 use kernel_emit::counts::load_count;
 use kernel_emit::scope::Scope;
 use kernel_emit::statements::at_turn;
-use kernel_tree::tree::{Start, Stride};
+use kernel_tree::tree::{Dimension, Start, Stride};
 use length_spelling::spell_length;
 use lowering::term::{Kind, LoadSet, Term};
 use size_arith::Poly;
@@ -83,7 +83,8 @@ fn group_loop(
     let turn = group_turn(alloc, setting, scope, loads, &element, body, &target)?;
     let length = spell_length(alloc, count, setting.declared.names)?;
     let mut block = Block::new(alloc);
-    block.put_loop(Start::GroupId, length, Stride::GroupCount, turn)?;
+    let start = Start::GroupId(Dimension::X);
+    block.put_loop(start, length, Stride::GroupCount(Dimension::X), turn)?;
     Ok(block)
 }
 

@@ -87,6 +87,8 @@ fn printed(
         locals,
         privates,
         variables: counts.variables,
+        vectors: 0,
+        local: None,
         body,
     })
 }

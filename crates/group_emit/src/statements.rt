@@ -20,7 +20,7 @@ use kernel_emit::block::Block;
 use kernel_emit::counts::{load_count, plus};
 use kernel_emit::scope::Scope;
 use kernel_emit::statements as item;
-use kernel_tree::tree::{Start, Stride};
+use kernel_tree::tree::{Dimension, Start, Stride};
 use length_spelling::spell_length;
 use lowering::term::{Kind, LoadSet, Term};
 use size_arith::Poly;
@@ -65,7 +65,8 @@ fn put_local_loop(
     item::put_written(alloc, &setting.declared, &inner, body, &target, &mut turn)?;
     put_loaded(alloc, loads, &element, first_load, &mut turn)?;
     let length = spell_length(alloc, count, setting.declared.names)?;
-    block.put_loop(Start::LocalId, length, Stride::LocalSize, turn)
+    let start = Start::LocalId(Dimension::X);
+    block.put_loop(start, length, Stride::LocalSize(Dimension::X), turn)
 }
 
 // The code of a local map, with the barrier before it.

@@ -6,7 +6,7 @@ use Rattle.std.proofs.lemmas.List.{length-append}
 use Rattle.kernel_tree.specs.declared.events.Event.{Event}
 use Rattle.kernel_tree.specs.declared.events.Event.TheVariants.{Step, Release}
 use Rattle.kernel_tree.specs.Launch.{IsWhole, item_count, group_count, group_of, first_item}
-use Rattle.kernel_tree.specs.Item.{Wants, Ends, Waits, Moves, Reads, Writes, Fails}
+use Rattle.kernel_tree.specs.Item.{Wants, Ends, Waits, Moves, Reads, Writes, ReadsFour, WritesFour, Fails}
 use Rattle.kernel_tree.specs.Device.{Device, State, wants, CanStep, AllTogether, Enabled, run, IsRun, IsStuck}
 use Rattle.kernel_tree.specs.Meets.{IsWaiting, MeetTogether}
 use Rattle.kernel_tree.proofs.EveryRun.{is_run-append}
@@ -22,6 +22,8 @@ can_step (Waits a b x) = inr (λ h. h)
 can_step (Moves x) = inl tt
 can_step (Reads a n f) = inl tt
 can_step (Writes a n v x) = inl tt
+can_step (ReadsFour a n f) = inl tt
+can_step (WritesFour a n u x) = inl tt
 can_step (Fails f) = inl tt
 
 is_waiting : (w : Wants) → Decided (IsWaiting w)
@@ -30,6 +32,8 @@ is_waiting Ends = inr (λ h. h)
 is_waiting (Moves x) = inr (λ h. h)
 is_waiting (Reads a n f) = inr (λ h. h)
 is_waiting (Writes a n v x) = inr (λ h. h)
+is_waiting (ReadsFour a n f) = inr (λ h. h)
+is_waiting (WritesFour a n u x) = inr (λ h. h)
 is_waiting (Fails f) = inr (λ h. h)
 
 -- one of the first n has the property, or none has

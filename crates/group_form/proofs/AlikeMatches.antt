@@ -5,17 +5,19 @@ use Rattle.kernel_tree.specs.Code.{Code, End, Assigns, Loads, Stores, Loops, Syn
 use Rattle.kernel_tree.specs.Launch.{Launch, item_count}
 use Rattle.kernel_tree.specs.Item.{Frame, Item, loop_variables, Wants, Ends, Waits, Moves, Reads, Writes, Fails}
 use Rattle.kernel_tree.specs.Device.{State}
-use Rattle.printed_form.specs.Alike.{SameIndex}
+use Rattle.printed_form.specs.Alike.{SameIndex, IsAhead}
+use Rattle.printed_form.specs.Form.{IsTurn}
 
-module _ (l : Launch) where
-  -- at these turns of the loops around them
+-- as this item runs them
+module _ (l : Launch) (item : ℕ) where
+  -- at these turns of the loops around them, and the turns that the item takes of those within
   abbrev pub Matches : List ℕ → Code → Code → Type 0
   Matches ts End End = Unit {0}
   Matches ts (Assigns v e r) (Assigns u f q) = (v ≡ u) × (e ≡ f) × Matches ts r q
-  Matches ts (Loads v a i r) (Loads u b j q) = (v ≡ u) × (a ≡ b) × SameIndex l ts i j × Matches ts r q
-  Matches ts (Stores a i e r) (Stores b j f q) = (a ≡ b) × SameIndex l ts i j × (e ≡ f) × Matches ts r q
+  Matches ts (Loads v a i r) (Loads u b j q) = (v ≡ u) × (a ≡ b) × SameIndex l item ts i j × Matches ts r q
+  Matches ts (Stores a i e r) (Stores b j f q) = (a ≡ b) × SameIndex l item ts i j × (e ≡ f) × Matches ts r q
   Matches ts (Loops s b c body r) (Loops t d e other q) =
-      (s ≡ t) × (c ≡ e) × (n : ℕ) × (bound_value l.sizes b ≡ Some n) × (bound_value l.sizes d ≡ Some n) × ((i : ℕ) → i < n → Matches (ts ++ i ∷ []) body other) × Matches ts r q
+      (s ≡ t) × (c ≡ e) × (n : ℕ) × (bound_value l.sizes b ≡ Some n) × (bound_value l.sizes d ≡ Some n) × ((i : ℕ) → i < n → IsTurn l item s c i → Matches (ts ++ i ∷ []) body other) × Matches ts r q
   Matches ts (Syncs a b r) (Syncs c d q) = (a ≡ c) × (b ≡ d) × Matches ts r q
   Matches ts _ _ = ⊥
 
@@ -23,7 +25,7 @@ module _ (l : Launch) where
   MatchingFrames [] [] = Unit {0}
   MatchingFrames (f ∷ fs) (h ∷ hs) =
       (f.variable ≡ h.variable) × (f.stride ≡ h.stride) × (n : ℕ) × (bound_value l.sizes f.bound ≡ Some n) × (bound_value l.sizes h.bound ≡ Some n)
-      × ((i : ℕ) → i < n → Matches (loop_variables fs ++ i ∷ []) f.body h.body) × Matches (loop_variables fs) f.after h.after × MatchingFrames fs hs
+      × ((i : ℕ) → i < n → IsAhead l item f i → Matches (loop_variables fs ++ i ∷ []) f.body h.body) × Matches (loop_variables fs) f.after h.after × MatchingFrames fs hs
   MatchingFrames _ _ = ⊥
 
   pub record MatchingItems (x y : Item) : Type 0 where
@@ -40,6 +42,6 @@ module _ (l : Launch) where
   MatchingWants (Fails f) (Fails g) = f ≡ g
   MatchingWants _ _ = ⊥
 
-  pub record MatchingStates (s t : State) : Type 0 where
-    pub items : (j : ℕ) → j < item_count l → MatchingItems (s.items j) (t.items j)
-    pub memory : s.memory ≡ t.memory
+pub record MatchingStates (l : Launch) (s t : State) : Type 0 where
+  pub items : (j : ℕ) → j < item_count l → MatchingItems l j (s.items j) (t.items j)
+  pub memory : s.memory ≡ t.memory

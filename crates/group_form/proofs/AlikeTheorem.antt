@@ -1,5 +1,5 @@
 -- Any two kernels printed for one map over work-groups go alike.
-use Rattle.std.proofs.Common.{◌≡◌, ℕ, ◌≤◌, Bool, List, [], refl, sym, ap, ◌∙◌, subst}
+use Rattle.std.proofs.Common.{◌≡◌, ℕ, ◌<◌, ◌≤◌, Bool, List, [], refl, sym, ap, ◌∙◌, subst}
 use Rattle.std.proofs.Math.Path.{fun_ext}
 use Rattle.lift_tree.specs.Tree.{Tree}
 use Rattle.lift_tree.specs.Typing.{Declared, IsAdmissible}
@@ -17,7 +17,7 @@ use Rattle.kernel_tree.specs.Device.{State, device_of, length_in, IsStart, run, 
 use Rattle.kernel_tree.specs.EveryRun.{Completes}
 use Rattle.kernel_tree.specs.Histories.{history}
 use Rattle.kernel_tree.specs.Item.{Item, item}
-use Rattle.kernel_tree.specs.Launch.{Launch, Cells, IsWhole}
+use Rattle.kernel_tree.specs.Launch.{Launch, Cells, IsWhole, item_count}
 use Rattle.kernel_tree.specs.Meets.{MeetTogether}
 use Rattle.lift_ir.specs.AtLaunch.{length_at, ty_at}
 use Rattle.printed_form.specs.Headline.{EveryRunKeeps}
@@ -59,16 +59,16 @@ module _ (determined : BarriersAreDetermined) (alike : OneHistoryGoesAlike) (kee
     full = runs_out (device_of k l c) whole s (bound k l) (λ es r. (keeps s es start r).leaves.bounded) meet
 
   module _ (k m : Kernel) (s r : State) (one : PrintsGroups d w.bases t a l k) (two : PrintsGroups d w.bases t a l m) (start : IsStart k l c s) (begin : IsStart m l c r) (same : SameContents l s r) where
-    codes : Matches l [] k.code m.code
-    codes =
-        over_groups l (input_marks (length_at w.bases) (first_buffer d.inputs) (input_shape d.inputs)) (length_at w.bases) one.fence two.fence (lowered_root t a) no_marks (output_marks (ty_at w.bases (type_in a))) k.code m.code
+    codes : (j : ℕ) → j < item_count l → Matches l j [] k.code m.code
+    codes j lt =
+        over_groups l j (input_marks (length_at w.bases) (first_buffer d.inputs) (input_shape d.inputs)) (length_at w.bases) one.fence two.fence lt (lowered_root t a) no_marks (output_marks (ty_at w.bases (type_in a))) k.code m.code
         (determined (group_touches (lowered_root t a)) (phase_count (lowered_root t a)) one.fence two.fence one.needed two.needed) one.code two.code
 
     states : MatchingStates l s r
     states = record {
       items = λ j lt.
           let vars : start.vars j ≡ begin.vars j = sym (ap Item.vars (start.items j lt)) ∙ same.variables j lt ∙ ap Item.vars (begin.items j lt) in
-          subst (λ z. MatchingItems l z (r.items j)) (sym (start.items j lt)) (subst (λ z. MatchingItems l (item k.code [] (start.vars j)) z) (sym (begin.items j lt)) (record { code = codes; frames = tt; vars = vars }));
+          subst (λ z. MatchingItems l j z (r.items j)) (sym (start.items j lt)) (subst (λ z. MatchingItems l j (item k.code [] (start.vars j)) z) (sym (begin.items j lt)) (record { code = codes j lt; frames = tt; vars = vars }));
       memory = same.memory;
     }
 

@@ -1,17 +1,17 @@
 -- Code that is printed for a map over work-groups is printed for its phases.
 use Rattle.std.proofs.Common.{◌≡◌, ℕ, zero, suc, ◌+◌, ◌<◌, List, [], ◌∷◌, length, Bool, true, false, refl, sym, subst, arith}
 use Rattle.kernel_tree.specs.Code.{Code, End}
-use Rattle.kernel_tree.specs.Launch.{Launch, Cells}
+use Rattle.kernel_tree.specs.Launch.{Launch, Cells, item_count}
 use Rattle.barrier_placement.specs.declared.touches.Touch.{Touch}
 use Rattle.barrier_placement.specs.Fencing.{Fencing, Open, Fenced, stands}
 use Rattle.barrier_placement.specs.Needed.{Needed}
 use Rattle.lift_ir.specs.Types.{Ty, PairOf, ArrayOf}
 use Rattle.lift_ir.specs.Layouts.{operand_position, result_position}
-use Rattle.lift_ir.specs.Terms.{Local, LocalMemory, Term, Bound, Source, Both, Project, Reshape, LetArray, Map, Copy, push, HasType}
+use Rattle.lift_ir.specs.Terms.{WorkGroup, Local, LocalMemory, Term, Bound, Source, Both, Project, Reshape, LetArray, Map, Copy, push, HasType}
 use Rattle.lift_ir.specs.Scalars.{at_index}
 use Rattle.printed_form.specs.Counts.{load_count}
 use Rattle.printed_form.specs.Marks.{Marks, loaded_marks}
-use Rattle.printed_form.specs.Form.{IsLoaded, IsLoop, IsWritten}
+use Rattle.printed_form.specs.Form.{IsTurnOf, IsLoaded, IsLoop, IsWritten}
 use Rattle.group_phases.specs.Epochs.{IsPast}
 use Rattle.group_phases.specs.Phased.{ArePhases}
 use Rattle.group_phases.specs.Phases.{PhaseList, IsPhaseLoop, IsPhase}
@@ -80,10 +80,10 @@ module _ {A : Type 0} (num : A → ℕ) (l : Launch) (c : Cells) (wanted : List 
   -- the loop of a stage, at every turn
   abbrev LoopOf : Stage A → Code → Code → Type 0
   LoopOf s code rest =
-      (i : ℕ) → i < b.turns
-      → IsLoop l b.ins Local s.phase.len
-      (λ j body. (inner : Code) × IsLoaded l b.ins (i ∷ j ∷ []) s.phase.loads (at_index j (s.marks i)) s.phase.variables body inner
-      × IsWritten l b.ins num (i ∷ j ∷ []) (push (loaded_marks s.phase.loads (at_index j (s.marks i)) s.phase.variables) (s.env i)) s.phase.privates (s.phase.variables + load_count s.phase.loads) s.phase.body (at_index j (goes_to b.out i s)) inner End)
+      (item i : ℕ) → item < item_count l → i < b.turns → IsTurnOf l item WorkGroup i
+      → IsLoop l item b.ins Local s.phase.len
+      (λ j body. (inner : Code) × IsLoaded l item b.ins (i ∷ j ∷ []) s.phase.loads (at_index j (s.marks i)) s.phase.variables body inner
+      × IsWritten l item b.ins num (i ∷ j ∷ []) (push (loaded_marks s.phase.loads (at_index j (s.marks i)) s.phase.variables) (s.env i)) s.phase.privates (s.phase.variables + load_count s.phase.loads) s.phase.body (at_index j (goes_to b.out i s)) inner End)
       code rest
 
   mutual
@@ -172,8 +172,8 @@ module _ {A : Type 0} (num : A → ℕ) (l : Launch) (c : Cells) (wanted : List 
   from_between q (suc m) code last x y = let e : suc q + suc m ≡ suc (suc q) + m = omega arith in (x.0, x.1, x.2, x.3, from_between (suc q) m x.1 last x.4 (subst (λ z. IsPast (fence z) last End) e y))
 
   -- with the loads of the turn's scalars
-  pub are_phases : (m : ℕ) (body first last : Code) → fence 0 ≡ Open → 0 < m → ((i : ℕ) → i < b.turns → IsLoaded l b.ins (i ∷ []) b.top.loads (b.top.marks i) 0 body first) → Between 0 m first last → IsPast (fence m) last End → ArePhases fence (IsPhase num l p) 0 m body
+  pub are_phases : (m : ℕ) (body first last : Code) → fence 0 ≡ Open → 0 < m → ((item i : ℕ) → item < item_count l → i < b.turns → IsTurnOf l item WorkGroup i → IsLoaded l item b.ins (i ∷ []) b.top.loads (b.top.marks i) 0 body first) → Between 0 m first last → IsPast (fence m) last End → ArePhases fence (IsPhase num l p) 0 m body
   are_phases zero body first last none some loads x y = absurd (omega arith)
   are_phases (suc m) body first last none some loads x y =
       let same : first ≡ x.0 = subst (λ z. IsPast z first x.0) none x.2 in
-      (body, x.1, subst (λ z. IsPast z body body) (sym none) refl, (x.0, (λ i il. subst (λ z. IsLoaded l b.ins (i ∷ []) b.top.loads (b.top.marks i) 0 body z) same (loads i il)), x.3), from_between 0 m x.1 last x.4 (let e : suc m ≡ 1 + m = omega arith in subst (λ z. IsPast (fence z) last End) e y))
+      (body, x.1, subst (λ z. IsPast z body body) (sym none) refl, (x.0, (λ item i jl il own. subst (λ z. IsLoaded l item b.ins (i ∷ []) b.top.loads (b.top.marks i) 0 body z) same (loads item i jl il own)), x.3), from_between 0 m x.1 last x.4 (let e : suc m ≡ 1 + m = omega arith in subst (λ z. IsPast (fence z) last End) e y))

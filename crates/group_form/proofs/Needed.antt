@@ -1,13 +1,13 @@
 -- The needed barriers hang on which uses there are, not on how often or in which order they are
 -- told.
-use Rattle.std.proofs.Common.{◌≡◌, ℕ, zero, suc, List, [], ◌∷◌, sym, arith, Bool, true, false, true≢false}
+use Rattle.std.proofs.Common.{◌≡◌, ℕ, List, sym, Bool, true, false, true≢false}
 use Rattle.std.specs.Prelude.{All, Contains, ◌&&◌}
 use Rattle.std.proofs.lemmas.Bool.{both_ways}
 use Rattle.std.proofs.lemmas.List.Elements.{All-contains}
 use Rattle.barrier_placement.specs.declared.touches.Touch.{Touch}
 use Rattle.barrier_placement.specs.Conflicts.{Space, Conflict}
 use Rattle.barrier_placement.specs.Fencing.{Fencing}
-use Rattle.barrier_placement.specs.Needed.{NeedsBefore, NeedsClosing, Needed}
+use Rattle.barrier_placement.specs.Needed.{NeedsBefore, NeedsClosing}
 use Rattle.group_form.specs.Theorem.{UsesTellBarriers, AlignedNeedNone}
 
 conflict_too : (xs ys : List Touch) (space : Space) (p q : ℕ) → ((x : Touch) → Contains xs x → Contains ys x) → Conflict xs space p q → Conflict ys space p q

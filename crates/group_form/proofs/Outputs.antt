@@ -2,7 +2,7 @@
 use Rattle.std.proofs.Common.{◌≡◌, ℕ, ◌+◌, ◌*◌, ◌%◌, ◌<◌, List, ◌∷◌, length, Bool, refl, sym, ap, ◌∙◌, arith}
 use Rattle.std.specs.Prelude.{map, replicate, slice_index}
 use Rattle.kernel_tree.specs.Code.{Array, Input, Output, Local as LocalArray, Private, Kernel}
-use Rattle.kernel_tree.specs.Launch.{Launch, Cells, group_count}
+use Rattle.kernel_tree.specs.Launch.{Launch, Cells, item_count, groups_across}
 use Rattle.kernel_tree.specs.Device.{row}
 use Rattle.lift_ir.specs.Types.{Ty, ArrayOf, IsPosition, IsFlat, width, size, component, flat, unflat}
 use Rattle.lift_ir.specs.Layouts.{Layout, operand_position, result_position, Reshapes, IsInvertible}
@@ -54,8 +54,8 @@ module _ (k : Kernel) (l : Launch) (c : Cells) (lists : List (List ℕ)) (turns 
     pub shape : map length lists ≡ map length c.outs
     pub listed : AreLists whole value lists
     pub values : (cs : List Bool) (i : ℕ) (p : List ℕ) → IsPosition (ArrayOf turns result) cs (i ∷ p) → value cs (outer (i ∷ p)) ≡ scalars i cs p
-    pub owned : (i : ℕ) (p : List ℕ) → owner_at (i ∷ p) ≡ (i % group_count l) * l.local + row_at p % l.local
-    pub within : (p : List ℕ) → owner_at p < l.global
+    pub owned : (i : ℕ) (p : List ℕ) → owner_at (i ∷ p) ≡ (i % groups_across l) * l.local.0 + row_at p % l.local.0
+    pub within : (p : List ℕ) → owner_at p < item_count l
 
   module _ (h : IsGivenOut) where
     same_arrays : (cs ds : List Bool) (p r : List ℕ) → out cs p ≡ out ds r → (component whole cs ≡ component whole ds) × (flat whole (outer p) ≡ flat whole (outer r))

@@ -4,10 +4,11 @@ use Rattle.std.specs.Prelude.{map, slice_index, Contains}
 use Rattle.std.proofs.Math.Nat.{mod-lt, mod-eq_of_lt, div-eq_of_lt, mul-add-div_right, mul-add-mod_self_right}
 use Rattle.std.proofs.lemmas.Bool.{and_parts, lt-ltb, le-ltb}
 use Rattle.kernel_tree.specs.Code.{Array, Input, Output, Local as LocalArray, Private, Kernel}
-use Rattle.kernel_tree.specs.Launch.{Launch, Cells, IsWhole, group_of, group_count}
+use Rattle.kernel_tree.specs.Launch as launch
+use Rattle.kernel_tree.specs.Launch.{Launch, Cells, IsWhole, item_count, groups_across, group_of}
 use Rattle.kernel_tree.specs.Device.{Cell, LocalFence, GlobalFence, fence_of, length_in, row}
 use Rattle.kernel_tree.specs.Faults.{Among}
-use Rattle.kernel_tree.proofs.Grouping.{group_in_launch}
+use Rattle.kernel_tree.proofs.Grouping.{group_in_launch, flat_groups, flat_group}
 use Rattle.kernel_tree.proofs.Stride.{turns_of, turn_below, turn_owner, owner_turn, owner_has}
 use Rattle.lift_ir.specs.Types.{Ty, Scalar, PairOf, ArrayOf, IsPosition, IsFlat, width, component, flat, unflat}
 use Rattle.lift_ir.specs.Terms.{LoadsScalars}
@@ -75,21 +76,22 @@ pub record GoesOut (k : Kernel) (l : Launch) (c : Cells) (owner : (array index :
   pub outs : (cs : List Bool) (p : List ℕ) → IsPosition (ArrayOf turns result) cs p → (a n : ℕ) × (out cs p ≡ Spot (Output a) n) × (n < length_in k c (Output a))
   pub choices : (cs ds : List Bool) (p r : List ℕ) → IsPosition (ArrayOf turns result) cs p → IsPosition (ArrayOf turns result) ds r → out cs p ≡ out ds r → cs ≡ ds
   pub places : (cs ds : List Bool) (p r : List ℕ) → IsPosition (ArrayOf turns result) cs p → IsPosition (ArrayOf turns result) ds r → out cs p ≡ out ds r → p ≡ r
-  pub owned : (cs : List Bool) (i : ℕ) (p : List ℕ) (a n : ℕ) → IsPosition (ArrayOf turns result) cs (i ∷ p) → out cs (i ∷ p) ≡ Spot (Output a) n → owner a n ≡ (i % group_count l) * l.local + row_at p % l.local
+  pub owned : (cs : List Bool) (i : ℕ) (p : List ℕ) (a n : ℕ) → IsPosition (ArrayOf turns result) cs (i ∷ p) → out cs (i ∷ p) ≡ Spot (Output a) n → owner a n ≡ (i % groups_across l) * l.local.0 + row_at p % l.local.0
   pub values : (cs : List Bool) (i : ℕ) (p : List ℕ) (a n : ℕ) → IsPosition (ArrayOf turns result) cs (i ∷ p) → out cs (i ∷ p) ≡ Spot (Output a) n → slice_index (row wanted a) n ≡ scalars i cs p
   pub all : (a n : ℕ) → n < length (row wanted a) → (cs : List Bool) × (p : List ℕ) × IsPosition (ArrayOf turns result) cs p × (out cs p ≡ Spot (Output a) n)
-  pub owners_within : (a n : ℕ) → owner a n < l.global
+  pub owners_within : (a n : ℕ) → owner a n < item_count l
   pub shape : map length wanted ≡ map length c.outs
 
 module _ {A : Type 0} (num : A → ℕ) (k : Kernel) (l : Launch) (c : Cells) (owner : (array index : ℕ) → ℕ) (wanted : List (List ℕ)) (b : GroupBody A) where
   -- what stages need
-  pub record AreStages (few : l.local ≤ 2 ^ 31) (given : (v : ℕ) (cs : List Bool) (p : List ℕ) → IsPosition (b.src v) cs p → IsGiven c (b.ins v cs p) (b.sources v cs p)) : Type 0 where
+  pub record AreStages (few : l.local.0 ≤ 2 ^ 31) (given : (v : ℕ) (cs : List Bool) (p : List ℕ) → IsPosition (b.src v) cs p → IsGiven c (b.ins v cs p) (b.sources v cs p)) : Type 0 where
     pub whole : IsWhole l
-    pub turns : b.turns + group_count l ≤ 2 ^ 32
+    pub flat : launch.IsFlat l
+    pub turns : b.turns + groups_across l ≤ 2 ^ 32
     pub room : b.variables ≤ k.variables
     pub top_loads : LoadsScalars b.top.loads b.top.type
     pub top_given : (i : ℕ) → i < b.turns → (cs : List Bool) (p : List ℕ) → IsPosition b.top.type cs p → IsGiven c (b.top.marks i cs p) (b.top.scalars i cs p)
-    pub stages : (q : ℕ) → q < length b.stages → sight.IsStage num (length_in k c) l.local few c b given q (stage_at b.stages q)
+    pub stages : (q : ℕ) → q < length b.stages → sight.IsStage num (length_in k c) l.local.0 few c b given q (stage_at b.stages q)
     pub chained : Chained 0 b.stages
     pub last : ℕ
     pub last_is : suc last ≡ length b.stages
@@ -109,7 +111,7 @@ module _ {A : Type 0} (num : A → ℕ) (k : Kernel) (l : Launch) (c : Cells) (o
   home a = home_in b.stages a
 
   abbrev G : ℕ
-  G = group_count l
+  G = groups_across l
 
   abbrev content : (g t : ℕ) → Array → ℕ → ℕ
   content = body.content num l c wanted b
@@ -123,27 +125,30 @@ module _ {A : Type 0} (num : A → ℕ) (k : Kernel) (l : Launch) (c : Cells) (o
   abbrev CanRead : (t q j : ℕ) → Mark → ℕ → Type 0
   CanRead = IsRead num k l c p
 
-  module _ (few : l.local ≤ 2 ^ 31) (given : (v : ℕ) (cs : List Bool) (p : List ℕ) → IsPosition (b.src v) cs p → IsGiven c (b.ins v cs p) (b.sources v cs p)) (h : AreStages few given) where
-    group_is : (g r : ℕ) → r < l.local → group_of l (g * l.local + r) ≡ g
-    group_is g r lt = mul-add-div_right h.whole.positive g r ∙ (let e : r / l.local ≡ 0 = div-eq_of_lt lt in let q : g + r / l.local ≡ g = omega arith in q)
+  module _ (few : l.local.0 ≤ 2 ^ 31) (given : (v : ℕ) (cs : List Bool) (p : List ℕ) → IsPosition (b.src v) cs p → IsGiven c (b.ins v cs p) (b.sources v cs p)) (h : AreStages few given) where
+    group_is : (g r : ℕ) → r < l.local.0 → group_of l (g * l.local.0 + r) ≡ g
+    group_is g r lt = flat_group l h.flat h.whole (g * l.local.0 + r) ∙ mul-add-div_right h.whole.x.positive g r ∙ (let e : r / l.local.0 ≡ 0 = div-eq_of_lt lt in let q : g + r / l.local.0 ≡ g = omega arith in q)
 
-    local_is : (g r : ℕ) → r < l.local → (g * l.local + r) % l.local ≡ r
-    local_is g r lt = mul-add-mod_self_right g l.local r ∙ mod-eq_of_lt lt
+    local_is : (g r : ℕ) → r < l.local.0 → (g * l.local.0 + r) % l.local.0 ≡ r
+    local_is g r lt = mul-add-mod_self_right g l.local.0 r ∙ mod-eq_of_lt lt
 
-    item_is : (j : ℕ) → group_of l j * l.local + j % l.local ≡ j
-    item_is j = let e = owner_turn l.local j h.whole.positive in omega arith
+    item_is : (j : ℕ) → group_of l j * l.local.0 + j % l.local.0 ≡ j
+    item_is j = ap (λ z. z * l.local.0 + j % l.local.0) (flat_group l h.flat h.whole j) ∙ (let e = owner_turn l.local.0 j h.whole.x.positive in omega arith)
 
-    row_below : (q j u : ℕ) → u < turns_of (stage q).phase.len l.local (j % l.local) → row_of l j u < (stage q).phase.len
-    row_below q j u lt = turn_below (stage q).phase.len l.local (j % l.local) u (mod-lt j h.whole.positive) lt
+    across : (j : ℕ) → j < item_count l → group_of l j < G
+    across j lt = subst (λ z. group_of l j < z) (flat_groups l h.flat) (group_in_launch l h.whole j lt)
 
-    row_owner : (j u : ℕ) → row_of l j u % l.local ≡ j % l.local
-    row_owner j u = turn_owner l.local (j % l.local) u (mod-lt j h.whole.positive)
+    row_below : (q j u : ℕ) → u < turns_of (stage q).phase.len l.local.0 (j % l.local.0) → row_of l j u < (stage q).phase.len
+    row_below q j u lt = turn_below (stage q).phase.len l.local.0 (j % l.local.0) u (mod-lt j h.whole.x.positive) lt
 
-    row_is : (j i : ℕ) → i % l.local ≡ j % l.local → i ≡ row_of l j (i / l.local)
-    row_is j i e = owner_turn l.local i h.whole.positive ∙ ap (λ z. z + (i / l.local) * l.local) e
+    row_owner : (j u : ℕ) → row_of l j u % l.local.0 ≡ j % l.local.0
+    row_owner j u = turn_owner l.local.0 (j % l.local.0) u (mod-lt j h.whole.x.positive)
 
-    row_turn : (q j i : ℕ) → i < (stage q).phase.len → i % l.local ≡ j % l.local → i / l.local < turns_of (stage q).phase.len l.local (j % l.local)
-    row_turn q j i lt e = subst (λ z. i / l.local < turns_of (stage q).phase.len l.local z) e (owner_has (stage q).phase.len l.local i h.whole.positive lt)
+    row_is : (j i : ℕ) → i % l.local.0 ≡ j % l.local.0 → i ≡ row_of l j (i / l.local.0)
+    row_is j i e = owner_turn l.local.0 i h.whole.x.positive ∙ ap (λ z. z + (i / l.local.0) * l.local.0) e
+
+    row_turn : (q j i : ℕ) → i < (stage q).phase.len → i % l.local.0 ≡ j % l.local.0 → i / l.local.0 < turns_of (stage q).phase.len l.local.0 (j % l.local.0)
+    row_turn q j i lt e = subst (λ z. i / l.local.0 < turns_of (stage q).phase.len l.local.0 z) e (owner_has (stage q).phase.len l.local.0 i h.whole.x.positive lt)
 
     -- the cells of a phase that fills local arrays
     copy_cell : (q j i f : ℕ) (ty : Ty) (cs : List Bool) (r : List ℕ) → (stage q).destination ≡ Locals f ty → cell_of l j (goes_to b.out i (stage q) cs r) ≡ local_cell (group_of l j) (f + component ty cs) (flat ty ((stage q).outer r))
@@ -185,12 +190,12 @@ module _ {A : Type 0} (num : A → ℕ) (k : Kernel) (l : Launch) (c : Cells) (o
     copy_value q f g t w ty cs r ql e x = copy_decodes q f ty cs r (λ s ds u. value_in num b.sources (g + t * G) s ds u ≡ value_in num b.sources (g + t * G) (stage q) cs r) ql e x refl
 
     copy_filler : (q f g : ℕ) (ty : Ty) (cs : List Bool) (r : List ℕ) → q < n → (stage q).destination ≡ Locals f ty → IsPosition (result_type (stage q)) cs r
-        → filler (local_cell g (f + component ty cs) (flat ty ((stage q).outer r))) ≡ g * l.local + first_index r % l.local
-    copy_filler q f g ty cs r ql e x = copy_decodes q f ty cs r (λ s ds u. g * l.local + first_index u % l.local ≡ g * l.local + first_index r % l.local) ql e x refl
+        → filler (local_cell g (f + component ty cs) (flat ty ((stage q).outer r))) ≡ g * l.local.0 + first_index r % l.local.0
+    copy_filler q f g ty cs r ql e x = copy_decodes q f ty cs r (λ s ds u. g * l.local.0 + first_index u % l.local.0 ≡ g * l.local.0 + first_index r % l.local.0) ql e x refl
 
-    target_of_row : (t q j : ℕ) (cs : List Bool) (r : List ℕ) (x : Cell) → turn_of l t j < b.turns → IsPosition (result_type (stage q)) cs r → first_index r % l.local ≡ j % l.local → x ≡ cell_of l j (goes_to b.out (turn_of l t j) (stage q) cs r) → mine t q j x
+    target_of_row : (t q j : ℕ) (cs : List Bool) (r : List ℕ) (x : Cell) → turn_of l t j < b.turns → IsPosition (result_type (stage q)) cs r → first_index r % l.local.0 ≡ j % l.local.0 → x ≡ cell_of l j (goes_to b.out (turn_of l t j) (stage q) cs r) → mine t q j x
     target_of_row t q j cs [] x il w e is = absurd w
-    target_of_row t q j cs (i ∷ r) x il w e is = (il, i / l.local, row_turn q j i w.0 e, cs, r, w.1, is ∙ ap (λ z. cell_of l j (goes_to b.out (turn_of l t j) (stage q) cs (z ∷ r))) (row_is j i e))
+    target_of_row t q j cs (i ∷ r) x il w e is = (il, i / l.local.0, row_turn q j i w.0 e, cs, r, w.1, is ∙ ap (λ z. cell_of l j (goes_to b.out (turn_of l t j) (stage q) cs (z ∷ r))) (row_is j i e))
 
     told : (q : ℕ) (u : Use) → q < n → Among u (uses_in (stage q)) → Contains (numbered 0 (uses_of b.stages)) (touch_of q u)
     told q u ql a = let e : 0 + q ≡ q = omega arith in contained (touch_of q u) (numbered 0 (uses_of b.stages)) (subst (λ z. Among (touch_of z u) (numbered 0 (uses_of b.stages))) e (among_numbered 0 q b.stages u ql a))
@@ -201,7 +206,7 @@ module _ {A : Type 0} (num : A → ℕ) (k : Kernel) (l : Launch) (c : Cells) (o
         among_left (writing (f + a) s.direct) (writes_to s.destination s.direct) (element_reads s.origin (element_ways s.phase.loads s.phase.body) ++ variable_reads s.origins (named_outside s.phase.body)) (write_told s.destination s.direct f ty a e al)
 
     -- a cell that an earlier phase fills
-    read_earlier : (t q j : ℕ) (plainly : Bool) (row : ℕ) (w f : ℕ) (ty : Ty) (ds : List Bool) (r : List ℕ) → turn_of l t j < b.turns → q < n → j < l.global → (plainly ≡ true → row % l.local ≡ j % l.local)
+    read_earlier : (t q j : ℕ) (plainly : Bool) (row : ℕ) (w f : ℕ) (ty : Ty) (ds : List Bool) (r : List ℕ) → turn_of l t j < b.turns → q < n → j < item_count l → (plainly ≡ true → row % l.local.0 ≡ j % l.local.0)
         → w < q → (stage w).destination ≡ Locals f ty → IsPosition (result_type (stage w)) ds r → (plainly ≡ true → (stage w).direct ≡ true → first_index r ≡ row) → Among (reading (f + component ty ds) plainly) (uses_in (stage q))
         → CanRead t q j (Spot (LocalArray (f + component ty ds)) (flat ty ((stage w).outer r))) (value_in num b.sources (turn_of l t j) (stage w) ds r)
     read_earlier t q j plainly row w f ty ds r il ql jl own before e x rows used =
@@ -213,9 +218,9 @@ module _ {A : Type 0} (num : A → ℕ) (k : Kernel) (l : Launch) (c : Cells) (o
         let stop = in_order 0 w q b.stages h.chained before ql in
         let stop_is : locals_end (stage w).destination ≡ f + width ty = ap locals_end e in
         let here = home_is w f (component ty ds) ty wl e comp in
-        let by = group_of l j * l.local + first_index r % l.local in
-        let rl : first_index r % l.local < l.local = mod-lt (first_index r) h.whole.positive in
-        let by_group : group_of l by ≡ group_of l j = group_is (group_of l j) (first_index r % l.local) rl in (
+        let by = group_of l j * l.local.0 + first_index r % l.local.0 in
+        let rl : first_index r % l.local.0 < l.local.0 = mod-lt (first_index r) h.whole.x.positive in
+        let by_group : group_of l by ≡ group_of l j = group_is (group_of l j) (first_index r % l.local.0) rl in (
           omega arith,
           omega arith,
           inr (record {
@@ -226,7 +231,7 @@ module _ {A : Type 0} (num : A → ℕ) (k : Kernel) (l : Launch) (c : Cells) (o
             by = by;
             by_group = by_group;
             filled = subst (λ z. mine t z by (local_cell (group_of l j) (f + component ty ds) (flat ty ((stage w).outer r)))) (sym here)
-                (target_of_row t w by ds r (local_cell (group_of l j) (f + component ty ds) (flat ty ((stage w).outer r))) (subst (λ z. z + t * G < b.turns) (sym by_group) il) x (sym (local_is (group_of l j) (first_index r % l.local) rl))
+                (target_of_row t w by ds r (local_cell (group_of l j) (f + component ty ds) (flat ty ((stage w).outer r))) (subst (λ z. z + t * G < b.turns) (sym by_group) il) x (sym (local_is (group_of l j) (first_index r % l.local.0) rl))
                 (ap (λ z. local_cell z (f + component ty ds) (flat ty ((stage w).outer r))) (sym by_group) ∙ sym (copy_cell w by (turn_of l t by) f ty ds r e)));
             reader = touch_of q (reading (f + component ty ds) plainly);
             writer = touch_of w (writing (f + component ty ds) (stage w).direct);
@@ -240,12 +245,12 @@ module _ {A : Type 0} (num : A → ℕ) (k : Kernel) (l : Launch) (c : Cells) (o
             writes = refl;
             aligned = λ a.
                 let both = and_parts (stage w).direct plainly a in
-                copy_filler w f (group_of l j) ty ds r wl e x ∙ ap (λ z. group_of l j * l.local + z % l.local) (rows both.1 both.0) ∙ ap (λ z. group_of l j * l.local + z) (own both.1) ∙ item_is j;
+                copy_filler w f (group_of l j) ty ds r wl e x ∙ ap (λ z. group_of l j * l.local.0 + z % l.local.0) (rows both.1 both.0) ∙ ap (λ z. group_of l j * l.local.0 + z) (own both.1) ∙ item_is j;
           }),
           copy_value w f (group_of l j) t (group_of l j) ty ds r wl e x,
         )
 
-    reads : (t q j : ℕ) (o : Origin) (r : List ℕ) (m : Mark) (v : ℕ) → turn_of l t j < b.turns → q < n → j < l.global → ((a : ℕ) → o ≡ Within a true → first_index r % l.local ≡ j % l.local) → ((a : ℕ) (plainly : Bool) → o ≡ Within a plainly → Among (reading a plainly) (uses_in (stage q)))
+    reads : (t q j : ℕ) (o : Origin) (r : List ℕ) (m : Mark) (v : ℕ) → turn_of l t j < b.turns → q < n → j < item_count l → ((a : ℕ) → o ≡ Within a true → first_index r % l.local.0 ≡ j % l.local.0) → ((a : ℕ) (plainly : Bool) → o ≡ Within a plainly → Among (reading a plainly) (uses_in (stage q)))
         → SeenAt num c b o q (turn_of l t j) r m v → CanRead t q j m v
     reads t q j o r (Spot (Input a) i) v il ql jl own used s = (s.0, tt, inl (record { array = a; index = i; is = refl; within = s.0; has = refl }), s.1)
     reads t q j o r (Spot (LocalArray a) i) v il ql jl own used s =
@@ -273,7 +278,7 @@ module _ {A : Type 0} (num : A → ℕ) (k : Kernel) (l : Launch) (c : Cells) (o
     reads_input t q j (Register x) v s = absurd s
     reads_input t q j Nowhere v s = absurd s
 
-    envs : (t q j v : ℕ) → turn_of l t j < b.turns → q < n → j < l.global → AreRead num k l c p t q j ((stage q).phase.types v) ((stage q).env (turn_of l t j) v) ((stage q).sems (turn_of l t j) v)
+    envs : (t q j v : ℕ) → turn_of l t j < b.turns → q < n → j < item_count l → AreRead num k l c p t q j ((stage q).phase.types v) ((stage q).env (turn_of l t j) v) ((stage q).sems (turn_of l t j) v)
     envs t q j v il ql jl cs r x =
         let s = stage q in
         let under = (h.stages q ql).variable_under v cs r x in
@@ -282,7 +287,7 @@ module _ {A : Type 0} (num : A → ℕ) (k : Kernel) (l : Launch) (c : Cells) (o
         (among_right (reading a plainly) (element_reads s.origin (element_ways s.phase.loads s.phase.body)) (variable_reads s.origins (named_outside s.phase.body)) (variable_told s.origins (named_outside s.phase.body) v cs a plainly under e)))
         ((h.stages q ql).envs v (turn_of l t j) il cs r x)
 
-    elements : (t q j u : ℕ) → turn_of l t j < b.turns → q < n → j < l.global → u < turns_of (stage q).phase.len l.local (j % l.local)
+    elements : (t q j u : ℕ) → turn_of l t j < b.turns → q < n → j < item_count l → u < turns_of (stage q).phase.len l.local.0 (j % l.local.0)
         → AreRead num k l c p t q j (stage q).phase.element (at_index (row_of l j u) ((stage q).marks (turn_of l t j))) (at_index (row_of l j u) ((stage q).scalars (turn_of l t j)))
     elements t q j u il ql jl lt cs r x =
         let s = stage q in
@@ -327,8 +332,11 @@ module _ {A : Type 0} (num : A → ℕ) (k : Kernel) (l : Launch) (c : Cells) (o
         from_outer : (r s : List ℕ) → IsPosition (result_type (stage q)) cs r → IsPosition (result_type (stage q)) ds s → (stage q).outer r ≡ (stage q).outer s → r ≡ s
         from_outer r s x y e = sym ((h.stages q ql).returns cs r x) ∙ ap (stage q).path e ∙ (h.stages q ql).returns ds s y
 
-    groups_positive : (i : ℕ) → i < l.global → 0 < G
-    groups_positive i il = let e = group_in_launch l h.whole i il in omega arith
+    groups_positive : (i : ℕ) → i < item_count l → 0 < G
+    groups_positive i il = some (group_of l i) G (across i il)
+      where
+        some : (a b : ℕ) → a < b → 0 < b
+        some a b lt = omega arith
 
     last_below : h.last < n
     last_below = let e = h.last_is in omega arith
@@ -336,7 +344,7 @@ module _ {A : Type 0} (num : A → ℕ) (k : Kernel) (l : Launch) (c : Cells) (o
     only_last : (q : ℕ) → q < n → (stage q).destination ≡ Outputs → q ≡ h.last
     only_last q ql e = let a = (h.stages q ql).gives e in let z = h.last_is in omega arith
 
-    valued : (t q j : ℕ) → turn_of l t j < b.turns → q < n → j < l.global → (cs : List Bool) (r : List ℕ) → IsPosition (result_type (stage q)) cs r → p.value (group_of l j) t (cell_of l j (goes_to b.out (turn_of l t j) (stage q) cs r)) ≡ phase_scalars num l p (turn_of l t j) q cs r
+    valued : (t q j : ℕ) → turn_of l t j < b.turns → q < n → j < item_count l → (cs : List Bool) (r : List ℕ) → IsPosition (result_type (stage q)) cs r → p.value (group_of l j) t (cell_of l j (goes_to b.out (turn_of l t j) (stage q) cs r)) ≡ phase_scalars num l p (turn_of l t j) q cs r
     valued t q j il ql jl cs r x = by_destination (stage q).destination
         (λ f ty e. ap (p.value (group_of l j) t) (copy_cell q j (turn_of l t j) f ty cs r e) ∙ copy_value q f (group_of l j) t (group_of l j) ty cs r ql e x)
         (λ e.
@@ -346,7 +354,7 @@ module _ {A : Type 0} (num : A → ℕ) (k : Kernel) (l : Launch) (c : Cells) (o
         ap (p.value (group_of l j) t) (out_cell q j (turn_of l t j) cs r e ∙ ap (cell_of l j) o.2) ∙ v
         ∙ ap (λ z. value_in num b.sources (turn_of l t j) (stage z) cs ((stage z).path ((stage q).outer r))) (sym (only_last q ql e)) ∙ ap (value_in num b.sources (turn_of l t j) (stage q) cs) ((h.stages q ql).returns cs r x))
 
-    due : (t q j : ℕ) (x : Cell) → q < n → j < l.global → mine t q j x → IsOwnOutput owner j x ⊎ IsOwnLocal l (work_of num l p) q j x
+    due : (t q j : ℕ) (x : Cell) → q < n → j < item_count l → mine t q j x → IsOwnOutput owner j x ⊎ IsOwnLocal l (work_of num l p) q j x
     due t q j y ql jl x =
         let row = row_of l j x.1 in
         let cs = x.3 in
@@ -360,7 +368,7 @@ module _ {A : Type 0} (num : A → ℕ) (k : Kernel) (l : Launch) (c : Cells) (o
           index = flat ty ((stage q).outer r);
           is = is;
           in_phase = home_is q f (component ty cs) ty ql e (component_below ty cs ((stage q).outer r) (copy_inside q f ty cs r ql e inside));
-          owned = ap filler is ∙ copy_filler q f (group_of l j) ty cs r ql e inside ∙ ap (λ z. group_of l j * l.local + z) (row_owner j x.1) ∙ item_is j;
+          owned = ap filler is ∙ copy_filler q f (group_of l j) ty cs r ql e inside ∙ ap (λ z. group_of l j * l.local.0 + z) (row_owner j x.1) ∙ item_is j;
         }))
         (λ e.
         let w : IsPosition (ArrayOf b.turns b.result) cs (turn_of l t j ∷ (stage q).outer r) = (x.0, out_inside q cs r ql e inside) in
@@ -370,10 +378,10 @@ module _ {A : Type 0} (num : A → ℕ) (k : Kernel) (l : Launch) (c : Cells) (o
           index = o.1;
           is = x.6 ∙ out_cell q j (turn_of l t j) cs r e ∙ ap (cell_of l j) o.2;
           owned = h.out.owned cs (turn_of l t j) ((stage q).outer r) o.0 o.1 w o.2
-              ∙ ap (λ z. (turn_of l t j % G) * l.local + first_index ((stage z).path ((stage q).outer r)) % l.local) (sym (only_last q ql e))
-              ∙ ap (λ z. (turn_of l t j % G) * l.local + first_index z % l.local) ((h.stages q ql).returns cs r inside)
-              ∙ ap (λ z. z * l.local + row % l.local) (turn_owner G (group_of l j) t (group_in_launch l h.whole j jl))
-              ∙ ap (λ z. group_of l j * l.local + z) (row_owner j x.1) ∙ item_is j;
+              ∙ ap (λ z. (turn_of l t j % G) * l.local.0 + first_index ((stage z).path ((stage q).outer r)) % l.local.0) (sym (only_last q ql e))
+              ∙ ap (λ z. (turn_of l t j % G) * l.local.0 + first_index z % l.local.0) ((h.stages q ql).returns cs r inside)
+              ∙ ap (λ z. z * l.local.0 + row % l.local.0) (turn_owner G (group_of l j) t (across j jl))
+              ∙ ap (λ z. group_of l j * l.local.0 + z) (row_owner j x.1) ∙ item_is j;
         }))
 
     turn_is : (g t : ℕ) → g < G → (g + t * G) / G ≡ t
@@ -397,12 +405,12 @@ module _ {A : Type 0} (num : A → ℕ) (k : Kernel) (l : Launch) (c : Cells) (o
         let cells : output_cell a i ≡ output_cell o.0 o.1 = x.6 ∙ out_cell q j (turn_of l t j) cs r e ∙ ap (cell_of l j) o.2 in
         (only_last q ql e, cs, (stage q).outer r, w, o.2 ∙ ap (λ m. Spot (Output (array_number m.array)) m.index) (sym cells)))
 
-    differ : (a i t q j u r m : ℕ) → q < n → r < n → j < l.global → m < l.global → mine t q j (output_cell a i) → mine u r m (output_cell a i) → (t ≡ u) × (q ≡ r)
+    differ : (a i t q j u r m : ℕ) → q < n → r < n → j < item_count l → m < item_count l → mine t q j (output_cell a i) → mine u r m (output_cell a i) → (t ≡ u) × (q ≡ r)
     differ a i t q j u r m ql rl jl ml x y =
         let o = given_out t q j a i ql x in
         let v = given_out u r m a i rl y in
         let turns : turn_of l t j ≡ turn_of l u m = ap first_index (h.out.places o.1 v.1 (turn_of l t j ∷ o.2) (turn_of l u m ∷ v.2) o.3 v.3 (o.4 ∙ sym v.4)) in
-        (sym (turn_is (group_of l j) t (group_in_launch l h.whole j jl)) ∙ ap (λ z. z / G) turns ∙ turn_is (group_of l m) u (group_in_launch l h.whole m ml), o.0 ∙ sym v.0)
+        (sym (turn_is (group_of l j) t (across j jl)) ∙ ap (λ z. z / G) turns ∙ turn_is (group_of l m) u (across m ml), o.0 ∙ sym v.0)
 
     all : (a i : ℕ) → i < length (row wanted a) → (t q : ℕ) × (t < loop_turns l b.turns (group_of l (owner a i))) × (q < n) × mine t q (owner a i) (output_cell a i) × (p.value (group_of l (owner a i)) t (output_cell a i) ≡ slice_index (row wanted a) i)
     all a i lt = let o = h.out.all a i lt in from o.0 o.1 o.2 o.3
@@ -413,13 +421,13 @@ module _ {A : Type 0} (num : A → ℕ) (k : Kernel) (l : Launch) (c : Cells) (o
         from cs (m ∷ r) x e =
             let s = stage h.last in
             let j : ℕ = owner a i in
-            let jl : j < l.global = h.out.owners_within a i in
+            let jl : j < item_count l = h.out.owners_within a i in
             let pos = groups_positive j jl in
             let u = s.path r in
-            let rl : first_index u % l.local < l.local = mod-lt (first_index u) h.whole.positive in
-            let j_is : j ≡ (m % G) * l.local + first_index u % l.local = h.out.owned cs m r a i x e in
-            let g : group_of l j ≡ m % G = ap (group_of l) j_is ∙ group_is (m % G) (first_index u % l.local) rl in
-            let at : j % l.local ≡ first_index u % l.local = ap (λ z. z % l.local) j_is ∙ local_is (m % G) (first_index u % l.local) rl in
+            let rl : first_index u % l.local.0 < l.local.0 = mod-lt (first_index u) h.whole.x.positive in
+            let j_is : j ≡ (m % G) * l.local.0 + first_index u % l.local.0 = h.out.owned cs m r a i x e in
+            let g : group_of l j ≡ m % G = ap (group_of l) j_is ∙ group_is (m % G) (first_index u % l.local.0) rl in
+            let at : j % l.local.0 ≡ first_index u % l.local.0 = ap (λ z. z % l.local.0) j_is ∙ local_is (m % G) (first_index u % l.local.0) rl in
             let t = m / G in
             let te : turn_of l t j ≡ m = ap (λ z. z + t * G) g ∙ sym (owner_turn G m pos) in
             let v = (h.stages h.last last_below).covers cs r (subst (λ z. IsPosition (destination_type b.result z) cs r) (sym h.gives) x.1) in
@@ -430,6 +438,7 @@ module _ {A : Type 0} (num : A → ℕ) (k : Kernel) (l : Launch) (c : Cells) (o
     phased = record {
       room = record {
         whole = h.whole;
+        flat = h.flat;
         some = let e = h.last_is in omega arith;
         turns = h.turns;
         rows = λ q ql. (h.stages q ql).short;

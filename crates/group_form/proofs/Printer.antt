@@ -43,31 +43,31 @@ past_fence (Fenced a b) rest = refl
 
 module _ (l : Launch) {A : Type 0} (num : A → ℕ) (spell : A → Formula) (spelled : (n : A) → num n < 2 ^ 31 → IsSpelled l (spell n) (num n)) (src : ℕ → Ty) (ins : ℕ → Marks) (sins : ℕ → View) (fence : ℕ → Fencing) where
   -- what is held of a copied argument at a turn
-  kept : (t : Term A) (g : ℕ → Ty) (env : (turn var : ℕ) → Marks) (h : ℕ → List Bool → Bool) (k i : ℕ) (ty : Ty) (cs : List Bool) → StandsInGroup false t → HasType num src g t ty → IsPosition ty cs [] → held_scalars h t cs ≡ true → HeldIn l g (env i) h → (e : Formula) × (held (marks_of num ins env k t i cs []) ≡ Some e)
-  kept (Bound v) g env h k i ty cs f ok w z r = r v cs (subst (λ y. IsPosition y cs []) ok w) z
-  kept (Source v) g env h k i ty cs f ok w z r = absurd (cc)
-  kept (Both true x y) g env h k i ty cs f ok w z r = absurd (subst (λ y. IsPosition y cs []) ok.3 w)
-  kept (Project false x) g env h k i ty cs f ok w z r = kept x g env h k i (PairOf ty ok.0) (false ∷ cs) f ok.1 w z r
-  kept (Project true x) g env h k i ty cs f ok w z r = kept x g env h k i (PairOf ok.0 ty) (true ∷ cs) f ok.1 w z r
-  kept (Reshape y x) g env h k i ty cs f ok w z r = absurd (cc)
-  kept (LetArray v b) g env h k i ty cs f ok w z r =
-      kept b (push ok.0 g) (λ j. push (marks_of num ins env k v j) (env j)) (push (held_scalars h v) h) (k + local_count v) i ty cs f.1 ok.2 w z
-      (held_push l ok.0 (marks_of num ins env k v i) (held_scalars h v) g (env i) h (λ cs w z. kept v g env h k i ok.0 cs f.0 ok.1 w z r) r)
-  kept (Copy LocalMemory ty2 x) g env h k i ty cs f ok w z r = absurd (cc)
-  kept _ g env h k i ty cs f ok w z r = absurd (assumption)
+  kept : (item : ℕ) (t : Term A) (g : ℕ → Ty) (env : (turn var : ℕ) → Marks) (h : ℕ → List Bool → Bool) (k i : ℕ) (ty : Ty) (cs : List Bool) → StandsInGroup false t → HasType num src g t ty → IsPosition ty cs [] → held_scalars h t cs ≡ true → HeldIn l item g (env i) h → (e : Formula) × (held (marks_of num ins env k t i cs []) ≡ Some e)
+  kept item (Bound v) g env h k i ty cs f ok w z r = r v cs (subst (λ y. IsPosition y cs []) ok w) z
+  kept item (Source v) g env h k i ty cs f ok w z r = absurd (cc)
+  kept item (Both true x y) g env h k i ty cs f ok w z r = absurd (subst (λ y. IsPosition y cs []) ok.3 w)
+  kept item (Project false x) g env h k i ty cs f ok w z r = kept item x g env h k i (PairOf ty ok.0) (false ∷ cs) f ok.1 w z r
+  kept item (Project true x) g env h k i ty cs f ok w z r = kept item x g env h k i (PairOf ok.0 ty) (true ∷ cs) f ok.1 w z r
+  kept item (Reshape y x) g env h k i ty cs f ok w z r = absurd (cc)
+  kept item (LetArray v b) g env h k i ty cs f ok w z r =
+      kept item b (push ok.0 g) (λ j. push (marks_of num ins env k v j) (env j)) (push (held_scalars h v) h) (k + local_count v) i ty cs f.1 ok.2 w z
+      (held_push l item ok.0 (marks_of num ins env k v i) (held_scalars h v) g (env i) h (λ cs w z. kept item v g env h k i ok.0 cs f.0 ok.1 w z r) r)
+  kept item (Copy LocalMemory ty2 x) g env h k i ty cs f ok w z r = absurd (cc)
+  kept item _ g env h k i ty cs f ok w z r = absurd (assumption)
 
   module _ (turns : ℕ) where
     abbrev Showing : Ty → View → (ℕ → Marks) → Type 0
-    Showing ty x y = (i : ℕ) → i < turns → Shows l (i ∷ []) ty x (y i)
+    Showing ty x y = (item i : ℕ) → i < turns → Shows l item (i ∷ []) ty x (y i)
 
     abbrev AllShowing : (ℕ → Ty) → (ℕ → View) → ((turn var : ℕ) → Marks) → Type 0
-    AllShowing g views env = (i : ℕ) → i < turns → AllShow l (i ∷ []) g views (env i)
+    AllShowing g views env = (item i : ℕ) → i < turns → AllShow l item (i ∷ []) g views (env i)
 
     abbrev AllHolding : (ℕ → Ty) → ((turn var : ℕ) → Marks) → (ℕ → List Bool → Bool) → Type 0
-    AllHolding g env h = (i : ℕ) → i < turns → HeldIn l g (env i) h
+    AllHolding g env h = (item i : ℕ) → i < turns → HeldIn l item g (env i) h
 
     abbrev Inputs : Type 0
-    Inputs = (i : ℕ) → AllShow l (i ∷ []) src sins ins
+    Inputs = (item i : ℕ) → AllShow l item (i ∷ []) src sins ins
 
     abbrev Printed : ((turn var : ℕ) → Marks) → (ℕ → View) → Used → Term A → (rest : Code) → Type 0
     Printed env views u t rest = IsGroupArgument num l ins fence turns env u t (print_group_argument spell sins fence views u t rest) rest
@@ -75,38 +75,38 @@ module _ (l : Launch) {A : Type 0} (num : A → ℕ) (spell : A → Formula) (sp
     mutual
       argument_is : (t : Term A) (g : ℕ → Ty) (views : ℕ → View) (env : (turn var : ℕ) → Marks) (h : ℕ → List Bool → Bool) (u : Used) (ty : Ty) (rest : Code) → HasType num src g t ty → LoadsSuffice h t → StandsInGroup false t → AllShowing g views env → Inputs → AllHolding g env h
           → Printed env views u t rest × Showing ty (group_view spell sins fence views u.locals t) (marks_of num ins env u.locals t)
-      argument_is (Bound v) g views env h u ty rest ok nm sd es gs r = (refl, λ i il. subst (λ z. Shows l (i ∷ []) z (views v) (env i v)) (sym ok) (es i il v))
-      argument_is (Source v) g views env h u ty rest ok nm sd es gs r = (refl, λ i il. subst (λ z. Shows l (i ∷ []) z (sins v) (ins v)) (sym ok) (gs i v))
+      argument_is (Bound v) g views env h u ty rest ok nm sd es gs r = (refl, λ item i il. subst (λ z. Shows l item (i ∷ []) z (views v) (env i v)) (sym ok) (es item i il v))
+      argument_is (Source v) g views env h u ty rest ok nm sd es gs r = (refl, λ item i il. subst (λ z. Shows l item (i ∷ []) z (sins v) (ins v)) (sym ok) (gs item i v))
       argument_is (Both true x y) g views env h u ty rest ok nm sd es gs r =
           let next = print_group_argument spell sins fence views (used_after u x) y rest in
           let p = argument_is x g views env h u (ArrayOf ok.0 ok.1) next ok.4 nm.0 sd.0 es gs r in
           let q = argument_is y g views env h (used_after u x) (ArrayOf ok.0 ok.2) rest ok.5 nm.1 sd.1 es gs r in
-          ((next, p.0, q.0), λ i il. subst (λ z. Shows l (i ∷ []) z (group_view spell sins fence views u.locals (Both true x y)) (marks_of num ins env u.locals (Both true x y) i)) (sym ok.3) (zip_cells l num spell spelled (i ∷ []) ok.0 ok.1 ok.2 _ _ _ _ (p.1 i il) (q.1 i il)))
-      argument_is (Project false x) g views env h u ty rest ok nm sd es gs r = let p = argument_is x g views env h u (PairOf ty ok.0) rest ok.1 nm sd es gs r in (p.0, λ i il. (p.1 i il).0)
-      argument_is (Project true x) g views env h u ty rest ok nm sd es gs r = let p = argument_is x g views env h u (PairOf ok.0 ty) rest ok.1 nm sd es gs r in (p.0, λ i il. (p.1 i il).1)
+          ((next, p.0, q.0), λ item i il. subst (λ z. Shows l item (i ∷ []) z (group_view spell sins fence views u.locals (Both true x y)) (marks_of num ins env u.locals (Both true x y) i)) (sym ok.3) (zip_cells l item num spell spelled (i ∷ []) ok.0 ok.1 ok.2 _ _ _ _ (p.1 item i il) (q.1 item i il)))
+      argument_is (Project false x) g views env h u ty rest ok nm sd es gs r = let p = argument_is x g views env h u (PairOf ty ok.0) rest ok.1 nm sd es gs r in (p.0, λ item i il. (p.1 item i il).0)
+      argument_is (Project true x) g views env h u ty rest ok nm sd es gs r = let p = argument_is x g views env h u (PairOf ok.0 ty) rest ok.1 nm sd es gs r in (p.0, λ item i il. (p.1 item i il).1)
       argument_is (Reshape y x) g views env h u ty rest ok nm sd es gs r =
           let p = argument_is x g views env h u ok.0 rest ok.1 nm sd es gs r in
-          (p.0, λ i il. moved_shows l num spell spelled (i ∷ []) y ok.0 ty (group_view spell sins fence views u.locals x) (marks_of num ins env u.locals x i) ok.5 ok.2 ok.3 ok.4 (p.1 i il))
+          (p.0, λ item i il. moved_shows l item num spell spelled (i ∷ []) y ok.0 ty (group_view spell sins fence views u.locals x) (marks_of num ins env u.locals x i) ok.5 ok.2 ok.3 ok.4 (p.1 item i il))
       argument_is (LetArray v b) g views env h u ty rest ok nm sd es gs r =
           let x = group_view spell sins fence views u.locals v in
           let y = marks_of num ins env u.locals v in
           let next = print_group_argument spell sins fence (push x views) (used_after u v) b rest in
           let p = argument_is v g views env h u ok.0 next ok.1 nm.0 sd.0 es gs r in
-          let q = argument_is b (push ok.0 g) (push x views) (λ i. push (y i) (env i)) (push (held_scalars h v) h) (used_after u v) ty rest ok.2 nm.1 sd.1 (λ i il. all_push l (i ∷ []) ok.0 x (y i) g views (env i) (p.1 i il) (es i il)) gs
-          (λ i il. held_push l ok.0 (y i) (held_scalars h v) g (env i) h (λ cs w z. kept v g env h u.locals i ok.0 cs sd.0 ok.1 w z (r i il)) (r i il)) in
+          let q = argument_is b (push ok.0 g) (push x views) (λ i. push (y i) (env i)) (push (held_scalars h v) h) (used_after u v) ty rest ok.2 nm.1 sd.1 (λ item i il. all_push l item (i ∷ []) ok.0 x (y i) g views (env i) (p.1 item i il) (es item i il)) gs
+          (λ item i il. held_push l item ok.0 (y i) (held_scalars h v) g (env i) h (λ cs w z. kept item v g env h u.locals i ok.0 cs sd.0 ok.1 w z (r item i il)) (r item i il)) in
           ((next, p.0, q.0), q.1)
       argument_is (Copy LocalMemory t2 x) g views env h u ty rest ok nm sd es gs r =
           let first = u.locals + local_count x in
-          let c = λ (i : ℕ). laid_cells l num spell spelled (i ∷ []) LocalArray first t2 ok.1 nm.1 nm.0 in (
-            group_written_is x g views env h u t2 (laid_view LocalArray first t2) (λ i. laid_in LocalArray first t2) rest (subst (HasType num src g x) ok.0 ok.2) nm.2 sd es gs r (λ i il. c i),
-            λ i il. subst (λ z. Shows l (i ∷ []) z (laid_view LocalArray first t2) (laid_in LocalArray first t2)) (sym ok.0) (cells_show l (i ∷ []) t2 _ _ (c i)),
+          let c = λ (item i : ℕ). laid_cells l item num spell spelled (i ∷ []) LocalArray first t2 ok.1 nm.1 nm.0 in (
+            group_written_is x g views env h u t2 (laid_view LocalArray first t2) (λ i. laid_in LocalArray first t2) rest (subst (HasType num src g x) ok.0 ok.2) nm.2 sd es gs r (λ item i il. c item i),
+            λ item i il. subst (λ z. Shows l item (i ∷ []) z (laid_view LocalArray first t2) (laid_in LocalArray first t2)) (sym ok.0) (cells_show l item (i ∷ []) t2 _ _ (c item i)),
           )
       argument_is _ g views env h u ty rest ok nm sd es gs r = absurd (assumption)
 
-      group_written_is : (t : Term A) (g : ℕ → Ty) (views : ℕ → View) (env : (turn var : ℕ) → Marks) (h : ℕ → List Bool → Bool) (u : Used) (ty : Ty) (v : View) (w : ℕ → Marks) (rest : Code) → HasType num src g t ty → LoadsSuffice h t → StandsInGroup true t → AllShowing g views env → Inputs → AllHolding g env h → ((i : ℕ) → i < turns → HasCells l (i ∷ []) ty v (w i))
+      group_written_is : (t : Term A) (g : ℕ → Ty) (views : ℕ → View) (env : (turn var : ℕ) → Marks) (h : ℕ → List Bool → Bool) (u : Used) (ty : Ty) (v : View) (w : ℕ → Marks) (rest : Code) → HasType num src g t ty → LoadsSuffice h t → StandsInGroup true t → AllShowing g views env → Inputs → AllHolding g env h → ((item i : ℕ) → i < turns → HasCells l item (i ∷ []) ty v (w i))
           → IsGroupWritten num l ins fence turns env u t w (print_group_written spell sins fence views u t v rest) rest
       group_written_is (Reshape y t) g views env h u ty v w rest ok nm sd es gs r cells =
-          (sd.0, group_written_is t g views env h u ok.0 (λ cs is. v cs (result_indices spell y is)) (λ i cs q. w i cs (result_position num y q)) rest ok.1 nm sd.1 es gs r (λ i il. back_cells l num spell spelled (i ∷ []) y ok.0 ty v (w i) sd.0 ok.2 ok.3 ok.4 (cells i il)))
+          (sd.0, group_written_is t g views env h u ok.0 (λ cs is. v cs (result_indices spell y is)) (λ i cs q. w i cs (result_position num y q)) rest ok.1 nm sd.1 es gs r (λ item i il. back_cells l item num spell spelled (i ∷ []) y ok.0 ty v (w i) sd.0 ok.2 ok.3 ok.4 (cells item i il)))
       group_written_is (LetArray s b) g views env h u ty v w rest ok nm sd es gs r cells =
           let x = group_view spell sins fence views u.locals s in
           let y = marks_of num ins env u.locals s in
@@ -114,8 +114,8 @@ module _ (l : Launch) {A : Type 0} (num : A → ℕ) (spell : A → Formula) (sp
           let p = argument_is s g views env h u ok.0 next ok.1 nm.0 sd.0 es gs r in (
             next,
             p.0,
-            group_written_is b (push ok.0 g) (push x views) (λ i. push (y i) (env i)) (push (held_scalars h s) h) (used_after u s) ty v w rest ok.2 nm.1 sd.1 (λ i il. all_push l (i ∷ []) ok.0 x (y i) g views (env i) (p.1 i il) (es i il)) gs
-                (λ i il. held_push l ok.0 (y i) (held_scalars h s) g (env i) h (λ cs q z. kept s g env h u.locals i ok.0 cs sd.0 ok.1 q z (r i il)) (r i il)) cells,
+            group_written_is b (push ok.0 g) (push x views) (λ i. push (y i) (env i)) (push (held_scalars h s) h) (used_after u s) ty v w rest ok.2 nm.1 sd.1 (λ item i il. all_push l item (i ∷ []) ok.0 x (y i) g views (env i) (p.1 item i il) (es item i il)) gs
+                (λ item i il. held_push l item ok.0 (y i) (held_scalars h s) g (env i) h (λ cs q z. kept item s g env h u.locals i ok.0 cs sd.0 ok.1 q z (r item i il)) (r item i il)) cells,
           )
       group_written_is (Map Local z0 loads xs b) g views env h u ty v w rest ok nm sd es gs r cells =
           let len = num z0 in
@@ -132,22 +132,22 @@ module _ (l : Launch) {A : Type 0} (num : A → ℕ) (spell : A → Formula) (sp
             loop,
             p.0,
             past_fence (fence (u.phases + phases_in xs)) loop,
-            λ i il. (
+            λ item i here il own. (
               spell z0,
               print_loaded loads (view_at (LoopVariable 1) e) n1 inner,
               refl,
               (spelled z0 ok.2).0,
-              λ j jl.
+              λ j jl mine.
                   let ts = i ∷ j ∷ [] in
                   let y = loaded_marks loads (at_index j (f i)) n1 in
-                  let c = turned_cells l (i ∷ []) 1 j len ok.0 e (f i) refl jl ok.2 (p.1 i il) in
-                  let es2 = all_push l ts ok.0 x y g views (env i) (loaded_shows l ins ts loads ok.0 (view_at (LoopVariable 1) e) (at_index j (f i)) n1 ok.3 c) (all_within l (i ∷ []) j g views (env i) (es i il)) in
-                  let r2 = held_push l ok.0 y (covers loads) g (env i) h (λ cs z q. loaded_held l loads (at_index j (f i)) n1 cs q) (r i il) in
-                  let cells2 = subst (λ z. HasCells l (i ∷ []) z v (w i)) ok.6 (cells i il) in (
+                  let c = turned_cells l item (i ∷ []) 1 j len ok.0 e (f i) refl jl ok.2 (p.1 item i il) in
+                  let es2 = all_push l item ts ok.0 x y g views (env i) (loaded_shows l item ins ts loads ok.0 (view_at (LoopVariable 1) e) (at_index j (f i)) n1 ok.3 c) (all_within l item (i ∷ []) j g views (env i) (es item i il)) in
+                  let r2 = held_push l item ok.0 y (covers loads) g (env i) h (λ cs z q. loaded_held l item loads (at_index j (f i)) n1 cs q) (r item i il) in
+                  let cells2 = subst (λ z. HasCells l item (i ∷ []) z v (w i)) ok.6 (cells item i il) in (
                     inner,
-                    loaded_is l ins ts loads ok.0 (view_at (LoopVariable 1) e) (at_index j (f i)) n1 inner ok.3 c,
-                    written_is l num spell spelled src ins sins b ts 2 (push ok.0 g) (push x views) (push y (env i)) (push (covers loads) h) u2.privates (n1 + load_count loads) ok.1 (view_at (LoopVariable 1) v) (at_index j (w i)) End refl ok.5 nm.1 sd.1 es2 (all_within l (i ∷ []) j src sins ins (gs i)) r2
-                        (turned_cells l (i ∷ []) 1 j len ok.1 v (w i) refl jl ok.2 cells2),
+                    loaded_is l item ins ts loads ok.0 (view_at (LoopVariable 1) e) (at_index j (f i)) n1 inner ok.3 c,
+                    written_is l item num spell spelled src ins sins b ts 2 (push ok.0 g) (push x views) (push y (env i)) (push (covers loads) h) u2.privates (n1 + load_count loads) ok.1 (view_at (LoopVariable 1) v) (at_index j (w i)) End refl ok.5 nm.1 sd.1 es2 (all_within l item (i ∷ []) j src sins ins (gs item i)) r2
+                        (turned_cells l item (i ∷ []) 1 j len ok.1 v (w i) refl jl ok.2 cells2),
                   ),
             ),
           )
@@ -155,43 +155,43 @@ module _ (l : Launch) {A : Type 0} (num : A → ℕ) (spell : A → Formula) (sp
 
   -- an argument of inputs
 
-  held_input : (t : Term A) (g : ℕ → Ty) (env : ℕ → Marks) (h : ℕ → List Bool → Bool) (a : ℕ) (ty : Ty) (cs : List Bool) → IsOfInputs t → HasType num src g t ty → IsPosition ty cs [] → held_scalars h t cs ≡ true → HeldIn l g env h → (e : Formula) × (held (argument_marks l ins num env a t cs []) ≡ Some e)
-  held_input (Bound v) g env h a ty cs f ok w z r = r v cs (subst (λ y. IsPosition y cs []) ok w) z
-  held_input (Source v) g env h a ty cs f ok w z r = absurd (cc)
-  held_input (Both true x y) g env h a ty cs f ok w z r = absurd (subst (λ y. IsPosition y cs []) ok.3 w)
-  held_input (Project false x) g env h a ty cs f ok w z r = held_input x g env h a (PairOf ty ok.0) (false ∷ cs) f ok.1 w z r
-  held_input (Project true x) g env h a ty cs f ok w z r = held_input x g env h a (PairOf ok.0 ty) (true ∷ cs) f ok.1 w z r
-  held_input (Reshape y x) g env h a ty cs f ok w z r = absurd (cc)
-  held_input (LetArray v b) g env h a ty cs f ok w z r =
-      held_input b (push ok.0 g) (push (argument_marks l ins num env a v) env) (push (held_scalars h v) h) (a + private_count v) ty cs f.1 ok.2 w z
-      (held_push l ok.0 (argument_marks l ins num env a v) (held_scalars h v) g env h (λ cs w z. held_input v g env h a ok.0 cs f.0 ok.1 w z r) r)
-  held_input _ g env h a ty cs f ok w z r = absurd (assumption)
+  held_input : (item : ℕ) (t : Term A) (g : ℕ → Ty) (env : ℕ → Marks) (h : ℕ → List Bool → Bool) (a : ℕ) (ty : Ty) (cs : List Bool) → IsOfInputs t → HasType num src g t ty → IsPosition ty cs [] → held_scalars h t cs ≡ true → HeldIn l item g env h → (e : Formula) × (held (argument_marks l ins num env a t cs []) ≡ Some e)
+  held_input item (Bound v) g env h a ty cs f ok w z r = r v cs (subst (λ y. IsPosition y cs []) ok w) z
+  held_input item (Source v) g env h a ty cs f ok w z r = absurd (cc)
+  held_input item (Both true x y) g env h a ty cs f ok w z r = absurd (subst (λ y. IsPosition y cs []) ok.3 w)
+  held_input item (Project false x) g env h a ty cs f ok w z r = held_input item x g env h a (PairOf ty ok.0) (false ∷ cs) f ok.1 w z r
+  held_input item (Project true x) g env h a ty cs f ok w z r = held_input item x g env h a (PairOf ok.0 ty) (true ∷ cs) f ok.1 w z r
+  held_input item (Reshape y x) g env h a ty cs f ok w z r = absurd (cc)
+  held_input item (LetArray v b) g env h a ty cs f ok w z r =
+      held_input item b (push ok.0 g) (push (argument_marks l ins num env a v) env) (push (held_scalars h v) h) (a + private_count v) ty cs f.1 ok.2 w z
+      (held_push l item ok.0 (argument_marks l ins num env a v) (held_scalars h v) g env h (λ cs w z. held_input item v g env h a ok.0 cs f.0 ok.1 w z r) r)
+  held_input item _ g env h a ty cs f ok w z r = absurd (assumption)
 
-  input_shows : (t : Term A) (g : ℕ → Ty) (views : ℕ → View) (env : ℕ → Marks) (a : ℕ) (ty : Ty) → IsOfInputs t → HasType num src g t ty → AllShow l [] g views env → AllShow l [] src sins ins → Shows l [] ty (argument_view spell sins views a t) (argument_marks l ins num env a t)
-  input_shows (Bound v) g views env a ty f ok es gs = subst (λ z. Shows l [] z (views v) (env v)) (sym ok) (es v)
-  input_shows (Source v) g views env a ty f ok es gs = subst (λ z. Shows l [] z (sins v) (ins v)) (sym ok) (gs v)
-  input_shows (Both true x y) g views env a ty f ok es gs =
-      subst (λ z. Shows l [] z (argument_view spell sins views a (Both true x y)) (argument_marks l ins num env a (Both true x y))) (sym ok.3)
-      (zip_cells l num spell spelled [] ok.0 ok.1 ok.2 _ _ _ _ (input_shows x g views env a (ArrayOf ok.0 ok.1) f.0 ok.4 es gs) (input_shows y g views env (a + private_count x) (ArrayOf ok.0 ok.2) f.1 ok.5 es gs))
-  input_shows (Project false x) g views env a ty f ok es gs = (input_shows x g views env a (PairOf ty ok.0) f ok.1 es gs).0
-  input_shows (Project true x) g views env a ty f ok es gs = (input_shows x g views env a (PairOf ok.0 ty) f ok.1 es gs).1
-  input_shows (Reshape y x) g views env a ty f ok es gs = moved_shows l num spell spelled [] y ok.0 ty (argument_view spell sins views a x) (argument_marks l ins num env a x) ok.5 ok.2 ok.3 ok.4 (input_shows x g views env a ok.0 f ok.1 es gs)
-  input_shows (LetArray v b) g views env a ty f ok es gs =
+  input_shows : (item : ℕ) (t : Term A) (g : ℕ → Ty) (views : ℕ → View) (env : ℕ → Marks) (a : ℕ) (ty : Ty) → IsOfInputs t → HasType num src g t ty → AllShow l item [] g views env → AllShow l item [] src sins ins → Shows l item [] ty (argument_view spell sins views a t) (argument_marks l ins num env a t)
+  input_shows item (Bound v) g views env a ty f ok es gs = subst (λ z. Shows l item [] z (views v) (env v)) (sym ok) (es v)
+  input_shows item (Source v) g views env a ty f ok es gs = subst (λ z. Shows l item [] z (sins v) (ins v)) (sym ok) (gs v)
+  input_shows item (Both true x y) g views env a ty f ok es gs =
+      subst (λ z. Shows l item [] z (argument_view spell sins views a (Both true x y)) (argument_marks l ins num env a (Both true x y))) (sym ok.3)
+      (zip_cells l item num spell spelled [] ok.0 ok.1 ok.2 _ _ _ _ (input_shows item x g views env a (ArrayOf ok.0 ok.1) f.0 ok.4 es gs) (input_shows item y g views env (a + private_count x) (ArrayOf ok.0 ok.2) f.1 ok.5 es gs))
+  input_shows item (Project false x) g views env a ty f ok es gs = (input_shows item x g views env a (PairOf ty ok.0) f ok.1 es gs).0
+  input_shows item (Project true x) g views env a ty f ok es gs = (input_shows item x g views env a (PairOf ok.0 ty) f ok.1 es gs).1
+  input_shows item (Reshape y x) g views env a ty f ok es gs = moved_shows l item num spell spelled [] y ok.0 ty (argument_view spell sins views a x) (argument_marks l ins num env a x) ok.5 ok.2 ok.3 ok.4 (input_shows item x g views env a ok.0 f ok.1 es gs)
+  input_shows item (LetArray v b) g views env a ty f ok es gs =
       let x = argument_view spell sins views a v in
       let y = argument_marks l ins num env a v in
-      input_shows b (push ok.0 g) (push x views) (push y env) (a + private_count v) ty f.1 ok.2 (all_push l [] ok.0 x y g views env (input_shows v g views env a ok.0 f.0 ok.1 es gs) es) gs
-  input_shows _ g views env a ty f ok es gs = absurd (assumption)
+      input_shows item b (push ok.0 g) (push x views) (push y env) (a + private_count v) ty f.1 ok.2 (all_push l item [] ok.0 x y g views env (input_shows item v g views env a ok.0 f.0 ok.1 es gs) es) gs
+  input_shows item _ g views env a ty f ok es gs = absurd (assumption)
 
   -- the whole term
-  pub over_groups_is : (t : Term A) (g : ℕ → Ty) (views : ℕ → View) (env : ℕ → Marks) (h : ℕ → List Bool → Bool) (ty : Ty) (v : View) (w : Marks) → HasType num src g t ty → LoadsSuffice h t → StandsOverGroups t → AllShow l [] g views env → AllShow l [] src sins ins → HeldIn l g env h → HasCells l [] ty v w
+  pub over_groups_is : (t : Term A) (g : ℕ → Ty) (views : ℕ → View) (env : ℕ → Marks) (h : ℕ → List Bool → Bool) (ty : Ty) (v : View) (w : Marks) → HasType num src g t ty → LoadsSuffice h t → StandsOverGroups t → ((item : ℕ) → AllShow l item [] g views env) → ((item : ℕ) → AllShow l item [] src sins ins) → ((item : ℕ) → HeldIn l item g env h) → ((item : ℕ) → HasCells l item [] ty v w)
       → IsOverGroups num l ins fence env t w (print_groups spell sins fence views t v)
   over_groups_is (Reshape y t) g views env h ty v w ok nm sd es gs r cells =
-      (sd.0, over_groups_is t g views env h ok.0 (λ cs is. v cs (result_indices spell y is)) (λ cs q. w cs (result_position num y q)) ok.1 nm sd.1 es gs r (back_cells l num spell spelled [] y ok.0 ty v w sd.0 ok.2 ok.3 ok.4 cells))
+      (sd.0, over_groups_is t g views env h ok.0 (λ cs is. v cs (result_indices spell y is)) (λ cs q. w cs (result_position num y q)) ok.1 nm sd.1 es gs r (λ item. back_cells l item num spell spelled [] y ok.0 ty v w sd.0 ok.2 ok.3 ok.4 (cells item)))
   over_groups_is (LetArray s b) g views env h ty v w ok nm sd es gs r cells =
       let x = argument_view spell sins views 0 s in
       let y = argument_marks l ins num env 0 s in
-      over_groups_is b (push ok.0 g) (push x views) (push y env) (push (held_scalars h s) h) ty v w ok.2 nm.1 sd.1 (all_push l [] ok.0 x y g views env (input_shows s g views env 0 ok.0 sd.0 ok.1 es gs) es) gs
-      (held_push l ok.0 y (held_scalars h s) g env h (λ cs q z. held_input s g env h 0 ok.0 cs sd.0 ok.1 q z r) r) cells
+      over_groups_is b (push ok.0 g) (push x views) (push y env) (push (held_scalars h s) h) ty v w ok.2 nm.1 sd.1 (λ item. all_push l item [] ok.0 x y g views env (input_shows item s g views env 0 ok.0 sd.0 ok.1 (es item) (gs item)) (es item)) gs
+      (λ item. held_push l item ok.0 y (held_scalars h s) g env h (λ cs q z. held_input item s g env h 0 ok.0 cs sd.0 ok.1 q z (r item)) (r item)) cells
   over_groups_is (Map WorkGroup z0 loads xs b) g views env h ty v w ok nm sd es gs r cells =
       let len = num z0 in
       let e = argument_view spell sins views 0 xs in
@@ -201,9 +201,9 @@ module _ (l : Launch) {A : Type 0} (num : A → ℕ) (spell : A → Formula) (sp
       let u : Used = record { locals = 0; privates = 0; variables = load_count loads; phases = 0 } in
       let last = print_fence (fence (phases_in b)) End in
       let first = print_group_written spell sins fence (push x views) u b (view_at (LoopVariable 0) v) last in
-      let shows = input_shows xs g views env 0 (ArrayOf len ok.0) sd.0 ok.4 es gs in
-      let cells2 = subst (λ z. HasCells l [] z v w) ok.6 cells in
-      let c = λ (i : ℕ) (il : i < len). turned_cells l [] 0 i len ok.0 e f refl il ok.2 shows in (
+      let shows = λ (item : ℕ). input_shows item xs g views env 0 (ArrayOf len ok.0) sd.0 ok.4 (es item) (gs item) in
+      let cells2 = λ (item : ℕ). subst (λ z. HasCells l item [] z v w) ok.6 (cells item) in
+      let c = λ (item i : ℕ) (il : i < len). turned_cells l item [] 0 i len ok.0 e f refl il ok.2 (shows item) in (
         spell z0,
         print_loaded loads el 0 first,
         refl,
@@ -211,28 +211,28 @@ module _ (l : Launch) {A : Type 0} (num : A → ℕ) (spell : A → Formula) (sp
         (
           first,
           last,
-          λ i il. loaded_is l ins (i ∷ []) loads ok.0 el (at_index i f) 0 first ok.3 (c i il),
+          λ item i here il own. loaded_is l item ins (i ∷ []) loads ok.0 el (at_index i f) 0 first ok.3 (c item i il),
           group_written_is len b (push ok.0 g) (push x views) (λ i. push (loaded_marks loads (at_index i f) 0) env) (push (covers loads) h) u ok.1 (view_at (LoopVariable 0) v) (λ i. at_index i w) last ok.5 nm.1 sd.1
-              (λ i il. all_push l (i ∷ []) ok.0 x (loaded_marks loads (at_index i f) 0) g views env (loaded_shows l ins (i ∷ []) loads ok.0 el (at_index i f) 0 ok.3 (c i il)) (all_within l [] i g views env es))
-              (λ i. all_within l [] i src sins ins gs)
-              (λ i il. held_push l ok.0 (loaded_marks loads (at_index i f) 0) (covers loads) g env h (λ cs z q. loaded_held l loads (at_index i f) 0 cs q) r)
-              (λ i il. turned_cells l [] 0 i len ok.1 v w refl il ok.2 cells2),
+              (λ item i il. all_push l item (i ∷ []) ok.0 x (loaded_marks loads (at_index i f) 0) g views env (loaded_shows l item ins (i ∷ []) loads ok.0 el (at_index i f) 0 ok.3 (c item i il)) (all_within l item [] i g views env (es item)))
+              (λ item i. all_within l item [] i src sins ins (gs item))
+              (λ item i il. held_push l item ok.0 (loaded_marks loads (at_index i f) 0) (covers loads) g env h (λ cs z q. loaded_held l item loads (at_index i f) 0 cs q) (r item))
+              (λ item i il. turned_cells l item [] 0 i len ok.1 v w refl il ok.2 (cells2 item)),
           past_fence (fence (phases_in b)) End,
         ),
       )
   over_groups_is _ g views env h ty v w ok nm sd es gs r cells = absurd (assumption)
 
-nothing_shown : (l : Launch) → AllShow l [] no_type no_view no_marks
-nothing_shown l v us cs is [] w g = absurd w
-nothing_shown l v us cs is (i ∷ q) w g = let z = w.0 in absurd (omega arith)
+nothing_shown : (l : Launch) (item : ℕ) → AllShow l item [] no_type no_view no_marks
+nothing_shown l item v us cs is [] w g = absurd w
+nothing_shown l item v us cs is (i ∷ q) w g = let z = w.0 in absurd (omega arith)
 
-nothing_held : (l : Launch) → HeldIn l no_type no_marks (λ v. none)
-nothing_held l v cs w h = absurd w
+nothing_held : (l : Launch) (item : ℕ) → HeldIn l item no_type no_marks (λ v. none)
+nothing_held l item v cs w h = absurd w
 
 pub group_code_is : (A : Type 0) → GroupPrinterPrints A
 group_code_is A l num spell spelled first src fence t ty stands ok nm out inputs =
-    let shown = λ (v : ℕ). cells_show l [] (measured num (src v)) _ _ (let p = inputs v in placed_cells l num spell spelled [] Input (first v) (src v) p.flat p.short p.small) in
-    let place = placed_cells l num spell spelled [] Output 0 ty out.flat out.short out.small in
+    let shown = λ (item v : ℕ). cells_show l item [] (measured num (src v)) _ _ (let p = inputs v in placed_cells l item num spell spelled [] Input (first v) (src v) p.flat p.short p.small) in
+    let place = λ (item : ℕ). placed_cells l item num spell spelled [] Output 0 ty out.flat out.short out.small in
     over_groups_is l num spell spelled (λ v. measured num (src v)) (input_marks num first src) (input_views spell first src) fence t no_type no_view no_marks (λ v. none) (measured num ty) (placed_view spell Output 0 ty) (output_marks (measured num ty)) ok nm stands (nothing_shown l) shown (nothing_held l) place
 
 inputs_placed : (num : List Monomial → ℕ) (tys : List PlainTy) → Every (λ b. IsPlaced num (shape_of b)) tys → num [] ≡ 0 → (v : ℕ) → IsPlaced num (input_shape tys v)
@@ -252,6 +252,8 @@ group_programs_are_printed d is_task bases t a l spell fence program launch stag
       locals = refl;
       privates = refl;
       variables = refl;
+      vectors = refl;
+      local = refl;
       fence = fence;
       needed = needed;
       code =

@@ -1,6 +1,6 @@
 -- Kernels printed for a program's typed term that is a map over work-groups keep what they owe, at
 -- every admissible launch.
-use Rattle.std.proofs.Common.{ℕ, ◌<◌, Bool, List, [], length, refl, sym, ap, ◌∙◌, subst, arith}
+use Rattle.std.proofs.Common.{ℕ, ◌*◌, ◌<◌, ◌≤◌, ◌^◌, Bool, List, [], length, refl, sym, ap, ◌∙◌, subst, arith}
 use Rattle.std.specs.Prelude.{map}
 use Rattle.size_arith.specs.declared.poly.Monomial.{Monomial}
 use Rattle.lift_tree.specs.Tree.{Tree}
@@ -11,8 +11,10 @@ use Rattle.lift_tree.specs.Meaning.{World, meaning}
 use Rattle.lift_tree.specs.Launches as launches
 use Rattle.lift_tree.proofs.Members.{length-map}
 use Rattle.kernel_tree.specs.Code.{Kernel}
-use Rattle.kernel_tree.specs.Launch.{Launch, Cells}
+use Rattle.kernel_tree.specs.Grammar.{largest_group}
+use Rattle.kernel_tree.specs.Launch.{Launch, Cells, HasLocal}
 use Rattle.kernel_tree.specs.Device.{Cell}
+use Rattle.kernel_tree.proofs.Grouping.{flat_items}
 use Rattle.lift_ir.specs.Types.{Ty, measured, IsFlat}
 use Rattle.lift_ir.specs.Terms.{HasType, no_type}
 use Rattle.lift_ir.specs.Scalars.{Scalars, HasScalars, scalars_in, scalars_of, no_scalars, lists_of}
@@ -66,9 +68,10 @@ module _ (d : Declared) (is_task : Bool) (w : World) (t : Tree) (a : Annotation)
 
   is_printed : IsPrintedOverGroups l num src (input_marks num (first_buffer d.inputs) (input_shape d.inputs)) sources printed.fence low result k c
   is_printed = record {
-    whole = whole l is_task d.names w.bases launch.admissible;
-    some = let z = launch.admissible.global_least in omega arith;
-    few = let z = launch.admissible.global_most in omega arith;
+    whole = whole l is_task d.names w.bases launch.flat launch.admissible;
+    flat = launch.flat;
+    some = subst (λ n. 0 < n) (sym (flat_items l launch.flat)) (let z = launch.admissible.global_least in omega arith);
+    few = subst (λ n. n < 2 ^ 31) (sym (flat_items l launch.flat)) (let z = launch.admissible.global_most in omega arith);
     stands = program.stands;
     typed = has;
     flat_type = flat_type;
@@ -100,9 +103,10 @@ pub group_programs_start : PrintedGroupProgramsStart
 group_programs_start d is_task w t a l k c program ok launch buffers printed =
     let lowerable = program.lowerable in
     record {
-      whole = whole l is_task d.names w.bases launch.admissible;
-      small_groups = launch.admissible.local_most;
-      few_items = launch.admissible.global_most;
+      whole = whole l is_task d.names w.bases launch.flat launch.admissible;
+      small_groups = subst (λ n. l.local.0 * n ≤ largest_group) (sym launch.flat.one_local_row) (let z = launch.admissible.local_most in omega arith);
+      few_items = subst (λ n. n ≤ 65536) (sym (flat_items l launch.flat)) launch.admissible.global_most;
+      local = subst (λ size. HasLocal size l) (sym printed.local) tt;
       sizes = ap length launch.sizes ∙ sizes_count d.names w.bases launch.admissible.sizes ∙ sym printed.sizes;
       ins = ap length buffers.inputs ∙ buffers_count w.bases d.inputs w.inputs lowerable.declared.arrays ok.inputs ∙ sym printed.inputs;
       outs = sym (length-map length c.outs) ∙ ap length buffers.outputs ∙ length-map length (launches.lists_of (type_in a) (meaning w [] t)) ∙ lists_length w.bases (type_in a) (meaning w [] t) ∙ sym printed.outputs;

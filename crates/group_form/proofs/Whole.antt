@@ -3,8 +3,10 @@ use Rattle.std.proofs.Common.{◌≡◌, ℕ, zero, suc, ◌+◌, ◌*◌, ◌%�
 use Rattle.std.specs.Prelude.{map, replicate, slice_index}
 use Rattle.std.proofs.Math.Nat.{mod-eq_of_lt}
 use Rattle.kernel_tree.specs.Code.{Array, Output, Kernel, End}
-use Rattle.kernel_tree.specs.Launch.{Launch, Cells, IsWhole, group_count}
+use Rattle.kernel_tree.specs.Launch as launches
+use Rattle.kernel_tree.specs.Launch.{Launch, Cells, IsWhole, item_count, groups_across}
 use Rattle.kernel_tree.specs.Device.{Cell, length_in}
+use Rattle.kernel_tree.proofs.Grouping.{flat_items}
 use Rattle.barrier_placement.specs.Conflicts as placed
 use Rattle.barrier_placement.specs.Fencing.{Fencing, Open}
 use Rattle.barrier_placement.specs.Separates.{Separates}
@@ -57,7 +59,7 @@ loaded_or (Each a b) (PairOf t u) e n (false ∷ cs) p ok x = loaded_or a t (λ 
 loaded_or (Each a b) (PairOf t u) e n (true ∷ cs) p ok x = loaded_or b u (λ ds. e (true ∷ ds)) (n + load_count a) cs p ok.1 x
 
 -- the owner of a scalar of a group's turn
-owner_of_row : {A : Type 0} (num : A → ℕ) (l : Launch) (t : Term A) (p : List ℕ) → 0 < l.local → StandsInGroup true t → local_owner num l t p ≡ row_of num t p % l.local
+owner_of_row : {A : Type 0} (num : A → ℕ) (l : Launch) (t : Term A) (p : List ℕ) → 0 < l.local.0 → StandsInGroup true t → local_owner num l t p ≡ row_of num t p % l.local.0
 owner_of_row num l (Reshape y t) p some f = owner_of_row num l t (operand_position num y p) some f.1
 owner_of_row num l (LetArray v b) p some f = owner_of_row num l b p some f.1
 owner_of_row num l (Map Local n loads xs b) [] some f = sym (mod-eq_of_lt some)
@@ -89,8 +91,9 @@ module _ {A : Type 0} (num : A → ℕ) (k : Kernel) (l : Launch) (c : Cells) (l
   -- what is the same for all parts of the term
   pub record Common : Type 0 where
     pub launch : IsWhole l
-    pub some : 0 < l.global
-    pub few : l.global < 2 ^ 31
+    pub flat : launches.IsFlat l
+    pub some : 0 < item_count l
+    pub few : item_count l < 2 ^ 31
     pub inputs : (v : ℕ) → Given (src v) (ins v) (sources v)
     pub flat_type : IsFlat whole
     pub outputs : map length c.outs ≡ replicate (width whole) (size whole)
@@ -101,11 +104,14 @@ module _ {A : Type 0} (num : A → ℕ) (k : Kernel) (l : Launch) (c : Cells) (l
     abbrev AllGiven : (ℕ → Ty) → (ℕ → Marks) → (ℕ → Scalars) → Type 0
     AllGiven g env sems = (v : ℕ) → Given (g v) (env v) (sems v)
 
-    few_items : l.local ≤ 2 ^ 31
-    few_items = let a = local_below l.global l.local (group_count l) h.launch.divides h.some in let f = h.few in omega arith
+    few_across : l.global.0 < 2 ^ 31
+    few_across = subst (λ z. z < 2 ^ 31) (flat_items l h.flat) h.few
 
-    few_groups : group_count l ≤ 2 ^ 31
-    few_groups = let a = groups_below l.global l.local (group_count l) h.launch.divides h.launch.positive in let f = h.few in omega arith
+    few_items : l.local.0 ≤ 2 ^ 31
+    few_items = let a = local_below l.global.0 l.local.0 (groups_across l) h.launch.x.divides (subst (λ z. 0 < z) (flat_items l h.flat) h.some) in let f = few_across in omega arith
+
+    few_groups : groups_across l ≤ 2 ^ 31
+    few_groups = let a = groups_below l.global.0 l.local.0 (groups_across l) h.launch.x.divides h.launch.x.positive in let f = few_across in omega arith
 
     given_push : (g : ℕ → Ty) (env : ℕ → Marks) (sems : ℕ → Scalars) (u : Ty) (e : Marks) (s : Scalars) → Given u e s → AllGiven g env sems → AllGiven (push u g) (push e env) (push s sems)
     given_push g env sems u e s a b zero = a
@@ -177,15 +183,15 @@ module _ {A : Type 0} (num : A → ℕ) (k : Kernel) (l : Launch) (c : Cells) (l
       owned a m = owner num l term (path (unflat whole m))
 
       abbrev IsIts : ℕ → Stage A → Type 0
-      IsIts = sight.IsStage num long l.local few_items c body h.inputs
+      IsIts = sight.IsStage num long l.local.0 few_items c body h.inputs
 
       abbrev AllSeen : Type 0
-      AllSeen = EachStage IsIts 0 its_stages × sight.IsLast num long l.local few_items c body h.inputs (0 + length its_stages) scope b Outputs (λ p. p)
+      AllSeen = EachStage IsIts 0 its_stages × sight.IsLast num long l.local.0 few_items c body h.inputs (0 + length its_stages) scope b Outputs (λ p. p)
 
       not_locals : {P : Type 0} → (f : ℕ) (u : Ty) → Outputs ≡ Locals f u → P
       not_locals f u e = absurd (cc)
 
-      scoped : LoadsScalars loads x → AllGiven g env sems → ((i : ℕ) → i < num n → Given x (at_index i marks) (at_index i scalars)) → sight.Scoped num long l.local few_items c body h.inputs 0 scope
+      scoped : LoadsScalars loads x → AllGiven g env sems → ((i : ℕ) → i < num n → Given x (at_index i marks) (at_index i scalars)) → sight.Scoped num long l.local.0 few_items c body h.inputs 0 scope
       scoped ok given at zero i il cs p z =
           ⊎_elim
           (λ r. subst (λ m. SeenAt num c body (at_way Elsewhere cs) 0 i p m (at_index i scalars cs p)) (sym r.1) (cs, p, z, r.1, refl))
@@ -198,7 +204,7 @@ module _ {A : Type 0} (num : A → ℕ) (k : Kernel) (l : Launch) (c : Cells) (l
 
       all_seen : StandsInGroup true b → LoadsScalars loads x → AllGiven g env sems → ((i : ℕ) → i < num n → Given x (at_index i marks) (at_index i scalars)) → Declares long 0 b → DeclaresLocals long 0 b → AllSeen
       all_seen stands ok given at private local =
-          sight.works num long l.local few_items c body h.inputs b scope y typed 0 Outputs (λ p. p) (λ p. p) false stands (scoped ok given at) stand
+          sight.works num long l.local.0 few_items c body h.inputs b scope y typed 0 Outputs (λ p. p) (λ p. p) false stands (scoped ok given at) stand
           (record { inside = λ cs p z. z; returns = λ cs p z. refl; covers = λ cs p z. (z, refl); straight = λ a. absurd (true≢false (sym a)) })
           (λ f u e. not_locals f u e) (λ e. omega arith) private local (omega arith) (omega arith)
 
@@ -217,6 +223,7 @@ module _ {A : Type 0} (num : A → ℕ) (k : Kernel) (l : Launch) (c : Cells) (l
             body = body;
             is = phased.phased num k l c owned lists body few_items h.inputs (record {
               whole = h.launch;
+              flat = h.flat;
               turns = omega arith;
               room = room;
               top_loads = ok;
@@ -234,7 +241,7 @@ module _ {A : Type 0} (num : A → ℕ) (k : Kernel) (l : Launch) (c : Cells) (l
                     shape = h.shape;
                     listed = h.listed;
                     values = λ cs i p z. values cs i p z ∙ sym (last.value i cs p);
-                    owned = λ i p. ap (λ z. (i % group_count l) * l.local + z) (owner_of_row num l b p h.launch.positive stands ∙ ap (λ z. z % l.local) (sym (last.rows p)));
+                    owned = λ i p. ap (λ z. (i % groups_across l) * l.local.0 + z) (owner_of_row num l b p h.launch.x.positive stands ∙ ap (λ z. z % l.local.0) (sym (last.rows p)));
                     within = λ p. owner_below num l term p h.launch h.some;
                   });
             });
@@ -281,7 +288,7 @@ module _ {A : Type 0} (num : A → ℕ) (l : Launch) (src : ℕ → Ty) (ins : �
 
   its_phases : AreItsPhases num k l c lists fence of_owner t
   its_phases =
-      term_phases num k l c lists ins src sources ty (scalars_of num sources no_scalars t) fence (record { launch = h.whole; some = h.some; few = h.few; inputs = h.inputs; flat_type = h.flat_type; outputs = h.outputs; shape = shape; listed = listed })
+      term_phases num k l c lists ins src sources ty (scalars_of num sources no_scalars t) fence (record { launch = h.whole; flat = h.flat; some = h.some; few = h.few; inputs = h.inputs; flat_type = h.flat_type; outputs = h.outputs; shape = shape; listed = listed })
       t no_type no_marks no_scalars (λ p. p) (λ p. p) ty h.stands h.typed (λ v cs p x. nothing cs p x) (laid_itself ty) (λ cs p x. refl) (let e = h.variables in omega arith)
       (declares (length_in k c) 0 t (λ i lt. let z : 0 + i ≡ i = omega arith in ap (λ j. slice_index k.privates j) z ∙ ap (λ ns. slice_index ns i) h.privates))
       (λ i lt. let z : 0 + i ≡ i = omega arith in ap (λ j. slice_index k.locals j) z ∙ ap (λ ns. slice_index ns i) h.locals) h.code

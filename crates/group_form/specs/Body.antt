@@ -2,7 +2,7 @@
 -- go, and what each cell is to hold.
 use Rattle.std.specs.Prelude.{ℕ, suc, ◌+◌, ◌-◌, ◌*◌, ◌%◌, Bool, true, false, List, [], ◌∷◌, length, if◌then◌else◌, nat_lt, slice_index}
 use Rattle.kernel_tree.specs.Code.{Array, Input, Output, Local as LocalArray, Private}
-use Rattle.kernel_tree.specs.Launch.{Launch, Cells, group_count}
+use Rattle.kernel_tree.specs.Launch.{Launch, Cells, groups_across}
 use Rattle.kernel_tree.specs.Device.{Cell, row}
 use Rattle.lift_ir.specs.Types.{Ty, Scalar, PairOf, ArrayOf, width, unflat}
 use Rattle.lift_ir.specs.Scalars.{Scalars, at_index}
@@ -85,7 +85,7 @@ module _ {A : Type 0} (num : A → ℕ) (l : Launch) (c : Cells) (wanted : List 
   content g t (Input a) n = slice_index (row c.ins a) n
   content g t (Output a) n = slice_index (row wanted a) n
   content g t (LocalArray a) n =
-      value_in num b.sources (g + t * group_count l) (filling a) (choices_in a) (position_in a n)
+      value_in num b.sources (g + t * groups_across l) (filling a) (choices_in a) (position_in a n)
   content g t (Private a) n = 0
 
   abbrev pub row_in : Array → ℕ → ℕ
@@ -94,7 +94,7 @@ module _ {A : Type 0} (num : A → ℕ) (l : Launch) (c : Cells) (wanted : List 
 
   -- a local cell is filled by the item that computes its row
   abbrev pub filler : Cell → ℕ
-  filler x = x.home * l.local + row_in x.array x.index % l.local
+  filler x = x.home * l.local.0 + row_in x.array x.index % l.local.0
 
   abbrev pub phase_list : PhaseList A
   phase_list = record {

@@ -3,14 +3,14 @@
 use Rattle.std.specs.Prelude.{◌≡◌, ℕ, ◌+◌, ◌<◌, true, [], ◌∷◌}
 use Rattle.kernel_tree.specs.Formula.{Formula}
 use Rattle.kernel_tree.specs.Code.{Local as LocalArray, Code, End, Loops}
-use Rattle.kernel_tree.specs.Launch.{Launch}
+use Rattle.kernel_tree.specs.Launch.{Launch, item_count}
 use Rattle.barrier_placement.specs.Fencing.{Fencing}
 use Rattle.lift_ir.specs.Layouts.{result_position, IsInvertible}
 use Rattle.lift_ir.specs.Terms.{LoadSet, WorkGroup, Local, LocalMemory, Term, Bound, Source, Both, Project, Reshape, LetArray, Map, Copy, push}
 use Rattle.lift_ir.specs.Scalars.{at_index}
 use Rattle.printed_form.specs.Counts.{load_count, variable_count, private_count}
 use Rattle.printed_form.specs.Marks.{Marks, laid_in, loaded_marks}
-use Rattle.printed_form.specs.Form.{start_of, stride_of, IsLength, IsLoaded, IsLoop, argument_marks, IsWritten}
+use Rattle.printed_form.specs.Form.{start_of, stride_of, IsTurnOf, IsLength, IsLoaded, IsLoop, argument_marks, IsWritten}
 use Rattle.group_phases.specs.Epochs.{IsPast}
 use Rattle.group_form.specs.Origins.{local_count}
 use Rattle.group_form.specs.Stages.{marks_of}
@@ -36,15 +36,16 @@ used_after u t = record {
 module _ {A : Type 0} (num : A → ℕ) (l : Launch) (ins : ℕ → Marks) where
   -- what stands before each phase, and so many turns
   module _ (fence : ℕ → Fencing) (turns : ℕ) where
-    -- the loop of a local map over what stands for its argument at each turn
+    -- the loop of a local map over what stands for its argument at each turn, as each item runs
+    -- it at its group's turns
     abbrev pub IsLocalLoop : ((turn var : ℕ) → Marks) → Used → (len : ℕ) → LoadSet
         → (marks : ℕ → Marks) → (body : Term A) → (to : ℕ → Marks) → (code rest : Code) → Type 0
     IsLocalLoop env u len loads marks b w code rest =
-        (i : ℕ) → i < turns
-        → IsLoop l ins Local len
+        (item i : ℕ) → item < item_count l → i < turns → IsTurnOf l item WorkGroup i
+        → IsLoop l item ins Local len
         (λ j body. (inner : Code)
-        × IsLoaded l ins (i ∷ j ∷ []) loads (at_index j (marks i)) u.variables body inner
-        × IsWritten l ins num (i ∷ j ∷ [])
+        × IsLoaded l item ins (i ∷ j ∷ []) loads (at_index j (marks i)) u.variables body inner
+        × IsWritten l item ins num (i ∷ j ∷ [])
         (push (loaded_marks loads (at_index j (marks i)) u.variables) (env i)) u.privates
         (u.variables + load_count loads) b (at_index j (w i)) inner End)
         code rest
@@ -89,7 +90,8 @@ module _ {A : Type 0} (num : A → ℕ) (l : Launch) (ins : ℕ → Marks) where
         → (to : Marks) → Code → Type 0
     IsGroupTurn env loads marks b w code =
         (first last : Code)
-        × ((i : ℕ) → i < turns → IsLoaded l ins (i ∷ []) loads (at_index i marks) 0 code first)
+        × ((item i : ℕ) → item < item_count l → i < turns → IsTurnOf l item WorkGroup i
+        → IsLoaded l item ins (i ∷ []) loads (at_index i marks) 0 code first)
         × IsGroupWritten (λ i. push (loaded_marks loads (at_index i marks) 0) env)
         (record { locals = 0; privates = 0; variables = load_count loads; phases = 0 }) b
         (λ i. at_index i w) first last × IsPast (fence (phases_in b)) last End

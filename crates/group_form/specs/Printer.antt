@@ -1,5 +1,5 @@
 -- A printer of maps over work-groups: its code is one for all launches.
-use Rattle.std.specs.Prelude.{ℕ, ◌+◌, ◌<◌, ◌^◌, Bool, List, ◌∷◌, length}
+use Rattle.std.specs.Prelude.{ℕ, ◌+◌, ◌<◌, ◌^◌, Bool, List, ◌∷◌, length, None}
 use Rattle.size_arith.specs.declared.poly.Monomial.{Monomial}
 use Rattle.lift_tree.specs.Tree.{Tree}
 use Rattle.lift_tree.specs.Typing.{Declared}
@@ -122,6 +122,8 @@ printed_group_kernel spell fence d t a = record {
   locals = copy_lengths LocalMemory (lowered_root t a);
   privates = copy_lengths PrivateMemory (lowered_root t a);
   variables = variable_count (lowered_root t a);
+  vectors = 0;
+  local = None;
   code =
       group_kernel_code spell (first_buffer d.inputs) (input_shape d.inputs) fence
       (lowered_root t a) (shape_of (type_in a));

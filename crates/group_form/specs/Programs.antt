@@ -1,5 +1,5 @@
 -- A kernel printed for a whole program's typed term that is a map over work-groups.
-use Rattle.std.specs.Prelude.{◌≡◌, ℕ, Bool, List, [], length}
+use Rattle.std.specs.Prelude.{◌≡◌, ℕ, Bool, List, [], length, None}
 use Rattle.lift_tree.specs.Tree.{Tree}
 use Rattle.lift_tree.specs.Typing.{Declared, IsAdmissible}
 use Rattle.lift_tree.specs.Annotations.{Annotation, type_in}
@@ -25,7 +25,8 @@ use Rattle.group_form.specs.Form.{IsOverGroups}
 
 -- The kernel is printed for the typed term at a launch, where the base names have these values: its
 -- parameters, private variables and arrays are as for any term, its local arrays as the term needs
--- them, and its code is printed for a map over groups, with the needed barriers.
+-- them; it has no variable of four words and asks for no size of groups; and its code is printed for
+-- a map over groups, with the needed barriers.
 pub record PrintsGroups (d : Declared) (bases : List ℕ) (t : Tree) (a : Annotation) (l : Launch)
     (k : Kernel) : Type 0 where
   pub inputs : k.inputs ≡ buffer_count d.inputs
@@ -34,6 +35,8 @@ pub record PrintsGroups (d : Declared) (bases : List ℕ) (t : Tree) (a : Annota
   pub locals : k.locals ≡ copy_lengths LocalMemory (lowered_root t a)
   pub privates : k.privates ≡ copy_lengths PrivateMemory (lowered_root t a)
   pub variables : k.variables ≡ variable_count (lowered_root t a)
+  pub vectors : k.vectors ≡ 0
+  pub local : k.local ≡ None
   pub fence : ℕ → Fencing
   pub needed : Needed (group_touches (lowered_root t a)) (phase_count (lowered_root t a)) fence
   pub code : IsOverGroups (length_at bases) l

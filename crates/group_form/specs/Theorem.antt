@@ -2,7 +2,8 @@
 use Rattle.std.specs.Prelude.{◌≡◌, ℕ, ◌<◌, ◌^◌, Bool, true, List, All, Contains, [], length, map, replicate}
 use Rattle.kernel_tree.specs.Code.{Kernel}
 use Rattle.kernel_tree.specs.Device.{Cell}
-use Rattle.kernel_tree.specs.Launch.{Launch, Cells, IsWhole}
+use Rattle.kernel_tree.specs.Launch as launch
+use Rattle.kernel_tree.specs.Launch.{Launch, Cells, IsWhole, item_count}
 use Rattle.barrier_placement.specs.declared.touches.Touch.{Touch}
 use Rattle.barrier_placement.specs.Conflicts as placed
 use Rattle.barrier_placement.specs.Conflicts.{space_of}
@@ -28,13 +29,14 @@ use Rattle.group_form.specs.Uses.{phase_count, group_touches}
 use Rattle.group_form.specs.Form.{IsOverGroups}
 
 -- the kernel is printed for the term of this type, which is a map over work-groups, at this launch
--- and with these cells. What stands before each phase, and closes the body, is `fence`
+-- of one row and with these cells. What stands before each phase, and closes the body, is `fence`
 pub record IsPrintedOverGroups {A : Type 0} (l : Launch) (num : A → ℕ) (src : ℕ → Ty)
     (ins : ℕ → Marks) (sources : ℕ → Scalars) (fence : ℕ → Fencing) (t : Term A) (ty : Ty)
     (k : Kernel) (c : Cells) : Type 0 where
   pub whole : IsWhole l
-  pub some : 0 < l.global
-  pub few : l.global < 2 ^ 31
+  pub flat : launch.IsFlat l
+  pub some : 0 < item_count l
+  pub few : item_count l < 2 ^ 31
   pub stands : StandsOverGroups t
   pub typed : HasType num src no_type t ty
   pub flat_type : IsFlat ty

@@ -1,5 +1,6 @@
 -- Code that writes no cell that others may reach, as the loads of a turn's own scalars, and then more code.
 use Rattle.std.proofs.Common.{◌≡◌, ℕ, List, ◌++◌, ap, ◌∙◌, arith}
+use Rattle.kernel_tree.specs.Formula.{Vars}
 use Rattle.kernel_tree.specs.Code.{Code}
 use Rattle.kernel_tree.specs.Item.{Frame}
 use Rattle.kernel_tree.specs.Device.{Device, Cell}
@@ -11,9 +12,9 @@ use Rattle.kernel_tree.proofs.Turns.{every-append, write_count-append}
 use Rattle.group_phases.specs.Bodies.{IsShared, Part, CanDo}
 use Rattle.group_phases.proofs.Written.{untouched}
 
-pub silent_then : (d : Device) (k : ℕ) (known target : Cell → Type 0) (value : Cell → ℕ) (fs : List Frame) (code mid rest : Code) (vars : List ℕ) (U V : List ℕ → Type 0)
+pub silent_then : (d : Device) (k : ℕ) (known target : Cell → Type 0) (value : Cell → ℕ) (fs : List Frame) (code mid rest : Code) (vars : Vars) (U V : Vars → Type 0)
     → ((c : Cell) → known c → IsShared c) → ((c : Cell) → target c → IsShared c)
-    → CanDo d k known (λ c. ⊥) value fs code vars mid U → ((vs : List ℕ) → U vs → CanDo d k known target value fs mid vs rest V) → CanDo d k known target value fs code vars rest V
+    → CanDo d k known (λ c. ⊥) value fs code vars mid U → ((vs : Vars) → U vs → CanDo d k known target value fs mid vs rest V) → CanDo d k known target value fs code vars rest V
 silent_then d k known target value fs code mid rest vars U V sk st first more o m ready = record {
   after = b.after;
   deeds = a.deeds ++ b.deeds;

@@ -1,37 +1,34 @@
 -- A map over work-groups, from its start to where all items have ended.
-use Rattle.std.proofs.Common.{◌≡◌, ℕ, zero, suc, ◌+◌, ◌*◌, ◌<◌, ◌≤◌, ◌^◌, List, [], ◌∷◌, ◌++◌, length, Some, None, Bool, true, false, true≢false, refl, sym, ap, ◌∙◌, subst, ⊎_elim, inl, inr, arith}
+use Rattle.std.proofs.Common.{◌≡◌, ℕ, zero, suc, ◌+◌, ◌*◌, ◌<◌, ◌≤◌, List, [], ◌∷◌, ◌++◌, length, Some, None, Bool, true, false, true≢false, refl, sym, ap, ◌∙◌, subst, ⊎_elim, inl, inr, arith}
 use Rattle.std.specs.Prelude.{slice_index, if◌then◌else◌, ◌&&◌}
 use Rattle.std.proofs.Math.Path.{fun_ext}
 use Rattle.std.proofs.lemmas.Bool.{cases_lt, both_ways}
 use Rattle.kernel_tree.specs.declared.events.Event.{Event}
 use Rattle.kernel_tree.specs.declared.events.Event.TheVariants.{Release}
-use Rattle.kernel_tree.specs.Code.{Array, Input, Output, Local, Private, Code, End, Kernel, start_value, stride_value}
-use Rattle.kernel_tree.specs.Launch.{Launch, Cells, ids_of, group_of, group_count, first_item}
+use Rattle.kernel_tree.specs.Formula.{Vars, no_vars}
+use Rattle.kernel_tree.specs.Code.{Array, Input, Output, Local, Private, Code, Kernel}
+use Rattle.kernel_tree.specs.Launch.{Launch, Cells, ids_of, group_of, group_count, first_item, item_count}
 use Rattle.kernel_tree.specs.Item.{Item, item, next, Ends}
 use Rattle.kernel_tree.specs.Device.{Device, Cell, Memory, Fence, LocalFence, GlobalFence, fence_of, State, device_of, IsStart, row, IsRun, AllEnded, after}
-use Rattle.kernel_tree.specs.Deeds.{Moved, Goes}
 use Rattle.kernel_tree.specs.Independent.{Owners, MayRead}
 use Rattle.kernel_tree.specs.Chunks.{Chunk, Rel, Phases, owners_at, AsChunked, chunk_writes, events_of}
-use Rattle.kernel_tree.specs.Rounds.{Loop, loop_code, frame_of, variable_at}
 use Rattle.kernel_tree.proofs.Grouping.{in_launch, group_in_launch, first_of_group}
 use Rattle.kernel_tree.proofs.Releases.{released}
 use Rattle.kernel_tree.proofs.Chunks.{as_chunked}
-use Rattle.kernel_tree.proofs.Deeds.{goes_moved, tested_at, next_enter, next_again, inside, outside}
 use Rattle.kernel_tree.proofs.Histories.{group_tells}
 use Rattle.kernel_tree.proofs.Meets.{every_run_meets}
-use Rattle.kernel_tree.proofs.Stride.{turns_of, turn_below, turn_past}
 use Rattle.barrier_placement.specs.Conflicts as placed
 use Rattle.barrier_placement.specs.Conflicts.{Conflict, space_of}
 use Rattle.barrier_placement.specs.Fencing.{Fencing, Open, Fenced, orders}
 use Rattle.barrier_placement.specs.Separates.{bit}
-use Rattle.group_phases.specs.Bodies.{is_private, IsShared, IsOwnPrivate, Part}
-use Rattle.group_phases.specs.Cells.{output_cell, local_cell, IsOwnOutput}
+use Rattle.group_phases.specs.Bodies.{is_private, IsShared, IsOwnPrivate, Part, Hop, CanHop}
+use Rattle.group_phases.specs.Cells.{input_cell, output_cell, local_cell, IsOwnOutput}
 use Rattle.group_phases.specs.Written.{is_global, IsGlobal, is_input, Writes, Nothing, DoneBy, LeavesOtherGroups}
 use Rattle.group_phases.specs.Epochs.{IsPast, passed, each_turn, epoch_in}
 use Rattle.group_phases.specs.Work.{Work, IsOwnLocal, IsFilledEarlier, owners_in, IsKnown}
-use Rattle.group_phases.specs.Groups.{Body, GroupPhases, GroupOutputs, GroupLoop, loop_turns, loop_frames}
+use Rattle.group_phases.specs.Groups.{Body, GroupPhases, GroupOutputs, IsBefore, GroupTurns}
 use Rattle.group_phases.specs.Outcome.{LeavesOutputs, SomeRunLeaves, BarriersServe, BarriersServeAll}
-use Rattle.group_phases.proofs.Written.{untouched, input_shared, writes_as, writes_more, writes_then, writes_first, writes_nothing, writes_release, writes_move, writes_item, leaves_on}
+use Rattle.group_phases.proofs.Written.{untouched, input_shared, writes_as, writes_more, writes_then, writes_first, writes_nothing, writes_release, writes_hop, writes_item, leaves_on}
 use Rattle.group_phases.proofs.Laps.{Members, members, Step, Lap, lapped}
 
 -- a choice for each j, with what holds of it below n
@@ -84,17 +81,17 @@ module _ (kernel : Kernel) (l : Launch) (c : Cells) (owner : (array index : ℕ)
   due_owned : (e k : ℕ) (b : Cell) → IsOwnOutput owner k b → owns e b ≡ Some k
   due_owned e k b y = ap (owns e) y.is ∙ ap Some y.owned
 
-  target_owned : (t q k : ℕ) (b : Cell) → t < body.turns (group_of l k) → q < n → k < l.global → work.targets t q k b → owns (epoch_in body.fence n t q) b ≡ Some k
+  target_owned : (t q k : ℕ) (b : Cell) → t < body.turns (group_of l k) → q < n → k < item_count l → work.targets t q k b → owns (epoch_in body.fence n t q) b ≡ Some k
   target_owned t q k b tl below lt x =
       ⊎_elim
       (λ y. due_owned (epoch_in body.fence n t q) k b y)
       (λ y. ap (owns (epoch_in body.fence n t q)) y.is ∙ ap (λ z. if z then Some (work.filler (local_cell (group_of l k) y.array y.index)) else None) (ap (h.runs_in (epoch_in body.fence n t q)) y.in_phase ∙ h.apart.runs (group_of l k) t q tl below) ∙ ap Some (ap work.filler (sym y.is) ∙ y.owned))
       (h.due t q k b below lt x)
 
-  target_shared : (t q k : ℕ) (b : Cell) → q < n → k < l.global → work.targets t q k b → IsShared b
+  target_shared : (t q k : ℕ) (b : Cell) → q < n → k < item_count l → work.targets t q k b → IsShared b
   target_shared t q k b below lt x = ⊎_elim (λ y. ap (λ z. is_private z.array) y.is) (λ y. ap (λ z. is_private z.array) y.is) (h.due t q k b below lt x)
 
-  target_not_input : (t q k : ℕ) (b : Cell) → q < n → k < l.global → work.targets t q k b → is_input b.array ≡ false
+  target_not_input : (t q k : ℕ) (b : Cell) → q < n → k < item_count l → work.targets t q k b → is_input b.array ≡ false
   target_not_input t q k b below lt x = ⊎_elim (λ y. ap (λ z. is_input z.array) y.is) (λ y. ap (λ z. is_input z.array) y.is) (h.due t q k b below lt x)
 
   known_shared : (t q k : ℕ) (b : Cell) → known t q k b → IsShared b
@@ -152,7 +149,7 @@ module _ (kernel : Kernel) (l : Launch) (c : Cells) (owner : (array index : ℕ)
   DoneItem t q k b v = work.targets t q k b × (work.value (group_of l k) t b ≡ v)
 
   abbrev DonePhase : (g t q : ℕ) → Cell → ℕ → Type 0
-  DonePhase g t q b v = (k : ℕ) × (group_of l k ≡ g) × (k < l.global) × DoneItem t q k b v
+  DonePhase g t q b v = (k : ℕ) × (group_of l k ≡ g) × (k < item_count l) × DoneItem t q k b v
 
   abbrev DoneTurn : (g t : ℕ) → Cell → ℕ → Type 0
   DoneTurn g t = DoneBy (DonePhase g t) n
@@ -161,10 +158,10 @@ module _ (kernel : Kernel) (l : Launch) (c : Cells) (owner : (array index : ℕ)
   DoneGroup g = DoneBy (DoneTurn g) (body.turns g)
 
   -- a cell that all share and that is a target is an output's
-  output_of : (t q k : ℕ) (b : Cell) → q < n → k < l.global → IsGlobal b → work.targets t q k b → IsOwnOutput owner k b
+  output_of : (t q k : ℕ) (b : Cell) → q < n → k < item_count l → IsGlobal b → work.targets t q k b → IsOwnOutput owner k b
   output_of t q k b below lt gl x = ⊎_elim (λ y. y) (λ y. absurd (true≢false (sym (subst IsGlobal y.is gl)))) (h.due t q k b below lt x)
 
-  one_item : (t q u r k j : ℕ) (b : Cell) → q < n → r < n → k < l.global → j < l.global → IsGlobal b → work.targets t q k b → work.targets u r j b → (t ≡ u) × (q ≡ r) × (k ≡ j)
+  one_item : (t q u r k j : ℕ) (b : Cell) → q < n → r < n → k < item_count l → j < item_count l → IsGlobal b → work.targets t q k b → work.targets u r j b → (t ≡ u) × (q ≡ r) × (k ≡ j)
   one_item t q u r k j b qn rn kl jl gl x y =
       let o = output_of t q k b qn kl gl x in
       let same = h.differ o.array o.index t q k u r j qn rn kl jl (subst (work.targets t q k) o.is x) (subst (work.targets u r j) o.is y) in
@@ -184,7 +181,7 @@ module _ (kernel : Kernel) (l : Launch) (c : Cells) (owner : (array index : ℕ)
   filled_local q k b x = ap (λ z. is_global z.array) x.is
 
   -- a cell is filled in one phase of a turn
-  same_phase : (t w k2 q k : ℕ) (b : Cell) → w < n → k2 < l.global → q < n → k < l.global → work.targets t w k2 b → work.targets t q k b → w ≡ q
+  same_phase : (t w k2 q k : ℕ) (b : Cell) → w < n → k2 < item_count l → q < n → k < item_count l → work.targets t w k2 b → work.targets t q k b → w ≡ q
   unfolding local_number
   same_phase t w k2 q k b wn k2l qn kl x y =
       ⊎_elim
@@ -202,7 +199,7 @@ module _ (kernel : Kernel) (l : Launch) (c : Cells) (owner : (array index : ℕ)
 
     -- the earlier phases of the turn have filled their cells
     Filled : (g t q : ℕ) → Memory → Type 0
-    Filled g t q m = (w k : ℕ) (b : Cell) → w < q → group_of l k ≡ g → k < l.global → work.targets t w k b → m b ≡ work.value g t b
+    Filled g t q m = (w k : ℕ) (b : Cell) → w < q → group_of l k ≡ g → k < item_count l → work.targets t w k b → m b ≡ work.value g t b
 
     holds_known : (g t q k : ℕ) (m : Memory) → group_of l k ≡ g → g < G → Given m → Filled g t q m → ((b : Cell) → known t q k b → m b ≡ work.value g t b)
     unfolding Given Filled
@@ -238,7 +235,7 @@ module _ (kernel : Kernel) (l : Launch) (c : Cells) (owner : (array index : ℕ)
 
     -- the items of the group stand at this body.code in turn t, body.before phase q
     record Stands (g t q : ℕ) (place : Code) (epoch_number : ℕ) (s : State) : Type 0 where
-      vars : ℕ → List ℕ
+      vars : ℕ → Vars
       items : (k : ℕ) → group_of l k ≡ g → s.items k ≡ item place (body.frames t k) (vars k)
       ok : (k : ℕ) → group_of l k ≡ g → work.knows t q k (vars k)
       epoch : s.epochs g LocalFence ≡ epoch_number
@@ -258,41 +255,47 @@ module _ (kernel : Kernel) (l : Launch) (c : Cells) (owner : (array index : ℕ)
           so = record { vars = st.vars; items = r.past; ok = st.ok; epoch = r.epochs LocalFence ∙ raised a (s.epochs g LocalFence) e st.epoch; filled = subst (Filled g t q) (sym r.memory) st.filled; given = subst Given (sym r.memory) st.given };
         }
 
-    -- all items of the group make one move
-    module _ (g : ℕ) (here : g < G) (s : State) (X Y : ℕ → Item) (at_x : (k : ℕ) → group_of l k ≡ g → s.items k ≡ X k) (goes : (k : ℕ) → group_of l k ≡ g → (m : Memory) → Goes d k (X k) m (Moved ∷ []) (Y k)) where
+    -- all items of the group go on between turns
+    module _ (g : ℕ) (here : g < G) (s : State) (R : ℕ → Item → Type 0) (unchanged : Given s.memory) (hops : (k : ℕ) → group_of l k ≡ g → CanHop d k c (s.items k) (R k)) where
       abbrev mm : Members l g
-      mm = members l h.whole g
+      mm = members l h.whole g here
 
-      abbrev Moved_to : ℕ → Item → Type 0
-      Moved_to j y = y ≡ Y (mm.at j)
+      hop_step : (j : ℕ) → j < mm.size → (u : State) → u.items (mm.at j) ≡ s.items (mm.at j) → u.epochs ≡ s.epochs → Given u.memory → Step ph d g mm s (λ i. Nothing) (λ i m. Given m) (λ i. R (mm.at i)) j u
+      unfolding Given
+      hop_step j lt u same eps kept =
+          let k = mm.at j in
+          let e = mm.inside j lt in
+          let ep = u.epochs (group_of l k) in
+          let r : Hop d k (owners_at ph ep) u.memory (s.items k) (R k) =
+          hops k e (owners_at ph ep) u.memory (record {
+            inputs = λ a i within. kept (input_cell a i) refl ∙ begun.inputs a i within;
+            free = λ a i. refl;
+            own = λ b x. own_owned (ep (fence_of b)) k b x;
+          })
+          in
+          record {
+            deeds = r.deeds;
+            end = r.after;
+            writes = writes_hop ph d u k (s.items k) (R k) (in_launch l h.whole g k here e) same r;
+            inv = λ b i. untouched b r.deeds u.memory (r.quiet b (input_shared b.array i)) ∙ kept b i;
+            good = r.so;
+          }
 
-      moves_lap : Lap ph d g mm s (λ j. Nothing) (λ j m. m ≡ s.memory) Moved_to
-      moves_lap = record {
-        begin = refl;
-        step = λ j lt u same eps e. record {
-          deeds = Moved ∷ [];
-          end = Y (mm.at j);
-          writes = writes_move ph d u (mm.at j) (Y (mm.at j)) (in_launch l h.whole g (mm.at j) here (mm.inside j lt)) (λ m. subst (λ x. Goes d (mm.at j) x m (Moved ∷ []) (Y (mm.at j))) (sym (same ∙ at_x (mm.at j) (mm.inside j lt))) (goes (mm.at j) (mm.inside j lt) m));
-          inv = e;
-          good = refl;
-        };
-        apart = λ i j b v w il jl gl x y. absurd x;
-      }
-
-      record Moves (u : State) : Type 0 where
-        items : (k : ℕ) → group_of l k ≡ g → u.items k ≡ Y k
-        memory : u.memory ≡ s.memory
+      record Hopped (u : State) : Type 0 where
+        items : (k : ℕ) → group_of l k ≡ g → R k (u.items k)
+        given : Given u.memory
         epochs : u.epochs ≡ s.epochs
 
-      all_move : Reaches g s Nothing Moves
-      all_move =
-          let r = lapped ph d g mm s (λ j. Nothing) (λ j m. m ≡ s.memory) Moved_to moves_lap in
+      all_hop : Reaches g s Nothing Hopped
+      all_hop =
+          let lap : Lap ph d g mm s (λ j. Nothing) (λ j m. Given m) (λ j. R (mm.at j)) = record { begin = unchanged; step = hop_step; apart = λ i j b v w il jl gl x y. absurd x } in
+          let r = lapped ph d g mm s (λ j. Nothing) (λ j m. Given m) (λ j. R (mm.at j)) lap in
           record {
             to = r.state;
             chunks = r.chunks;
             writes = writes_as ph d s r.state r.chunks (DoneBy (λ j. Nothing) mm.size) Nothing (λ b v x. absurd x.2) (λ b v x. absurd x) r.writes;
             others = record { items = r.others; epochs = λ x z. ap (λ f. f x) r.epochs };
-            so = record { items = λ k e. let i = mm.every k e in ap r.state.items i.1 ∙ r.done (mm.place k) i.0 ∙ ap Y (sym i.1); memory = r.inv; epochs = r.epochs };
+            so = record { items = λ k e. let i = mm.every k e in subst (λ z. R z (r.state.items z)) (sym i.1) (r.done (mm.place k) i.0); given = r.inv; epochs = r.epochs };
           }
 
     -- the owners at a group's epochs
@@ -307,7 +310,7 @@ module _ (kernel : Kernel) (l : Launch) (c : Cells) (owner : (array index : ℕ)
 
     module _ (g t q : ℕ) (here : g < G) (tl : t < body.turns g) (ql : q < n) (s : State) (st : Stands g t q (body.code q) (epoch_in body.fence n t q) s) where
       abbrev ms : Members l g
-      ms = members l h.whole g
+      ms = members l h.whole g here
 
       abbrev at : ℕ → ℕ
       at j = ms.at j
@@ -315,12 +318,12 @@ module _ (kernel : Kernel) (l : Launch) (c : Cells) (owner : (array index : ℕ)
       in_turn : (k : ℕ) → group_of l k ≡ g → t < body.turns (group_of l k)
       in_turn k e = subst (λ z. t < body.turns z) (sym e) tl
 
-      in_range : (j : ℕ) → j < ms.size → at j < l.global
+      in_range : (j : ℕ) → j < ms.size → at j < item_count l
       in_range j lt = in_launch l h.whole g (at j) here (ms.inside j lt)
 
       -- where an item ends the phase
       abbrev EndsAt : ℕ → Item → Type 0
-      EndsAt k y = (vars : List ℕ) × (y ≡ item (body.before (suc q)) (body.frames t k) vars) × work.knows t (suc q) k vars
+      EndsAt k y = (vars : Vars) × (y ≡ item (body.before (suc q)) (body.frames t k) vars) × work.knows t (suc q) k vars
 
       -- the first items have filled their cells
       record Filling (j : ℕ) (m : Memory) : Type 0 where
@@ -378,8 +381,8 @@ module _ (kernel : Kernel) (l : Launch) (c : Cells) (owner : (array index : ℕ)
       phase =
           let r = lapped ph d g ms s (λ j. DoneItem t q (at j)) Filling (λ j. EndsAt (at j)) phase_lap in
           let ended = λ (j : ℕ) (lt : j < ms.size). r.done j lt in
-          let Ended = λ (k : ℕ) (vs : List ℕ). (r.state.items k ≡ item (body.before (suc q)) (body.frames t k) vs) × work.knows t (suc q) k vs in
-          let at_place = λ (k : ℕ). total_of (Ended (at (ms.place k))) (ms.place k) ms.size (λ lt. let x = r.done (ms.place k) lt in (x.0, (x.1, x.2))) [] in
+          let Ended = λ (k : ℕ) (vs : Vars). (r.state.items k ≡ item (body.before (suc q)) (body.frames t k) vs) × work.knows t (suc q) k vs in
+          let at_place = λ (k : ℕ). total_of (Ended (at (ms.place k))) (ms.place k) ms.size (λ lt. let x = r.done (ms.place k) lt in (x.0, (x.1, x.2))) no_vars in
           let vars2 = λ (k : ℕ). (at_place k).0 in
           let done = λ (k : ℕ) (e : group_of l k ≡ g). let i = ms.every k e in subst (λ z. Ended z (vars2 k)) (sym i.1) ((at_place k).1 i.0) in
           record {
@@ -450,103 +453,70 @@ module _ (kernel : Kernel) (l : Launch) (c : Cells) (owner : (array index : ℕ)
 
       -- what each group owes: from the start it goes through its body.turns
       abbrev GroupReaches : Type 0
-      GroupReaches = (s : State) (vars : ℕ → List ℕ) → ((k : ℕ) → group_of l k ≡ g → s.items k ≡ item kernel.code [] (vars k)) → ((k : ℕ) → group_of l k ≡ g → length (vars k) ≡ kernel.variables) → s.epochs g LocalFence ≡ 0 → Given s.memory → Reaches g s (DoneGroup g) Over
+      GroupReaches = (s : State) (vars : ℕ → Vars) → ((k : ℕ) → group_of l k ≡ g → s.items k ≡ item kernel.code [] (vars k)) → ((k : ℕ) → group_of l k ≡ g → length (vars k).words ≡ kernel.variables) → s.epochs g LocalFence ≡ 0 → Given s.memory → Reaches g s (DoneGroup g) Over
 
-      module _ (len : ℕ) (p : Loop) (m : GroupLoop kernel l len p body work) (frames_are : (t k : ℕ) → body.frames t k ≡ frame_of d k p t ∷ []) (turns_are : (i : ℕ) → body.turns i ≡ turns_of len G i) where
-        at_turn : (k t : ℕ) → group_of l k ≡ g → variable_at d k p t ≡ g + t * G
-        at_turn k t e = ap (λ x. x + t * stride_value (ids_of l k) p.stride) (ap (start_value (ids_of l k)) m.start ∙ e) ∙ ap (λ x. g + t * x) (ap (stride_value (ids_of l k)) m.stride)
-
-        tl2 : (t : ℕ) → t < body.turns g → t < turns_of len G g
-        tl2 t tl = subst (λ z. t < z) (turns_are g) tl
-
-        tested : ℕ → ℕ → List ℕ → Item
-        tested k t vars = tested_at d k [] len p.start p.bound p.stride p.body p.after t vars
-
-        -- the items of the group have tested for turn t
-        record Tested (t : ℕ) (s : State) : Type 0 where
-          vars : ℕ → List ℕ
-          items : (k : ℕ) → group_of l k ≡ g → s.items k ≡ tested k t (vars k)
-          ok : (k : ℕ) → group_of l k ≡ g → work.knows t 0 k (vars k)
+      module _ (m : GroupTurns kernel l c body work) where
+        -- the items of the group stand before turn t
+        record Before (t : ℕ) (s : State) : Type 0 where
+          items : (k : ℕ) → group_of l k ≡ g → IsBefore l body work t k (s.items k)
           epoch : s.epochs g LocalFence ≡ t * each
           given : Given s.memory
 
-        enter : (s : State) (vars : ℕ → List ℕ) → ((k : ℕ) → group_of l k ≡ g → s.items k ≡ item (loop_code p) [] (vars k)) → ((k : ℕ) → group_of l k ≡ g → work.knows 0 0 k (vars k)) → s.epochs g LocalFence ≡ 0 → Given s.memory → Reaches g s Nothing (Tested 0)
-        unfolding tested
-        enter s vars items ok ep given =
-            let X = λ (k : ℕ). item (loop_code p) [] (vars k) in
-            let Y = λ (k : ℕ). tested k 0 (vars k) in
-            let a = all_move g here s X Y items (λ k e mem. goes_moved d k (X k) (Y k) mem (next_enter d k [] len p.start p.bound p.stride p.body p.after (vars k) m.bound_is)) in
+        turn_stands : (t : ℕ) → t < body.turns g → (s : State) → Before t s → Stands g t 0 (body.before 0) (t * each + 0) s
+        unfolding Filled
+        turn_stands t tl s st =
+            let at = λ (k : ℕ) (e : group_of l k ≡ g). (st.items k e).begun (subst (λ z. t < body.turns z) (sym e) tl) in
             record {
-              to = a.to;
-              chunks = a.chunks;
-              writes = a.writes;
-              others = a.others;
-              so = record { vars = vars; items = a.so.items; ok = ok; epoch = ap (λ f. f g LocalFence) a.so.epochs ∙ ep ∙ (let z : 0 ≡ 0 * each = omega arith in z); given = subst Given (sym a.so.memory) given };
+              vars = λ k. (s.items k).vars;
+              items = λ k e. (at k e).0;
+              ok = λ k e. (at k e).1;
+              epoch = st.epoch ∙ (let z : t * each ≡ t * each + 0 = omega arith in z);
+              filled = λ w k b wl e kl x. absurd (omega arith);
+              given = st.given;
             }
 
-        turn_stands : (t : ℕ) → t < body.turns g → (s : State) → Tested t s → Stands g t 0 (body.before 0) (t * each + 0) s
-        unfolding tested Filled
-        turn_stands t tl s st = record {
-          vars = st.vars;
-          items = λ k e. st.items k e ∙ inside d k [] len p.start p.bound p.stride p.body p.after t (st.vars k) (subst (λ x. x < len) (sym (at_turn k t e)) (turn_below len G g t here (tl2 t tl))) ∙ ap (λ z. item z (frame_of d k p t ∷ []) (st.vars k)) m.first ∙ ap (λ z. item (body.before 0) z (st.vars k)) (sym (frames_are t k));
-          ok = st.ok;
-          epoch = st.epoch ∙ (let z : t * each ≡ t * each + 0 = omega arith in z);
-          filled = λ w k b wl e kl x. absurd (omega arith);
-          given = st.given;
-        }
-
-        next_turn : (t : ℕ) → t < body.turns g → (s : State) → Stands g t n (body.code n) (epoch_in body.fence n t n) s → Reaches g s Nothing (Tested (suc t))
-        unfolding tested
+        next_turn : (t : ℕ) → t < body.turns g → (s : State) → Stands g t n (body.code n) (epoch_in body.fence n t n) s → Reaches g s Nothing (Before (suc t))
         next_turn t tl s st =
-            let X = λ (k : ℕ). item End (frame_of d k p t ∷ []) (st.vars k) in
-            let Y = λ (k : ℕ). tested k (suc t) (st.vars k) in
-            let below = turn_below len G g t here (tl2 t tl) in
-            let small = m.small in
-            let fits : g + suc t * G < 2 ^ 32 = omega arith in
-            let a = all_move g here s X Y (λ k e. st.items k e ∙ ap (λ z. item (body.code n) z (st.vars k)) (frames_are t k) ∙ ap (λ z. item z (frame_of d k p t ∷ []) (st.vars k)) m.last)
-            (λ k e mem. goes_moved d k (X k) (Y k) mem (next_again d k [] len p.start p.bound p.stride p.body p.after t (st.vars k) m.bound_is (subst (λ x. x < 2 ^ 32) (sym (at_turn k (suc t) e)) fits)))
+            let a = all_hop g here s (IsBefore l body work (suc t)) st.given
+            (λ k e. subst (λ z. CanHop d k c z (IsBefore l body work (suc t) k)) (sym (st.items k e)) (m.again t k (st.vars k) (subst (λ z. t < body.turns z) (sym e) tl) (in_launch l h.whole g k here e) (st.ok k e)))
             in
             record {
               to = a.to;
               chunks = a.chunks;
               writes = a.writes;
               others = a.others;
-              so = record {
-                vars = st.vars;
-                items = a.so.items;
-                ok = λ k e. m.again t k (st.vars k) (in_launch l h.whole g k here e) (st.ok k e);
-                epoch = ap (λ f. f g LocalFence) a.so.epochs ∙ st.epoch ∙ (let z : t * each + each ≡ suc t * each = omega arith in z);
-                given = subst Given (sym a.so.memory) st.given;
-              };
+              so = record { items = a.so.items; epoch = ap (λ f. f g LocalFence) a.so.epochs ∙ st.epoch ∙ (let z : t * each + each ≡ suc t * each = omega arith in z); given = a.so.given };
             }
 
-        turn : (t : ℕ) → t < body.turns g → (s : State) → Tested t s → Reaches g s (DoneTurn g t) (Tested (suc t))
+        turn : (t : ℕ) → t < body.turns g → (s : State) → Before t s → Reaches g s (DoneTurn g t) (Before (suc t))
         turn t tl s st =
             let a = through t tl s (turn_stands t tl s st) in
-            reaches_then g s (DoneTurn g t) (Stands g t n (body.code n) (epoch_in body.fence n t n)) (Tested (suc t)) a (next_turn t tl a.to a.so)
+            reaches_then g s (DoneTurn g t) (Stands g t n (body.code n) (epoch_in body.fence n t n)) (Before (suc t)) a (next_turn t tl a.to a.so)
 
-        all_turns : (i : ℕ) → i ≤ body.turns g → (s : State) → Tested 0 s → Reaches g s (DoneBy (DoneTurn g) i) (Tested i)
-        all_turns zero le s st = reaches_none g s (DoneTurn g) (Tested 0) st
+        all_turns : (i : ℕ) → i ≤ body.turns g → (s : State) → Before 0 s → Reaches g s (DoneBy (DoneTurn g) i) (Before i)
+        all_turns zero le s st = reaches_none g s (DoneTurn g) (Before 0) st
         all_turns (suc i) le s st =
             let a = all_turns i (omega arith) s st in
-            reaches_more g s (DoneTurn g) i (Tested i) (Tested (suc i))
+            reaches_more g s (DoneTurn g) i (Before i) (Before (suc i))
             (λ j b v w low gl x y. never j i low (one_item j x.0 i y.0 x.2.0 y.2.0 b x.1 y.1 x.2.2 y.2.2 gl x.2.3.0 y.2.3.0).0)
             a (turn i le a.to a.so)
 
         -- the whole group
         group : GroupReaches
-        unfolding Over tested next
+        unfolding Over
         group s vars items long ep given =
-            let a = enter s vars (λ k e. items k e ∙ ap (λ z. item z [] (vars k)) m.loop) (λ k e. m.begins k (vars k) (in_launch l h.whole g k here e) (long k e)) ep given in
-            let b = all_turns (body.turns g) (omega arith) a.to a.so in
-            let r = reaches_first g s (DoneGroup g) (Tested 0) (Tested (body.turns g)) a b in
+            let a = all_hop g here s (IsBefore l body work 0) given (λ k e. subst (λ z. CanHop d k c z (IsBefore l body work 0 k)) (sym (items k e)) (m.begins k (vars k) (in_launch l h.whole g k here e) (long k e))) in
+            let first : Before 0 a.to = record { items = a.so.items; epoch = ap (λ f. f g LocalFence) a.so.epochs ∙ ep ∙ (let z : 0 ≡ 0 * each = omega arith in z); given = a.so.given } in
+            let b = all_turns (body.turns g) (omega arith) a.to first in
+            let a2 : Reaches g s Nothing (Before 0) = record { to = a.to; chunks = a.chunks; writes = a.writes; others = a.others; so = first } in
+            let r = reaches_first g s (DoneGroup g) (Before 0) (Before (body.turns g)) a2 b in
             let u = r.so in
             record {
               to = r.to;
               chunks = r.chunks;
               writes = r.writes;
               others = r.others;
-              so = λ k e. ap (next (ids_of l k)) (u.items k e ∙ outside d k [] len p.start p.bound p.stride p.body p.after (body.turns g) (u.vars k) (subst (λ x. len ≤ x) (sym (at_turn k (body.turns g) e)) (subst (λ z. len ≤ g + z * G) (sym (turns_are g)) (turn_past len G g here))) ∙ ap (λ z. item z [] (u.vars k)) m.nothing_after);
+              so = λ k e. (u.items k e).over (let z : body.turns (group_of l k) ≡ body.turns g = ap body.turns e in omega arith);
             }
 
     module _ (wanted : List (List ℕ)) (outs : GroupOutputs l owner wanted body.count body.turns work) (all_reach : (g : ℕ) (here : g < G) → GroupReaches g here) where
@@ -665,11 +635,10 @@ module _ (kernel : Kernel) (l : Launch) (c : Cells) (owner : (array index : ℕ)
             (sym one.1, ⊎_elim (λ z. absurd (none_is (work.filler y.cell) (sym z ∙ two))) (λ z. some_is y.item (work.filler y.cell) (sym z ∙ two)) ty.reads);
       }
 
--- one loop over groups
-module _ (kernel : Kernel) (l : Launch) (c : Cells) (owner : (array index : ℕ) → ℕ) (wanted : List (List ℕ)) (body : Body) (work : Work) (h : GroupPhases kernel l c owner body work) (len : ℕ) (p : Loop) (m : GroupLoop kernel l len p body work)
-    (frames_are : (t k : ℕ) → body.frames t k ≡ loop_frames kernel l c p t k) (turns_are : (g : ℕ) → body.turns g ≡ loop_turns l len g) (outs : GroupOutputs l owner wanted body.count body.turns work) where
+-- turns of groups, however the items come to them
+module _ (kernel : Kernel) (l : Launch) (c : Cells) (owner : (array index : ℕ) → ℕ) (wanted : List (List ℕ)) (body : Body) (work : Work) (h : GroupPhases kernel l c owner body work) (m : GroupTurns kernel l c body work) (outs : GroupOutputs l owner wanted body.count body.turns work) where
   reaches_in : (s : State) (begun : IsStart kernel l c s) (g : ℕ) (here : g < group_count l) → GroupReaches kernel l c owner body work h s begun g here
-  reaches_in s begun g here = group kernel l c owner body work h s begun g here len p m frames_are turns_are
+  reaches_in s begun g here = group kernel l c owner body work h s begun g here m
 
   -- from every start some run leaves what is wanted
   pub group_map_leaves : SomeRunLeaves kernel l c owner wanted

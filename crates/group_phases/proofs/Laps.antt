@@ -1,13 +1,13 @@
 -- The items of one group, one after another.
-use Rattle.std.proofs.Common.{◌≡◌, ℕ, zero, suc, ◌+◌, ◌*◌, ◌/◌, ◌%◌, ◌<◌, ◌≤◌, List, [], ◌∷◌, ◌++◌, refl, sym, ap, ◌∙◌, subst, ⊎_elim, arith}
+use Rattle.std.proofs.Common.{◌≡◌, ℕ, zero, suc, ◌<◌, ◌≤◌, List, [], ◌∷◌, ◌++◌, refl, sym, ap, ◌∙◌, subst, ⊎_elim, arith}
 use Rattle.std.proofs.lemmas.Bool.{eq-eqb, ne_eqb, cases_lt}
-use Rattle.std.proofs.Math.Nat.{mul-add-div_right, div-eq_of_lt, mod-lt}
-use Rattle.kernel_tree.specs.Launch.{Launch, IsWhole, group_of}
+use Rattle.kernel_tree.specs.Launch.{Launch, IsWhole, group_of, group_count, group_size}
 use Rattle.kernel_tree.specs.Item.{Item}
 use Rattle.kernel_tree.specs.Device.{Device, Cell, Memory, State}
+use Rattle.kernel_tree.specs.Numbering.{member_at, number_in_group}
 use Rattle.kernel_tree.specs.Deeds.{Deed, written, put}
 use Rattle.kernel_tree.specs.Chunks.{Chunk, By, chunk_state, Phases}
-use Rattle.kernel_tree.proofs.Stride.{owner_turn}
+use Rattle.kernel_tree.proofs.Grouping as grouping
 use Rattle.group_phases.specs.Written.{IsGlobal, Writes, Nothing, DoneBy}
 use Rattle.group_phases.proofs.Written.{writes_as, writes_more, writes_nothing}
 
@@ -20,18 +20,18 @@ pub record Members (l : Launch) (g : ℕ) : Type 0 where
   pub every : (i : ℕ) → group_of l i ≡ g → (place i < size) × (i ≡ at (place i))
   pub differ : (i j : ℕ) → i < size → j < size → at i ≡ at j → i ≡ j
 
--- in one dimension
-pub members : (l : Launch) → IsWhole l → (g : ℕ) → Members l g
-members l whole g = record {
-  size = l.local;
-  at = λ j. g * l.local + j;
-  inside = λ j lt. mul-add-div_right whole.positive g j ∙ (let e : j / l.local ≡ 0 = div-eq_of_lt lt in let q : g + j / l.local ≡ g = omega arith in q);
-  place = λ i. i % l.local;
-  every = λ i h.
-      let e : i ≡ i % l.local + (i / l.local) * l.local = owner_turn l.local i whole.positive in
-      (mod-lt i whole.positive, e ∙ ap (λ x. i % l.local + x * l.local) h ∙ (let q : i % l.local + g * l.local ≡ g * l.local + i % l.local = omega arith in q));
-  differ = λ i j a b e. omega arith;
-}
+-- row by row
+pub members : (l : Launch) → IsWhole l → (g : ℕ) → g < group_count l → Members l g
+members l whole g here =
+    let m = grouping.members l whole g here in
+    record {
+      size = group_size l;
+      at = member_at l g;
+      inside = m.inside;
+      place = number_in_group l;
+      every = m.every;
+      differ = m.differ;
+    }
 
 module _ (p : Phases) (d : Device) (g : ℕ) (ms : Members d.launch g) (s : State) (D : ℕ → Cell → ℕ → Type 0) (I : ℕ → Memory → Type 0) (R : ℕ → Item → Type 0) where
   -- what the j-th item does from there

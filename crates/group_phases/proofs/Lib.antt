@@ -1,8 +1,12 @@
 pub mod Epochs
 pub mod Written
 pub mod Bodies
+pub mod TurnForms
+pub mod TurnRuns
 pub mod Laps
 pub mod Groups
+pub mod GroupForms
+pub mod Hops
 pub mod Phased
 pub mod Keeps
 pub mod LocalLoop

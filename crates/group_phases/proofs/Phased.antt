@@ -1,19 +1,25 @@
--- Kernels with such phases, with any barriers that separate what conflicts.
-use Rattle.std.proofs.Common.{◌≡◌, ℕ, zero, suc, ◌+◌, ◌<◌, ◌≤◌, List, [], ◌∷◌, refl, subst, arith}
+-- Kernels with such phases, in any form of turns, with any barriers that separate what conflicts.
+use Rattle.std.proofs.Common.{◌≡◌, ℕ, zero, suc, ◌+◌, ◌*◌, ◌<◌, ◌≤◌, ◌^◌, Bool, List, [], ◌∷◌, refl, sym, ap, ◌∙◌, subst, arith}
+use Rattle.kernel_tree.specs.declared.tree.Dimension.TheVariants.{X}
 use Rattle.kernel_tree.specs.Code.{FromGroupId, ByGroupCount, Code, End, Kernel}
-use Rattle.kernel_tree.specs.Launch.{Launch, Cells}
-use Rattle.kernel_tree.specs.Device.{device_of}
-use Rattle.kernel_tree.specs.Rounds.{Loop, frame_of}
+use Rattle.kernel_tree.specs.Launch.{Launch, Cells, IsWhole, IsFlat, item_count, groups_across, group_of, ids_of}
+use Rattle.kernel_tree.specs.Device.{Device, device_of}
+use Rattle.kernel_tree.specs.Rounds.{Loop, Counts}
+use Rattle.kernel_tree.proofs.Grouping.{group_in_launch, flat_items, flat_groups, flat_group, flat_group_id}
+use Rattle.kernel_tree.proofs.Stride.{turn_below, turn_past}
 use Rattle.barrier_placement.specs.Conflicts.{Local}
 use Rattle.barrier_placement.specs.Fencing.{Fencing}
 use Rattle.barrier_placement.specs.Separates.{Separates}
-use Rattle.group_phases.specs.Epochs.{IsPast, runs_by_turns}
+use Rattle.group_phases.specs.Epochs.{IsPast, KeepsApart, SeparatesOnce, runs_by_turns, runs_once}
 use Rattle.group_phases.specs.Work.{Work}
-use Rattle.group_phases.specs.Groups.{Body, GroupPhases, GroupLoop, loop_frames, loop_turns}
-use Rattle.group_phases.specs.Phased.{ArePhases, IsGroupKernel, PhasedMap}
+use Rattle.group_phases.specs.Groups.{Body, GroupPhases, GroupTurns, GroupForm, loop_turns}
+use Rattle.group_phases.specs.Phased.{ArePhases, IsGroupKernel, IsFormKernel, IsTestKernel, PhasedMap}
 use Rattle.group_phases.specs.Outcome.{SomeRunLeaves, BarriersServeAll}
-use Rattle.group_phases.proofs.Epochs.{apart_by_turns}
+use Rattle.group_phases.specs.TurnForms.{TakesTurns, loop_form, test_form}
+use Rattle.group_phases.proofs.Epochs.{apart_by_turns, apart_once}
+use Rattle.group_phases.proofs.GroupForms.{form_turns}
 use Rattle.group_phases.proofs.Groups.{group_map_leaves, group_map_serves}
+use Rattle.group_phases.proofs.TurnForms.{leads_here, loop_takes, test_takes}
 
 module _ (fence : ℕ → Fencing) (IsPhase : ℕ → Code → Code → Type 0) where
   -- the code before what stands before the i-th phase from q on, and after it
@@ -45,19 +51,16 @@ module _ (fence : ℕ → Fencing) (IsPhase : ℕ → Code → Code → Type 0) 
   last_in q zero code h = refl
   last_in q (suc m) code h = last_in (suc q) m h.1 h.4
 
-module _ (k : Kernel) (l : Launch) (c : Cells) (owner : (array index : ℕ) → ℕ) (wanted : List (List ℕ)) (len n : ℕ) (IsPhase : ℕ → Code → Code → Type 0) (work : Work) (h : PhasedMap k l c owner wanted len n IsPhase work) where
-  module _ (fence : ℕ → Fencing) (sep : Separates work.touches Local n fence) (printed : IsGroupKernel k l len n fence IsPhase) where
-    abbrev the_loop : Loop
-    the_loop = record { start = FromGroupId; bound = printed.bound; stride = ByGroupCount; body = printed.body; after = End }
-
+module _ (k : Kernel) (l : Launch) (c : Cells) (owner : (array index : ℕ) → ℕ) (wanted : List (List ℕ)) (turns : ℕ → ℕ) (variables : (turn item : ℕ) → List ℕ) (n : ℕ) (IsPhase : ℕ → Code → Code → Type 0) (work : Work) (h : PhasedMap k l c owner wanted turns variables n IsPhase work) where
+  module _ (fence : ℕ → Fencing) (runs_in : (epoch phase : ℕ) → Bool) (apart : KeepsApart work.touches n fence turns runs_in) (printed : IsFormKernel k l c turns variables n fence IsPhase) where
     abbrev the_body : Body
     the_body = record {
       count = n;
       before = before_in fence IsPhase 0 n printed.body printed.phases;
       fence = fence;
       code = code_in fence IsPhase 0 n printed.body printed.phases;
-      frames = loop_frames k l c the_loop;
-      turns = loop_turns l len;
+      frames = λ t j. (printed.form j).frames t;
+      turns = turns;
     }
 
     first : printed.body ≡ the_body.before 0
@@ -67,35 +70,113 @@ module _ (k : Kernel) (l : Launch) (c : Cells) (owner : (array index : ℕ) → 
     as_phases : GroupPhases k l c owner the_body work
     as_phases = record {
       whole = h.whole;
-      same_turns = λ t i j e. refl;
+      same_turns = printed.same_turns;
       past = λ q le. let e : 0 + q ≡ q = omega arith in subst (λ z. IsPast (fence z) (the_body.before q) (the_body.code q)) e (past_in fence IsPhase 0 n printed.body printed.phases q le);
       does = λ t q j tl ql jl vars v.
           let e : 0 + q ≡ q = omega arith in
-          h.does t q j tl ql jl (frame_of (device_of k l c) j the_loop t ∷ []) refl (the_body.code q) (the_body.before (suc q)) (subst (λ z. IsPhase z (the_body.code q) (the_body.before (suc q))) e (is_in fence IsPhase 0 n printed.body printed.phases q ql)) vars v;
-      runs_in = runs_by_turns fence n;
-      apart = apart_by_turns work.touches n fence (loop_turns l len) sep;
+          h.does t q j tl ql jl ((printed.form j).frames t) (printed.around t j jl) (the_body.code q) (the_body.before (suc q)) (subst (λ z. IsPhase z (the_body.code q) (the_body.before (suc q))) e (is_in fence IsPhase 0 n printed.body printed.phases q ql)) vars v;
+      runs_in = runs_in;
+      apart = apart;
       due = h.due;
       differ = h.differ;
     }
 
-    as_loop : GroupLoop k l len the_loop the_body work
-    as_loop = record {
-      loop = printed.code;
-      start = refl;
-      stride = refl;
-      nothing_after = refl;
-      first = first;
-      last = last_in fence IsPhase 0 n printed.body printed.phases;
-      bound_is = printed.bound_is;
-      small = h.small;
+    as_form : GroupForm k l c printed.form the_body work
+    as_form = record {
+      takes = printed.takes;
+      count = printed.count;
+      first = λ j. printed.first j ∙ first;
+      last = λ j. printed.last j ∙ sym (last_in fence IsPhase 0 n printed.body printed.phases);
+      frames = λ t j. refl;
       begins = h.begins;
       again = h.again;
     }
 
+    as_turns : GroupTurns k l c the_body work
+    as_turns = form_turns k l c the_body work printed.form as_form
+
     -- from every start some run leaves what is wanted
-    pub phased_leaves : SomeRunLeaves k l c owner wanted
-    phased_leaves = group_map_leaves k l c owner wanted the_body work as_phases len the_loop as_loop (λ t j. refl) (λ g. refl) h.outputs
+    pub form_leaves : SomeRunLeaves k l c owner wanted
+    form_leaves = group_map_leaves k l c owner wanted the_body work as_phases as_turns h.outputs
 
     -- and in every run barriers serve
-    pub phased_serves : BarriersServeAll k l c work.filler
-    phased_serves = group_map_serves k l c owner wanted the_body work as_phases len the_loop as_loop (λ t j. refl) (λ g. refl) h.outputs
+    pub form_serves : BarriersServeAll k l c work.filler
+    form_serves = group_map_serves k l c owner wanted the_body work as_phases as_turns h.outputs
+
+-- a loop over groups, of `len` turns in all
+module _ (k : Kernel) (l : Launch) (c : Cells) (len n : ℕ) (fence : ℕ → Fencing) (IsPhase : ℕ → Code → Code → Type 0) (whole : IsWhole l) (flat : IsFlat l) (small : len + groups_across l ≤ 2 ^ 32) (printed : IsGroupKernel k l len n fence IsPhase) where
+  abbrev d : Device
+  d = device_of k l c
+
+  abbrev the_loop : Loop
+  the_loop = record { start = FromGroupId X; bound = printed.bound; stride = ByGroupCount X; body = printed.body; after = End }
+
+  -- in one row an item's group is its group's column
+  begins : (j : ℕ) → j < item_count l → (ids_of l j).x.group_id ≡ group_of l j
+  begins j lt = flat_group_id l flat j (subst (λ z. j < z) (flat_items l flat) lt) ∙ sym (flat_group l flat whole j)
+
+  across : (j : ℕ) → j < item_count l → group_of l j < groups_across l
+  across j lt = subst (λ z. group_of l j < z) (flat_groups l flat) (group_in_launch l whole j lt)
+
+  counts : (j : ℕ) → j < item_count l → Counts d j the_loop (loop_turns l len (group_of l j))
+  counts j lt =
+      let here = across j lt in
+      let same = begins j lt in
+      let low = λ (t : ℕ) (tl : t < loop_turns l len (group_of l j)). turn_below len (groups_across l) (group_of l j) t here tl in
+      record {
+        bound = len;
+        bound_is = printed.bound_is;
+        below = λ t tl. subst (λ z. z + t * groups_across l < len) (sym same) (low t tl);
+        past = subst (λ z. len ≤ z + loop_turns l len (group_of l j) * groups_across l) (sym same) (turn_past len (groups_across l) (group_of l j) here);
+        fits = λ t tl. subst (λ z. z + suc t * groups_across l < 2 ^ 32) (sym same) (let z = low t tl in let e : suc t * groups_across l ≡ t * groups_across l + groups_across l = omega arith in omega arith);
+      }
+
+  pub loop_kernel : IsFormKernel k l c (loop_turns l len) (λ t j. (group_of l j + t * groups_across l) ∷ []) n fence IsPhase
+  loop_kernel = record {
+    form = λ j. loop_form d j [] the_loop (loop_turns l len (group_of l j));
+    body = printed.body;
+    takes = λ j lt. subst (λ z. TakesTurns d j [] z End (loop_form d j [] the_loop (loop_turns l len (group_of l j)))) (sym printed.code) (loop_takes d j [] the_loop (loop_turns l len (group_of l j)) (counts j lt));
+    count = λ j. refl;
+    first = λ j. refl;
+    last = λ j. refl;
+    same_turns = λ t i j e. refl;
+    around = λ t j lt. ap (λ z. (z + t * groups_across l) ∷ []) (begins j lt);
+    phases = printed.phases;
+  }
+
+-- a statement that tests, or none at all: at most one turn
+module _ (k : Kernel) (l : Launch) (c : Cells) (turns : ℕ → ℕ) (n : ℕ) (fence : ℕ → Fencing) (IsPhase : ℕ → Code → Code → Type 0) where
+  pub test_kernel : IsTestKernel k l c turns n fence IsPhase → IsFormKernel k l c turns (λ t j. []) n fence IsPhase
+  test_kernel h = record {
+    form = λ j. test_form [] h.body End (turns (group_of l j));
+    body = h.body;
+    takes = λ j lt. test_takes (device_of k l c) j [] k.code h.body End (turns (group_of l j)) (h.tests j lt);
+    count = λ j. refl;
+    first = λ j. refl;
+    last = λ j. refl;
+    same_turns = λ t i j e. refl;
+    around = λ t j lt. refl;
+    phases = h.phases;
+  }
+
+  -- the turn alone, of one group
+  pub alone_kernel : ((j : ℕ) → j < item_count l → turns (group_of l j) ≡ 1) → ArePhases fence IsPhase 0 n k.code → IsFormKernel k l c turns (λ t j. []) n fence IsPhase
+  alone_kernel one phases = test_kernel (record {
+    body = k.code;
+    tests = λ j lt. let e = one j lt in record { at_most_one = omega arith; enters = λ vars some. leads_here (device_of k l c) j _ _ refl; passes = λ vars none. absurd (omega arith) };
+    phases = phases;
+  })
+
+-- of any form: by turns where barriers separate, and of one turn with no closing barrier
+module _ (k : Kernel) (l : Launch) (c : Cells) (owner : (array index : ℕ) → ℕ) (wanted : List (List ℕ)) (turns : ℕ → ℕ) (variables : (turn item : ℕ) → List ℕ) (n : ℕ) (IsPhase : ℕ → Code → Code → Type 0) (work : Work) (h : PhasedMap k l c owner wanted turns variables n IsPhase work) (fence : ℕ → Fencing) (printed : IsFormKernel k l c turns variables n fence IsPhase) where
+  pub phased_leaves : Separates work.touches Local n fence → SomeRunLeaves k l c owner wanted
+  phased_leaves sep = form_leaves k l c owner wanted turns variables n IsPhase work h fence (runs_by_turns fence n) (apart_by_turns work.touches n fence turns sep) printed
+
+  pub phased_serves : Separates work.touches Local n fence → BarriersServeAll k l c work.filler
+  phased_serves sep = form_serves k l c owner wanted turns variables n IsPhase work h fence (runs_by_turns fence n) (apart_by_turns work.touches n fence turns sep) printed
+
+  pub once_leaves : ((g : ℕ) → turns g ≤ 1) → SeparatesOnce work.touches n fence → SomeRunLeaves k l c owner wanted
+  once_leaves few sep = form_leaves k l c owner wanted turns variables n IsPhase work h fence (runs_once fence) (apart_once work.touches n fence turns few sep) printed
+
+  pub once_serves : ((g : ℕ) → turns g ≤ 1) → SeparatesOnce work.touches n fence → BarriersServeAll k l c work.filler
+  once_serves few sep = form_serves k l c owner wanted turns variables n IsPhase work h fence (runs_once fence) (apart_once work.touches n fence turns few sep) printed

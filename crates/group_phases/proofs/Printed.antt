@@ -1,12 +1,13 @@
 -- Phases that are printed terms do the work of their turns, and so every kernel that is printed for them keeps the headline.
-use Rattle.std.proofs.Common.{◌≡◌, ℕ, zero, suc, ◌+◌, ◌%◌, ◌<◌, ◌≤◌, List, [], ◌∷◌, length, All, refl, sym, ap, ◌∙◌, subst, inl, ⊎_elim, arith}
+use Rattle.std.proofs.Common.{◌≡◌, ℕ, zero, suc, ◌+◌, ◌*◌, ◌%◌, ◌<◌, ◌≤◌, List, [], ◌∷◌, length, All, refl, sym, ap, ◌∙◌, subst, inl, ⊎_elim, arith}
 use Rattle.std.proofs.Math.Nat.{mod-lt}
+use Rattle.kernel_tree.specs.Formula.{Vars}
 use Rattle.kernel_tree.specs.Code.{Input, Output, Local, Private, Code, Kernel}
-use Rattle.kernel_tree.specs.Launch.{Launch, Cells, group_of, group_count}
+use Rattle.kernel_tree.specs.Launch.{Launch, Cells, group_of, groups_across, item_count}
 use Rattle.kernel_tree.specs.Item.{Frame, loop_variables}
 use Rattle.kernel_tree.specs.Device.{Device, Cell, cell_at, Memory, device_of}
 use Rattle.kernel_tree.specs.Independent.{Owners}
-use Rattle.kernel_tree.proofs.Grouping.{group_in_launch}
+use Rattle.kernel_tree.proofs.Grouping.{group_in_launch, flat_items, flat_groups, flat_group, flat_group_id, flat_local}
 use Rattle.kernel_tree.proofs.Stride.{turns_of, turn_below}
 use Rattle.barrier_placement.specs.Conflicts as placed
 use Rattle.barrier_placement.specs.Conflicts.{space_of}
@@ -14,10 +15,11 @@ use Rattle.barrier_placement.specs.Fencing.{Fencing}
 use Rattle.barrier_placement.specs.Laws.{NeededBarriersSeparate}
 use Rattle.barrier_placement.specs.Needed.{Needed}
 use Rattle.barrier_placement.specs.Separates.{Separates}
+use Rattle.lift_ir.specs.Terms.{WorkGroup}
 use Rattle.printed_form.specs.Headline.{EveryRunKeeps}
 use Rattle.printed_form.specs.Marks.{Mark, Nowhere, Register, Spot, loaded_marks}
 use Rattle.printed_form.specs.Counts.{load_count, variable_count, private_count}
-use Rattle.printed_form.specs.Form.{IsLoaded}
+use Rattle.printed_form.specs.Form.{IsTurnOf, IsLoaded}
 use Rattle.printed_form.specs.Runs.{Setting, Known, Kept, Scratch, spot_cell, HoldsAt, Holds, DueAt, nothing, no_target, known_after}
 use Rattle.printed_form.specs.Whole.{IsGiven}
 use Rattle.printed_form.proofs.Cells.{loads_run}
@@ -25,10 +27,10 @@ use Rattle.printed_form.proofs.Loops.{Rows}
 use Rattle.group_phases.specs.Bodies.{is_private, IsShared, IsReady, CanDo}
 use Rattle.group_phases.specs.Work.{IsKnown}
 use Rattle.group_phases.specs.Groups.{loop_turns}
-use Rattle.group_phases.specs.Phased.{IsGroupKernel, PhasedMap}
+use Rattle.group_phases.specs.Phased.{IsGroupKernel, IsFormKernel, PhasedMap}
 use Rattle.group_phases.specs.Outcome.{BarriersServeAll}
 use Rattle.group_phases.proofs.Bodies.{silent_then}
-use Rattle.group_phases.proofs.Phased.{phased_leaves, phased_serves}
+use Rattle.group_phases.proofs.Phased.{loop_kernel, phased_leaves, phased_serves}
 use Rattle.group_phases.specs.Phases.{PhaseList, turn_of, row_of, cell_of, phase_scalars, targets, HoldsTurn, knows, work_of, IsPhaseLoop, IsPhase, IsRead, IsFillable}
 use Rattle.group_phases.specs.Printed.{IsPhased}
 use Rattle.group_phases.proofs.Keeps.{keeps_from_chunks}
@@ -50,11 +52,11 @@ module _ {A : Type 0} (num : A → ℕ) (k : Kernel) (l : Launch) (c : Cells) (o
   setting q j o = record { device = d; item = j; owners = o; locals = (p.phase q).locals }
 
   -- what an item knows before its rows of a phase
-  abbrev before_rows : (q : ℕ) → Memory → List ℕ → Known
+  abbrev before_rows : (q : ℕ) → Memory → Vars → Known
   before_rows q m vars = record { memory = m; vars = vars; count = (p.phase q).variables; arrays = (p.phase q).privates }
 
   -- and before the loads of the turn's scalars
-  abbrev before_loads : Memory → List ℕ → Known
+  abbrev before_loads : Memory → Vars → Known
   before_loads m vars = record { memory = m; vars = vars; count = 0; arrays = (p.phase 0).privates }
 
   abbrev known : (t q j : ℕ) → Cell → Type 0
@@ -66,13 +68,18 @@ module _ {A : Type 0} (num : A → ℕ) (k : Kernel) (l : Launch) (c : Cells) (o
   abbrev Ready : (t q j : ℕ) → Owners → Memory → (target : Cell → Type 0) → Type 0
   Ready t q j o m target = IsReady j o m (known t q j) target (p.value (group_of l j) t)
 
-  abbrev Does : (t q j : ℕ) → (target : Cell → Type 0) → List Frame → Code → List ℕ → Code → Type 0
+  abbrev Does : (t q j : ℕ) → (target : Cell → Type 0) → List Frame → Code → Vars → Code → Type 0
   Does t q j target fs code vars rest = CanDo d j (known t q j) target (p.value (group_of l j) t) fs code vars rest (knows num l p t (suc q) j)
 
-  in_turns : (t j : ℕ) → j < l.global → t < loop_turns l p.turns (group_of l j) → turn_of l t j < p.turns
-  in_turns t j jl tl = turn_below p.turns (group_count l) (group_of l j) t (group_in_launch l h.room.whole j jl) tl
+  in_turns : (t j : ℕ) → j < item_count l → t < loop_turns l p.turns (group_of l j) → turn_of l t j < p.turns
+  in_turns t j jl tl = turn_below p.turns (groups_across l) (group_of l j) t (subst (λ z. group_of l j < z) (flat_groups l h.room.flat) (group_in_launch l h.room.whole j jl)) tl
 
-  holds_at : (t q j : ℕ) (o : Owners) (m : Memory) (vars : List ℕ) (x : Mark) (v : ℕ) → q < p.count → HoldsTurn num l p (turn_of l t j) vars → Ready t q j o m (mine t q j) → IsRead num k l c p t q j x v → HoldsAt (setting q j o) (before_rows q m vars) x v
+  -- the turn is one that the item takes of the map over groups
+  own_turn : (t j : ℕ) → j < item_count l → IsTurnOf l j WorkGroup (turn_of l t j)
+  own_turn t j jl =
+      (t, ap (λ g. g + t * groups_across l) (flat_group l h.room.flat h.room.whole j ∙ sym (flat_group_id l h.room.flat j (subst (λ z. j < z) (flat_items l h.room.flat) jl))))
+
+  holds_at : (t q j : ℕ) (o : Owners) (m : Memory) (vars : Vars) (x : Mark) (v : ℕ) → q < p.count → HoldsTurn num l p (turn_of l t j) vars → Ready t q j o m (mine t q j) → IsRead num k l c p t q j x v → HoldsAt (setting q j o) (before_rows q m vars) x v
   holds_at t q j o m vars (Spot b i) v ql held ready r = record { within = r.0; may = ready.may (cell_at l j b i) r.2; filled = r.1; holds = ready.holds (cell_at l j b i) r.2 ∙ r.3 }
   holds_at t q j o m vars (Register x) v ql held ready r = let z = held x v r in let y = h.room.after_top q ql in (let lt = z.0 in omega arith, z.1)
   holds_at t q j o m vars Nowhere v ql held ready r = absurd r
@@ -82,12 +89,12 @@ module _ {A : Type 0} (num : A → ℕ) (k : Kernel) (l : Launch) (c : Cells) (o
   due_at t q j o m (Register r) ready f x = absurd f
   due_at t q j o m Nowhere ready f x = absurd f
 
-  kept_on : (t q j : ℕ) (vars later : List ℕ) → q < p.count → Kept (p.phase q).variables vars later → knows num l p t (suc q) j vars → knows num l p t (suc q) j later
+  kept_on : (t q j : ℕ) (vars later : Vars) → q < p.count → Kept (p.phase q).variables vars later → knows num l p t (suc q) j vars → knows num l p t (suc q) j later
   kept_on t q j vars later ql kept u =
       (subst (λ z. p.variables ≤ z) (sym kept.long) u.0, λ r v b. let x = u.1 r v b in let y = h.room.after_top q ql in (x.0, kept.same r (let lt = x.0 in omega arith) ∙ x.1))
 
   -- an item's rows of a phase
-  rows_do : (t q j : ℕ) → t < loop_turns l p.turns (group_of l j) → q < p.count → j < l.global → (fs : List Frame) → loop_variables fs ≡ turn_of l t j ∷ [] → (code rest : Code) → IsPhaseLoop num l p q code rest → (vars : List ℕ) → knows num l p t (suc q) j vars → Does t q j (mine t q j) fs code vars rest
+  rows_do : (t q j : ℕ) → t < loop_turns l p.turns (group_of l j) → q < p.count → j < item_count l → (fs : List Frame) → loop_variables fs ≡ turn_of l t j ∷ [] → (code rest : Code) → IsPhaseLoop num l p q code rest → (vars : Vars) → knows num l p t (suc q) j vars → Does t q j (mine t q j) fs code vars rest
   rows_do t q j tl ql jl fs ts code rest is vars u o m ready =
       let i = turn_of l t j in
       let il = in_turns t j jl tl in
@@ -97,27 +104,28 @@ module _ {A : Type 0} (num : A → ℕ) (k : Kernel) (l : Launch) (c : Cells) (o
       let x = before_rows q m vars in
       let fits = h.room.fits q ql in
       let enough = u.0 in
-      let below = λ (z : ℕ) (lt : z < turns_of f.len l.local (j % l.local)). turn_below f.len l.local (j % l.local) z (mod-lt j h.room.whole.positive) lt in
-      let r = local_run st num p.ins p.src p.sources (λ a n. ready.own (spot_cell st (Private a) n) (refl, refl)) h.room.whole.positive f.len f.loads f.body (i ∷ []) fs ts f.types at.env at.sems f.element f.result at.marks at.to at.scalars x code rest
-      (h.room.rows q ql) (h.types.loads q ql) (h.types.typed q ql) (h.types.declares q ql) (h.fills.places i q j il ql)
+      let below = λ (z : ℕ) (lt : z < turns_of f.len l.local.0 (j % l.local.0)). turn_below f.len l.local.0 (j % l.local.0) z (mod-lt j h.room.whole.x.positive) lt in
+      let r = local_run st num p.ins p.src p.sources (λ a n. ready.own (spot_cell st (Private a) n) (refl, refl)) h.room.whole.x.positive f.len f.loads f.body (i ∷ []) fs ts f.types at.env at.sems f.element f.result at.marks at.to at.scalars x code rest
+      (h.types.loads q ql) (h.types.typed q ql) (h.types.declares q ql) (h.fills.places i q j il ql)
       (λ z lt. record {
         at = λ cs s inside. due_at t q j o m (at.to cs (row_of l j z ∷ s)) ready (h.fills.fillable i q il ql cs (row_of l j z ∷ s) (below z lt, inside)) (il, z, lt, cs, s, inside, refl);
         choices = λ cs ds s r2 a b e. h.fills.choices i q j il ql cs ds (row_of l j z ∷ s) (row_of l j z ∷ r2) (below z lt, a) (below z lt, b) e;
         places = λ cs ds s r2 a b e. rest_is (row_of l j z) (row_of l j z) s r2 (h.fills.places i q j il ql cs ds (row_of l j z ∷ s) (row_of l j z ∷ r2) (below z lt, a) (below z lt, b) e);
       })
-      (is i il) (omega arith)
+      (omega arith)
       (λ z lt cs s a. holds_at t q j o m vars (at.marks cs (row_of l j z ∷ s)) (at.scalars cs (row_of l j z ∷ s)) ql u.1 ready (h.reads.elements t q j z il ql jl lt cs s a))
       (λ v cs s a. holds_at t q j o m vars (at.env v cs s) (at.sems v cs s) ql u.1 ready (h.reads.envs t q j v il ql jl cs s a))
       (λ v cs s a. holds_at t q j o m vars (p.ins v cs s) (p.sources v cs s) ql u.1 ready (h.reads.inputs t q j v il ql jl cs s a))
+      (flat_local l h.room.flat h.room.whole j) (h.room.rows q ql) (is j i jl il (own_turn t j jl))
       in
       part_of_run d j f.locals o m vars f.variables f.privates fs code rest (f.variables + load_count f.loads + variable_count f.body) (f.privates + private_count f.body) (Scratch f.privates (f.privates + private_count f.body))
-      (Rows st (row_of l j) f.result at.to (phase_scalars num l p i q) (turns_of f.len l.local (j % l.local))) (λ z. Unit {0}) (mine t q j) (p.value (group_of l j) t) (knows num l p t (suc q) j)
+      (Rows st (row_of l j) f.result at.to (phase_scalars num l p i q) (turns_of f.len l.local.0 (j % l.local.0))) (λ z. Unit {0}) (mine t q j) (p.value (group_of l j) t) (knows num l p t (suc q) j)
       (λ b y. (y.1, y.2, (y.3, y.4, y.5, y.6, ap (p.value (group_of l j) t) y.6 ∙ h.fills.valued t q j il ql jl y.3 (row_of l j y.1 ∷ y.4) (below y.1 y.2, y.5))))
       (λ b v y. let z = y.2 in (il, y.0, y.1, z.0, z.1, z.2, z.3))
       (λ b s y. scratch_private f.privates (f.privates + private_count f.body) b s y)
       r (kept_on t q j vars r.after ql r.later.kept u)
 
-  given_at : (t j : ℕ) (o : Owners) (m : Memory) (vars : List ℕ) (x : Mark) (v : ℕ) (target : Cell → Type 0) → Ready t 0 j o m target → IsGiven c x v → HoldsAt (setting 0 j o) (before_loads m vars) x v
+  given_at : (t j : ℕ) (o : Owners) (m : Memory) (vars : Vars) (x : Mark) (v : ℕ) (target : Cell → Type 0) → Ready t 0 j o m target → IsGiven c x v → HoldsAt (setting 0 j o) (before_loads m vars) x v
   given_at t j o m vars (Spot (Input b) i) v target ready g =
       let has = h.reads.given (group_of l j) t b i in
       let know : known t 0 j (cell_at l j (Input b) i) = inl (record { array = b; index = i; is = refl; within = g.0; has = has }) in
@@ -129,7 +137,7 @@ module _ {A : Type 0} (num : A → ℕ) (k : Kernel) (l : Launch) (c : Cells) (o
   given_at t j o m vars Nowhere v target ready g = absurd g
 
   -- the loads of the turn's scalars
-  loads_do : (t j : ℕ) → t < loop_turns l p.turns (group_of l j) → j < l.global → (fs : List Frame) → loop_variables fs ≡ turn_of l t j ∷ [] → (code mid : Code) → ((i : ℕ) → i < p.turns → IsLoaded l p.ins (i ∷ []) p.top.loads (p.top.marks i) 0 code mid) → (vars : List ℕ) → p.variables ≤ length vars
+  loads_do : (t j : ℕ) → t < loop_turns l p.turns (group_of l j) → j < item_count l → (fs : List Frame) → loop_variables fs ≡ turn_of l t j ∷ [] → (code mid : Code) → ((item i : ℕ) → item < item_count l → i < p.turns → IsTurnOf l item WorkGroup i → IsLoaded l item p.ins (i ∷ []) p.top.loads (p.top.marks i) 0 code mid) → (vars : Vars) → p.variables ≤ length vars.words
       → Does t 0 j (λ b. ⊥) fs code vars mid
   loads_do t j tl jl fs ts code mid is vars long o m ready =
       let i = turn_of l t j in
@@ -138,7 +146,7 @@ module _ {A : Type 0} (num : A → ℕ) (k : Kernel) (l : Launch) (c : Cells) (o
       let x = before_loads m vars in
       let room = h.room.fits 0 h.room.some in
       let base = h.room.after_top 0 h.room.some in
-      let r = loads_run st (i ∷ []) fs ts p.ins p.top.loads p.top.type (p.top.marks i) (p.top.scalars i) x code mid h.types.top_loads (is i il) (omega arith)
+      let r = loads_run st (i ∷ []) fs ts p.ins p.top.loads p.top.type (p.top.marks i) (p.top.scalars i) x code mid h.types.top_loads (is j i jl il (own_turn t j jl)) (omega arith)
       (λ cs s z. given_at t j o m vars (p.top.marks i cs s) (p.top.scalars i cs s) (λ b. ⊥) ready (h.reads.top i il cs s z)) in
       part_of_run d j (p.phase 0).locals o m vars 0 (p.phase 0).privates fs code mid (0 + load_count p.top.loads) (p.phase 0).privates nothing no_target (λ y. Holds st y p.top.type (loaded_marks p.top.loads (p.top.marks i) 0) (p.top.scalars i)) (λ b. ⊥) (p.value (group_of l j) t) (knows num l p t 1 j)
       (λ b z. absurd z) (λ b v z. z) (λ b z s. z) r (
@@ -151,23 +159,22 @@ module _ {A : Type 0} (num : A → ℕ) (k : Kernel) (l : Launch) (c : Cells) (o
   known_shared : (t q j : ℕ) (b : Cell) → known t q j b → IsShared b
   known_shared t q j b x = ⊎_elim (λ y. ap (λ z. is_private z.array) y.is) (λ y. ap (λ z. is_private z.array) y.is) x
 
-  target_shared : (t q j : ℕ) (b : Cell) → q < p.count → j < l.global → mine t q j b → IsShared b
+  target_shared : (t q j : ℕ) (b : Cell) → q < p.count → j < item_count l → mine t q j b → IsShared b
   target_shared t q j b ql jl x = ⊎_elim (λ y. ap (λ z. is_private z.array) y.is) (λ y. ap (λ z. is_private z.array) y.is) (h.writes.due t q j b ql jl x)
 
-  does : (t q j : ℕ) → t < loop_turns l p.turns (group_of l j) → q < p.count → j < l.global → (fs : List Frame) → loop_variables fs ≡ turn_of l t j ∷ [] → (code rest : Code) → IsPhase num l p q code rest → (vars : List ℕ) → knows num l p t q j vars → Does t q j (mine t q j) fs code vars rest
+  does : (t q j : ℕ) → t < loop_turns l p.turns (group_of l j) → q < p.count → j < item_count l → (fs : List Frame) → loop_variables fs ≡ turn_of l t j ∷ [] → (code rest : Code) → IsPhase num l p q code rest → (vars : Vars) → knows num l p t q j vars → Does t q j (mine t q j) fs code vars rest
   does t zero j tl ql jl fs ts code rest is vars v =
       silent_then d j (known t 0 j) (mine t 0 j) (p.value (group_of l j) t) fs code is.0 rest vars (knows num l p t 1 j) (knows num l p t 1 j) (known_shared t 0 j) (λ b x. target_shared t 0 j b ql jl x)
       (loads_do t j tl jl fs ts code is.0 is.1 vars v) (λ vs u. rows_do t 0 j tl ql jl fs ts is.0 rest is.2 vs u)
   does t (suc q) j tl ql jl fs ts code rest is vars v = rows_do t (suc q) j tl ql jl fs ts code rest is vars v
 
-  long_of : (t q j : ℕ) (vars : List ℕ) → knows num l p t q j vars → p.variables ≤ length vars
+  long_of : (t q j : ℕ) (vars : Vars) → knows num l p t q j vars → p.variables ≤ length vars.words
   long_of t zero j vars v = v
   long_of t (suc q) j vars v = v.0
 
-  pub phased : PhasedMap k l c owner wanted p.turns p.count (IsPhase num l p) (work_of num l p)
+  pub phased : PhasedMap k l c owner wanted (loop_turns l p.turns) (λ t j. turn_of l t j ∷ []) p.count (IsPhase num l p) (work_of num l p)
   phased = record {
     whole = h.room.whole;
-    small = h.room.turns;
     begins = λ j vars jl e. let r = h.room.variables in omega arith;
     again = λ t j vars jl v. long_of t p.count j vars v;
     does = does;
@@ -176,12 +183,15 @@ module _ {A : Type 0} (num : A → ℕ) (k : Kernel) (l : Launch) (c : Cells) (o
     outputs = h.outputs;
   }
 
+  as_form : (fence : ℕ → Fencing) → IsGroupKernel k l p.turns p.count fence (IsPhase num l p) → IsFormKernel k l c (loop_turns l p.turns) (λ t j. turn_of l t j ∷ []) p.count fence (IsPhase num l p)
+  as_form fence printed = loop_kernel k l c p.turns p.count fence (IsPhase num l p) h.room.whole h.room.flat h.room.turns printed
+
   -- with any barriers that separate the conflicting phases
   pub phased_keeps : (fence : ℕ → Fencing) → Separates p.touches placed.Local p.count fence → IsGroupKernel k l p.turns p.count fence (IsPhase num l p) → EveryRunKeeps k l c owner wanted
-  phased_keeps fence sep printed = keeps_from_chunks k l c owner wanted h.room.whole h.shape (phased_leaves k l c owner wanted p.turns p.count (IsPhase num l p) (work_of num l p) phased fence sep printed)
+  phased_keeps fence sep printed = keeps_from_chunks k l c owner wanted h.room.whole h.shape (phased_leaves k l c owner wanted (loop_turns l p.turns) (λ t j. turn_of l t j ∷ []) p.count (IsPhase num l p) (work_of num l p) phased fence (as_form fence printed) sep)
 
   pub phases_serve : (fence : ℕ → Fencing) → Separates p.touches placed.Local p.count fence → IsGroupKernel k l p.turns p.count fence (IsPhase num l p) → BarriersServeAll k l c p.filler
-  phases_serve fence sep printed = phased_serves k l c owner wanted p.turns p.count (IsPhase num l p) (work_of num l p) phased fence sep printed
+  phases_serve fence sep printed = phased_serves k l c owner wanted (loop_turns l p.turns) (λ t j. turn_of l t j ∷ []) p.count (IsPhase num l p) (work_of num l p) phased fence (as_form fence printed) sep
 
   -- with the needed barriers, where all uses are of local arrays
   pub needed_keep : NeededBarriersSeparate → (fence : ℕ → Fencing) → All (λ x. space_of x.local ≡ placed.Local) p.touches → Needed p.touches p.count fence → IsGroupKernel k l p.turns p.count fence (IsPhase num l p) → EveryRunKeeps k l c owner wanted

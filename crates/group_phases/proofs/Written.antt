@@ -3,17 +3,18 @@ use Rattle.std.proofs.Common.{◌≡◌, ℕ, suc, ◌+◌, ◌<◌, ◌⊎◌, 
 use Rattle.std.specs.Prelude.{if◌then◌else◌}
 use Rattle.std.proofs.lemmas.Bool.{cases_lt, both_ways}
 use Rattle.kernel_tree.specs.declared.events.Event.TheVariants.{Release}
+use Rattle.kernel_tree.specs.Formula.{Vars}
 use Rattle.kernel_tree.specs.Code.{Array, Input, Output, Local, Private, Code}
 use Rattle.kernel_tree.specs.Launch.{group_of, item_count}
 use Rattle.kernel_tree.specs.Item.{Item, item, Frame}
-use Rattle.kernel_tree.specs.Device.{Device, Cell, Memory, State, Enabled, after, same_cell}
-use Rattle.kernel_tree.specs.Deeds.{Deed, Moved, Got, Gave, Goes, WritesTo, written}
-use Rattle.kernel_tree.specs.Independent.{write_count}
+use Rattle.kernel_tree.specs.Device.{Device, Cell, Memory, State, Enabled, after, behind, same_cell}
+use Rattle.kernel_tree.specs.Deeds.{Deed, Moved, Got, Gave, GotFour, GaveFour, Goes, WritesTo, written}
+use Rattle.kernel_tree.specs.Independent.{one_if_same, write_count}
 use Rattle.kernel_tree.specs.Chunks.{Chunk, By, Rel, chunk_state, Phases, owners_at, chunk_writes}
 use Rattle.kernel_tree.proofs.Confluence.{same_cell-itself}
 use Rattle.kernel_tree.proofs.Chunks.{chunked-append}
 use Rattle.kernel_tree.proofs.Independent.{written-kept}
-use Rattle.group_phases.specs.Bodies.{is_private, IsShared, Part}
+use Rattle.group_phases.specs.Bodies.{is_private, IsShared, Part, Hop}
 use Rattle.group_phases.specs.Written.{is_global, IsGlobal, is_input, Writes, Nothing, DoneBy, LeavesOtherGroups}
 
 global_shared : (c : Cell) → IsGlobal c → IsShared c
@@ -25,18 +26,24 @@ global_shared c h = go c.array h
     go (Local n) e = refl
     go (Private n) e = absurd (true≢false (sym e))
 
+same_counts : (b c : Cell) → c ≡ b → one_if_same b c ≡ 1
+same_counts b c q = ap (λ t. if t then 1 else 0) (subst (λ x. same_cell b x ≡ true) (sym q) (same_cell-itself b))
+
 pub writes_count : (c : Cell) (ds : List Deed) → WritesTo c ds → write_count c ds ≡ 0 → ⊥
 writes_count c [] w e = w
 writes_count c (Moved ∷ ds) w e = writes_count c ds w e
 writes_count c (Got b ∷ ds) w e = writes_count c ds w e
-writes_count c (Gave b v ∷ ds) w e =
+writes_count c (Gave b v ∷ ds) w e = ⊎_elim (λ q. let n = same_counts b c q in absurd (omega arith)) (λ r. writes_count c ds r (omega arith)) w
+writes_count c (GotFour b ∷ ds) w e = writes_count c ds w e
+writes_count c (GaveFour b u ∷ ds) w e =
     ⊎_elim
-    (λ q. let s : same_cell b c ≡ true = subst (λ x. same_cell b x ≡ true) (sym q) (same_cell-itself b) in let n : (if same_cell b c then 1 else 0) ≡ 1 = ap (λ t. if t then 1 else 0) s in absurd (positive (if same_cell b c then 1 else 0) (write_count c ds) n e))
-    (λ r. writes_count c ds r (let z = e in let n : ℕ = if same_cell b c then 1 else 0 in omega arith))
+    (λ four. ⊎_elim (λ q. let n = same_counts b c q in absurd (omega arith))
+    (λ more. ⊎_elim (λ q. let n = same_counts (behind 1 b) c q in absurd (omega arith))
+    (λ more. ⊎_elim (λ q. let n = same_counts (behind 2 b) c q in absurd (omega arith))
+    (λ more. ⊎_elim (λ q. let n = same_counts (behind 3 b) c q in absurd (omega arith)) (λ none. none)
+    more) more) more) four)
+    (λ r. writes_count c ds r (omega arith))
     w
-  where
-    positive : (a b : ℕ) → a ≡ 1 → a + b ≡ 0 → ⊥
-    positive a b p q = omega arith
 
 pub untouched : (c : Cell) (ds : List Deed) (m : Memory) → write_count c ds ≡ 0 → written ds m c ≡ m c
 untouched c ds m e = written-kept ds m c (λ w. writes_count c ds w e)
@@ -110,12 +117,19 @@ module _ (p : Phases) (d : Device) where
   unfolding after
   writes_release s g e = record { chunked = (e, tt, refl); quiet = λ c l n. refl; once = λ c v l x. absurd x; holds = λ c v l x. absurd x; kept = λ c l q. refl; inputs = λ c i. refl }
 
-  -- an item by a move
-  pub writes_move : (s : State) (k : ℕ) (y : Item) → k < item_count d.launch → ((m : Memory) → Goes d k (s.items k) m (Moved ∷ []) y) → Writes p d s (chunk_state d s (By k (Moved ∷ []) y)) (By k (Moved ∷ []) y ∷ []) Nothing
-  writes_move s k y lt g = record { chunked = ((lt, g s.memory), (tt, tt), refl); quiet = λ c l n. omega arith; once = λ c v l x. absurd x; holds = λ c v l x. absurd x; kept = λ c l q. refl; inputs = λ c i. refl }
+  -- an item that goes on between turns
+  pub writes_hop : (s : State) (k : ℕ) (x : Item) (Then : Item → Type 0) → k < item_count d.launch → s.items k ≡ x → (r : Hop d k (owners_at p (s.epochs (group_of d.launch k))) s.memory x Then) → Writes p d s (chunk_state d s (By k r.deeds r.after)) (By k r.deeds r.after ∷ []) Nothing
+  writes_hop s k x Then lt stands r = record {
+    chunked = ((lt, subst (λ z. Goes d k z s.memory r.deeds r.after) (sym stands) r.goes), r.allowed, refl);
+    quiet = λ c l n. let e = r.quiet c (global_shared c l) in omega arith;
+    once = λ c v l x. absurd x;
+    holds = λ c v l x. absurd x;
+    kept = λ c l e. untouched c r.deeds s.memory (r.quiet c (global_shared c l));
+    inputs = λ c i. untouched c r.deeds s.memory (r.quiet c (input_shared c.array i));
+  }
 
   -- an item by its part
-  pub writes_item : (s : State) (k : ℕ) (target : Cell → Type 0) (value : Cell → ℕ) (fs : List Frame) (code : Code) (vars : List ℕ) (rest : Code) (V : List ℕ → Type 0) → k < item_count d.launch → s.items k ≡ item code fs vars
+  pub writes_item : (s : State) (k : ℕ) (target : Cell → Type 0) (value : Cell → ℕ) (fs : List Frame) (code : Code) (vars : Vars) (rest : Code) (V : Vars → Type 0) → k < item_count d.launch → s.items k ≡ item code fs vars
       → (r : Part d k (owners_at p (s.epochs (group_of d.launch k))) s.memory target value fs code vars rest V) → ((c : Cell) → target c → is_input c.array ≡ false)
       → Writes p d s (chunk_state d s (By k r.deeds (item rest fs r.after))) (By k r.deeds (item rest fs r.after) ∷ []) (λ c v. target c × (value c ≡ v))
   writes_item s k target value fs code vars rest V lt stands r output = record {

@@ -8,3 +8,5 @@ pub mod Phased
 pub mod Outcome
 pub mod Phases
 pub mod Printed
+pub mod TurnForms
+pub mod Hops

@@ -1,16 +1,17 @@
 -- The phases of a map over work-groups, each a map over the items of a group, with what stands for its values at every turn.
-use Rattle.std.specs.Prelude.{◌≡◌, ℕ, zero, suc, ◌+◌, ◌*◌, ◌%◌, ◌<◌, ◌≤◌, Bool, List, [], ◌∷◌, None, length, slice_index}
+use Rattle.std.specs.Prelude.{◌≡◌, ℕ, zero, suc, ◌+◌, ◌*◌, ◌%◌, ◌<◌, ◌≤◌, Bool, List, [], ◌∷◌, None, length}
+use Rattle.kernel_tree.specs.Formula.{Vars, word}
 use Rattle.kernel_tree.specs.Code.{Code, End, Kernel}
-use Rattle.kernel_tree.specs.Launch.{Launch, Cells, group_of, group_count}
+use Rattle.kernel_tree.specs.Launch.{Launch, Cells, item_count, group_of, groups_across}
 use Rattle.kernel_tree.specs.Device.{Cell, cell_at, length_in}
 use Rattle.kernel_tree.proofs.Stride.{turns_of}
 use Rattle.barrier_placement.specs.declared.touches.Touch.{Touch}
 use Rattle.lift_ir.specs.Types.{Ty, IsPosition}
-use Rattle.lift_ir.specs.Terms.{LoadSet, Local, Term, push}
+use Rattle.lift_ir.specs.Terms.{LoadSet, WorkGroup, Local, Term, push}
 use Rattle.lift_ir.specs.Scalars.{Scalars, at_index, mapped, scalars_of}
 use Rattle.printed_form.specs.Marks.{Mark, Nowhere, Register, Spot, Marks, loaded_marks}
 use Rattle.printed_form.specs.Counts.{load_count, private_count}
-use Rattle.printed_form.specs.Form.{IsLoaded, IsLoop, IsWritten}
+use Rattle.printed_form.specs.Form.{IsTurnOf, IsLoaded, IsLoop, IsWritten}
 use Rattle.printed_form.specs.Runs.{IsFilled, IsOpen, mark_cell}
 use Rattle.group_phases.specs.Work.{Work, IsKnown}
 
@@ -59,11 +60,11 @@ pub record PhaseList (A : Type 0) : Type 0 where
 
 -- the turn of the whole map that the j-th item's group takes as its t-th
 abbrev pub turn_of : Launch → (t j : ℕ) → ℕ
-turn_of l t j = group_of l j + t * group_count l
+turn_of l t j = group_of l j + t * groups_across l
 
 -- the row of a phase that the j-th item fills as its u-th
 abbrev pub row_of : Launch → (j u : ℕ) → ℕ
-row_of l j u = j % l.local + u * l.local
+row_of l j u = j % l.local.0 + u * l.local.0
 
 -- the cell of a mark, for the j-th item
 abbrev pub cell_of : Launch → (j : ℕ) → Mark → Cell
@@ -77,36 +78,36 @@ module _ {A : Type 0} (num : A → ℕ) (l : Launch) (p : PhaseList A) where
   -- the j-th item's rows of phase q in its t-th turn
   abbrev pub targets : (t q j : ℕ) → Cell → Type 0
   targets t q j b =
-      (turn_of l t j < p.turns) × (u : ℕ) × (u < turns_of (p.phase q).len l.local (j % l.local)) × (cs : List Bool) × (r : List ℕ) × IsPosition (p.phase q).result cs r × (b ≡ cell_of l j ((p.place (turn_of l t j) q).to cs (row_of l j u ∷ r)))
+      (turn_of l t j < p.turns) × (u : ℕ) × (u < turns_of (p.phase q).len l.local.0 (j % l.local.0)) × (cs : List Bool) × (r : List ℕ) × IsPosition (p.phase q).result cs r × (b ≡ cell_of l j ((p.place (turn_of l t j) q).to cs (row_of l j u ∷ r)))
 
   -- one of the bound element's scalars is in this variable at turn i, and is v
   abbrev pub IsBoundScalar : (i var v : ℕ) → Type 0
   IsBoundScalar i var v = (cs : List Bool) × (r : List ℕ) × IsPosition p.top.type cs r × (loaded_marks p.top.loads (p.top.marks i) 0 cs r ≡ Register var) × (p.top.scalars i cs r ≡ v)
 
   -- variables hold the bound element's scalars of turn i
-  abbrev pub HoldsTurn : (i : ℕ) → List ℕ → Type 0
-  HoldsTurn i vars = (var v : ℕ) → IsBoundScalar i var v → (var < load_count p.top.loads) × (slice_index vars var ≡ v)
+  abbrev pub HoldsTurn : (i : ℕ) → Vars → Type 0
+  HoldsTurn i vars = (var v : ℕ) → IsBoundScalar i var v → (var < load_count p.top.loads) × (word vars var ≡ v)
 
   -- before each phase there are variables enough, and from the second on they hold the turn's scalars
-  abbrev pub knows : (t q j : ℕ) → List ℕ → Type 0
-  knows t zero j vars = p.variables ≤ length vars
-  knows t (suc q) j vars = (p.variables ≤ length vars) × HoldsTurn (turn_of l t j) vars
+  abbrev pub knows : (t q j : ℕ) → Vars → Type 0
+  knows t zero j vars = p.variables ≤ length vars.words
+  knows t (suc q) j vars = (p.variables ≤ length vars.words) × HoldsTurn (turn_of l t j) vars
 
   abbrev pub work_of : Work
   work_of = record { touches = p.touches; filled_in = p.filled_in; filler = p.filler; targets = targets; value = p.value; knows = knows }
 
-  -- the loop of phase q, at every turn
+  -- the loop of phase q, as each item runs it at its group's turns
   abbrev pub IsPhaseLoop : (q : ℕ) → Code → Code → Type 0
   IsPhaseLoop q code rest =
-      (i : ℕ) → i < p.turns
-      → IsLoop l p.ins Local (p.phase q).len
-      (λ j body. (inner : Code) × IsLoaded l p.ins (i ∷ j ∷ []) (p.phase q).loads (at_index j (p.place i q).marks) (p.phase q).variables body inner
-      × IsWritten l p.ins num (i ∷ j ∷ []) (push (loaded_marks (p.phase q).loads (at_index j (p.place i q).marks) (p.phase q).variables) (p.place i q).env) (p.phase q).privates ((p.phase q).variables + load_count (p.phase q).loads) (p.phase q).body (at_index j (p.place i q).to) inner End)
+      (item i : ℕ) → item < item_count l → i < p.turns → IsTurnOf l item WorkGroup i
+      → IsLoop l item p.ins Local (p.phase q).len
+      (λ j body. (inner : Code) × IsLoaded l item p.ins (i ∷ j ∷ []) (p.phase q).loads (at_index j (p.place i q).marks) (p.phase q).variables body inner
+      × IsWritten l item p.ins num (i ∷ j ∷ []) (push (loaded_marks (p.phase q).loads (at_index j (p.place i q).marks) (p.phase q).variables) (p.place i q).env) (p.phase q).privates ((p.phase q).variables + load_count (p.phase q).loads) (p.phase q).body (at_index j (p.place i q).to) inner End)
       code rest
 
   -- code that is phase q; the turn's scalars are loaded before the first
   abbrev pub IsPhase : (q : ℕ) → Code → Code → Type 0
-  IsPhase zero code rest = (mid : Code) × ((i : ℕ) → i < p.turns → IsLoaded l p.ins (i ∷ []) p.top.loads (p.top.marks i) 0 code mid) × IsPhaseLoop 0 mid rest
+  IsPhase zero code rest = (mid : Code) × ((item i : ℕ) → item < item_count l → i < p.turns → IsTurnOf l item WorkGroup i → IsLoaded l item p.ins (i ∷ []) p.top.loads (p.top.marks i) 0 code mid) × IsPhaseLoop 0 mid rest
   IsPhase (suc q) code rest = IsPhaseLoop (suc q) code rest
 
 -- a scalar that the j-th item may read in phase q of its t-th turn

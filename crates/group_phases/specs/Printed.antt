@@ -1,7 +1,7 @@
 -- What phases need so that every kernel that is printed for them keeps the headline.
 use Rattle.std.specs.Prelude.{◌≡◌, ℕ, ◌+◌, ◌%◌, ◌<◌, ◌≤◌, ◌^◌, ◌⊎◌, Bool, List, All, length, map, slice_index}
 use Rattle.kernel_tree.specs.Code.{Kernel}
-use Rattle.kernel_tree.specs.Launch.{Launch, Cells, IsWhole, group_of, group_count}
+use Rattle.kernel_tree.specs.Launch.{Launch, Cells, IsWhole, IsFlat, group_of, groups_across, item_count}
 use Rattle.kernel_tree.specs.Device.{Cell, length_in, row}
 use Rattle.kernel_tree.proofs.Stride.{turns_of}
 use Rattle.barrier_placement.specs.Conflicts as placed
@@ -31,9 +31,10 @@ module _ {A : Type 0} (p : PhaseList A) where
   -- the launch and the kernel have room for the phases
   pub record HasRoom (k : Kernel) (l : Launch) : Type 0 where
     pub whole : IsWhole l
+    pub flat : IsFlat l
     pub some : 0 < p.count
-    pub turns : p.turns + group_count l ≤ 2 ^ 32
-    pub rows : (q : ℕ) → q < p.count → (p.phase q).len + l.local ≤ 2 ^ 32
+    pub turns : p.turns + groups_across l ≤ 2 ^ 32
+    pub rows : (q : ℕ) → q < p.count → (p.phase q).len + l.local.0 ≤ 2 ^ 32
     pub variables : p.variables ≤ k.variables
     pub fits : (q : ℕ) → q < p.count → (p.phase q).variables + load_count (p.phase q).loads + variable_count (p.phase q).body ≤ p.variables
     pub after_top : (q : ℕ) → q < p.count → load_count p.top.loads ≤ (p.phase q).variables
@@ -50,9 +51,9 @@ module _ {A : Type 0} (p : PhaseList A) where
     pub record ReadsKnown : Type 0 where
       pub given : (g t a i : ℕ) → p.value g t (input_cell a i) ≡ slice_index (row c.ins a) i
       pub top : (i : ℕ) → i < p.turns → (cs : List Bool) (r : List ℕ) → IsPosition p.top.type cs r → IsGiven c (p.top.marks i cs r) (p.top.scalars i cs r)
-      pub inputs : (t q j v : ℕ) → turn_of l t j < p.turns → q < p.count → j < l.global → AreRead num k l c p t q j (p.src v) (p.ins v) (p.sources v)
-      pub envs : (t q j v : ℕ) → turn_of l t j < p.turns → q < p.count → j < l.global → AreRead num k l c p t q j ((p.phase q).types v) ((p.place (turn_of l t j) q).env v) ((p.place (turn_of l t j) q).sems v)
-      pub elements : (t q j u : ℕ) → turn_of l t j < p.turns → q < p.count → j < l.global → u < turns_of (p.phase q).len l.local (j % l.local)
+      pub inputs : (t q j v : ℕ) → turn_of l t j < p.turns → q < p.count → j < item_count l → AreRead num k l c p t q j (p.src v) (p.ins v) (p.sources v)
+      pub envs : (t q j v : ℕ) → turn_of l t j < p.turns → q < p.count → j < item_count l → AreRead num k l c p t q j ((p.phase q).types v) ((p.place (turn_of l t j) q).env v) ((p.place (turn_of l t j) q).sems v)
+      pub elements : (t q j u : ℕ) → turn_of l t j < p.turns → q < p.count → j < item_count l → u < turns_of (p.phase q).len l.local.0 (j % l.local.0)
           → AreRead num k l c p t q j (p.phase q).element (at_index (row_of l j u) (p.place (turn_of l t j) q).marks) (at_index (row_of l j u) (p.place (turn_of l t j) q).scalars)
 
     -- each scalar of a phase goes to a cell of its own, of an array that is still to be filled, and is the cell's value
@@ -60,12 +61,12 @@ module _ {A : Type 0} (p : PhaseList A) where
       pub fillable : (i q : ℕ) → i < p.turns → q < p.count → (cs : List Bool) (r : List ℕ) → IsResult q cs r → IsFillable k c p q ((p.place i q).to cs r)
       pub choices : (i q j : ℕ) → i < p.turns → q < p.count → (cs ds : List Bool) (r s : List ℕ) → IsResult q cs r → IsResult q ds s → cell_of l j ((p.place i q).to cs r) ≡ cell_of l j ((p.place i q).to ds s) → cs ≡ ds
       pub places : (i q j : ℕ) → i < p.turns → q < p.count → (cs ds : List Bool) (r s : List ℕ) → IsResult q cs r → IsResult q ds s → cell_of l j ((p.place i q).to cs r) ≡ cell_of l j ((p.place i q).to ds s) → r ≡ s
-      pub valued : (t q j : ℕ) → turn_of l t j < p.turns → q < p.count → j < l.global → (cs : List Bool) (r : List ℕ) → IsResult q cs r → p.value (group_of l j) t (cell_of l j ((p.place (turn_of l t j) q).to cs r)) ≡ phase_scalars num l p (turn_of l t j) q cs r
+      pub valued : (t q j : ℕ) → turn_of l t j < p.turns → q < p.count → j < item_count l → (cs : List Bool) (r : List ℕ) → IsResult q cs r → p.value (group_of l j) t (cell_of l j ((p.place (turn_of l t j) q).to cs r)) ≡ phase_scalars num l p (turn_of l t j) q cs r
 
     -- what an item writes is its own, and output cells are written in one phase of one turn
     pub record WritesOwn (owner : (array index : ℕ) → ℕ) : Type 0 where
-      pub due : (t q j : ℕ) (b : Cell) → q < p.count → j < l.global → targets num l p t q j b → IsOwnOutput owner j b ⊎ IsOwnLocal l (work_of num l p) q j b
-      pub differ : (a i t q j u r m : ℕ) → q < p.count → r < p.count → j < l.global → m < l.global → targets num l p t q j (output_cell a i) → targets num l p u r m (output_cell a i) → (t ≡ u) × (q ≡ r)
+      pub due : (t q j : ℕ) (b : Cell) → q < p.count → j < item_count l → targets num l p t q j b → IsOwnOutput owner j b ⊎ IsOwnLocal l (work_of num l p) q j b
+      pub differ : (a i t q j u r m : ℕ) → q < p.count → r < p.count → j < item_count l → m < item_count l → targets num l p t q j (output_cell a i) → targets num l p u r m (output_cell a i) → (t ≡ u) × (q ≡ r)
 
     -- the phases are a map over groups that leaves what is wanted, each cell by its owner
     pub record IsPhased (owner : (array index : ℕ) → ℕ) (wanted : List (List ℕ)) : Type 0 where

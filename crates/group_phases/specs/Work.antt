@@ -1,5 +1,6 @@
 -- What a group's items do in the phases of a map over work-groups.
 use Rattle.std.specs.Prelude.{Bool, ◌≡◌, ℕ, ◌<◌, true, List, Option, Some, None, ◌⊎◌, ◌&&◌, if◌then◌else◌, Contains}
+use Rattle.kernel_tree.specs.Formula.{Vars}
 use Rattle.kernel_tree.specs.Code.{Array, Input, Output, Local, Private}
 use Rattle.kernel_tree.specs.Launch.{Launch, Cells, group_of}
 use Rattle.kernel_tree.specs.Device.{Cell}
@@ -14,7 +15,7 @@ pub record Work : Type 1 where
   pub filler : Cell → ℕ
   pub targets : (turn phase item : ℕ) → Cell → Type 0
   pub value : (group turn : ℕ) → Cell → ℕ
-  pub knows : (turn phase item : ℕ) → (vars : List ℕ) → Type 0
+  pub knows : (turn phase item : ℕ) → (vars : Vars) → Type 0
 
 -- a cell of a local array that is filled in phase q, of which the k-th item is the filler
 pub record IsOwnLocal (l : Launch) (w : Work) (q k : ℕ) (b : Cell) : Type 0 where

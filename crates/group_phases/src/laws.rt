@@ -11,6 +11,7 @@ ghost use Rattle.barrier_placement.specs.Separates.{Separates};
 ghost use Rattle.printed_form.specs.Headline.{EveryRunKeeps};
 ghost use Rattle.group_phases.specs.Epochs.{KeepsApart, SeparatesOnce, runs_by_turns, runs_once};
 ghost use Rattle.group_phases.specs.Outcome.{SomeRunLeaves};
+ghost use Rattle.group_phases.specs.TurnForms.{LoopsAreForms, TestsAreForms, GuardsTest, NestsAreForms};
 ghost use Rattle.group_phases.specs.Printed.{PhasesKeep, PhasesServe, NeededBarriersKeep};
 
 use barrier_placement::laws::needed_barriers_separate;
@@ -24,6 +25,15 @@ pub fn conflicting_phases_are_apart()
     ensures once { (touches : List Touch) (n : ℕ) (fence : ℕ → Fencing) (turns : ℕ → ℕ) →
         ((g : ℕ) → turns g ≤ 1) → SeparatesOnce touches n fence →
         KeepsApart touches n fence turns (runs_once fence) }
+{}
+
+/// Loops, statements that test, as an `if` does, and nests of two forms are forms of turns: one item
+/// takes each turn, in order, and comes to the rest; a nest's turns are pairs, numbered row by row.
+pub fn forms_of_turns()
+    ensures loops { LoopsAreForms }
+    ensures tests { TestsAreForms }
+    ensures guards { GuardsTest }
+    ensures nests { NestsAreForms }
 {}
 
 /// The headline from one run of each start, put together of items alone in turn and releases: where

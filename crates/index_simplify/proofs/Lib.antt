@@ -10,3 +10,4 @@ mod Operations
 mod Short
 mod Words
 mod Known
+mod Apart

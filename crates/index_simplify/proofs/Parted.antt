@@ -379,6 +379,19 @@ module _ (r : PlainRanges) (a n : Expression) (below : stays_below r a n ≡ tru
     literals = λ h. h.0;
   }
 
+nothing_added : (A B : ℤ) (b n : ℕ) → B ≡ pos b → pos 1 ≡ pos n → b < n → A ≡ A +ℤ B
+nothing_added A B b n e f lt = let one : 1 ≡ n = cc f in omega (arith, ints)
+
+first_moved : (r : PlainRanges) (a b : Expression) → stays_below r b (Literal 1) ≡ true → IsMoved r (Binary Sum a b) a
+first_moved r a b below = record {
+  stands = λ sizes variables p.
+      let c = below_is sizes variables r p.loops b (Literal 1) p.own.1 below in
+      stands_by sizes variables (Binary Sum a b) a
+      (nothing_added (exact sizes variables a) (exact sizes variables b) c.at c.count c.column_is c.length_is c.below) (λ h. h.1) (λ h. h.1) p.own.0;
+  small = left_small Sum a b;
+  literals = λ h. h.0;
+}
+
 -- ---- the laws as they are found
 module _ (r : PlainRanges) where
   split_found : (row width column n : Expression) → is_cell r row width column ≡ true → (part : Option Expression) → natural_over width n ≡ part → (b : Bool) → (is_natural n && is_no_higher n width) ≡ b → IfMoved r (Binary Quotient (Cell row width column) n) (if b then option_map (λ k. Binary Sum (Binary Product row k) (Binary Quotient column n)) part else None)
@@ -447,7 +460,12 @@ module _ (r : PlainRanges) where
   remainder_found a n true h = itself_moved r a n h
   remainder_found a n false h = remainder_of_found a n
 
+  sum_found : (a b : Expression) (t : Bool) → stays_below r b (Literal 1) ≡ t → IfMoved r (Binary Sum a b) (if t then Some a else None)
+  sum_found a b true h = first_moved r a b h
+  sum_found a b false h = tt
+
   part_found : (o : Operation) (a b : Expression) → IfMoved r (Binary o a b) (part_of r o a b)
+  part_found Sum a b = sum_found a b (stays_below r b (Literal 1)) refl
   part_found Quotient a b = quotient_found a b (stays_below r a b) refl
   part_found Remainder a b = remainder_found a b (stays_below r a b) refl
   part_found _ a b = tt

@@ -79,8 +79,13 @@ quotient r a n = if stays_below r a n then Some (Literal 0) else quotient_of r a
 abbrev pub remainder : PlainRanges → (a b : Expression) → Option Expression
 remainder r a n = if stays_below r a n then Some a else remainder_of r a n
 
+-- what stays below 1 is nothing to a sum
+abbrev pub sum : PlainRanges → (a b : Expression) → Option Expression
+sum r a b = if stays_below r b (Literal 1) then Some a else None
+
 -- what one of the laws leaves of an operation
 abbrev pub part_of : PlainRanges → Operation → (a b : Expression) → Option Expression
+part_of r Sum a b = sum r a b
 part_of r Quotient a b = quotient r a b
 part_of r Remainder a b = remainder r a b
 part_of r _ a b = None

@@ -1,7 +1,8 @@
 -- What holds of simplified expressions, and of the tests and the laws by which they are simplified.
-use Rattle.std.specs.Prelude.{ℕ, ◌≡◌, true, List, Some}
+use Rattle.std.specs.Prelude.{ℕ, ◌≡◌, ◌<◌, ◌≤◌, true, List, Some}
 use Rattle.index_expr.specs.declared.operation.Operation.{Operation}
-use Rattle.index_expr.specs.Expression.{Expression}
+use Rattle.index_expr.specs.declared.operation.Operation.TheVariants.{Sum, Product, Quotient, Remainder}
+use Rattle.index_expr.specs.Expression.{Expression, Variable, Literal, Binary}
 use Rattle.index_expr.specs.Values.{exact}
 use Rattle.index_simplify.specs.PlainRanges.{PlainRanges}
 use Rattle.index_simplify.specs.Tests.{same_operation, same}
@@ -32,3 +33,14 @@ abbrev pub SameExpressionsHaveOneValue : Type 0
 SameExpressionsHaveOneValue =
     (sizes variables : List ℕ) (a b : Expression)
     → same a b ≡ true → exact sizes variables a ≡ exact sizes variables b
+
+-- the row and the column of a cell come back, where the range of the column lies within the row
+abbrev pub CellsComeApart : Type 0
+CellsComeApart =
+    (r : PlainRanges) (k l g j m h n : ℕ) → h < n → 2 ≤ n
+    → (simple r (Binary Quotient (Binary Sum (Binary Product (Variable k l g) (Literal n)) (Variable j m h)) (Literal n)) ≡ Variable k l g)
+    × (simple r (Binary Remainder (Binary Sum (Binary Product (Variable k l g) (Literal n)) (Variable j m h)) (Literal n)) ≡ Variable j m h)
+
+-- a variable whose range is 0 alone is nothing to a sum
+abbrev pub NothingIsAdded : Type 0
+NothingIsAdded = (r : PlainRanges) (k l g j m : ℕ) → simple r (Binary Sum (Variable k l g) (Variable j m 0)) ≡ Variable k l g

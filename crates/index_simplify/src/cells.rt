@@ -249,6 +249,17 @@ fn remainder_modulo(
     }
 }
 
+// What has the value of a sum, where nothing is added.
+fn sum(alloc: Global, a: &Index, b: &Index, ranges: &Ranges) -> Result<Option<Index>, AllocError>
+    ensures { IfOk result (λ e. option_map expression_of e
+        ≡ spec.sum (ranges_of ranges.now) (expression_of a.now) (expression_of b.now)) }
+{
+    if stays_below(alloc, b, &Index::Literal(1), ranges)? {
+        return Ok(Some(a.copy(alloc)?));
+    }
+    Ok(None)
+}
+
 // What has the value of a quotient, by one of the laws.
 fn quotient(
     alloc: Global,
@@ -308,6 +319,7 @@ fn parted_operation(
         (expression_of b)) }
 {
     let found = match operation {
+        Operation::Sum => sum(alloc, &a, &b, ranges)?,
         Operation::Quotient => quotient(alloc, &a, &b, ranges)?,
         Operation::Remainder => remainder(alloc, &a, &b, ranges)?,
         _ => None,

@@ -1,5 +1,6 @@
 //! Laws of simplified expressions, each carried by a function that does nothing.
 
+ghost use Rattle.index_simplify.specs.Promises.{CellsComeApart, NothingIsAdded};
 ghost use Rattle.index_simplify.specs.Promises.{ExpressionsAreSimplified, FoundLawsApply};
 ghost use Rattle.index_simplify.specs.Promises.{SameExpressionsHaveOneValue};
 ghost use Rattle.index_simplify.specs.Promises.{SameOperationsAreEqual};
@@ -29,4 +30,12 @@ pub fn same_operations_are_equal()
 /// Expressions that are the same but for the ranges that their variables carry have one value.
 pub fn same_expressions_have_one_value()
     ensures { SameExpressionsHaveOneValue }
+{}
+
+/// Of the cell of two variables, the second within a row of at least 2 by its own range, the
+/// quotient by the row's length is the first and the remainder the second. A variable that is 0 is
+/// nothing to a sum.
+pub fn cells_come_apart()
+    ensures apart { CellsComeApart }
+    ensures nothing { NothingIsAdded }
 {}

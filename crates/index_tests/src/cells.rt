@@ -70,6 +70,39 @@ const BELOW: [Row; 7] = [
     ),
 ];
 
+// What is 0 by its own range, or in a loop of one turn, is nothing to a sum.
+const NOTHING: [Row; 5] = [
+    (&[], Tree::Binary(Sum, &I, &Tree::Variable(1, 0)), "i0"),
+    (
+        &[],
+        Tree::Binary(Sum, &I, &Tree::Variable(1, 1)),
+        "(i0 + i1)",
+    ),
+    (
+        &[],
+        Tree::Binary(
+            Quotient,
+            &Tree::Binary(
+                Sum,
+                &Tree::Binary(Product, &I, &Tree::Number(1)),
+                &Tree::Variable(1, 0),
+            ),
+            &Tree::Number(1),
+        ),
+        "i0",
+    ),
+    (
+        &[Tree::Number(3), Tree::Number(1)],
+        Tree::Binary(Sum, &I, &J),
+        "i0",
+    ),
+    (
+        &[Tree::Number(3), Tree::Number(2)],
+        Tree::Binary(Sum, &I, &J),
+        "(i0 + i1)",
+    ),
+];
+
 // A column of 64 rows of 3, and the cell of it in a row of 192.
 const COLUMN: Tree = Tree::Binary(
     Sum,
@@ -233,6 +266,7 @@ fn first_wrong(alloc: Global, rows: &[Row]) -> Result<Option<usize>, AllocError>
 fn cells_are_cut_into_parts(rt: HostRuntime) -> Result<(), Fail> {
     let alloc = rt.alloc();
     assert_eq!(rt; first_wrong(alloc, &BELOW)?, None);
+    assert_eq!(rt; first_wrong(alloc, &NOTHING)?, None);
     assert_eq!(rt; first_wrong(alloc, &LITERALS)?, None);
     assert_eq!(rt; first_wrong(alloc, &SIZES)?, None);
     assert_eq!(rt; first_wrong(alloc, &OUTSIDE)?, None);

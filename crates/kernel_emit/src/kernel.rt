@@ -109,6 +109,8 @@ fn printed(alloc: Global, lowered: &Lowered, term: &Term) -> Result<Kernel, Allo
         locals,
         privates,
         variables: counts.variables,
+        vectors: 0,
+        local: None,
         body,
     })
 }

@@ -29,7 +29,7 @@ use crate::expressions::Part;
 use crate::scope::Scope;
 use array_views::View;
 use index_expr::Index;
-use kernel_tree::tree::{Expr, Start, Stride};
+use kernel_tree::tree::{Dimension, Expr, Start, Stride};
 use length_spelling::spell_length;
 use lift_tree::ty::Ty;
 use lowering::term::{Kind, LoadSet, Space, Term};
@@ -49,9 +49,9 @@ fn start_of(kind: Kind) -> Start
     ensures { tree.start_of result ≡ form.start_of (kind_of kind) }
 {
     match kind {
-        Kind::Global => Start::GlobalId,
-        Kind::WorkGroup => Start::GroupId,
-        Kind::Local => Start::LocalId,
+        Kind::Global => Start::GlobalId(Dimension::X),
+        Kind::WorkGroup => Start::GroupId(Dimension::X),
+        Kind::Local => Start::LocalId(Dimension::X),
         Kind::Sequential => Start::Zero,
     }
 }
@@ -60,9 +60,9 @@ fn stride_of(kind: Kind) -> Stride
     ensures { tree.stride_of result ≡ form.stride_of (kind_of kind) }
 {
     match kind {
-        Kind::Global => Stride::GlobalSize,
-        Kind::WorkGroup => Stride::GroupCount,
-        Kind::Local => Stride::LocalSize,
+        Kind::Global => Stride::GlobalSize(Dimension::X),
+        Kind::WorkGroup => Stride::GroupCount(Dimension::X),
+        Kind::Local => Stride::LocalSize(Dimension::X),
         Kind::Sequential => Stride::One,
     }
 }

@@ -59,7 +59,7 @@ module _ (k : Kernel) (spell : List Monomial → Formula) (S M : ℕ) (d : Decla
   Views l g env = AllReadWithin k S l g env
 
   abbrev Right : ℕ → Code → Type 0
-  Right l c = are_statements k l c ≡ true
+  Right l c = are_statements k l l c ≡ true
 
   abbrev Comes : Code → Type 0
   Comes c = has_statement c ≡ true

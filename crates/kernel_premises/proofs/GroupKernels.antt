@@ -35,6 +35,6 @@ group_kernels_are_of_the_grammar stay loops printed counted spell fence S M d t 
     let room : HasRoomFor k S M d = record { some = h.some; fits = h.fits; inputs = refl } in
     let known : Pieces k spell S M d = record { room = room; views = stay k S h.some; loops = loops; terms = printed k spell S M d room } in
     let private = privates.counted r in
-    known.terms.kernel ty r refl refl refl h.sound (groups_come k spell S M d known fence (phase_count r) h.flagged no_view r w h.stands)
+    known.terms.kernel ty r refl refl refl h.sound refl (groups_come k spell S M d known fence (phase_count r) h.flagged no_view r w h.stands)
     (groups_fine k spell S M d known fence (phase_count r) h.flagged (λ v. 0) no_view r w 0 (λ v. known.views.blank 0 0) (known.terms.output ty refl h.lengths h.few) h.stands h.written h.sound h.layouts h.low h.loops
     (omega arith) (omega arith) (enough_locals counted r h.stands) (omega arith))

@@ -1,7 +1,7 @@
 -- A printable term is printed for at each admissible launch.
 use Rattle.std.proofs.Common.{◌≡◌, ℤ, pos, negsuc, ◌<◌, ◌^◌, [], refl, arith}
 use Rattle.size_arith.specs.Polynomial.{value_at}
-use Rattle.kernel_tree.specs.Formula.{sizes_alone}
+use Rattle.kernel_tree.specs.Formula.{no_vars, sizes_alone}
 use Rattle.kernel_tree.specs.Launch.{ids_of}
 use Rattle.lift_ir.specs.AtLaunch.{natural, length_at}
 use Rattle.printed_form.specs.Programs.{ProgramsArePrinted}
@@ -18,7 +18,7 @@ pub formulas_spell : LengthsAreSpelled → FormulasSpellLengths
 formulas_spell spelled names bases l are ok sizes n short =
     let at = natural_length (value_at bases n) short in
     let word : length_at bases n < 2 ^ 32 = omega arith in (
-      spelled names bases (sizes_alone l.sizes) [] [] n (length_at bases n) are ok sizes at word,
+      spelled names bases (sizes_alone l.sizes) [] no_vars n (length_at bases n) are ok sizes at word,
       λ k ts vs. spelled names bases (ids_of l k) ts vs n (length_at bases n) are ok sizes at word,
     )
 

@@ -1,14 +1,14 @@
 -- Facts of blocks, indents and counts.
 use Rattle.std.proofs.Common.{◌≡◌, ℕ, zero, suc, ◌<◌, ◌-◌, ◌+◌, ◌*◌, List, [], ◌∷◌, ◌++◌, replicate, drop, ap, ◌∙◌, get_or, length, refl, subst, sym, arith, true}
-use Rattle.std.specs.Prelude.{codes, nat_lt, ◌||◌}
+use Rattle.std.specs.Prelude.{codes, nat_lt, ◌||◌, ◌&&◌}
 use Rattle.std.proofs.lemmas.Bool.{ltb-true, and_parts}
 use Rattle.kernel_tree.specs.declared.tree.Stmt.{Stmt}
 use Rattle.kernel_tree.specs.declared.tree.Stmt as stmt
-use Rattle.kernel_tree.specs.Code.{Start, Stride, Code, End, Loops, Kernel}
+use Rattle.kernel_tree.specs.Code.{Start, Stride, Code, End, Loops, Guards, Kernel}
 use Rattle.kernel_tree.specs.Formula.{Formula}
-use Rattle.kernel_tree.specs.Grammar.{deepest, is_constant, is_expression, is_readable, is_writable, has_statement, are_statements, is_kernel}
+use Rattle.kernel_tree.specs.Grammar.{deepest, is_constant, is_expression, are_lanes, is_readable, is_writable, is_shared, has_statement, are_statements, is_kernel}
 use Rattle.kernel_tree.specs.KernelText.{indent}
-use Rattle.kernel_tree.specs.Tree.{formula_of, array_of, before, code_of, code_then}
+use Rattle.kernel_tree.specs.Tree.{formula_of, lanes_of, array_of, before, code_of, code_then}
 
 pub one_output : (k : Kernel) → is_kernel k ≡ true → k.outputs ≡ suc (k.outputs - 1)
 one_output k h =
@@ -24,34 +24,53 @@ indent_more level = two_more (2 * level) ∙ ap (λ n. replicate n 32) (let w : 
 
 -- ---- statements of a kernel
 
-abbrev Fits : Kernel → ℕ → Code → Type 0
-Fits k l c = are_statements k l c ≡ true
+abbrev Fits : Kernel → (loops nest : ℕ) → Code → Type 0
+Fits k l nest c = are_statements k l nest c ≡ true
 
 -- what stands behind a statement
-behind : (k : Kernel) (l : ℕ) (s : Stmt) (rest : Code) → Fits k l (before s rest) → Fits k l rest
-behind k l (stmt.Assign v e) rest h = (and_parts (is_expression k l (formula_of e)) _ (and_parts (nat_lt v k.variables) _ h).1).1
-behind k l (stmt.Load v a i) rest h =
+behind : (k : Kernel) (l nest : ℕ) (s : Stmt) (rest : Code) → Fits k l nest (before s rest) → Fits k l nest rest
+behind k l nest (stmt.Assign v e) rest h = (and_parts (is_expression k l (formula_of e)) _ (and_parts (nat_lt v k.variables) _ h).1).1
+behind k l nest (stmt.Load v a i) rest h =
     let p = and_parts (is_readable k (array_of a)) _ (and_parts (nat_lt v k.variables) _ h).1 in
     (and_parts (is_expression k l (formula_of i)) _ p.1).1
-behind k l (stmt.Store a i e) rest h =
+behind k l nest (stmt.Store a i e) rest h =
     let p = and_parts (is_expression k l (formula_of i)) _ (and_parts (is_writable k (array_of a)) _ h).1 in
     (and_parts (is_expression k l (formula_of e)) _ p.1).1
-behind k l (stmt.Barrier on_local on_global) rest h = (and_parts (on_local || on_global) _ h).1
-behind k l (stmt.Loop' s b c shape body) rest h =
-    let p = and_parts (is_constant (formula_of b)) _ (and_parts (nat_lt l deepest) _ h).1 in
+behind k l nest (stmt.AssignFour v e) rest h = (and_parts (are_lanes k l (lanes_of e)) _ (and_parts (nat_lt v k.vectors) _ h).1).1
+behind k l nest (stmt.LoadFour v a i) rest h =
+    let p = and_parts (is_shared (array_of a) && is_readable k (array_of a)) _ (and_parts (nat_lt v k.vectors) _ h).1 in
+    (and_parts (is_expression k l (formula_of i)) _ p.1).1
+behind k l nest (stmt.StoreFour a i e) rest h =
+    let p = and_parts (is_expression k l (formula_of i)) _ (and_parts (is_shared (array_of a) && is_writable k (array_of a)) _ h).1 in
+    (and_parts (are_lanes k l (lanes_of e)) _ p.1).1
+behind k l nest (stmt.Barrier on_local on_global) rest h = (and_parts (on_local || on_global) _ h).1
+behind k l nest (stmt.Loop' s b c shape body) rest h =
+    let p = and_parts (is_constant (formula_of b)) _ (and_parts (nat_lt nest deepest) _ h).1 in
     let q = and_parts (has_statement (code_of body)) _ (and_parts (is_expression k l (formula_of b)) _ p.1).1 in
-    (and_parts (are_statements k (suc l) (code_of body)) _ q.1).1
+    (and_parts (are_statements k (suc l) (suc nest) (code_of body)) _ q.1).1
+behind k l nest (stmt.If' s b shape body) rest h =
+    let p = and_parts (is_constant (formula_of b)) _ (and_parts (nat_lt nest deepest) _ h).1 in
+    let q = and_parts (has_statement (code_of body)) _ (and_parts (is_expression k l (formula_of b)) _ p.1).1 in
+    (and_parts (are_statements k l (suc nest) (code_of body)) _ q.1).1
 
 -- a statement of a block, with those behind it
-pub statement_at : (k : Kernel) (l : ℕ) (ss : List Stmt) (i : ℕ) (s : Stmt) → i < length ss → s ≡ get_or ss i s → Fits k l (code_then ss End) → Fits k l (before s (code_then (drop (suc i) ss) End))
-statement_at k l [] i s less e h = absurd (omega (arith, less))
-statement_at k l (x ∷ ss) zero s less e h = subst (λ z. Fits k l (before z (code_then ss End))) (sym e) h
-statement_at k l (x ∷ ss) (suc i) s less e h = statement_at k l ss i s (omega (arith, less)) e (behind k l x (code_then ss End) h)
+pub statement_at : (k : Kernel) (l nest : ℕ) (ss : List Stmt) (i : ℕ) (s : Stmt) → i < length ss → s ≡ get_or ss i s → Fits k l nest (code_then ss End) → Fits k l nest (before s (code_then (drop (suc i) ss) End))
+statement_at k l nest [] i s less e h = absurd (omega (arith, less))
+statement_at k l nest (x ∷ ss) zero s less e h = subst (λ z. Fits k l nest (before z (code_then ss End))) (sym e) h
+statement_at k l nest (x ∷ ss) (suc i) s less e h = statement_at k l nest ss i s (omega (arith, less)) e (behind k l nest x (code_then ss End) h)
 
 -- a loop's body
-pub body_of : (k : Kernel) (l : ℕ) (start : Start) (b : Formula) (stride : Stride) (body rest : Code) → Fits k l (Loops start b stride body rest) → (l < deepest) × Fits k (suc l) body
-body_of k l start b stride body rest h =
-    let o = and_parts (nat_lt l deepest) _ h in
+pub loop_body_of : (k : Kernel) (l nest : ℕ) (start : Start) (b : Formula) (stride : Stride) (body rest : Code) → Fits k l nest (Loops start b stride body rest) → (nest < deepest) × Fits k (suc l) (suc nest) body
+loop_body_of k l nest start b stride body rest h =
+    let o = and_parts (nat_lt nest deepest) _ h in
     let p = and_parts (is_constant b) _ o.1 in
     let q = and_parts (has_statement body) _ (and_parts (is_expression k l b) _ p.1).1 in
-    (ltb-true l deepest o.0, (and_parts (are_statements k (suc l) body) _ q.1).0)
+    (ltb-true nest deepest o.0, (and_parts (are_statements k (suc l) (suc nest) body) _ q.1).0)
+
+-- an if's body
+pub if_body_of : (k : Kernel) (l nest : ℕ) (start : Start) (b : Formula) (body rest : Code) → Fits k l nest (Guards start b body rest) → (nest < deepest) × Fits k l (suc nest) body
+if_body_of k l nest start b body rest h =
+    let o = and_parts (nat_lt nest deepest) _ h in
+    let p = and_parts (is_constant b) _ o.1 in
+    let q = and_parts (has_statement body) _ (and_parts (is_expression k l b) _ p.1).1 in
+    (ltb-true nest deepest o.0, (and_parts (are_statements k l (suc nest) body) _ q.1).0)

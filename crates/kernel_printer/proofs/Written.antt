@@ -1,15 +1,17 @@
 -- What is written is the spelling.
-use Rattle.std.proofs.Common.{◌≡◌, ℕ, zero, suc, ◌+◌, List, [], ◌∷◌, ◌++◌, Bool, true, false, ap, sym, ◌∙◌, arith, refl}
+use Rattle.std.proofs.Common.{◌≡◌, ℕ, zero, suc, ◌+◌, List, [], ◌∷◌, ◌++◌, Option, None, Some, Bool, true, false, ap, sym, ◌∙◌, arith, refl}
 use Rattle.std.specs.Prelude.{codes, decimal}
 use Rattle.std.proofs.lemmas.List.{append_assoc, append-nil}
 use Rattle.scalar_ops.specs.declared.op.Op.{Op}
 use Rattle.scalar_ops.specs.declared.op.Op.TheVariants.{Min, Max}
-use Rattle.kernel_tree.specs.Formula.{IdForm, GlobalId, GroupId, LocalId, GlobalSize, GroupCount, LocalSize, Comparison, Less, Equal, Formula, Number, Variable, LoopVariable, Size, Id, Binary, Choose}
-use Rattle.kernel_tree.specs.Code.{Start, FromZero, FromGlobalId, FromGroupId, FromLocalId, Stride, ByOne, ByGlobalSize, ByGroupCount, ByLocalSize, Code, End, Assigns, Loads, Stores, Loops, Syncs, Kernel}
+use Rattle.kernel_tree.specs.declared.tree.Dimension.{Dimension}
+use Rattle.kernel_tree.specs.declared.tree.Dimension.TheVariants.{X, Y}
+use Rattle.kernel_tree.specs.Formula.{IdForm, GlobalId, GroupId, LocalId, GlobalSize, GroupCount, LocalSize, Comparison, Less, Equal, Formula, Number, Variable, LoopVariable, Size, Id, Binary, Choose, Lanes, Vector, Spread, Each}
+use Rattle.kernel_tree.specs.Code.{Start, FromZero, FromGlobalId, FromGroupId, FromLocalId, Stride, ByOne, ByGlobalSize, ByGroupCount, ByLocalSize, Code, End, Assigns, Loads, Stores, AssignsFour, LoadsFour, StoresFour, Loops, Guards, Syncs, Kernel}
 use Rattle.kernel_tree.specs.Pieces.{joined}
-use Rattle.kernel_tree.specs.KernelText.{Piece, array_name, space, line, semicolon, equals, question, colon, closes, comma, index_ends, indent, named}
-use Rattle.kernel_spelling.specs.Spelling.{spell, spell_id, spell_sign, spell_comparison, spell_start, spell_stride, spell_flags, spell_end, spell_code, loop_line, test_line, step_line, block_line, spell_locals, spell_privates, spell_variables, spell_sizes, spell_outputs, spell_inputs, first_output, spell_body, spell_kernel}
-use Rattle.kernel_printer.specs.Bytes.{id_text, opening, between, comparing, write_expression, write_end, start_text, stride_text, write_loop, flags_text, write_code, write_inputs, write_outputs, write_sizes, write_arrays, write_locals, write_privates, write_variables, write_kernel}
+use Rattle.kernel_tree.specs.KernelText.{Piece, space, line, comma, semicolon, equals, question, colon, closes, index_ends, indent, named, array_name}
+use Rattle.kernel_spelling.specs.Spelling.{spell_id, spell_sign, spell_comparison, spell, spell_lanes, spell_end, spell_start, spell_stride, loop_line, test_line, step_line, block_line, guard_line, below_line, spell_flags, spell_code, spell_locals, spell_privates, spell_variables, spell_vectors, spell_sizes, spell_outputs, spell_inputs, first_output, spell_head, spell_body, spell_kernel}
+use Rattle.kernel_printer.specs.Bytes.{id_text, opening, between, comparing, write_expression, write_lanes, write_end, start_text, stride_text, write_loop, write_guard, flags_text, write_code, write_inputs, write_outputs, write_sizes, write_arrays, write_variables, write_vectors, write_locals, write_privates, write_launching, write_head, write_kernel}
 
 two : (f a b r : List ℕ) → (f ++ a ++ b) ++ r ≡ f ++ (a ++ (b ++ r))
 two f a b r = append_assoc (f ++ a) b r ∙ append_assoc f a (b ++ r)
@@ -31,13 +33,19 @@ eight f a b c d e g h i r = append_assoc (f ++ a ++ b ++ c ++ d ++ e ++ g ++ h) 
 
 -- ---- expressions
 
-id_written : (form : IdForm) (back : List Piece) → id_text form ++ joined back ≡ joined (spell_id form back)
-id_written GlobalId back = refl
-id_written GroupId back = refl
-id_written LocalId back = refl
-id_written GlobalSize back = refl
-id_written GroupCount back = refl
-id_written LocalSize back = refl
+id_written : (d : Dimension) (form : IdForm) (back : List Piece) → id_text d form ++ joined back ≡ joined (spell_id d form back)
+id_written X GlobalId back = refl
+id_written X GroupId back = refl
+id_written X LocalId back = refl
+id_written X GlobalSize back = refl
+id_written X GroupCount back = refl
+id_written X LocalSize back = refl
+id_written Y GlobalId back = refl
+id_written Y GroupId back = refl
+id_written Y LocalId back = refl
+id_written Y GlobalSize back = refl
+id_written Y GroupCount back = refl
+id_written Y LocalSize back = refl
 
 comparison_written : (c : Comparison) (back : List Piece) → comparing c ++ joined back ≡ joined (space ∷ spell_comparison c (space ∷ back))
 comparison_written Less back = refl
@@ -64,7 +72,7 @@ expression_written (Number v) front back = two front (decimal v) (codes "u") (jo
 expression_written (Variable k) front back = append_assoc front (named 118 k) (joined back)
 expression_written (LoopVariable k) front back = append_assoc front (named 105 k) (joined back)
 expression_written (Size k) front back = append_assoc front (named 115 k) (joined back)
-expression_written (Id form) front back = append_assoc front (id_text form) (joined back) ∙ ap (λ z. front ++ z) (id_written form back)
+expression_written (Id d form) front back = append_assoc front (id_text d form) (joined back) ∙ ap (λ z. front ++ z) (id_written d form back)
 expression_written (Binary op a b) front back =
     let left = write_expression (front ++ opening op) a in
     let right = write_expression (left ++ between op) b in
@@ -95,23 +103,48 @@ expression_written (Choose c a b x y) front back =
     ∙ expression_written a (front ++ codes "(") (space ∷ spell_comparison c (space ∷ test))
     ∙ append_assoc front (codes "(") (joined (spell a (space ∷ spell_comparison c (space ∷ test))))
 
+-- ---- expressions of four words
+
+lanes_opening_written : (op : Op) (a b : Lanes) (back : List Piece) → opening op ++ joined (spell_lanes a (middle op (spell_lanes b (closes ∷ back)))) ≡ joined (spell_lanes (Each op a b) back)
+lanes_opening_written Min a b back = refl
+lanes_opening_written Max a b back = refl
+lanes_opening_written _ a b back = refl
+
+lanes_written : (e : Lanes) (front : List ℕ) (back : List Piece) → write_lanes front e ++ joined back ≡ front ++ joined (spell_lanes e back)
+lanes_written (Vector k) front back = append_assoc front (named 119 k) (joined back)
+lanes_written (Spread e) front back =
+    append_assoc (write_expression (front ++ codes "(uint4)(") e) (codes ")") (joined back)
+    ∙ expression_written e (front ++ codes "(uint4)(") (closes ∷ back)
+    ∙ append_assoc front (codes "(uint4)(") (joined (spell e (closes ∷ back)))
+lanes_written (Each op a b) front back =
+    let left = write_lanes (front ++ opening op) a in
+    let right = write_lanes (left ++ between op) b in
+    let rest = spell_lanes b (closes ∷ back) in
+    append_assoc right (codes ")") (joined back)
+    ∙ lanes_written b (left ++ between op) (closes ∷ back)
+    ∙ append_assoc left (between op) (joined rest)
+    ∙ ap (λ z. left ++ z) (between_written op rest)
+    ∙ lanes_written a (front ++ opening op) (middle op rest)
+    ∙ append_assoc front (opening op) (joined (spell_lanes a (middle op rest)))
+    ∙ ap (λ z. front ++ z) (lanes_opening_written op a b back)
+
 -- ---- statements
 
-end_written : (l : ℕ) (front : List ℕ) (back : List Piece) → write_end l front ++ joined back ≡ front ++ joined (spell_end l back)
+end_written : (nest : ℕ) (front : List ℕ) (back : List Piece) → write_end nest front ++ joined back ≡ front ++ joined (spell_end nest back)
 end_written zero front back = append_assoc front (codes "}\n") (joined back)
-end_written (suc l) front back = two front (indent (suc l)) (codes "}\n") (joined back)
+end_written (suc nest) front back = two front (indent (suc nest)) (codes "}\n") (joined back)
 
 start_written : (s : Start) (back : List Piece) → start_text s ++ joined back ≡ joined (spell_start s back)
 start_written FromZero back = refl
-start_written FromGlobalId back = refl
-start_written FromGroupId back = refl
-start_written FromLocalId back = refl
+start_written (FromGlobalId d) back = id_written d GlobalId back
+start_written (FromGroupId d) back = id_written d GroupId back
+start_written (FromLocalId d) back = id_written d LocalId back
 
 stride_written : (c : Stride) (back : List Piece) → stride_text c ++ joined back ≡ joined (spell_stride c back)
 stride_written ByOne back = refl
-stride_written ByGlobalSize back = refl
-stride_written ByGroupCount back = refl
-stride_written ByLocalSize back = refl
+stride_written (ByGlobalSize d) back = id_written d GlobalSize back
+stride_written (ByGroupCount d) back = id_written d GroupCount back
+stride_written (ByLocalSize d) back = id_written d LocalSize back
 
 flags_written : (on_local on_global : Bool) (back : List Piece) → flags_text on_local on_global ++ joined back ≡ joined (spell_flags on_local on_global back)
 flags_written true true back = refl
@@ -119,53 +152,92 @@ flags_written true false back = refl
 flags_written false true back = refl
 flags_written false false back = refl
 
-loop_written : (l : ℕ) (front : List ℕ) (s : Start) (b : Formula) (c : Stride) (back : List Piece) → write_loop l front s b c ++ joined back ≡ front ++ joined (indent (suc l) ∷ loop_line l (spell_start s (test_line l (spell b (step_line l (spell_stride c (block_line back)))))))
-loop_written l front s b c back =
-    let head = front ++ indent (suc l) ++ codes "for (uint " ++ named 105 l ++ codes " = " ++ start_text s ++ codes "; " ++ named 105 l ++ codes " < " in
+loop_written : (l nest : ℕ) (front : List ℕ) (s : Start) (b : Formula) (c : Stride) (back : List Piece) → write_loop l nest front s b c ++ joined back ≡ front ++ joined (indent (suc nest) ∷ loop_line l (spell_start s (test_line l (spell b (step_line l (spell_stride c (block_line back)))))))
+loop_written l nest front s b c back =
+    let head = front ++ indent (suc nest) ++ codes "for (uint " ++ named 105 l ++ codes " = " ++ start_text s ++ codes "; " ++ named 105 l ++ codes " < " in
     let bounded = write_expression head b in
     let rest = spell b (step_line l (spell_stride c (block_line back))) in
     five bounded (codes "; ") (named 105 l) (codes " += ") (stride_text c) (codes ") {\n") (joined back)
     ∙ ap (λ z. bounded ++ (codes "; " ++ (named 105 l ++ (codes " += " ++ z)))) (stride_written c (block_line back))
     ∙ expression_written b head (step_line l (spell_stride c (block_line back)))
-    ∙ eight front (indent (suc l)) (codes "for (uint ") (named 105 l) (codes " = ") (start_text s) (codes "; ") (named 105 l) (codes " < ") (joined rest)
-    ∙ ap (λ z. front ++ (indent (suc l) ++ (codes "for (uint " ++ (named 105 l ++ (codes " = " ++ z))))) (start_written s (test_line l rest))
+    ∙ eight front (indent (suc nest)) (codes "for (uint ") (named 105 l) (codes " = ") (start_text s) (codes "; ") (named 105 l) (codes " < ") (joined rest)
+    ∙ ap (λ z. front ++ (indent (suc nest) ++ (codes "for (uint " ++ (named 105 l ++ (codes " = " ++ z))))) (start_written s (test_line l rest))
 
-code_written : (c : Code) (l : ℕ) (front : List ℕ) (back : List Piece) → write_code l front c ++ joined back ≡ front ++ joined (spell_code l c back)
-code_written End l front back = end_written l front back
-code_written (Assigns k e after) l front back =
-    let head = front ++ indent (suc l) ++ named 118 k ++ codes " = " in
-    let rest = spell_code l after back in
-    code_written after l (write_expression head e ++ codes ";\n") back
+guard_written : (nest : ℕ) (front : List ℕ) (s : Start) (b : Formula) (back : List Piece) → write_guard nest front s b ++ joined back ≡ front ++ joined (indent (suc nest) ∷ guard_line (spell_start s (below_line (spell b (block_line back)))))
+guard_written nest front s b back =
+    let head = front ++ indent (suc nest) ++ codes "if (" ++ start_text s ++ codes " < " in
+    let rest = spell b (block_line back) in
+    append_assoc (write_expression head b) (codes ") {\n") (joined back)
+    ∙ expression_written b head (block_line back)
+    ∙ four front (indent (suc nest)) (codes "if (") (start_text s) (codes " < ") (joined rest)
+    ∙ ap (λ z. front ++ (indent (suc nest) ++ (codes "if (" ++ z))) (start_written s (below_line rest))
+
+code_written : (c : Code) (l nest : ℕ) (front : List ℕ) (back : List Piece) → write_code l nest front c ++ joined back ≡ front ++ joined (spell_code l nest c back)
+code_written End l nest front back = end_written nest front back
+code_written (Assigns k e after) l nest front back =
+    let head = front ++ indent (suc nest) ++ named 118 k ++ codes " = " in
+    let rest = spell_code l nest after back in
+    code_written after l nest (write_expression head e ++ codes ";\n") back
     ∙ append_assoc (write_expression head e) (codes ";\n") (joined rest)
     ∙ expression_written e head (semicolon ∷ line ∷ rest)
-    ∙ three front (indent (suc l)) (named 118 k) (codes " = ") (joined (spell e (semicolon ∷ line ∷ rest)))
-code_written (Loads k array i after) l front back =
-    let head = front ++ indent (suc l) ++ named 118 k ++ codes " = " ++ array_name array ++ codes "[" in
-    let rest = spell_code l after back in
-    code_written after l (write_expression head i ++ codes "];\n") back
+    ∙ three front (indent (suc nest)) (named 118 k) (codes " = ") (joined (spell e (semicolon ∷ line ∷ rest)))
+code_written (Loads k array i after) l nest front back =
+    let head = front ++ indent (suc nest) ++ named 118 k ++ codes " = " ++ array_name array ++ codes "[" in
+    let rest = spell_code l nest after back in
+    code_written after l nest (write_expression head i ++ codes "];\n") back
     ∙ append_assoc (write_expression head i) (codes "];\n") (joined rest)
     ∙ expression_written i head (index_ends ∷ semicolon ∷ line ∷ rest)
-    ∙ five front (indent (suc l)) (named 118 k) (codes " = ") (array_name array) (codes "[") (joined (spell i (index_ends ∷ semicolon ∷ line ∷ rest)))
-code_written (Stores array i e after) l front back =
-    let head = front ++ indent (suc l) ++ array_name array ++ codes "[" in
+    ∙ five front (indent (suc nest)) (named 118 k) (codes " = ") (array_name array) (codes "[") (joined (spell i (index_ends ∷ semicolon ∷ line ∷ rest)))
+code_written (Stores array i e after) l nest front back =
+    let head = front ++ indent (suc nest) ++ array_name array ++ codes "[" in
     let mid = write_expression head i ++ codes "] = " in
-    let rest = spell_code l after back in
+    let rest = spell_code l nest after back in
     let value = spell e (semicolon ∷ line ∷ rest) in
-    code_written after l (write_expression mid e ++ codes ";\n") back
+    code_written after l nest (write_expression mid e ++ codes ";\n") back
     ∙ append_assoc (write_expression mid e) (codes ";\n") (joined rest)
     ∙ expression_written e mid (semicolon ∷ line ∷ rest)
     ∙ append_assoc (write_expression head i) (codes "] = ") (joined value)
     ∙ expression_written i head (index_ends ∷ space ∷ equals ∷ space ∷ value)
-    ∙ three front (indent (suc l)) (array_name array) (codes "[") (joined (spell i (index_ends ∷ space ∷ equals ∷ space ∷ value)))
-code_written (Loops s b c body after) l front back =
-    code_written after l (write_code (suc l) (write_loop l front s b c) body) back
-    ∙ code_written body (suc l) (write_loop l front s b c) (spell_code l after back)
-    ∙ loop_written l front s b c (spell_code (suc l) body (spell_code l after back))
-code_written (Syncs on_local on_global after) l front back =
-    let rest = spell_code l after back in
-    code_written after l (front ++ indent (suc l) ++ codes "barrier(" ++ flags_text on_local on_global ++ codes ");\n") back
-    ∙ four front (indent (suc l)) (codes "barrier(") (flags_text on_local on_global) (codes ");\n") (joined rest)
-    ∙ ap (λ z. front ++ (indent (suc l) ++ (codes "barrier(" ++ z))) (flags_written on_local on_global (closes ∷ semicolon ∷ line ∷ rest))
+    ∙ three front (indent (suc nest)) (array_name array) (codes "[") (joined (spell i (index_ends ∷ space ∷ equals ∷ space ∷ value)))
+code_written (AssignsFour k e after) l nest front back =
+    let head = front ++ indent (suc nest) ++ named 119 k ++ codes " = " in
+    let rest = spell_code l nest after back in
+    code_written after l nest (write_lanes head e ++ codes ";\n") back
+    ∙ append_assoc (write_lanes head e) (codes ";\n") (joined rest)
+    ∙ lanes_written e head (semicolon ∷ line ∷ rest)
+    ∙ three front (indent (suc nest)) (named 119 k) (codes " = ") (joined (spell_lanes e (semicolon ∷ line ∷ rest)))
+code_written (LoadsFour k array i after) l nest front back =
+    let head = front ++ indent (suc nest) ++ named 119 k ++ codes " = vload4(" in
+    let rest = spell_code l nest after back in
+    let behind = comma ∷ space ∷ array_name array ∷ closes ∷ semicolon ∷ line ∷ rest in
+    code_written after l nest (write_expression head i ++ codes ", " ++ array_name array ++ codes ");\n") back
+    ∙ three (write_expression head i) (codes ", ") (array_name array) (codes ");\n") (joined rest)
+    ∙ expression_written i head behind
+    ∙ three front (indent (suc nest)) (named 119 k) (codes " = vload4(") (joined (spell i behind))
+code_written (StoresFour array i e after) l nest front back =
+    let head = front ++ indent (suc nest) ++ codes "vstore4(" in
+    let mid = write_lanes head e ++ codes ", " in
+    let rest = spell_code l nest after back in
+    let behind = comma ∷ space ∷ array_name array ∷ closes ∷ semicolon ∷ line ∷ rest in
+    code_written after l nest (write_expression mid i ++ codes ", " ++ array_name array ++ codes ");\n") back
+    ∙ three (write_expression mid i) (codes ", ") (array_name array) (codes ");\n") (joined rest)
+    ∙ expression_written i mid behind
+    ∙ append_assoc (write_lanes head e) (codes ", ") (joined (spell i behind))
+    ∙ lanes_written e head (comma ∷ space ∷ spell i behind)
+    ∙ two front (indent (suc nest)) (codes "vstore4(") (joined (spell_lanes e (comma ∷ space ∷ spell i behind)))
+code_written (Loops s b c body after) l nest front back =
+    code_written after l nest (write_code (suc l) (suc nest) (write_loop l nest front s b c) body) back
+    ∙ code_written body (suc l) (suc nest) (write_loop l nest front s b c) (spell_code l nest after back)
+    ∙ loop_written l nest front s b c (spell_code (suc l) (suc nest) body (spell_code l nest after back))
+code_written (Guards s b body after) l nest front back =
+    code_written after l nest (write_code l (suc nest) (write_guard nest front s b) body) back
+    ∙ code_written body l (suc nest) (write_guard nest front s b) (spell_code l nest after back)
+    ∙ guard_written nest front s b (spell_code l (suc nest) body (spell_code l nest after back))
+code_written (Syncs on_local on_global after) l nest front back =
+    let rest = spell_code l nest after back in
+    code_written after l nest (front ++ indent (suc nest) ++ codes "barrier(" ++ flags_text on_local on_global ++ codes ");\n") back
+    ∙ four front (indent (suc nest)) (codes "barrier(") (flags_text on_local on_global) (codes ");\n") (joined rest)
+    ∙ ap (λ z. front ++ (indent (suc nest) ++ (codes "barrier(" ++ z))) (flags_written on_local on_global (closes ∷ semicolon ∷ line ∷ rest))
 
 -- ---- declarations and parameters
 
@@ -215,26 +287,50 @@ variables_written (suc more) i front back =
     ∙ variables_written more (suc i) front back
     ∙ four (write_variables front i) (indent 1) (codes "uint ") (named 118 i) (codes ";\n") (joined (spell_variables (suc i) more back))
 
+vectors_written : (more i : ℕ) (front : List ℕ) (back : List Piece) → write_vectors front (i + more) ++ joined back ≡ write_vectors front i ++ joined (spell_vectors i more back)
+vectors_written zero i front back = ap (λ n. write_vectors front n ++ joined back) (none i)
+vectors_written (suc more) i front back =
+    ap (λ n. write_vectors front n ++ joined back) (sym (one_more i more))
+    ∙ vectors_written more (suc i) front back
+    ∙ four (write_vectors front i) (indent 1) (codes "uint4 ") (named 119 i) (codes ";\n") (joined (spell_vectors (suc i) more back))
+
+-- the groups' size, and the kernel's name
+launching_written : (size : Option (ℕ × ℕ)) (name : List ℕ) (back : List Piece) → write_launching (codes "__kernel ") size ++ (codes "void " ++ (name ++ (codes "(" ++ joined back))) ≡ joined (spell_head name size back)
+launching_written None name back = refl
+launching_written (Some size) name back =
+    five (codes "__kernel ") (codes "__attribute__((reqd_work_group_size(") (decimal size.0) (codes ", ") (decimal size.1) (codes ", 1))) ") (codes "void " ++ (name ++ (codes "(" ++ joined back)))
+
+head_written : (size : Option (ℕ × ℕ)) (name : List ℕ) (back : List Piece) → write_head name size ++ joined back ≡ joined (spell_head name size back)
+head_written size name back =
+    three (write_launching (codes "__kernel ") size) (codes "void ") name (codes "(") (joined back)
+    ∙ launching_written size name back
+
 from_zero : (n : ℕ) → n ≡ 0 + n
 from_zero n = omega arith
 
-pub kernel_written : (k : Kernel) (more : ℕ) → write_kernel k more ≡ joined (spell_kernel k more)
-kernel_written k more =
-    let inputs = write_inputs (codes "__kernel void lift(") k.inputs in
+pub kernel_written : (name : List ℕ) (k : Kernel) (more : ℕ) → write_kernel name k more ≡ joined (spell_kernel name k more)
+kernel_written name k more =
+    let head = write_head name k.local in
+    let inputs = write_inputs head k.inputs in
     let outputs = write_outputs inputs more in
     let sizes = write_sizes outputs k.sizes in
     let opened = sizes ++ codes ")\n{\n" in
     let locals = write_locals opened k.locals in
     let privates = write_privates locals k.privates in
     let variables = write_variables privates k.variables in
-    let code = spell_code 0 k.code [] in
-    let after_privates = spell_variables 0 k.variables code in
+    let vectors = write_vectors variables k.vectors in
+    let code = spell_code 0 0 k.code [] in
+    let after_variables = spell_vectors 0 k.vectors code in
+    let after_privates = spell_variables 0 k.variables after_variables in
     let after_locals = spell_privates 0 k.privates after_privates in
     let body = spell_locals 0 k.locals after_locals in
-    sym (append-nil (write_code 0 variables k.code))
-    ∙ code_written k.code 0 variables []
-    ∙ ap (λ n. write_variables privates n ++ joined code) (from_zero k.variables)
-    ∙ variables_written k.variables 0 privates code
+    let parameters = first_output 0 (spell_outputs 1 more (spell_sizes 0 k.sizes (spell_body k))) in
+    sym (append-nil (write_code 0 0 vectors k.code))
+    ∙ code_written k.code 0 0 vectors []
+    ∙ ap (λ n. write_vectors variables n ++ joined code) (from_zero k.vectors)
+    ∙ vectors_written k.vectors 0 variables code
+    ∙ ap (λ n. write_variables privates n ++ joined after_variables) (from_zero k.variables)
+    ∙ variables_written k.variables 0 privates after_variables
     ∙ privates_written k.privates 0 locals after_privates
     ∙ locals_written k.locals 0 opened after_locals
     ∙ append_assoc sizes (codes ")\n{\n") (joined body)
@@ -243,5 +339,6 @@ kernel_written k more =
     ∙ ap (λ n. write_outputs inputs n ++ joined (spell_sizes 0 k.sizes (spell_body k))) (from_zero more)
     ∙ outputs_written more 0 inputs (spell_sizes 0 k.sizes (spell_body k))
     ∙ two inputs (codes "__global uint *") (named 111 0) (joined (spell_outputs 1 more (spell_sizes 0 k.sizes (spell_body k))))
-    ∙ ap (λ n. write_inputs (codes "__kernel void lift(") n ++ joined (first_output 0 (spell_outputs 1 more (spell_sizes 0 k.sizes (spell_body k))))) (from_zero k.inputs)
-    ∙ inputs_written k.inputs 0 (codes "__kernel void lift(") (first_output 0 (spell_outputs 1 more (spell_sizes 0 k.sizes (spell_body k))))
+    ∙ ap (λ n. write_inputs head n ++ joined parameters) (from_zero k.inputs)
+    ∙ inputs_written k.inputs 0 head parameters
+    ∙ head_written k.local name (spell_inputs 0 k.inputs parameters)

@@ -1,6 +1,7 @@
 //! Kernels as text.
 #![tactic(auto)]
 
+mod place;
 mod text;
 
 pub use text::print;

@@ -34,20 +34,20 @@ whole_length bytes ps h = lengths ps ∙ sym (ap length h)
 abbrev OneCut : Type 0
 OneCut = (bytes : List ℕ) (ps qs : List Piece) → ArePieces bytes ps → ArePieces bytes qs → ps ≡ qs
 
-pub from_nothing : (n m : Notes) (ps qs : List (Bor (List ℕ))) → n ≡ nothing → ps ≡ qs → Reads kernels start n (map bytes_of ps) [] m → Reads kernels start nothing (map bytes_of qs) [] m
-from_nothing n m ps qs e f r = subst (λ z. Reads kernels start nothing (map bytes_of z) [] m) f (subst (λ z. Reads kernels start z (map bytes_of ps) [] m) e r)
+pub from_nothing : (name : Piece) (n m : Notes) (ps qs : List (Bor (List ℕ))) → n ≡ nothing → ps ≡ qs → Reads kernels (start name) n (map bytes_of ps) [] m → Reads kernels (start name) nothing (map bytes_of qs) [] m
+from_nothing name n m ps qs e f r = subst (λ z. Reads kernels (start name) nothing (map bytes_of z) [] m) f (subst (λ z. Reads kernels (start name) z (map bytes_of ps) [] m) e r)
 
-stops_from_nothing : (n : Notes) (ps qs : List (Bor (List ℕ))) (i : ℕ) → n ≡ nothing → ps ≡ qs → StopsAt kernels start n (map bytes_of ps) i → StopsAt kernels start nothing (map bytes_of qs) i
-stops_from_nothing n ps qs i e f r = subst (λ z. StopsAt kernels start nothing (map bytes_of z) i) f (subst (λ z. StopsAt kernels start z (map bytes_of ps) i) e r)
+stops_from_nothing : (name : Piece) (n : Notes) (ps qs : List (Bor (List ℕ))) (i : ℕ) → n ≡ nothing → ps ≡ qs → StopsAt kernels (start name) n (map bytes_of ps) i → StopsAt kernels (start name) nothing (map bytes_of qs) i
+stops_from_nothing name n ps qs i e f r = subst (λ z. StopsAt kernels (start name) nothing (map bytes_of z) i) f (subst (λ z. StopsAt kernels (start name) z (map bytes_of ps) i) e r)
 
 pub not_read : (m : Notes) (e : ReadError) (i : ℕ) → e ≡ Refused i → Answers notes_of m (Err e) → ⊥
 not_read m e i w a = subst (λ z. Answers notes_of m (Err z)) w a
 
-pub stops_at : (n : Notes) (ps qs : List (Bor (List ℕ))) (e : ReadError) (i : ℕ) → e ≡ Refused i → n ≡ nothing → ps ≡ qs → Refuses kernels start n (map bytes_of ps) e → StopsAt kernels start nothing (map bytes_of qs) i
-stops_at n ps qs e i w a f r = stops_from_nothing n ps qs i a f (subst (λ z. Refuses kernels start n (map bytes_of ps) z) w r)
+pub stops_at : (name : Piece) (n : Notes) (ps qs : List (Bor (List ℕ))) (e : ReadError) (i : ℕ) → e ≡ Refused i → n ≡ nothing → ps ≡ qs → Refuses kernels (start name) n (map bytes_of ps) e → StopsAt kernels (start name) nothing (map bytes_of qs) i
+stops_at name n ps qs e i w a f r = stops_from_nothing name n ps qs i a f (subst (λ z. Refuses kernels (start name) n (map bytes_of ps) z) w r)
 
 -- the reading of a kernel's text, by these pieces
-pub reading_of : OneCut → (bytes : List ℕ) (k : Kernel) (n : Notes) (ps qs : List (Bor (List ℕ))) → n ≡ nothing → ps ≡ qs → ArePieces bytes (map bytes_of qs) → (h : IsKernelText bytes k) → Reads kernels start n (map bytes_of ps) [] (all_of k)
-reading_of one bytes k n ps qs e f cut h =
+pub reading_of : (name : Piece) → OneCut → (bytes : List ℕ) (k : Kernel) (n : Notes) (ps qs : List (Bor (List ℕ))) → n ≡ nothing → ps ≡ qs → ArePieces bytes (map bytes_of qs) → (h : IsKernelText name bytes k) → Reads kernels (start name) n (map bytes_of ps) [] (all_of k)
+reading_of name one bytes k n ps qs e f cut h =
     let pieces : h.0 ≡ map bytes_of ps = one bytes h.0 (map bytes_of qs) h.1 cut ∙ ap (λ z. map bytes_of z) (sym f) in
-    subst (λ z. Reads kernels start z (map bytes_of ps) [] (all_of k)) (sym e) (subst (λ z. Reads kernels start nothing z [] (all_of k)) pieces h.2)
+    subst (λ z. Reads kernels (start name) z (map bytes_of ps) [] (all_of k)) (sym e) (subst (λ z. Reads kernels (start name) nothing z [] (all_of k)) pieces h.2)

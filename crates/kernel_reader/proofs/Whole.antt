@@ -17,11 +17,12 @@ some_block m made e =
     let w : [] ≡ made.0.code ∷ [] = sym (ap (map (λ (b : VecDeque Stmt Global). code_then b.items End)) e) ∙ ap (λ (n : Notes). n.blocks) made.1 in cc (w)
 
 pub is_made : (m : Made) (block : VecDeque Stmt Global) (rest : List (VecDeque Stmt Global)) (body : List Stmt) → ((k : Kernel) × (notes_of m ≡ all_of k)) → m.blocks.items ≡ block ∷ rest → body ≡ block.items
-    → notes_of m ≡ all_of (kernel_with m.inputs m.outputs m.sizes m.locals.items m.privates.items m.variables body)
+    → notes_of m ≡ all_of (kernel_with m.inputs m.outputs m.sizes m.locals.items m.privates.items m.variables m.vectors m.local body)
 is_made m block rest body made e b =
     let values = ap (λ (n : Notes). n.values) made.1 in
     let held = ap (λ (n : Notes). n.blocks) made.1 in
     let blocks : code_then block.items End ∷ map (λ (b : VecDeque Stmt Global). code_then b.items End) rest ≡ made.0.code ∷ [] = sym (ap (map (λ (b : VecDeque Stmt Global). code_then b.items End)) e) ∙ held in
     let q = same_head (code_then block.items End) made.0.code _ blocks in
     let code : made.0.code ≡ code_then body End = sym q.0 ∙ ap (λ z. code_then z End) (sym b) in
-    ap (λ v. record (notes_of m) { values = v }) values ∙ ap (λ v. record (notes_of m) { values = []; blocks = v }) (held ∙ ap (λ z. z ∷ []) code)
+    let lanes = ap (λ (n : Notes). n.lanes) made.1 in
+    ap (λ v. record (notes_of m) { values = v }) values ∙ ap (λ v. record (notes_of m) { values = []; lanes = v }) lanes ∙ ap (λ v. record (notes_of m) { values = []; lanes = []; blocks = v }) (held ∙ ap (λ z. z ∷ []) code)

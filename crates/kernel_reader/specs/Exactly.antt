@@ -16,6 +16,9 @@ Answers k (Err Memory) = Unit {0}
 Answers k (Err (Syntax offset)) = ⊥
 
 -- an error: want of memory, or where the first piece begins at which the text doesn't go on
-abbrev pub Refuses : List ℕ → KernelNo → Type 0
-Refuses bytes Memory = Unit {0}
-Refuses bytes (Syntax offset) = (pieces : List Piece) × (i : ℕ) × ArePieces bytes pieces × StopsAt kernels start nothing pieces i × (offset ≡ length (joined (take i pieces)))
+-- in the text of a kernel of this name
+abbrev pub Refuses : (name : Piece) → List ℕ → KernelNo → Type 0
+Refuses name bytes Memory = Unit {0}
+Refuses name bytes (Syntax offset) =
+    (pieces : List Piece) × (i : ℕ) × ArePieces bytes pieces
+    × StopsAt kernels (start name) nothing pieces i × (offset ≡ length (joined (take i pieces)))

@@ -1,14 +1,14 @@
-// The declarations of a kernel's text: what their forms give way to.
+//! The declarations of a kernel's text: what their forms give way to.
 
 ghost use Rattle.std.specs.Prelude.{◌≡◌, ◌<◌};
 ghost use Rattle.kernel_tree.specs.KernelText as text;
 ghost use Rattle.kernel_spelling.specs.Kinds.{kind_of};
-ghost use Rattle.kernel_spelling.specs.Rows.{is_next, new_variable_row, new_local_row, declared_row, length_row, variables_row, privates_row, locals_row, declaration_row};
+ghost use Rattle.kernel_spelling.specs.Rows.{is_next, new_variable_row, new_vector_row, new_local_row, declared_row, length_row, vectors_row, variables_row, privates_row, locals_row, declaration_row};
 ghost use Rattle.kernel_reader.specs.Views.{Gave, part_of};
 ghost use Rattle.kernel_reader.specs.Noted.{notes_of};
 
 use crate::form::{
-    CLOSE_INDEX, Debts, Form, LINE, LOCAL, Mark, OPEN_INDEX, SEMICOLON, SPACE, UINT,
+    CLOSE_INDEX, Debts, Form, LINE, LOCAL, Mark, OPEN_INDEX, Place, SEMICOLON, SPACE, UINT, UINT4,
 };
 use crate::made::Made;
 use crate::parameters::is_next;
@@ -55,6 +55,25 @@ impl<'a> Made<'a> {
                 let indent = Owed::Form(Form::Indent(1));
                 let variables = Owed::Form(Form::Variables);
                 give(owed, &[declared, SEMICOLON, LINE, indent, variables])
+            }
+            _ => Ok(false),
+        }
+    }
+
+    fn give_vector(&self, piece: &'a [u8], owed: &mut Debts<'a>) -> Result<bool, AllocError>
+        ensures { let n = notes_of self.now in
+            let p = piece.entry.now in
+            Gave result owed.old.items owed.new.items (new_vector_row n (kind_of p)) }
+    {
+        match Kind::of(piece) {
+            Kind::Vector(k) => {
+                if !is_next(k, self.vectors) {
+                    return Ok(false);
+                }
+                let declared = Owed::Mark(Mark::DeclareVector(self.vectors + 1));
+                let indent = Owed::Form(Form::Indent(1));
+                let vectors = Owed::Form(Form::Vectors);
+                give(owed, &[declared, SEMICOLON, LINE, indent, vectors])
             }
             _ => Ok(false),
         }
@@ -120,6 +139,17 @@ impl<'a> Made<'a> {
         }
     }
 
+    fn give_vectors(&self, piece: &'a [u8], owed: &mut Debts<'a>) -> Result<bool, AllocError>
+        ensures { let n = notes_of self.now in
+            let p = piece.entry.now in
+            Gave result owed.old.items owed.new.items (vectors_row n p) }
+    {
+        if piece == UINT4 {
+            return give(owed, &[SPACE, Owed::Form(Form::NewVector)]);
+        }
+        self.give_statement(Place { loops: 0, nest: 0 }, piece, owed)
+    }
+
     fn give_variables(&self, piece: &'a [u8], owed: &mut Debts<'a>) -> Result<bool, AllocError>
         ensures { let n = notes_of self.now in
             let p = piece.entry.now in
@@ -128,7 +158,7 @@ impl<'a> Made<'a> {
         if piece == UINT {
             return give(owed, &[SPACE, Owed::Form(Form::NewVariable)]);
         }
-        self.give_statement(0, piece, owed)
+        self.give_vectors(piece, owed)
     }
 
     fn give_privates(&self, piece: &'a [u8], owed: &mut Debts<'a>) -> Result<bool, AllocError>
@@ -139,7 +169,7 @@ impl<'a> Made<'a> {
         if piece == UINT {
             return give(owed, &[SPACE, Owed::Form(Form::Declared)]);
         }
-        self.give_statement(0, piece, owed)
+        self.give_vectors(piece, owed)
     }
 
     fn give_locals(&self, piece: &'a [u8], owed: &mut Debts<'a>) -> Result<bool, AllocError>
@@ -174,6 +204,8 @@ impl<'a> Made<'a> {
             Form::PrivateLength => self.give_private_length(piece, owed),
             Form::Variables => self.give_variables(piece, owed),
             Form::NewVariable => self.give_variable(piece, owed),
+            Form::Vectors => self.give_vectors(piece, owed),
+            Form::NewVector => self.give_vector(piece, owed),
             _ => self.give_head(form, piece, owed),
         }
     }

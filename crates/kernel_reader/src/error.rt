@@ -1,4 +1,4 @@
-// Why a text is no kernel's.
+//! Why a text is no kernel's.
 
 ghost use Rattle.std.specs.Prelude.{◌≡◌};
 ghost use Rattle.kernel_reader.specs.declared.error.KernelNo.TheVariants.{Memory};

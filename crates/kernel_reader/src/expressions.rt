@@ -1,20 +1,20 @@
-// The expressions of a kernel's text: what their forms give way to.
+//! The expressions of a kernel's text: what their forms give way to.
 
 ghost use Rattle.std.specs.Prelude.{◌≤◌, Some};
-ghost use Rattle.kernel_tree.specs.Tree.{comparison_of};
+ghost use Rattle.kernel_tree.specs.Tree.{id_of, comparison_of};
 ghost use Rattle.kernel_tree.specs.KernelText.{operated, compared};
 ghost use Rattle.kernel_spelling.specs.Kinds.{kind_of};
-ghost use Rattle.kernel_spelling.specs.Rows.{whole_row, value_row, opened_row, id_row, rest_row, after_less_row};
+ghost use Rattle.kernel_spelling.specs.Rows.{whole_row, value_row, opened_row, id_row, id_along_row, rest_row, after_less_row};
 ghost use Rattle.kernel_reader.specs.Views.{Gave};
 ghost use Rattle.kernel_reader.specs.Noted.{notes_of};
 
 use crate::form::{
-    BLANK, CLOSES, COLON, COMMA, DEEPEST, Debts, EQUALS, Form, GREATER, LESS, Mark, NOUGHT, OPEN,
-    OPENS, QUESTION, SPACE, UINT,
+    BLANK, CLOSES, COLON, COMMA, DEEPEST, Debts, EQUALS, Form, GREATER, LESS, Mark, OPEN, OPENS,
+    QUESTION, SPACE, UINT,
 };
 use crate::made::Made;
-use kernel_spelling::{Kind, called, named_id, signed};
-use kernel_tree::tree::Comparison;
+use kernel_spelling::{Kind, called, named_dimension, named_id, signed};
+use kernel_tree::tree::{Comparison, IdForm};
 use readings::{Owed, give, owe};
 use scalar_ops::op::Op;
 use std::alloc::AllocError;
@@ -157,7 +157,22 @@ impl<'a> Made<'a> {
         let Some(form) = named_id(piece) else {
             return Ok(false);
         };
-        give(owed, &[OPENS, NOUGHT, CLOSES, Owed::Mark(Mark::Id(form))])
+        give(owed, &[OPENS, Owed::Form(Form::IdAlong(form))])
+    }
+
+    pub fn give_id_along(
+        &self,
+        form: IdForm,
+        piece: &'a [u8],
+        owed: &mut Debts<'a>,
+    ) -> Result<bool, AllocError>
+        ensures { let p = piece.entry.now in
+            Gave result owed.old.items owed.new.items (id_along_row (id_of form) p) }
+    {
+        let Some(along) = named_dimension(piece) else {
+            return Ok(false);
+        };
+        give(owed, &[CLOSES, Owed::Mark(Mark::Id(along, form))])
     }
 
     pub fn give_rest(

@@ -1,25 +1,53 @@
-// The forms and the marks of kernel text, and its pieces.
+//! The forms and the marks of kernel text, and its pieces.
 
-ghost use Rattle.std.specs.Prelude.{◌<◌};
+ghost use Rattle.std.specs.Prelude.{◌<◌, ◌≤◌};
 
-use kernel_tree::tree::{Array, Comparison, IdForm, Start, Stride};
+use kernel_tree::tree::{Array, Comparison, Dimension, IdForm, Start, Stride};
 use readings::Owed;
 use scalar_ops::op::Op;
 use std::collections::VecDeque;
 
-/// How deep loops and expressions nest at most.
+/// How deep loops and `if`s nest at most, and expressions.
 pub const DEEPEST: u32 = 1024;
 
-/// Where a loop stands: how many loops are around it, which are few enough for one more.
+/// How many items a work-group has at most.
+pub const LARGEST_GROUP: u32 = 256;
+
+/// Where a statement stands: how many loops are around it, and how many loops and `if`s.
 #[derive(Clone, Copy)]
 pub struct Place {
     pub loops: u32,
-    pub ghost allowed: { loops < 1024 },
+    pub nest: u32,
+    pub ghost within: { loops ≤ nest },
+}
+
+/// Where a loop or an `if` stands, inside of few enough of them for one more.
+#[derive(Clone, Copy)]
+pub struct Block {
+    pub loops: u32,
+    pub nest: u32,
+    pub ghost within: { loops ≤ nest },
+    pub ghost allowed: { nest < 1024 },
+}
+
+/// Where an expression of four words stands that begins with a parenthesis: how many loops are
+/// around it, and how deep it stands, which is not too deep.
+#[derive(Clone, Copy)]
+pub struct Opening {
+    pub loops: u32,
+    pub depth: u32,
+    pub ghost allowed: { depth ≤ 1024 },
 }
 
 /// A form of kernel text, which gives way to the alternative that begins with the next piece.
 #[derive(Clone, Copy)]
 pub enum Form {
+    /// The size of the groups, where there is one, and `void`.
+    Launching,
+    /// The size's first number, and what follows.
+    GroupWidth,
+    /// The size's second number behind this first one, and what follows.
+    GroupHeight(u32),
     /// An input, or the first output.
     Parameter,
     /// What follows `__global` and a space there.
@@ -43,33 +71,57 @@ pub enum Form {
     /// The same, where variables alone may be declared.
     Variables,
     NewVariable,
-    /// A statement within so many loops, behind its indent, and what follows it in its block.
-    Statement(u32),
-    /// What follows a statement within so many loops.
-    Next(u32),
-    /// What a variable is assigned within so many loops, and what follows.
-    Source(u32, u32),
+    /// The same, where variables of four words alone may be declared.
+    Vectors,
+    NewVector,
+    /// A statement behind its indent, and what follows it in its block.
+    Statement(Place),
+    /// What follows a statement in its block.
+    Next(Place),
+    /// What a variable is assigned, and what follows.
+    Source(Place, u32),
+    /// What a variable of four words is assigned, and what follows.
+    SourceOfFour(Place, u32),
+    /// The array of which four cells are loaded into a variable, and what follows.
+    LoadedFour(Place, u32),
+    /// The array to which four words are stored, and what follows.
+    StoredFour(Place),
     /// A barrier's flags, and what follows.
-    Fence(u32),
+    Fence(Place),
     /// What follows a barrier's flag of local memory.
-    AfterLocal(u32),
-    /// What a loop's variable begins with, and what follows.
-    Beginning(Place),
+    AfterLocal(Place),
+    /// What an `if` (`true`) compares, or what a loop's variable begins with, and what follows.
+    Beginning(bool, Block),
     /// The same behind `(uint)`.
-    BeginningId(Place),
+    BeginningId(bool, Block),
+    /// The same behind the id's name and its parenthesis.
+    BeginningAlong(bool, Block, IdForm),
     /// What is added to a loop's variable, and what follows.
-    Step(Place, Start),
+    Step(Block, Start),
     /// The same behind `(uint)`.
-    StepId(Place, Start),
+    StepId(Block, Start),
+    /// The same behind the count's name and its parenthesis.
+    StepAlong(Block, Start, IdForm),
     /// The variable of the loop within so many loops.
     Turn(u32),
     /// The spaces of so many levels.
     Indent(u32),
-    /// An expression: whether it is a loop's bound, the loops around, and how deep it stands.
+    /// An expression: whether it is a loop's or an `if`'s bound, the loops around, and how deep it
+    /// stands.
     Value(bool, u32, u32),
     /// What follows the parenthesis with which an expression begins.
     Opened(bool, u32, u32),
+    /// An expression of four words: the loops around, and how deep it stands.
+    InLanes(u32, u32),
+    /// What follows the parenthesis with which it begins.
+    LanesOpened(Opening),
+    /// What follows its left part.
+    LanesRest(u32, u32),
+    /// The same behind `<`.
+    LanesAfterLess(u32, u32),
     IdName,
+    /// The dimension of an id.
+    IdAlong(IdForm),
     /// What follows the left part of an expression in parentheses.
     Rest(bool, u32, u32),
     /// The same behind `<`.
@@ -87,23 +139,37 @@ pub enum Mark {
     DeclareSize(u32),
     /// So many variables are declared now.
     DeclareVariable(u32),
+    /// So many variables of four words are declared now.
+    DeclareVector(u32),
     /// One more local array is declared, of this length.
     DeclareLocal(u32),
     /// One more private array is declared, of this length.
     DeclarePrivate(u32),
+    /// The size of the groups.
+    FixLocal(u32, u32),
     Number(u32),
     Variable(u32),
     LoopVariable(u32),
     Size(u32),
-    Id(IdForm),
+    Id(Dimension, IdForm),
     Both(Op),
     Either(Comparison),
+    /// A variable of four words.
+    Vector(u32),
+    /// Four of the last word.
+    SpreadOut,
+    /// An operator on the last two expressions of four words.
+    EachOf(Op),
     /// The end of a block.
     Stop,
     Assign(u32),
     Load(u32, Array),
     Store(Array),
+    AssignFour(u32),
+    LoadFour(u32, Array),
+    StoreFour(Array),
     Loop(Start, Stride),
+    If(Start),
     /// A barrier, and whether it has the flags of local and of global memory.
     Sync(bool, bool),
 }
@@ -122,6 +188,18 @@ pub const LOCAL: &[u8] = b"__local";
 pub const CONST: &[u8] = b"const";
 
 pub const UINT: &[u8] = b"uint";
+
+pub const UINT4: &[u8] = b"uint4";
+
+pub const VOID: &[u8] = b"void";
+
+pub const ATTRIBUTE: &[u8] = b"__attribute__";
+
+pub const IF: &[u8] = b"if";
+
+pub const LOAD_FOUR: &[u8] = b"vload4";
+
+pub const STORE_FOUR: &[u8] = b"vstore4";
 
 pub const FOR: &[u8] = b"for";
 
@@ -169,7 +247,9 @@ pub const QUESTION: Debt<'static> = Owed::Token(b"?");
 
 pub const COLON: Debt<'static> = Owed::Token(b":");
 
-pub const NOUGHT: Debt<'static> = Owed::Token(b"0");
+pub const GROUP_SIZE: Debt<'static> = Owed::Token(b"reqd_work_group_size");
+
+pub const ONE_LAYER: Debt<'static> = Owed::Token(b"1");
 
 pub const OPEN_INDEX: Debt<'static> = Owed::Token(b"[");
 

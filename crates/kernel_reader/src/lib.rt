@@ -5,6 +5,7 @@ mod declarations;
 mod error;
 mod expressions;
 mod form;
+mod lanes;
 mod lines;
 mod made;
 mod parameters;

@@ -1,4 +1,4 @@
-// What a reading has made of a kernel.
+//! What a reading has made of a kernel.
 
 ghost use Rattle.std.specs.Prelude.{◌≡◌, IfOk};
 ghost use Rattle.readings.specs.Given.{Noticed};
@@ -11,15 +11,15 @@ ghost use Rattle.kernel_reader.specs.Noted.{notes_of};
 use crate::form::{Debts, Form, Mark};
 use crate::lines::is_indent;
 use kernel_tree::laws::blocks;
-use kernel_tree::tree::{Array, Comparison, Expr, Start, Stmt, Stride};
+use kernel_tree::tree::{Array, Comparison, Expr, Lanes, Start, Stmt, Stride};
 use readings::Notes;
 use scalar_ops::op::Op;
 use std::alloc::{AllocError, Global};
 use std::collections::VecDeque;
 use std::marker::PhantomData;
 
-/// The names declared so far, with the lengths of the arrays, and the expressions and blocks that are made and not yet
-/// used, the last one first.
+/// The names declared so far, with the lengths of the arrays, the size of the groups, and the
+/// expressions and blocks that are made and not yet used, the last one first.
 #[derive(Drop)]
 pub struct Made<'a> {
     pub inputs: u32,
@@ -28,7 +28,10 @@ pub struct Made<'a> {
     pub locals: Vec<u32>,
     pub privates: Vec<u32>,
     pub variables: u32,
+    pub vectors: u32,
+    pub local: Option<(u32, u32)>,
     pub values: VecDeque<Expr>,
+    pub lanes: VecDeque<Lanes>,
     pub blocks: VecDeque<VecDeque<Stmt>>,
     pub text: PhantomData<&'a [u8]>,
 }
@@ -129,6 +132,79 @@ impl<'a> Made<'a> {
         Ok(true)
     }
 
+    fn spread(&mut self) -> Result<bool, AllocError>
+        ensures { Noticed result (marked (note_of Mark.SpreadOut) (notes_of self.old))
+            (notes_of self.new) }
+    {
+        let Some(word) = self.values.pop_front() else {
+            return Ok(false);
+        };
+        self.lanes.push_front(Lanes::Spread(word))?;
+        Ok(true)
+    }
+
+    fn each(&mut self, alloc: Global, op: Op) -> Result<bool, AllocError>
+        ensures { let note = note_of (Mark.EachOf op) in
+            Noticed result (marked note (notes_of self.old)) (notes_of self.new) }
+    {
+        let Some(right) = self.lanes.pop_front() else {
+            return Ok(false);
+        };
+        let Some(left) = self.lanes.pop_front() else {
+            return Ok(false);
+        };
+        self.lanes.push_front(Lanes::each(alloc, op, left, right)?)?;
+        Ok(true)
+    }
+
+    fn assign_four(&mut self, variable: u32) -> Result<bool, AllocError>
+        ensures { let note = note_of (Mark.AssignFour variable) in
+            Noticed result (marked note (notes_of self.old)) (notes_of self.new) }
+    {
+        let Some(words) = self.lanes.pop_front() else {
+            return Ok(false);
+        };
+        let Some(mut block) = self.blocks.pop_front() else {
+            return Ok(false);
+        };
+        block.push_front(Stmt::AssignFour(variable, words))?;
+        self.blocks.push_front(block)?;
+        Ok(true)
+    }
+
+    fn load_four(&mut self, variable: u32, array: Array) -> Result<bool, AllocError>
+        ensures { let note = note_of (Mark.LoadFour variable array) in
+            Noticed result (marked note (notes_of self.old)) (notes_of self.new) }
+    {
+        let Some(offset) = self.values.pop_front() else {
+            return Ok(false);
+        };
+        let Some(mut block) = self.blocks.pop_front() else {
+            return Ok(false);
+        };
+        block.push_front(Stmt::LoadFour(variable, array, offset))?;
+        self.blocks.push_front(block)?;
+        Ok(true)
+    }
+
+    fn store_four(&mut self, array: Array) -> Result<bool, AllocError>
+        ensures { let note = note_of (Mark.StoreFour array) in
+            Noticed result (marked note (notes_of self.old)) (notes_of self.new) }
+    {
+        let Some(offset) = self.values.pop_front() else {
+            return Ok(false);
+        };
+        let Some(words) = self.lanes.pop_front() else {
+            return Ok(false);
+        };
+        let Some(mut block) = self.blocks.pop_front() else {
+            return Ok(false);
+        };
+        block.push_front(Stmt::StoreFour(array, offset, words))?;
+        self.blocks.push_front(block)?;
+        Ok(true)
+    }
+
     fn synchronize(&mut self, on_local: bool, on_global: bool) -> Result<bool, AllocError>
         ensures { let note = note_of (Mark.Sync on_local on_global) in
             Noticed result (marked note (notes_of self.old)) (notes_of self.new) }
@@ -170,6 +246,28 @@ impl<'a> Made<'a> {
     }
 }
 
+impl<'a> Made<'a> {
+    fn close_if(&mut self, alloc: Global, start: Start) -> Result<bool, AllocError>
+        ensures { let note = note_of (Mark.If start) in
+            Noticed result (marked note (notes_of self.old)) (notes_of self.new) }
+    {
+        blocks();
+        let Some(bound) = self.values.pop_front() else {
+            return Ok(false);
+        };
+        let Some(mut after) = self.blocks.pop_front() else {
+            return Ok(false);
+        };
+        let Some(body) = self.blocks.pop_front() else {
+            return Ok(false);
+        };
+        let body = statements_of(alloc, body)?;
+        after.push_front(Stmt::If(start, bound, body))?;
+        self.blocks.push_front(after)?;
+        Ok(true)
+    }
+}
+
 impl<'a> Notes for Made<'a> {
     type Token = &'a [u8];
 
@@ -203,20 +301,40 @@ impl<'a> Notes for Made<'a> {
 
     fn give(&self, form: Form, piece: &'a [u8], owed: &mut Debts<'a>) -> Result<bool, AllocError> {
         match form {
-            Form::Statement(loops) => self.give_statement(loops, piece, owed),
-            Form::Next(loops) => self.give_next(loops, piece, owed),
-            Form::Source(loops, variable) => self.give_source(loops, variable, piece, owed),
-            Form::Fence(loops) => self.give_fence(loops, piece, owed),
-            Form::AfterLocal(loops) => self.give_after_local(loops, piece, owed),
-            Form::Beginning(place) => self.give_beginning(place, piece, owed),
-            Form::BeginningId(place) => self.give_beginning_id(place, piece, owed),
-            Form::Step(place, start) => self.give_step(place, start, piece, owed),
-            Form::StepId(place, start) => self.give_step_id(place, start, piece, owed),
+            Form::Statement(place) => self.give_statement(place, piece, owed),
+            Form::Next(place) => self.give_next(place, piece, owed),
+            Form::Source(place, variable) => self.give_source(place, variable, piece, owed),
+            Form::SourceOfFour(place, variable) => {
+                self.give_source_of_four(place, variable, piece, owed)
+            }
+            Form::LoadedFour(place, variable) => {
+                self.give_loaded_four(place, variable, piece, owed)
+            }
+            Form::StoredFour(place) => self.give_stored_four(place, piece, owed),
+            Form::Fence(place) => self.give_fence(place, piece, owed),
+            Form::AfterLocal(place) => self.give_after_local(place, piece, owed),
+            Form::Beginning(guard, block) => self.give_beginning(guard, block, piece, owed),
+            Form::BeginningId(guard, block) => self.give_beginning_id(guard, block, piece, owed),
+            Form::BeginningAlong(guard, block, form) => {
+                self.give_beginning_along(guard, block, form, piece, owed)
+            }
+            Form::Step(block, start) => self.give_step(block, start, piece, owed),
+            Form::StepId(block, start) => self.give_step_id(block, start, piece, owed),
+            Form::StepAlong(block, start, form) => {
+                self.give_step_along(block, start, form, piece, owed)
+            }
             Form::Turn(loops) => self.give_turn(loops, piece, owed),
             Form::Indent(level) => Ok(is_indent(piece, level as u64)),
             Form::Value(bound, loops, depth) => self.give_value(bound, loops, depth, piece, owed),
             Form::Opened(bound, loops, depth) => self.give_opened(bound, loops, depth, piece, owed),
+            Form::InLanes(loops, depth) => self.give_lanes(loops, depth, piece, owed),
+            Form::LanesOpened(opening) => self.give_lanes_opened(opening, piece, owed),
+            Form::LanesRest(loops, depth) => self.give_lanes_rest(loops, depth, piece, owed),
+            Form::LanesAfterLess(loops, depth) => {
+                self.give_lanes_after_less(loops, depth, piece, owed)
+            }
             Form::IdName => self.give_id(piece, owed),
+            Form::IdAlong(form) => self.give_id_along(form, piece, owed),
             Form::Rest(bound, loops, depth) => self.give_rest(bound, loops, depth, piece, owed),
             Form::AfterLess(bound, loops, depth) => {
                 self.give_after_less(bound, loops, depth, piece, owed)
@@ -243,6 +361,14 @@ impl<'a> Notes for Made<'a> {
                 self.variables = count;
                 Ok(true)
             }
+            Mark::DeclareVector(count) => {
+                self.vectors = count;
+                Ok(true)
+            }
+            Mark::FixLocal(width, height) => {
+                self.local = Some((width, height));
+                Ok(true)
+            }
             Mark::DeclareLocal(elements) => {
                 self.locals.push(elements)?;
                 Ok(true)
@@ -267,10 +393,16 @@ impl<'a> Notes for Made<'a> {
                 self.values.push_front(Expr::Size(k))?;
                 Ok(true)
             }
-            Mark::Id(form) => {
-                self.values.push_front(Expr::Id(form))?;
+            Mark::Id(along, form) => {
+                self.values.push_front(Expr::Id(along, form))?;
                 Ok(true)
             }
+            Mark::Vector(k) => {
+                self.lanes.push_front(Lanes::Vector(k))?;
+                Ok(true)
+            }
+            Mark::SpreadOut => self.spread(),
+            Mark::EachOf(op) => self.each(alloc, op),
             Mark::Both(op) => self.both(alloc, op),
             Mark::Either(comparison) => self.either(alloc, comparison),
             Mark::Stop => {
@@ -280,6 +412,10 @@ impl<'a> Notes for Made<'a> {
             Mark::Assign(variable) => self.assign(variable),
             Mark::Load(variable, array) => self.load(variable, array),
             Mark::Store(array) => self.store(array),
+            Mark::AssignFour(variable) => self.assign_four(variable),
+            Mark::LoadFour(variable, array) => self.load_four(variable, array),
+            Mark::StoreFour(array) => self.store_four(array),
+            Mark::If(start) => self.close_if(alloc, start),
             Mark::Loop(start, stride) => self.close_loop(alloc, start, stride),
             Mark::Sync(on_local, on_global) => self.synchronize(on_local, on_global),
         }

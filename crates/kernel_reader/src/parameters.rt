@@ -1,17 +1,20 @@
-// The parameters of a kernel's text: what their forms give way to.
+//! The size of a kernel's groups and its parameters: what their forms give way to.
 
-ghost use Rattle.std.specs.Prelude.{◌≡◌, ◌+◌, ◌<◌, ◌^◌, true};
+ghost use Rattle.std.specs.Prelude.{◌≡◌, ◌+◌, ◌<◌, ◌^◌, true, Some};
 ghost use Rattle.kernel_tree.specs.KernelText as text;
 ghost use Rattle.kernel_spelling.specs.Kinds.{kind_of};
-ghost use Rattle.kernel_spelling.specs.Rows.{row, head_row, is_next, new_input_row, new_output_row, new_size_row};
+ghost use Rattle.kernel_spelling.specs.Rows.{row, head_row, launching_row, width_row, fixing, height_row, is_next, new_input_row, new_output_row, new_size_row};
 ghost use Rattle.kernel_reader.specs.Views.{Gave, part_of};
 ghost use Rattle.kernel_reader.specs.Noted.{notes_of};
 
-use crate::form::{CLOSE, COMMA, CONST, Debts, Form, GLOBAL, Mark, SPACE, STAR, UINT};
+use crate::form::{
+    ATTRIBUTE, CLOSE, CLOSES, COMMA, CONST, Debts, Form, GLOBAL, GROUP_SIZE, LARGEST_GROUP, Mark,
+    ONE_LAYER, OPENS, SPACE, STAR, UINT, VOID,
+};
 use crate::made::Made;
 use kernel_spelling::Kind;
 use kernel_tree::tree::Array;
-use readings::{Owed, give};
+use readings::{Owed, give, owe};
 use std::alloc::AllocError;
 
 /// Whether a new name has the next number.
@@ -20,6 +23,63 @@ pub fn is_next(k: u32, count: u32) -> bool
     ensures fits { result ≡ true → count + 1 < 2 ^ 32 }
 {
     k == count && count < u32::MAX
+}
+
+fn give_launching<'a>(piece: &'a [u8], owed: &mut Debts<'a>) -> Result<bool, AllocError>
+    ensures { let p = piece.entry.now in
+        Gave result owed.old.items owed.new.items (launching_row p) }
+{
+    if piece == VOID {
+        return Ok(true);
+    }
+    if piece == ATTRIBUTE {
+        let width = Owed::Form(Form::GroupWidth);
+        return give(owed, &[OPENS, OPENS, GROUP_SIZE, OPENS, width]);
+    }
+    Ok(false)
+}
+
+fn give_width<'a>(piece: &'a [u8], owed: &mut Debts<'a>) -> Result<bool, AllocError>
+    ensures { let p = piece.entry.now in
+        Gave result owed.old.items owed.new.items (width_row (kind_of p)) }
+{
+    match Kind::of(piece) {
+        Kind::Decimal(width) => {
+            if width == 0 || width > LARGEST_GROUP {
+                return Ok(false);
+            }
+            let comma = Owed::Token(COMMA);
+            give(owed, &[comma, SPACE, Owed::Form(Form::GroupHeight(width))])
+        }
+        _ => Ok(false),
+    }
+}
+
+/// Gives what stands behind the second number of a size.
+fn give_size_end<'a>(width: u32, height: u32, owed: &mut Debts<'a>) -> Result<bool, AllocError>
+    ensures { Gave result owed.old.items owed.new.items (Some (fixing width height)) }
+{
+    let fixed = Owed::Mark(Mark::FixLocal(width, height));
+    let comma = Owed::Token(COMMA);
+    let void = Owed::Token(VOID);
+    owe(owed, &[CLOSES, CLOSES, CLOSES, SPACE, void])?;
+    give(owed, &[fixed, comma, SPACE, ONE_LAYER])
+}
+
+fn give_height<'a>(width: u32, piece: &'a [u8], owed: &mut Debts<'a>) -> Result<bool, AllocError>
+    ensures { let p = piece.entry.now in
+        Gave result owed.old.items owed.new.items (height_row width (kind_of p)) }
+{
+    match Kind::of(piece) {
+        Kind::Decimal(height) => {
+            let items = width as u64 * height as u64;
+            if height == 0 || items > LARGEST_GROUP as u64 {
+                return Ok(false);
+            }
+            give_size_end(width, height, owed)
+        }
+        _ => Ok(false),
+    }
 }
 
 impl<'a> Made<'a> {
@@ -173,6 +233,9 @@ impl<'a> Made<'a> {
             Gave result owed.old.items owed.new.items (head_row n (part_of form) p) }
     {
         match form {
+            Form::Launching => give_launching(piece, owed),
+            Form::GroupWidth => give_width(piece, owed),
+            Form::GroupHeight(width) => give_height(width, piece, owed),
             Form::Parameter => self.give_parameter(piece, owed),
             Form::Pointer => self.give_pointer(piece, owed),
             Form::NewInput => self.give_input(piece, owed),

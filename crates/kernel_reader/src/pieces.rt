@@ -1,4 +1,4 @@
-// The pieces of a text.
+//! The pieces of a text.
 
 ghost use Rattle.std.specs.Prelude.{◌≡◌, ◌≤◌, ◌<◌, ◌^◌, length, map, take, sum_by, IfOk};
 ghost use Rattle.std.specs.List.{prefix_len};

@@ -1,11 +1,11 @@
-// Kernel text, read back.
+//! Kernel text, read back.
 
 ghost use Rattle.std.specs.Prelude.{◌≡◌, List, IfOk, IfErr, []};
 ghost use Rattle.readings.specs.Readings.{Reads};
 ghost use Rattle.kernel_tree.specs.Code as code;
 ghost use Rattle.kernel_tree.specs.Kernels.{kernel_of};
-ghost use Rattle.kernel_tree.specs.KernelText.{IsKernelText, Piece, all_of, kernels, start, nothing};
-ghost use Rattle.kernel_spelling.specs.Spelling.{HasText, text_of};
+ghost use Rattle.kernel_tree.specs.KernelText.{IsKernelText, Piece, all_of, kernels, lift, start, nothing};
+ghost use Rattle.kernel_spelling.specs.Spelling.{HasText, IsName, text_of};
 ghost use Rattle.kernel_reader.specs.Noted.{notes_of};
 ghost use Rattle.kernel_reader.specs.Exactly.{Answers, Refuses};
 
@@ -20,22 +20,6 @@ use std::alloc::{AllocError, Global};
 use std::collections::VecDeque;
 use std::marker::PhantomData;
 
-/// What is owed at first: a whole kernel.
-const START: [Debt<'static>; 12] = [
-    Owed::Token(b"__kernel"),
-    SPACE,
-    Owed::Token(b"void"),
-    SPACE,
-    Owed::Token(b"lift"),
-    OPENS,
-    Owed::Form(Form::Parameter),
-    LINE,
-    OPEN_BLOCK,
-    LINE,
-    Owed::Form(Form::Indent(1)),
-    Owed::Form(Form::Locals),
-];
-
 fn first<'a>(alloc: Global) -> Made<'a>
     ensures { notes_of result ≡ nothing }
 {
@@ -46,7 +30,10 @@ fn first<'a>(alloc: Global) -> Made<'a>
         locals: Vec::new(alloc),
         privates: Vec::new(alloc),
         variables: 0,
+        vectors: 0,
+        local: None,
         values: VecDeque::new(alloc),
+        lanes: VecDeque::new(alloc),
         blocks: VecDeque::new(alloc),
         text: PhantomData,
     }
@@ -54,7 +41,8 @@ fn first<'a>(alloc: Global) -> Made<'a>
 
 /// The kernel that a whole reading made.
 fn kernel_from(alloc: Global, made: Made) -> Result<Kernel, AllocError>
-    requires { (ps : List Piece) × Reads kernels start nothing ps [] (notes_of made) }
+    requires { (name : Piece) × (ps : List Piece)
+        × Reads kernels (start name) nothing ps [] (notes_of made) }
     ensures { IfOk result (λ k. notes_of made.entry ≡ all_of (kernel_of k)) }
 {
     whole_readings();
@@ -70,28 +58,46 @@ fn kernel_from(alloc: Global, made: Made) -> Result<Kernel, AllocError>
         locals: made.locals,
         privates: made.privates,
         variables: made.variables,
+        vectors: made.vectors,
+        local: made.local,
         body,
     })
 }
 
-/// The kernel whose text these bytes are.
-pub fn read_kernel(alloc: Global, bytes: &[u8]) -> Result<Kernel, KernelNo>
+/// The kernel of this name whose text these bytes are.
+fn read_named(alloc: Global, name: &[u8], bytes: &[u8]) -> Result<Kernel, KernelNo>
+    requires { IsName name.now }
     // The kernel grammar relates what is answered to the bytes.
-    ensures found { IfOk result (λ k. IsKernelText bytes.now (kernel_of k)) }
+    ensures found { IfOk result (λ k. IsKernelText name.now bytes.now (kernel_of k)) }
     // A kernel that the grammar relates to the bytes is answered, unless memory runs out.
-    ensures only { (k : code.Kernel) → IsKernelText bytes.now k → Answers k result }
+    ensures only { (k : code.Kernel) → IsKernelText name.now bytes.now k → Answers k result }
     // The bytes are that kernel's one text.
-    ensures one { IfOk result (λ k. bytes.now ≡ text_of (kernel_of k)) }
+    ensures one { IfOk result (λ k. bytes.now ≡ text_of name.now (kernel_of k)) }
     // The text of a kernel is read as that kernel, unless memory runs out.
-    ensures back { (k : code.Kernel) → HasText k → bytes.now ≡ text_of k → Answers k result }
+    ensures back { (k : code.Kernel) → HasText k → bytes.now ≡ text_of name.now k →
+        Answers k result }
     // A refusal names the first piece at which the text doesn't go on.
-    ensures refused { IfErr result (Refuses bytes.now) }
+    ensures refused { IfErr result (Refuses name.now bytes.now) }
 {
     one_text();
     one_kernel();
     one_cut();
     let pieces = pieces(alloc, bytes)?;
-    let made = match read(alloc, &START, first(alloc), &pieces) {
+    let owed: [Debt<'_>; 12] = [
+        Owed::Token(b"__kernel"),
+        SPACE,
+        Owed::Form(Form::Launching),
+        SPACE,
+        Owed::Token(name),
+        OPENS,
+        Owed::Form(Form::Parameter),
+        LINE,
+        OPEN_BLOCK,
+        LINE,
+        Owed::Form(Form::Indent(1)),
+        Owed::Form(Form::Locals),
+    ];
+    let made = match read(alloc, &owed, first(alloc), &pieces) {
         Ok(made) => made,
         Err(ReadError::Memory) => return Err(KernelNo::Memory),
         Err(ReadError::Refused { taken }) => {
@@ -101,4 +107,20 @@ pub fn read_kernel(alloc: Global, bytes: &[u8]) -> Result<Kernel, KernelNo>
         }
     };
     Ok(kernel_from(alloc, made)?)
+}
+
+/// The kernel whose text these bytes are, where it stands alone.
+pub fn read_kernel(alloc: Global, bytes: &[u8]) -> Result<Kernel, KernelNo>
+    // The kernel grammar relates what is answered to the bytes.
+    ensures found { IfOk result (λ k. IsKernelText lift bytes.now (kernel_of k)) }
+    // A kernel that the grammar relates to the bytes is answered, unless memory runs out.
+    ensures only { (k : code.Kernel) → IsKernelText lift bytes.now k → Answers k result }
+    // The bytes are that kernel's one text.
+    ensures one { IfOk result (λ k. bytes.now ≡ text_of lift (kernel_of k)) }
+    // The text of a kernel is read as that kernel, unless memory runs out.
+    ensures back { (k : code.Kernel) → HasText k → bytes.now ≡ text_of lift k → Answers k result }
+    // A refusal names the first piece at which the text doesn't go on.
+    ensures refused { IfErr result (Refuses lift bytes.now) }
+{
+    read_named(alloc, b"lift", bytes)
 }

@@ -96,7 +96,7 @@ or_left x y e = ap (λ v. v || y) e
 digit_word : (b : ℕ) → 48 ≤ b → b ≤ 57 → is_word b ≡ true
 digit_word b low high = or_left (is_ascii_alphabetic b || is_ascii_digit b) (b == 95) (or_right (is_ascii_alphabetic b) (is_ascii_digit b) (and_from (nat_le 48 b) (nat_le b 57) (le-leb 48 b low) (le-leb b 57 high)))
 
-digit_no_blank : (b : ℕ) → 48 ≤ b → is_blank b ≡ false
+pub digit_no_blank : (b : ℕ) → 48 ≤ b → is_blank b ≡ false
 digit_no_blank b low = at_test (b == 32) refl where
   at_test : (v : Bool) → (b == 32) ≡ v → is_blank b ≡ false
   at_test true e = absurd (let w = eqb-true b 32 e in omega (arith, w, low))

@@ -1,19 +1,20 @@
 -- What is spelled is read.
-use Rattle.std.proofs.Common.{◌≡◌, ℕ, zero, suc, ◌+◌, ◌<◌, ◌≤◌, ◌^◌, List, [], ◌∷◌, ◌++◌, Bool, true, false, refl, ap, sym, ◌∙◌, subst, arith, max, lit<, lit≤, Some, length}
-use Rattle.std.specs.Prelude.{nat_lt, nat_le, ◌&&◌, ◌||◌}
+use Rattle.std.proofs.Common.{◌≡◌, ℕ, zero, suc, ◌*◌, ◌+◌, ◌<◌, ◌≤◌, ◌^◌, List, [], ◌∷◌, ◌++◌, Bool, true, false, refl, ap, sym, ◌∙◌, subst, arith, max, lit<, lit≤, Option, None, Some, length}
+use Rattle.std.specs.Prelude.{nat_lt, nat_le, decimal, ◌&&◌, ◌||◌}
 use Rattle.std.proofs.Math.Nat.{le-max_left, le-max_right}
 use Rattle.std.proofs.lemmas.Bool.{ltb-true, leb-true, and_parts}
 use Rattle.std.proofs.lemmas.List.{append_assoc, append-nil}
 use Rattle.readings.specs.Readings.{Token, Form, Mark, Reads, stands, takes, gives, notes}
 use Rattle.scalar_ops.specs.declared.op.Op.{Op}
 use Rattle.scalar_ops.specs.declared.op.Op.TheVariants.{Add, Mul, Min, Max, And, Or, Xor, Sub, Shl, Shr, Div, Rem, Lt, Eq}
-use Rattle.kernel_tree.specs.Formula.{IdForm, GlobalId, GroupId, LocalId, GlobalSize, GroupCount, LocalSize, Comparison, Less, Equal, Formula, Number, Variable, LoopVariable, Size, Id, Binary, Choose}
-use Rattle.kernel_tree.specs.Code.{Array, Input, Output, Local, Private, Start, FromZero, FromGlobalId, FromGroupId, FromLocalId, Stride, ByOne, ByGlobalSize, ByGroupCount, ByLocalSize, Code, End, Assigns, Loads, Stores, Loops, Syncs, Kernel}
-use Rattle.kernel_tree.specs.Grammar.{deepest, height, is_constant, is_operator, names_declared, is_expression, is_readable, is_writable, are_statements, has_statement, are_lengths}
-use Rattle.kernel_tree.specs.KernelText.{Piece, Part, Parameter, Locals, Privates, Variables, Statement, Next, Source, Fence, Beginning, Step, AfterOutput, AfterSize, Turn, Indent, Value, Opened, Rest, Note, Both, Either, Assign, Load, Store, Loop, Sync, Notes, Item, texts, counted, all_of, stored, loop_head, loop_test, loop_body, operated, compared, noted, array_name, array_number, number_limit, space, line, semicolon, equals, plus, question, colon, opens, closes, uint, index_begins, index_ends, block_begins, local, for, barrier, least, greatest, indent, literal, kernels, marked, Names, a_variable, a_loop_variable, a_size, adds, subtracts, multiplies, divides, leaves, ands, ors, xors, takes_least, takes_greatest, Gives, an_input, pointer_to_const, pointer, new_input, new_output, last_output, more_outputs, another_output, first_size, new_size, last_size, more_sizes, a_local, no_local, new_local, local_length, a_declaration, no_declaration, new_private, first_variable, private_length, another_variable, statements, new_variable, assign, store, loop, meet, load, value, another, end, end_of_loop, indented, fences_local, fences_global, local_alone, fences_both, turn, from_zero, from_id, from_this_id, by_one, by_count, by_this_count, number, named_value, call, open_value, an_id, both, this_id, sign, shift_right, equal, less_or_shift, shift_left, is_less, start, nothing}
-use Rattle.kernel_spelling.specs.Spelling.{is_called, spell, spell_sign, spell_comparison, spell_id, spell_start, spell_stride, spell_flags, spell_code, loop_line, test_line, step_line, block_line, spell_locals, spell_privates, spell_variables, spell_sizes, spell_outputs, spell_inputs, first_output, spell_body, spelled_with, HasText}
-use Rattle.kernel_spelling.specs.Meaning.{FitsAt, CountsFit}
-use Rattle.kernel_spelling.proofs.Kept.{one_longer, with_private, with_local, with_values, variables_fit, privates_fit, locals_fit}
+use Rattle.kernel_tree.specs.declared.tree.Dimension.{Dimension}
+use Rattle.kernel_tree.specs.Formula.{IdForm, GlobalId, GroupId, LocalId, GlobalSize, GroupCount, LocalSize, Comparison, Less, Equal, Formula, Number, Variable, LoopVariable, Size, Id, Binary, Choose, Lanes, Vector, Spread, Each}
+use Rattle.kernel_tree.specs.Code.{Array, Input, Output, Local, Private, Start, FromZero, FromGlobalId, FromGroupId, FromLocalId, Stride, ByOne, ByGlobalSize, ByGroupCount, ByLocalSize, Code, End, Assigns, Loads, Stores, AssignsFour, LoadsFour, StoresFour, Loops, Guards, Syncs, Kernel}
+use Rattle.kernel_tree.specs.Grammar.{deepest, height, lanes_height, is_operator, is_constant, names_declared, is_expression, names_declared_in_lanes, are_lanes, is_readable, is_writable, is_shared, has_statement, are_statements, are_lengths, largest_group, is_group_size}
+use Rattle.kernel_tree.specs.KernelText.{Piece, space, line, comma, semicolon, equals, plus, question, colon, opens, closes, index_begins, index_ends, block_begins, local, uint, uint4, loads_four, stores_four, for, whether, barrier, least, greatest, one, void, indent, array_name, array_number, size, vector, literal, number_limit, Part, Launching, GroupHeight, Parameter, AfterOutput, AfterSize, Locals, Privates, Variables, Vectors, Statement, Next, Source, SourceOfFour, LoadedFour, StoredFour, Fence, Beginning, Step, Turn, Indent, Value, Opened, InLanes, LanesOpened, LanesRest, Rest, Note, Both, Either, SpreadOut, EachOf, Assign, Load, Store, AssignFour, LoadFour, StoreFour, Loop, Guard, Sync, Notes, counted, Item, texts, Names, a_variable, a_loop_variable, a_size, adds, subtracts, multiplies, divides, leaves, ands, ors, xors, takes_least, takes_greatest, stored, loop_head, loop_test, loop_body, guard_test, after_start, operated, operated_each, compared, Gives, any_group, fixed_group, group_width, group_height, an_input, pointer_to_const, pointer, new_input, new_output, last_output, more_outputs, another_output, first_size, new_size, last_size, more_sizes, a_local, no_local, new_local, local_length, a_declaration, no_declaration, new_private, first_variable, private_length, another_variable, no_variable, new_variable, a_vector, statements, new_vector, assign, store, loop, guard, meet, load, value, assign_four, load_four, loaded_four, value_of_four, store_four, stored_four, another, end, end_of_block, indented, fences_local, fences_global, local_alone, fences_both, turn, from_zero, from_id, from_this_id, from_along, by_one, by_count, by_this_count, by_along, number, named_value, call, open_value, an_id, both, this_id, id_along, sign, shift_right, equal, less_or_shift, shift_left, is_less, vector_value, lanes_call, open_lanes, spread_out, both_lanes, lanes_sign, lanes_right, lanes_less, lanes_left, noted, with_lanes, marked, kernels, start, nothing, all_of}
+use Rattle.kernel_spelling.specs.Spelling.{spell_id, is_called, spell_sign, spell_comparison, spell, spell_lanes, spell_start, spell_stride, loop_line, test_line, step_line, block_line, below_line, spell_flags, spell_code, spell_locals, spell_privates, spell_variables, spell_vectors, spell_sizes, spell_outputs, spell_inputs, first_output, spell_launching, spell_body, spelled_with, HasText}
+use Rattle.kernel_spelling.specs.Meaning.{CountsFit, FitsAt, LanesFit, fixed}
+use Rattle.kernel_spelling.proofs.Kept.{with_private, with_local, one_longer, with_values, variables_fit, privates_fit, locals_fit, vectors_fit}
 
 -- a form's alternative for the text, and its reading
 record Begins (f : Part) (o : List Item) (n : Notes) (ts : List Piece) (n2 : Notes) : Type 0 where
@@ -122,16 +123,16 @@ in_parentheses b l d o n ts n2 deep left =
     } in
     record { piece = opens; alternative = Form (Opened b l d) ∷ []; behind = ts; whole = refl; has = open_value deep; reads = begun (Opened b l d) o n ts n2 inner }
 
-begins_id : (form : IdForm) (b : Bool) (l d : ℕ) (o : List Item) (n : Notes) (ts : List Piece) (n2 : Notes) → FitsAt n b l d (Id form) → Reads kernels o (noted n (Id form ∷ n.values) n.blocks) ts [] n2 → Begins (Value b l d) o n (spell_id form ts) n2
-begins_id form false l d o n ts n2 f r = record {
+begins_id : (along : Dimension) (form : IdForm) (b : Bool) (l d : ℕ) (o : List Item) (n : Notes) (ts : List Piece) (n2 : Notes) → FitsAt n b l d (Id along form) → Reads kernels o (noted n (Id along form ∷ n.values) n.blocks) ts [] n2 → Begins (Value b l d) o n (spell_id along form ts) n2
+begins_id along form false l d o n ts n2 f r = record {
   piece = opens;
   alternative = Form (Opened false l d) ∷ [];
   behind = _;
   whole = refl;
   has = open_value (leaf_depth d f.2);
-  reads = gives an_id (takes (gives (this_id {form = form}) (takes (takes (takes (notes refl r))))));
+  reads = gives an_id (takes (gives (this_id {form = form}) (takes (gives (id_along {form = form} {d = along}) (takes (notes refl r))))));
 }
-begins_id form true l d o n ts n2 f r = absurd (let w : false ≡ true = f.1 refl in cc (w))
+begins_id along form true l d o n ts n2 f r = absurd (let w : false ≡ true = f.1 refl in cc (w))
 
 begins_value : (e : Formula) (b : Bool) (l d : ℕ) (o : List Item) (n : Notes) (ts : List Piece) (n2 : Notes) → CountsFit n → l ≤ deepest → FitsAt n b l d e → Reads kernels o (noted n (e ∷ n.values) n.blocks) ts [] n2 → Begins (Value b l d) o n (spell e ts) n2
 begins_value (Number v) b l d o n ts n2 c deep f r = record { piece = literal v; alternative = _; behind = ts; whole = refl; has = number (leaf_depth d f.2) (ltb-true v (2 ^ 32) f.0); reads = notes refl r }
@@ -144,7 +145,7 @@ begins_value (LoopVariable k) b l d o n ts n2 c deep f r =
 begins_value (Size k) b l d o n ts n2 c deep f r =
     let fits = ltb-true k n.sizes f.0 in
     record { piece = _; alternative = _; behind = ts; whole = refl; has = named_value (leaf_depth d f.2) (a_size (smaller k n.sizes (2 ^ 32) fits c.sizes) fits); reads = notes refl r }
-begins_value (Id form) b l d o n ts n2 c deep f r = begins_id form b l d o n ts n2 f r
+begins_value (Id along form) b l d o n ts n2 c deep f r = begins_id along form b l d o n ts n2 f r
 begins_value (Binary Min x y) b l d o n ts n2 c deep f r =
     let p = fits_two n b l d Min x y f in
     let n1 = noted n (x ∷ n.values) n.blocks in
@@ -198,144 +199,340 @@ writable_readable n (Output k) f = f
 writable_readable n (Local k) f = f
 writable_readable n (Private k) f = f
 
+-- ---- expressions of four words
+
+pub lanes_fit : (n : Notes) (values : List Formula) (lanes : List Lanes) (blocks : List Code) → CountsFit n → CountsFit (with_lanes n values lanes blocks)
+lanes_fit n values lanes blocks c = record { inputs = c.inputs; outputs = c.outputs; sizes = c.sizes; locals = c.locals; privates = c.privates; variables = c.variables; vectors = c.vectors }
+
+-- the parts of such an expression fit a level deeper
+lanes_two : (n : Notes) (l d : ℕ) (op : Op) (x y : Lanes) → LanesFit n l d (Each op x y) → (is_operator op ≡ true) × LanesFit n l (suc d) x × LanesFit n l (suc d) y × (d ≤ deepest)
+lanes_two n l d op x y f =
+    let p = and_parts (is_operator op) (names_declared_in_lanes (counted n) l x && names_declared_in_lanes (counted n) l y) f.0 in
+    let names = and_parts (names_declared_in_lanes (counted n) l x) (names_declared_in_lanes (counted n) l y) p.1 in (
+      p.0,
+      (names.0, left_depth (lanes_height x) (lanes_height y) d f.1),
+      (names.1, right_depth (lanes_height x) (lanes_height y) d f.1),
+      both_depth (max (lanes_height x) (lanes_height y)) d f.1,
+    )
+
+part_depth : (x d : ℕ) → suc x + d ≤ 1025 → x + suc d ≤ 1025
+part_depth x d h = omega (arith, h)
+
+-- a sign, and what follows it
+reads_lanes_sign : (op : Op) → is_operator op ≡ true → is_called op ≡ false → (l d : ℕ) (o : List Item) (n : Notes) (ts : List Piece) (n2 : Notes) → Reads kernels (operated_each l d op ++ o) n ts [] n2 → Reads kernels (Form (LanesRest l d) ∷ o) n (spell_sign op (space ∷ ts)) [] n2
+reads_lanes_sign Add h g l d o n ts n2 r = gives (lanes_sign adds) (takes r)
+reads_lanes_sign Sub h g l d o n ts n2 r = gives (lanes_sign subtracts) (takes r)
+reads_lanes_sign Mul h g l d o n ts n2 r = gives (lanes_sign multiplies) (takes r)
+reads_lanes_sign Div h g l d o n ts n2 r = gives (lanes_sign divides) (takes r)
+reads_lanes_sign Rem h g l d o n ts n2 r = gives (lanes_sign leaves) (takes r)
+reads_lanes_sign And h g l d o n ts n2 r = gives (lanes_sign ands) (takes r)
+reads_lanes_sign Or h g l d o n ts n2 r = gives (lanes_sign ors) (takes r)
+reads_lanes_sign Xor h g l d o n ts n2 r = gives (lanes_sign xors) (takes r)
+reads_lanes_sign Shl h g l d o n ts n2 r = gives lanes_less (gives lanes_left (takes r))
+reads_lanes_sign Shr h g l d o n ts n2 r = gives lanes_right (takes (takes r))
+reads_lanes_sign Min h g l d o n ts n2 r = absurd (cc (g))
+reads_lanes_sign Max h g l d o n ts n2 r = absurd (cc (g))
+reads_lanes_sign Lt h g l d o n ts n2 r = absurd (cc (h))
+reads_lanes_sign Eq h g l d o n ts n2 r = absurd (cc (h))
+
+-- what is in parentheses, by its left part
+lanes_in_parentheses : (l d : ℕ) (o : List Item) (n : Notes) (ts : List Piece) (n2 : Notes) → d ≤ deepest → Begins (InLanes l (suc d)) (Token space ∷ Form (LanesRest l (suc d)) ∷ o) n ts n2 → Begins (InLanes l d) o n (opens ∷ ts) n2
+lanes_in_parentheses l d o n ts n2 deep left =
+    let inner : Begins (LanesOpened l d) o n ts n2 = record {
+      piece = left.piece;
+      alternative = left.alternative ++ Token space ∷ Form (LanesRest l (suc d)) ∷ [];
+      behind = left.behind;
+      whole = left.whole;
+      has = both_lanes left.has;
+      reads = subst (λ z. Reads kernels z n left.behind [] n2) (sym (append_assoc left.alternative (Token space ∷ Form (LanesRest l (suc d)) ∷ []) o)) left.reads;
+    } in
+    record { piece = opens; alternative = Form (LanesOpened l d) ∷ []; behind = ts; whole = refl; has = open_lanes deep; reads = begun (LanesOpened l d) o n ts n2 inner }
+
+-- four of one word
+begins_spread : (e : Formula) (l d : ℕ) (o : List Item) (n : Notes) (ts : List Piece) (n2 : Notes) → CountsFit n → l ≤ deepest → LanesFit n l d (Spread e) → Reads kernels o (with_lanes n n.values (Spread e ∷ n.lanes) n.blocks) ts [] n2 → Begins (InLanes l d) o n (opens ∷ uint4 ∷ closes ∷ opens ∷ spell e (closes ∷ ts)) n2
+begins_spread e l d o n ts n2 c deep f r =
+    let inner = begins_value e false l (suc d) (Token closes ∷ Mark SpreadOut ∷ o) n (closes ∷ ts) n2 c deep (f.0, λ h. absurd (cc (h)), part_depth (height e) d f.1) (takes (notes refl r)) in
+    let value = begun (Value false l (suc d)) (Token closes ∷ Mark SpreadOut ∷ o) n (spell e (closes ∷ ts)) n2 inner in
+    let opened : Reads kernels (Form (LanesOpened l d) ∷ o) n (uint4 ∷ closes ∷ opens ∷ spell e (closes ∷ ts)) [] n2 = gives spread_out (takes (takes value)) in
+    record { piece = opens; alternative = Form (LanesOpened l d) ∷ []; behind = uint4 ∷ closes ∷ opens ∷ spell e (closes ∷ ts); whole = refl; has = open_lanes (both_depth (height e) d f.1); reads = opened }
+
+begins_lanes : (e : Lanes) (l d : ℕ) (o : List Item) (n : Notes) (ts : List Piece) (n2 : Notes) → CountsFit n → l ≤ deepest → LanesFit n l d e → Reads kernels o (with_lanes n n.values (e ∷ n.lanes) n.blocks) ts [] n2 → Begins (InLanes l d) o n (spell_lanes e ts) n2
+begins_lanes (Vector k) l d o n ts n2 c deep f r =
+    let fits = ltb-true k n.vectors f.0 in
+    record { piece = vector k; alternative = _; behind = ts; whole = refl; has = vector_value (leaf_depth d f.1) (smaller k n.vectors (2 ^ 32) fits c.vectors) fits; reads = notes refl r }
+begins_lanes (Spread e) l d o n ts n2 c deep f r = begins_spread e l d o n ts n2 c deep f r
+begins_lanes (Each Min x y) l d o n ts n2 c deep f r =
+    let p = lanes_two n l d Min x y f in
+    let n1 = with_lanes n n.values (x ∷ n.lanes) n.blocks in
+    let right = begun _ _ n1 _ n2 (begins_lanes y l (suc d) (Token closes ∷ Mark (EachOf Min) ∷ o) n1 (closes ∷ ts) n2 (lanes_fit n n.values (x ∷ n.lanes) n.blocks c) deep p.2 (takes (notes refl r))) in
+    let left = begun _ _ n _ n2 (begins_lanes x l (suc d) (texts (comma ∷ space ∷ []) ++ operated_each l (suc d) Min ++ o) n (comma ∷ space ∷ spell_lanes y (closes ∷ ts)) n2 c deep p.1 (takes (takes right))) in
+    record { piece = least; alternative = _; behind = _; whole = refl; has = lanes_call p.3 takes_least; reads = takes left }
+begins_lanes (Each Max x y) l d o n ts n2 c deep f r =
+    let p = lanes_two n l d Max x y f in
+    let n1 = with_lanes n n.values (x ∷ n.lanes) n.blocks in
+    let right = begun _ _ n1 _ n2 (begins_lanes y l (suc d) (Token closes ∷ Mark (EachOf Max) ∷ o) n1 (closes ∷ ts) n2 (lanes_fit n n.values (x ∷ n.lanes) n.blocks c) deep p.2 (takes (notes refl r))) in
+    let left = begun _ _ n _ n2 (begins_lanes x l (suc d) (texts (comma ∷ space ∷ []) ++ operated_each l (suc d) Max ++ o) n (comma ∷ space ∷ spell_lanes y (closes ∷ ts)) n2 c deep p.1 (takes (takes right))) in
+    record { piece = greatest; alternative = _; behind = _; whole = refl; has = lanes_call p.3 takes_greatest; reads = takes left }
+begins_lanes (Each op x y) l d o n ts n2 c deep f r =
+    let p = lanes_two n l d op x y f in
+    let n1 = with_lanes n n.values (x ∷ n.lanes) n.blocks in
+    let right = begun _ _ n1 _ n2 (begins_lanes y l (suc d) (Token closes ∷ Mark (EachOf op) ∷ o) n1 (closes ∷ ts) n2 (lanes_fit n n.values (x ∷ n.lanes) n.blocks c) deep p.2 (takes (notes refl r))) in
+    let rest = reads_lanes_sign op p.0 refl l (suc d) o n1 (spell_lanes y (closes ∷ ts)) n2 right in
+    lanes_in_parentheses l d o n (spell_lanes x (space ∷ spell_sign op (space ∷ spell_lanes y (closes ∷ ts)))) n2 p.3 (begins_lanes x l (suc d) (Token space ∷ Form (LanesRest l (suc d)) ∷ o) n (space ∷ spell_sign op (space ∷ spell_lanes y (closes ∷ ts))) n2 c deep p.1 (takes rest))
+
+read_lanes : (e : Lanes) (l : ℕ) (o : List Item) (n : Notes) (ts : List Piece) (n2 : Notes) → CountsFit n → l ≤ deepest → are_lanes (counted n) l e ≡ true → Reads kernels o (with_lanes n n.values (e ∷ n.lanes) n.blocks) ts [] n2 → Begins (InLanes l 1) o n (spell_lanes e ts) n2
+read_lanes e l o n ts n2 c deep f r =
+    let p = and_parts (names_declared_in_lanes (counted n) l e) (nat_le (lanes_height e) deepest) f in
+    let h : lanes_height e ≤ 1024 = leb-true (lanes_height e) deepest p.1 in
+    begins_lanes e l 1 o n ts n2 c deep (p.0, (let k : lanes_height e + 1 ≤ 1025 = omega (arith, h) in k)) r
+
 -- ---- statements
 
-record ReadsStatement (c : Code) (l : ℕ) (o : List Item) (n : Notes) (ts : List Piece) (n2 : Notes) : Type 0 where
+-- few loops stand around, and no more than loops and ifs
+abbrev pub Room : (loops nest : ℕ) → Type 0
+Room l nest = (l ≤ nest) × (l ≤ deepest)
+
+pub loop_room : (l nest : ℕ) → Room l nest → nest < 1024 → (l < 1024) × Room (suc l) (suc nest)
+loop_room l nest room below =
+    let under = room.0 in
+    let few : l < 1024 = omega (arith, under, below) in (few, (omega (arith, under), (let k : suc l ≤ 1024 = omega (arith, few) in k)))
+
+pub guard_room : (l nest : ℕ) → Room l nest → Room l (suc nest)
+guard_room l nest room = let under = room.0 in (omega (arith, under), room.1)
+
+record ReadsStatement (c : Code) (l nest : ℕ) (o : List Item) (n : Notes) (ts : List Piece) (n2 : Notes) : Type 0 where
   mid : List Piece
-  behind_indent : spell_code l c ts ≡ indent (suc l) ∷ mid
-  begins : Begins (Statement l) o n mid n2
+  behind_indent : spell_code l nest c ts ≡ indent (suc nest) ∷ mid
+  begins : Begins (Statement l nest) o n mid n2
 
 abbrev StatementIsRead : Code → Type 0
-StatementIsRead c = (l : ℕ) (o : List Item) (n : Notes) (ts : List Piece) (n2 : Notes) → CountsFit n → l ≤ deepest → are_statements (counted n) l c ≡ true → Reads kernels o (noted n n.values (c ∷ n.blocks)) ts [] n2 → ReadsStatement c l o n ts n2
+StatementIsRead c = (l nest : ℕ) (o : List Item) (n : Notes) (ts : List Piece) (n2 : Notes) → CountsFit n → Room l nest → are_statements (counted n) l nest c ≡ true → Reads kernels o (noted n n.values (c ∷ n.blocks)) ts [] n2 → ReadsStatement c l nest o n ts n2
 
 abbrev NextIsRead : Code → Type 0
-NextIsRead c = (l : ℕ) (o : List Item) (n : Notes) (ts : List Piece) (n2 : Notes) → CountsFit n → l ≤ deepest → are_statements (counted n) l c ≡ true → Reads kernels o (noted n n.values (c ∷ n.blocks)) ts [] n2 → Reads kernels (Form (Next l) ∷ o) n (spell_code l c ts) [] n2
+NextIsRead c = (l nest : ℕ) (o : List Item) (n : Notes) (ts : List Piece) (n2 : Notes) → CountsFit n → Room l nest → are_statements (counted n) l nest c ≡ true → Reads kernels o (noted n n.values (c ∷ n.blocks)) ts [] n2 → Reads kernels (Form (Next l nest) ∷ o) n (spell_code l nest c ts) [] n2
 
-behind : (c : Code) (l : ℕ) (o : List Item) (n : Notes) (ts : List Piece) (n2 : Notes) → ReadsStatement c l o n ts n2 → Reads kernels (Form (Next l) ∷ o) n (spell_code l c ts) [] n2
-behind c l o n ts n2 s = subst (λ z. Reads kernels (Form (Next l) ∷ o) n z [] n2) (sym s.behind_indent) (gives another (begun (Statement l) o n s.mid n2 s.begins))
+behind : (c : Code) (l nest : ℕ) (o : List Item) (n : Notes) (ts : List Piece) (n2 : Notes) → ReadsStatement c l nest o n ts n2 → Reads kernels (Form (Next l nest) ∷ o) n (spell_code l nest c ts) [] n2
+behind c l nest o n ts n2 s = subst (λ z. Reads kernels (Form (Next l nest) ∷ o) n z [] n2) (sym s.behind_indent) (gives another (begun (Statement l nest) o n s.mid n2 s.begins))
 
 read_next : (c : Code) → (has_statement c ≡ true → StatementIsRead c) → NextIsRead c
-read_next End h zero o n ts n2 c deep f r = gives end (takes (notes refl r))
-read_next End h (suc l) o n ts n2 c deep f r = gives end_of_loop (takes (takes (notes refl r)))
-read_next (Assigns k e after) h l o n ts n2 c deep f r = behind (Assigns k e after) l o n ts n2 (h refl l o n ts n2 c deep f r)
-read_next (Loads k array i after) h l o n ts n2 c deep f r = behind (Loads k array i after) l o n ts n2 (h refl l o n ts n2 c deep f r)
-read_next (Stores array i e after) h l o n ts n2 c deep f r = behind (Stores array i e after) l o n ts n2 (h refl l o n ts n2 c deep f r)
-read_next (Loops start b stride body after) h l o n ts n2 c deep f r = behind (Loops start b stride body after) l o n ts n2 (h refl l o n ts n2 c deep f r)
-read_next (Syncs on_local on_global after) h l o n ts n2 c deep f r = behind (Syncs on_local on_global after) l o n ts n2 (h refl l o n ts n2 c deep f r)
+read_next End h l zero o n ts n2 c deep f r = gives end (takes (notes refl r))
+read_next End h l (suc nest) o n ts n2 c deep f r = gives end_of_block (takes (takes (notes refl r)))
+read_next (Assigns k e after) h l nest o n ts n2 c deep f r = behind (Assigns k e after) l nest o n ts n2 (h refl l nest o n ts n2 c deep f r)
+read_next (Loads k array i after) h l nest o n ts n2 c deep f r = behind (Loads k array i after) l nest o n ts n2 (h refl l nest o n ts n2 c deep f r)
+read_next (Stores array i e after) h l nest o n ts n2 c deep f r = behind (Stores array i e after) l nest o n ts n2 (h refl l nest o n ts n2 c deep f r)
+read_next (AssignsFour k e after) h l nest o n ts n2 c deep f r = behind (AssignsFour k e after) l nest o n ts n2 (h refl l nest o n ts n2 c deep f r)
+read_next (LoadsFour k array i after) h l nest o n ts n2 c deep f r = behind (LoadsFour k array i after) l nest o n ts n2 (h refl l nest o n ts n2 c deep f r)
+read_next (StoresFour array i e after) h l nest o n ts n2 c deep f r = behind (StoresFour array i e after) l nest o n ts n2 (h refl l nest o n ts n2 c deep f r)
+read_next (Loops start b stride body after) h l nest o n ts n2 c deep f r = behind (Loops start b stride body after) l nest o n ts n2 (h refl l nest o n ts n2 c deep f r)
+read_next (Guards start b body after) h l nest o n ts n2 c deep f r = behind (Guards start b body after) l nest o n ts n2 (h refl l nest o n ts n2 c deep f r)
+read_next (Syncs on_local on_global after) h l nest o n ts n2 c deep f r = behind (Syncs on_local on_global after) l nest o n ts n2 (h refl l nest o n ts n2 c deep f r)
 
 -- the end of a line, and what follows it
-read_stored : (note : Note) (c : Code) (l : ℕ) (o : List Item) (n n3 : Notes) (ts : List Piece) (n2 : Notes) → NextIsRead c → CountsFit n → l ≤ deepest → are_statements (counted n) l c ≡ true → marked note (noted n n.values (c ∷ n.blocks)) ≡ Some n3 → Reads kernels o n3 ts [] n2 → Reads kernels (stored l note ++ o) n (semicolon ∷ line ∷ spell_code l c ts) [] n2
-read_stored note c l o n n3 ts n2 next fit deep f e r = takes (takes (next l (Mark note ∷ o) n ts n2 fit deep f (notes e r)))
+read_stored : (note : Note) (c : Code) (l nest : ℕ) (o : List Item) (n n3 : Notes) (ts : List Piece) (n2 : Notes) → NextIsRead c → CountsFit n → Room l nest → are_statements (counted n) l nest c ≡ true → marked note (noted n n.values (c ∷ n.blocks)) ≡ Some n3 → Reads kernels o n3 ts [] n2 → Reads kernels (stored l nest note ++ o) n (semicolon ∷ line ∷ spell_code l nest c ts) [] n2
+read_stored note c l nest o n n3 ts n2 next fit deep f e r = takes (takes (next l nest (Mark note ∷ o) n ts n2 fit deep f (notes e r)))
 
 -- a value stands in the place of what a variable is assigned
-as_source : (l k : ℕ) (o : List Item) (n : Notes) (ts : List Piece) (n2 : Notes) → Begins (Value false l 1) (stored l (Assign k) ++ o) n ts n2 → Begins (Source l k) o n ts n2
-as_source l k o n ts n2 b = record {
+as_source : (l nest k : ℕ) (o : List Item) (n : Notes) (ts : List Piece) (n2 : Notes) → Begins (Value false l 1) (stored l nest (Assign k) ++ o) n ts n2 → Begins (Source l nest k) o n ts n2
+as_source l nest k o n ts n2 b = record {
   piece = b.piece;
-  alternative = b.alternative ++ stored l (Assign k);
+  alternative = b.alternative ++ stored l nest (Assign k);
   behind = b.behind;
   whole = b.whole;
   has = value b.has;
-  reads = subst (λ z. Reads kernels z n b.behind [] n2) (sym (append_assoc b.alternative (stored l (Assign k)) o)) b.reads;
+  reads = subst (λ z. Reads kernels z n b.behind [] n2) (sym (append_assoc b.alternative (stored l nest (Assign k)) o)) b.reads;
 }
 
--- ---- a loop's line
+-- the same of four words
+as_source_of_four : (l nest k : ℕ) (o : List Item) (n : Notes) (ts : List Piece) (n2 : Notes) → Begins (InLanes l 1) (stored l nest (AssignFour k) ++ o) n ts n2 → Begins (SourceOfFour l nest k) o n ts n2
+as_source_of_four l nest k o n ts n2 b = record {
+  piece = b.piece;
+  alternative = b.alternative ++ stored l nest (AssignFour k);
+  behind = b.behind;
+  whole = b.whole;
+  has = value_of_four b.has;
+  reads = subst (λ z. Reads kernels z n b.behind [] n2) (sym (append_assoc b.alternative (stored l nest (AssignFour k)) o)) b.reads;
+}
 
-read_start : (s : Start) (l : ℕ) (o : List Item) (n : Notes) (ts : List Piece) (n2 : Notes) → Reads kernels (loop_test l s ++ o) n ts [] n2 → Reads kernels (Form (Beginning l) ∷ o) n (spell_start s ts) [] n2
-read_start FromZero l o n ts n2 r = gives from_zero r
-read_start FromGlobalId l o n ts n2 r = gives from_id (takes (takes (gives (from_this_id GlobalId refl) (takes (takes (takes r))))))
-read_start FromGroupId l o n ts n2 r = gives from_id (takes (takes (gives (from_this_id GroupId refl) (takes (takes (takes r))))))
-read_start FromLocalId l o n ts n2 r = gives from_id (takes (takes (gives (from_this_id LocalId refl) (takes (takes (takes r))))))
+-- ---- the line of a loop or an if
 
-read_stride : (c : Stride) (s : Start) (l : ℕ) (o : List Item) (n : Notes) (ts : List Piece) (n2 : Notes) → Reads kernels (loop_body l s c ++ o) n ts [] n2 → Reads kernels (Form (Step l s) ∷ o) n (spell_stride c ts) [] n2
-read_stride ByOne s l o n ts n2 r = gives by_one r
-read_stride ByGlobalSize s l o n ts n2 r = gives by_count (takes (takes (gives (by_this_count GlobalSize refl) (takes (takes (takes r))))))
-read_stride ByGroupCount s l o n ts n2 r = gives by_count (takes (takes (gives (by_this_count GroupCount refl) (takes (takes (takes r))))))
-read_stride ByLocalSize s l o n ts n2 r = gives by_count (takes (takes (gives (by_this_count LocalSize refl) (takes (takes (takes r))))))
+read_start : (s : Start) (g : Bool) (l nest : ℕ) (o : List Item) (n : Notes) (ts : List Piece) (n2 : Notes) → Reads kernels (after_start g l nest s ++ o) n ts [] n2 → Reads kernels (Form (Beginning g l nest) ∷ o) n (spell_start s ts) [] n2
+read_start FromZero g l nest o n ts n2 r = gives from_zero r
+read_start (FromGlobalId d) g l nest o n ts n2 r = gives from_id (takes (takes (gives (from_this_id {form = GlobalId} refl) (takes (gives (from_along {form = GlobalId} d refl) (takes r))))))
+read_start (FromGroupId d) g l nest o n ts n2 r = gives from_id (takes (takes (gives (from_this_id {form = GroupId} refl) (takes (gives (from_along {form = GroupId} d refl) (takes r))))))
+read_start (FromLocalId d) g l nest o n ts n2 r = gives from_id (takes (takes (gives (from_this_id {form = LocalId} refl) (takes (gives (from_along {form = LocalId} d refl) (takes r))))))
 
-read_loop_head : (l : ℕ) (o : List Item) (n : Notes) (ts : List Piece) (n2 : Notes) → l < number_limit → Reads kernels (Form (Beginning l) ∷ o) n ts [] n2 → (mid : List Piece) × (loop_line l ts ≡ for ∷ mid) × Reads kernels (loop_head l ++ o) n mid [] n2
-read_loop_head l o n ts n2 small r = (_, refl, takes (takes (takes (takes (gives (turn small) (takes (takes (takes r))))))))
+read_stride : (c : Stride) (s : Start) (l nest : ℕ) (o : List Item) (n : Notes) (ts : List Piece) (n2 : Notes) → Reads kernels (loop_body l nest s c ++ o) n ts [] n2 → Reads kernels (Form (Step l nest s) ∷ o) n (spell_stride c ts) [] n2
+read_stride ByOne s l nest o n ts n2 r = gives by_one r
+read_stride (ByGlobalSize d) s l nest o n ts n2 r = gives by_count (takes (takes (gives (by_this_count {form = GlobalSize} refl) (takes (gives (by_along {form = GlobalSize} d refl) (takes r))))))
+read_stride (ByGroupCount d) s l nest o n ts n2 r = gives by_count (takes (takes (gives (by_this_count {form = GroupCount} refl) (takes (gives (by_along {form = GroupCount} d refl) (takes r))))))
+read_stride (ByLocalSize d) s l nest o n ts n2 r = gives by_count (takes (takes (gives (by_this_count {form = LocalSize} refl) (takes (gives (by_along {form = LocalSize} d refl) (takes r))))))
+
+read_loop_head : (l nest : ℕ) (o : List Item) (n : Notes) (ts : List Piece) (n2 : Notes) → l < number_limit → Reads kernels (Form (Beginning false l nest) ∷ o) n ts [] n2 → (mid : List Piece) × (loop_line l ts ≡ for ∷ mid) × Reads kernels (loop_head l nest ++ o) n mid [] n2
+read_loop_head l nest o n ts n2 small r = (_, refl, takes (takes (takes (takes (gives (turn small) (takes (takes (takes r))))))))
 
 -- between what a loop's variable begins with and its step, around the bound
-read_loop_test : (l : ℕ) (s : Start) (o : List Item) (n : Notes) (ts : List Piece) (n2 : Notes) → l < number_limit → Reads kernels (Form (Value true l 1) ∷ texts (semicolon ∷ space ∷ []) ++ Form (Turn l) ∷ texts (space ∷ plus ∷ equals ∷ space ∷ []) ++ Form (Step l s) ∷ o) n ts [] n2 → Reads kernels (loop_test l s ++ o) n (test_line l ts) [] n2
-read_loop_test l s o n ts n2 small r = takes (takes (gives (turn small) (takes (takes (takes r)))))
+read_loop_test : (l nest : ℕ) (s : Start) (o : List Item) (n : Notes) (ts : List Piece) (n2 : Notes) → l < number_limit → Reads kernels (Form (Value true l 1) ∷ texts (semicolon ∷ space ∷ []) ++ Form (Turn l) ∷ texts (space ∷ plus ∷ equals ∷ space ∷ []) ++ Form (Step l nest s) ∷ o) n ts [] n2 → Reads kernels (loop_test l nest s ++ o) n (test_line l ts) [] n2
+read_loop_test l nest s o n ts n2 small r = takes (takes (gives (turn small) (takes (takes (takes r)))))
 
-read_loop_step : (l : ℕ) (s : Start) (o : List Item) (n : Notes) (ts : List Piece) (n2 : Notes) → l < number_limit → Reads kernels (Form (Step l s) ∷ o) n ts [] n2 → Reads kernels (texts (semicolon ∷ space ∷ []) ++ Form (Turn l) ∷ texts (space ∷ plus ∷ equals ∷ space ∷ []) ++ Form (Step l s) ∷ o) n (step_line l ts) [] n2
-read_loop_step l s o n ts n2 small r = takes (takes (gives (turn small) (takes (takes (takes (takes r))))))
+read_loop_step : (l nest : ℕ) (s : Start) (o : List Item) (n : Notes) (ts : List Piece) (n2 : Notes) → l < number_limit → Reads kernels (Form (Step l nest s) ∷ o) n ts [] n2 → Reads kernels (texts (semicolon ∷ space ∷ []) ++ Form (Turn l) ∷ texts (space ∷ plus ∷ equals ∷ space ∷ []) ++ Form (Step l nest s) ∷ o) n (step_line l ts) [] n2
+read_loop_step l nest s o n ts n2 small r = takes (takes (gives (turn small) (takes (takes (takes (takes r))))))
+
+-- an if's block, behind its bound
+abbrev guard_block : (l nest : ℕ) → Start → List Item → List Item
+guard_block l nest s o = Form (Indent (suc (suc nest))) ∷ Form (Statement l (suc nest)) ∷ Form (Next l nest) ∷ Mark (Guard s) ∷ o
+
+read_guard_block : (l nest : ℕ) (s : Start) (o : List Item) (n : Notes) (ts : List Piece) (n2 : Notes) → Reads kernels (guard_block l nest s o) n ts [] n2 → Reads kernels (texts (closes ∷ space ∷ block_begins ∷ line ∷ []) ++ guard_block l nest s o) n (block_line ts) [] n2
+read_guard_block l nest s o n ts n2 r = takes (takes (takes (takes r)))
+
+read_guard_test : (l nest : ℕ) (s : Start) (o : List Item) (n : Notes) (ts : List Piece) (n2 : Notes) → Reads kernels (Form (Value true l 1) ∷ texts (closes ∷ space ∷ block_begins ∷ line ∷ []) ++ guard_block l nest s o) n ts [] n2 → Reads kernels (guard_test l nest s ++ o) n (below_line ts) [] n2
+read_guard_test l nest s o n ts n2 r = takes (takes (takes r))
 
 -- ---- a barrier
 
-read_flags : (on_local on_global : Bool) → (on_local || on_global) ≡ true → (l : ℕ) (o : List Item) (n : Notes) (ts : List Piece) (n2 : Notes) → Reads kernels (stored l (Sync on_local on_global) ++ o) n ts [] n2 → Reads kernels (Form (Fence l) ∷ o) n (spell_flags on_local on_global (closes ∷ ts)) [] n2
-read_flags true true h l o n ts n2 r = gives fences_local (gives fences_both (takes (takes (takes (takes r)))))
-read_flags true false h l o n ts n2 r = gives fences_local (gives local_alone r)
-read_flags false true h l o n ts n2 r = gives fences_global (takes r)
-read_flags false false h l o n ts n2 r = absurd (cc (h))
+read_flags : (on_local on_global : Bool) → (on_local || on_global) ≡ true → (l nest : ℕ) (o : List Item) (n : Notes) (ts : List Piece) (n2 : Notes) → Reads kernels (stored l nest (Sync on_local on_global) ++ o) n ts [] n2 → Reads kernels (Form (Fence l nest) ∷ o) n (spell_flags on_local on_global (closes ∷ ts)) [] n2
+read_flags true true h l nest o n ts n2 r = gives fences_local (gives fences_both (takes (takes (takes (takes r)))))
+read_flags true false h l nest o n ts n2 r = gives fences_local (gives local_alone r)
+read_flags false true h l nest o n ts n2 r = gives fences_global (takes r)
+read_flags false false h l nest o n ts n2 r = absurd (cc (h))
 
--- the parts of a loop that fits
-pub record LoopFits (n : Notes) (l : ℕ) (b : Formula) (body after : Code) : Type 0 where
-  pub below : l < 1024
+-- the parts of a loop or an if that fits, whose body stands within `inner` loops
+pub record BlockFits (n : Notes) (l inner nest : ℕ) (b : Formula) (body after : Code) : Type 0 where
+  pub below : nest < 1024
   pub constant : is_constant b ≡ true
   pub bound : is_expression (counted n) l b ≡ true
   pub some : has_statement body ≡ true
-  pub body_fits : are_statements (counted n) (suc l) body ≡ true
-  pub after_fits : are_statements (counted n) l after ≡ true
+  pub body_fits : are_statements (counted n) inner (suc nest) body ≡ true
+  pub after_fits : are_statements (counted n) l nest after ≡ true
 
-pub loop_fits : (n : Notes) (l : ℕ) (s : Start) (b : Formula) (c : Stride) (body after : Code) → are_statements (counted n) l (Loops s b c body after) ≡ true → LoopFits n l b body after
-loop_fits n l s b c body after f =
-    let p = and_parts (nat_lt l deepest) (is_constant b && (is_expression (counted n) l b && (has_statement body && (are_statements (counted n) (suc l) body && are_statements (counted n) l after)))) f in
-    let q = and_parts (is_constant b) (is_expression (counted n) l b && (has_statement body && (are_statements (counted n) (suc l) body && are_statements (counted n) l after))) p.1 in
-    let u = and_parts (is_expression (counted n) l b) (has_statement body && (are_statements (counted n) (suc l) body && are_statements (counted n) l after)) q.1 in
-    let t = and_parts (has_statement body) (are_statements (counted n) (suc l) body && are_statements (counted n) l after) u.1 in
-    let v = and_parts (are_statements (counted n) (suc l) body) (are_statements (counted n) l after) t.1 in
-    record { below = ltb-true l deepest p.0; constant = q.0; bound = u.0; some = t.0; body_fits = v.0; after_fits = v.1 }
+block_fits : (n : Notes) (l inner nest : ℕ) (b : Formula) (body after : Code) → (nat_lt nest deepest && (is_constant b && (is_expression (counted n) l b && (has_statement body && (are_statements (counted n) inner (suc nest) body && are_statements (counted n) l nest after))))) ≡ true → BlockFits n l inner nest b body after
+block_fits n l inner nest b body after f =
+    let p = and_parts (nat_lt nest deepest) (is_constant b && (is_expression (counted n) l b && (has_statement body && (are_statements (counted n) inner (suc nest) body && are_statements (counted n) l nest after)))) f in
+    let q = and_parts (is_constant b) (is_expression (counted n) l b && (has_statement body && (are_statements (counted n) inner (suc nest) body && are_statements (counted n) l nest after))) p.1 in
+    let u = and_parts (is_expression (counted n) l b) (has_statement body && (are_statements (counted n) inner (suc nest) body && are_statements (counted n) l nest after)) q.1 in
+    let t = and_parts (has_statement body) (are_statements (counted n) inner (suc nest) body && are_statements (counted n) l nest after) u.1 in
+    let v = and_parts (are_statements (counted n) inner (suc nest) body) (are_statements (counted n) l nest after) t.1 in
+    record { below = ltb-true nest deepest p.0; constant = q.0; bound = u.0; some = t.0; body_fits = v.0; after_fits = v.1 }
+
+pub loop_fits : (n : Notes) (l nest : ℕ) (s : Start) (b : Formula) (c : Stride) (body after : Code) → are_statements (counted n) l nest (Loops s b c body after) ≡ true → BlockFits n l (suc l) nest b body after
+loop_fits n l nest s b c body after f = block_fits n l (suc l) nest b body after f
+
+pub guard_fits : (n : Notes) (l nest : ℕ) (s : Start) (b : Formula) (body after : Code) → are_statements (counted n) l nest (Guards s b body after) ≡ true → BlockFits n l l nest b body after
+guard_fits n l nest s b body after f = block_fits n l l nest b body after f
+
+-- the parts of a statement of four words that fits
+pub record FourFits (n : Notes) (l nest : ℕ) (array : Array) (may : Bool) (i : Formula) (after : Code) : Type 0 where
+  pub shared : is_shared array ≡ true
+  pub allowed : may ≡ true
+  pub offset : is_expression (counted n) l i ≡ true
+  pub after_fits : are_statements (counted n) l nest after ≡ true
+
+pub load_four_fits : (n : Notes) (l nest k : ℕ) (array : Array) (i : Formula) (after : Code) → are_statements (counted n) l nest (LoadsFour k array i after) ≡ true → (k < n.vectors) × FourFits n l nest array (is_readable (counted n) array) i after
+load_four_fits n l nest k array i after f =
+    let p = and_parts (nat_lt k n.vectors) ((is_shared array && is_readable (counted n) array) && (is_expression (counted n) l i && are_statements (counted n) l nest after)) f in
+    let q = and_parts (is_shared array && is_readable (counted n) array) (is_expression (counted n) l i && are_statements (counted n) l nest after) p.1 in
+    let u = and_parts (is_shared array) (is_readable (counted n) array) q.0 in
+    let s = and_parts (is_expression (counted n) l i) (are_statements (counted n) l nest after) q.1 in
+    (ltb-true k n.vectors p.0, record { shared = u.0; allowed = u.1; offset = s.0; after_fits = s.1 })
+
+pub store_four_fits : (n : Notes) (l nest : ℕ) (array : Array) (i : Formula) (e : Lanes) (after : Code) → are_statements (counted n) l nest (StoresFour array i e after) ≡ true → (are_lanes (counted n) l e ≡ true) × FourFits n l nest array (is_writable (counted n) array) i after
+store_four_fits n l nest array i e after f =
+    let q = and_parts (is_shared array && is_writable (counted n) array) (is_expression (counted n) l i && (are_lanes (counted n) l e && are_statements (counted n) l nest after)) f in
+    let u = and_parts (is_shared array) (is_writable (counted n) array) q.0 in
+    let s = and_parts (is_expression (counted n) l i) (are_lanes (counted n) l e && are_statements (counted n) l nest after) q.1 in
+    let p = and_parts (are_lanes (counted n) l e) (are_statements (counted n) l nest after) s.1 in
+    (p.0, record { shared = u.0; allowed = u.1; offset = s.0; after_fits = p.1 })
 
 read_statement : (c : Code) → has_statement c ≡ true → StatementIsRead c
 read_statement End h = absurd (cc (h))
-read_statement (Assigns k e after) h = λ l o n ts n2 fit deep f r.
-    let p = and_parts (nat_lt k n.variables) (is_expression (counted n) l e && are_statements (counted n) l after) f in
-    let q = and_parts (is_expression (counted n) l e) (are_statements (counted n) l after) p.1 in
+read_statement (Assigns k e after) h = λ l nest o n ts n2 fit deep f r.
+    let p = and_parts (nat_lt k n.variables) (is_expression (counted n) l e && are_statements (counted n) l nest after) f in
+    let q = and_parts (is_expression (counted n) l e) (are_statements (counted n) l nest after) p.1 in
     let fits = ltb-true k n.variables p.0 in
     let n1 = noted n (e ∷ n.values) n.blocks in
-    let tail = read_stored (Assign k) after l o n1 _ ts n2 (read_next after (read_statement after)) (with_values n (e ∷ n.values) n.blocks fit) deep q.1 refl r in
-    let source = begun (Source l k) o n _ n2 (as_source l k o n _ n2 (read_value e false l (stored l (Assign k) ++ o) n _ n2 fit deep q.0 (any e) tail)) in
+    let tail = read_stored (Assign k) after l nest o n1 _ ts n2 (read_next after (read_statement after)) (with_values n (e ∷ n.values) n.blocks fit) deep q.1 refl r in
+    let source = begun (Source l nest k) o n _ n2 (as_source l nest k o n _ n2 (read_value e false l (stored l nest (Assign k) ++ o) n _ n2 fit deep.1 q.0 (any e) tail)) in
     record { mid = _; behind_indent = refl; begins = record { piece = _; alternative = _; behind = _; whole = refl; has = assign (smaller k n.variables (2 ^ 32) fits fit.variables) fits; reads = takes (takes (takes source)) } }
-read_statement (Loads k array i after) h = λ l o n ts n2 fit deep f r.
-    let p = and_parts (nat_lt k n.variables) (is_readable (counted n) array && (is_expression (counted n) l i && are_statements (counted n) l after)) f in
-    let q = and_parts (is_readable (counted n) array) (is_expression (counted n) l i && are_statements (counted n) l after) p.1 in
-    let s = and_parts (is_expression (counted n) l i) (are_statements (counted n) l after) q.1 in
+read_statement (Loads k array i after) h = λ l nest o n ts n2 fit deep f r.
+    let p = and_parts (nat_lt k n.variables) (is_readable (counted n) array && (is_expression (counted n) l i && are_statements (counted n) l nest after)) f in
+    let q = and_parts (is_readable (counted n) array) (is_expression (counted n) l i && are_statements (counted n) l nest after) p.1 in
+    let s = and_parts (is_expression (counted n) l i) (are_statements (counted n) l nest after) q.1 in
     let fits = ltb-true k n.variables p.0 in
     let n1 = noted n (i ∷ n.values) n.blocks in
-    let tail = read_stored (Load k array) after l o n1 _ ts n2 (read_next after (read_statement after)) (with_values n (i ∷ n.values) n.blocks fit) deep s.1 refl r in
-    let index = begun _ _ n _ n2 (read_value i false l (Token index_ends ∷ stored l (Load k array) ++ o) n _ n2 fit deep s.0 (any i) (takes tail)) in
-    let source : Begins (Source l k) o n (array_name array ∷ index_begins ∷ spell i (index_ends ∷ semicolon ∷ line ∷ spell_code l after ts)) n2 = record { piece = array_name array; alternative = _; behind = _; whole = refl; has = load {array = array} (array_small n array fit q.0) q.0; reads = takes index } in
-    record { mid = _; behind_indent = refl; begins = record { piece = _; alternative = _; behind = _; whole = refl; has = assign (smaller k n.variables (2 ^ 32) fits fit.variables) fits; reads = takes (takes (takes (begun (Source l k) o n _ n2 source))) } }
-read_statement (Stores array i e after) h = λ l o n ts n2 fit deep f r.
-    let q = and_parts (is_writable (counted n) array) (is_expression (counted n) l i && (is_expression (counted n) l e && are_statements (counted n) l after)) f in
-    let s = and_parts (is_expression (counted n) l i) (is_expression (counted n) l e && are_statements (counted n) l after) q.1 in
-    let p = and_parts (is_expression (counted n) l e) (are_statements (counted n) l after) s.1 in
+    let tail = read_stored (Load k array) after l nest o n1 _ ts n2 (read_next after (read_statement after)) (with_values n (i ∷ n.values) n.blocks fit) deep s.1 refl r in
+    let index = begun _ _ n _ n2 (read_value i false l (Token index_ends ∷ stored l nest (Load k array) ++ o) n _ n2 fit deep.1 s.0 (any i) (takes tail)) in
+    let source : Begins (Source l nest k) o n (array_name array ∷ index_begins ∷ spell i (index_ends ∷ semicolon ∷ line ∷ spell_code l nest after ts)) n2 = record { piece = array_name array; alternative = _; behind = _; whole = refl; has = load {array = array} (array_small n array fit q.0) q.0; reads = takes index } in
+    record { mid = _; behind_indent = refl; begins = record { piece = _; alternative = _; behind = _; whole = refl; has = assign (smaller k n.variables (2 ^ 32) fits fit.variables) fits; reads = takes (takes (takes (begun (Source l nest k) o n _ n2 source))) } }
+read_statement (Stores array i e after) h = λ l nest o n ts n2 fit deep f r.
+    let q = and_parts (is_writable (counted n) array) (is_expression (counted n) l i && (is_expression (counted n) l e && are_statements (counted n) l nest after)) f in
+    let s = and_parts (is_expression (counted n) l i) (is_expression (counted n) l e && are_statements (counted n) l nest after) q.1 in
+    let p = and_parts (is_expression (counted n) l e) (are_statements (counted n) l nest after) s.1 in
     let n1 = noted n (i ∷ n.values) n.blocks in
     let m1 = noted n (e ∷ i ∷ n.values) n.blocks in
-    let tail = read_stored (Store array) after l o m1 _ ts n2 (read_next after (read_statement after)) (with_values n (e ∷ i ∷ n.values) n.blocks fit) deep p.1 refl r in
-    let stored_value = begun _ _ n1 _ n2 (read_value e false l (stored l (Store array) ++ o) n1 _ n2 (with_values n (i ∷ n.values) n.blocks fit) deep p.0 (any e) tail) in
-    let index = begun _ _ n _ n2 (read_value i false l _ n _ n2 fit deep s.0 (any i) (takes (takes (takes (takes stored_value))))) in
+    let tail = read_stored (Store array) after l nest o m1 _ ts n2 (read_next after (read_statement after)) (with_values n (e ∷ i ∷ n.values) n.blocks fit) deep p.1 refl r in
+    let stored_value = begun _ _ n1 _ n2 (read_value e false l (stored l nest (Store array) ++ o) n1 _ n2 (with_values n (i ∷ n.values) n.blocks fit) deep.1 p.0 (any e) tail) in
+    let index = begun _ _ n _ n2 (read_value i false l _ n _ n2 fit deep.1 s.0 (any i) (takes (takes (takes (takes stored_value))))) in
     record { mid = _; behind_indent = refl; begins = record { piece = array_name array; alternative = _; behind = _; whole = refl; has = store {array = array} (array_small n array fit (writable_readable n array q.0)) q.0; reads = takes index } }
-read_statement (Loops s b c body after) h = λ l o n ts n2 fit deep f r.
-    let p = loop_fits n l s b c body after f in
-    let small = loops_small l 1024 p.below (let k : 1024 ≤ 1024 = lit≤ tt in k) in
+read_statement (AssignsFour k e after) h = λ l nest o n ts n2 fit deep f r.
+    let p = and_parts (nat_lt k n.vectors) (are_lanes (counted n) l e && are_statements (counted n) l nest after) f in
+    let q = and_parts (are_lanes (counted n) l e) (are_statements (counted n) l nest after) p.1 in
+    let fits = ltb-true k n.vectors p.0 in
+    let n1 = with_lanes n n.values (e ∷ n.lanes) n.blocks in
+    let tail = read_stored (AssignFour k) after l nest o n1 _ ts n2 (read_next after (read_statement after)) (lanes_fit n n.values (e ∷ n.lanes) n.blocks fit) deep q.1 refl r in
+    let source = begun (SourceOfFour l nest k) o n _ n2 (as_source_of_four l nest k o n _ n2 (read_lanes e l (stored l nest (AssignFour k) ++ o) n _ n2 fit deep.1 q.0 tail)) in
+    record { mid = _; behind_indent = refl; begins = record { piece = _; alternative = _; behind = _; whole = refl; has = assign_four (smaller k n.vectors (2 ^ 32) fits fit.vectors) fits; reads = takes (takes (takes source)) } }
+read_statement (LoadsFour k array i after) h = λ l nest o n ts n2 fit deep f r.
+    let p = load_four_fits n l nest k array i after f in
+    let q = p.1 in
+    let fits = p.0 in
+    let n1 = noted n (i ∷ n.values) n.blocks in
+    let fit1 = with_values n (i ∷ n.values) n.blocks fit in
+    let tail = read_stored (LoadFour k array) after l nest o n1 _ ts n2 (read_next after (read_statement after)) fit1 deep q.after_fits refl r in
+    let from : Reads kernels (Form (LoadedFour l nest k) ∷ o) n1 (array_name array ∷ closes ∷ semicolon ∷ line ∷ spell_code l nest after ts) [] n2 = gives (loaded_four {array = array} (array_small n array fit q.allowed) q.shared q.allowed) (takes tail) in
+    let index = begun _ _ n _ n2 (read_value i false l (texts (comma ∷ space ∷ []) ++ Form (LoadedFour l nest k) ∷ o) n _ n2 fit deep.1 q.offset (any i) (takes (takes from))) in
+    let source : Begins (SourceOfFour l nest k) o n (loads_four ∷ opens ∷ spell i (comma ∷ space ∷ array_name array ∷ closes ∷ semicolon ∷ line ∷ spell_code l nest after ts)) n2 = record { piece = loads_four; alternative = _; behind = _; whole = refl; has = load_four; reads = takes index } in
+    record { mid = _; behind_indent = refl; begins = record { piece = _; alternative = _; behind = _; whole = refl; has = assign_four (smaller k n.vectors (2 ^ 32) fits fit.vectors) fits; reads = takes (takes (takes (begun (SourceOfFour l nest k) o n _ n2 source))) } }
+read_statement (StoresFour array i e after) h = λ l nest o n ts n2 fit deep f r.
+    let p = store_four_fits n l nest array i e after f in
+    let q = p.1 in
+    let n1 = with_lanes n n.values (e ∷ n.lanes) n.blocks in
+    let n3 = noted n1 (i ∷ n1.values) n1.blocks in
+    let fit1 = lanes_fit n n.values (e ∷ n.lanes) n.blocks fit in
+    let behind_offset : List Item = texts (comma ∷ space ∷ []) ++ Form (StoredFour l nest) ∷ o in
+    let tail = read_stored (StoreFour array) after l nest o n3 _ ts n2 (read_next after (read_statement after)) (with_values n1 (i ∷ n1.values) n1.blocks fit1) deep q.after_fits refl r in
+    let to : Reads kernels (Form (StoredFour l nest) ∷ o) n3 (array_name array ∷ closes ∷ semicolon ∷ line ∷ spell_code l nest after ts) [] n2 = gives (stored_four {array = array} (array_small n array fit (writable_readable n array q.allowed)) q.shared q.allowed) (takes tail) in
+    let offset = begun _ _ n1 _ n2 (read_value i false l behind_offset n1 _ n2 fit1 deep.1 q.offset (any i) (takes (takes to))) in
+    let words = begun _ _ n _ n2 (read_lanes e l (texts (comma ∷ space ∷ []) ++ Form (Value false l 1) ∷ behind_offset) n _ n2 fit deep.1 p.0 (takes (takes offset))) in
+    record { mid = _; behind_indent = refl; begins = record { piece = stores_four; alternative = _; behind = _; whole = refl; has = store_four; reads = takes words } }
+read_statement (Loops s b c body after) h = λ l nest o n ts n2 fit deep f r.
+    let p = loop_fits n l nest s b c body after f in
+    let room = loop_room l nest deep p.below in
+    let small = loops_small l 1024 room.0 (let k : 1024 ≤ 1024 = lit≤ tt in k) in
     let n1 = noted n (b ∷ n.values) n.blocks in
     let m1 = noted n (b ∷ n.values) (body ∷ n.blocks) in
-    let below = p.below in
-    let tail = read_next after (read_statement after) l (Mark (Loop s c) ∷ o) m1 ts n2 (with_values n (b ∷ n.values) (body ∷ n.blocks) fit) deep p.after_fits (notes refl r) in
-    let inner = read_statement body p.some (suc l) (Form (Next l) ∷ Mark (Loop s c) ∷ o) n1 (spell_code l after ts) n2 (with_values n (b ∷ n.values) n.blocks fit) (let k : suc l ≤ 1024 = omega (arith, below) in k) p.body_fits tail in
+    let tail = read_next after (read_statement after) l nest (Mark (Loop s c) ∷ o) m1 ts n2 (with_values n (b ∷ n.values) (body ∷ n.blocks) fit) deep p.after_fits (notes refl r) in
+    let inner = read_statement body p.some (suc l) (suc nest) (Form (Next l nest) ∷ Mark (Loop s c) ∷ o) n1 (spell_code l nest after ts) n2 (with_values n (b ∷ n.values) n.blocks fit) room.1 p.body_fits tail in
     let opened = gives indented (begun _ _ n1 _ n2 inner.begins) in
-    let begun_body = subst (λ z. Reads kernels (Form (Indent (suc (suc l))) ∷ Form (Statement (suc l)) ∷ Form (Next l) ∷ Mark (Loop s c) ∷ o) n1 z [] n2) (sym inner.behind_indent) opened in
-    let round = read_stride c s l o n1 (block_line (spell_code (suc l) body (spell_code l after ts))) n2 (takes (takes (takes (takes begun_body)))) in
-    let bound = begun _ _ n _ n2 (read_value b true l _ n _ n2 fit deep p.bound (λ k. p.constant) (read_loop_step l s o n1 _ n2 small round)) in
-    let head = read_loop_head l o n _ n2 small (read_start s l o n _ n2 (read_loop_test l s o n _ n2 small bound)) in
-    record { mid = _; behind_indent = ap (λ z. indent (suc l) ∷ z) head.1; begins = record { piece = for; alternative = _; behind = head.0; whole = refl; has = loop p.below; reads = head.2 } }
-read_statement (Syncs on_local on_global after) h = λ l o n ts n2 fit deep f r.
-    let p = and_parts (on_local || on_global) (are_statements (counted n) l after) f in
-    let tail = read_stored (Sync on_local on_global) after l o n _ ts n2 (read_next after (read_statement after)) fit deep p.1 refl r in
-    let flags = read_flags on_local on_global p.0 l o n _ n2 tail in
+    let begun_body = subst (λ z. Reads kernels (Form (Indent (suc (suc nest))) ∷ Form (Statement (suc l) (suc nest)) ∷ Form (Next l nest) ∷ Mark (Loop s c) ∷ o) n1 z [] n2) (sym inner.behind_indent) opened in
+    let round = read_stride c s l nest o n1 (block_line (spell_code (suc l) (suc nest) body (spell_code l nest after ts))) n2 (takes (takes (takes (takes begun_body)))) in
+    let bound = begun _ _ n _ n2 (read_value b true l _ n _ n2 fit deep.1 p.bound (λ k. p.constant) (read_loop_step l nest s o n1 _ n2 small round)) in
+    let head = read_loop_head l nest o n _ n2 small (read_start s false l nest o n _ n2 (read_loop_test l nest s o n _ n2 small bound)) in
+    record { mid = _; behind_indent = ap (λ z. indent (suc nest) ∷ z) head.1; begins = record { piece = for; alternative = _; behind = head.0; whole = refl; has = loop p.below; reads = head.2 } }
+read_statement (Guards s b body after) h = λ l nest o n ts n2 fit deep f r.
+    let p = guard_fits n l nest s b body after f in
+    let n1 = noted n (b ∷ n.values) n.blocks in
+    let m1 = noted n (b ∷ n.values) (body ∷ n.blocks) in
+    let code = spell_code l (suc nest) body (spell_code l nest after ts) in
+    let tail = read_next after (read_statement after) l nest (Mark (Guard s) ∷ o) m1 ts n2 (with_values n (b ∷ n.values) (body ∷ n.blocks) fit) deep p.after_fits (notes refl r) in
+    let inner = read_statement body p.some l (suc nest) (Form (Next l nest) ∷ Mark (Guard s) ∷ o) n1 (spell_code l nest after ts) n2 (with_values n (b ∷ n.values) n.blocks fit) (guard_room l nest deep) p.body_fits tail in
+    let opened = gives indented (begun _ _ n1 _ n2 inner.begins) in
+    let begun_body : Reads kernels (guard_block l nest s o) n1 code [] n2 = subst (λ z. Reads kernels (guard_block l nest s o) n1 z [] n2) (sym inner.behind_indent) opened in
+    let bound = begun _ _ n _ n2 (read_value b true l _ n _ n2 fit deep.1 p.bound (λ k. p.constant) (read_guard_block l nest s o n1 code n2 begun_body)) in
+    let head = read_start s true l nest o n _ n2 (read_guard_test l nest s o n _ n2 bound) in
+    record { mid = _; behind_indent = refl; begins = record { piece = whether; alternative = _; behind = _; whole = refl; has = guard p.below; reads = takes (takes head) } }
+read_statement (Syncs on_local on_global after) h = λ l nest o n ts n2 fit deep f r.
+    let p = and_parts (on_local || on_global) (are_statements (counted n) l nest after) f in
+    let tail = read_stored (Sync on_local on_global) after l nest o n _ ts n2 (read_next after (read_statement after)) fit deep p.1 refl r in
+    let flags = read_flags on_local on_global p.0 l nest o n _ n2 tail in
     record { mid = _; behind_indent = refl; begins = record { piece = barrier; alternative = _; behind = _; whole = refl; has = meet; reads = takes flags } }
 
 -- ---- declarations
@@ -362,11 +559,11 @@ read_body : (f : Part) (n : Notes) (ts : List Piece) (n2 : Notes) → ReadsBody 
 read_body f n ts n2 b = subst (λ z. Reads kernels (Form (Indent 1) ∷ Form f ∷ []) n z [] n2) (sym b.behind_indent) (gives indented (begun f [] n b.mid n2 b.begins))
 
 -- the statements of a body
-read_code : (c : Code) (n n3 : Notes) → n3 ≡ noted n n.values (c ∷ n.blocks) → CountsFit n → are_statements (counted n3) 0 c ≡ true → has_statement c ≡ true → ReadsStatement c 0 [] n [] n3
+read_code : (c : Code) (n n3 : Notes) → n3 ≡ noted n n.values (c ∷ n.blocks) → CountsFit n → are_statements (counted n3) 0 0 c ≡ true → has_statement c ≡ true → ReadsStatement c 0 0 [] n [] n3
 read_code c n n3 same fit f s =
     let stood : Reads kernels [] (noted n n.values (c ∷ n.blocks)) [] [] n3 = subst (λ z. Reads kernels [] z [] [] n3) same stands in
-    let g : are_statements (counted n) 0 c ≡ true = subst (λ (z : Notes). are_statements (counted z) 0 c ≡ true) same f in
-    read_statement c s 0 [] n [] n3 fit (let k : 0 ≤ 1024 = lit≤ tt in k) g stood
+    let g : are_statements (counted n) 0 0 c ≡ true = subst (λ (z : Notes). are_statements (counted z) 0 0 c ≡ true) same f in
+    read_statement c s 0 0 [] n [] n3 fit ((let k : 0 ≤ 0 = lit≤ tt in k), (let k : 0 ≤ 1024 = lit≤ tt in k)) g stood
 
 -- a form whose alternatives are also another's
 as_form : (f g : Part) (n : Notes) (ts : List Piece) (n2 : Notes) → ((p : Piece) (alternative : List Item) → Gives n f p alternative → Gives n g p alternative) → ReadsBody f n ts n2 → ReadsBody g n ts n2
@@ -376,32 +573,49 @@ as_form f g n ts n2 h b = record {
   begins = record { piece = b.begins.piece; alternative = b.begins.alternative; behind = b.begins.behind; whole = b.begins.whole; has = h b.begins.piece b.begins.alternative b.begins.has; reads = b.begins.reads };
 }
 
-code_body : (c : Code) (n n3 : Notes) → n3 ≡ noted n n.values (c ∷ n.blocks) → CountsFit n → are_statements (counted n3) 0 c ≡ true → has_statement c ≡ true → ReadsBody (Statement 0) n (spell_code 0 c []) n3
+code_body : (c : Code) (n n3 : Notes) → n3 ≡ noted n n.values (c ∷ n.blocks) → CountsFit n → are_statements (counted n3) 0 0 c ≡ true → has_statement c ≡ true → ReadsBody (Statement 0 0) n (spell_code 0 0 c []) n3
 code_body c n n3 same fit f s = let q = read_code c n n3 same fit f s in record { mid = q.mid; behind_indent = q.behind_indent; begins = q.begins }
 
-abbrev VariablesMade : ℕ → Code → Notes → Notes → Type 0
-VariablesMade more c n n3 = n3 ≡ record n { variables = n.variables + more; blocks = c ∷ n.blocks }
+abbrev VectorsMade : ℕ → Code → Notes → Notes → Type 0
+VectorsMade vectors c n n3 = n3 ≡ record n { vectors = n.vectors + vectors; blocks = c ∷ n.blocks }
 
-no_variables : (c : Code) (n n3 : Notes) → VariablesMade 0 c n n3 → n3 ≡ noted n n.values (c ∷ n.blocks)
-no_variables c n n3 e = e ∙ ap (λ v. record n { variables = v; blocks = c ∷ n.blocks }) (no_more n.variables)
+no_vectors : (c : Code) (n n3 : Notes) → VectorsMade 0 c n n3 → n3 ≡ noted n n.values (c ∷ n.blocks)
+no_vectors c n n3 e = e ∙ ap (λ v. record n { vectors = v; blocks = c ∷ n.blocks }) (no_more n.vectors)
 
-read_variables : (more : ℕ) (c : Code) (n n3 : Notes) → VariablesMade more c n n3 → CountsFit n → n.variables + more < number_limit → are_statements (counted n3) 0 c ≡ true → has_statement c ≡ true → ReadsBody Variables n (spell_variables n.variables more (spell_code 0 c [])) n3
-read_variables zero c n n3 e fit small f s = as_form (Statement 0) Variables n _ n3 (λ p alternative g. statements g) (code_body c n n3 (no_variables c n n3 e) fit f s)
-read_variables (suc more) c n n3 e fit small f s =
+read_vectors : (vectors : ℕ) (c : Code) (n n3 : Notes) → VectorsMade vectors c n n3 → CountsFit n → n.vectors + vectors < number_limit → are_statements (counted n3) 0 0 c ≡ true → has_statement c ≡ true → ReadsBody Vectors n (spell_vectors n.vectors vectors (spell_code 0 0 c [])) n3
+read_vectors zero c n n3 e fit small f s = as_form (Statement 0 0) Vectors n _ n3 (λ p alternative g. statements g) (code_body c n n3 (no_vectors c n n3 e) fit f s)
+read_vectors (suc more) c n n3 e fit small f s =
+    let n1 : Notes = record n { vectors = suc n.vectors } in
+    let e1 : VectorsMade more c n1 n3 = e ∙ ap (λ v. record n { vectors = v; blocks = c ∷ n.blocks }) (one_more n.vectors more) in
+    let one = within n.vectors more number_limit small in
+    let rest = read_body Vectors n1 _ n3 (read_vectors more c n1 n3 e1 (vectors_fit n fit one) (with_count n.vectors more number_limit small) f s) in
+    record { mid = _; behind_indent = refl; begins = record { piece = uint4; alternative = _; behind = _; whole = refl; has = a_vector; reads = takes (gives (new_vector one) (notes refl (takes (takes rest)))) } }
+
+abbrev VariablesMade : (more vectors : ℕ) → Code → Notes → Notes → Type 0
+VariablesMade more vectors c n n3 = n3 ≡ record n { variables = n.variables + more; vectors = n.vectors + vectors; blocks = c ∷ n.blocks }
+
+no_variables : (vectors : ℕ) (c : Code) (n n3 : Notes) → VariablesMade 0 vectors c n n3 → VectorsMade vectors c n n3
+no_variables vectors c n n3 e = e ∙ ap (λ v. record n { variables = v; vectors = n.vectors + vectors; blocks = c ∷ n.blocks }) (no_more n.variables)
+
+read_variables : (more vectors : ℕ) (c : Code) (n n3 : Notes) → VariablesMade more vectors c n n3 → CountsFit n → n.variables + more < number_limit → n.vectors + vectors < number_limit → are_statements (counted n3) 0 0 c ≡ true → has_statement c ≡ true
+    → ReadsBody Variables n (spell_variables n.variables more (spell_vectors n.vectors vectors (spell_code 0 0 c []))) n3
+read_variables zero vectors c n n3 e fit small wide f s = as_form Vectors Variables n _ n3 (λ p alternative g. no_variable g) (read_vectors vectors c n n3 (no_variables vectors c n n3 e) fit wide f s)
+read_variables (suc more) vectors c n n3 e fit small wide f s =
     let n1 : Notes = record n { variables = suc n.variables } in
-    let e1 : VariablesMade more c n1 n3 = e ∙ ap (λ v. record n { variables = v; blocks = c ∷ n.blocks }) (one_more n.variables more) in
+    let e1 : VariablesMade more vectors c n1 n3 = e ∙ ap (λ v. record n { variables = v; vectors = n.vectors + vectors; blocks = c ∷ n.blocks }) (one_more n.variables more) in
     let one = within n.variables more number_limit small in
-    let rest = read_body Variables n1 _ n3 (read_variables more c n1 n3 e1 (variables_fit n fit one) (with_count n.variables more number_limit small) f s) in
+    let rest = read_body Variables n1 _ n3 (read_variables more vectors c n1 n3 e1 (variables_fit n fit one) (with_count n.variables more number_limit small) wide f s) in
     record { mid = _; behind_indent = refl; begins = record { piece = uint; alternative = _; behind = _; whole = refl; has = another_variable; reads = takes (gives (new_variable one) (notes refl (takes (takes rest)))) } }
 
 -- variables alone, where private arrays might be declared
-variables_alone : (more : ℕ) (c : Code) (n n3 : Notes) → VariablesMade more c n n3 → CountsFit n → n.variables + more < number_limit → are_statements (counted n3) 0 c ≡ true → has_statement c ≡ true → ReadsBody Privates n (spell_variables n.variables more (spell_code 0 c [])) n3
-variables_alone zero c n n3 e fit small f s = as_form (Statement 0) Privates n _ n3 (λ p alternative g. no_declaration g) (code_body c n n3 (no_variables c n n3 e) fit f s)
-variables_alone (suc more) c n n3 e fit small f s =
+variables_alone : (more vectors : ℕ) (c : Code) (n n3 : Notes) → VariablesMade more vectors c n n3 → CountsFit n → n.variables + more < number_limit → n.vectors + vectors < number_limit → are_statements (counted n3) 0 0 c ≡ true → has_statement c ≡ true
+    → ReadsBody Privates n (spell_variables n.variables more (spell_vectors n.vectors vectors (spell_code 0 0 c []))) n3
+variables_alone zero vectors c n n3 e fit small wide f s = as_form Vectors Privates n _ n3 (λ p alternative g. no_declaration g) (read_vectors vectors c n n3 (no_variables vectors c n n3 e) fit wide f s)
+variables_alone (suc more) vectors c n n3 e fit small wide f s =
     let n1 : Notes = record n { variables = suc n.variables } in
-    let e1 : VariablesMade more c n1 n3 = e ∙ ap (λ v. record n { variables = v; blocks = c ∷ n.blocks }) (one_more n.variables more) in
+    let e1 : VariablesMade more vectors c n1 n3 = e ∙ ap (λ v. record n { variables = v; vectors = n.vectors + vectors; blocks = c ∷ n.blocks }) (one_more n.variables more) in
     let one = within n.variables more number_limit small in
-    let rest = read_body Variables n1 _ n3 (read_variables more c n1 n3 e1 (variables_fit n fit one) (with_count n.variables more number_limit small) f s) in
+    let rest = read_body Variables n1 _ n3 (read_variables more vectors c n1 n3 e1 (variables_fit n fit one) (with_count n.variables more number_limit small) wide f s) in
     record { mid = _; behind_indent = refl; begins = record { piece = uint; alternative = _; behind = _; whole = refl; has = a_declaration; reads = takes (gives (first_variable (new_variable one)) (notes refl (takes (takes rest)))) } }
 
 pub length_parts : (v : ℕ) (vs : List ℕ) → are_lengths (v ∷ vs) ≡ true → (0 < v) × (v < 2 ^ 32) × (are_lengths vs ≡ true)
@@ -410,39 +624,39 @@ length_parts v vs h =
     let q = and_parts (nat_lt v (2 ^ 32)) (are_lengths vs) p.1 in
     (ltb-true 0 v p.0, ltb-true v (2 ^ 32) q.0, q.1)
 
-abbrev PrivatesMade : List ℕ → ℕ → Code → Notes → Notes → Type 0
-PrivatesMade vs more c n n3 = n3 ≡ record n { privates = n.privates ++ vs; variables = n.variables + more; blocks = c ∷ n.blocks }
+abbrev PrivatesMade : List ℕ → (more vectors : ℕ) → Code → Notes → Notes → Type 0
+PrivatesMade vs more vectors c n n3 = n3 ≡ record n { privates = n.privates ++ vs; variables = n.variables + more; vectors = n.vectors + vectors; blocks = c ∷ n.blocks }
 
-read_privates : (vs : List ℕ) (more : ℕ) (c : Code) (n n3 : Notes) → PrivatesMade vs more c n n3 → CountsFit n → are_lengths vs ≡ true → length n.privates + length vs < number_limit → n.variables + more < number_limit → are_statements (counted n3) 0 c ≡ true → has_statement c ≡ true
-    → ReadsBody Privates n (spell_privates (length n.privates) vs (spell_variables n.variables more (spell_code 0 c []))) n3
-read_privates [] more c n n3 e fit h few small f s = variables_alone more c n n3 (e ∙ ap (λ (z : List ℕ). record n { privates = z; variables = n.variables + more; blocks = c ∷ n.blocks }) (append-nil n.privates)) fit small f s
-read_privates (v ∷ vs) more c n n3 e fit h few small f s =
+read_privates : (vs : List ℕ) (more vectors : ℕ) (c : Code) (n n3 : Notes) → PrivatesMade vs more vectors c n n3 → CountsFit n → are_lengths vs ≡ true → length n.privates + length vs < number_limit → n.variables + more < number_limit → n.vectors + vectors < number_limit → are_statements (counted n3) 0 0 c ≡ true → has_statement c ≡ true
+    → ReadsBody Privates n (spell_privates (length n.privates) vs (spell_variables n.variables more (spell_vectors n.vectors vectors (spell_code 0 0 c [])))) n3
+read_privates [] more vectors c n n3 e fit h few small wide f s = variables_alone more vectors c n n3 (e ∙ ap (λ (z : List ℕ). record n { privates = z; variables = n.variables + more; vectors = n.vectors + vectors; blocks = c ∷ n.blocks }) (append-nil n.privates)) fit small wide f s
+read_privates (v ∷ vs) more vectors c n n3 e fit h few small wide f s =
     let p = length_parts v vs h in
     let n1 = with_private n v in
     let longer = one_longer n.privates v in
-    let e1 : PrivatesMade vs more c n1 n3 = e ∙ ap (λ (z : List ℕ). record n { privates = z; variables = n.variables + more; blocks = c ∷ n.blocks }) (sym (append_assoc n.privates (v ∷ []) vs)) in
+    let e1 : PrivatesMade vs more vectors c n1 n3 = e ∙ ap (λ (z : List ℕ). record n { privates = z; variables = n.variables + more; vectors = n.vectors + vectors; blocks = c ∷ n.blocks }) (sym (append_assoc n.privates (v ∷ []) vs)) in
     let one = within (length n.privates) (length vs) number_limit few in
     let fewer : length n1.privates + length vs < number_limit = subst (λ z. z + length vs < number_limit) (sym longer) (with_count (length n.privates) (length vs) number_limit few) in
-    let inner = read_body Privates n1 _ n3 (read_privates vs more c n1 n3 e1 (privates_fit n v fit one) p.2 fewer small f s) in
-    let rest = subst (λ z. Reads kernels (Form (Indent 1) ∷ Form Privates ∷ []) n1 (spell_privates z vs (spell_variables n.variables more (spell_code 0 c []))) [] n3) longer inner in
+    let inner = read_body Privates n1 _ n3 (read_privates vs more vectors c n1 n3 e1 (privates_fit n v fit one) p.2 fewer small wide f s) in
+    let rest = subst (λ z. Reads kernels (Form (Indent 1) ∷ Form Privates ∷ []) n1 (spell_privates z vs (spell_variables n.variables more (spell_vectors n.vectors vectors (spell_code 0 0 c [])))) [] n3) longer inner in
     record { mid = _; behind_indent = refl; begins = record { piece = uint; alternative = _; behind = _; whole = refl; has = a_declaration; reads = takes (gives (new_private one) (takes (gives (private_length p.0 p.1) (notes refl (takes (takes (takes rest))))))) } }
 
-abbrev LocalsMade : (ls ps : List ℕ) → ℕ → Code → Notes → Notes → Type 0
-LocalsMade ls ps more c n n3 = n3 ≡ record n { locals = n.locals ++ ls; privates = n.privates ++ ps; variables = n.variables + more; blocks = c ∷ n.blocks }
+abbrev LocalsMade : (ls ps : List ℕ) → (more vectors : ℕ) → Code → Notes → Notes → Type 0
+LocalsMade ls ps more vectors c n n3 = n3 ≡ record n { locals = n.locals ++ ls; privates = n.privates ++ ps; variables = n.variables + more; vectors = n.vectors + vectors; blocks = c ∷ n.blocks }
 
-read_locals : (ls ps : List ℕ) (more : ℕ) (c : Code) (n n3 : Notes) → LocalsMade ls ps more c n n3 → CountsFit n → are_lengths ls ≡ true → are_lengths ps ≡ true → length n.locals + length ls < number_limit → length n.privates + length ps < number_limit → n.variables + more < number_limit → are_statements (counted n3) 0 c ≡ true → has_statement c ≡ true
-    → ReadsBody Locals n (spell_locals (length n.locals) ls (spell_privates (length n.privates) ps (spell_variables n.variables more (spell_code 0 c [])))) n3
-read_locals [] ps more c n n3 e fit h g few less_few small f s =
-    as_form Privates Locals n _ n3 (λ p alternative q. no_local q) (read_privates ps more c n n3 (e ∙ ap (λ (z : List ℕ). record n { locals = z; privates = n.privates ++ ps; variables = n.variables + more; blocks = c ∷ n.blocks }) (append-nil n.locals)) fit g less_few small f s)
-read_locals (v ∷ vs) ps more c n n3 e fit h g few less_few small f s =
+read_locals : (ls ps : List ℕ) (more vectors : ℕ) (c : Code) (n n3 : Notes) → LocalsMade ls ps more vectors c n n3 → CountsFit n → are_lengths ls ≡ true → are_lengths ps ≡ true → length n.locals + length ls < number_limit → length n.privates + length ps < number_limit → n.variables + more < number_limit → n.vectors + vectors < number_limit → are_statements (counted n3) 0 0 c ≡ true → has_statement c ≡ true
+    → ReadsBody Locals n (spell_locals (length n.locals) ls (spell_privates (length n.privates) ps (spell_variables n.variables more (spell_vectors n.vectors vectors (spell_code 0 0 c []))))) n3
+read_locals [] ps more vectors c n n3 e fit h g few less_few small wide f s =
+    as_form Privates Locals n _ n3 (λ p alternative q. no_local q) (read_privates ps more vectors c n n3 (e ∙ ap (λ (z : List ℕ). record n { locals = z; privates = n.privates ++ ps; variables = n.variables + more; vectors = n.vectors + vectors; blocks = c ∷ n.blocks }) (append-nil n.locals)) fit g less_few small wide f s)
+read_locals (v ∷ vs) ps more vectors c n n3 e fit h g few less_few small wide f s =
     let p = length_parts v vs h in
     let n1 = with_local n v in
     let longer = one_longer n.locals v in
-    let e1 : LocalsMade vs ps more c n1 n3 = e ∙ ap (λ (z : List ℕ). record n { locals = z; privates = n.privates ++ ps; variables = n.variables + more; blocks = c ∷ n.blocks }) (sym (append_assoc n.locals (v ∷ []) vs)) in
+    let e1 : LocalsMade vs ps more vectors c n1 n3 = e ∙ ap (λ (z : List ℕ). record n { locals = z; privates = n.privates ++ ps; variables = n.variables + more; vectors = n.vectors + vectors; blocks = c ∷ n.blocks }) (sym (append_assoc n.locals (v ∷ []) vs)) in
     let one = within (length n.locals) (length vs) number_limit few in
     let fewer : length n1.locals + length vs < number_limit = subst (λ z. z + length vs < number_limit) (sym longer) (with_count (length n.locals) (length vs) number_limit few) in
-    let inner = read_body Locals n1 _ n3 (read_locals vs ps more c n1 n3 e1 (locals_fit n v fit one) p.2 g fewer less_few small f s) in
-    let rest = subst (λ z. Reads kernels (Form (Indent 1) ∷ Form Locals ∷ []) n1 (spell_locals z vs (spell_privates (length n.privates) ps (spell_variables n.variables more (spell_code 0 c [])))) [] n3) longer inner in
+    let inner = read_body Locals n1 _ n3 (read_locals vs ps more vectors c n1 n3 e1 (locals_fit n v fit one) p.2 g fewer less_few small wide f s) in
+    let rest = subst (λ z. Reads kernels (Form (Indent 1) ∷ Form Locals ∷ []) n1 (spell_locals z vs (spell_privates (length n.privates) ps (spell_variables n.variables more (spell_vectors n.vectors vectors (spell_code 0 0 c []))))) [] n3) longer inner in
     record { mid = _; behind_indent = refl; begins = record { piece = local; alternative = _; behind = _; whole = refl; has = a_local; reads = takes (takes (takes (gives (new_local one) (takes (gives (local_length p.0 p.1) (notes refl (takes (takes (takes rest))))))))) } }
 
 -- ---- parameters
@@ -482,23 +696,73 @@ read_parameters (suc inputs) more sizes o n n3 ts n2 e ins small few r =
     let rest = read_parameters inputs more sizes o n1 n3 ts n2 e1 (with_count n.inputs inputs number_limit ins) small few r in
     gives an_input (takes (gives pointer_to_const (takes (takes (takes (takes (gives (new_input (within n.inputs inputs number_limit ins)) (notes refl (takes (takes rest))))))))))
 
+-- ---- the groups' size
+
+factor_within : (a b m : ℕ) → 0 < b → a * b ≤ m → a ≤ m
+factor_within a zero m some h = absurd (omega (arith, some))
+factor_within a (suc b) m some h = omega (arith, h)
+
+other_within : (a b m : ℕ) → 0 < a → a * b ≤ m → b ≤ m
+other_within zero b m some h = absurd (omega (arith, some))
+other_within (suc a) b m some h = omega (arith, h)
+
+-- a size's numbers
+pub record SizeFits (v w : ℕ) : Type 0 where
+  pub width : 0 < v
+  pub height : 0 < w
+  pub few : v * w ≤ 256
+  pub narrow : v ≤ 256
+  pub small_width : v < 2 ^ 32
+  pub small_height : w < 2 ^ 32
+
+pub size_fits : (v w : ℕ) → is_group_size (Some (v, w)) ≡ true → SizeFits v w
+size_fits v w h =
+    let p = and_parts (nat_lt 0 v) (nat_lt 0 w && nat_le (v * w) largest_group) h in
+    let q = and_parts (nat_lt 0 w) (nat_le (v * w) largest_group) p.1 in
+    let width = ltb-true 0 v p.0 in
+    let height = ltb-true 0 w q.0 in
+    let few : v * w ≤ 256 = leb-true (v * w) largest_group q.1 in
+    let narrow = factor_within v w 256 height few in
+    let low = other_within v w 256 width few in
+    let limit : 256 < 2 ^ 32 = lit< tt in
+    record { width = width; height = height; few = few; narrow = narrow; small_width = omega (arith, narrow, limit); small_height = omega (arith, low, limit) }
+
+read_launching : (size : Option (ℕ × ℕ)) (o : List Item) (n n3 : Notes) (ts : List Piece) (n2 : Notes) → is_group_size size ≡ true → n3 ≡ fixed n size → Reads kernels o n3 ts [] n2 → Reads kernels (Form Launching ∷ o) n (spell_launching size ts) [] n2
+read_launching None o n n3 ts n2 h e r = gives any_group (subst (λ z. Reads kernels o z ts [] n2) e r)
+read_launching (Some size) o n n3 ts n2 h e r =
+    let p = size_fits size.0 size.1 h in
+    let behind : Reads kernels o (record n { local = Some size }) ts [] n2 = subst (λ z. Reads kernels o z ts [] n2) e r in
+    let fixed_now : Reads kernels (Form (GroupHeight size.0) ∷ o) n (decimal size.1 ∷ comma ∷ space ∷ one ∷ closes ∷ closes ∷ closes ∷ space ∷ void ∷ ts) [] n2 =
+    gives (group_height {v = size.0} {w = size.1} p.height p.small_height p.few) (notes refl (takes (takes (takes (takes (takes (takes (takes (takes behind))))))))) in
+    gives fixed_group (takes (takes (takes (takes (gives (group_width {v = size.0} p.width p.narrow) (takes (takes fixed_now)))))))
+
+launched : (size : Option (ℕ × ℕ)) → record nothing { local = size } ≡ fixed nothing size
+launched None = refl
+launched (Some size) = refl
+
 -- ---- the whole
 
 zero_plus : (x : ℕ) → x ≡ 0 + x
 zero_plus x = omega arith
 
-pub reads_kernel : (k : Kernel) (more : ℕ) → k.outputs ≡ suc more → are_lengths k.locals ≡ true → are_lengths k.privates ≡ true → are_statements (counted (all_of k)) 0 k.code ≡ true → has_statement k.code ≡ true → HasText k → Reads kernels start nothing (spelled_with k (suc more)) [] (all_of k)
-reads_kernel k more e locals privates f s h =
-    let n1 : Notes = record { inputs = k.inputs; outputs = k.outputs; sizes = k.sizes; locals = []; privates = []; variables = 0; values = []; blocks = [] } in
+pub reads_kernel : (name : Piece) (k : Kernel) (more : ℕ) → k.outputs ≡ suc more → are_lengths k.locals ≡ true → are_lengths k.privates ≡ true → is_group_size k.local ≡ true → are_statements (counted (all_of k)) 0 0 k.code ≡ true → has_statement k.code ≡ true → HasText k → Reads kernels (start name) nothing (spelled_with name k (suc more)) [] (all_of k)
+reads_kernel name k more e locals privates group f s h =
+    let n0 : Notes = record nothing { local = k.local } in
+    let n1 : Notes = record { inputs = k.inputs; outputs = k.outputs; sizes = k.sizes; locals = []; privates = []; variables = 0; vectors = 0; local = k.local; values = []; lanes = []; blocks = [] } in
     let none : 0 < number_limit = lit< tt in
-    let fit : CountsFit n1 = record { inputs = h.inputs; outputs = h.outputs; sizes = h.sizes; locals = none; privates = none; variables = none } in
-    let made : LocalsMade k.locals k.privates k.variables k.code n1 (all_of k) = ap (λ v. record n1 { locals = k.locals; privates = k.privates; variables = v; blocks = k.code ∷ [] }) (zero_plus k.variables) in
+    let fit : CountsFit n1 = record { inputs = h.inputs; outputs = h.outputs; sizes = h.sizes; locals = none; privates = none; variables = none; vectors = none } in
+    let made : LocalsMade k.locals k.privates k.variables k.vectors k.code n1 (all_of k) =
+    ap (λ v. record n1 { locals = k.locals; privates = k.privates; variables = v; vectors = k.vectors; blocks = k.code ∷ [] }) (zero_plus k.variables)
+    ∙ ap (λ v. record n1 { locals = k.locals; privates = k.privates; variables = 0 + k.variables; vectors = v; blocks = k.code ∷ [] }) (zero_plus k.vectors) in
     let below = λ (x : ℕ) (g : x < number_limit). subst (λ z. z < number_limit) (zero_plus x) g in
-    let body = read_body Locals n1 _ (all_of k) (read_locals k.locals k.privates k.variables k.code n1 (all_of k) made fit locals privates (below (length k.locals) h.locals) (below (length k.privates) h.privates) (below k.variables h.variables) f s) in
-    let counts : n1 ≡ record nothing { inputs = 0 + k.inputs; outputs = 0 + suc more; sizes = 0 + k.sizes } =
-    ap (λ v. record nothing { inputs = v; outputs = k.outputs; sizes = k.sizes }) (zero_plus k.inputs)
-    ∙ ap (λ v. record nothing { inputs = 0 + k.inputs; outputs = v; sizes = k.sizes }) (e ∙ zero_plus (suc more))
-    ∙ ap (λ v. record nothing { inputs = 0 + k.inputs; outputs = 0 + suc more; sizes = v }) (zero_plus k.sizes) in
+    let body = read_body Locals n1 _ (all_of k) (read_locals k.locals k.privates k.variables k.vectors k.code n1 (all_of k) made fit locals privates (below (length k.locals) h.locals) (below (length k.privates) h.privates) (below k.variables h.variables) (below k.vectors h.vectors) f s) in
+    let counts : n1 ≡ record n0 { inputs = 0 + k.inputs; outputs = 0 + suc more; sizes = 0 + k.sizes } =
+    ap (λ v. record n0 { inputs = v; outputs = k.outputs; sizes = k.sizes }) (zero_plus k.inputs)
+    ∙ ap (λ v. record n0 { inputs = 0 + k.inputs; outputs = v; sizes = k.sizes }) (e ∙ zero_plus (suc more))
+    ∙ ap (λ v. record n0 { inputs = 0 + k.inputs; outputs = 0 + suc more; sizes = v }) (zero_plus k.sizes) in
     let outputs : 0 + suc more < number_limit = subst (λ z. z < number_limit) (e ∙ zero_plus (suc more)) h.outputs in
-    let parameters = read_parameters k.inputs more k.sizes (texts (line ∷ block_begins ∷ line ∷ []) ++ Form (Indent 1) ∷ Form Locals ∷ []) nothing n1 (spell_body k) (all_of k) counts (below k.inputs h.inputs) outputs (below k.sizes h.sizes) (takes (takes (takes body))) in
-    takes (takes (takes (takes (takes (takes parameters)))))
+    let behind : List Item = texts (line ∷ block_begins ∷ line ∷ []) ++ Form (Indent 1) ∷ Form Locals ∷ [] in
+    let parameters = read_parameters k.inputs more k.sizes behind n0 n1 (spell_body k) (all_of k) counts (below k.inputs h.inputs) outputs (below k.sizes h.sizes) (takes (takes (takes body))) in
+    let named : Reads kernels (texts (space ∷ name ∷ opens ∷ []) ++ Form Parameter ∷ behind) n0 (space ∷ name ∷ opens ∷ spell_inputs 0 k.inputs (first_output 0 (spell_outputs 1 more (spell_sizes 0 k.sizes (spell_body k))))) [] (all_of k) =
+    takes (takes (takes parameters)) in
+    takes (takes (read_launching k.local (texts (space ∷ name ∷ opens ∷ []) ++ Form Parameter ∷ behind) nothing n0 _ (all_of k) group (launched k.local) named))

@@ -1,11 +1,11 @@
-// What a piece is.
+//! What a piece is.
 
 ghost use Rattle.std.specs.Prelude.{◌≡◌, option_map};
 ghost use Rattle.kernel_tree.specs.Tree.{id_of};
-ghost use Rattle.kernel_spelling.specs.Kinds.{number_in, named_in, literal_in, kind_of, id_in, sign_in, call_in};
+ghost use Rattle.kernel_spelling.specs.Kinds.{number_in, named_in, literal_in, kind_of, id_in, sign_in, call_in, dimension_in};
 
 use itoa::Buffer;
-use kernel_tree::tree::{Array, IdForm};
+use kernel_tree::tree::{Array, Dimension, IdForm};
 use scalar_ops::op::Op;
 
 /// What a piece is: a name of a kind with its number, a literal, a decimal, or any other.
@@ -14,6 +14,7 @@ pub enum Kind {
     Array(Array),
     Size(u32),
     Variable(u32),
+    Vector(u32),
     LoopVariable(u32),
     Literal(u32),
     Decimal(u32),
@@ -76,6 +77,9 @@ impl Kind {
     {
         if let Some(k) = named(b'v', piece) {
             return Kind::Variable(k);
+        }
+        if let Some(k) = named(b'w', piece) {
+            return Kind::Vector(k);
         }
         if let Some(k) = named(b'i', piece) {
             return Kind::LoopVariable(k);
@@ -150,6 +154,17 @@ pub fn called(piece: &[u8]) -> Option<Op>
     match piece {
         b"min" => Some(Op::Min),
         b"max" => Some(Op::Max),
+        _ => None,
+    }
+}
+
+/// The dimension that a piece names.
+pub fn named_dimension(piece: &[u8]) -> Option<Dimension>
+    ensures { result ≡ dimension_in piece.now }
+{
+    match piece {
+        b"0" => Some(Dimension::X),
+        b"1" => Some(Dimension::Y),
         _ => None,
     }
 }

@@ -1,25 +1,26 @@
-// Laws of the kernel grammar.
+//! Laws of the kernel grammar.
 
 ghost use Rattle.std.specs.Prelude.{◌≡◌, ℕ, List, []};
 ghost use Rattle.readings.specs.Readings.{Reads};
 ghost use Rattle.kernel_tree.specs.Code.{Kernel};
 ghost use Rattle.kernel_tree.specs.KernelText.{Piece, Notes, IsKernelText, all_of, kernels, start, nothing};
 ghost use Rattle.kernel_tree.specs.Pieces.{ArePieces, joined};
-ghost use Rattle.kernel_spelling.specs.Spelling.{HasText, text_of};
+ghost use Rattle.kernel_spelling.specs.Spelling.{HasText, IsName, text_of};
 
-/// A kernel has one text.
+/// A kernel has one text by its name.
 pub fn one_text()
     // The kernel grammar relates a kernel to its text.
-    ensures taken { (k : Kernel) → HasText k → IsKernelText (text_of k) k }
+    ensures taken { (name : Piece) (k : Kernel) → IsName name → HasText k →
+        IsKernelText name (text_of name k) k }
     // It relates no other bytes to that kernel, and nothing to a kernel that has none.
-    ensures only { (bytes : List ℕ) (k : Kernel) → IsKernelText bytes k →
-        HasText k × (bytes ≡ text_of k) }
+    ensures only { (name : Piece) (bytes : List ℕ) (k : Kernel) → IsKernelText name bytes k →
+        HasText k × (bytes ≡ text_of name k) }
 {}
 
 /// A text is of one kernel.
 pub fn one_kernel()
-    ensures { (bytes : List ℕ) (k l : Kernel) →
-        IsKernelText bytes k → IsKernelText bytes l → k ≡ l }
+    ensures { (name : Piece) (bytes : List ℕ) (k l : Kernel) →
+        IsKernelText name bytes k → IsKernelText name bytes l → k ≡ l }
 {}
 
 /// A text is cut into pieces in one way, and is what they are together.
@@ -31,8 +32,8 @@ pub fn one_cut()
 
 /// What a whole reading notes is one kernel, which has a text.
 pub fn whole_readings()
-    ensures made { (ps : List Piece) (n : Notes) →
-        Reads kernels start nothing ps [] n → (k : Kernel) × (n ≡ all_of k) }
-    ensures has_text { (ps : List Piece) (k : Kernel) →
-        Reads kernels start nothing ps [] (all_of k) → HasText k }
+    ensures made { (name : Piece) (ps : List Piece) (n : Notes) →
+        Reads kernels (start name) nothing ps [] n → (k : Kernel) × (n ≡ all_of k) }
+    ensures has_text { (name : Piece) (ps : List Piece) (k : Kernel) →
+        Reads kernels (start name) nothing ps [] (all_of k) → HasText k }
 {}

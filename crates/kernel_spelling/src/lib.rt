@@ -5,5 +5,5 @@
 mod kinds;
 mod laws;
 
-pub use kinds::{Kind, called, named_id, signed};
+pub use kinds::{Kind, called, named_dimension, named_id, signed};
 pub use laws::{one_cut, one_kernel, one_text, whole_readings};

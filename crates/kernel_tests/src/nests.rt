@@ -1,4 +1,4 @@
-// A reader of nested parentheses, through the trait of readings.
+//! A reader of nested parentheses, through the trait of readings.
 
 ghost use Rattle.std.specs.Prelude.{ℕ};
 ghost use Rattle.kernel_tests.specs.Nests.{nests, table, decided};

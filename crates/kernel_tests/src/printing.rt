@@ -1,6 +1,7 @@
-// Kernels read from their text and printed again.
+//! Kernels read from their text and printed again.
 
-use crate::forms::{DECLARATIONS, END, HEAD, OPENING, STATEMENTS, STORE};
+use crate::deep::{ifs, loops, sums, sums_of_four};
+use crate::forms::{DECLARATIONS, END, HEAD, OPENING, SIZED, SIZES, STATEMENTS, STORE, UNSIZED};
 use kernel_printer::print;
 use kernel_reader::{KernelNo, read_kernel};
 use std::alloc::{AllocError, Global};
@@ -49,6 +50,29 @@ const GLOBAL: &[u8] =
   for (uint i0 = (uint)get_global_id(0); i0 < s0; i0 += (uint)get_global_size(0)) {
     v0 = a0[i0];
     o0[i0] = (v0 + 1u);
+  }
+}
+";
+
+/// The same by work-groups of two.
+const PAIRS: &[u8] =
+    b"__kernel __attribute__((reqd_work_group_size(2, 1, 1))) void lift(__global const uint *a0, __global uint *o0, const uint s0)
+{
+  uint v0;
+  for (uint i0 = (uint)get_global_id(0); i0 < s0; i0 += (uint)get_global_size(0)) {
+    v0 = a0[i0];
+    o0[i0] = (v0 + 1u);
+  }
+}
+";
+
+/// One is added to four elements at a time.
+const FOURS: &[u8] = b"__kernel void lift(__global const uint *a0, __global uint *o0)
+{
+  uint4 w0;
+  for (uint i0 = (uint)get_global_id(0); i0 < 2u; i0 += (uint)get_global_size(0)) {
+    w0 = vload4(i0, a0);
+    vstore4((w0 + (uint4)(1u)), i0, o0);
   }
 }
 ";
@@ -116,6 +140,7 @@ fn every_form(rt: HostRuntime) -> Result<(), Fail> {
         first_lost(rt.alloc(), OPENING, &DECLARATIONS, STORE)?,
         None
     );
+    assert_eq!(rt; first_lost(rt.alloc(), SIZED, &SIZES, UNSIZED)?, None);
     Ok(())
 }
 
@@ -125,6 +150,22 @@ fn round_trips(rt: HostRuntime) -> Result<(), Fail> {
     assert!(rt; comes_back(rt.alloc(), ONE_STORE)?);
     assert!(rt; comes_back(rt.alloc(), NESTED)?);
     assert!(rt; comes_back(rt.alloc(), GLOBAL)?);
+    assert!(rt; comes_back(rt.alloc(), PAIRS)?);
+    assert!(rt; comes_back(rt.alloc(), FOURS)?);
     assert!(rt; comes_back(rt.alloc(), TILES)?);
+    Ok(())
+}
+
+// As deep as the grammar allows.
+#[test]
+fn deepest(rt: HostRuntime) -> Result<(), Fail> {
+    let text = sums(rt.alloc(), 1023)?;
+    assert!(rt; comes_back(rt.alloc(), &text)?);
+    let text = sums_of_four(rt.alloc(), b"w0", 1023)?;
+    assert!(rt; comes_back(rt.alloc(), &text)?);
+    let text = loops(rt.alloc(), 1024)?;
+    assert!(rt; comes_back(rt.alloc(), &text)?);
+    let text = ifs(rt.alloc(), 1024)?;
+    assert!(rt; comes_back(rt.alloc(), &text)?);
     Ok(())
 }

@@ -1,7 +1,9 @@
-// Texts that are read as kernels, and texts that are no kernel's.
+//! Texts that are read as kernels, and texts that are no kernel's.
 
-use crate::forms::{END, HEAD, NO_DECLARATIONS, NO_STATEMENTS, OPENING, STORE};
-use itoa::Buffer;
+use crate::deep::{ifs, loops, put, sums, sums_of_four};
+use crate::forms::{
+    END, HEAD, NO_DECLARATIONS, NO_HEADS, NO_SIZES, NO_STATEMENTS, OPENING, SIZED, STORE, UNSIZED,
+};
 use kernel_reader::{KernelNo, read_kernel};
 use std::alloc::{AllocError, Global};
 use std::test::Fail;
@@ -24,6 +26,46 @@ const ENDS: [usize; 101] = [
     107, 108, 110, 111, 112, 114, 115, 116, 117, 119, 120, 121, 123, 124, 125, 126, 127, 129, 130,
     131, 132, 133, 137, 139, 140, 141, 142, 144, 145, 147, 148, 149, 150, 154, 156, 157, 159, 160,
     161, 162, 163, 164, 166, 167, 168, 169, 171, 172, 173, 174, 176, 177, 178, 179,
+];
+
+/// Four words are loaded, shifted and stored in loops and `if`s of a kernel for groups of four by
+/// two.
+const FOURS: &[u8] =
+    b"__kernel __attribute__((reqd_work_group_size(4, 2, 1))) void lift(__global const uint *a0, __global uint *o0, const uint s0)
+{
+  __local uint l0[8];
+  uint v0;
+  uint4 w0;
+  uint4 w1;
+  if ((uint)get_group_id(1) < s0) {
+    for (uint i0 = (uint)get_global_id(0); i0 < 2u; i0 += (uint)get_global_size(0)) {
+      w0 = vload4(i0, a0);
+      w1 = (min(w0, (uint4)(v0)) << (uint4)((i0 + 1u)));
+      vstore4(w1, (uint)get_local_id(1), l0);
+    }
+    if (0u < 1u) {
+      barrier(CLK_LOCAL_MEM_FENCE);
+    }
+  }
+  vstore4(w0, 0u, o0);
+}
+";
+
+/// Where the pieces of that text end, without the last.
+const ENDS_OF_FOURS: [usize; 252] = [
+    8, 9, 22, 23, 24, 44, 45, 46, 47, 48, 49, 50, 51, 52, 53, 54, 55, 56, 60, 61, 65, 66, 74, 75,
+    80, 81, 85, 86, 87, 89, 90, 91, 99, 100, 104, 105, 106, 108, 109, 110, 115, 116, 120, 121, 123,
+    124, 125, 126, 127, 129, 136, 137, 141, 142, 144, 145, 146, 147, 148, 149, 151, 155, 156, 158,
+    159, 160, 162, 167, 168, 170, 171, 172, 174, 179, 180, 182, 183, 184, 186, 188, 189, 190, 191,
+    195, 196, 208, 209, 210, 211, 212, 213, 214, 216, 217, 218, 219, 220, 224, 227, 228, 229, 233,
+    234, 236, 237, 238, 239, 240, 244, 245, 258, 259, 260, 261, 262, 263, 265, 266, 267, 268, 270,
+    271, 272, 274, 275, 276, 277, 278, 279, 283, 284, 299, 300, 301, 302, 303, 304, 305, 306, 312,
+    314, 315, 316, 317, 323, 324, 326, 327, 328, 330, 331, 332, 333, 339, 341, 342, 343, 344, 345,
+    348, 349, 351, 352, 353, 354, 359, 360, 361, 363, 364, 365, 366, 367, 368, 369, 370, 375, 376,
+    377, 378, 380, 381, 382, 383, 385, 386, 387, 388, 389, 390, 396, 403, 404, 406, 407, 408, 409,
+    413, 414, 426, 427, 428, 429, 430, 431, 433, 434, 435, 436, 440, 441, 442, 446, 448, 449, 450,
+    452, 453, 454, 455, 457, 458, 459, 460, 461, 467, 474, 475, 494, 495, 496, 497, 501, 502, 503,
+    505, 506, 507, 509, 516, 517, 519, 520, 521, 523, 524, 525, 527, 528, 529, 530, 531,
 ];
 
 /// A change of the text: at a byte so many are taken out, and others put there. And where the text
@@ -100,10 +142,6 @@ fn refused(alloc: Global, text: &[u8]) -> Result<Option<usize>, AllocError> {
     }
 }
 
-fn put(text: &mut Vec<u8>, bytes: &[u8]) -> Result<(), AllocError> {
-    text.extend_from_slice(bytes)
-}
-
 fn changed(
     alloc: Global,
     at: usize,
@@ -142,10 +180,19 @@ fn first_wrong(alloc: Global, changes: &[Change]) -> Result<Option<usize>, Alloc
     Ok(None)
 }
 
-fn first_wrong_cut(alloc: Global) -> Result<Option<usize>, AllocError> {
-    for end in ENDS {
-        if refused_with(alloc, end, 180, b"")? != Some(end) {
-            return Ok(Some(end));
+/// The first of the ends at which the text is cut and isn't refused.
+fn first_wrong_cut(
+    alloc: Global,
+    text: &[u8],
+    ends: &[usize],
+) -> Result<Option<usize>, AllocError> {
+    for end in ends {
+        let mut front = Vec::new(alloc);
+        for b in text.iter().take(*end) {
+            front.push(*b)?;
+        }
+        if refused(alloc, &front)? != Some(*end) {
+            return Ok(Some(*end));
         }
     }
     Ok(None)
@@ -172,59 +219,6 @@ fn first_taken(
     Ok(None)
 }
 
-fn put_number(text: &mut Vec<u8>, number: usize) -> Result<(), AllocError> {
-    let mut buffer = Buffer::new();
-    put(text, buffer.format(number).as_bytes())
-}
-
-fn put_indent(text: &mut Vec<u8>, levels: usize) -> Result<(), AllocError> {
-    for _i in 0..levels {
-        put(text, b"  ")?;
-    }
-    Ok(())
-}
-
-/// A store within so many loops, one in another.
-fn loops(alloc: Global, depth: u16) -> Result<Vec<u8>, AllocError> {
-    let mut text = Vec::from_slice(alloc, OPENING)?;
-    for i in 0..depth as usize {
-        put_indent(&mut text, i + 1)?;
-        put(&mut text, b"for (uint i")?;
-        put_number(&mut text, i)?;
-        put(&mut text, b" = 0u; i")?;
-        put_number(&mut text, i)?;
-        put(&mut text, b" < 1u; i")?;
-        put_number(&mut text, i)?;
-        put(&mut text, b" += 1u) {\n")?;
-    }
-    put_indent(&mut text, depth as usize + 1)?;
-    put(&mut text, b"o0[0u] = 0u;\n")?;
-    for i in 0..depth as usize {
-        put_indent(&mut text, depth as usize - i)?;
-        put(&mut text, b"}\n")?;
-    }
-    put(&mut text, END)?;
-    Ok(text)
-}
-
-/// A kernel that stores a sum of ones, so many sums deep.
-fn sums(alloc: Global, depth: usize) -> Result<Vec<u8>, AllocError> {
-    let mut text = Vec::new(alloc);
-    put(
-        &mut text,
-        b"__kernel void lift(__global uint *o0)\n{\n  o0[0u] = ",
-    )?;
-    for _i in 0..depth {
-        put(&mut text, b"(")?;
-    }
-    put(&mut text, b"1u")?;
-    for _i in 0..depth {
-        put(&mut text, b" + 1u)")?;
-    }
-    put(&mut text, b";\n}\n")?;
-    Ok(text)
-}
-
 #[test]
 fn adds_one(rt: HostRuntime) -> Result<(), Fail> {
     assert_eq!(rt; TEXT.len(), 180);
@@ -233,10 +227,13 @@ fn adds_one(rt: HostRuntime) -> Result<(), Fail> {
     Ok(())
 }
 
-// The text cut behind each of its pieces but the last.
+// The texts cut behind each of their pieces but the last.
 #[test]
 fn cuts(rt: HostRuntime) -> Result<(), Fail> {
-    assert_eq!(rt; first_wrong_cut(rt.alloc())?, None);
+    assert_eq!(rt; first_wrong_cut(rt.alloc(), TEXT, &ENDS)?, None);
+    assert_eq!(rt; FOURS.len(), 532);
+    assert_eq!(rt; refused(rt.alloc(), FOURS)?, None);
+    assert_eq!(rt; first_wrong_cut(rt.alloc(), FOURS, &ENDS_OF_FOURS)?, None);
     Ok(())
 }
 
@@ -263,6 +260,12 @@ fn deep_sums(rt: HostRuntime) -> Result<(), Fail> {
     assert_eq!(rt; refused(rt.alloc(), &deepest)?, None);
     let deeper = sums(rt.alloc(), 1024)?;
     assert_eq!(rt; refused(rt.alloc(), &deeper)?, Some(1075));
+    let deepest = sums_of_four(rt.alloc(), b"w0", 1023)?;
+    assert_eq!(rt; refused(rt.alloc(), &deepest)?, None);
+    let deeper = sums_of_four(rt.alloc(), b"w0", 1024)?;
+    assert_eq!(rt; refused(rt.alloc(), &deeper)?, Some(1083));
+    let deeper = sums_of_four(rt.alloc(), b"(uint4)(1u)", 1023)?;
+    assert_eq!(rt; refused(rt.alloc(), &deeper)?, Some(1090));
     Ok(())
 }
 
@@ -270,22 +273,31 @@ fn deep_sums(rt: HostRuntime) -> Result<(), Fail> {
 #[test]
 fn no_forms(rt: HostRuntime) -> Result<(), Fail> {
     assert_eq!(rt;
-        first_taken(rt.alloc(), HEAD, &NO_STATEMENTS, END, 127)?,
+        first_taken(rt.alloc(), HEAD, &NO_STATEMENTS, END, 139)?,
         None
     );
     assert_eq!(rt;
         first_taken(rt.alloc(), OPENING, &NO_DECLARATIONS, STORE, 40)?,
         None
     );
+    assert_eq!(rt;
+        first_taken(rt.alloc(), SIZED, &NO_SIZES, UNSIZED, 0)?,
+        None
+    );
+    assert_eq!(rt; first_taken(rt.alloc(), b"", &NO_HEADS, b"", 0)?, None);
     Ok(())
 }
 
-// Loops nest at most 1,024 deep: one more is refused at its first word.
+// Loops and ifs nest at most 1,024 deep: one more is refused at its first word.
 #[test]
 fn deep_loops(rt: HostRuntime) -> Result<(), Fail> {
     let deepest = loops(rt.alloc(), 1024)?;
     assert_eq!(rt; refused(rt.alloc(), &deepest)?, None);
     let deeper = loops(rt.alloc(), 1025)?;
     assert_eq!(rt; refused(rt.alloc(), &deeper)?, Some(1098536));
+    let deepest = ifs(rt.alloc(), 1024)?;
+    assert_eq!(rt; refused(rt.alloc(), &deepest)?, None);
+    let deeper = ifs(rt.alloc(), 1025)?;
+    assert_eq!(rt; refused(rt.alloc(), &deeper)?, Some(1067050));
     Ok(())
 }

@@ -1,18 +1,21 @@
 -- Each event leaves some item fewer events, so no run without a failure has more than the text allows.
-use Rattle.std.proofs.Common.{◌≡◌, ℕ, zero, suc, ◌+◌, ◌-◌, ◌*◌, ◌<◌, ◌≤◌, ◌^◌, List, [], ◌∷◌, length, Option, Some, None, refl, sym, ap, ◌∙◌, subst, ⊎_elim, arith, Bool, true, false}
+use Rattle.std.proofs.Common.{◌≡◌, ℕ, zero, suc, ◌+◌, ◌-◌, ◌*◌, ◌/◌, ◌<◌, ◌≤◌, ◌^◌, List, [], ◌∷◌, ◌++◌, length, length-append, inl, inr, ◌⊎◌, Option, Some, None, refl, sym, ap, ◌∙◌, subst, ⊎_elim, arith, Bool, true, false}
 use Rattle.std.specs.Prelude.{if◌then◌else◌, nat_lt}
 use Rattle.std.proofs.lemmas.Bool.{cases_lt, eqb-true, eq-eqb, ltb-true, cases_Bool}
 use Rattle.kernel_tree.specs.declared.events.Event.{Event}
 use Rattle.kernel_tree.specs.declared.events.Event.TheVariants.{Step, Release}
 use Rattle.kernel_tree.specs.declared.events.FaultKind.TheVariants.{LoopWrap}
-use Rattle.kernel_tree.specs.Formula.{Ids, value, bound_value}
-use Rattle.kernel_tree.specs.Code.{Stride, ByOne, ByGlobalSize, ByGroupCount, ByLocalSize, start_value, stride_value, Code, End, Assigns, Loads, Stores, Loops, Syncs, Kernel}
-use Rattle.kernel_tree.specs.Launch.{Launch, Cells, IsWhole, ids_of, item_count, group_count, first_item}
-use Rattle.kernel_tree.specs.Item.{Frame, Item, item, loop_variables, Wants, Ends, Waits, Moves, Reads, Writes, Fails, with_value, tested, next_turn, next_at, next}
-use Rattle.kernel_tree.specs.Device.{Device, device_of, cell_at, State, IsStart, Memory, wants, CanStep, StandTogether, Enabled, moves, taken, after, IsRun}
-use Rattle.kernel_tree.specs.Faults.{failure, failure_of, NoFailure}
+use Rattle.kernel_tree.specs.declared.tree.Dimension.{Dimension}
+use Rattle.kernel_tree.specs.declared.tree.Dimension.TheVariants.{X, Y}
+use Rattle.kernel_tree.specs.Formula.{IdsAlong, ids_along, Ids, along, Vars, Four, value, bound_value, lanes_value}
+use Rattle.kernel_tree.specs.Code.{Stride, ByOne, ByGlobalSize, ByGroupCount, ByLocalSize, start_value, stride_value, Code, End, Assigns, Loads, Stores, AssignsFour, LoadsFour, StoresFour, Loops, Guards, Syncs, then_rest, Kernel}
+use Rattle.kernel_tree.specs.Launch.{Launch, Cells, IsDivided, IsWhole, ids_of, item_count, column_of, row_of, first_item}
+use Rattle.kernel_tree.specs.Item.{Frame, Item, item, loop_variables, Wants, Ends, Waits, Moves, Reads, Writes, ReadsFour, WritesFour, Fails, with_value, tested, next_turn, next_at, next}
+use Rattle.kernel_tree.specs.Device.{Device, device_of, cell_at, four_at, four_words, State, IsStart, Memory, wants, CanStep, StandTogether, Enabled, moves, taken, after, run, IsRun}
+use Rattle.kernel_tree.specs.Faults.{failure, failure_of, NoFailure, Run}
 use Rattle.kernel_tree.specs.Bound.{or_zero, turns_in, cost, bound}
-use Rattle.kernel_tree.proofs.Grouping.{first_in_launch}
+use Rattle.kernel_tree.proofs.EveryRun.{is_run-front, is_run-back}
+use Rattle.kernel_tree.proofs.Grouping.{first_of_group, first_in_launch, some_items, row_below}
 use Rattle.kernel_tree.proofs.Confluence.{moves-first, items_kept}
 
 next_round : (b t body : ℕ) → t < b → (b - t) * (1 + body) ≡ (b - suc t) * (1 + body) + (1 + body)
@@ -20,17 +23,39 @@ next_round b t body h =
     let e : b - t ≡ suc (b - suc t) = omega arith in
     ap (λ n. n * (1 + body)) e ∙ (let m = b - suc t in omega arith)
 
--- no stride is 0
-pub record Strides (ids : Ids) : Type 0 where
+-- no stride along a dimension is 0
+pub record StridesAlong (ids : IdsAlong) : Type 0 where
   global_size : 0 < ids.global_size
   group_count : 0 < ids.group_count
   local_size : 0 < ids.local_size
 
+-- no stride is 0
+pub record Strides (ids : Ids) : Type 0 where
+  x : StridesAlong ids.x
+  y : StridesAlong ids.y
+
+strides_along : (ids : Ids) → Strides ids → (d : Dimension) → StridesAlong (along ids d)
+strides_along ids h X = h.x
+strides_along ids h Y = h.y
+
 stride_positive : (ids : Ids) → Strides ids → (c : Stride) → 0 < stride_value ids c
 stride_positive ids h ByOne = omega arith
-stride_positive ids h ByGlobalSize = h.global_size
-stride_positive ids h ByGroupCount = h.group_count
-stride_positive ids h ByLocalSize = h.local_size
+stride_positive ids h (ByGlobalSize d) = (strides_along ids h d).global_size
+stride_positive ids h (ByGroupCount d) = (strides_along ids h d).group_count
+stride_positive ids h (ByLocalSize d) = (strides_along ids h d).local_size
+
+-- a block and the rest cost what both do
+cost-then_rest : (sizes : List ℕ) (body rest : Code) → cost sizes (then_rest body rest) ≡ cost sizes body + cost sizes rest
+cost-then_rest sizes End rest = omega arith
+cost-then_rest sizes (Assigns v e more) rest = let a = cost-then_rest sizes more rest in omega arith
+cost-then_rest sizes (Loads v a i more) rest = let b = cost-then_rest sizes more rest in omega arith
+cost-then_rest sizes (Stores a i e more) rest = let b = cost-then_rest sizes more rest in omega arith
+cost-then_rest sizes (AssignsFour v e more) rest = let b = cost-then_rest sizes more rest in omega arith
+cost-then_rest sizes (LoadsFour v a i more) rest = let b = cost-then_rest sizes more rest in omega arith
+cost-then_rest sizes (StoresFour a i e more) rest = let b = cost-then_rest sizes more rest in omega arith
+cost-then_rest sizes (Loops s b c body more) rest = let a = cost-then_rest sizes more rest in let n = turns_in sizes b * (1 + cost sizes body) in omega arith
+cost-then_rest sizes (Guards s b body more) rest = let a = cost-then_rest sizes more rest in omega arith
+cost-then_rest sizes (Syncs p q more) rest = let a = cost-then_rest sizes more rest in omega arith
 
 module _ (sizes : List ℕ) where
   -- the events that are left after the innermost block
@@ -56,13 +81,15 @@ module _ (sizes : List ℕ) where
   Falls n (Moves x) = IsSound x × (left x < n)
   Falls n (Reads a i f) = (v : ℕ) → IsSound (f v) × (left (f v) < n)
   Falls n (Writes a i v x) = IsSound x × (left x < n)
+  Falls n (ReadsFour a i f) = (u : Four) → IsSound (f u) × (left (f u) < n)
+  Falls n (WritesFour a i u x) = IsSound x × (left x < n)
   Falls n (Fails f) = Unit {0}
 
-  falls_if : (n : ℕ) (o : Option ℕ) (go : ℕ → Wants) → ((v : ℕ) → o ≡ Some v → Falls n (go v)) → Falls n (with_value o go)
+  falls_if : {A : Type 0} (n : ℕ) (o : Option A) (go : A → Wants) → ((v : A) → o ≡ Some v → Falls n (go v)) → Falls n (with_value o go)
   falls_if n None go h = tt
   falls_if n (Some v) go h = h v refl
 
-  tested_falls : (n b : ℕ) (f : Frame) (fs : List Frame) (vars : List ℕ) → bound_value sizes f.bound ≡ Some b → f.turn ≤ f.variable → SoundFrames fs → (f.turn < turns_in sizes f.bound → cost sizes f.body + rest_cost (f ∷ fs) < n) → cost sizes f.after + rest_cost fs < n → Falls n (tested b f fs vars)
+  tested_falls : (n b : ℕ) (f : Frame) (fs : List Frame) (vars : Vars) → bound_value sizes f.bound ≡ Some b → f.turn ≤ f.variable → SoundFrames fs → (f.turn < turns_in sizes f.bound → cost sizes f.body + rest_cost (f ∷ fs) < n) → cost sizes f.after + rest_cost fs < n → Falls n (tested b f fs vars)
   tested_falls n b f fs vars q low sfs inside outside = go (nat_lt f.variable b) refl
     where
       go : (t : Bool) → nat_lt f.variable b ≡ t → Falls n (Moves (if nat_lt f.variable b then item f.body (f ∷ fs) vars else item f.after fs vars))
@@ -77,7 +104,7 @@ module _ (ids : Ids) (strides : Strides ids) where
   falls : (x : Item) → IsSound ids.sizes x → Falls ids.sizes (left ids.sizes x) (next_at ids x.code x.frames x.vars)
   falls x s = go x.code x.frames x.vars s
     where
-      again : (f : Frame) (fs : List Frame) (vars : List ℕ) (b : ℕ) → bound_value ids.sizes f.bound ≡ Some b → f.turn ≤ f.variable → f.turn < turns_in ids.sizes f.bound → SoundFrames ids.sizes fs → (t : Bool) → nat_lt (f.variable + stride_value ids f.stride) (2 ^ 32) ≡ t → Falls ids.sizes (0 + rest_cost ids.sizes (f ∷ fs)) (if nat_lt (f.variable + stride_value ids f.stride) (2 ^ 32) then tested b (next_turn ids f) fs vars else Fails LoopWrap)
+      again : (f : Frame) (fs : List Frame) (vars : Vars) (b : ℕ) → bound_value ids.sizes f.bound ≡ Some b → f.turn ≤ f.variable → f.turn < turns_in ids.sizes f.bound → SoundFrames ids.sizes fs → (t : Bool) → nat_lt (f.variable + stride_value ids f.stride) (2 ^ 32) ≡ t → Falls ids.sizes (0 + rest_cost ids.sizes (f ∷ fs)) (if nat_lt (f.variable + stride_value ids f.stride) (2 ^ 32) then tested b (next_turn ids f) fs vars else Fails LoopWrap)
       again f fs vars b q low below sfs true e =
           let positive = stride_positive ids strides f.stride in
           rw e (tested_falls ids.sizes (0 + rest_cost ids.sizes (f ∷ fs)) b (next_turn ids f) fs vars q (omega arith) sfs
@@ -85,16 +112,24 @@ module _ (ids : Ids) (strides : Strides ids) where
           (omega arith))
       again f fs vars b q low below sfs false e = rw e tt
 
-      go : (c : Code) (fs : List Frame) (vars : List ℕ) → SoundFrames ids.sizes fs → Falls ids.sizes (cost ids.sizes c + rest_cost ids.sizes fs) (next_at ids c fs vars)
+      go : (c : Code) (fs : List Frame) (vars : Vars) → SoundFrames ids.sizes fs → Falls ids.sizes (cost ids.sizes c + rest_cost ids.sizes fs) (next_at ids c fs vars)
       go End [] vars sf = tt
       go End (f ∷ fs) vars sf = falls_if ids.sizes _ (bound_value ids.sizes f.bound) _ (λ b q. again f fs vars b q sf.0 sf.1 sf.2 _ refl)
       go (Assigns v e after) fs vars sf = falls_if ids.sizes _ (value ids (loop_variables fs) vars e) _ (λ x q. (sf, omega arith))
       go (Loads v a i after) fs vars sf = falls_if ids.sizes _ (value ids (loop_variables fs) vars i) _ (λ n q y. (sf, omega arith))
       go (Stores a i e after) fs vars sf = falls_if ids.sizes _ (value ids (loop_variables fs) vars i) _ (λ n q. falls_if ids.sizes _ (value ids (loop_variables fs) vars e) _ (λ y r. (sf, omega arith)))
+      go (AssignsFour v e after) fs vars sf = falls_if ids.sizes _ (lanes_value ids (loop_variables fs) vars e) _ (λ x q. (sf, omega arith))
+      go (LoadsFour v a i after) fs vars sf = falls_if ids.sizes _ (value ids (loop_variables fs) vars i) _ (λ n q y. (sf, omega arith))
+      go (StoresFour a i e after) fs vars sf = falls_if ids.sizes _ (value ids (loop_variables fs) vars i) _ (λ n q. falls_if ids.sizes _ (lanes_value ids (loop_variables fs) vars e) _ (λ y r. (sf, omega arith)))
       go (Loops s b c body after) fs vars sf = falls_if ids.sizes _ (bound_value ids.sizes b) _ (λ n q.
           tested_falls ids.sizes _ n (record { turn = 0; variable = start_value ids s; bound = b; stride = c; body = body; after = after }) fs vars q (omega arith) sf
           (λ some. let r = next_round (turns_in ids.sizes b) 0 (cost ids.sizes body) some in let z : turns_in ids.sizes b - 0 ≡ turns_in ids.sizes b = omega arith in let w = ap (λ m. m * (1 + cost ids.sizes body)) z in omega arith)
           (omega arith))
+      go (Guards s b body after) fs vars sf = falls_if ids.sizes _ (bound_value ids.sizes b) _ (λ n q. guarded (nat_lt (start_value ids s) n))
+        where
+          guarded : (t : Bool) → Falls ids.sizes (1 + cost ids.sizes body + cost ids.sizes after + rest_cost ids.sizes fs) (Moves (if t then item (then_rest body after) fs vars else item after fs vars))
+          guarded true = (sf, (let e = cost-then_rest ids.sizes body after in omega arith))
+          guarded false = (sf, omega arith)
       go (Syncs p g after) fs vars sf = (sf, omega arith)
 
 -- over all items
@@ -131,14 +166,26 @@ taken_falls sizes l k n (Waits a b x) m y f d = f
 taken_falls sizes l k n (Moves x) m y f d = f
 taken_falls sizes l k n (Reads a i x) m y f d = f (m (cell_at l k a i))
 taken_falls sizes l k n (Writes a i v x) m y f d = f
+taken_falls sizes l k n (ReadsFour a i x) m y f d = f (four_words m (four_at l k a i))
+taken_falls sizes l k n (WritesFour a i u x) m y f d = f
 
 product_positive : (n m : ℕ) → 0 < n * m → 0 < n
 product_positive n m h = grind arith
 
+divided : (global local place : ℕ) → IsDivided global local → 0 < global → StridesAlong (ids_along global local place)
+divided global local place whole some = record {
+  global_size = some;
+  group_count = product_positive (global / local) local (subst (λ n. 0 < n) whole.divides some);
+  local_size = whole.positive;
+}
+
 strides_of : (l : Launch) → IsWhole l → (k : ℕ) → k < item_count l → Strides (ids_of l k)
 strides_of l whole k h =
-    let some : 0 < item_count l = omega arith in
-    record { global_size = some; group_count = product_positive (group_count l) l.local (subst (λ n. 0 < n) whole.divides some); local_size = whole.positive }
+    let low = row_below l whole k h in
+    record {
+      x = divided l.global.0 l.local.0 (column_of l k) whole.x (some_items l whole k h);
+      y = divided l.global.1 l.local.1 (row_of l k) whole.y (let rows : 0 < l.global.1 = omega arith in rows);
+    }
 
 step_down : (d : Device) (w : Wants) → CanStep w → failure d w ≡ None → GoesDown w
 unfolding GoesDown
@@ -148,6 +195,8 @@ step_down d (Waits a b x) c q = tt
 step_down d (Moves x) c q = tt
 step_down d (Reads a i x) c q = tt
 step_down d (Writes a i v x) c q = tt
+step_down d (ReadsFour a i x) c q = tt
+step_down d (WritesFour a i u x) c q = tt
 
 stand_down : (v w : Wants) → StandTogether v w → GoesDown w
 unfolding GoesDown
@@ -190,7 +239,12 @@ module _ (d : Device) (whole : IsWhole d.launch) where
   some_item s (Step k) en = (k, en.0, eq-eqb k k refl)
   some_item s (Release g) en = (first_item d.launch g, first_in_launch d.launch whole g en.0, moves-first d whole g)
 
-  pub bounded : (s : State) (es : List Event) → SoundState s → IsRun d s es → NoFailure d s es → length es ≤ left_in s
+  sound_through : (s : State) (es : List Event) → SoundState s → IsRun d s es → NoFailure d s es → SoundState (run d s es)
+  sound_through s [] sound r ok = sound
+  sound_through s (e ∷ es) sound r ok = sound_through (after d s e) es (sound_on s e sound r.0 ok.0) r.1 ok.1
+
+  -- what a run takes and what it leaves
+  pub bounded : (s : State) (es : List Event) → SoundState s → IsRun d s es → NoFailure d s es → length es + left_in (run d s es) ≤ left_in s
   bounded s [] sound r ok = omega arith
   bounded s (e ∷ es) sound r ok =
       let rest = bounded (after d s e) es (sound_on s e sound r.0 ok.0) r.1 ok.1 in
@@ -198,10 +252,78 @@ module _ (d : Device) (whole : IsWhole d.launch) where
       let less = total_less (left_at s) (left_at (after d s e)) (item_count d.launch) j.0 (no_more_left s e sound r.0 ok.0) j.1 (item_falls s e sound r.0 ok.0 j.0 j.1 j.2).1 in
       omega arith
 
--- a kernel's run from its start
+  -- an item that has not ended has an event left
+  left_to_do : (ids : Ids) (c : Code) (fs : List Frame) (vars : Vars) → (next_at ids c fs vars ≡ Ends → ⊥) → 0 < left d.launch.sizes (item c fs vars)
+  left_to_do ids End [] vars h = absurd (h refl)
+  left_to_do ids End (f ∷ fs) vars h = omega arith
+  left_to_do ids (Assigns v e after) fs vars h = omega arith
+  left_to_do ids (Loads v a i after) fs vars h = omega arith
+  left_to_do ids (Stores a i e after) fs vars h = omega arith
+  left_to_do ids (AssignsFour v e after) fs vars h = omega arith
+  left_to_do ids (LoadsFour v a i after) fs vars h = omega arith
+  left_to_do ids (StoresFour a i e after) fs vars h = omega arith
+  left_to_do ids (Loops s b c body after) fs vars h = omega arith
+  left_to_do ids (Guards s b body after) fs vars h = omega arith
+  left_to_do ids (Syncs p q after) fs vars h = omega arith
+
+  moving_item : (s : State) (e : Event) → Enabled d s e → (j : ℕ) × (j < item_count d.launch) × (wants d s j ≡ Ends → ⊥)
+  moving_item s (Step k) en = (k, en.0, λ q. subst CanStep q en.1)
+  moving_item s (Release g) en =
+      (first_item d.launch g, first_in_launch d.launch whole g en.0, λ q. none_ended (wants d s (first_item d.launch g)) (en.1 (first_item d.launch g) (first_of_group d.launch whole g)) q)
+    where
+      none_ended : (w : Wants) → StandTogether w w → w ≡ Ends → ⊥
+      none_ended w t q = subst (λ x. StandTogether x x) q t
+
+  -- where an event is enabled, one is left
+  some_left : (s : State) (e : Event) → Enabled d s e → 0 < left_in s
+  unfolding next
+  some_left s e en =
+      let j = moving_item s e en in
+      let some = left_to_do (ids_of d.launch j.0) (s.items j.0).code (s.items j.0).frames (s.items j.0).vars j.2 in
+      let less = total_less (left_at s) (λ k. left_at s k - 1) (item_count d.launch) j.0 (λ k lt. let n = left_at s k in omega arith) j.1 (let n = left_at s j.0 in omega arith) in
+      omega arith
+
+  -- one more event than in a run without a failure
+  pub bounded_with_last : (s : State) (es : List Event) (e : Event) → SoundState s → IsRun d s es → NoFailure d s es → Enabled d (run d s es) e → length es + 1 ≤ left_in s
+  bounded_with_last s es e sound r ok en = let a = bounded s es sound r ok in let b = some_left (run d s es) e en in omega arith
+
+-- a list has a last member, or none
+last_first : (es : List Event) → (es ≡ []) ⊎ ((front : List Event) × (last : Event) × (es ≡ front ++ last ∷ []))
+last_first [] = inl refl
+last_first (e ∷ es) = inr (go (last_first es))
+  where
+    go : ((es ≡ []) ⊎ ((front : List Event) × (last : Event) × (es ≡ front ++ last ∷ []))) → (front : List Event) × (last : Event) × (e ∷ es ≡ front ++ last ∷ [])
+    go (inl q) = ([], e, ap (λ x. e ∷ x) q)
+    go (inr (front, last, q)) = (e ∷ front, last, ap (λ x. e ∷ x) q)
+
+-- a kernel's runs from its start
+
+start_sound : (k : Kernel) (l : Launch) (c : Cells) (whole : IsWhole l) (s : State) → IsStart k l c s → SoundState (device_of k l c) whole s
+start_sound k l c whole s start = λ j b. subst (IsSound l.sizes) (sym (start.items j b)) tt
+
+left_at_start : (k : Kernel) (l : Launch) (c : Cells) (whole : IsWhole l) (s : State) → IsStart k l c s → left_in (device_of k l c) whole s ≡ bound k l
+left_at_start k l c whole s start =
+    total_same (λ j. left l.sizes (s.items j)) (item_count l) (cost l.sizes k.code) (λ j b. ap (left l.sizes) (start.items j b) ∙ (let z : cost l.sizes k.code + 0 ≡ cost l.sizes k.code = omega arith in z))
+
 pub within_bound : (k : Kernel) (l : Launch) (c : Cells) (s : State) (es : List Event) → IsWhole l → IsStart k l c s → IsRun (device_of k l c) s es → NoFailure (device_of k l c) s es → length es ≤ bound k l
 within_bound k l c s es whole start r ok =
-    let d = device_of k l c in
-    let low = bounded d whole s es (λ j b. subst (IsSound l.sizes) (sym (start.items j b)) tt) r ok in
-    let all = total_same (λ j. left l.sizes (s.items j)) (item_count l) (cost l.sizes k.code) (λ j b. ap (left l.sizes) (start.items j b) ∙ (let z : cost l.sizes k.code + 0 ≡ cost l.sizes k.code = omega arith in z)) in
+    let low = bounded (device_of k l c) whole s es (start_sound k l c whole s start) r ok in
+    let all = left_at_start k l c whole s start in
     omega arith
+
+-- the last event may fail
+pub run_within_bound : (k : Kernel) (l : Launch) (c : Cells) (s : State) (es : List Event) → IsWhole l → IsStart k l c s → Run (device_of k l c) s es → length es ≤ bound k l
+run_within_bound k l c s es whole start r = by_last (last_first es) r
+  where
+    d : Device
+    d = device_of k l c
+
+    by_last : ((es ≡ []) ⊎ ((front : List Event) × (last : Event) × (es ≡ front ++ last ∷ []))) → Run d s es → length es ≤ bound k l
+    by_last (inl e) r = subst (λ x. length x ≤ bound k l) (sym e) (omega arith)
+    by_last (inr (front, last, e)) r =
+        let ok = (r.none_after_fault front last e).no_failure in
+        let whole_run : IsRun d s (front ++ last ∷ []) = subst (IsRun d s) e r.enabled in
+        let low = bounded_with_last d whole s front last (start_sound k l c whole s start) (is_run-front d s front (last ∷ []) whole_run) ok (is_run-back d s front (last ∷ []) whole_run).0 in
+        let all = left_at_start k l c whole s start in
+        let n : length (front ++ last ∷ []) ≡ length front + 1 = length-append front (last ∷ []) in
+        subst (λ x. length x ≤ bound k l) (sym e) (omega arith)

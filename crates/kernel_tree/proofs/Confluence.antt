@@ -5,15 +5,16 @@ use Rattle.std.specs.List.{sum_by}
 use Rattle.std.specs.Prelude.{cond, ◌==◌, ◌&&◌, if◌then◌else◌, count_by}
 use Rattle.std.proofs.Math.Path.{fun_ext}
 use Rattle.std.proofs.lemmas.Bool.{and_parts, both_ways, cases_eq, eq-eqb, eqb-true, ne_eqb}
-use Rattle.kernel_tree.specs.Item.{Item, Wants, Ends, Waits, Reads, Writes, next}
+use Rattle.kernel_tree.specs.Item.{Item, Wants, Ends, Waits, Reads, ReadsFour, next}
 use Rattle.kernel_tree.specs.declared.events.Event.{Event}
 use Rattle.kernel_tree.specs.declared.events.Event.TheVariants.{Step, Release}
 use Rattle.kernel_tree.specs.Code.{Array, Input, Output, Local, Private}
-use Rattle.kernel_tree.specs.Launch.{IsWhole, group_of, first_item, ids_of}
+use Rattle.kernel_tree.specs.Launch.{Launch, IsWhole, group_of, first_item, ids_of}
 use Rattle.kernel_tree.specs.Device.{Device, Cell, State, Memory, Fence, same_array, same_cell, fence_of, wants, CanStep, StandTogether, Enabled, moves, taken, stored, has_flag, releases, after, run, IsRun, IsStuck, write}
 use Rattle.kernel_tree.specs.Faults.{Access, access_at, accessed, accesses_of, accesses, Among, IsRace, failure, failure_of, NoFailure, NoRace}
 use Rattle.kernel_tree.specs.Histories.{Act, act_of, acts_of, history}
 use Rattle.kernel_tree.proofs.Grouping.{first_of_group}
+use Rattle.kernel_tree.proofs.Accessed.{Put, puts, gets, cells_of, put_all, stored_is, get_made, put_made, four_words-same}
 
 -- two events touch no item together
 abbrev pub Apart : Device → Event → Event → Type 0
@@ -130,6 +131,24 @@ write-commute c d v w m n = fun_ext (λ e. go e (same_cell e c) (same_cell e d) 
     go e true false p q = refl
     go e false b p q = refl
 
+-- many words
+pub put_all-other : (ps : List Put) (m : Memory) (d : Cell) → (Among d (cells_of ps) → ⊥) → put_all ps m d ≡ m d
+put_all-other [] m d n = refl
+put_all-other (p ∷ ps) m d n = put_all-other ps (write p.0 p.1 m) d (λ h. n (inr h)) ∙ write-other p.0 d p.1 m (λ e. n (inl e))
+
+put_one-commute : (c : Cell) (v : ℕ) (ps : List Put) (m : Memory) → (Among c (cells_of ps) → ⊥) → write c v (put_all ps m) ≡ put_all ps (write c v m)
+put_one-commute c v [] m n = refl
+put_one-commute c v (p ∷ ps) m n =
+    put_one-commute c v ps (write p.0 p.1 m) (λ h. n (inr h)) ∙ ap (put_all ps) (write-commute c p.0 v p.1 m (λ e. n (inl e)))
+
+put_all-commute : (ps qs : List Put) (m : Memory) → ((c : Cell) → Among c (cells_of ps) → Among c (cells_of qs) → ⊥) → put_all ps (put_all qs m) ≡ put_all qs (put_all ps m)
+put_all-commute [] qs m apart = refl
+put_all-commute (p ∷ ps) qs m apart =
+    ap (put_all ps) (put_one-commute p.0 p.1 qs m (λ h. apart p.0 (inl refl) h)) ∙ put_all-commute ps qs (write p.0 p.1 m) (λ c h. apart c (inr h))
+
+stored-other : (l : Launch) (k : ℕ) (w : Wants) (m : Memory) (c : Cell) → (Among c (cells_of (puts l k w)) → ⊥) → stored l k w m c ≡ m c
+stored-other l k w m c n = ap (λ (x : Memory). x c) (stored_is l k w m) ∙ put_all-other (puts l k w) m c n
+
 module _ (d : Device) (s : State) where
   -- accesses of two items to one cell, one a write, race
   race_when : (k m g h : ℕ) (c b : Cell) (w v : Bool) → k ≢ m → c ≡ b → (w ≡ true) ⊎ (v ≡ true) → IsRace (access_at g k c w (s.epochs g)) (access_at h m b v (s.epochs h))
@@ -143,19 +162,31 @@ module _ (d : Device) (s : State) where
   Clear : (k m : ℕ) → Wants → Wants → Type 0
   Clear k m w v = (a b : Access) → Among a (accessed d.launch k w (s.epochs (group_of d.launch k))) → Among b (accessed d.launch m v (s.epochs (group_of d.launch m))) → IsRace a b → ⊥
 
-  taken_kept : (k m : ℕ) (w v : Wants) (y : Item) → k ≢ m → Clear k m w v → taken d.launch k w (stored d.launch m v s.memory) y ≡ taken d.launch k w s.memory y
+  -- neither writes what the other accesses
+  get_apart : (k m : ℕ) (w v : Wants) → k ≢ m → Clear k m w v → (c : Cell) → Among c (gets d.launch k w) → Among c (cells_of (puts d.launch m v)) → ⊥
   unfolding Clear
-  taken_kept k m (Reads a n f) (Writes b i x z) y ne clear =
-      ap f (write-other _ _ x s.memory (λ e. clear _ _ (inl refl) (inl refl) (race_when k m _ _ _ _ false true ne e (inr refl))))
-  taken_kept k m (Reads a n f) _ y ne clear = refl
+  get_apart k m w v ne clear c i j =
+      clear _ _ (get_made d.launch k w _ c i) (put_made d.launch m v _ c j) (race_when k m _ _ c c false true ne refl (inr refl))
+
+  put_apart : (k m : ℕ) (w v : Wants) → k ≢ m → Clear k m w v → (c : Cell) → Among c (cells_of (puts d.launch k w)) → Among c (cells_of (puts d.launch m v)) → ⊥
+  unfolding Clear
+  put_apart k m w v ne clear c i j =
+      clear _ _ (put_made d.launch k w _ c i) (put_made d.launch m v _ c j) (race_when k m _ _ c c true true ne refl (inl refl))
+
+  taken_kept : (k m : ℕ) (w v : Wants) (y : Item) → k ≢ m → Clear k m w v → taken d.launch k w (stored d.launch m v s.memory) y ≡ taken d.launch k w s.memory y
+  taken_kept k m (Reads a n f) v y ne clear = ap f (stored-other d.launch m v s.memory _ (λ h. get_apart k m (Reads a n f) v ne clear _ (inl refl) h))
+  taken_kept k m (ReadsFour a n f) v y ne clear =
+      ap f (four_words-same _ _ _ (λ b i. stored-other d.launch m v s.memory b (λ h. get_apart k m (ReadsFour a n f) v ne clear b i h)))
   taken_kept k m _ v y ne clear = refl
 
   stored_commute : (k m : ℕ) (w v : Wants) → k ≢ m → Clear k m w v → stored d.launch k w (stored d.launch m v s.memory) ≡ stored d.launch m v (stored d.launch k w s.memory)
-  unfolding Clear
-  stored_commute k m (Writes a n u y) (Writes b i x z) ne clear =
-      write-commute _ _ u x s.memory (λ e. clear _ _ (inl refl) (inl refl) (race_when k m _ _ _ _ true true ne e (inl refl)))
-  stored_commute k m (Writes a n u y) _ ne clear = refl
-  stored_commute k m _ v ne clear = refl
+  stored_commute k m w v ne clear =
+      let here = puts d.launch k w in
+      let there = puts d.launch m v in
+      ap (stored d.launch k w) (stored_is d.launch m v s.memory)
+      ∙ stored_is d.launch k w (put_all there s.memory)
+      ∙ put_all-commute here there s.memory (λ c i j. put_apart k m w v ne clear c i j)
+      ∙ sym (ap (stored d.launch m v) (stored_is d.launch k w s.memory) ∙ stored_is d.launch m v (put_all here s.memory))
 
 -- two events that are enabled together, and whose accesses don't race, may be swapped
 

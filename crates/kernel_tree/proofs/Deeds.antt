@@ -1,15 +1,15 @@
 -- Rules for one item, a statement at a time, and what they say of the device.
 use Rattle.std.proofs.Common.{◌≡◌, ℕ, zero, suc, ◌+◌, ◌*◌, ◌<◌, ◌≤◌, ◌^◌, List, [], ◌∷◌, ◌++◌, Some, None, Bool, true, false, refl, sym, ap, ◌∙◌, subst, arith}
-use Rattle.std.specs.Prelude.{◌==◌, if◌then◌else◌, nat_lt, slice_set}
+use Rattle.std.specs.Prelude.{◌==◌, if◌then◌else◌, nat_lt}
 use Rattle.std.proofs.lemmas.Bool.{eq-eqb, eqb-true, lt-ltb, le-ltb}
 use Rattle.kernel_tree.specs.declared.events.Event.TheVariants.{Step}
-use Rattle.kernel_tree.specs.Formula.{Formula, value, bound_value}
-use Rattle.kernel_tree.specs.Code.{Array, Start, Stride, start_value, stride_value, Code, End, Assigns, Loads, Stores, Loops}
+use Rattle.kernel_tree.specs.Formula.{Formula, Lanes, Four, Vars, set_word, set_vector, value, bound_value, lanes_value}
+use Rattle.kernel_tree.specs.Code.{Array, Start, Stride, start_value, stride_value, Code, End, Assigns, Loads, Stores, AssignsFour, LoadsFour, StoresFour, Loops, Guards, then_rest}
 use Rattle.kernel_tree.specs.Launch.{group_of, ids_of, item_count}
-use Rattle.kernel_tree.specs.Item.{Item, item, Frame, loop_variables, Wants, Moves, Reads, Writes, next, tested}
-use Rattle.kernel_tree.specs.Device.{Device, Cell, cell_at, State, Memory, Fence, write, wants, CanStep, taken, stored, after}
-use Rattle.kernel_tree.specs.Faults.{access_at, accessed, accesses_of, accesses, failure, failure_of}
-use Rattle.kernel_tree.specs.Deeds.{alone_state, AloneRun, Deed, Moved, Got, Gave, Does, Goes, deed_memory, written, deed_access, steps_of, all_turns}
+use Rattle.kernel_tree.specs.Item.{Item, item, Frame, loop_variables, Wants, Moves, Reads, Writes, ReadsFour, WritesFour, next, tested}
+use Rattle.kernel_tree.specs.Device.{Device, Cell, cell_at, four_at, four_words, write_four, State, Memory, Fence, write, wants, CanStep, taken, stored, after}
+use Rattle.kernel_tree.specs.Faults.{access_at, access_four, accessed, accesses_of, accesses, failure, failure_of}
+use Rattle.kernel_tree.specs.Deeds.{alone_state, AloneRun, Deed, Moved, Got, Gave, GotFour, GaveFour, Does, Goes, deed_memory, written, deed_access, steps_of, all_turns}
 use Rattle.kernel_tree.proofs.Confluence.{state_path}
 
 module _ (d : Device) (k : ℕ) where
@@ -23,18 +23,46 @@ module _ (d : Device) (k : ℕ) where
   pub goes_moved : (x y : Item) (m : Memory) → next (ids_of d.launch k) x ≡ Moves y → Goes d k x m (Moved ∷ []) y
   goes_moved x y m e = goes_once x y m Moved (rw e refl)
 
-  module _ (fs : List Frame) (vars : List ℕ) (m : Memory) where
-    pub goes_assign : (v : ℕ) (e : Formula) (rest : Code) (x : ℕ) → value (ids_of d.launch k) (loop_variables fs) vars e ≡ Some x → Goes d k (item (Assigns v e rest) fs vars) m (Moved ∷ []) (item rest fs (slice_set vars v x))
+  module _ (fs : List Frame) (vars : Vars) (m : Memory) where
+    pub goes_assign : (v : ℕ) (e : Formula) (rest : Code) (x : ℕ) → value (ids_of d.launch k) (loop_variables fs) vars e ≡ Some x → Goes d k (item (Assigns v e rest) fs vars) m (Moved ∷ []) (item rest fs (set_word vars v x))
     unfolding next
-    goes_assign v e rest x h = goes_once (item (Assigns v e rest) fs vars) (item rest fs (slice_set vars v x)) m Moved (rw h refl)
+    goes_assign v e rest x h = goes_once (item (Assigns v e rest) fs vars) (item rest fs (set_word vars v x)) m Moved (rw h refl)
 
-    pub goes_load : (v : ℕ) (a : Array) (i : Formula) (rest : Code) (c : Cell) (n x : ℕ) → value (ids_of d.launch k) (loop_variables fs) vars i ≡ Some n → cell_at d.launch k a n ≡ c → n < d.lengths a → m c ≡ x → Goes d k (item (Loads v a i rest) fs vars) m (Got c ∷ []) (item rest fs (slice_set vars v x))
+    pub goes_load : (v : ℕ) (a : Array) (i : Formula) (rest : Code) (c : Cell) (n x : ℕ) → value (ids_of d.launch k) (loop_variables fs) vars i ≡ Some n → cell_at d.launch k a n ≡ c → n < d.lengths a → m c ≡ x → Goes d k (item (Loads v a i rest) fs vars) m (Got c ∷ []) (item rest fs (set_word vars v x))
     unfolding next
-    goes_load v a i rest c n x h e within q = goes_once (item (Loads v a i rest) fs vars) (item rest fs (slice_set vars v x)) m (Got c) (rw h (e, within, ap (λ y. item rest fs (slice_set vars v y)) q))
+    goes_load v a i rest c n x h e within q = goes_once (item (Loads v a i rest) fs vars) (item rest fs (set_word vars v x)) m (Got c) (rw h (e, within, ap (λ y. item rest fs (set_word vars v y)) q))
 
     pub goes_store : (a : Array) (i e : Formula) (rest : Code) (c : Cell) (n x : ℕ) → value (ids_of d.launch k) (loop_variables fs) vars i ≡ Some n → value (ids_of d.launch k) (loop_variables fs) vars e ≡ Some x → cell_at d.launch k a n ≡ c → n < d.lengths a → Goes d k (item (Stores a i e rest) fs vars) m (Gave c x ∷ []) (item rest fs vars)
     unfolding next
     goes_store a i e rest c n x h j q within = goes_once (item (Stores a i e rest) fs vars) (item rest fs vars) m (Gave c x) (rw (h, j) (q, within, refl, refl))
+
+    -- the same of four words
+
+    pub goes_assign_four : (v : ℕ) (e : Lanes) (rest : Code) (u : Four) → lanes_value (ids_of d.launch k) (loop_variables fs) vars e ≡ Some u → Goes d k (item (AssignsFour v e rest) fs vars) m (Moved ∷ []) (item rest fs (set_vector vars v u))
+    unfolding next
+    goes_assign_four v e rest u h = goes_once (item (AssignsFour v e rest) fs vars) (item rest fs (set_vector vars v u)) m Moved (rw h refl)
+
+    pub goes_load_four : (v : ℕ) (a : Array) (i : Formula) (rest : Code) (c : Cell) (n : ℕ) (u : Four) → value (ids_of d.launch k) (loop_variables fs) vars i ≡ Some n → four_at d.launch k a n ≡ c → 4 * n + 3 < d.lengths a → four_words m c ≡ u → Goes d k (item (LoadsFour v a i rest) fs vars) m (GotFour c ∷ []) (item rest fs (set_vector vars v u))
+    unfolding next
+    goes_load_four v a i rest c n u h e within q =
+        goes_once (item (LoadsFour v a i rest) fs vars) (item rest fs (set_vector vars v u)) m (GotFour c) (rw h (e, within, ap (λ y. item rest fs (set_vector vars v y)) q))
+
+    pub goes_store_four : (a : Array) (i : Formula) (e : Lanes) (rest : Code) (c : Cell) (n : ℕ) (u : Four) → value (ids_of d.launch k) (loop_variables fs) vars i ≡ Some n → lanes_value (ids_of d.launch k) (loop_variables fs) vars e ≡ Some u → four_at d.launch k a n ≡ c → 4 * n + 3 < d.lengths a → Goes d k (item (StoresFour a i e rest) fs vars) m (GaveFour c u ∷ []) (item rest fs vars)
+    unfolding next
+    goes_store_four a i e rest c n u h j q within =
+        goes_once (item (StoresFour a i e rest) fs vars) (item rest fs vars) m (GaveFour c u) (rw (h, j) (q, within, refl, refl))
+
+    -- an if
+
+    pub goes_in : (s : Start) (b : Formula) (body rest : Code) (n : ℕ) → bound_value d.launch.sizes b ≡ Some n → start_value (ids_of d.launch k) s < n → Goes d k (item (Guards s b body rest) fs vars) m (Moved ∷ []) (item (then_rest body rest) fs vars)
+    unfolding next
+    goes_in s b body rest n h low =
+        goes_once (item (Guards s b body rest) fs vars) (item (then_rest body rest) fs vars) m Moved (rw (h, lt-ltb _ _ low) refl)
+
+    pub goes_past : (s : Start) (b : Formula) (body rest : Code) (n : ℕ) → bound_value d.launch.sizes b ≡ Some n → n ≤ start_value (ids_of d.launch k) s → Goes d k (item (Guards s b body rest) fs vars) m (Moved ∷ []) (item rest fs vars)
+    unfolding next
+    goes_past s b body rest n h high =
+        goes_once (item (Guards s b body rest) fs vars) (item rest fs vars) m Moved (rw (h, le-ltb _ _ high) refl)
 
   -- a loop: its variable is start, start + by, start + 2 * by ..
   module _ (fs : List Frame) (bound : ℕ) (s : Start) (b : Formula) (c : Stride) (body rest : Code) where
@@ -48,39 +76,39 @@ module _ (d : Device) (k : ℕ) where
     frame_at t = record { turn = t; variable = start + t * by; bound = b; stride = c; body = body; after = rest }
 
     -- the item after the test of turn t
-    pub tested_at : ℕ → List ℕ → Item
+    pub tested_at : ℕ → Vars → Item
     tested_at t vars = if nat_lt (start + t * by) bound then item body (frame_at t ∷ fs) vars else item rest fs vars
 
-    frame_is : (t n x : ℕ) (vars : List ℕ) → x ≡ start + t * by → tested n (record { turn = t; variable = x; bound = b; stride = c; body = body; after = rest }) fs vars ≡ tested n (frame_at t) fs vars
+    frame_is : (t n x : ℕ) (vars : Vars) → x ≡ start + t * by → tested n (record { turn = t; variable = x; bound = b; stride = c; body = body; after = rest }) fs vars ≡ tested n (frame_at t) fs vars
     frame_is t n x vars e = ap (λ y. tested n (record { turn = t; variable = y; bound = b; stride = c; body = body; after = rest }) fs vars) e
 
-    pub next_enter : (vars : List ℕ) → bound_value d.launch.sizes b ≡ Some bound → next (ids_of d.launch k) (item (Loops s b c body rest) fs vars) ≡ Moves (tested_at 0 vars)
+    pub next_enter : (vars : Vars) → bound_value d.launch.sizes b ≡ Some bound → next (ids_of d.launch k) (item (Loops s b c body rest) fs vars) ≡ Moves (tested_at 0 vars)
     unfolding next tested_at
     next_enter vars hb = rw hb (frame_is 0 bound start vars (let e : start ≡ start + 0 * by = omega arith in e))
 
-    pub next_again : (t : ℕ) (vars : List ℕ) → bound_value d.launch.sizes b ≡ Some bound → start + suc t * by < 2 ^ 32 → next (ids_of d.launch k) (item End (frame_at t ∷ fs) vars) ≡ Moves (tested_at (suc t) vars)
+    pub next_again : (t : ℕ) (vars : Vars) → bound_value d.launch.sizes b ≡ Some bound → start + suc t * by < 2 ^ 32 → next (ids_of d.launch k) (item End (frame_at t ∷ fs) vars) ≡ Moves (tested_at (suc t) vars)
     unfolding next tested_at
     next_again t vars hb fits =
         let e : start + t * by + by ≡ start + suc t * by = omega arith in
         rw (hb, e, lt-ltb _ _ fits) refl
 
-    pub inside : (t : ℕ) (vars : List ℕ) → start + t * by < bound → tested_at t vars ≡ item body (frame_at t ∷ fs) vars
+    pub inside : (t : ℕ) (vars : Vars) → start + t * by < bound → tested_at t vars ≡ item body (frame_at t ∷ fs) vars
     unfolding tested_at
     inside t vars h = rw (lt-ltb _ _ h) refl
 
-    pub outside : (t : ℕ) (vars : List ℕ) → bound ≤ start + t * by → tested_at t vars ≡ item rest fs vars
+    pub outside : (t : ℕ) (vars : Vars) → bound ≤ start + t * by → tested_at t vars ≡ item rest fs vars
     unfolding tested_at
     outside t vars h = rw (le-ltb _ _ h) refl
 
     -- a loop of n turns, with the variables vs t and the deeds ds t at turn t
-    pub record Turns (n : ℕ) (vs : ℕ → List ℕ) (m : Memory) (ds : ℕ → List Deed) : Type 0 where
+    pub record Turns (n : ℕ) (vs : ℕ → Vars) (m : Memory) (ds : ℕ → List Deed) : Type 0 where
       pub bound_is : bound_value d.launch.sizes b ≡ Some bound
       pub below : (t : ℕ) → t < n → start + t * by < bound
       pub past : bound ≤ start + n * by
       pub fits : (t : ℕ) → t < n → start + suc t * by < 2 ^ 32
       pub turn : (t : ℕ) → t < n → Goes d k (item body (frame_at t ∷ fs) (vs t)) (written (all_turns ds t) m) (ds t) (item End (frame_at t ∷ fs) (vs (suc t)))
 
-    goes_turns : (n : ℕ) (vs : ℕ → List ℕ) (m : Memory) (ds : ℕ → List Deed) → Turns n vs m ds → (t : ℕ) → t ≤ n → Goes d k (item (Loops s b c body rest) fs (vs 0)) m (Moved ∷ all_turns ds t) (tested_at t (vs t))
+    goes_turns : (n : ℕ) (vs : ℕ → Vars) (m : Memory) (ds : ℕ → List Deed) → Turns n vs m ds → (t : ℕ) → t ≤ n → Goes d k (item (Loops s b c body rest) fs (vs 0)) m (Moved ∷ all_turns ds t) (tested_at t (vs t))
     goes_turns n vs m ds h zero le = goes_moved _ _ m (next_enter (vs 0) h.bound_is)
     goes_turns n vs m ds h (suc t) le =
         let lt : t < n = omega arith in
@@ -89,7 +117,7 @@ module _ (d : Device) (k : ℕ) where
         goes_on _ _ _ m (Moved ∷ all_turns ds t) (ds t ++ Moved ∷ []) here
         (goes_on _ _ _ _ (ds t) (Moved ∷ []) (h.turn t lt) (goes_moved _ _ _ (next_again t (vs (suc t)) h.bound_is (h.fits t lt))))
 
-    pub goes_loop : (n : ℕ) (vs : ℕ → List ℕ) (m : Memory) (ds : ℕ → List Deed) → Turns n vs m ds → Goes d k (item (Loops s b c body rest) fs (vs 0)) m (Moved ∷ all_turns ds n) (item rest fs (vs n))
+    pub goes_loop : (n : ℕ) (vs : ℕ → Vars) (m : Memory) (ds : ℕ → List Deed) → Turns n vs m ds → Goes d k (item (Loops s b c body rest) fs (vs 0)) m (Moved ∷ all_turns ds n) (item rest fs (vs n))
     goes_loop n vs m ds h =
         subst (λ z. Goes d k (item (Loops s b c body rest) fs (vs 0)) m (Moved ∷ all_turns ds n) z) (outside n (vs n) h.past) (goes_turns n vs m ds h n (omega arith))
 
@@ -103,6 +131,12 @@ does_step d k (Reads a n f) m (Got c) x y ep h =
 does_step d k (Writes a n v z) m (Gave c w) x y ep h =
     let e = h.0 in
     (tt, rw (lt-ltb _ _ h.1) refl, h.3, ap (λ b. write b v m) e ∙ ap (λ u. write c u m) h.2, ap (λ b. access_at (group_of d.launch k) k b true ep ∷ []) e)
+does_step d k (ReadsFour a n f) m (GotFour c) x y ep h =
+    let e = h.0 in
+    (tt, rw (lt-ltb _ _ h.1) refl, ap (λ b. f (four_words m b)) e ∙ h.2, refl, ap (λ b. access_four (group_of d.launch k) k b false ep) e)
+does_step d k (WritesFour a n u z) m (GaveFour c v) x y ep h =
+    let e = h.0 in
+    (tt, rw (lt-ltb _ _ h.1) refl, h.3, ap (λ b. write_four b u m) e ∙ ap (λ t. write_four c t m) h.2, ap (λ b. access_four (group_of d.launch k) k b true ep) e)
 does_step d k _ m _ x y ep h = absurd h
 
 module _ (d : Device) (k : ℕ) (here : k < item_count d.launch) where

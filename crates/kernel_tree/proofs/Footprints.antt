@@ -5,11 +5,12 @@ use Rattle.std.proofs.lemmas.Bool.{cases_eq, eq-eqb, ne_eqb, eqb-true, cases_Boo
 use Rattle.kernel_tree.specs.declared.events.Event.{Event}
 use Rattle.kernel_tree.specs.declared.events.Event.TheVariants.{Step, Release}
 use Rattle.kernel_tree.specs.Launch.{IsWhole, group_of}
-use Rattle.kernel_tree.specs.Item.{Wants, Reads, Writes}
+use Rattle.kernel_tree.specs.Item.{Wants}
 use Rattle.kernel_tree.specs.Device.{Device, State, Fence, fence_of, wants, after, run, IsRun}
 use Rattle.kernel_tree.specs.Faults.{Access, accessed, accesses_of, accesses, Among, SomeDiverges, NoFailure, NoRace, NoDivergence, IsFaultless}
 use Rattle.kernel_tree.specs.Deeds.{Every}
 use Rattle.kernel_tree.specs.Footprints.{group_acting, KeepsGroups, KeepsItems, steps, LeavesOthers, LeadsAlike}
+use Rattle.kernel_tree.proofs.Accessed.{each_made}
 use Rattle.kernel_tree.proofs.Confluence.{Apart, SameEnd, same_end_itself, same_end_on, same_end_ahead, no_race_later, onward, enabled_back, among-right, among-append}
 use Rattle.kernel_tree.proofs.EveryRun.{diverged_stays}
 
@@ -163,9 +164,7 @@ module _ (d : Device) (whole : IsWhole d.launch) where
   -- a run without a race has its footprints apart
 
   accessed_group : (k : ℕ) (w : Wants) (ep : Fence → ℕ) (a : Access) → Among a (accessed d.launch k w ep) → a.group ≡ group_of d.launch a.item
-  accessed_group k (Reads b n f) ep a h = ⊎_elim (λ e. ap (λ x. x.group) e ∙ ap (λ x. group_of d.launch x.item) (sym e)) (λ z. absurd z) h
-  accessed_group k (Writes b n v x) ep a h = ⊎_elim (λ e. ap (λ x. x.group) e ∙ ap (λ x. group_of d.launch x.item) (sym e)) (λ z. absurd z) h
-  accessed_group k _ ep a h = absurd h
+  accessed_group k w ep a h = each_made d.launch k ep (λ x. x.group ≡ group_of d.launch x.item) (λ b n v. refl) w a h
 
   access_group : (s : State) (es : List Event) (a : Access) → Among a (accesses d s es) → a.group ≡ group_of d.launch a.item
   unfolding accesses_of
@@ -183,9 +182,7 @@ module _ (d : Device) (whole : IsWhole d.launch) where
       })
 
   accessed_epoch : (k : ℕ) (w : Wants) (ep : ℕ → Fence → ℕ) (a : Access) → Among a (accessed d.launch k w (ep (group_of d.launch k))) → a.epoch ≡ ep a.group (fence_of a.cell)
-  accessed_epoch k (Reads b n f) ep a h = ⊎_elim (λ e. ap (λ x. x.epoch) e ∙ ap (λ x. ep x.group (fence_of x.cell)) (sym e)) (λ z. absurd z) h
-  accessed_epoch k (Writes b n v x) ep a h = ⊎_elim (λ e. ap (λ x. x.epoch) e ∙ ap (λ x. ep x.group (fence_of x.cell)) (sym e)) (λ z. absurd z) h
-  accessed_epoch k _ ep a h = absurd h
+  accessed_epoch k w ep a h = each_made d.launch k (ep (group_of d.launch k)) (λ x. x.epoch ≡ ep x.group (fence_of x.cell)) (λ b n v. refl) w a h
 
   -- steps alone release nothing
   access_epoch : (s : State) (ks : List ℕ) (a : Access) → Among a (accesses d s (steps ks)) → a.epoch ≡ s.epochs a.group (fence_of a.cell)

@@ -1,6 +1,14 @@
+-- The lemmas of the crate.
 pub mod Grouping
+pub mod Accessed
 pub mod Confluence
 pub mod EveryRun
+pub mod Places
+pub mod Standing
+pub mod Lanes
+pub mod Sights
+pub mod Inputs
+pub mod Together
 pub mod Deeds
 pub mod Independent
 pub mod Turns
@@ -19,3 +27,5 @@ pub mod Alike
 pub mod Leading
 pub mod Meets
 pub mod WorkedAlike
+pub mod WorkedText
+pub mod WorkedRuns

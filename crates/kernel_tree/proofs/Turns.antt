@@ -2,9 +2,9 @@
 use Rattle.std.proofs.Common.{◌≡◌, ◌≢◌, ℕ, zero, suc, ◌+◌, ◌*◌, ◌<◌, List, [], ◌∷◌, ◌++◌, length, refl, sym, ap, ◌∙◌, subst, ⊎_elim, inl, inr, arith, length-append}
 use Rattle.std.specs.Prelude.{if◌then◌else◌}
 use Rattle.std.proofs.lemmas.Bool.{cases_lt}
-use Rattle.kernel_tree.specs.Device.{Cell, same_cell}
-use Rattle.kernel_tree.specs.Deeds.{Deed, Moved, Got, Gave, Every, WritesTo, steps_of, all_turns}
-use Rattle.kernel_tree.specs.Independent.{one_by_one, write_count}
+use Rattle.kernel_tree.specs.Device.{Cell, behind, same_cell}
+use Rattle.kernel_tree.specs.Deeds.{Deed, Moved, Got, Gave, GotFour, GaveFour, Every, WritesTo, steps_of, all_turns}
+use Rattle.kernel_tree.specs.Independent.{one_by_one, one_if_same, write_count}
 
 -- what holds of each deed
 
@@ -27,12 +27,16 @@ pub writes-left : (c : Cell) (ds es : List Deed) → WritesTo c ds → WritesTo 
 writes-left c [] es h = absurd h
 writes-left c (Moved ∷ ds) es h = writes-left c ds es h
 writes-left c (Got d ∷ ds) es h = writes-left c ds es h
+writes-left c (GotFour d ∷ ds) es h = writes-left c ds es h
+writes-left c (GaveFour d u ∷ ds) es h = ⊎_elim (λ e. inl e) (λ r. inr (writes-left c ds es r)) h
 writes-left c (Gave d v ∷ ds) es h = ⊎_elim (λ e. inl e) (λ r. inr (writes-left c ds es r)) h
 
 pub writes-right : (c : Cell) (ds es : List Deed) → WritesTo c es → WritesTo c (ds ++ es)
 writes-right c [] es h = h
 writes-right c (Moved ∷ ds) es h = writes-right c ds es h
 writes-right c (Got d ∷ ds) es h = writes-right c ds es h
+writes-right c (GotFour d ∷ ds) es h = writes-right c ds es h
+writes-right c (GaveFour d u ∷ ds) es h = inr (writes-right c ds es h)
 writes-right c (Gave d v ∷ ds) es h = inr (writes-right c ds es h)
 
 pub writes-turn : (c : Cell) (ds : ℕ → List Deed) (n t : ℕ) → t < n → WritesTo c (ds t) → WritesTo c (all_turns ds n)
@@ -49,6 +53,11 @@ pub write_count-append : (c : Cell) (ds es : List Deed) → write_count c (ds ++
 write_count-append c [] es = omega arith
 write_count-append c (Moved ∷ ds) es = write_count-append c ds es
 write_count-append c (Got d ∷ ds) es = write_count-append c ds es
+write_count-append c (GotFour d ∷ ds) es = write_count-append c ds es
+write_count-append c (GaveFour d u ∷ ds) es =
+    let a = write_count-append c ds es in
+    let n : ℕ = one_if_same d c + (one_if_same (behind 1 d) c + (one_if_same (behind 2 d) c + one_if_same (behind 3 d) c)) in
+    omega arith
 write_count-append c (Gave d v ∷ ds) es = let a = write_count-append c ds es in let n : ℕ = if same_cell d c then 1 else 0 in omega arith
 
 -- a turn and its test

@@ -1,12 +1,12 @@
 -- What each item and each group does in a run.
-use Rattle.std.specs.Prelude.{◌≡◌, ℕ, zero, suc, ◌+◌, ◌⊎◌, Bool, true, false, List, [], ◌∷◌, ◌++◌, ◌==◌, ◌&&◌, if◌then◌else◌, filter, count_by, length}
+use Rattle.std.specs.Prelude.{◌≡◌, ℕ, zero, suc, ◌+◌, ◌⊎◌, Bool, true, false, List, [], ◌∷◌, ◌++◌, ◌==◌, ◌&&◌, if◌then◌else◌, map, filter, count_by, length}
 use Rattle.kernel_tree.specs.declared.events.Event.{Event}
 use Rattle.kernel_tree.specs.declared.events.Event.TheVariants.{Step, Release}
 use Rattle.kernel_tree.specs.Launch.{Launch, group_of, first_item}
-use Rattle.kernel_tree.specs.Item.{Wants, Ends, Waits, Moves, Reads, Writes, Fails}
-use Rattle.kernel_tree.specs.Device.{Device, Cell, Fence, is_flagged, cell_at, State, wants, moves, after, run, IsRun, IsStuck}
+use Rattle.kernel_tree.specs.Item.{Wants, Ends, Waits, Moves, Reads, Writes, ReadsFour, WritesFour, Fails}
+use Rattle.kernel_tree.specs.Device.{Device, Cell, four_cells, Fence, is_flagged, cell_at, four_at, State, wants, moves, after, run, IsRun, IsStuck}
 use Rattle.kernel_tree.specs.Faults.{Access, accesses}
-use Rattle.kernel_tree.specs.Deeds.{Deed, Moved, Got, Gave, deed_access}
+use Rattle.kernel_tree.specs.Deeds.{Deed, Moved, Got, Gave, GotFour, GaveFour, deed_access}
 
 -- what an item does by an event that moves it: a deed, or it goes past a barrier with these flags
 pub data Act : Type 0 where
@@ -18,6 +18,8 @@ abbrev pub act_of : Launch → ℕ → Wants → Act
 act_of l k (Waits a b x) = Past a b
 act_of l k (Reads a n f) = Did (Got (cell_at l k a n))
 act_of l k (Writes a n v x) = Did (Gave (cell_at l k a n) v)
+act_of l k (ReadsFour a n f) = Did (GotFour (four_at l k a n))
+act_of l k (WritesFour a n u x) = Did (GaveFour (four_at l k a n) u)
 act_of l k Ends = Did Moved
 act_of l k (Moves x) = Did Moved
 act_of l k (Fails f) = Did Moved
@@ -34,7 +36,10 @@ history d s (e ∷ es) k = acts_of d s e k ++ history d (after d s e) es k
 -- the flags of a release of the group: its first item tells them
 abbrev pub releases_of : Device → State → Event → ℕ → List Act
 releases_of d s (Step k) g = []
-releases_of d s (Release h) g = if g == h then act_of d.launch (first_item d.launch g) (wants d s (first_item d.launch g)) ∷ [] else []
+releases_of d s (Release h) g =
+    if g == h
+    then act_of d.launch (first_item d.launch g) (wants d s (first_item d.launch g)) ∷ []
+    else []
 
 -- the group's releases in the run, in their order
 abbrev pub group_history : Device → State → List Event → ℕ → List Act
@@ -56,17 +61,33 @@ history_accesses g k epochs [] = []
 history_accesses g k epochs (Did a ∷ h) = deed_access g k epochs a ++ history_accesses g k epochs h
 history_accesses g k epochs (Past a b ∷ h) = history_accesses g k (raised a b epochs) h
 
--- an act that makes an access for which the test holds, told its cell and whether it writes
-abbrev pub is_access : (Cell → Bool → Bool) → Act → Bool
-is_access p (Did (Got c)) = p c false
-is_access p (Did (Gave c v)) = p c true
-is_access p (Did Moved) = false
-is_access p (Past a b) = false
+-- an access of a cell, of which no more is told than whether it writes
+pub record Touch : Type 0 where
+  pub cell : Cell
+  pub writes : Bool
 
--- some act makes an access for which the test holds
-abbrev pub SomeAccess : (Cell → Bool → Bool) → List Act → Type 0
+-- an access of the cell
+abbrev pub touch : Bool → Cell → Touch
+touch w c = record { cell = c; writes = w }
+
+-- the accesses that acts make
+abbrev pub touches : List Act → List Touch
+touches [] = []
+touches (Did Moved ∷ h) = touches h
+touches (Did (Got c) ∷ h) = touch false c ∷ touches h
+touches (Did (Gave c v) ∷ h) = touch true c ∷ touches h
+touches (Did (GotFour c) ∷ h) = map (touch false) (four_cells c) ++ touches h
+touches (Did (GaveFour c u) ∷ h) = map (touch true) (four_cells c) ++ touches h
+touches (Past a b ∷ h) = touches h
+
+-- the test holds of an access, told its cell and whether it writes
+abbrev pub is_access : (Cell → Bool → Bool) → Touch → Bool
+is_access p t = p t.cell t.writes
+
+-- the test holds of some access
+abbrev pub SomeAccess : (Cell → Bool → Bool) → List Touch → Type 0
 SomeAccess p [] = ⊥
-SomeAccess p (a ∷ h) = (is_access p a ≡ true) ⊎ SomeAccess p h
+SomeAccess p (t ∷ ts) = (is_access p t ≡ true) ⊎ SomeAccess p ts
 
 -- the sum over the first n items
 abbrev pub sum_to : (ℕ → ℕ) → ℕ → ℕ
@@ -82,13 +103,25 @@ is_release g (Release h) = g == h
 abbrev pub IsFront : {A : Type 0} → List A → List A → Type 0
 IsFront {A} front whole = (rest : List A) × (whole ≡ front ++ rest)
 
--- what the run es tells of every run from its state: what an item or a group does there is a front of what it does in es, and in a run that cannot go on it is the whole. All items of a group go past the same barriers. An item's accesses are those that its acts make, and so are their counts
+-- what the run es tells of every run from its state: what an item or a group does there is a front
+-- of what it does in es, and in a run that cannot go on it is the whole. All items of a group go
+-- past the same barriers. An item's accesses are those that its acts make, and so are their counts
 pub record EveryHistory (d : Device) (s : State) (es : List Event) : Type 0 where
-  pub items : (fs : List Event) → IsRun d s fs → (k : ℕ) → IsFront (history d s fs k) (history d s es k)
-  pub end_items : (fs : List Event) → IsRun d s fs → IsStuck d (run d s fs) → (k : ℕ) → history d s fs k ≡ history d s es k
-  pub groups : (fs : List Event) → IsRun d s fs → (g : ℕ) → IsFront (group_history d s fs g) (group_history d s es g)
-  pub end_groups : (fs : List Event) → IsRun d s fs → IsStuck d (run d s fs) → (g : ℕ) → group_history d s fs g ≡ group_history d s es g
-  pub barriers : (fs : List Event) → IsRun d s fs → (k : ℕ) → filter is_past (history d s fs k) ≡ group_history d s fs (group_of d.launch k)
-  pub own : (fs : List Event) → IsRun d s fs → (k : ℕ) → filter (λ a. a.item == k) (accesses d s fs) ≡ history_accesses (group_of d.launch k) k (s.epochs (group_of d.launch k)) (history d s fs k)
-  pub counts : (fs : List Event) → IsRun d s fs → (k : ℕ) (p : Cell → Bool → Bool) → count_by (λ a. (a.item == k) && p a.cell a.writes) (accesses d s fs) ≡ count_by (is_access p) (history d s fs k)
-  pub releases : (fs : List Event) → IsRun d s fs → (g : ℕ) → count_by (is_release g) fs ≡ length (group_history d s fs g)
+  pub items : (fs : List Event) → IsRun d s fs → (k : ℕ)
+      → IsFront (history d s fs k) (history d s es k)
+  pub end_items : (fs : List Event) → IsRun d s fs → IsStuck d (run d s fs) → (k : ℕ)
+      → history d s fs k ≡ history d s es k
+  pub groups : (fs : List Event) → IsRun d s fs → (g : ℕ)
+      → IsFront (group_history d s fs g) (group_history d s es g)
+  pub end_groups : (fs : List Event) → IsRun d s fs → IsStuck d (run d s fs) → (g : ℕ)
+      → group_history d s fs g ≡ group_history d s es g
+  pub barriers : (fs : List Event) → IsRun d s fs → (k : ℕ)
+      → filter is_past (history d s fs k) ≡ group_history d s fs (group_of d.launch k)
+  pub own : (fs : List Event) → IsRun d s fs → (k : ℕ)
+      → filter (λ a. a.item == k) (accesses d s fs)
+      ≡ history_accesses (group_of d.launch k) k (s.epochs (group_of d.launch k)) (history d s fs k)
+  pub counts : (fs : List Event) → IsRun d s fs → (k : ℕ) (p : Cell → Bool → Bool)
+      → count_by (λ a. (a.item == k) && p a.cell a.writes) (accesses d s fs)
+      ≡ count_by (is_access p) (touches (history d s fs k))
+  pub releases : (fs : List Event) → IsRun d s fs → (g : ℕ)
+      → count_by (is_release g) fs ≡ length (group_history d s fs g)

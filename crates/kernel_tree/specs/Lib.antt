@@ -1,12 +1,16 @@
+-- The definitions of the crate.
 pub mod Formula
 pub mod Code
 pub mod Grammar
 pub mod Tree
 pub mod Kernels
 pub mod Launch
+pub mod Numbering
 pub mod Item
 pub mod Device
 pub mod Faults
+pub mod Places
+pub mod Inputs
 pub mod Seen
 pub mod Schedule
 pub mod Bound
@@ -24,4 +28,6 @@ pub mod Worked
 pub mod WorkedAlike
 pub mod Pieces
 pub mod KernelText
+pub mod WorkedText
+pub mod WorkedRuns
 pub mod Blocks

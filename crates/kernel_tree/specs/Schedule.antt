@@ -10,14 +10,17 @@ use Rattle.kernel_tree.specs.Launch.{Launch, first_item}
 use Rattle.kernel_tree.specs.Device.{Device, State, Enabled, after, run, IsStuck}
 use Rattle.kernel_tree.specs.Faults.{Among, FaultIs, Run}
 
+-- a list of numbers, or the seed of a generator of numbers
 pub data Schedule : Type 0 where
   Numbers : List ℕ → Schedule
   Seed : ℕ → Schedule
 
+-- the schedule that the program holds
 abbrev pub schedule_of : held.Schedule → Schedule
 schedule_of (held_form.Numbers ns) = Numbers ns.items
 schedule_of (held_form.Seed x) = Seed x
 
+-- always the first enabled event
 abbrev pub in_order : Schedule
 in_order = Numbers []
 
@@ -46,20 +49,26 @@ pub record AreEnabled (d : Device) (s : State) (es : List Event) : Type 0 where
 abbrev pub choose_event : Schedule → ℕ → List Event → Option Event
 choose_event schedule n es = slice_get es (number_at schedule n % length es)
 
+-- the schedule takes this event after n others
 abbrev pub Chooses : Schedule → ℕ → Device → State → Event → Type 0
-Chooses schedule n d s e = (es : List Event) × AreEnabled d s es × (choose_event schedule n es ≡ Some e)
+Chooses schedule n d s e =
+    (es : List Event) × AreEnabled d s es × (choose_event schedule n es ≡ Some e)
 
 -- each event is the schedule's choice, the first of them after n others
 abbrev pub Follows : Schedule → ℕ → Device → State → List Event → Type 0
 Follows schedule n d s [] = Unit {0}
-Follows schedule n d s (e ∷ es) = Chooses schedule n d s e × Follows schedule (suc n) d (after d s e) es
+Follows schedule n d s (e ∷ es) =
+    Chooses schedule n d s e × Follows schedule (suc n) d (after d s e) es
 
 -- the last event is a fault
 abbrev pub EndsInFault : Device → State → List Event → Type 0
-EndsInFault d s es = (front : List Event) × (last : Event) × (f : FaultKind) × (es ≡ front ++ last ∷ []) × FaultIs d s front last (Some f)
+EndsInFault d s es =
+    (front : List Event) × (last : Event) × (f : FaultKind) × (es ≡ front ++ last ∷ [])
+    × FaultIs d s front last (Some f)
 
 -- the run under a schedule: it goes on until no event is enabled or a fault
-pub record ScheduledRun (schedule : Schedule) (d : Device) (s : State) (es : List Event) : Type 0 where
+pub record ScheduledRun (schedule : Schedule) (d : Device) (s : State) (es : List Event)
+    : Type 0 where
   pub is_run : Run d s es
   pub follows : Follows schedule 0 d s es
   pub over : IsStuck d (run d s es) ⊎ EndsInFault d s es

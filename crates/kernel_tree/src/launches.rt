@@ -1,12 +1,13 @@
-// How a kernel is launched, with which contents, and in which order its events are taken.
+//! How a kernel is launched, with which contents, and in which order its events are taken.
 
 use std::marker::Model;
 
-/// A launch: how many work-items in all and in a work-group, and a word for each size of the kernel.
+/// A launch: how many work-items in all and in a work-group, in dimensions 0 and 1, and a word for
+/// each size of the kernel.
 #[derive(Drop)]
 pub struct Launch {
-    pub global: u32,
-    pub local: u32,
+    pub global: (u32, u32),
+    pub local: (u32, u32),
     pub sizes: Vec<u32>,
 }
 
@@ -15,10 +16,15 @@ impl Model for Launch {
 
     ghost Value = { seen.Launch };
 
-    ghost view = { λ l. record { global = l.global; local = l.local; sizes = l.sizes.items } };
+    ghost view = { λ l. record {
+      global = l.global;
+      local = l.local;
+      sizes = l.sizes.items;
+    } };
 }
 
-/// What memory begins with: the cells of each input and of each output, and the word in all other memory.
+/// What memory begins with: the cells of each input and of each output, and the word in all other
+/// memory.
 #[derive(Drop)]
 pub struct Cells {
     pub ins: Vec<Vec<u32>>,
@@ -42,7 +48,8 @@ impl Model for Cells {
 /// In which order events are taken.
 #[derive(Drop)]
 pub enum Schedule {
-    /// At each event in turn the next number, modulo the count of enabled events, says which of them; after the last number it is the first.
+    /// At each event in turn the next number, modulo the count of enabled events, says which of
+    /// them; after the last number it is the first.
     Numbers(Vec<u32>),
     /// Each event takes the next number of a generator begun at this seed.
     Seed(u32),

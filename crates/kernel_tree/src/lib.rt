@@ -1,4 +1,5 @@
-//! Kernels as trees, and the device that runs them: launches, events, runs, races, faults and bounds.
+//! Kernels as trees, and the device that runs them: launches, events, runs, races, faults and
+//! bounds.
 #![tactic(auto)]
 
 pub mod events;

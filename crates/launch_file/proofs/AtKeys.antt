@@ -4,7 +4,7 @@ use Rattle.std.specs.Prelude.{IsTrue, Ok, codes, nat_le, option_map, option_and_
 use Rattle.std.specs.Option.{ok_or}
 use Rattle.serde_json.specs.Data.{Data, array, Items}
 use Rattle.serde_json.specs.Find.{get, as_array}
-use Rattle.kernel_tree.specs.Launch.{Launch}
+use Rattle.kernel_tree.specs.Launch.{Launch, in_a_row}
 use Rattle.kernel_tree.specs.Schedule.{Schedule, Numbers, Seed, in_order}
 use Rattle.launch_file.specs.declared.file.Ask.{Ask}
 use Rattle.launch_file.specs.declared.file.Ask.TheVariants.{Run, Eval}
@@ -66,21 +66,21 @@ count_gives : (ask : Ask) (name : List ℕ) (missing : LaunchNo) (d : Data) (n :
 count_gives (Run task) name missing d n h = ap (λ o. ok_or o missing) (whole_at_gives name d n h)
 count_gives Eval name missing d n h = ap yes (sym h)
 
-counts_are : (ask : Ask) (d : Data) (l : Launch) → IsCount ask (codes "global") d l.global → IsCount ask (codes "local") d l.local → GivesItems ask d l
+counts_are : (ask : Ask) (d : Data) (l : Launch) → IsCount ask (codes "global") d l.global.0 → IsCount ask (codes "local") d l.local.0 → GivesItems ask d l
 counts_are (Run task) d l g h = (g, h)
 counts_are Eval d l g h = (g, h)
 
-global_is : (ask : Ask) (d : Data) (l : Launch) → GivesItems ask d l → IsCount ask (codes "global") d l.global
+global_is : (ask : Ask) (d : Data) (l : Launch) → GivesItems ask d l → IsCount ask (codes "global") d l.global.0
 global_is (Run task) d l h = h.0
 global_is Eval d l h = h.0
 
-local_is : (ask : Ask) (d : Data) (l : Launch) → GivesItems ask d l → IsCount ask (codes "local") d l.local
+local_is : (ask : Ask) (d : Data) (l : Launch) → GivesItems ask d l → IsCount ask (codes "local") d l.local.0
 local_is (Run task) d l h = h.1
 local_is Eval d l h = h.1
 
 -- ---- the keys
 pub record AreKeyed (ask : Ask) (d : Data) (k : Keyed) (given : List ℕ) : Type 0 where
-  pub items : GivesItems ask d (record { global = k.global; local = k.local; sizes = given })
+  pub items : GivesItems ask d (in_a_row k.global k.local given)
   pub sizes : (get (codes "sizes") d ≡ Some k.sizes) × IsTrue (is_object k.sizes)
   pub inputs : (get (codes "inputs") d ≡ Some k.inputs) × IsTrue (is_object k.inputs)
   pub schedule : GivesSchedule ask d k.schedule
@@ -94,7 +94,7 @@ keys_are ask d k sizes h =
     let t = and_ok (schedule_judged ask d) _ k i.2 in
     let whole : Keyed = record { global = g.0; local = l.0; sizes = s.0; inputs = i.0; schedule = t.0 } in
     let found : AreKeyed ask d whole sizes = record {
-      items = counts_are ask d (record { global = g.0; local = l.0; sizes = sizes }) (count_is ask (codes "global") (no.Missing key.Global) d g.0 g.1) (count_is ask (codes "local") (no.Missing key.Local) d l.0 l.1);
+      items = counts_are ask d (in_a_row g.0 l.0 sizes) (count_is ask (codes "global") (no.Missing key.Global) d g.0 g.1) (count_is ask (codes "local") (no.Missing key.Local) d l.0 l.1);
       sizes = object_at_is (codes "sizes") d s.0 (ok_or_is (object_at (codes "sizes") d) (no.Missing key.Sizes) s.0 s.1);
       inputs = object_at_is (codes "inputs") d i.0 (ok_or_is (object_at (codes "inputs") d) (no.Missing key.Inputs) i.0 i.1);
       schedule = schedule_is ask d t.0 t.1;
@@ -103,7 +103,7 @@ keys_are ask d k sizes h =
 
 pub keys_give : (ask : Ask) (d : Data) (k : Keyed) (sizes : List ℕ) → AreKeyed ask d k sizes → keys_judged ask d ≡ Ok k
 keys_give ask d k sizes h =
-    let launch : Launch = record { global = k.global; local = k.local; sizes = sizes } in
+    let launch : Launch = in_a_row k.global k.local sizes in
     then_ok _ _ k.global k (count_gives ask (codes "global") (no.Missing key.Global) d k.global (global_is ask d launch h.items))
     (then_ok _ _ k.local k (count_gives ask (codes "local") (no.Missing key.Local) d k.local (local_is ask d launch h.items))
     (then_ok _ _ k.sizes k (ap (λ o. ok_or o (no.Missing key.Sizes)) (object_at_gives (codes "sizes") d k.sizes h.sizes.0 h.sizes.1))

@@ -3,6 +3,7 @@ use Rattle.std.specs.Prelude.{◌≡◌, ℕ, suc, ◌/◌, ◌%◌, ◌==◌, �
 use Rattle.std.specs.Option.{ok_or}
 use Rattle.serde_json.specs.Data.{Data, Items}
 use Rattle.serde_json.specs.Find.{get, as_array}
+use Rattle.kernel_tree.specs.Launch.{in_a_row}
 use Rattle.kernel_tree.specs.Schedule.{Schedule, Numbers, Seed, in_order}
 use Rattle.lift_tree.specs.declared.program.Size.{Size}
 use Rattle.lift_tree.specs.Programs.{PlainInput, PlainProgram}
@@ -123,7 +124,7 @@ judged p ask d =
     and_then (sizes_judged 0 p.sizes at.sizes) (λ sizes.
     and_then (items_judged ask at.global at.local) (λ _.
     and_then (inputs_judged sizes 0 p.inputs at.inputs) (λ inputs.
-    Ok (record { launch = record { global = at.global; local = at.local; sizes = sizes }; bases = bases_of p.sizes sizes; inputs = inputs; schedule = at.schedule }))))))
+    Ok (record { launch = in_a_row at.global at.local sizes; bases = bases_of p.sizes sizes; inputs = inputs; schedule = at.schedule }))))))
 
 -- what the bytes are refused for: they are no JSON, or their value fails this check first
 abbrev pub Refuses : PlainProgram → Ask → List ℕ → LaunchNo → Type 0

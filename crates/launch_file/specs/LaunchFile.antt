@@ -3,7 +3,7 @@ use Rattle.std.specs.Prelude.{◌≡◌, ◌<◌, ◌^◌, ℕ, List, [], ◌∷
 use Rattle.lift_tree.specs.Lists.{Every}
 use Rattle.serde_json.specs.Data.{Data, array}
 use Rattle.serde_json.specs.Find.{get}
-use Rattle.kernel_tree.specs.Launch.{Launch}
+use Rattle.kernel_tree.specs.Launch.{Launch, IsFlat}
 use Rattle.kernel_tree.specs.Schedule.{Schedule, Numbers, Seed, in_order, schedule_of}
 use Rattle.size_arith.specs.Ranges.{sizes_at}
 use Rattle.lift_tree.specs.declared.program.Size.{Size}
@@ -35,10 +35,10 @@ is_task Eval = false
 abbrev pub StandsAt : List ℕ → Data → ℕ → Type 0
 StandsAt key d n = get key d ≡ Some (number_data n)
 
--- the work-items in all and in a group; an evaluation has one
+-- the work-items in all and in a group, along the row; an evaluation has one
 abbrev pub GivesItems : Ask → Data → Launch → Type 0
-GivesItems (Run task) d l = StandsAt (codes "global") d l.global × StandsAt (codes "local") d l.local
-GivesItems Eval d l = (l.global ≡ 1) × (l.local ≡ 1)
+GivesItems (Run task) d l = StandsAt (codes "global") d l.global.0 × StandsAt (codes "local") d l.local.0
+GivesItems Eval d l = (l.global.0 ≡ 1) × (l.local.0 ≡ 1)
 
 -- each declared size stands at its name
 abbrev pub GivesSizes : List Size → Data → List ℕ → Type 0
@@ -70,12 +70,13 @@ GivesSchedule Eval d s = s ≡ in_order
 -- A value is a launch file of the program, and this is what it gives: an admissible launch, and inputs of their types.
 pub record Gives (p : PlainProgram) (ask : Ask) (d : Data) (g : Given) : Type 0 where
   pub object : IsTrue (is_object d)
+  pub flat : IsFlat g.launch
   pub items : GivesItems ask d g.launch
   pub sizes : (e : Data) × (get (codes "sizes") d ≡ Some e) × IsTrue (is_object e) × GivesSizes p.sizes e g.launch.sizes
   pub inputs : (e : Data) × (get (codes "inputs") d ≡ Some e) × IsTrue (is_object e) × GivesInputs p.inputs e g.inputs
   pub schedule : GivesSchedule ask d g.schedule
   pub bases : g.launch.sizes ≡ sizes_at (declared_by p).names g.bases
-  pub admissible : IsAdmissibleLaunch (declared_by p).names (is_task ask) g.bases g.launch.global g.launch.local
+  pub admissible : IsAdmissibleLaunch (declared_by p).names (is_task ask) g.bases g.launch.global.0 g.launch.local.0
   pub typed : HaveTypes g.bases (declared_by p).inputs g.inputs
 
 -- the bytes are a launch file of the program

@@ -1,7 +1,7 @@
 -- The lines of a trace.
 use Rattle.std.specs.Prelude.{ℕ, List, [], ◌++◌, codes, decimal, flat_map, Option, Some, None}
 use Rattle.kernel_tree.specs.declared.events.Access.{Access}
-use Rattle.kernel_tree.specs.declared.events.Access.TheVariants.{Read, Write}
+use Rattle.kernel_tree.specs.declared.events.Access.TheVariants.{Read, Write, ReadFour, WriteFour}
 use Rattle.kernel_tree.specs.declared.events.Cell.{Cell}
 use Rattle.kernel_tree.specs.declared.events.Event.{Event}
 use Rattle.kernel_tree.specs.declared.events.Event.TheVariants.{Step, Release}
@@ -26,6 +26,8 @@ abbrev pub access_text : Option Access → List ℕ
 access_text None = []
 access_text (Some (Read c)) = told c.array (codes " reads " ++ cell_text c)
 access_text (Some (Write c)) = told c.array (codes " writes " ++ cell_text c)
+access_text (Some (ReadFour c)) = told c.array (codes " reads4 " ++ cell_text c)
+access_text (Some (WriteFour c)) = told c.array (codes " writes4 " ++ cell_text c)
 
 -- a step with its access of shared memory, where it has one, or a release
 abbrev pub event_text : Event → Option Access → List ℕ

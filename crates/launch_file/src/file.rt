@@ -33,8 +33,8 @@ pub enum Ask {
 /// A launch of a program with its inputs.
 #[derive(Drop)]
 pub struct LaunchFile {
-    /// The work-items in all and in a group, and each declared size. For an evaluation there is one
-    /// work-item.
+    /// The work-items in all and in a group, in one row, and each declared size. For an evaluation
+    /// there is one work-item.
     pub launch: Launch,
     /// The declared sizes once more, by their base names.
     pub sizes: Sizes,
@@ -91,8 +91,8 @@ fn launch_in(
     let inputs = inputs_in(alloc, &given, &program.inputs, inputs)?;
     let sizes = bases_of(alloc, &program.sizes, &given)?;
     let launch = Launch {
-        global,
-        local,
+        global: (global, 1),
+        local: (local, 1),
         sizes: given,
     };
     Ok(LaunchFile {

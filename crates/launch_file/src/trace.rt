@@ -24,7 +24,7 @@ fn push_cell(text: &mut Vec<u8>, verb: &[u8], cell: Cell) -> Result<(), AllocErr
     text.push(letter)?;
     push_number(text, u64::from(number))?;
     text.push(b' ')?;
-    push_number(text, u64::from(cell.index))
+    push_number(text, cell.index)
 }
 
 // Writes the access of a step behind the text, where it has one.
@@ -34,6 +34,8 @@ fn push_access(text: &mut Vec<u8>, access: Option<Access>) -> Result<(), AllocEr
     match access {
         Some(Access::Read(cell)) => push_cell(text, b" reads ", cell),
         Some(Access::Write(cell)) => push_cell(text, b" writes ", cell),
+        Some(Access::ReadFour(first)) => push_cell(text, b" reads4 ", first),
+        Some(Access::WriteFour(first)) => push_cell(text, b" writes4 ", first),
         None => Ok(()),
     }
 }
@@ -64,9 +66,10 @@ fn push_line(text: &mut Vec<u8>, seen: Seen) -> Result<(), AllocError>
     Ok(())
 }
 
-/// What is seen of events, a line for each: `step I`, `step I reads B C`, `step I writes B C` or
-/// `release G`, where I is the work-item's global id, B the array's name in the kernel, C the
-/// number of the cell and G the work-group. A step whose access is of a private array has none.
+/// What is seen of events, a line for each: `step I`, `step I reads B C`, `step I writes B C`,
+/// `step I reads4 B C`, `step I writes4 B C` or `release G`, where I is the work-item's number, B
+/// the array's name in the kernel, C the number of the cell, or of the first of four, and G the
+/// work-group. A step whose access is of a private array has none.
 pub fn trace_text(alloc: Global, seen: &[Seen]) -> Result<Vec<u8>, AllocError>
     ensures { IfOk result (λ text. text.items ≡ trace_lines seen.now) }
 {

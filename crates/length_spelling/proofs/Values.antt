@@ -16,7 +16,7 @@ use Rattle.index_expr.specs.Expression.{Expression}
 use Rattle.index_expr.specs.Values.{exact, wrapped, operate_words, Divides, IsWord, IsRangedAt, HasNoZeroDivisorAt, HasNoZeroDivisorInWordsAt}
 use Rattle.index_expr.specs.Lengths.{length_expression}
 use Rattle.index_expr.specs.Laws.{RangedValuesAreExact, RangedDivisorsStay}
-use Rattle.kernel_tree.specs.Formula.{Ids, operate, with_both, value}
+use Rattle.kernel_tree.specs.Formula.{Ids, Vars, no_vars, operate, with_both, value}
 use Rattle.kernel_tree.specs.Grammar.{is_constant}
 use Rattle.length_spelling.specs.Formulas.{in_words, index_formula, operator_of}
 use Rattle.length_spelling.specs.Laws.{AreWords, IndicesAreSpelled, LengthsAreSpelled}
@@ -34,7 +34,7 @@ operates Remainder x y h = ap (λ (b : Bool). if b then None else Some (apply_op
 operates Least x y h = refl
 operates Greatest x y h = refl
 
-module _ (ids : Ids) (loops vars : List ℕ) (sizes_fit : AreWords ids.sizes) (loops_fit : AreWords loops) where
+module _ (ids : Ids) (loops : List ℕ) (vars : Vars) (sizes_fit : AreWords ids.sizes) (loops_fit : AreWords loops) where
   spelled : (e : Expression) → HasNoZeroDivisorInWordsAt ids.sizes loops e → value ids loops vars (index_formula (in_words e)) ≡ Some (wrapped ids.sizes loops e)
   spelled (index.Variable k l g) h = ap Some (sym (mod-eq_of_lt (loops_fit k)))
   spelled (index.Literal n) h = refl
@@ -69,14 +69,14 @@ second_of true b h = h
 second_of false b h = absurd (cc)
 
 -- what has no variables has its value in whatever loops
-module _ (ids : Ids) (loops vars : List ℕ) where
-  constant_value : (e : Expression) → is_constant (index_formula (in_words e)) ≡ true → value ids loops vars (index_formula (in_words e)) ≡ value ids [] [] (index_formula (in_words e))
+module _ (ids : Ids) (loops : List ℕ) (vars : Vars) where
+  constant_value : (e : Expression) → is_constant (index_formula (in_words e)) ≡ true → value ids loops vars (index_formula (in_words e)) ≡ value ids [] no_vars (index_formula (in_words e))
   constant_value (index.Variable k l g) h = absurd (cc)
   constant_value (index.Literal n) h = refl
   constant_value (index.Size k) h = refl
   constant_value (index.Binary o a b) h =
       ap (λ z. with_both (operate (operator_of o)) z (value ids loops vars (index_formula (in_words b)))) (constant_value a (first_of (is_constant (index_formula (in_words a))) (is_constant (index_formula (in_words b))) h))
-      ∙ ap (λ z. with_both (operate (operator_of o)) (value ids [] [] (index_formula (in_words a))) z) (constant_value b (second_of (is_constant (index_formula (in_words a))) (is_constant (index_formula (in_words b))) h))
+      ∙ ap (λ z. with_both (operate (operator_of o)) (value ids [] no_vars (index_formula (in_words a))) z) (constant_value b (second_of (is_constant (index_formula (in_words a))) (is_constant (index_formula (in_words b))) h))
 
 -- what is known of lengths as index expressions
 pub record Exact : Type 0 where
@@ -97,6 +97,6 @@ lengths_are_spelled known names bases ids loops vars p n are ok sizes is lt =
     let at = known.words sized [] e ranged ∙ known.value names bases [] p are ok ∙ is in
     let divisors = known.divisors_in_words sized [] e ranged (known.divisors names bases [] p are) in
     constant_value ids loops vars e (lengths_are_constant names p)
-    ∙ spelled ids [] [] (subst AreWords (sym sizes) (sizes_fit names bases are ok)) none_fit e (subst (λ s. HasNoZeroDivisorInWordsAt s [] e) (sym sizes) divisors)
+    ∙ spelled ids [] no_vars (subst AreWords (sym sizes) (sizes_fit names bases are ok)) none_fit e (subst (λ s. HasNoZeroDivisorInWordsAt s [] e) (sym sizes) divisors)
     ∙ ap (λ s. Some (wrapped s [] e)) sizes
     ∙ ap Some (same_number (wrapped sized [] e) n at)

@@ -7,7 +7,7 @@ use Rattle.size_arith.specs.Polynomial.{AllSmall, degree, value_at}
 use Rattle.index_expr.specs.Expression.{Expression}
 use Rattle.index_expr.specs.Values.{HasNoZeroDivisorInWordsAt, wrapped}
 use Rattle.index_expr.specs.Lengths.{length_expression}
-use Rattle.kernel_tree.specs.Formula.{Formula, Ids, value}
+use Rattle.kernel_tree.specs.Formula.{Formula, Ids, Vars, value}
 use Rattle.kernel_tree.specs.Code.{Kernel}
 use Rattle.kernel_tree.specs.Grammar.{height, is_constant, names_declared}
 use Rattle.length_spelling.specs.Formulas.{in_words, index_formula, length_formula, spelled_length}
@@ -18,14 +18,14 @@ AreWords xs = (k : ℕ) → slice_index xs k < 2 ^ 32
 -- among words, an index expression of words is spelled with its value on words
 abbrev pub IndicesAreSpelled : Type 0
 IndicesAreSpelled =
-    (ids : Ids) (loops variables : List ℕ) (e : Expression)
+    (ids : Ids) (loops : List ℕ) (variables : Vars) (e : Expression)
     → AreWords ids.sizes → AreWords loops → HasNoZeroDivisorInWordsAt ids.sizes loops e
     → value ids loops variables (index_formula (in_words e)) ≡ Some (wrapped ids.sizes loops e)
 
 -- at admissible sizes a length is spelled with its value, in whatever loops
 abbrev pub LengthsAreSpelled : Type 0
 LengthsAreSpelled =
-    (names : List Name) (bases : List ℕ) (ids : Ids) (loops variables : List ℕ) (p : List Monomial) (n : ℕ)
+    (names : List Name) (bases : List ℕ) (ids : Ids) (loops : List ℕ) (variables : Vars) (p : List Monomial) (n : ℕ)
     → AreNames names → Admissible names bases → ids.sizes ≡ sizes_at names bases
     → value_at bases p ≡ pos n → n < 2 ^ 32
     → value ids loops variables (length_formula names p) ≡ Some n

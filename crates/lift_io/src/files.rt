@@ -18,15 +18,19 @@ ghost use Rattle.lift_io.specs.Asked.{Asks};
 ghost use Rattle.lift_io.specs.Causes.{Rose};
 
 use std::alloc::{AllocError, Global};
+use thiserror::Error;
 
 /// Why a read gave no text.
-#[derive(Clone, Copy)]
+#[derive(Clone, Copy, Debug, Error)]
 pub enum ReadNo {
     /// The read failed, as the name's count of faults shows.
+    #[error("the read failed")]
     Failed,
     /// The text is longer than was allowed: so many bytes were counted, one above the limit.
+    #[error("{0} bytes or more")]
     TooLong(u64),
     /// Memory ran out.
+    #[error("out of memory")]
     Memory,
 }
 
@@ -51,8 +55,8 @@ pub trait Files {
     /// How often a read of that name has failed. The count stands still at its type's end.
     ghost faults: { Self → List ℕ → ℕ };
 
-    /// The names asked so far, in order, where they are told.
-    ghost asked: { Self → Option (List (List ℕ)) };
+    /// The reads asked for so far, in order, where they are told: each name, and its limit.
+    ghost asked: { Self → Option (List (List ℕ × ℕ)) };
 
     /// Reads the text under a name if it has at most `limit` bytes, and of a longer one takes a
     /// single byte more than that.
@@ -72,6 +76,6 @@ pub trait Files {
         ensures later { (n : List ℕ) → faults self.old n ≤ faults self.new n }
         ensures same { (n : List ℕ) → told self.new n ≡ told self.old n }
 
-        // This name is asked, and no other.
-        ensures asks { Asks (asked self.old) (asked self.new) (name.now ∷ []) };
+        // This name is asked for with this limit, and nothing else.
+        ensures asks { Asks (asked self.old) (asked self.new) ((name.now, limit) ∷ []) };
 }

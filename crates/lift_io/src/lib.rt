@@ -12,6 +12,6 @@ mod sinks;
 
 pub use files::{Files, LONGEST, ReadNo};
 pub use host::{HostFiles, HostSink};
-pub use memory_files::{MemoryFiles, NamedText};
+pub use memory_files::{AskedText, MemoryFiles, NamedText};
 pub use memory_sink::MemorySink;
 pub use sinks::{NeverFails, Sink, WriteFailed, write_whole};

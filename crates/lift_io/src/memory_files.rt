@@ -20,7 +20,13 @@ ghost use Rattle.std.specs.Prelude.{
 };
 ghost use Rattle.lift_io.specs.Asked.{Asks};
 ghost use Rattle.lift_io.specs.Causes.{Rose, one_more};
-ghost use Rattle.lift_io.specs.MemoryFiles.{NextFails, faults_after, names_asked, text_under_name};
+ghost use Rattle.lift_io.specs.MemoryFiles.{
+  NextFails,
+  asked_of,
+  faults_after,
+  reads_asked,
+  text_under_name,
+};
 
 use crate::files::{Files, LONGEST, ReadNo};
 use std::alloc::{AllocError, Global};
@@ -32,14 +38,21 @@ pub struct NamedText {
     pub text: Vec<u8>,
 }
 
+/// A read that was asked for: a name, and the most bytes that its text may have.
+#[derive(Drop)]
+pub struct AskedText {
+    pub name: String,
+    pub limit: usize,
+}
+
 /// Files in memory. The reads whose numbers are listed fail (the first read is number 1), and so
-/// does each read of a name that isn't there. One count of faults serves all names. The names asked
-/// are kept while there is memory for them.
+/// does each read of a name that isn't there. One count of faults serves all names. The reads asked
+/// for are kept while there is memory for them.
 #[derive(Drop)]
 pub struct MemoryFiles {
     texts: Vec<NamedText>,
     failing: Vec<u64>,
-    asked: Option<Vec<String>>,
+    asked: Option<Vec<AskedText>>,
     calls: u64,
     faults: u64,
 }
@@ -55,7 +68,7 @@ impl MemoryFiles {
               calls = 0;
               faults = 0;
             } }
-        ensures asked { names_asked result ≡ Some [] }
+        ensures asked { reads_asked result ≡ Some [] }
     {
         let asked = Vec::new(*texts.allocator());
         MemoryFiles {
@@ -67,9 +80,9 @@ impl MemoryFiles {
         }
     }
 
-    /// The names asked so far, in order. None where memory for one ran out.
-    pub fn asked(&self) -> Option<&[String]>
-        ensures { option_map (λ names. map string_bytes names.now) result ≡ names_asked self.now }
+    /// The reads asked for so far, in order. None where memory for one ran out.
+    pub fn asked(&self) -> Option<&[AskedText]>
+        ensures { option_map (λ reads. map asked_of reads.now) result ≡ reads_asked self.now }
     {
         Some(self.asked.as_ref()?.as_slice())
     }
@@ -83,26 +96,33 @@ impl MemoryFiles {
         ReadNo::Failed
     }
 
-    // Counts a call, and keeps the name that it asks for.
-    fn note(&mut self, alloc: Global, name: &str)
+    // Counts a call, and keeps what it asks for.
+    fn note(&mut self, alloc: Global, name: &str, limit: usize)
         ensures only { self.new
             ≡ record self.old { calls = one_more self.old.calls; asked = self.new.asked } }
-        ensures asks { Asks (names_asked self.old) (names_asked self.new) (name.now ∷ []) }
+        ensures asks { Asks (reads_asked self.old) (reads_asked self.new)
+            ((name.now, limit) ∷ []) }
     {
         self.calls = self.calls.saturating_add(1);
-        if let Some(names) = self.asked.take() {
-            self.asked = with_name(alloc, names, name).ok();
+        if let Some(reads) = self.asked.take() {
+            self.asked = with_read(alloc, reads, name, limit).ok();
         }
     }
 }
 
-// The names, and this one behind them.
-fn with_name(alloc: Global, mut names: Vec<String>, name: &str) -> Result<Vec<String>, AllocError>
-    ensures { IfOk result (λ all. map string_bytes all.items
-        ≡ map string_bytes names.items ++ (name.now ∷ [])) }
+// The reads, and one of this name with this limit behind them.
+fn with_read(
+    alloc: Global,
+    mut reads: Vec<AskedText>,
+    name: &str,
+    limit: usize,
+) -> Result<Vec<AskedText>, AllocError>
+    ensures { IfOk result (λ all. map asked_of all.items
+        ≡ map asked_of reads.items ++ ((name.now, limit) ∷ [])) }
 {
-    names.push(String::from_str(alloc, name)?)?;
-    Ok(names)
+    let name = String::from_str(alloc, name)?;
+    reads.push(AskedText { name, limit })?;
+    Ok(reads)
 }
 
 fn text_under<'f>(texts: &'f [NamedText], name: &str) -> Option<&'f [u8]>
@@ -117,7 +137,7 @@ impl Files for MemoryFiles {
 
     ghost faults = { λ s n. s.faults };
 
-    ghost asked = { names_asked };
+    ghost asked = { reads_asked };
 
     fn read_all(&mut self, alloc: Global, name: &str, limit: usize) -> Result<Vec<u8>, ReadNo>
         requires { limit ≤ LONGEST }
@@ -131,7 +151,8 @@ impl Files for MemoryFiles {
         ensures later { (n : List ℕ) → self.old.faults ≤ self.new.faults }
         ensures same { (n : List ℕ)
             → text_under_name self.new.texts.items n ≡ text_under_name self.old.texts.items n }
-        ensures asks { Asks (names_asked self.old) (names_asked self.new) (name.now ∷ []) }
+        ensures asks { Asks (reads_asked self.old) (reads_asked self.new)
+            ((name.now, limit) ∷ []) }
 
         // Beyond what all files promise: just the calls that were asked to fail do, just they are
         // faults, and nothing else changes.
@@ -142,7 +163,7 @@ impl Files for MemoryFiles {
           asked = self.new.asked;
         } }
     {
-        self.note(alloc, name);
+        self.note(alloc, name, limit);
         if self.failing.contains(&self.calls) {
             return Err(self.fault());
         }

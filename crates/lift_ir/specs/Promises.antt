@@ -10,7 +10,7 @@ use Rattle.lift_tree.specs.Annotations.{Annotation, type_in, Annotates}
 use Rattle.lift_tree.specs.Values.{Value, nth}
 use Rattle.lift_tree.specs.Meaning.{World, meaning}
 use Rattle.lift_tree.specs.Launches as launches
-use Rattle.kernel_tree.specs.Launch.{Launch, IsWhole}
+use Rattle.kernel_tree.specs.Launch.{Launch, IsWhole, item_count}
 use Rattle.kernel_tree.specs.Device.{row}
 use Rattle.lift_ir.specs.Types.{Ty, IsPosition, IsFlat, component, flat}
 use Rattle.lift_ir.specs.Layouts.{Layout, operand_position, result_position, Reshapes, IsInvertible}
@@ -59,4 +59,4 @@ pub record LoweredTermsServe : Type 0 where
 
 -- each scalar's owner is a work-item of the launch
 abbrev pub OwnersAreOfTheLaunch : Type 0
-OwnersAreOfTheLaunch = (num : List Monomial → ℕ) (l : Launch) (t : Term (List Monomial)) (q : List ℕ) → IsWhole l → 0 < l.global → owner num l t q < l.global
+OwnersAreOfTheLaunch = (num : List Monomial → ℕ) (l : Launch) (t : Term (List Monomial)) (q : List ℕ) → IsWhole l → 0 < item_count l → owner num l t q < item_count l

@@ -1,5 +1,5 @@
 -- What files hold, and why one isn't read.
-use Rattle.std.specs.Prelude.{◌≡◌, ◌⊎◌, ◌+◌, ◌<◌, ◌≤◌, ℕ, List, [], ◌∷◌, length, map, take, Option, Some, IfSome}
+use Rattle.std.specs.Prelude.{◌≡◌, ◌⊎◌, ◌+◌, ◌<◌, ◌≤◌, ℕ, List, [], ◌∷◌, length, take, Option, Some, IfSome}
 use Rattle.lift_io.specs.Asked.{Asks}
 use Rattle.fault_lines.specs.Failure.{Failure, Read, TooLong, status_of}
 
@@ -49,10 +49,10 @@ NoneRose rose (file ∷ files) = (¬ rose file.0) × NoneRose rose files
 
 -- ---- which files are asked for
 
--- between two moments just these files were asked for, in order, each once
-abbrev pub AsksAll : Option (List (List ℕ)) → Option (List (List ℕ)) → List File → Type 0
-AsksAll before after files = Asks before after (map (λ file. file.0) files)
+-- between two moments just these files were asked for, in order, each once and with its limit
+abbrev pub AsksAll : Option (List File) → Option (List File) → List File → Type 0
+AsksAll before after files = Asks before after files
 
 -- or just the first of them
-abbrev pub AsksFirst : Option (List (List ℕ)) → Option (List (List ℕ)) → List File → Type 0
-AsksFirst before after files = (count : ℕ) × Asks before after (take count (map (λ file. file.0) files))
+abbrev pub AsksFirst : Option (List File) → Option (List File) → List File → Type 0
+AsksFirst before after files = (count : ℕ) × Asks before after (take count files)

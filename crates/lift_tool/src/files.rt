@@ -30,7 +30,8 @@ pub fn read_text<F: Files>(
         ((string_bytes name, limit) ∷ []) (failure_of no)) }
     ensures later { (n : List ℕ) → F.faults files.old n ≤ F.faults files.new n }
     ensures same { (n : List ℕ) → F.told files.new n ≡ F.told files.old n }
-    ensures asks { Asks (F.asked files.old) (F.asked files.new) (string_bytes name ∷ []) }
+    ensures asks { Asks (F.asked files.old) (F.asked files.new)
+        ((string_bytes name, limit) ∷ []) }
 {
     match files.read_all(alloc, name.as_str(), limit) {
         Ok(text) => Ok(text),

@@ -118,8 +118,8 @@ pub fn lift_tool<F: Files, O: Sink, E: Sink>(
         × TakesPrefix (O.taken out.old) (O.taken out.new) text) }
     ensures untouched { result ≢ 0 → result ≢ 4 → out.new ≡ out.old }
 
-    // The files that the words name are asked for in order, each once, and no others: at 0 all of
-    // them, else the first ones; none where the words are refused.
+    // The files that the words name are asked for in order, each once and with its limit, and no
+    // others: at 0 all of them, else the first ones; none where the words are refused.
     ensures asks { (request : requests.CommandLine) → Asks (map string_bytes words.now) request
         → AsksFirst (F.asked files.old) (F.asked files.new) (files_of request) }
     ensures asks_all { (request : requests.CommandLine) → Asks (map string_bytes words.now) request
@@ -145,13 +145,12 @@ pub fn lift_tool<F: Files, O: Sink, E: Sink>(
         → ¬ Rose (O.faults out.old) (O.faults out.new)
         → (result ≡ 0) ⊎ (result ≡ 13) }
 
-    // Where told files stop for a cause, and no read or write fails, the status and the line are
-    // that cause's and no other's.
+    // Where told files stop for a cause, and no read fails, the status and the line are that
+    // cause's and no other's.
     ensures exact { (request : requests.CommandLine) (failure : failures.Failure)
         → Asks (map string_bytes words.now) request
         → AllTold (F.told files.old) (files_of request)
         → NoneRose (λ n. Rose (F.faults files.old n) (F.faults files.new n)) (files_of request)
-        → ¬ Rose (O.faults out.old) (O.faults out.new)
         → StopsFor (F.told files.old) (λ n. Rose (F.faults files.old n) (F.faults files.new n))
         request failure
         → (result ≡ 13) ⊎ ((result ≡ status_of failure)

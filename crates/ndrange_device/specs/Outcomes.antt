@@ -13,11 +13,17 @@ use Rattle.kernel_tree.specs.Launch.{Launch, Cells}
 use Rattle.kernel_tree.specs.Device.{Device, State, device_of, start_state, wants, after, IsStuck}
 use Rattle.kernel_tree.specs.Faults.{FaultIs, IsFaultless, Run}
 use Rattle.kernel_tree.specs.Schedule.{Schedule, Follows, ScheduledRun}
-use Rattle.kernel_tree.specs.Seen.{fault_of, seen_of}
+use Rattle.kernel_tree.specs.Seen.{LaneIs, fault_of, seen_of}
 use Rattle.ndrange_machine.specs.Stands.{AreOutputs, state_after}
 use Rattle.ndrange_device.specs.declared.outcome.DeviceNo.{DeviceNo}
 use Rattle.ndrange_device.specs.declared.outcome.Outcome.{Outcome}
 use Rattle.ndrange_device.specs.declared.outcome.DeviceNo.TheVariants.{Fault, Memory}
+
+-- what a run begins with
+pub record Begun : Type 0 where
+  pub kernel : Kernel
+  pub launch : Launch
+  pub cells : Cells
 
 -- a count as 64 bits hold it: at its greatest value it stays
 abbrev pub capped : ℕ → ℕ
@@ -27,7 +33,8 @@ abbrev pub is_release : Event → Bool
 is_release (Step k) = false
 is_release (Release g) = true
 
--- the run under the schedule has no fault, and ends with these outputs after so many events, so many of them releases
+-- the run under the schedule has no fault, and ends with these outputs after so many events, so
+-- many of them releases
 pub record EndsUnder (schedule : Schedule) (k : Kernel) (l : Launch) (c : Cells) (outputs : List (List ℕ)) (events releases : ℕ) : Type 0 where
   pub run : List Event
   pub scheduled : ScheduledRun schedule (device_of k l c) (start_state k c) run
@@ -37,13 +44,21 @@ pub record EndsUnder (schedule : Schedule) (k : Kernel) (l : Launch) (c : Cells)
   pub released : releases ≡ capped (count_by is_release run)
   pub left : AreOutputs k l c (state_after k l c run) outputs
 
--- the run under the schedule ends in a fault of this kind at the event of this number, which is this work-item's, with the cell of a race
-pub record FaultsUnder (schedule : Schedule) (k : Kernel) (l : Launch) (c : Cells) (kind : FaultKind) (event item : ℕ) (cell : Option Cell) : Type 0 where
-  pub front : List Event
+-- under the schedule this work-item's step comes after these events, and is a fault of this kind; a
+-- race is one of this lane first
+pub record FaultsAfter (schedule : Schedule) (k : Kernel) (l : Launch) (c : Cells) (front : List Event) (item : ℕ) (kind : FaultKind) (lane : ℕ) : Type 0 where
   pub scheduled : ScheduledRun schedule (device_of k l c) (start_state k c) (front ++ Step item ∷ [])
   pub fault : FaultIs (device_of k l c) (start_state k c) front (Step item) (Some kind)
+  pub in_lane : LaneIs (device_of k l c) (start_state k c) front (Step item) (Some kind) lane
+
+-- the run under the schedule ends in a fault of this kind at the event of this number, which is
+-- this work-item's, with the cell of a race
+pub record FaultsUnder (schedule : Schedule) (k : Kernel) (l : Launch) (c : Cells) (kind : FaultKind) (event item : ℕ) (cell : Option Cell) : Type 0 where
+  pub front : List Event
+  pub lane : ℕ
+  pub faults : FaultsAfter schedule k l c front item kind lane
   pub number : event ≡ capped (suc (length front))
-  pub seen : cell ≡ (fault_of (wants (device_of k l c) (state_after k l c front) item) kind).cell
+  pub seen : cell ≡ (fault_of (wants (device_of k l c) (state_after k l c front) item) lane kind).cell
 
 -- why the run has no outcome; want of memory needs no cause
 abbrev pub Refuses : Schedule → Kernel → Launch → Cells → DeviceNo → Type 0
@@ -55,7 +70,7 @@ Refuses schedule k l c Memory = Unit {0}
 -- of the events of a run without a fault, in turn
 abbrev pub sights : Device → State → List Event → List Seen
 sights d s [] = []
-sights d s (e ∷ es) = seen_of d s e None ∷ sights d (after d s e) es
+sights d s (e ∷ es) = seen_of d s e 0 None ∷ sights d (after d s e) es
 
 -- of the first events of the run under the schedule, which are no fault
 pub record SeesFront (schedule : Schedule) (k : Kernel) (l : Launch) (c : Cells) (seen : List Seen) : Type 0 where
@@ -74,11 +89,12 @@ pub record SeesRun (schedule : Schedule) (k : Kernel) (l : Launch) (c : Cells) (
 -- of the run under the schedule, which ends in a fault of this kind, the fault last
 pub record SeesFault (schedule : Schedule) (k : Kernel) (l : Launch) (c : Cells) (kind : FaultKind) (item : ℕ) (seen : List Seen) : Type 0 where
   pub front : List Event
-  pub scheduled : ScheduledRun schedule (device_of k l c) (start_state k c) (front ++ Step item ∷ [])
-  pub fault : FaultIs (device_of k l c) (start_state k c) front (Step item) (Some kind)
-  pub sights : seen ≡ sights (device_of k l c) (start_state k c) front ++ seen_of (device_of k l c) (state_after k l c front) (Step item) (Some kind) ∷ []
+  pub lane : ℕ
+  pub faults : FaultsAfter schedule k l c front item kind lane
+  pub sights : seen ≡ sights (device_of k l c) (start_state k c) front ++ seen_of (device_of k l c) (state_after k l c front) (Step item) lane (Some kind) ∷ []
 
--- what a trace gets of a run that ends so: all that is seen, or for want of memory what is seen first
+-- what a trace gets of a run that ends so: all that is seen, or for want of memory what is seen
+-- first
 abbrev pub Sees : Schedule → Kernel → Launch → Cells → Result Outcome DeviceNo → List Seen → Type 0
 Sees schedule k l c (Ok outcome) seen = SeesRun schedule k l c seen
 Sees schedule k l c (Err (Fault kind event item cell)) seen = SeesFault schedule k l c kind item seen

@@ -2,10 +2,9 @@
 use Rattle.std.specs.Prelude.{◌≡◌, ℕ, List, Option, None, length, count_by, option_map}
 use Rattle.kernel_tree.specs.declared.events.Event.{Event}
 use Rattle.kernel_tree.specs.declared.events.Event.TheVariants.{Step, Release}
-use Rattle.kernel_tree.specs.declared.events.Seen.{Seen}
+use Rattle.kernel_tree.specs.declared.events.Fault.{Fault}
 use Rattle.kernel_tree.specs.Schedule.{Schedule, Numbers, Seed, generated}
-use Rattle.ndrange_device.specs.declared.outcome.DeviceNo.{DeviceNo}
-use Rattle.ndrange_device.specs.declared.outcome.DeviceNo.TheVariants.{Fault}
+use Rattle.ndrange_device.specs.declared.outcome.FaultFound.{FaultFound}
 use Rattle.ndrange_device.specs.declared.progress.Progress.{Progress}
 use Rattle.ndrange_device.specs.Outcomes.{capped, is_release}
 
@@ -20,7 +19,7 @@ pub record HasCome (schedule : Schedule) (es : List Event) (p : Progress) : Type
   pub releases : p.releases ≡ capped (count_by is_release es)
   pub generator : p.generator ≡ generated (seed_of schedule) (length es)
 
--- the refusal for the fault that is seen of the event of this number, if there is one
-abbrev pub refusal_of : Event → Seen → (number : ℕ) → Option DeviceNo
-refusal_of (Step k) seen number = option_map (λ f. Fault f.kind number k f.cell) seen.fault
-refusal_of (Release g) seen number = None
+-- the fault of the event of this number, which is a step, if it has one
+abbrev pub found_of : Event → Option Fault → (number : ℕ) → Option FaultFound
+found_of (Step k) fault number = option_map (λ f. record { kind = f.kind; event = number; item = k; cell = f.cell }) fault
+found_of (Release g) fault number = None

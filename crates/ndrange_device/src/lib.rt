@@ -1,11 +1,12 @@
 //! Whole runs of kernels along a schedule, up to their end or their first fault.
 #![tactic(auto)]
 
-ghost use Rattle.std.specs.Prelude.{◌≡◌, ◌<◌, ◌∷◌, ◌++◌, [], true, map, if◌then◌else◌, IfOk, IfErr, OnOk, OnErr};
+ghost use Rattle.std.specs.Prelude.{◌≡◌, ◌%◌, ◌<◌, ◌∷◌, ◌++◌, [], map, IfOk, IfErr, OnOk, OnErr};
 ghost use Rattle.kernel_tree.specs.Kernels.{kernel_of};
 ghost use Rattle.kernel_tree.specs.Launch as seen;
 ghost use Rattle.kernel_tree.specs.Schedule.{schedule_of, in_order};
-ghost use Rattle.ndrange_device.specs.Outcomes.{EndsUnder, Gets, GetsIfThere, Refuses, Sees};
+ghost use Rattle.ndrange_machine.specs.Stands.{StandsFor};
+ghost use Rattle.ndrange_device.specs.Outcomes.{Begun, EndsUnder, FaultsUnder, Gets, GetsIfThere, Refuses, Sees};
 
 mod outcome;
 pub mod progress;
@@ -16,7 +17,7 @@ use kernel_tree::launches;
 use kernel_tree::launches::{Cells, Schedule};
 use kernel_tree::tree::Kernel;
 use ndrange_machine::Machine;
-use outcome::refusal;
+use outcome::{FaultFound, found};
 pub use outcome::{DeviceNo, Outcome};
 use progress::Progress;
 use std::alloc::{AllocError, Global};
@@ -25,7 +26,7 @@ use std::sync::ledger::{Blank, Ledger};
 
 /// Runs a kernel: of the enabled events, in the order of the work-items, the schedule says which
 /// comes next, until there is none or one is a fault. What is seen of the events is added to the
-/// trace, where there is one.
+/// trace, where there is one. All memory but the trace's is taken before the first event.
 pub fn launch(
     alloc: Global,
     kernel: Kernel,
@@ -44,13 +45,8 @@ pub fn launch(
 {
     let blank = Blank::new(1);
     match trace {
-        Some(trace) => follow::<Brand>(alloc, kernel, launch, cells, schedule, true, trace, blank),
-        None => {
-            let mut none = Vec::new(alloc);
-            follow::<Brand>(
-                alloc, kernel, launch, cells, schedule, false, &mut none, blank,
-            )
-        }
+        Some(trace) => run_traced::<Brand>(alloc, kernel, launch, cells, schedule, trace, blank),
+        None => run::<Brand>(alloc, kernel, launch, cells, schedule, blank),
     }
 }
 
@@ -71,26 +67,74 @@ pub fn run_in_order(
     crate::launch(alloc, kernel, launch, cells, &schedule, None)
 }
 
-// Adds what is seen to the trace, where the run is traced.
-fn note(traced: bool, trace: &mut Vec<Seen>, seen: Seen) -> Result<(), AllocError>
-    ensures ok { OnOk result (trace.new.items
-        ≡ trace.old.items ++ (if traced then seen ∷ [] else [])) }
-    ensures err { OnErr result (trace.new.items ≡ trace.old.items) }
-{
-    if traced {
-        trace.push(seen)?;
-    }
-    Ok(())
-}
-
-// A kernel's run, traced or not, whose events are counted for the proof that it ends.
-fn follow<L: Ledger>(
+// A kernel's run without a trace.
+fn run<L: Ledger>(
     alloc: Global,
     kernel: Kernel,
     launch: launches::Launch,
     cells: Cells,
     schedule: &Schedule,
-    traced: bool,
+    blank: Blank,
+) -> Result<Outcome, DeviceNo>
+    ghost begun: { Begun }
+    requires name { blank.name ≡ L.name }
+    requires parts { blank.parts ≡ L.parts }
+    requires some { 0 < blank.parts }
+    requires may_start { seen.MayStart (kernel_of kernel) launch cells }
+    requires begun { begun ≡ record { kernel = kernel_of kernel; launch = launch; cells = cells } }
+    ensures outcome { IfOk result (λ o. EndsUnder (schedule_of schedule.now) (kernel_of kernel)
+        launch cells (map (λ row. row.items) o.outputs.items) o.events o.releases) }
+    ensures refusal { IfErr result
+        (Refuses (schedule_of schedule.now) (kernel_of kernel) launch cells) }
+{
+    let machine = Machine::start(alloc, kernel, launch, cells)?;
+    Ok(follow::<L>(machine, schedule, blank)?)
+}
+
+// A run from its start, whose events are counted for the proof that it ends. It takes no memory.
+fn follow<L: Ledger>(
+    machine: Machine,
+    schedule: &Schedule,
+    blank: Blank,
+) -> Result<Outcome, FaultFound>
+    ghost begun: { Begun }
+    requires name { blank.name ≡ L.name }
+    requires parts { blank.parts ≡ L.parts }
+    requires some { 0 < blank.parts }
+    requires starts { StandsFor begun.kernel begun.launch begun.cells machine [] }
+    ensures outcome { IfOk result (λ o. EndsUnder (schedule_of schedule.now) begun.kernel
+        begun.launch begun.cells (map (λ row. row.items) o.outputs.items) o.events o.releases) }
+    ensures fault { IfErr result (λ f. FaultsUnder (schedule_of schedule.now) begun.kernel
+        begun.launch begun.cells f.kind f.event f.item f.cell) }
+{
+    let mut machine = machine;
+    let mut steps = Steps::<L>::new(blank);
+    let mut progress = Progress::start(schedule);
+    let mut enabled = machine.enabled();
+    while enabled > 0 {
+        let event = machine.nth_enabled(within(progress.number(schedule), enabled));
+        progress.count(event);
+        steps.tick();
+        let fault = machine.advance(event);
+        if let Some(no) = found(event, fault, progress.events) {
+            return Err(no);
+        }
+        enabled = machine.enabled();
+    }
+    Ok(Outcome {
+        outputs: machine.outputs(),
+        events: progress.events,
+        releases: progress.releases,
+    })
+}
+
+// A kernel's run with a trace, whose events are counted for the proof that it ends.
+fn run_traced<L: Ledger>(
+    alloc: Global,
+    kernel: Kernel,
+    launch: launches::Launch,
+    cells: Cells,
+    schedule: &Schedule,
     trace: &mut Vec<Seen>,
     blank: Blank,
 ) -> Result<Outcome, DeviceNo>
@@ -102,21 +146,21 @@ fn follow<L: Ledger>(
         launch cells (map (λ row. row.items) o.outputs.items) o.events o.releases) }
     ensures refusal { IfErr result
         (Refuses (schedule_of schedule.now) (kernel_of kernel) launch cells) }
-    ensures trace { traced ≡ true → Gets (Sees (schedule_of schedule.now) (kernel_of kernel)
-        launch cells result) trace.old.items trace.new.items }
+    ensures trace { Gets (Sees (schedule_of schedule.now) (kernel_of kernel) launch cells result)
+        trace.old.items trace.new.items }
 {
     let mut machine = Machine::start(alloc, kernel, launch, cells)?;
     let mut steps = Steps::<L>::new(blank);
     let mut progress = Progress::start(schedule);
     let mut enabled = machine.enabled();
     while enabled > 0 {
-        let event = machine.nth_enabled(progress.number(schedule) % enabled);
+        let event = machine.nth_enabled(within(progress.number(schedule), enabled));
         progress.count(event);
         steps.tick();
         let seen = machine.step(event);
-        note(traced, trace, seen)?;
-        if let Some(no) = refusal(event, seen, progress.events) {
-            return Err(no);
+        note(trace, seen)?;
+        if let Some(no) = found(event, seen.fault, progress.events) {
+            return Err(DeviceNo::from(no));
         }
         enabled = machine.enabled();
     }
@@ -125,4 +169,26 @@ fn follow<L: Ledger>(
         events: progress.events,
         releases: progress.releases,
     })
+}
+
+// Adds what is seen to the trace.
+fn note(trace: &mut Vec<Seen>, seen: Seen) -> Result<(), AllocError>
+    ensures ok { OnOk result (trace.new.items ≡ trace.old.items ++ seen ∷ []) }
+    ensures err { OnErr result (trace.new.items ≡ trace.old.items) }
+{
+    trace.push(seen)?;
+    Ok(())
+}
+
+// A number among so many, round and round. Most are below already.
+#[inline(always)]
+fn within(number: u32, count: u32) -> u32
+    requires { 0 < count }
+    ensures { result ≡ number % count }
+{
+    if number < count {
+        number
+    } else {
+        number % count
+    }
 }

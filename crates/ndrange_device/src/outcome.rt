@@ -1,10 +1,10 @@
 //! What a run leaves, and why it leaves nothing.
 
 ghost use Rattle.std.specs.Prelude.{◌≡◌};
-ghost use Rattle.ndrange_device.specs.declared.outcome.DeviceNo.TheVariants.{Memory};
-ghost use Rattle.ndrange_device.specs.Progress.{refusal_of};
+ghost use Rattle.ndrange_device.specs.declared.outcome.DeviceNo.TheVariants as no;
+ghost use Rattle.ndrange_device.specs.Progress.{found_of};
 
-use kernel_tree::events::{Cell, Event, FaultKind, Seen};
+use kernel_tree::events::{Cell, Event, Fault, FaultKind};
 use std::alloc::AllocError;
 
 /// What is left when a run is over: the cells of each output, and how many events and how many
@@ -20,7 +20,7 @@ pub struct Outcome {
 #[derive(Drop)]
 pub enum DeviceNo {
     /// The event of this number, from 1, is a fault. It is a step of this work-item. A race has its
-    /// cell. The number stays at 2^64 - 1 once there.
+    /// cell, the least where several race. The number stays at 2^64 - 1 once there.
     Fault {
         kind: FaultKind,
         event: u64,
@@ -32,20 +32,42 @@ pub enum DeviceNo {
 }
 
 impl From<AllocError> for DeviceNo {
-    ghost from_gives = { λ _ e. e ≡ Memory };
+    ghost from_gives = { λ _ e. e ≡ no.Memory };
 
     fn from(_e: AllocError) -> DeviceNo {
         DeviceNo::Memory
     }
 }
 
-/// The refusal for the fault that is seen of the event of this number, if there is one. A release
-/// has none.
-pub fn refusal(event: Event, seen: Seen, number: u64) -> Option<DeviceNo>
-    ensures { result ≡ refusal_of event seen number }
+/// The fault in which a run ends.
+#[derive(Drop)]
+pub struct FaultFound {
+    pub kind: FaultKind,
+    pub event: u64,
+    pub item: u32,
+    pub cell: Option<Cell>,
+}
+
+impl From<FaultFound> for DeviceNo {
+    ghost from_gives = { λ f e. e ≡ no.Fault f.kind f.event f.item f.cell };
+
+    fn from(found: FaultFound) -> DeviceNo {
+        DeviceNo::Fault {
+            kind: found.kind,
+            event: found.event,
+            item: found.item,
+            cell: found.cell,
+        }
+    }
+}
+
+/// What is found where the event of this number has this fault. A release has none.
+#[inline(always)]
+pub fn found(event: Event, fault: Option<Fault>, number: u64) -> Option<FaultFound>
+    ensures { result ≡ found_of event fault number }
 {
-    match (event, seen.fault) {
-        (Event::Step(item), Some(fault)) => Some(DeviceNo::Fault {
+    match (event, fault) {
+        (Event::Step(item), Some(fault)) => Some(FaultFound {
             kind: fault.kind,
             event: number,
             item,

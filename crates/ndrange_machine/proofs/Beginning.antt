@@ -3,13 +3,15 @@ use Rattle.std.proofs.Common.{◌≡◌, ℕ, ◌<◌, zero, suc, List, [], ◌�
 use Rattle.std.specs.Global.{Global}
 use Rattle.std.specs.Prelude.{Vec, map, is_some, nat_lt, replicate, slice_get, slice_index, ◌==◌, if◌then◌else◌}
 use Rattle.std.proofs.lemmas.List.{append-nil, length-map, length-replicate}
+use Rattle.kernel_tree.specs.Formula.{Vars}
+use Rattle.kernel_tree.specs.Grammar.{is_kernel}
 use Rattle.kernel_tree.specs.Code.{Array, Input, Output, Local, Private, Code, Kernel}
 use Rattle.kernel_tree.specs.Launch.{Launch, Cells, IsWhole, item_count, group_count}
 use Rattle.kernel_tree.specs.Item.{item}
 use Rattle.kernel_tree.specs.Device.{Cell, State, row, device_of, start_state, length_in, contents}
-use Rattle.cell_marks.specs.Marked.{MarksTell}
+use Rattle.race_marks.specs.Marked.{MarksTell}
 use Rattle.ndrange_machine.specs.declared.machine.Machine.{Machine}
-use Rattle.ndrange_machine.specs.Changes.{start_view}
+use Rattle.ndrange_machine.specs.Changes.{filled, start_view}
 use Rattle.ndrange_machine.specs.ItemView.{ItemView}
 use Rattle.ndrange_machine.specs.Memory.{held, held_at, homes, cell_in, rows_at, rows_of}
 use Rattle.ndrange_machine.specs.Lines.{lines_at, size, depth, IsAt}
@@ -22,11 +24,11 @@ use Rattle.ndrange_machine.proofs.Together.{alike_calm}
 use Rattle.ndrange_machine.proofs.Rows.{cell_is, is_some-get, get_is, index_is, same_bound, get_replicate, length_row, word_in_row}
 use Rattle.ndrange_machine.proofs.Cells.{Rows, no_cell}
 
-at_start : (code : Code) (vars : List ℕ) → IsAt (lines_at 0 code) 0 (item code [] vars)
+at_start : (code : Code) (vars : Vars) → IsAt (lines_at 0 code) 0 (item code [] vars)
 at_start code vars = record { end = size code; counts = omega arith; from = sym (append-nil (lines_at 0 code)); loops = tt }
 
-item_at_start : (code : Code) (variables word : ℕ) → HoldsItem (lines_at 0 code) (start_view (depth code) variables word) (item code [] (replicate variables word))
-item_at_start code variables word = record { place = at_start code (replicate variables word); turns = refl; numbered = tt; room = omega arith; rooms = tt }
+item_at_start : (code : Code) (variables vectors word : ℕ) → HoldsItem (lines_at 0 code) (start_view (depth code) variables vectors word) (item code [] (filled variables vectors word))
+item_at_start code variables vectors word = record { place = at_start code (filled variables vectors word); turns = refl; numbered = tt; room = omega arith; rooms = tt }
 
 -- rows that are the same at each home
 rows_are : (all : List Rows) (count : ℕ) (rows : List (List ℕ)) → map (λ r. rows_of r.items) all ≡ replicate count rows → (h : ℕ) → h < count → rows_of (rows_at all h) ≡ rows
@@ -79,8 +81,9 @@ module _ (k : Kernel) (l : Launch) (c : Cells) (m : Machine) (ins : rows_of m.me
       by_array (Local a) h = words_are m.memory.locals.items (group_count l) c.rest k.locals locals d.home a d.index x h
       by_array (Private a) h = words_are m.memory.privates.items (item_count l) c.rest k.privates privates d.home a d.index x h
 
-  pub begun : IsWhole l → map text_of m.lines.items ≡ lines_at 0 k.code → m.launch ≡ l → m.items.items ≡ replicate (item_count l) (start_view (depth k.code) k.variables c.rest) → MarksTell (device_of k l c) (start_state k c) [] m.marks → (n : Machine) → SameCore m n → n.marks ≡ m.marks → Begins m n → StandsFor k l c n []
-  begun whole text launch items marks n core same begins = record {
+  pub begun : is_kernel k ≡ true → IsWhole l → map text_of m.lines.items ≡ lines_at 0 k.code → m.launch ≡ l → m.items.items ≡ replicate (item_count l) (start_view (depth k.code) k.variables k.vectors c.rest) → MarksTell (device_of k l c) (start_state k c) [] m.marks → (n : Machine) → SameCore m n → n.marks ≡ m.marks → Begins m n → StandsFor k l c n []
+  begun grammar whole text launch items marks n core same begins = record {
+    grammar = grammar;
     is_run = record { enabled = tt; none_after_fault = λ front last e. let n = ap length e in let a = length-append front (last ∷ []) in absurd (omega arith) };
     holds = same_holds k l c m n (start_state k c) core holds;
     flags = begins k l c (start_state k c) holds;
@@ -89,16 +92,16 @@ module _ (k : Kernel) (l : Launch) (c : Cells) (m : Machine) (ins : rows_of m.me
     steady = λ _ v. alike_calm (device_of k l c) (start_state k c) v.0 whole (λ j q. (refl, refl)) v.1;
   }
     where
-      is : (j : ℕ) (it : ItemView) → slice_get m.items.items j ≡ Some it → start_view (depth k.code) k.variables c.rest ≡ it
-      is j it e = get_replicate (item_count l) j (start_view (depth k.code) k.variables c.rest) it (ap (λ z. slice_get z j) (sym items) ∙ e)
+      is : (j : ℕ) (it : ItemView) → slice_get m.items.items j ≡ Some it → start_view (depth k.code) k.variables k.vectors c.rest ≡ it
+      is j it e = get_replicate (item_count l) j (start_view (depth k.code) k.variables k.vectors c.rest) it (ap (λ z. slice_get z j) (sym items) ∙ e)
 
       holds : Holds k l c m (start_state k c)
       holds = record {
         text = text;
         launch = launch;
         whole = whole;
-        count = ap length items ∙ length-replicate (item_count l) (start_view (depth k.code) k.variables c.rest);
-        items = λ j it e. subst (λ v. HoldsItem (lines_at 0 k.code) v (item k.code [] (replicate k.variables c.rest))) (is j it e) (item_at_start k.code k.variables c.rest);
+        count = ap length items ∙ length-replicate (item_count l) (start_view (depth k.code) k.variables k.vectors c.rest);
+        items = λ j it e. subst (λ v. HoldsItem (lines_at 0 k.code) v (item k.code [] (filled k.variables k.vectors c.rest))) (is j it e) (item_at_start k.code k.variables k.vectors c.rest);
         there = there;
         cells = cells;
         outs = sym (length-map m.memory.outs.items (λ r. r.items)) ∙ ap length outs;

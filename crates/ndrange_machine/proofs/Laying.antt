@@ -2,18 +2,18 @@
 use Rattle.std.proofs.Common.{◌≡◌, ℕ, ◌+◌, zero, suc, List, [], ◌∷◌, ◌++◌, length, get_or, refl, sym, ap, ◌∙◌, arith, append_assoc, length-append, add-one, add-zero}
 use Rattle.std.specs.Prelude.{Vec, map, slice_set}
 use Rattle.std.specs.Global.{Global}
-use Rattle.std.proofs.lemmas.List.{map-append, map-set, set_at, get_or_at, length-map}
+use Rattle.std.proofs.lemmas.List.{append-nil, map-append, map-set, set_at, get_or_at, length-map}
 use Rattle.kernel_tree.specs.declared.tree.Expr.{Expr}
 use Rattle.kernel_tree.specs.declared.tree.Start.{Start}
 use Rattle.kernel_tree.specs.declared.tree.Stride.{Stride}
 use Rattle.kernel_tree.specs.declared.tree.Stmt.{Stmt}
 use Rattle.kernel_tree.specs.declared.tree.Stmt as stmt
-use Rattle.kernel_tree.specs.Code.{Code, End, Assigns, Loads, Stores, Loops, Syncs}
-use Rattle.kernel_tree.specs.Tree.{before, code_of, code_then, array_of, formula_of, start_of, stride_of}
-use Rattle.kernel_tree.proofs.Rows.{before-Loop}
+use Rattle.kernel_tree.specs.Code.{Code, End, Assigns, Loads, Stores, AssignsFour, LoadsFour, StoresFour, Loops, Guards, Syncs}
+use Rattle.kernel_tree.specs.Tree.{before, code_of, code_then, array_of, formula_of, lanes_of, start_of, stride_of}
+use Rattle.kernel_tree.proofs.Rows.{before-Loop, before-If}
 use Rattle.ndrange_machine.specs.declared.line.Line as held
 use Rattle.ndrange_machine.specs.declared.line.Line.TheVariants as held_line
-use Rattle.ndrange_machine.specs.Lines.{Line, Head, Tail, size, exit_of, lines_at}
+use Rattle.ndrange_machine.specs.Lines.{Line, Head, Tail, Test, size, exit_of, past_if, lines_at}
 use Rattle.ndrange_machine.specs.Lines as text
 use Rattle.ndrange_machine.specs.Wants.{text_of, with_exit}
 
@@ -27,19 +27,40 @@ length-lines_at n (Loops s b c body after) =
     let d = length-lines_at (suc n) body in
     let e = length-lines_at (exit_of n body) after in
     omega arith
+length-lines_at n (AssignsFour v e after) = ap suc (length-lines_at (suc n) after)
+length-lines_at n (LoadsFour v a i after) = ap suc (length-lines_at (suc n) after)
+length-lines_at n (StoresFour a i e after) = ap suc (length-lines_at (suc n) after)
+length-lines_at n (Guards s b body after) =
+    let a = length-append (lines_at (suc n) body) (lines_at (past_if n body) after) in
+    let d = length-lines_at (suc n) body in
+    let e = length-lines_at (past_if n body) after in
+    omega arith
 length-lines_at n (Syncs p q after) = ap suc (length-lines_at (suc n) after)
 
 size_past : (s : Stmt) (rest : Code) → size (before s rest) ≡ size (before s End) + size rest
 size_past (stmt.Assign v e) rest = omega arith
 size_past (stmt.Load v a i) rest = omega arith
 size_past (stmt.Store a i e) rest = omega arith
+size_past (stmt.AssignFour v e) rest = omega arith
+size_past (stmt.LoadFour v a i) rest = omega arith
+size_past (stmt.StoreFour a i e) rest = omega arith
 size_past (stmt.Loop' s b c shape body) rest = omega arith
+size_past (stmt.If' s b shape body) rest = omega arith
 size_past (stmt.Barrier p q) rest = omega arith
 
 lines_past : (n : ℕ) (s : Stmt) (rest : Code) → lines_at n (before s rest) ≡ lines_at n (before s End) ++ lines_at (n + size (before s End)) rest
 lines_past n (stmt.Assign v e) rest = ap (λ m. text.Assign v (formula_of e) ∷ lines_at m rest) (sym (add-one n))
 lines_past n (stmt.Load v a i) rest = ap (λ m. text.Load v (array_of a) (formula_of i) ∷ lines_at m rest) (sym (add-one n))
 lines_past n (stmt.Store a i e) rest = ap (λ m. text.Store (array_of a) (formula_of i) (formula_of e) ∷ lines_at m rest) (sym (add-one n))
+lines_past n (stmt.AssignFour v e) rest = ap (λ m. text.AssignFour v (lanes_of e) ∷ lines_at m rest) (sym (add-one n))
+lines_past n (stmt.LoadFour v a i) rest = ap (λ m. text.LoadFour v (array_of a) (formula_of i) ∷ lines_at m rest) (sym (add-one n))
+lines_past n (stmt.StoreFour a i e) rest = ap (λ m. text.StoreFour (array_of a) (formula_of i) (lanes_of e) ∷ lines_at m rest) (sym (add-one n))
+lines_past n (stmt.If' s b shape body) rest =
+    let h = Test (start_of s) (formula_of b) (past_if n (code_of body)) in
+    let inner = lines_at (suc n) (code_of body) in
+    let far = n + suc (size (code_of body) + 0) in
+    let e : past_if n (code_of body) ≡ far = omega arith in
+    ap (λ m. h ∷ (inner ++ lines_at m rest)) e ∙ ap (λ z. h ∷ (z ++ lines_at far rest)) (sym (append-nil inner))
 lines_past n (stmt.Barrier p q) rest = ap (λ m. text.Barrier p q ∷ lines_at m rest) (sym (add-one n))
 lines_past n (stmt.Loop' s b c shape body) rest =
     let h = Head (start_of s) (formula_of b) (stride_of c) (exit_of n (code_of body)) in
@@ -78,6 +99,7 @@ laid_on l0 l1 l2 xs s p q =
 
 text_with_exit : Line → ℕ → Line
 text_with_exit (Head s b c old) exit = Head s b c exit
+text_with_exit (Test s b old) exit = Test s b exit
 text_with_exit l exit = l
 
 text-with_exit : (l : held.Line) (exit : ℕ) → text_of (with_exit l exit) ≡ text_with_exit (text_of l) exit
@@ -85,6 +107,10 @@ unfolding text_with_exit
 text-with_exit (held_line.Assign v e) exit = refl
 text-with_exit (held_line.Load v a i) exit = refl
 text-with_exit (held_line.Store a i e) exit = refl
+text-with_exit (held_line.AssignFour v e) exit = refl
+text-with_exit (held_line.LoadFour v a i) exit = refl
+text-with_exit (held_line.StoreFour a i e) exit = refl
+text-with_exit (held_line.Test s b old) exit = refl
 text-with_exit (held_line.Head s b c old) exit = refl
 text-with_exit (held_line.Tail head) exit = refl
 text-with_exit (held_line.Barrier p q) exit = refl
@@ -126,3 +152,34 @@ laid_loop l0 l1 l2 l3 n exit s b c body h y e6 e7 e1 e2 e3 e4 e5 =
     ∙ ap (λ z. front ++ z ∷ rest) new_head
     ∙ ap (λ z. front ++ lines_at n z) (sym (before-Loop s b c body End))
     ∙ ap (λ m. front ++ lines_at m (before (stmt.Loop s b c body) End)) e6
+
+-- an `if`: its test, its body, and then the test's exit
+pub laid_if : (l0 l1 l2 : List held.Line) (n exit : ℕ) (s : Start) (b : Expr) (body : Vec Stmt Global) (h y : held.Line) → n ≡ length l0 → exit ≡ length l2 → l1 ≡ l0 ++ held_line.Test s b 0 ∷ [] → map text_of l2 ≡ map text_of l1 ++ lines_at (length l1) (code_then body.items End) → h ≡ get_or l2 n h → y ≡ with_exit h exit → map text_of (slice_set l2 n y) ≡ map text_of l0 ++ lines_at (length l0) (before (stmt.If s b body) End)
+unfolding text_with_exit
+laid_if l0 l1 l2 n exit s b body h y e6 e7 e1 e2 e4 e5 =
+    let code = code_then body.items End in
+    let front = map text_of l0 in
+    let test : ℕ → Line = λ exit. Test (start_of s) (formula_of b) exit in
+    let rest = lines_at (suc n) code in
+    let len0 : length front ≡ n = length-map l0 text_of ∙ sym e6 in
+    let len1 : length l1 ≡ suc n = ap length e1 ∙ length-append l0 (held_line.Test s b 0 ∷ []) ∙ add-one (length l0) ∙ ap suc (sym e6) in
+    let all : map text_of l2 ≡ front ++ test 0 ∷ rest =
+    e2 ∙ ap (λ z. map text_of z ++ lines_at (length l1) code) e1 ∙ ap (λ z. z ++ lines_at (length l1) code) (map-append text_of l0 (held_line.Test s b 0 ∷ []))
+    ∙ ap (λ m. (front ++ test 0 ∷ []) ++ lines_at m code) len1
+    ∙ append_assoc front (test 0 ∷ []) (lines_at (suc n) code) in
+    let test_is : text_of h ≡ test 0 =
+    ap text_of e4 ∙ map-get_or text_of l2 n h ∙ ap (λ z. get_or z n (text_of h)) all ∙ get_or_at front (test 0) rest (text_of h) n len0 in
+    let exit_is : exit ≡ past_if n code =
+    (let a = sym (length-map l2 text_of) ∙ ap length all in
+    let b = length-append front (test 0 ∷ rest) in
+    let d = length-lines_at (suc n) code in
+    omega arith) in
+    let new_test : text_of y ≡ test (past_if n code) =
+    ap text_of e5 ∙ text-with_exit h exit ∙ ap (λ z. text_with_exit z exit) test_is ∙ ap test exit_is in
+    map-set text_of l2 n y
+    ∙ ap (λ z. slice_set z n (text_of y)) all
+    ∙ set_at front (test 0) rest (text_of y) n len0
+    ∙ ap (λ z. front ++ z ∷ rest) new_test
+    ∙ ap (λ z. front ++ test (past_if n code) ∷ z) (sym (append-nil rest))
+    ∙ ap (λ z. front ++ lines_at n z) (sym (before-If s b body End))
+    ∙ ap (λ m. front ++ lines_at m (before (stmt.If s b body) End)) e6

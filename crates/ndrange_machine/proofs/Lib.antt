@@ -1,3 +1,4 @@
+mod Grids
 pub mod Beginning
 pub mod Cells
 pub mod Depth

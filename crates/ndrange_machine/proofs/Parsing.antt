@@ -1,12 +1,13 @@
 -- One text at one line: what is left to do there is told by the lines.
-use Rattle.std.proofs.Common.{◌≡◌, ℕ, ◌+◌, ◌-◌, ◌<◌, suc, List, [], ◌∷◌, ◌++◌, length, drop, Some, refl, sym, ap, ◌∙◌, subst, arith, append_assoc, length-append, length-drop}
+use Rattle.std.proofs.Common.{◌≡◌, Bool, ℕ, ◌+◌, ◌-◌, ◌<◌, suc, List, [], ◌∷◌, ◌++◌, length, drop, Some, refl, sym, ap, ◌∙◌, subst, arith, append_assoc, length-append, length-drop}
 use Rattle.std.specs.Prelude.{map, slice_get}
 use Rattle.std.proofs.lemmas.List.{map-append}
-use Rattle.kernel_tree.specs.Code.{Code, End, Assigns, Loads, Stores, Loops, Syncs}
+use Rattle.kernel_tree.specs.Formula.{Formula, Lanes}
+use Rattle.kernel_tree.specs.Code.{Array, Start, Stride, Code, End, Assigns, Loads, Stores, AssignsFour, LoadsFour, StoresFour, Loops, Guards, Syncs}
 use Rattle.kernel_tree.specs.Item.{Frame, Item}
 use Rattle.kernel_tree.specs.Device.{still}
 use Rattle.ndrange_machine.specs.Known.{turn_of, turns_of, numbers}
-use Rattle.ndrange_machine.specs.Lines.{Line, Assign, Load, Store, Head, Tail, Barrier, size, exit_of, lines_at, head_of, lines_after, IsLoop, AreLoops, IsAt}
+use Rattle.ndrange_machine.specs.Lines.{Line, Assign, Load, Store, AssignFour, LoadFour, StoreFour, Test, Head, Tail, Barrier, size, exit_of, past_if, lines_at, head_of, lines_after, IsLoop, AreLoops, IsAt}
 use Rattle.ndrange_machine.proofs.Laying.{length-lines_at}
 
 -- nothing, or the end of a loop's body
@@ -16,6 +17,10 @@ Closes (Tail h ∷ xs) = Unit {0}
 Closes (Assign v e ∷ xs) = ⊥
 Closes (Load v a e ∷ xs) = ⊥
 Closes (Store a i e ∷ xs) = ⊥
+Closes (AssignFour v e ∷ xs) = ⊥
+Closes (LoadFour v a e ∷ xs) = ⊥
+Closes (StoreFour a i e ∷ xs) = ⊥
+Closes (Test s b n ∷ xs) = ⊥
 Closes (Head s b c n ∷ xs) = ⊥
 Closes (Barrier p q ∷ xs) = ⊥
 
@@ -23,83 +28,176 @@ closes_after : (n : ℕ) (fs : List Frame) → Closes (lines_after n fs)
 closes_after n [] = tt
 closes_after n (f ∷ fs) = tt
 
-abbrev Same : (n : ℕ) → Code → Code → List Line → List Line → Type 0
-Same n a b xs ys = Closes xs → Closes ys → lines_at n a ++ xs ≡ lines_at n b ++ ys → (a ≡ b) × (xs ≡ ys)
-
 unclosed : {A : Type 0} (xs ys : List Line) → Closes xs → xs ≡ ys → (Closes ys → ⊥) → A
 unclosed xs ys c e bare = absurd (bare (subst Closes e c))
 
+-- The first line tells the first statement
+
+at_end : (n : ℕ) (zs : List Line) (b : Code) (ys : List Line) → Closes zs → zs ≡ lines_at n b ++ ys → End ≡ b
+at_end n zs End ys c h = refl
+at_end n zs (Assigns v e r) ys c h = unclosed zs _ c h (λ z. z)
+at_end n zs (Loads v a e r) ys c h = unclosed zs _ c h (λ z. z)
+at_end n zs (Stores a i e r) ys c h = unclosed zs _ c h (λ z. z)
+at_end n zs (AssignsFour v e r) ys c h = unclosed zs _ c h (λ z. z)
+at_end n zs (LoadsFour v a e r) ys c h = unclosed zs _ c h (λ z. z)
+at_end n zs (StoresFour a i e r) ys c h = unclosed zs _ c h (λ z. z)
+at_end n zs (Loops s p k m r) ys c h = unclosed zs _ c h (λ z. z)
+at_end n zs (Guards s p m r) ys c h = unclosed zs _ c h (λ z. z)
+at_end n zs (Syncs x y r) ys c h = unclosed zs _ c h (λ z. z)
+
+at_assign : (n : ℕ) (v : ℕ) (e : Formula) (zs : List Line) (b : Code) (ys : List Line) → Closes ys → Assign v e ∷ zs ≡ lines_at n b ++ ys → (r : Code) × (Assigns v e r ≡ b) × (zs ≡ lines_at (suc n) r ++ ys)
+at_assign n v e zs (Assigns w x r) ys c h =
+    let p : v ≡ w = cc in
+    let q : e ≡ x = cc in
+    let t : zs ≡ lines_at (suc n) r ++ ys = cc in
+    (r, ap (λ z. Assigns z e r) p ∙ ap (λ z. Assigns w z r) q, t)
+at_assign n v e zs End ys c h = unclosed ys _ c (sym h) (λ z. z)
+at_assign n v e zs _ ys c h = cc
+
+at_load : (n : ℕ) (v : ℕ) (a : Array) (e : Formula) (zs : List Line) (b : Code) (ys : List Line) → Closes ys → Load v a e ∷ zs ≡ lines_at n b ++ ys → (r : Code) × (Loads v a e r ≡ b) × (zs ≡ lines_at (suc n) r ++ ys)
+at_load n v a e zs (Loads w d x r) ys c h =
+    let p : v ≡ w = cc in
+    let o : a ≡ d = cc in
+    let q : e ≡ x = cc in
+    let t : zs ≡ lines_at (suc n) r ++ ys = cc in
+    (r, ap (λ z. Loads z a e r) p ∙ ap (λ z. Loads w z e r) o ∙ ap (λ z. Loads w d z r) q, t)
+at_load n v a e zs End ys c h = unclosed ys _ c (sym h) (λ z. z)
+at_load n v a e zs _ ys c h = cc
+
+at_store : (n : ℕ) (a : Array) (i e : Formula) (zs : List Line) (b : Code) (ys : List Line) → Closes ys → Store a i e ∷ zs ≡ lines_at n b ++ ys → (r : Code) × (Stores a i e r ≡ b) × (zs ≡ lines_at (suc n) r ++ ys)
+at_store n a i e zs (Stores d j x r) ys c h =
+    let o : a ≡ d = cc in
+    let p : i ≡ j = cc in
+    let q : e ≡ x = cc in
+    let t : zs ≡ lines_at (suc n) r ++ ys = cc in
+    (r, ap (λ z. Stores z i e r) o ∙ ap (λ z. Stores d z e r) p ∙ ap (λ z. Stores d j z r) q, t)
+at_store n a i e zs End ys c h = unclosed ys _ c (sym h) (λ z. z)
+at_store n a i e zs _ ys c h = cc
+
+at_assign_four : (n : ℕ) (v : ℕ) (e : Lanes) (zs : List Line) (b : Code) (ys : List Line) → Closes ys → AssignFour v e ∷ zs ≡ lines_at n b ++ ys → (r : Code) × (AssignsFour v e r ≡ b) × (zs ≡ lines_at (suc n) r ++ ys)
+at_assign_four n v e zs (AssignsFour w x r) ys c h =
+    let p : v ≡ w = cc in
+    let q : e ≡ x = cc in
+    let t : zs ≡ lines_at (suc n) r ++ ys = cc in
+    (r, ap (λ z. AssignsFour z e r) p ∙ ap (λ z. AssignsFour w z r) q, t)
+at_assign_four n v e zs End ys c h = unclosed ys _ c (sym h) (λ z. z)
+at_assign_four n v e zs _ ys c h = cc
+
+at_load_four : (n : ℕ) (v : ℕ) (a : Array) (e : Formula) (zs : List Line) (b : Code) (ys : List Line) → Closes ys → LoadFour v a e ∷ zs ≡ lines_at n b ++ ys → (r : Code) × (LoadsFour v a e r ≡ b) × (zs ≡ lines_at (suc n) r ++ ys)
+at_load_four n v a e zs (LoadsFour w d x r) ys c h =
+    let p : v ≡ w = cc in
+    let o : a ≡ d = cc in
+    let q : e ≡ x = cc in
+    let t : zs ≡ lines_at (suc n) r ++ ys = cc in
+    (r, ap (λ z. LoadsFour z a e r) p ∙ ap (λ z. LoadsFour w z e r) o ∙ ap (λ z. LoadsFour w d z r) q, t)
+at_load_four n v a e zs End ys c h = unclosed ys _ c (sym h) (λ z. z)
+at_load_four n v a e zs _ ys c h = cc
+
+at_store_four : (n : ℕ) (a : Array) (i : Formula) (e : Lanes) (zs : List Line) (b : Code) (ys : List Line) → Closes ys → StoreFour a i e ∷ zs ≡ lines_at n b ++ ys → (r : Code) × (StoresFour a i e r ≡ b) × (zs ≡ lines_at (suc n) r ++ ys)
+at_store_four n a i e zs (StoresFour d j x r) ys c h =
+    let o : a ≡ d = cc in
+    let p : i ≡ j = cc in
+    let q : e ≡ x = cc in
+    let t : zs ≡ lines_at (suc n) r ++ ys = cc in
+    (r, ap (λ z. StoresFour z i e r) o ∙ ap (λ z. StoresFour d z e r) p ∙ ap (λ z. StoresFour d j z r) q, t)
+at_store_four n a i e zs End ys c h = unclosed ys _ c (sym h) (λ z. z)
+at_store_four n a i e zs _ ys c h = cc
+
+at_sync : (n : ℕ) (x y : Bool) (zs : List Line) (b : Code) (ys : List Line) → Closes ys → Barrier x y ∷ zs ≡ lines_at n b ++ ys → (r : Code) × (Syncs x y r ≡ b) × (zs ≡ lines_at (suc n) r ++ ys)
+at_sync n x y zs (Syncs u w r) ys c h =
+    let p : x ≡ u = cc in
+    let q : y ≡ w = cc in
+    let t : zs ≡ lines_at (suc n) r ++ ys = cc in
+    (r, ap (λ z. Syncs z y r) p ∙ ap (λ z. Syncs u z r) q, t)
+at_sync n x y zs End ys c h = unclosed ys _ c (sym h) (λ z. z)
+at_sync n x y zs _ ys c h = cc
+
+at_head : (n : ℕ) (s : Start) (p : Formula) (k : Stride) (exit : ℕ) (zs : List Line) (b : Code) (ys : List Line) → Closes ys → Head s p k exit ∷ zs ≡ lines_at n b ++ ys → (m : Code) × (r : Code) × (Loops s p k m r ≡ b) × (zs ≡ (lines_at (suc n) m ++ (Tail n ∷ lines_at (exit_of n m) r)) ++ ys)
+at_head n s p k exit zs (Loops u w x m r) ys c h =
+    let o : s ≡ u = cc in
+    let q : p ≡ w = cc in
+    let g : k ≡ x = cc in
+    let t : zs ≡ (lines_at (suc n) m ++ (Tail n ∷ lines_at (exit_of n m) r)) ++ ys = cc in
+    (m, r, ap (λ z. Loops z p k m r) o ∙ ap (λ z. Loops u z k m r) q ∙ ap (λ z. Loops u w z m r) g, t)
+at_head n s p k exit zs End ys c h = unclosed ys _ c (sym h) (λ z. z)
+at_head n s p k exit zs _ ys c h = cc
+
+at_test : (n : ℕ) (s : Start) (p : Formula) (exit : ℕ) (zs : List Line) (b : Code) (ys : List Line) → Closes ys → Test s p exit ∷ zs ≡ lines_at n b ++ ys → (m : Code) × (r : Code) × (Guards s p m r ≡ b) × (exit ≡ past_if n m) × (zs ≡ (lines_at (suc n) m ++ lines_at (past_if n m) r) ++ ys)
+at_test n s p exit zs (Guards u w m r) ys c h =
+    let o : s ≡ u = cc in
+    let q : p ≡ w = cc in
+    let g : exit ≡ past_if n m = cc in
+    let t : zs ≡ (lines_at (suc n) m ++ lines_at (past_if n m) r) ++ ys = cc in
+    (m, r, ap (λ z. Guards z p m r) o ∙ ap (λ z. Guards u z m r) q, g, t)
+at_test n s p exit zs End ys c h = unclosed ys _ c (sym h) (λ z. z)
+at_test n s p exit zs _ ys c h = cc
+
+-- two lists of one length at the front of one list
+same_fronts : {A : Type 0} (a b xs ys : List A) → length a ≡ length b → a ++ xs ≡ b ++ ys → (a ≡ b) × (xs ≡ ys)
+same_fronts [] [] xs ys e h = (refl, h)
+same_fronts [] (y ∷ b) xs ys e h = absurd (omega arith)
+same_fronts (x ∷ a) [] xs ys e h = absurd (omega arith)
+same_fronts (x ∷ a) (y ∷ b) xs ys e h =
+    let heads : x ≡ y = cc in
+    let tails : a ++ xs ≡ b ++ ys = cc in
+    let rest = same_fronts a b xs ys (omega arith) tails in
+    (ap (λ z. z ∷ a) heads ∙ ap (λ z. y ∷ z) rest.0, rest.1)
+
+abbrev Same : (n : ℕ) → Code → Code → List Line → List Line → Type 0
+Same n a b xs ys = Closes xs → Closes ys → lines_at n a ++ xs ≡ lines_at n b ++ ys → (a ≡ b) × (xs ≡ ys)
+
 same_code : (n : ℕ) (a b : Code) (xs ys : List Line) → Same n a b xs ys
-same_code n End End xs ys cx cy h = (refl, h)
-same_code n End (Assigns v2 e2 r2) xs ys cx cy h = unclosed xs _ cx h (λ z. z)
-same_code n End (Loads v2 a2 e2 r2) xs ys cx cy h = unclosed xs _ cx h (λ z. z)
-same_code n End (Stores a2 i2 e2 r2) xs ys cx cy h = unclosed xs _ cx h (λ z. z)
-same_code n End (Loops s2 p2 c2 m2 r2) xs ys cx cy h = unclosed xs _ cx h (λ z. z)
-same_code n End (Syncs x2 y2 r2) xs ys cx cy h = unclosed xs _ cx h (λ z. z)
-same_code n (Assigns v1 e1 r1) End xs ys cx cy h = unclosed ys _ cy (sym h) (λ z. z)
-same_code n (Assigns v1 e1 r1) (Assigns v2 e2 r2) xs ys cx cy h =
-    let tails : lines_at (suc n) r1 ++ xs ≡ lines_at (suc n) r2 ++ ys = cc in
-    let rest = same_code (suc n) r1 r2 xs ys cx cy tails in
-    let of_v : v1 ≡ v2 = cc in
-    let of_e : e1 ≡ e2 = cc in
-    (ap (λ z. Assigns z e1 r1) of_v ∙ ap (λ z. Assigns v2 z r1) of_e ∙ ap (λ z. Assigns v2 e2 z) rest.0, rest.1)
-same_code n (Assigns v1 e1 r1) (Loads v2 a2 e2 r2) xs ys cx cy h = cc
-same_code n (Assigns v1 e1 r1) (Stores a2 i2 e2 r2) xs ys cx cy h = cc
-same_code n (Assigns v1 e1 r1) (Loops s2 p2 c2 m2 r2) xs ys cx cy h = cc
-same_code n (Assigns v1 e1 r1) (Syncs x2 y2 r2) xs ys cx cy h = cc
-same_code n (Loads v1 a1 e1 r1) End xs ys cx cy h = unclosed ys _ cy (sym h) (λ z. z)
-same_code n (Loads v1 a1 e1 r1) (Assigns v2 e2 r2) xs ys cx cy h = cc
-same_code n (Loads v1 a1 e1 r1) (Loads v2 a2 e2 r2) xs ys cx cy h =
-    let tails : lines_at (suc n) r1 ++ xs ≡ lines_at (suc n) r2 ++ ys = cc in
-    let rest = same_code (suc n) r1 r2 xs ys cx cy tails in
-    let of_v : v1 ≡ v2 = cc in
-    let of_a : a1 ≡ a2 = cc in
-    let of_e : e1 ≡ e2 = cc in
-    (ap (λ z. Loads z a1 e1 r1) of_v ∙ ap (λ z. Loads v2 z e1 r1) of_a ∙ ap (λ z. Loads v2 a2 z r1) of_e ∙ ap (λ z. Loads v2 a2 e2 z) rest.0, rest.1)
-same_code n (Loads v1 a1 e1 r1) (Stores a2 i2 e2 r2) xs ys cx cy h = cc
-same_code n (Loads v1 a1 e1 r1) (Loops s2 p2 c2 m2 r2) xs ys cx cy h = cc
-same_code n (Loads v1 a1 e1 r1) (Syncs x2 y2 r2) xs ys cx cy h = cc
-same_code n (Stores a1 i1 e1 r1) End xs ys cx cy h = unclosed ys _ cy (sym h) (λ z. z)
-same_code n (Stores a1 i1 e1 r1) (Assigns v2 e2 r2) xs ys cx cy h = cc
-same_code n (Stores a1 i1 e1 r1) (Loads v2 a2 e2 r2) xs ys cx cy h = cc
-same_code n (Stores a1 i1 e1 r1) (Stores a2 i2 e2 r2) xs ys cx cy h =
-    let tails : lines_at (suc n) r1 ++ xs ≡ lines_at (suc n) r2 ++ ys = cc in
-    let rest = same_code (suc n) r1 r2 xs ys cx cy tails in
-    let of_a : a1 ≡ a2 = cc in
-    let of_i : i1 ≡ i2 = cc in
-    let of_e : e1 ≡ e2 = cc in
-    (ap (λ z. Stores z i1 e1 r1) of_a ∙ ap (λ z. Stores a2 z e1 r1) of_i ∙ ap (λ z. Stores a2 i2 z r1) of_e ∙ ap (λ z. Stores a2 i2 e2 z) rest.0, rest.1)
-same_code n (Stores a1 i1 e1 r1) (Loops s2 p2 c2 m2 r2) xs ys cx cy h = cc
-same_code n (Stores a1 i1 e1 r1) (Syncs x2 y2 r2) xs ys cx cy h = cc
-same_code n (Loops s1 p1 c1 m1 r1) End xs ys cx cy h = unclosed ys _ cy (sym h) (λ z. z)
-same_code n (Loops s1 p1 c1 m1 r1) (Assigns v2 e2 r2) xs ys cx cy h = cc
-same_code n (Loops s1 p1 c1 m1 r1) (Loads v2 a2 e2 r2) xs ys cx cy h = cc
-same_code n (Loops s1 p1 c1 m1 r1) (Stores a2 i2 e2 r2) xs ys cx cy h = cc
-same_code n (Loops s1 p1 c1 m1 r1) (Loops s2 p2 c2 m2 r2) xs ys cx cy h =
-    let left = sym (append_assoc (lines_at (suc n) m1) (Tail n ∷ lines_at (exit_of n m1) r1) xs) in
-    let right = append_assoc (lines_at (suc n) m2) (Tail n ∷ lines_at (exit_of n m2) r2) ys in
-    let heads : Head s1 p1 c1 (exit_of n m1) ≡ Head s2 p2 c2 (exit_of n m2) = cc in
-    let tails : (lines_at (suc n) m1 ++ (Tail n ∷ lines_at (exit_of n m1) r1)) ++ xs ≡ (lines_at (suc n) m2 ++ (Tail n ∷ lines_at (exit_of n m2) r2)) ++ ys = cc in
-    let inner = same_code (suc n) m1 m2 (Tail n ∷ (lines_at (exit_of n m1) r1 ++ xs)) (Tail n ∷ (lines_at (exit_of n m2) r2 ++ ys)) tt tt (left ∙ tails ∙ right) in
+same_code n End b xs ys cx cy h =
+    let e = at_end n xs b ys cx h in
+    (e, h ∙ ap (λ z. lines_at n z ++ ys) (sym e))
+same_code n (Assigns v e r) b xs ys cx cy h =
+    let t = at_assign n v e (lines_at (suc n) r ++ xs) b ys cy h in
+    let rest = same_code (suc n) r t.0 xs ys cx cy t.2 in
+    (ap (Assigns v e) rest.0 ∙ t.1, rest.1)
+same_code n (Loads v a e r) b xs ys cx cy h =
+    let t = at_load n v a e (lines_at (suc n) r ++ xs) b ys cy h in
+    let rest = same_code (suc n) r t.0 xs ys cx cy t.2 in
+    (ap (Loads v a e) rest.0 ∙ t.1, rest.1)
+same_code n (Stores a i e r) b xs ys cx cy h =
+    let t = at_store n a i e (lines_at (suc n) r ++ xs) b ys cy h in
+    let rest = same_code (suc n) r t.0 xs ys cx cy t.2 in
+    (ap (Stores a i e) rest.0 ∙ t.1, rest.1)
+same_code n (AssignsFour v e r) b xs ys cx cy h =
+    let t = at_assign_four n v e (lines_at (suc n) r ++ xs) b ys cy h in
+    let rest = same_code (suc n) r t.0 xs ys cx cy t.2 in
+    (ap (AssignsFour v e) rest.0 ∙ t.1, rest.1)
+same_code n (LoadsFour v a e r) b xs ys cx cy h =
+    let t = at_load_four n v a e (lines_at (suc n) r ++ xs) b ys cy h in
+    let rest = same_code (suc n) r t.0 xs ys cx cy t.2 in
+    (ap (LoadsFour v a e) rest.0 ∙ t.1, rest.1)
+same_code n (StoresFour a i e r) b xs ys cx cy h =
+    let t = at_store_four n a i e (lines_at (suc n) r ++ xs) b ys cy h in
+    let rest = same_code (suc n) r t.0 xs ys cx cy t.2 in
+    (ap (StoresFour a i e) rest.0 ∙ t.1, rest.1)
+same_code n (Syncs x y r) b xs ys cx cy h =
+    let t = at_sync n x y (lines_at (suc n) r ++ xs) b ys cy h in
+    let rest = same_code (suc n) r t.0 xs ys cx cy t.2 in
+    (ap (Syncs x y) rest.0 ∙ t.1, rest.1)
+same_code n (Loops s p c m r) b xs ys cx cy h =
+    let t = at_head n s p c (exit_of n m) ((lines_at (suc n) m ++ (Tail n ∷ lines_at (exit_of n m) r)) ++ xs) b ys cy h in
+    let left = sym (append_assoc (lines_at (suc n) m) (Tail n ∷ lines_at (exit_of n m) r) xs) in
+    let right = append_assoc (lines_at (suc n) t.0) (Tail n ∷ lines_at (exit_of n t.0) t.1) ys in
+    let inner = same_code (suc n) m t.0 (Tail n ∷ (lines_at (exit_of n m) r ++ xs)) (Tail n ∷ (lines_at (exit_of n t.0) t.1 ++ ys)) tt tt (left ∙ t.3 ∙ right) in
     let others = inner.1 in
-    let after : lines_at (exit_of n m1) r1 ++ xs ≡ lines_at (exit_of n m2) r2 ++ ys = cc in
-    let rest = same_code (exit_of n m1) r1 r2 xs ys cx cy (after ∙ ap (λ z. lines_at (exit_of n z) r2 ++ ys) (sym inner.0)) in
-    let starts : s1 ≡ s2 = cc in
-    let bounds : p1 ≡ p2 = cc in
-    let strides : c1 ≡ c2 = cc in
-    (ap (λ z. Loops z p1 c1 m1 r1) starts ∙ ap (λ z. Loops s2 z c1 m1 r1) bounds ∙ ap (λ z. Loops s2 p2 z m1 r1) strides ∙ ap (λ z. Loops s2 p2 c2 z r1) inner.0 ∙ ap (λ z. Loops s2 p2 c2 m2 z) rest.0, rest.1)
-same_code n (Loops s1 p1 c1 m1 r1) (Syncs x2 y2 r2) xs ys cx cy h = cc
-same_code n (Syncs x1 y1 r1) End xs ys cx cy h = unclosed ys _ cy (sym h) (λ z. z)
-same_code n (Syncs x1 y1 r1) (Assigns v2 e2 r2) xs ys cx cy h = cc
-same_code n (Syncs x1 y1 r1) (Loads v2 a2 e2 r2) xs ys cx cy h = cc
-same_code n (Syncs x1 y1 r1) (Stores a2 i2 e2 r2) xs ys cx cy h = cc
-same_code n (Syncs x1 y1 r1) (Loops s2 p2 c2 m2 r2) xs ys cx cy h = cc
-same_code n (Syncs x1 y1 r1) (Syncs x2 y2 r2) xs ys cx cy h =
-    let tails : lines_at (suc n) r1 ++ xs ≡ lines_at (suc n) r2 ++ ys = cc in
-    let rest = same_code (suc n) r1 r2 xs ys cx cy tails in
-    let of_x : x1 ≡ x2 = cc in
-    let of_y : y1 ≡ y2 = cc in
-    (ap (λ z. Syncs z y1 r1) of_x ∙ ap (λ z. Syncs x2 z r1) of_y ∙ ap (λ z. Syncs x2 y2 z) rest.0, rest.1)
+    let after : lines_at (exit_of n m) r ++ xs ≡ lines_at (exit_of n t.0) t.1 ++ ys = cc in
+    let rest = same_code (exit_of n m) r t.1 xs ys cx cy (after ∙ ap (λ z. lines_at (exit_of n z) t.1 ++ ys) (sym inner.0)) in
+    (ap (λ z. Loops s p c z r) inner.0 ∙ ap (Loops s p c t.0) rest.0 ∙ t.2, rest.1)
+same_code n (Guards s p m r) b xs ys cx cy h =
+    let t = at_test n s p (past_if n m) ((lines_at (suc n) m ++ lines_at (past_if n m) r) ++ xs) b ys cy h in
+    let left = sym (append_assoc (lines_at (suc n) m) (lines_at (past_if n m) r) xs) in
+    let right = append_assoc (lines_at (suc n) t.0) (lines_at (past_if n t.0) t.1) ys in
+    let one = length-lines_at (suc n) m in
+    let two = length-lines_at (suc n) t.0 in
+    let exits = t.3 in
+    let fronts = same_fronts (lines_at (suc n) m) (lines_at (suc n) t.0) (lines_at (past_if n m) r ++ xs) (lines_at (past_if n t.0) t.1 ++ ys) (omega arith) (left ∙ t.4 ∙ right) in
+    let inner = same_code (suc n) m t.0 [] [] tt tt (ap (λ z. z ++ []) fronts.0) in
+    let rest = same_code (past_if n m) r t.1 xs ys cx cy (fronts.1 ∙ ap (λ z. lines_at (past_if n z) t.1 ++ ys) (sym inner.0)) in
+    (ap (λ z. Guards s p z r) inner.0 ∙ ap (Guards s p t.0) rest.0 ∙ t.2, rest.1)
 
 abbrev turn_numbers : List Frame → List ℕ
 turn_numbers fs = map (λ f. f.turn) fs

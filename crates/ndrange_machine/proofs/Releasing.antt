@@ -1,20 +1,18 @@
 -- The machine after the release of a group.
-use Rattle.std.proofs.Common.{◌≡◌, ℕ, ◌+◌, ◌*◌, ◌/◌, ◌<◌, ◌≤◌, suc, List, [], ◌∷◌, ◌++◌, length, Option, Some, None, Bool, true, false, refl, sym, ap, ◌∙◌, subst, ⊎_elim, arith}
-use Rattle.std.specs.Prelude.{map, is_some, slice_get, option_map, nat_le, nat_lt, ◌&&◌, if◌then◌else◌}
-use Rattle.std.proofs.lemmas.Bool.{cases_lt, lt-ltb, le-leb, ltb-true, leb-true, cases_Bool}
+use Rattle.std.proofs.Common.{◌≡◌, ℕ, List, [], ◌∷◌, ◌++◌, length, Option, Some, None, Bool, true, false, refl, sym, ap, ◌∙◌, subst, ⊎_elim}
+use Rattle.std.specs.Prelude.{map, is_some, slice_get, option_map, ◌==◌, if◌then◌else◌}
 use Rattle.std.proofs.lemmas.Bool.Decides.{eqb_tells}
-use Rattle.std.proofs.Math.Nat.{div-lt_iff_lt-mul}
 use Rattle.kernel_tree.specs.declared.events.Event.{Event}
 use Rattle.kernel_tree.specs.declared.events.Event.TheVariants.{Release}
 use Rattle.kernel_tree.specs.Code.{Kernel}
-use Rattle.kernel_tree.specs.Launch.{Launch, Cells, IsWhole, group_of, first_item, ids_of}
+use Rattle.kernel_tree.specs.Launch.{Launch, Cells, item_count, group_of, first_item, ids_of}
 use Rattle.kernel_tree.specs.Item.{Item, Wants, Waits}
 use Rattle.kernel_tree.proofs.Grouping.{first_of_group, first_in_launch}
+use Rattle.enabled_events.specs.Grids.{grid_of}
 use Rattle.enabled_events.specs.Laws.{FlagsFollow}
 use Rattle.enabled_events.specs.Listed.{AreFlags}
-use Rattle.cell_marks.specs.Marked.{MarksTell}
+use Rattle.race_marks.specs.Marked.{MarksTell}
 use Rattle.ndrange_machine.specs.Groups.{Refreshed, Refreshes, MarksRelease}
-use Rattle.ndrange_machine.specs.Sights.{seen_as}
 use Rattle.kernel_tree.specs.Device.{Memory, State, still, device_of, start_state, wants, Enabled, taken, has_flag, after}
 use Rattle.kernel_tree.specs.Faults.{accesses_of, failure_of, RacesAfter, SomeDiverges, IsFaultless}
 use Rattle.ndrange_machine.specs.declared.machine.Machine.{Machine}
@@ -27,7 +25,7 @@ use Rattle.ndrange_machine.specs.Lines.{Line}
 use Rattle.ndrange_machine.specs.Memory.{held}
 use Rattle.ndrange_machine.specs.Wants.{text_of, wanted}
 use Rattle.ndrange_machine.specs.Stands.{HoldsItem, Holds, StandsFor, state_after}
-use Rattle.ndrange_machine.specs.Takes.{Took, IsWanted, SameCore, Passes, past, past_want}
+use Rattle.ndrange_machine.specs.Takes.{Advanced, IsWanted, SameCore, PassesGroup, past, past_want}
 use Rattle.ndrange_machine.proofs.Next.{IsNext, Stands}
 use Rattle.ndrange_machine.proofs.Standing.{here, its_item}
 use Rattle.ndrange_machine.proofs.Waiting.{IsWaiting, stand_waits}
@@ -42,6 +40,8 @@ passes_by lines l j it (want.Fails kind) w m y h waits = absurd (subst IsWaiting
 passes_by lines l j it (want.Changes c to) w m y h waits = absurd (subst IsWaiting h.1 waits)
 passes_by lines l j it (want.Reads v a i to) w m y h waits = absurd (subst IsWaiting h.1 waits)
 passes_by lines l j it (want.Writes a i x to) w m y h waits = absurd (subst IsWaiting h.1 waits)
+passes_by lines l j it (want.ReadsFour v a n to) w m y h waits = absurd (subst IsWaiting h.1 waits)
+passes_by lines l j it (want.WritesFour a n u to) w m y h waits = absurd (subst IsWaiting h.1 waits)
 
 -- what an item wants that waits
 waiting_want : (lines : List Line) (it : ItemView) (v : Want) (w : Wants) → IsNext lines it v w → IsWaiting w → (p : Bool) × (q : Bool) × (to : ℕ) × (v ≡ want.Waits p q to) × (x : Item) × (w ≡ Waits p q x)
@@ -51,30 +51,10 @@ waiting_want lines it (want.Fails kind) w h waits = absurd (subst IsWaiting h.0 
 waiting_want lines it (want.Changes c to) w h waits = absurd (subst IsWaiting h.1 waits)
 waiting_want lines it (want.Reads v a i to) w h waits = absurd (subst IsWaiting h.1 waits)
 waiting_want lines it (want.Writes a i x to) w h waits = absurd (subst IsWaiting h.1 waits)
+waiting_want lines it (want.ReadsFour v a n to) w h waits = absurd (subst IsWaiting h.1 waits)
+waiting_want lines it (want.WritesFour a n u to) w h waits = absurd (subst IsWaiting h.1 waits)
 
--- the items of a group, by their numbers
-module _ (l : Launch) (whole : IsWhole l) (g : ℕ) where
-  in_range : (i : ℕ) → group_of l i ≡ g → (nat_le (g * l.local) i && nat_lt i (g * l.local + l.local)) ≡ true
-  in_range i e =
-      let low : g * l.local ≤ i = ⊎_elim (λ lt. let less = (div-lt_iff_lt-mul whole.positive).1 lt in absurd (omega arith)) (λ le. le) (cases_lt i (g * l.local)) in
-      let top : i < suc g * l.local = (div-lt_iff_lt-mul whole.positive).0 (let q : i / l.local ≡ g = e in omega arith) in
-      let high : i < g * l.local + l.local = omega arith in
-      ap (λ b. b && nat_lt i (g * l.local + l.local)) (le-leb (g * l.local) i low) ∙ lt-ltb i (g * l.local + l.local) high
-
-  in_group : (i : ℕ) → (nat_le (g * l.local) i && nat_lt i (g * l.local + l.local)) ≡ true → group_of l i ≡ g
-  in_group i e =
-      let b = both_true (nat_le (g * l.local) i) (nat_lt i (g * l.local + l.local)) e in
-      let low : g * l.local ≤ i = leb-true (g * l.local) i b.0 in
-      let high : i < g * l.local + l.local = ltb-true i (g * l.local + l.local) b.1 in
-      let top : i < suc g * l.local = omega arith in
-      let below : i / l.local < suc g = (div-lt_iff_lt-mul whole.positive).1 top in
-      ⊎_elim (λ lt. let less : i < g * l.local = (div-lt_iff_lt-mul whole.positive).0 lt in absurd (omega arith)) (λ le. omega arith) (cases_lt (i / l.local) g)
-    where
-      both_true : (p q : Bool) → (p && q) ≡ true → (p ≡ true) × (q ≡ true)
-      both_true true q h = (refl, h)
-      both_true false q h = cc
-
-module _ (k : Kernel) (l : Launch) (c : Cells) (m : Machine) (es : List Event) (st : StandsFor k l c m es) (clean : IsFaultless (device_of k l c) (start_state k c) es) (g : ℕ) (en : Enabled (device_of k l c) (state_after k l c es) (Release g)) (n : Machine) (ps : Passes m n (g * m.launch.local) (g * m.launch.local + m.launch.local)) where
+module _ (k : Kernel) (l : Launch) (c : Cells) (m : Machine) (es : List Event) (st : StandsFor k l c m es) (clean : IsFaultless (device_of k l c) (start_state k c) es) (g : ℕ) (en : Enabled (device_of k l c) (state_after k l c es) (Release g)) (n : Machine) (ps : PassesGroup m n g) where
   abbrev now : State
   now = state_after k l c es
 
@@ -93,13 +73,13 @@ module _ (k : Kernel) (l : Launch) (c : Cells) (m : Machine) (es : List Event) (
   unfolding after
   memory_later = refl
 
-  new_items : (i : ℕ) → slice_get n.items.items i ≡ (if nat_le (g * l.local) i && nat_lt i (g * l.local + l.local) then option_map (past m i) (slice_get m.items.items i) else slice_get m.items.items i)
-  new_items i = ps.items i ∙ ap (λ (z : Launch). if nat_le (g * z.local) i && nat_lt i (g * z.local + z.local) then option_map (past m i) (slice_get m.items.items i) else slice_get m.items.items i) st.holds.launch
+  new_items : (i : ℕ) → slice_get n.items.items i ≡ (if group_of l i == g then option_map (past m i) (slice_get m.items.items i) else slice_get m.items.items i)
+  new_items i = ps.items i ∙ ap (λ (z : Launch). if group_of z i == g then option_map (past m i) (slice_get m.items.items i) else slice_get m.items.items i) st.holds.launch
 
   stands_later : (i : ℕ) (x : ItemView) → slice_get n.items.items i ≡ Some x → Stands (map text_of m.lines.items) x (later.items i)
-  stands_later i x e = ⊎_elim (λ q. by_moved (in_group l st.holds.whole g i q) q) (λ q. by_kept (λ r. let both : true ≡ false = sym (in_range l st.holds.whole g i r) ∙ q in cc) q) (cases_Bool (nat_le (g * l.local) i && nat_lt i (g * l.local + l.local)))
+  stands_later i x e = ⊎_elim (λ q. by_moved q.1 q.0) (λ q. by_kept q.1 q.0) (eqb_tells (group_of l i) g)
     where
-      by_moved : group_of l i ≡ g → (nat_le (g * l.local) i && nat_lt i (g * l.local + l.local)) ≡ true → Stands (map text_of m.lines.items) x (later.items i)
+      by_moved : group_of l i ≡ g → (group_of l i == g) ≡ true → Stands (map text_of m.lines.items) x (later.items i)
       by_moved r t = of_old (slice_get m.items.items i) refl (sym (new_items i ∙ ap (λ z. if z then option_map (past m i) (slice_get m.items.items i) else slice_get m.items.items i) t) ∙ e)
         where
           of_old : (o : Option ItemView) → slice_get m.items.items i ≡ o → option_map (past m i) (slice_get m.items.items i) ≡ Some x → Stands (map text_of m.lines.items) x (later.items i)
@@ -112,7 +92,7 @@ module _ (k : Kernel) (l : Launch) (c : Cells) (m : Machine) (es : List Event) (
               let s = passes_by (map text_of m.lines.items) l i it (wanted m.lines.items (ids_of m.launch i) it) (wants (device_of k l c) now i) now.memory (now.items i) (here k l c m now st.holds i it q vars) waits in
               subst (λ z. Stands (map text_of m.lines.items) z (later.items i)) is (subst (Stands (map text_of m.lines.items) (past m i it)) (sym (moved_later i r)) s)
 
-      by_kept : (group_of l i ≡ g → ⊥) → (nat_le (g * l.local) i && nat_lt i (g * l.local + l.local)) ≡ false → Stands (map text_of m.lines.items) x (later.items i)
+      by_kept : (group_of l i ≡ g → ⊥) → (group_of l i == g) ≡ false → Stands (map text_of m.lines.items) x (later.items i)
       by_kept r t =
           let old : slice_get m.items.items i ≡ Some x = sym (new_items i ∙ ap (λ z. if z then option_map (past m i) (slice_get m.items.items i) else slice_get m.items.items i) t) ∙ e in
           let s : Stands (map text_of m.lines.items) x (now.items i) = record { holds = subst (λ z. HoldsItem z x (now.items i)) (sym st.holds.text) (st.holds.items i x old); vars = st.vars clean.no_failure i x old } in
@@ -153,12 +133,12 @@ module _ (k : Kernel) (l : Launch) (c : Cells) (m : Machine) (es : List Event) (
   calm = calm_after (device_of k l c) now (Release g) st.holds.whole (st.steady clean) (alike_calm (device_of k l c) later g st.holds.whole alike_later)
 
   -- the machine with its marks, and then its flags
-  module _ (follow : FlagsFollow) (want_now : Want) (w : IsWanted m (g * m.launch.local) want_now) (a z : Machine) (core1 : SameCore n a) (ready1 : a.ready ≡ n.ready) (told : MarksRelease n a g want_now) (core2 : SameCore a z) (marks2 : z.marks ≡ a.marks) (told2 : Refreshes a z g) where
+  module _ (follow : FlagsFollow) (want_now : Want) (w : IsWanted m (first_item m.launch g) want_now) (a z : Machine) (core1 : SameCore n a) (ready1 : a.ready ≡ n.ready) (told : MarksRelease n a g want_now) (core2 : SameCore a z) (marks2 : z.marks ≡ a.marks) (told2 : Refreshes a z g) where
     abbrev first : ℕ
     first = first_item l g
 
-    first_is : g * m.launch.local ≡ first_item l g
-    first_is = ap (λ (x : Launch). g * x.local) st.holds.launch
+    first_is : first_item m.launch g ≡ first_item l g
+    first_is = ap (λ (x : Launch). first_item x g) st.holds.launch
 
     its : (it : ItemView) × (slice_get m.items.items (first_item l g) ≡ Some it)
     its = its_item k l c m now st.holds (first_item l g) (first_in_launch l st.holds.whole g en.0)
@@ -183,14 +163,14 @@ module _ (k : Kernel) (l : Launch) (c : Cells) (m : Machine) (es : List Event) (
     flags_later : AreFlags (device_of k l c) later z.ready
     flags_later =
         refreshed follow (device_of k l c) st.holds.whole now g m.ready z.ready st.flags
-        (z.ready_local ∙ ap (λ (x : Launch). x.local) (holds_end.launch ∙ sym st.holds.launch) ∙ sym m.ready_local)
-        (z.ready_items ∙ ap (λ (x : Launch). x.global) (holds_end.launch ∙ sym st.holds.launch) ∙ sym m.ready_items)
+        (z.ready_grid ∙ ap grid_of (holds_end.launch ∙ sym st.holds.launch) ∙ sym m.ready_grid)
+        (z.ready_items ∙ ap item_count (holds_end.launch ∙ sym st.holds.launch) ∙ sym m.ready_items)
         (subst (λ v. Refreshed (device_of k l c) later g v z.ready) (ready1 ∙ ps.ready) (told2 k l c later holds_marked))
 
-    pub took_release : Took k l c es (Release g) z (seen_as (Release g) None None)
+    pub took_release : Advanced k l c es (Release g) z None
     took_release = record {
       stands = stands_on k l c m es st clean (Release g) en z holds_end flags_later
           (λ _ i x e. (stands_later i x (ap (λ v. slice_get v i) (sym (core2.items ∙ core1.items)) ∙ e)).vars)
           (λ _ _. marks_later);
-      tells = (None, (no_failure, no_race, calm), refl);
+      tells = record { kind = None; is = (no_failure, no_race, calm); lane = 0; in_lane = refl; told = refl };
     }

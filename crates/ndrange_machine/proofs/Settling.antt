@@ -1,15 +1,15 @@
 -- The machine's flags: of one group, at the start, and after a step.
-use Rattle.std.proofs.Common.{◌≡◌, ◌≢◌, ◌↔◌, ℕ, ◌+◌, ◌-◌, ◌*◌, ◌/◌, ◌<◌, ◌≤◌, suc, length, set, Some, Bool, true, false, refl, sym, ap, ◌∙◌, subst, ⊎_elim, inl, inr, ◌⊎◌, arith}
+use Rattle.std.proofs.Common.{◌≡◌, ◌≢◌, ◌↔◌, ℕ, ◌+◌, ◌<◌, ◌≤◌, length, set, Some, Bool, true, false, refl, sym, ap, ◌∙◌, subst, ⊎_elim, arith}
 use Rattle.std.specs.Prelude.{not, slice_get, slice_index_or, IsTrue}
 use Rattle.std.proofs.lemmas.Bool.{cases_eq, cases_lt}
 use Rattle.std.proofs.lemmas.List.{get_or-set_same, get_or-set_other}
-use Rattle.std.proofs.lemmas.Nat.{mul-add-lt}
-use Rattle.std.proofs.Math.Nat.{div-lt_iff_lt-mul}
 use Rattle.kernel_tree.specs.declared.events.Event.TheVariants.{Step}
 use Rattle.kernel_tree.specs.Code.{Kernel}
-use Rattle.kernel_tree.specs.Launch.{Launch, Cells, IsWhole, item_count, group_count, group_of, first_item}
+use Rattle.kernel_tree.specs.Launch.{Launch, Cells, item_count, group_count, group_of, group_size, first_item}
+use Rattle.kernel_tree.specs.Numbering.{member_at, number_in_group}
 use Rattle.kernel_tree.specs.Device.{Device, State, device_of, wants, CanStep, AllTogether, after}
 use Rattle.kernel_tree.proofs.Grouping.{first_of_group, first_in_launch, group_in_launch, in_launch}
+use Rattle.enabled_events.specs.Grids.{grid_of}
 use Rattle.enabled_events.specs.Laws.{FlagsFollow}
 use Rattle.enabled_events.specs.Listed.{Flags}
 use Rattle.enabled_events.specs.Flags.{NoneSteps}
@@ -18,6 +18,7 @@ use Rattle.ndrange_machine.specs.ItemView.{ItemView}
 use Rattle.ndrange_machine.specs.Stands.{Holds}
 use Rattle.ndrange_machine.specs.Takes.{is_going, IsAtBarrier, IsGoing, SameCore}
 use Rattle.ndrange_machine.specs.Groups.{SamePlace, AllOver, TellsTogether, TellsEnded, SetsFlag, Refreshed, Refreshes, Begins, Met, Settled, Stepped, Settles}
+use Rattle.ndrange_machine.proofs.Grids.{group_members, member_there}
 use Rattle.ndrange_machine.proofs.Standing.{its_item, going_is, waits_nowhere, ended_there, goes_on, stand_if, if_stand}
 use Rattle.ndrange_machine.proofs.Stepping.{same_holds}
 use Rattle.ndrange_machine.proofs.Together.{first_waits, goes, some_go, met}
@@ -25,160 +26,157 @@ use Rattle.ndrange_machine.proofs.Together.{first_waits, goes, some_go, met}
 no_true : {A : Type 0} → false ≡ true → A
 no_true e = cc
 
--- a group lies in the launch
-pub group_end : (g l n : ℕ) → 0 < l → n ≡ n / l * l → g < n / l → g * l + l ≤ n
-group_end g l n some whole lt = let a = mul-add-lt g l (l - 1) (n / l) lt (omega arith) in omega arith
-
-module _ (l : Launch) (whole : IsWhole l) (g : ℕ) where
-  low_end : (i : ℕ) → group_of l i ≡ g → g * l.local ≤ i
-  low_end i e = ⊎_elim (λ lt. let less : i / l.local < g = (div-lt_iff_lt-mul whole.positive).1 lt in absurd (omega arith)) (λ le. le) (cases_lt i (g * l.local))
-
-  high_end : (i : ℕ) → group_of l i ≡ g → i < g * l.local + l.local
-  high_end i e = let top : i < suc g * l.local = (div-lt_iff_lt-mul whole.positive).0 (let q : i / l.local ≡ g = e in omega arith) in omega arith
-
-  between : (i : ℕ) → g * l.local ≤ i → i < g * l.local + l.local → group_of l i ≡ g
-  between i low high =
-      let top : i < suc g * l.local = omega arith in
-      let below : i / l.local < suc g = (div-lt_iff_lt-mul whole.positive).1 top in
-      ⊎_elim (λ lt. let less : i < g * l.local = (div-lt_iff_lt-mul whole.positive).0 lt in absurd (omega arith)) (λ le. omega arith) (cases_lt (i / l.local) g)
-
 -- Whether a group stands together, or has ended
 
-module _ (m : Machine) (g : ℕ) (lt : g < m.launch.global / m.launch.local) where
+module _ (m : Machine) (g : ℕ) (lt : g < group_count m.launch) where
+  abbrev at : ℕ → ℕ
+  at j = member_at m.launch g j
+
   abbrev pub AlikeUpTo : ℕ → Type 0
-  AlikeUpTo i = (j : ℕ) (a b : ItemView) → g * m.launch.local ≤ j → j < i → slice_get m.items.items (g * m.launch.local) ≡ Some a → slice_get m.items.items j ≡ Some b → SamePlace a b
+  AlikeUpTo i = (j : ℕ) (a b : ItemView) → j < i → slice_get m.items.items (first_item m.launch g) ≡ Some a → slice_get m.items.items (member_at m.launch g j) ≡ Some b → SamePlace a b
 
   abbrev pub OverUpTo : ℕ → Type 0
-  OverUpTo i = (j : ℕ) (a : ItemView) → g * m.launch.local ≤ j → j < i → slice_get m.items.items j ≡ Some a → length m.lines.items ≤ a.line
+  OverUpTo i = (j : ℕ) (a : ItemView) → j < i → slice_get m.items.items (member_at m.launch g j) ≡ Some a → length m.lines.items ≤ a.line
 
   module _ (k : Kernel) (l : Launch) (c : Cells) (s : State) (h : Holds k l c m s) where
     there : g < group_count l
-    there = subst (λ (z : Launch). g < z.global / z.local) h.launch lt
+    there = subst (λ (z : Launch). g < group_count z) h.launch lt
 
-    first_is : g * m.launch.local ≡ first_item l g
-    first_is = ap (λ (z : Launch). g * z.local) h.launch
+    first_is : first_item m.launch g ≡ first_item l g
+    first_is = ap (λ (z : Launch). first_item z g) h.launch
 
     first_there : (a : ItemView) × (slice_get m.items.items (first_item l g) ≡ Some a)
     first_there = its_item k l c m s h (first_item l g) (first_in_launch l h.whole g there)
 
-    not_at_barrier : IsAtBarrier m (g * m.launch.local) false → IsTrue false ↔ AllTogether (device_of k l c) s g
-    not_at_barrier at = (
+    -- the items of the group, by their numbers in it
+    mine : (j : ℕ) → j < group_size m.launch → group_of l (at j) ≡ g
+    mine j low = subst (λ (z : Launch). group_of z (at j) ≡ g) h.launch ((group_members m g lt).inside j low)
+
+    its_number : (j : ℕ) → group_of l j ≡ g → (n : ℕ) × (n < group_size m.launch) × (j ≡ member_at m.launch g n)
+    its_number j q =
+        let e = (group_members m g lt).every j (subst (λ (z : Launch). group_of z j ≡ g) (sym h.launch) q) in
+        (number_in_group m.launch j, e.0, e.1)
+
+    not_at_barrier : IsAtBarrier m (first_item m.launch g) false → IsTrue false ↔ AllTogether (device_of k l c) s g
+    not_at_barrier told = (
       λ e. no_true e,
-      λ all. absurd (waits_nowhere k l c m s h (first_item l g) first_there.0 first_there.1 (sym (at first_there.0 (ap (slice_get m.items.items) first_is ∙ first_there.1))) (first_waits _ _ (all (first_item l g) (first_of_group l h.whole g)))),
+      λ all. absurd (waits_nowhere k l c m s h (first_item l g) first_there.0 first_there.1 (sym (told first_there.0 (ap (slice_get m.items.items) first_is ∙ first_there.1))) (first_waits _ _ (all (first_item l g) (first_of_group l h.whole g)))),
     )
 
-    not_alike : (j : ℕ) → g * m.launch.local ≤ j → j < g * m.launch.local + m.launch.local → ((a b : ItemView) → slice_get m.items.items (g * m.launch.local) ≡ Some a → slice_get m.items.items j ≡ Some b → IsTrue false ↔ SamePlace a b) → IsTrue false ↔ AllTogether (device_of k l c) s g
-    not_alike j low high told =
-        let mine : group_of l j ≡ g = between l h.whole g j (subst (λ (z : Launch). g * z.local ≤ j) h.launch low) (subst (λ (z : Launch). j < g * z.local + z.local) h.launch high) in
-        let other = its_item k l c m s h j (in_launch l h.whole g j there mine) in (
+    not_alike : (j : ℕ) → j < group_size m.launch → ((a b : ItemView) → slice_get m.items.items (first_item m.launch g) ≡ Some a → slice_get m.items.items (at j) ≡ Some b → IsTrue false ↔ SamePlace a b) → IsTrue false ↔ AllTogether (device_of k l c) s g
+    not_alike j low told =
+        let other = its_item k l c m s h (at j) (in_launch l h.whole g (at j) there (mine j low)) in (
           λ e. no_true e,
-          λ all. (told first_there.0 other.0 (ap (slice_get m.items.items) first_is ∙ first_there.1) other.1).1 (if_stand k l c m s h (first_item l g) j first_there.0 other.0 first_there.1 other.1 (all j mine)),
+          λ all. (told first_there.0 other.0 (ap (slice_get m.items.items) first_is ∙ first_there.1) other.1).1 (if_stand k l c m s h (first_item l g) (at j) first_there.0 other.0 first_there.1 other.1 (all (at j) (mine j low))),
         )
 
-    all_alike : IsAtBarrier m (g * m.launch.local) true → (i : ℕ) → g * m.launch.local + m.launch.local ≤ i → AlikeUpTo i → IsTrue true ↔ AllTogether (device_of k l c) s g
-    all_alike at i end alike = (
-      λ _ j mine.
-          let other = its_item k l c m s h j (in_launch l h.whole g j there mine) in
-          let low = low_end l h.whole g j mine in
-          let high = high_end l h.whole g j mine in
+    all_alike : IsAtBarrier m (first_item m.launch g) true → (i : ℕ) → group_size m.launch ≤ i → AlikeUpTo i → IsTrue true ↔ AllTogether (device_of k l c) s g
+    all_alike told i end alike = (
+      λ _ j own.
+          let other = its_item k l c m s h j (in_launch l h.whole g j there own) in
+          let n = its_number j own in
+          let low = n.1 in
           let at_first = ap (slice_get m.items.items) first_is ∙ first_there.1 in
           stand_if k l c m s h (first_item l g) j first_there.0 other.0 first_there.1 other.1
-          (alike j first_there.0 other.0 (subst (λ (z : Launch). g * z.local ≤ j) (sym h.launch) low) (let e = subst (λ (z : Launch). j < g * z.local + z.local) (sym h.launch) high in omega arith) at_first other.1)
-          (sym (at first_there.0 at_first)),
+          (alike n.0 first_there.0 other.0 (omega arith) at_first (ap (slice_get m.items.items) (sym n.2) ∙ other.1))
+          (sym (told first_there.0 at_first)),
       λ all. refl,
     )
 
-    one_going : (j : ℕ) → g * m.launch.local ≤ j → j < g * m.launch.local + m.launch.local → ((a : ItemView) → slice_get m.items.items j ≡ Some a → IsTrue false ↔ length m.lines.items ≤ a.line) → IsTrue false ↔ AllOver (device_of k l c) s g
-    one_going j low high told =
-        let mine : group_of l j ≡ g = between l h.whole g j (subst (λ (z : Launch). g * z.local ≤ j) h.launch low) (subst (λ (z : Launch). j < g * z.local + z.local) h.launch high) in
-        let it = its_item k l c m s h j (in_launch l h.whole g j there mine) in (
+    one_going : (j : ℕ) → j < group_size m.launch → ((a : ItemView) → slice_get m.items.items (at j) ≡ Some a → IsTrue false ↔ length m.lines.items ≤ a.line) → IsTrue false ↔ AllOver (device_of k l c) s g
+    one_going j low told =
+        let it = its_item k l c m s h (at j) (in_launch l h.whole g (at j) there (mine j low)) in (
           λ e. no_true e,
-          λ all. ⊎_elim (λ less. absurd (goes_on k l c m s h j it.0 it.1 less (all j mine))) (λ le. (told it.0 it.1).1 le) (cases_lt it.0.line (length m.lines.items)),
+          λ all. ⊎_elim (λ less. absurd (goes_on k l c m s h (at j) it.0 it.1 less (all (at j) (mine j low)))) (λ le. (told it.0 it.1).1 le) (cases_lt it.0.line (length m.lines.items)),
         )
 
-    all_over : (i : ℕ) → g * m.launch.local + m.launch.local ≤ i → OverUpTo i → IsTrue true ↔ AllOver (device_of k l c) s g
+    all_over : (i : ℕ) → group_size m.launch ≤ i → OverUpTo i → IsTrue true ↔ AllOver (device_of k l c) s g
     all_over i end over = (
-      λ _ j mine.
-          let it = its_item k l c m s h j (in_launch l h.whole g j there mine) in
-          let low = low_end l h.whole g j mine in
-          let high = high_end l h.whole g j mine in
-          ended_there k l c m s h j it.0 it.1
-          (over j it.0 (subst (λ (z : Launch). g * z.local ≤ j) (sym h.launch) low) (let e = subst (λ (z : Launch). j < g * z.local + z.local) (sym h.launch) high in omega arith) it.1),
+      λ _ j own.
+          let it = its_item k l c m s h j (in_launch l h.whole g j there own) in
+          let n = its_number j own in
+          let low = n.1 in
+          ended_there k l c m s h j it.0 it.1 (over n.0 it.0 (omega arith) (ap (slice_get m.items.items) (sym n.2) ∙ it.1)),
       λ all. refl,
     )
 
-  pub tells_no_barrier : IsAtBarrier m (g * m.launch.local) false → TellsTogether m g false
-  tells_no_barrier at k l c s h = not_at_barrier k l c s h at
+  pub tells_no_barrier : IsAtBarrier m (first_item m.launch g) false → TellsTogether m g false
+  tells_no_barrier told k l c s h = not_at_barrier k l c s h told
 
-  pub tells_apart : (j : ℕ) → g * m.launch.local ≤ j → j < g * m.launch.local + m.launch.local → ((a b : ItemView) → slice_get m.items.items (g * m.launch.local) ≡ Some a → slice_get m.items.items j ≡ Some b → IsTrue false ↔ SamePlace a b) → TellsTogether m g false
-  tells_apart j low high told k l c s h = not_alike k l c s h j low high told
+  pub tells_apart : (j : ℕ) → j < group_size m.launch → ((a b : ItemView) → slice_get m.items.items (first_item m.launch g) ≡ Some a → slice_get m.items.items (member_at m.launch g j) ≡ Some b → IsTrue false ↔ SamePlace a b) → TellsTogether m g false
+  tells_apart j low told k l c s h = not_alike k l c s h j low told
 
-  pub tells_together : IsAtBarrier m (g * m.launch.local) true → (i : ℕ) → g * m.launch.local + m.launch.local ≤ i → AlikeUpTo i → TellsTogether m g true
-  tells_together at i end alike k l c s h = all_alike k l c s h at i end alike
+  pub tells_together : IsAtBarrier m (first_item m.launch g) true → (i : ℕ) → group_size m.launch ≤ i → AlikeUpTo i → TellsTogether m g true
+  tells_together told i end alike k l c s h = all_alike k l c s h told i end alike
 
-  pub tells_going : (j : ℕ) → g * m.launch.local ≤ j → j < g * m.launch.local + m.launch.local → ((a : ItemView) → slice_get m.items.items j ≡ Some a → IsTrue false ↔ length m.lines.items ≤ a.line) → TellsEnded m g false
-  tells_going j low high told k l c s h = one_going k l c s h j low high told
+  pub tells_going : (j : ℕ) → j < group_size m.launch → ((a : ItemView) → slice_get m.items.items (member_at m.launch g j) ≡ Some a → IsTrue false ↔ length m.lines.items ≤ a.line) → TellsEnded m g false
+  tells_going j low told k l c s h = one_going k l c s h j low told
 
-  pub tells_over : (i : ℕ) → g * m.launch.local + m.launch.local ≤ i → OverUpTo i → TellsEnded m g true
+  pub tells_over : (i : ℕ) → group_size m.launch ≤ i → OverUpTo i → TellsEnded m g true
   tells_over i end over k l c s h = all_over k l c s h i end over
 
-  pub alike_more : (i : ℕ) → AlikeUpTo i → ((a b : ItemView) → slice_get m.items.items (g * m.launch.local) ≡ Some a → slice_get m.items.items i ≡ Some b → IsTrue true ↔ SamePlace a b) → AlikeUpTo (i + 1)
-  alike_more i alike told j a b low high at bt =
-      ⊎_elim (λ less. alike j a b low less at bt) (λ le. let same : j ≡ i = omega arith in (told a b at (ap (slice_get m.items.items) (sym same) ∙ bt)).0 refl) (cases_lt j i)
+  pub alike_more : (i : ℕ) → AlikeUpTo i → ((a b : ItemView) → slice_get m.items.items (first_item m.launch g) ≡ Some a → slice_get m.items.items (member_at m.launch g i) ≡ Some b → IsTrue true ↔ SamePlace a b) → AlikeUpTo (i + 1)
+  alike_more i alike told j a b low first other =
+      ⊎_elim (λ less. alike j a b less first other) (λ le. let same : j ≡ i = omega arith in (told a b first (ap (λ z. slice_get m.items.items (at z)) (sym same) ∙ other)).0 refl) (cases_lt j i)
 
-  pub over_more : (i : ℕ) → OverUpTo i → ((a : ItemView) → slice_get m.items.items i ≡ Some a → IsTrue true ↔ length m.lines.items ≤ a.line) → OverUpTo (i + 1)
-  over_more i over told j a low high at =
-      ⊎_elim (λ less. over j a low less at) (λ le. let same : j ≡ i = omega arith in (told a (ap (slice_get m.items.items) (sym same) ∙ at)).0 refl) (cases_lt j i)
+  pub over_more : (i : ℕ) → OverUpTo i → ((a : ItemView) → slice_get m.items.items (member_at m.launch g i) ≡ Some a → IsTrue true ↔ length m.lines.items ≤ a.line) → OverUpTo (i + 1)
+  over_more i over told j a low other =
+      ⊎_elim (λ less. over j a less other) (λ le. let same : j ≡ i = omega arith in (told a (ap (λ z. slice_get m.items.items (at z)) (sym same) ∙ other)).0 refl) (cases_lt j i)
 
 -- The flags of one group
 
--- those of the items from the first on have been set
-pub record SetUpTo (m n : Machine) (first i : ℕ) : Type 0 where
+-- those of the first items of the group have been set
+pub record SetUpTo (m n : Machine) (g i : ℕ) : Type 0 where
   pub core : SameCore m n
   pub marks : n.marks ≡ m.marks
   pub groups : n.ready.groups ≡ m.ready.groups
-  pub others : (k : ℕ) → (k < first) ⊎ (i ≤ k) → slice_index_or n.ready.items k false ≡ slice_index_or m.ready.items k false
-  pub own : (k : ℕ) → first ≤ k → k < i → k < m.launch.global → IsGoing m k (slice_index_or n.ready.items k false)
+  pub others : (k : ℕ) → ((j : ℕ) → j < i → k ≡ member_at m.launch g j → ⊥) → slice_index_or n.ready.items k false ≡ slice_index_or m.ready.items k false
+  pub own : (j : ℕ) → j < i → IsGoing m (member_at m.launch g j) (slice_index_or n.ready.items (member_at m.launch g j) false)
 
-pub set_none : (m : Machine) (first : ℕ) → SetUpTo m m first first
-set_none m first = record {
+pub set_none : (m : Machine) (g : ℕ) → SetUpTo m m g 0
+set_none m g = record {
   core = record { lines = refl; launch = refl; memory = refl; items = refl };
   marks = refl;
   groups = refl;
   others = λ k h. refl;
-  own = λ k low high lt. absurd (omega arith);
+  own = λ j lt. absurd (omega arith);
 }
 
 pub core_on : (m a n : Machine) → SameCore m a → SameCore a n → SameCore m n
 core_on m a n p q = record { lines = q.lines ∙ p.lines; launch = q.launch ∙ p.launch; memory = q.memory ∙ p.memory; items = q.items ∙ p.items }
 
-going_from : (m a : Machine) (k : ℕ) (b : Bool) → SameCore m a → IsGoing a k b → IsGoing m k b
+pub going_from : (m a : Machine) (k : ℕ) (b : Bool) → SameCore m a → IsGoing a k b → IsGoing m k b
 going_from m a k b core told it e = told it (ap (λ z. slice_get z k) core.items ∙ e) ∙ ap (λ z. is_going (slice_get z.items it.line)) core.lines
 
-pub set_more : (m a n : Machine) (first i : ℕ) → first ≤ i → SetUpTo m a first i → SameCore a n → n.marks ≡ a.marks → SetsFlag a n i → SetUpTo m n first (i + 1)
-set_more m a n first i le h core marks f = record {
+pub set_more : (m a n : Machine) (g i : ℕ) → g < group_count m.launch → i < group_size m.launch → SetUpTo m a g i → SameCore a n → n.marks ≡ a.marks → SetsFlag a n (member_at m.launch g i) → SetUpTo m n g (i + 1)
+set_more m a n g i there low h core marks f = record {
   core = core_on m a n h.core core;
   marks = marks ∙ h.marks;
   groups = f.groups ∙ h.groups;
-  others = λ k out. f.others k (λ e. ⊎_elim (λ x. omega arith) (λ x. omega arith) out) ∙ h.others k (⊎_elim (λ x. inl x) (λ x. inr (omega arith)) out);
-  own = λ k low high lt. ⊎_elim
-      (λ less. subst (IsGoing m k) (sym (f.others k (λ e. omega arith))) (h.own k low less lt))
-      (λ ge.
-      let same : k ≡ i = omega arith in
-      subst (λ z. IsGoing m z (slice_index_or n.ready.items z false)) (sym same)
-      (going_from m a i (slice_index_or n.ready.items i false) h.core (f.own (let e = ap (λ (z : Launch). z.global) h.core.launch in omega arith))))
-      (cases_lt k i);
+  others = λ k out. f.others k (λ e. out i (omega arith) e) ∙ h.others k (λ j lt e. out j (omega arith) e);
+  own = λ j lt. ⊎_elim
+      (λ same. subst (λ z. IsGoing m (at z) (slice_index_or n.ready.items (at z) false)) (sym same) this)
+      (λ ne. let less : j < i = omega arith in subst (IsGoing m (at j)) (sym (f.others (at j) (λ e. ne ((group_members m g there).differ j i (omega arith) low e)))) (h.own j less))
+      (cases_eq j i);
 }
+  where
+    at : ℕ → ℕ
+    at j = member_at m.launch g j
 
-pub refreshes : (m a : Machine) (g : ℕ) (t : Bool) (w : Flags) (i : ℕ) → g < m.launch.global / m.launch.local → i ≡ g * m.launch.local + m.launch.local → SetUpTo m a (g * m.launch.local) i → TellsTogether a g t → w ≡ record { local = a.ready.local; items = a.ready.items; groups = set a.ready.groups g t } → (k : Kernel) (l : Launch) (c : Cells) (s : State) → Holds k l c m s → Refreshed (device_of k l c) s g m.ready w
+    this : IsGoing m (member_at m.launch g i) (slice_index_or n.ready.items (member_at m.launch g i) false)
+    this =
+        going_from m a (member_at m.launch g i) (slice_index_or n.ready.items (member_at m.launch g i) false) h.core
+        (f.own (subst (λ (z : Launch). member_at m.launch g i < item_count z) (sym h.core.launch) (member_there m g there i low)))
+
+pub refreshes : (m a : Machine) (g : ℕ) (t : Bool) (w : Flags) (i : ℕ) → g < group_count m.launch → group_size m.launch ≡ i → SetUpTo m a g i → TellsTogether a g t → w ≡ record { grid = a.ready.grid; items = a.ready.items; groups = set a.ready.groups g t } → (k : Kernel) (l : Launch) (c : Cells) (s : State) → Holds k l c m s → Refreshed (device_of k l c) s g m.ready w
 refreshes m a g t w i lt end h tells is k l c s holds = subst (Refreshed (device_of k l c) s g m.ready) (sym is) (record {
-  kept = λ j out. h.others j (⊎_elim (λ less. inl less) (λ ge. inr (⊎_elim (λ less. absurd (out (between l holds.whole g j (subst (λ (z : Launch). g * z.local ≤ j) holds.launch ge) (subst (λ (z : Launch). j < g * z.local + z.local) holds.launch less)))) (λ far. omega arith) (cases_lt j (g * m.launch.local + m.launch.local)))) (cases_lt j (g * m.launch.local)));
-  moved = λ j there mine.
+  kept = λ j out. h.others j (λ n low e. out (ap (group_of l) e ∙ mine m g lt k l c s holds n (omega arith)));
+  moved = λ j there own.
       let it = its_item k l c m s holds j there in
-      let low = subst (λ (z : Launch). g * z.local ≤ j) (sym holds.launch) (low_end l holds.whole g j mine) in
-      let high = subst (λ (z : Launch). j < g * z.local + z.local) (sym holds.launch) (high_end l holds.whole g j mine) in
-      let within = subst (λ (z : Launch). j < z.global) (sym holds.launch) there in
-      going_is k l c m s holds j (slice_index_or a.ready.items j false) (h.own j low (omega arith) within) it.0 it.1;
+      let n = its_number m g lt k l c s holds j own in
+      let low = n.1 in
+      let told : IsGoing m j (slice_index_or a.ready.items j false) = subst (λ z. IsGoing m z (slice_index_or a.ready.items z false)) (sym n.2) (h.own n.0 (omega arith)) in
+      going_is k l c m s holds j (slice_index_or a.ready.items j false) told it.0 it.1;
   others = λ q ne. get_or-set_other a.ready.groups g q t false ne ∙ ap (λ z. slice_index_or z q false) h.groups;
   group =
       let room : g < length a.ready.groups = (let n = ap length h.groups in let e = m.ready_groups in omega arith) in
@@ -228,26 +226,26 @@ begun_more m a n i h core marks r = record {
     below : (x y : ℕ) → x < y + 1 → x ≢ y → x < y
     below x y lt ne = ⊎_elim (λ less. less) (λ ge. absurd (ne (omega arith))) (cases_lt x y)
 
-pub begins : (m n : Machine) (i : ℕ) → BegunUpTo m n i → m.launch.global / m.launch.local ≤ i → Begins m n
+pub begins : (m n : Machine) (i : ℕ) → BegunUpTo m n i → group_count m.launch ≤ i → Begins m n
 begins m n i h all k l c s holds =
     let told = h.up_to k l c s holds in
     let launch : n.launch ≡ l = h.core.launch ∙ holds.launch in
-    let enough : group_count l ≤ i = subst (λ (z : Launch). z.global / z.local ≤ i) holds.launch all in
+    let enough : group_count l ≤ i = subst (λ (z : Launch). group_count z ≤ i) holds.launch all in
     record {
-      local = n.ready_local ∙ ap (λ (z : Launch). z.local) launch;
-      count = n.ready_items ∙ ap (λ (z : Launch). z.global) launch;
+      grid = n.ready_grid ∙ ap grid_of launch;
+      count = n.ready_items ∙ ap item_count launch;
       steps = λ j lt. told.steps j lt (let in_group = group_in_launch l holds.whole j lt in omega arith);
       releases = λ g lt. told.releases g (omega arith);
     }
 
 -- A group whose items have all stopped
 
-pub meets_together : (m : Machine) (g : ℕ) (w : Flags) → TellsTogether m g true → w ≡ record { local = m.ready.local; items = m.ready.items; groups = set m.ready.groups g true } → (k : Kernel) (l : Launch) (c : Cells) (s : State) → Holds k l c m s → Met (device_of k l c) s g m.ready w false
+pub meets_together : (m : Machine) (g : ℕ) (w : Flags) → TellsTogether m g true → w ≡ record { grid = m.ready.grid; items = m.ready.items; groups = set m.ready.groups g true } → (k : Kernel) (l : Launch) (c : Cells) (s : State) → Holds k l c m s → Met (device_of k l c) s g m.ready w false
 meets_together m g w tells is k l c s h =
     let said = tells k l c s h in
     record { together = true; is = said; flags = is; apart = (λ e. no_true e, λ x. absurd (x.0 (said.0 refl))) }
 
-pub meets_apart : (m a : Machine) (g : ℕ) (e : Bool) (w : Flags) → TellsTogether m g false → w ≡ record { local = m.ready.local; items = m.ready.items; groups = set m.ready.groups g false } → SameCore m a → TellsEnded a g e → (k : Kernel) (l : Launch) (c : Cells) (s : State) → Holds k l c m s → Met (device_of k l c) s g m.ready w (not e)
+pub meets_apart : (m a : Machine) (g : ℕ) (e : Bool) (w : Flags) → TellsTogether m g false → w ≡ record { grid = m.ready.grid; items = m.ready.items; groups = set m.ready.groups g false } → SameCore m a → TellsEnded a g e → (k : Kernel) (l : Launch) (c : Cells) (s : State) → Holds k l c m s → Met (device_of k l c) s g m.ready w (not e)
 meets_apart m a g e w tells is core ended k l c s h =
     let said = tells k l c s h in
     let over = ended k l c s (same_holds k l c m a s core h) in
@@ -275,25 +273,25 @@ module _ (follow : FlagsFollow) (m : Machine) (j : ℕ) (b : Bool) (told : IsGoi
   pub settles_going : b ≡ true → Settles m m j false
   settles_going on k l c s h st = goes follow (device_of k l c) h.whole s j m.ready st ((steps_is k l c (after (device_of k l c) s (Step j)) h st.there).0 on)
 
-  module _ (off : b ≡ false) (w : Flags) (is : w ≡ record { local = m.ready.local; items = set m.ready.items j false; groups = m.ready.groups }) where
+  module _ (off : b ≡ false) (w : Flags) (is : w ≡ record { grid = m.ready.grid; items = set m.ready.items j false; groups = m.ready.groups }) where
     stops : (k : Kernel) (l : Launch) (c : Cells) (s : State) → Holds k l c m (after (device_of k l c) s (Step j)) → j < item_count l → CanStep (wants (device_of k l c) (after (device_of k l c) s (Step j)) j) → ⊥
     stops k l c s h lt can = no_true (sym off ∙ (steps_is k l c (after (device_of k l c) s (Step j)) h lt).1 can)
 
-    module _ (g : ℕ) (at : g ≡ j / m.launch.local) (t : Bool) (none : IsTrue t ↔ NoneSteps w g) where
+    module _ (g : ℕ) (at : g ≡ group_of m.launch j) (t : Bool) (none : IsTrue t ↔ NoneSteps w g) where
       its_group : (l : Launch) → m.launch ≡ l → g ≡ group_of l j
-      its_group l e = at ∙ ap (λ (z : Launch). j / z.local) e
+      its_group l e = at ∙ ap (λ (z : Launch). group_of z j) e
 
       pub settles_some : t ≡ false → (k : Kernel) (l : Launch) (c : Cells) (s : State) → Holds k l c m (after (device_of k l c) s (Step j)) → Stepped (device_of k l c) s j m.ready → Settled (device_of k l c) (after (device_of k l c) s (Step j)) w false
       settles_some going k l c s h st =
           subst (λ z. Settled (device_of k l c) (after (device_of k l c) s (Step j)) z false) (sym is)
           (some_go follow (device_of k l c) h.whole s j m.ready st (stops k l c s h st.there)
-          (λ x. no_true (sym going ∙ none.1 (subst (λ z. NoneSteps z g) (sym is) (subst (NoneSteps (record { local = m.ready.local; items = set m.ready.items j false; groups = m.ready.groups })) (sym (its_group l h.launch)) x)))))
+          (λ x. no_true (sym going ∙ none.1 (subst (λ z. NoneSteps z g) (sym is) (subst (NoneSteps (record { grid = m.ready.grid; items = set m.ready.items j false; groups = m.ready.groups })) (sym (its_group l h.launch)) x)))))
 
       pub settles_met : t ≡ true → (a : Machine) (end : Flags) (r : Bool) → SameCore m a → a.ready ≡ w → ((k : Kernel) (l : Launch) (c : Cells) (s : State) → Holds k l c a s → Met (device_of k l c) s g a.ready end r)
           → (k : Kernel) (l : Launch) (c : Cells) (s : State) → Holds k l c m (after (device_of k l c) s (Step j)) → Stepped (device_of k l c) s j m.ready → Settled (device_of k l c) (after (device_of k l c) s (Step j)) end r
       settles_met all_stopped a end r core same meets k l c s h st =
-          let all : NoneSteps (record { local = m.ready.local; items = set m.ready.items j false; groups = m.ready.groups }) (group_of l j) = subst (NoneSteps (record { local = m.ready.local; items = set m.ready.items j false; groups = m.ready.groups })) (its_group l h.launch) (subst (λ z. NoneSteps z g) is (none.0 all_stopped)) in
+          let all : NoneSteps (record { grid = m.ready.grid; items = set m.ready.items j false; groups = m.ready.groups }) (group_of l j) = subst (NoneSteps (record { grid = m.ready.grid; items = set m.ready.items j false; groups = m.ready.groups })) (its_group l h.launch) (subst (λ z. NoneSteps z g) is (none.0 all_stopped)) in
           let x = meets k l c (after (device_of k l c) s (Step j)) (same_holds k l c m a (after (device_of k l c) s (Step j)) core h) in
-          let room : group_of l j < length m.ready.groups = (let lt = group_in_launch l h.whole j st.there in let e = m.ready_groups ∙ ap (λ (z : Launch). z.global / z.local) h.launch in omega arith) in
+          let room : group_of l j < length m.ready.groups = (let lt = group_in_launch l h.whole j st.there in let e = m.ready_groups ∙ ap group_count h.launch in omega arith) in
           met follow (device_of k l c) h.whole s j m.ready st (stops k l c s h st.there) end r room all
           (subst (λ z. Met (device_of k l c) (after (device_of k l c) s (Step j)) (group_of l j) z end r) (same ∙ is) (subst (λ z. Met (device_of k l c) (after (device_of k l c) s (Step j)) z a.ready end r) (its_group l h.launch) x))

@@ -1,14 +1,15 @@
 -- What the machine tells of the state that it holds: which events are enabled, and whether all items have ended.
-use Rattle.std.proofs.Common.{◌≡◌, ℕ, ◌+◌, ◌*◌, ◌^◌, ◌<◌, ◌≤◌, List, length, Option, Some, None, Bool, true, false, refl, sym, ap, ◌∙◌, subst, ⊎_elim, arith, ◌↔◌}
+use Rattle.std.proofs.Common.{◌≡◌, ℕ, ◌+◌, ◌*◌, ◌/◌, ◌^◌, ◌<◌, ◌≤◌, List, length, Option, Some, None, Bool, true, false, refl, sym, ap, ◌∙◌, subst, ⊎_elim, arith, ◌↔◌}
 use Rattle.std.specs.Prelude.{map, not, slice_get, slice_index_or, nat_lt, if◌then◌else◌, IsTrue}
 use Rattle.std.proofs.lemmas.List.{length-map}
 use Rattle.std.proofs.lemmas.Bool.{cases_lt}
 use Rattle.kernel_tree.specs.Code.{Kernel, Stride, ByOne, ByGlobalSize, ByGroupCount, ByLocalSize, start_value, stride_value}
-use Rattle.kernel_tree.specs.Formula.{Formula, Ids, value, bound_value}
-use Rattle.kernel_tree.specs.Tree.{formula_of, start_of, stride_of}
+use Rattle.kernel_tree.specs.Formula.{Formula, Ids, value, bound_value, lanes_value}
+use Rattle.kernel_tree.specs.Tree.{formula_of, lanes_of, start_of, stride_of}
 use Rattle.kernel_tree.specs.declared.events.FaultKind.TheVariants.{LoopWrap}
 use Rattle.kernel_tree.specs.declared.tree.Stride as held_stride
-use Rattle.kernel_tree.specs.Launch.{Launch, Cells, IsWhole, ids_of, item_count, group_count}
+use Rattle.kernel_tree.specs.declared.tree.Dimension.TheVariants.{X, Y}
+use Rattle.kernel_tree.specs.Launch.{Launch, Cells, IsDivided, IsWhole, ids_of, item_count}
 use Rattle.kernel_tree.specs.Item.{Wants, Ends, Waits, Moves, Fails, next}
 use Rattle.kernel_tree.specs.Device.{State, device_of, wants, CanStep, StandTogether, AllEnded}
 use Rattle.ndrange_machine.specs.declared.line.Line as held
@@ -16,7 +17,7 @@ use Rattle.ndrange_machine.specs.declared.line.Line.TheVariants as line
 use Rattle.ndrange_machine.specs.declared.machine.Machine.{Machine}
 use Rattle.ndrange_machine.specs.declared.item.Change.TheVariants as change
 use Rattle.ndrange_machine.specs.declared.turn.Turn.{Turn}
-use Rattle.ndrange_machine.specs.Known.{variables, numbers}
+use Rattle.ndrange_machine.specs.Known.{held_four, variables, numbers}
 use Rattle.ndrange_machine.specs.declared.want.Want.{Want}
 use Rattle.ndrange_machine.specs.declared.want.Want.TheVariants as want
 use Rattle.ndrange_machine.specs.ItemView.{ItemView}
@@ -33,10 +34,16 @@ use Rattle.ndrange_machine.proofs.Rows.{get_there, get_within, get_or_is}
 
 abbrev pub is_waiting : Want → Bool
 is_waiting (want.Waits p q to) = true
-is_waiting _ = false
+is_waiting want.Ends = false
+is_waiting (want.Fails kind) = false
+is_waiting (want.Changes c to) = false
+is_waiting (want.Reads v a i to) = false
+is_waiting (want.Writes a i y to) = false
+is_waiting (want.ReadsFour v a n to) = false
+is_waiting (want.WritesFour a n u to) = false
 
 -- only barriers are waited at
-wait_if : (o : Option ℕ) (go : ℕ → Want) → ((x : ℕ) → is_waiting (go x) ≡ false) → is_waiting (want_if o go) ≡ false
+wait_if : {A : Type 0} (o : Option A) (go : A → Want) → ((x : A) → is_waiting (go x) ≡ false) → is_waiting (want_if o go) ≡ false
 wait_if None go h = refl
 wait_if (Some x) go h = h x
 
@@ -61,6 +68,10 @@ waits_at lines ids it = by_line (slice_get lines it.line)
     by_head head (Some (line.Load v a i)) = refl
     by_head head (Some (line.Store a i e)) = refl
     by_head head (Some (line.Head s b c exit)) = by_last (formula_of b) c head exit (last_of it.turns)
+    by_head head (Some (line.AssignFour v e)) = refl
+    by_head head (Some (line.LoadFour v a i)) = refl
+    by_head head (Some (line.StoreFour a i e)) = refl
+    by_head head (Some (line.Test s b exit)) = refl
     by_head head (Some (line.Tail n)) = refl
     by_head head (Some (line.Barrier p q)) = refl
 
@@ -71,6 +82,15 @@ waits_at lines ids it = by_line (slice_get lines it.line)
     by_line (Some (line.Store a i e)) =
         wait_if (value ids (variables it.turns) it.vars (formula_of i)) (λ x. want_if (value ids (variables it.turns) it.vars (formula_of e)) (λ y. want.Writes a x y (it.line + 1)))
         (λ x. wait_if (value ids (variables it.turns) it.vars (formula_of e)) (λ y. want.Writes a x y (it.line + 1)) (λ y. refl))
+    by_line (Some (line.AssignFour v e)) = wait_if (lanes_value ids (variables it.turns) it.vars (lanes_of e)) (λ u. want.Changes (change.SetsFour v (held_four u)) (it.line + 1)) (λ u. refl)
+    by_line (Some (line.LoadFour v a i)) = wait_if (value ids (variables it.turns) it.vars (formula_of i)) (λ x. want.ReadsFour v a x (it.line + 1)) (λ x. refl)
+    by_line (Some (line.StoreFour a i e)) =
+        wait_if (value ids (variables it.turns) it.vars (formula_of i)) (λ x. want_if (lanes_value ids (variables it.turns) it.vars (lanes_of e)) (λ u. want.WritesFour a x (held_four u) (it.line + 1)))
+        (λ x. wait_if (lanes_value ids (variables it.turns) it.vars (lanes_of e)) (λ u. want.WritesFour a x (held_four u) (it.line + 1)) (λ u. refl))
+    by_line (Some (line.Test s b exit)) =
+        let x = start_value ids (start_of s) in
+        wait_if (bound_value ids.sizes (formula_of b)) (λ k. if nat_lt x k then want.Changes change.Keeps (it.line + 1) else want.Changes change.Keeps exit)
+        (λ k. either (nat_lt x k) (want.Changes change.Keeps (it.line + 1)) (want.Changes change.Keeps exit) refl refl)
     by_line (Some (line.Head s b c exit)) =
         let x = start_value ids (start_of s) in
         let begins : Want = want.Changes (change.Begins (record { number = 0; variable = x })) (it.line + 1) in
@@ -86,6 +106,8 @@ has_ended lines it (want.Fails kind) w h le = let lt = h.1 in absurd (omega arit
 has_ended lines it (want.Changes c to) w h le = let lt = h.3 in absurd (omega arith)
 has_ended lines it (want.Reads v a i to) w h le = let lt = h.3 in absurd (omega arith)
 has_ended lines it (want.Writes a i y to) w h le = let lt = h.3 in absurd (omega arith)
+has_ended lines it (want.ReadsFour v a n to) w h le = let lt = h.3 in absurd (omega arith)
+has_ended lines it (want.WritesFour a n u to) w h le = let lt = h.3 in absurd (omega arith)
 
 not_ended : (lines : List Line) (it : ItemView) (v : Want) (w : Wants) → IsNext lines it v w → it.line < length lines → w ≡ Ends → ⊥
 not_ended lines it want.Ends w h lt e = let le = h.1 in omega arith
@@ -94,6 +116,8 @@ not_ended lines it (want.Fails kind) w h lt e = let d : Fails kind ≡ Ends = sy
 not_ended lines it (want.Changes c to) w h lt e = let d : Moves h.0 ≡ Ends = sym h.1 ∙ e in cc
 not_ended lines it (want.Reads v a i to) w h lt e = subst CanStep (sym h.1 ∙ e) tt
 not_ended lines it (want.Writes a i y to) w h lt e = subst CanStep (sym h.1 ∙ e) tt
+not_ended lines it (want.ReadsFour v a n to) w h lt e = subst CanStep (sym h.1 ∙ e) tt
+not_ended lines it (want.WritesFour a n u to) w h lt e = subst CanStep (sym h.1 ∙ e) tt
 
 waits_if : (lines : List Line) (it : ItemView) (v : Want) (w : Wants) → IsNext lines it v w → is_waiting v ≡ true → IsWaiting w
 waits_if lines it want.Ends w h e = cc
@@ -102,6 +126,8 @@ waits_if lines it (want.Fails kind) w h e = cc
 waits_if lines it (want.Changes c to) w h e = cc
 waits_if lines it (want.Reads v a i to) w h e = cc
 waits_if lines it (want.Writes a i y to) w h e = cc
+waits_if lines it (want.ReadsFour v a n to) w h e = cc
+waits_if lines it (want.WritesFour a n u to) w h e = cc
 
 waits_not : (lines : List Line) (it : ItemView) (v : Want) (w : Wants) → IsNext lines it v w → is_waiting v ≡ false → IsWaiting w → ⊥
 waits_not lines it want.Ends w h e x = subst IsWaiting h.0 x
@@ -110,16 +136,39 @@ waits_not lines it (want.Fails kind) w h e x = subst IsWaiting h.0 x
 waits_not lines it (want.Changes c to) w h e x = subst IsWaiting h.1 x
 waits_not lines it (want.Reads v a i to) w h e x = subst IsWaiting h.1 x
 waits_not lines it (want.Writes a i y to) w h e x = subst IsWaiting h.1 x
+waits_not lines it (want.ReadsFour v a n to) w h e x = subst IsWaiting h.1 x
+waits_not lines it (want.WritesFour a n u to) w h e x = subst IsWaiting h.1 x
 
 -- strides of a launch are positive
 product_positive : (n m : ℕ) → 0 < n * m → 0 < n
 product_positive n m h = grind arith
 
+second_positive : (n m : ℕ) → 0 < n * m → 0 < m
+second_positive n m h = grind arith
+
+some_along : (global local : ℕ) → IsDivided global local → 0 < global → 0 < global / local
+some_along global local d some = product_positive (global / local) local (subst (λ n. 0 < n) d.divides some)
+
 pub strides_of : (l : Launch) → IsWhole l → (j : ℕ) → j < item_count l → (c : Stride) → 0 < stride_value (ids_of l j) c
-strides_of l whole j lt ByOne = omega arith
-strides_of l whole j lt ByGlobalSize = omega arith
-strides_of l whole j lt ByGroupCount = let some : 0 < l.global = omega arith in product_positive (group_count l) l.local (subst (λ n. 0 < n) whole.divides some)
-strides_of l whole j lt ByLocalSize = whole.positive
+strides_of l whole j lt c = by_form c
+  where
+    some : 0 < l.global.0 * l.global.1
+    some = omega arith
+
+    wide : 0 < l.global.0
+    wide = product_positive l.global.0 l.global.1 some
+
+    high : 0 < l.global.1
+    high = second_positive l.global.0 l.global.1 some
+
+    by_form : (x : Stride) → 0 < stride_value (ids_of l j) x
+    by_form ByOne = omega arith
+    by_form (ByGlobalSize X) = wide
+    by_form (ByGlobalSize Y) = high
+    by_form (ByGroupCount X) = some_along l.global.0 l.local.0 whole.x wide
+    by_form (ByGroupCount Y) = some_along l.global.1 l.local.1 whole.y high
+    by_form (ByLocalSize X) = whole.x.positive
+    by_form (ByLocalSize Y) = whole.y.positive
 
 module _ (k : Kernel) (l : Launch) (c : Cells) (m : Machine) (s : State) (h : Holds k l c m s) where
   pub its_item : (j : ℕ) → j < item_count l → (it : ItemView) × (slice_get m.items.items j ≡ Some it)

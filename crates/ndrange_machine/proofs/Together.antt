@@ -1,6 +1,6 @@
 -- Which groups stand together, and which diverge.
-use Rattle.std.proofs.Common.{◌≡◌, ◌≢◌, ◌↔◌, ℕ, ◌+◌, ◌/◌, ◌^◌, ◌<◌, List, [], ◌∷◌, length, set, Option, Some, None, Bool, true, false, refl, sym, ap, ◌∙◌, subst, ⊎_elim, inl, inr, ◌⊎◌, arith}
-use Rattle.std.specs.Prelude.{map, nat_lt, slice_index_or, slice_set, if◌then◌else◌, ◌==◌}
+use Rattle.std.proofs.Common.{◌≡◌, ◌≢◌, ◌↔◌, ℕ, ◌+◌, ◌^◌, ◌<◌, List, [], ◌∷◌, length, set, Option, Some, None, Bool, true, false, refl, sym, ap, ◌∙◌, subst, ⊎_elim, inl, inr, ◌⊎◌, arith}
+use Rattle.std.specs.Prelude.{map, nat_lt, slice_index_or, if◌then◌else◌, ◌==◌}
 use Rattle.std.proofs.Math.ListN.{length-set}
 use Rattle.std.proofs.lemmas.Bool.{cases_eq, ne_eqb, eqb-true}
 use Rattle.std.proofs.lemmas.Bool.Decides.{eqb_tells}
@@ -8,15 +8,16 @@ use Rattle.std.proofs.lemmas.List.{get_or-set_same, get_or-set_other}
 use Rattle.kernel_tree.specs.declared.events.Event.{Event}
 use Rattle.kernel_tree.specs.declared.events.Event.TheVariants.{Step, Release}
 use Rattle.kernel_tree.specs.declared.events.FaultKind.TheVariants.{LoopWrap}
-use Rattle.kernel_tree.specs.Formula.{Ids, value, bound_value}
-use Rattle.kernel_tree.specs.Code.{Code, End, Assigns, Loads, Stores, Loops, Syncs, start_value, stride_value}
-use Rattle.kernel_tree.specs.Item.{Frame, Item, item, loop_variables, Wants, Ends, Waits, Moves, Reads, Writes, Fails, with_value, tested, next_turn, next_at, next}
+use Rattle.kernel_tree.specs.Formula.{Ids, Vars, set_word, set_vector, value, bound_value, lanes_value}
+use Rattle.kernel_tree.specs.Code.{Code, End, Assigns, Loads, Stores, AssignsFour, LoadsFour, StoresFour, Loops, Guards, Syncs, then_rest, start_value, stride_value}
+use Rattle.kernel_tree.specs.Item.{Frame, Item, item, loop_variables, Wants, Ends, Waits, Moves, Reads, Writes, ReadsFour, WritesFour, Fails, with_value, tested, next_turn, next_at, next}
 use Rattle.kernel_tree.specs.Launch.{Launch, IsWhole, group_count, group_of, first_item, ids_of}
 use Rattle.kernel_tree.specs.Device.{Device, Memory, State, still, wants, CanStep, StandTogether, AllTogether, moves, taken, after}
 use Rattle.kernel_tree.specs.Faults.{Diverges, SomeDiverges}
 use Rattle.kernel_tree.proofs.Confluence.{stands_or_steps, wants_kept, not_true}
 use Rattle.kernel_tree.proofs.Grouping.{first_of_group, group_in_launch, in_launch}
 use Rattle.enabled_events.specs.Listed.{Flags, AreFlags, group_moved}
+use Rattle.enabled_events.specs.Grids.{laid}
 use Rattle.enabled_events.specs.Flags.{NoneSteps}
 use Rattle.enabled_events.specs.Laws.{FlagsFollow}
 use Rattle.ndrange_machine.specs.Groups.{Refreshed, Met, Settled, Stepped}
@@ -24,7 +25,7 @@ use Rattle.ndrange_machine.proofs.Waiting.{IsWaiting, steps_or_not, not_both, st
 
 -- what is next, by the code
 
-steps_with : (o : Option ℕ) (go : ℕ → Wants) → ((x : ℕ) → CanStep (go x)) → CanStep (with_value o go)
+steps_with : {A : Type 0} (o : Option A) (go : A → Wants) → ((x : A) → CanStep (go x)) → CanStep (with_value o go)
 steps_with None go h = tt
 steps_with (Some x) go h = h x
 
@@ -35,16 +36,23 @@ steps_if false v w a b = b
 abbrev Rests : Code → List Frame → Type 0
 Rests code fs = ((code ≡ End) × (fs ≡ [])) ⊎ ((p : Bool) × (q : Bool) × (rest : Code) × (code ≡ Syncs p q rest))
 
-steps_or_rests : (ids : Ids) (code : Code) (fs : List Frame) (vars : List ℕ) → CanStep (next_at ids code fs vars) ⊎ Rests code fs
+steps_or_rests : (ids : Ids) (code : Code) (fs : List Frame) (vars : Vars) → CanStep (next_at ids code fs vars) ⊎ Rests code fs
 steps_or_rests ids End [] vars = inr (inl (refl, refl))
 steps_or_rests ids End (f ∷ fs) vars =
     inl (steps_with (bound_value ids.sizes f.bound) (λ b. if nat_lt (f.variable + stride_value ids f.stride) (2 ^ 32) then tested b (next_turn ids f) fs vars else Fails LoopWrap)
     (λ b. steps_if (nat_lt (f.variable + stride_value ids f.stride) (2 ^ 32)) (tested b (next_turn ids f) fs vars) (Fails LoopWrap) tt tt))
-steps_or_rests ids (Assigns v e rest) fs vars = inl (steps_with (value ids (loop_variables fs) vars e) (λ x. Moves (item rest fs (slice_set vars v x))) (λ x. tt))
-steps_or_rests ids (Loads v a i rest) fs vars = inl (steps_with (value ids (loop_variables fs) vars i) (λ n. Reads a n (λ x. item rest fs (slice_set vars v x))) (λ x. tt))
+steps_or_rests ids (Assigns v e rest) fs vars = inl (steps_with (value ids (loop_variables fs) vars e) (λ x. Moves (item rest fs (set_word vars v x))) (λ x. tt))
+steps_or_rests ids (Loads v a i rest) fs vars = inl (steps_with (value ids (loop_variables fs) vars i) (λ n. Reads a n (λ x. item rest fs (set_word vars v x))) (λ x. tt))
 steps_or_rests ids (Stores a i e rest) fs vars =
     inl (steps_with (value ids (loop_variables fs) vars i) (λ n. with_value (value ids (loop_variables fs) vars e) (λ x. Writes a n x (item rest fs vars)))
     (λ n. steps_with (value ids (loop_variables fs) vars e) (λ x. Writes a n x (item rest fs vars)) (λ x. tt)))
+steps_or_rests ids (AssignsFour v e rest) fs vars = inl (steps_with (lanes_value ids (loop_variables fs) vars e) (λ u. Moves (item rest fs (set_vector vars v u))) (λ u. tt))
+steps_or_rests ids (LoadsFour v a i rest) fs vars = inl (steps_with (value ids (loop_variables fs) vars i) (λ n. ReadsFour a n (λ u. item rest fs (set_vector vars v u))) (λ n. tt))
+steps_or_rests ids (StoresFour a i e rest) fs vars =
+    inl (steps_with (value ids (loop_variables fs) vars i) (λ n. with_value (lanes_value ids (loop_variables fs) vars e) (λ u. WritesFour a n u (item rest fs vars)))
+    (λ n. steps_with (lanes_value ids (loop_variables fs) vars e) (λ u. WritesFour a n u (item rest fs vars)) (λ u. tt)))
+steps_or_rests ids (Guards s b body rest) fs vars =
+    inl (steps_with (bound_value ids.sizes b) (λ n. Moves (if nat_lt (start_value ids s) n then item (then_rest body rest) fs vars else item rest fs vars)) (λ n. tt))
 steps_or_rests ids (Loops s b c body rest) fs vars =
     inl (steps_with (bound_value ids.sizes b) (λ n. tested n (record { turn = 0; variable = start_value ids s; bound = b; stride = c; body = body; after = rest }) fs vars) (λ n. tt))
 steps_or_rests ids (Syncs p q rest) fs vars = inr (inr (p, q, rest, refl))
@@ -89,6 +97,8 @@ first_waits Ends w h = absurd h
 first_waits (Moves x) w h = absurd h
 first_waits (Reads a n f) w h = absurd h
 first_waits (Writes a n v x) w h = absurd h
+first_waits (ReadsFour a n f) w h = absurd h
+first_waits (WritesFour a n u x) w h = absurd h
 first_waits (Fails f) w h = absurd h
 
 pub together_rest : (x y : Item) (ids others : Ids) → StandTogether (next ids x) (next others y) → (x.code ≡ y.code) × (map still x.frames ≡ map still y.frames)
@@ -117,11 +127,15 @@ taken_alike l i j (Waits p q a) Ends m x y h = absurd h
 taken_alike l i j (Waits p q a) (Moves b) m x y h = absurd h
 taken_alike l i j (Waits p q a) (Reads c n f) m x y h = absurd h
 taken_alike l i j (Waits p q a) (Writes c n v b) m x y h = absurd h
+taken_alike l i j (Waits p q a) (ReadsFour c n f) m x y h = absurd h
+taken_alike l i j (Waits p q a) (WritesFour c n u b) m x y h = absurd h
 taken_alike l i j (Waits p q a) (Fails f) m x y h = absurd h
 taken_alike l i j Ends w m x y h = absurd h
 taken_alike l i j (Moves a) w m x y h = absurd h
 taken_alike l i j (Reads c n f) w m x y h = absurd h
 taken_alike l i j (Writes c n v a) w m x y h = absurd h
+taken_alike l i j (ReadsFour c n f) w m x y h = absurd h
+taken_alike l i j (WritesFour c n u a) w m x y h = absurd h
 taken_alike l i j (Fails f) w m x y h = absurd h
 
 -- other groups than the event's
@@ -167,7 +181,7 @@ module _ (follow : FlagsFollow) (d : Device) (whole : IsWhole d.launch) (s : Sta
   pub goes : CanStep (wants d (after d s (Step j)) j) → Settled d (after d s (Step j)) v false
   goes can = record {
     flags = follow d s (Step j) v v whole h.flags (record {
-      local = refl;
+      grid = refl;
       count = refl;
       kept = λ k m. refl;
       moved = λ k lt m. let at = eqb-true k j m in (λ t. subst (λ z. CanStep (wants d (after d s (Step j)) z)) (sym at) can, λ c. (h.flags.steps k lt).1 (subst (λ z. CanStep (wants d s z)) (sym at) h.steps));
@@ -179,14 +193,14 @@ module _ (follow : FlagsFollow) (d : Device) (whole : IsWhole d.launch) (s : Sta
 
   module _ (stops : CanStep (wants d (after d s (Step j)) j) → ⊥) where
     abbrev unset : List Bool → Flags
-    unset groups = record { local = v.local; items = set v.items j false; groups = groups }
+    unset groups = record { grid = v.grid; items = set v.items j false; groups = groups }
 
     in_items : j < length v.items
     in_items = let n = h.flags.count in let lt = h.there in omega arith
 
     flags_with : (groups : List Bool) → ((g : ℕ) → g ≢ group_of d.launch j → slice_index_or groups g false ≡ slice_index_or v.groups g false) → (slice_index_or groups (group_of d.launch j) false ≡ true) ↔ AllTogether d (after d s (Step j)) (group_of d.launch j) → AreFlags d (after d s (Step j)) (unset groups)
     flags_with groups others own = follow d s (Step j) v (unset groups) whole h.flags (record {
-      local = refl;
+      grid = refl;
       count = length-set v.items j false;
       kept = λ k m. get_or-set_other v.items j k false false (λ same. let e : true ≡ false = sym (ap (λ z. z == j) same ∙ ⊎_elim (λ q. q.0) (λ q. absurd (q.1 refl)) (eqb_tells j j)) ∙ m in let n : ⊥ = cc in n);
       moved = λ k lt m.
@@ -200,7 +214,7 @@ module _ (follow : FlagsFollow) (d : Device) (whole : IsWhole d.launch) (s : Sta
     -- all of the group have stopped where no flag of theirs is set
     none_steps : (groups : List Bool) → ((k : ℕ) → group_of d.launch k ≡ group_of d.launch j → CanStep (wants d (after d s (Step j)) k) → ⊥) → NoneSteps (unset groups) (group_of d.launch j)
     none_steps groups all k q =
-        let mine : group_of d.launch k ≡ group_of d.launch j = ap (λ z. k / z) (sym h.flags.local) ∙ q in
+        let mine : group_of d.launch k ≡ group_of d.launch j = ap (λ z. group_of (laid z) k) (sym h.flags.grid) ∙ q in
         ⊎_elim
         (λ same. ap (λ z. slice_index_or (set v.items j false) z false) same ∙ get_or-set_same v.items j false false in_items)
         (λ ne. get_or-set_other v.items j k false false ne ∙ not_true (slice_index_or v.items k false) (λ t. all k mine (subst CanStep (sym (kept_wants k ne)) ((h.flags.steps k (in_launch d.launch whole (group_of d.launch j) k within mine)).0 t))))
@@ -212,7 +226,7 @@ module _ (follow : FlagsFollow) (d : Device) (whole : IsWhole d.launch) (s : Sta
         (λ same. stops (subst (λ z. CanStep (wants d (after d s (Step j)) z)) same can))
         (λ ne.
         let on = (h.flags.steps k (in_launch d.launch whole (group_of d.launch j) k within q)).1 (subst CanStep (kept_wants k ne) can) in
-        let e : true ≡ false = sym on ∙ sym (get_or-set_other v.items j k false false ne) ∙ none k (ap (λ z. k / z) h.flags.local ∙ q) in
+        let e : true ≡ false = sym on ∙ sym (get_or-set_other v.items j k false false ne) ∙ none k (ap (λ z. group_of (laid z) k) h.flags.grid ∙ q) in
         let n : ⊥ = cc in n)
         (cases_eq k j)
 
@@ -237,9 +251,9 @@ module _ (follow : FlagsFollow) (d : Device) (whole : IsWhole d.launch) (s : Sta
     }
 
 -- after a release
-pub refreshed : FlagsFollow → (d : Device) → IsWhole d.launch → (s : State) (g : ℕ) (v w : Flags) → AreFlags d s v → w.local ≡ v.local → length w.items ≡ length v.items → Refreshed d (after d s (Release g)) g v w → AreFlags d (after d s (Release g)) w
-refreshed follow d whole s g v w flags local count r = follow d s (Release g) v w whole flags (record {
-  local = local;
+pub refreshed : FlagsFollow → (d : Device) → IsWhole d.launch → (s : State) (g : ℕ) (v w : Flags) → AreFlags d s v → w.grid ≡ v.grid → length w.items ≡ length v.items → Refreshed d (after d s (Release g)) g v w → AreFlags d (after d s (Release g)) w
+refreshed follow d whole s g v w flags grid count r = follow d s (Release g) v w whole flags (record {
+  grid = grid;
   count = count;
   kept = λ k m. r.kept k (λ q. let e : true ≡ false = sym (ap (λ z. z == g) q ∙ ⊎_elim (λ z. z.0) (λ z. absurd (z.1 refl)) (eqb_tells g g)) ∙ m in let n : ⊥ = cc in n);
   moved = λ k lt m. r.moved k lt (eqb-true (group_of d.launch k) g m);

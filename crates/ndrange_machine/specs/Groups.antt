@@ -8,14 +8,15 @@ use Rattle.kernel_tree.specs.Launch.{Launch, Cells, item_count, group_of, first_
 use Rattle.kernel_tree.specs.Device.{Device, Fence, State, device_of, wants, CanStep, AllTogether, has_flag, is_flagged, after, run}
 use Rattle.kernel_tree.specs.Faults.{SomeDiverges}
 use Rattle.enabled_events.specs.Listed.{Flags, AreFlags}
-use Rattle.cell_marks.specs.Marked.{MarksTell}
+use Rattle.race_marks.specs.Marked.{MarksTell}
 use Rattle.ndrange_machine.specs.declared.machine.Machine.{Machine}
 use Rattle.ndrange_machine.specs.declared.want.Want.{Want}
 use Rattle.ndrange_machine.specs.declared.want.Want.TheVariants.{Waits}
 use Rattle.ndrange_machine.specs.ItemView.{ItemView}
 use Rattle.ndrange_machine.specs.Known.{numbers}
 use Rattle.ndrange_machine.specs.Stands.{Holds}
-use Rattle.ndrange_machine.specs.Takes.{IsGoing}
+use Rattle.ndrange_machine.specs.declared.item.Change.TheVariants.{Keeps}
+use Rattle.ndrange_machine.specs.Takes.{Changes, IsGoing, SameCore}
 
 -- at one line, in turns of the same numbers
 abbrev pub SamePlace : ItemView → ItemView → Type 0
@@ -33,10 +34,10 @@ TellsEnded m g b = (k : Kernel) (l : Launch) (c : Cells) (s : State) → Holds k
 
 -- one item's flag says whether it is going
 pub record SetsFlag (m n : Machine) (j : ℕ) : Type 0 where
-  pub local : n.ready.local ≡ m.ready.local
+  pub grid : n.ready.grid ≡ m.ready.grid
   pub groups : n.ready.groups ≡ m.ready.groups
   pub others : (i : ℕ) → i ≢ j → slice_index_or n.ready.items i false ≡ slice_index_or m.ready.items i false
-  pub own : j < m.launch.global → IsGoing m j (slice_index_or n.ready.items j false)
+  pub own : j < item_count m.launch → IsGoing m j (slice_index_or n.ready.items j false)
 
 -- the flags of one group and its items are those of the state, and no other has changed
 pub record Refreshed (d : Device) (s : State) (g : ℕ) (v w : Flags) : Type 0 where
@@ -55,7 +56,7 @@ Begins m n = (k : Kernel) (l : Launch) (c : Cells) (s : State) → Holds k l c m
 pub record Met (d : Device) (s : State) (g : ℕ) (v w : Flags) (diverges : Bool) : Type 0 where
   pub together : Bool
   pub is : IsTrue together ↔ AllTogether d s g
-  pub flags : w ≡ record { local = v.local; items = v.items; groups = slice_set v.groups g together }
+  pub flags : w ≡ record { grid = v.grid; items = v.items; groups = slice_set v.groups g together }
   pub apart : IsTrue diverges ↔ ((AllTogether d s g → ⊥) × (AllOver d s g → ⊥))
 
 abbrev pub Meets : (m n : Machine) → (group : ℕ) → Bool → Type 0
@@ -78,6 +79,16 @@ Settles m n j b = (k : Kernel) (l : Launch) (c : Cells) (s : State)
     → Holds k l c m (after (device_of k l c) s (Step j))
     → Stepped (device_of k l c) s j m.ready
     → Settled (device_of k l c) (after (device_of k l c) s (Step j)) n.ready b
+
+-- an item goes to the line, and the flags are those of the state there
+pub record Stops (m n : Machine) (j line : ℕ) : Type 0 where
+  pub between : Machine
+  pub diverges : Bool
+  pub changes : Changes m between j Keeps line
+  pub memory : between.memory ≡ m.memory
+  pub ready : between.ready ≡ m.ready
+  pub core : SameCore between n
+  pub settles : Settles between n j diverges
 
 -- the marks tell of a run after the release of a group that stands at this barrier
 abbrev pub MarksRelease : (m n : Machine) → (group : ℕ) → Want → Type 0

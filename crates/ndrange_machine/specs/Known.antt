@@ -1,20 +1,32 @@
--- What a work-item knows, and the turns of the loops around it.
-use Rattle.std.specs.Prelude.{ℕ, List, [], ◌∷◌, ◌++◌, map}
+-- What a work-item knows, its private variables, and the turns of the loops around it.
+use Rattle.std.specs.Prelude.{◌≡◌, ℕ, ◌<◌, List, [], ◌∷◌, ◌++◌, length, map, slice_index}
 use Rattle.kernel_tree.specs.Formula as formula
+use Rattle.kernel_tree.specs.Formula.{Four, Vars}
+use Rattle.kernel_tree.specs.Launch.{ids_of, group_of}
 use Rattle.kernel_tree.specs.Item.{Frame}
+use Rattle.enabled_events.specs.declared.grid.Grid.{Grid}
+use Rattle.enabled_events.specs.Grids.{laid}
+use Rattle.ndrange_machine.specs.declared.four.Four as held
 use Rattle.ndrange_machine.specs.declared.ids.Ids.{Ids}
 use Rattle.ndrange_machine.specs.declared.turn.Turn.{Turn}
 
 abbrev pub known : Ids → (sizes : List ℕ) → formula.Ids
-known ids sizes = record {
-  global_id = ids.global_id;
-  group_id = ids.group_id;
-  local_id = ids.local_id;
-  global_size = ids.global_size;
-  group_count = ids.group_count;
-  local_size = ids.local_size;
-  sizes = sizes;
-}
+known ids sizes = ids_of (record { global = ids.grid.global; local = ids.grid.local; sizes = sizes }) ids.item
+
+-- four words, as the machine holds them
+abbrev pub four_of : held.Four → Four
+four_of u = record { x = u.x; y = u.y; z = u.z; w = u.w }
+
+abbrev pub held_four : Four → held.Four
+held_four u = record { x = u.x; y = u.y; z = u.z; w = u.w }
+
+abbrev pub vars_of : (words : List ℕ) → (vectors : List held.Four) → Vars
+vars_of words vectors = record { words = words; vectors = map four_of vectors }
+
+-- these are the groups of the first items
+pub record AreGroups (grid : Grid) (count : ℕ) (groups : List ℕ) : Type 0 where
+  pub count_is : length groups ≡ count
+  pub each : (j : ℕ) → j < count → slice_index groups j ≡ group_of (laid grid) j
 
 abbrev pub turn_of : Frame → Turn
 turn_of f = record { number = f.turn; variable = f.variable }

@@ -1,9 +1,10 @@
 -- What the machine holds in its cells.
 use Rattle.std.specs.Global.{Global}
-use Rattle.std.specs.Prelude.{Vec, ℕ, List, [], ◌∷◌, Option, Some, None, zero, suc, map, slice_get, ◌==◌, if◌then◌else◌}
+use Rattle.std.specs.Prelude.{Vec, ℕ, List, [], ◌∷◌, Option, Some, None, zero, suc, map, is_some, slice_get, ◌==◌, ◌&&◌, if◌then◌else◌}
 use Rattle.kernel_tree.specs.Code.{Array, Input, Output, Local, Private}
 use Rattle.kernel_tree.specs.Launch.{Launch, item_count, group_count}
-use Rattle.kernel_tree.specs.Device.{Cell}
+use Rattle.kernel_tree.specs.Formula.{Four, four_if}
+use Rattle.kernel_tree.specs.Device.{Cell, behind, same_cell}
 use Rattle.ndrange_machine.specs.declared.memory.Memory.{Memory}
 
 -- what vectors hold
@@ -39,3 +40,15 @@ homes l (Input a) = 1
 homes l (Output a) = 1
 homes l (Local a) = group_count l
 homes l (Private a) = item_count l
+
+-- the words of four cells; none where one has none
+abbrev pub read_held : (Cell → Option ℕ) → Cell → Option Four
+read_held f c = four_if (f c) (f (behind 1 c)) (f (behind 2 c)) (f (behind 3 c))
+
+-- with a word in a cell, if there is such a cell
+abbrev pub put_held : (Cell → Option ℕ) → Cell → (word : ℕ) → Cell → Option ℕ
+put_held f e word c = if same_cell c e && is_some (f e) then Some word else f c
+
+-- with four words in four cells, one after another
+abbrev pub put_four : (Cell → Option ℕ) → Cell → Four → Cell → Option ℕ
+put_four f e u = put_held (put_held (put_held (put_held f e u.x) (behind 1 e) u.y) (behind 2 e) u.z) (behind 3 e) u.w

@@ -1,14 +1,15 @@
 -- How a machine stands for a run.
-use Rattle.std.specs.Prelude.{◌≡◌, ℕ, ◌+◌, ◌≤◌, ◌<◌, List, length, map, Some, is_some, nat_lt, slice_get, slice_index}
+use Rattle.std.specs.Prelude.{◌≡◌, ℕ, ◌+◌, ◌≤◌, ◌<◌, true, List, length, map, Some, is_some, nat_lt, slice_get, slice_index}
 use Rattle.kernel_tree.specs.declared.events.Event.{Event}
 use Rattle.kernel_tree.specs.Code.{Array, Kernel, Output}
+use Rattle.kernel_tree.specs.Grammar.{is_kernel}
 use Rattle.kernel_tree.specs.Launch.{Launch, Cells, IsWhole, item_count}
 use Rattle.kernel_tree.specs.Item.{Item}
 use Rattle.kernel_tree.specs.Device.{Cell, Device, State, row, device_of, length_in, start_state, cell_at, run}
 use Rattle.kernel_tree.specs.Faults.{NoFailure, SomeDiverges, IsFaultless, Run}
 use Rattle.kernel_tree.specs.Schedule.{AreEnabled}
 use Rattle.enabled_events.specs.Listed.{AreFlags, flagged_events}
-use Rattle.cell_marks.specs.Marked.{MarksTell}
+use Rattle.race_marks.specs.Marked.{MarksTell}
 use Rattle.ndrange_machine.specs.declared.machine.Machine.{Machine}
 use Rattle.ndrange_machine.specs.ItemView.{ItemView}
 use Rattle.ndrange_machine.specs.Known.{turns_of}
@@ -28,7 +29,8 @@ pub record HoldsItem (lines : List Line) (it : ItemView) (x : Item) : Type 0 whe
   pub room : length x.frames + depth x.code ≤ it.room
   pub rooms : HaveRoom it.room x.frames
 
--- the machine holds a state, but for private variables: the text, the launch, each work-item, and each cell of all memory
+-- the machine holds a state, but for private variables: the text, the launch, each work-item, and
+-- each cell of all memory
 pub record Holds (k : Kernel) (l : Launch) (c : Cells) (m : Machine) (s : State) : Type 0 where
   pub text : map text_of m.lines.items ≡ lines_at 0 k.code
   pub launch : m.launch ≡ l
@@ -39,8 +41,11 @@ pub record Holds (k : Kernel) (l : Launch) (c : Cells) (m : Machine) (s : State)
   pub cells : (d : Cell) (x : ℕ) → held m.memory d ≡ Some x → s.memory d ≡ x
   pub outs : length m.memory.outs.items ≡ length c.outs
 
--- the machine stands for a run of the kernel on these cells. After an event that failed, which is the last of its run, it no longer has the private variables, and after a fault its marks count no more
+-- the machine stands for a run of the kernel, which is of the grammar, on these cells. After an
+-- event that failed, which is the last of its run, it no longer has the private variables, and
+-- after a fault its marks count no more
 pub record StandsFor (k : Kernel) (l : Launch) (c : Cells) (m : Machine) (es : List Event) : Type 0 where
+  pub grammar : is_kernel k ≡ true
   pub is_run : Run (device_of k l c) (start_state k c) es
   pub holds : Holds k l c m (state_after k l c es)
   pub flags : AreFlags (device_of k l c) (state_after k l c es) m.ready

@@ -6,6 +6,7 @@ ghost use Rattle.ndrange_machine.specs.Changes.{changed, start_view};
 ghost use Rattle.ndrange_machine.specs.Known.{known};
 ghost use Rattle.ndrange_machine.specs.Wants.{wanted};
 
+use crate::four::Four;
 use crate::ids::Ids;
 use crate::line::Line;
 use crate::turn::{Turn, same_numbers};
@@ -14,17 +15,19 @@ use std::alloc::{AllocError, Global};
 use std::marker::Model;
 
 /// A work-item: the number of its line, the turns of the loops around it, outermost first, and its
-/// private variables.
+/// private variables of a word and of four words.
 #[derive(Drop)]
 pub struct Item {
     line: usize,
     turns: Vec<Turn>,
-    vars: Vec<u32>,
+    words: Vec<u32>,
+    vectors: Vec<Four>,
 }
 
 impl Model for Item {
     ghost use Rattle.std.specs.Prelude.{vec_capacity};
     ghost use Rattle.ndrange_machine.specs.ItemView.{ItemView};
+    ghost use Rattle.ndrange_machine.specs.Known.{vars_of};
 
     ghost Value = { ItemView };
 
@@ -32,7 +35,7 @@ impl Model for Item {
       line = x.line;
       turns = x.turns.items;
       room = vec_capacity x.turns;
-      vars = x.vars.items;
+      vars = vars_of x.words.items x.vectors.items;
     } };
 }
 
@@ -41,6 +44,8 @@ impl Model for Item {
 pub enum Change {
     /// A private variable gets a word.
     Sets(u32, u32),
+    /// A private variable of four words gets these.
+    SetsFour(u32, Four),
     /// A loop begins with this turn.
     Begins(Turn),
     /// The innermost loop has another turn, which is this one.
@@ -53,18 +58,26 @@ pub enum Change {
 
 impl Item {
     /// A work-item at the first line, with room for the turns of so many loops and so many private
-    /// variables, each of which holds the word.
-    pub fn start(alloc: Global, depth: usize, variables: u32, word: u32) -> Result<Item, AllocError>
-        ensures { IfOk result (λ it. it ≡ start_view depth variables word) }
+    /// variables of a word and of four words, which hold the word everywhere.
+    pub fn start(
+        alloc: Global,
+        depth: usize,
+        variables: u32,
+        vectors: u32,
+        word: u32,
+    ) -> Result<Item, AllocError>
+        ensures { IfOk result (λ it. it ≡ start_view depth variables vectors word) }
     {
         Ok(Item {
             line: 0,
             turns: Vec::with_capacity(alloc, depth)?,
-            vars: vec![in alloc; word; variables as usize]?,
+            words: vec![in alloc; word; variables as usize]?,
+            vectors: vec![in alloc; Four::spread(word); vectors as usize]?,
         })
     }
 
     /// The number of its line.
+    #[inline(always)]
     pub fn line(&self) -> usize
         ensures { result ≡ self.now.line }
     {
@@ -79,21 +92,36 @@ impl Item {
     }
 
     /// What it wants, where it knows this.
+    #[inline(always)]
     pub fn want(&self, lines: &[Line], ids: Ids, sizes: &[u32]) -> Want
         ensures { result ≡ wanted lines.now (known ids sizes.now) self.now }
     {
-        want_at(lines, ids, sizes, self.line, &self.turns, &self.vars)
+        want_at(
+            lines,
+            ids,
+            sizes,
+            self.line,
+            &self.turns,
+            &self.words,
+            &self.vectors,
+        )
     }
 
     /// Makes the change, and goes to the line. It takes no memory: a loop begins only where there is
     /// room for its turn.
+    #[inline(always)]
     pub fn change(&mut self, change: Change, line: usize)
         ensures { self.new ≡ changed self.old change line }
     {
         match change {
             Change::Sets(variable, word) => {
-                if let Some(place) = self.vars.get_mut(variable as usize) {
+                if let Some(place) = self.words.get_mut(variable as usize) {
                     *place = word;
+                }
+            }
+            Change::SetsFour(variable, four) => {
+                if let Some(place) = self.vectors.get_mut(variable as usize) {
+                    *place = four;
                 }
             }
             Change::Begins(turn) => {

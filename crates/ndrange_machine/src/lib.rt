@@ -6,6 +6,7 @@
 //! work-items have ended, and what is seen of an event that is added to the run.
 #![tactic(auto)]
 
+mod four;
 mod ids;
 mod item;
 mod line;

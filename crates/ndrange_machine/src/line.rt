@@ -1,12 +1,12 @@
 //! The kernel's text, line by line.
 
-ghost use Rattle.std.specs.Prelude.{◌≡◌, ◌+◌, ◌<◌, ◌^◌, ◌++◌, map, length, OnOk};
+ghost use Rattle.std.specs.Prelude.{◌≡◌, ◌+◌, ◌<◌, ◌^◌, ◌++◌, map, length, IfOk, OnOk};
 ghost use Rattle.kernel_tree.specs.Code.{Code, End};
 ghost use Rattle.kernel_tree.specs.Tree.{before, code_then};
 ghost use Rattle.ndrange_machine.specs.Lines.{lines_at, depth, past_line};
 ghost use Rattle.ndrange_machine.specs.Wants.{text_of, with_exit};
 
-use kernel_tree::tree::{Array, Expr, Start, Stmt, Stride};
+use kernel_tree::tree::{Array, Expr, Lanes, Start, Stmt, Stride};
 use std::alloc::{AllocError, Global};
 
 /// A line of the kernel's text. Lines are numbered from 0.
@@ -18,6 +18,14 @@ pub enum Line {
     Load(u32, Array, Expr),
     /// `M[E] = E;`
     Store(Array, Expr, Expr),
+    /// `wK = V;`
+    AssignFour(u32, Lanes),
+    /// `wK = vload4(E, M);`
+    LoadFour(u32, Array, Expr),
+    /// `vstore4(V, E, M);`
+    StoreFour(Array, Expr, Lanes),
+    /// The test of an `if`, with the number of the line after its body.
+    Test(Start, Expr, usize),
     /// A loop's head, with the number of the line after the loop.
     Head(Start, Expr, Stride, usize),
     /// The end of a loop's body, with the number of the loop's head.
@@ -27,19 +35,30 @@ pub enum Line {
 }
 
 impl Line {
-    // Tells a loop's head the line after the loop.
+    // Tells a loop's head the line after the loop, or the test of an `if` the line after its body.
     fn set_exit(&mut self, line: usize)
         ensures { self.new ≡ with_exit self.old line }
     {
-        if let Line::Head(_, _, _, exit) = self {
-            *exit = line;
+        match self {
+            Line::Head(_, _, _, exit) => *exit = line,
+            Line::Test(_, _, exit) => *exit = line,
+            _ => {}
         }
     }
 }
 
-/// Puts the lines of a block after those that are there.
+/// The lines of a block.
+pub fn lines_of(alloc: Global, block: Vec<Stmt>) -> Result<Vec<Line>, AllocError>
+    ensures { IfOk result (λ lines. map text_of lines.items ≡ lines_at 0 (code_then block.items End)) }
+{
+    let mut lines = Vec::new(alloc);
+    lay(alloc, &mut lines, block)?;
+    Ok(lines)
+}
+
+// Puts the lines of a block after those that are there.
 #[cycle(laying)]
-pub fn lay(alloc: Global, lines: &mut Vec<Line>, block: Vec<Stmt>) -> Result<(), AllocError>
+fn lay(alloc: Global, lines: &mut Vec<Line>, block: Vec<Stmt>) -> Result<(), AllocError>
     ensures { OnOk result (map text_of lines.new.items
         ≡ map text_of lines.old.items
         ++ lines_at (length lines.old.items) (code_then block.items End)) }
@@ -59,6 +78,16 @@ fn lay_one(alloc: Global, lines: &mut Vec<Line>, statement: Stmt) -> Result<(), 
         Stmt::Assign(v, e) => lines.push(Line::Assign(v, e))?,
         Stmt::Load(v, a, i) => lines.push(Line::Load(v, a, i))?,
         Stmt::Store(a, i, e) => lines.push(Line::Store(a, i, e))?,
+        Stmt::AssignFour(v, e) => lines.push(Line::AssignFour(v, e))?,
+        Stmt::LoadFour(v, a, i) => lines.push(Line::LoadFour(v, a, i))?,
+        Stmt::StoreFour(a, i, e) => lines.push(Line::StoreFour(a, i, e))?,
+        Stmt::If(start, bound, body) => {
+            let test = lines.len();
+            lines.push(Line::Test(start, bound, 0))?;
+            lay(alloc, lines, body)?;
+            let exit = lines.len();
+            lines[test].set_exit(exit);
+        }
         Stmt::Loop(start, bound, stride, body) => {
             let head = lines.len();
             lines.push(Line::Head(start, bound, stride, 0))?;

@@ -1,35 +1,41 @@
 //! The machine.
 
-ghost use Rattle.std.specs.Prelude.{◌≡◌, ◌↔◌, ◌+◌, ◌*◌, ◌/◌, ◌^◌, ◌<◌, ◌≤◌, ℕ, List, [], length, map, slice_get, Some, None, option_map, replicate, IsTrue, IfOk};
+ghost use Rattle.std.specs.Prelude.{◌≡◌, ◌↔◌, ◌+◌, ◌<◌, ◌≤◌, ℕ, List, [], false, length, map, slice_get, slice_index, Some, None, replicate, IsTrue, IfOk};
 ghost use Rattle.kernel_tree.specs.Code as code;
 ghost use Rattle.kernel_tree.specs.Launch as seen;
 ghost use Rattle.kernel_tree.specs.declared.events.Event as held_event;
 ghost use Rattle.kernel_tree.specs.declared.events.Event.TheVariants as event_form;
-ghost use Rattle.kernel_tree.specs.declared.events.Access.TheVariants as access;
+ghost use Rattle.kernel_tree.specs.declared.events.FaultKind.TheVariants.{OutOfRange};
 ghost use Rattle.kernel_tree.specs.Device.{device_of, AllEnded};
 ghost use Rattle.kernel_tree.specs.Kernels.{kernel_of};
 ghost use Rattle.kernel_tree.specs.Schedule.{AreEnabled};
 ghost use Rattle.kernel_tree.specs.Seen.{shared_cell};
 ghost use Rattle.kernel_tree.specs.Tree.{array_of};
-ghost use Rattle.cell_marks.specs.Marked.{TracksAccess};
+ghost use Rattle.enabled_events.specs.Flags.{IsHeight};
+ghost use Rattle.enabled_events.specs.Grids.{grid_of, laid, IsSmall};
+ghost use Rattle.enabled_events.specs.Listed.{flagged_events};
+ghost use Rattle.race_marks.specs.Marked.{BeginsMarks, TracksAccess, TracksFour};
 ghost use Rattle.ndrange_machine.specs.Changes.{start_view};
-ghost use Rattle.ndrange_machine.specs.Sights.{accessed_cell, seen_as, kind_of};
+ghost use Rattle.ndrange_machine.specs.Sights.{access_of_want, fault_in, lane_of, raced_cell, touch_at};
 ghost use Rattle.ndrange_machine.specs.ItemView.{ItemView};
+ghost use Rattle.ndrange_machine.specs.Known.{AreGroups};
 ghost use Rattle.ndrange_machine.specs.declared.want.Want.TheVariants as want_form;
 
+use crate::four::Four;
 use crate::ids::Ids;
 use crate::item::{Change, Item};
-use crate::line::{Line, depth_of, lay};
-use crate::memory::{Memory, rows_for};
+use crate::line::{Line, depth_of, lines_of};
+use crate::memory::Memory;
 use crate::want::Want;
-use cell_marks::laws::marks_stay;
-use cell_marks::marks::CellMarks;
 use count_tree::steps::Steps;
+use enabled_events::grid::Grid;
 use enabled_events::laws::{flags_follow, flags_tell};
 use enabled_events::ready::Ready;
 use kernel_tree::events::{Access, Cell, Event, Fault, FaultKind, Seen};
 use kernel_tree::launches::{Cells, Launch};
 use kernel_tree::tree::{Array, Kernel};
+use race_marks::cells::CellMarks;
+use race_marks::laws::marks_stay;
 use race_marks::marks::Touch;
 use std::alloc::{AllocError, Global};
 use std::sync::ledger::Ledger;
@@ -41,21 +47,23 @@ pub struct Machine {
     launch: Launch,
     memory: Memory,
     items: Vec<Item>,
+    groups: Vec<u16>,
     marks: CellMarks,
     ready: Ready,
-    ghost few: { launch.global ≤ 65536 },
-    ghost some_in_group: { 0 < launch.local },
-    ghost whole: { launch.global ≡ launch.global / launch.local * launch.local },
-    ghost ready_local: { ready.local ≡ launch.local },
-    ghost ready_items: { length ready.items ≡ launch.global },
-    ghost ready_groups: { length ready.groups ≡ launch.global / launch.local },
-    ghost marked_groups: { marks.groups ≡ launch.global / launch.local },
+    ghost small: { IsSmall (grid_of launch) },
+    ghost ready_grid: { ready.grid ≡ grid_of launch },
+    ghost ready_items: { length ready.items ≡ seen.item_count launch },
+    ghost ready_groups: { length ready.groups ≡ seen.group_count launch },
+    ghost marked_groups: { marks.groups ≡ seen.group_count launch },
+    ghost grouped: { length groups.items ≡ seen.item_count launch },
+    ghost its_group: { (j : ℕ) → j < seen.item_count launch
+        → slice_index groups.items j ≡ seen.group_of launch j },
 }
 
 impl Machine {
     ghost use Rattle.ndrange_machine.specs.Stands.{StandsFor, CountsEnabled, AreOutputs, enabled_count, state_after};
-    ghost use Rattle.ndrange_machine.specs.Takes.{Takes, Changes, Passes, IsWanted, IsAtBarrier, IsGoing, SameCore};
-    ghost use Rattle.ndrange_machine.specs.Groups.{SamePlace, TellsTogether, TellsEnded, SetsFlag, Refreshes, Meets, Settles, Begins, MarksRelease};
+    ghost use Rattle.ndrange_machine.specs.Takes.{Advances, TellsAccess, Takes, Changes, PassesOne, PassesGroup, IsWanted, IsAtBarrier, IsGoing, SameCore};
+    ghost use Rattle.ndrange_machine.specs.Groups.{SamePlace, TellsTogether, TellsEnded, SetsFlag, Refreshes, Meets, Settles, Stops, Begins, MarksRelease};
 
     /// The machine at the start of the kernel's run. All its memory is taken here.
     pub fn start(
@@ -71,28 +79,37 @@ impl Machine {
             locals,
             privates,
             variables,
+            vectors,
             body,
             ..
         } = kernel;
         let Cells { ins, outs, rest } = cells;
-        let groups = launch.global / launch.local;
-        let marks = CellMarks::new(alloc, &ins, &outs, &locals, groups)?;
-        let ready = Ready::new(alloc, launch.global, launch.local)?;
-        let locals = rows_for(alloc, groups, &locals, rest)?;
-        let privates = rows_for(alloc, launch.global, &privates, rest)?;
-        let mut lines = Vec::new(alloc);
-        lay(alloc, &mut lines, body)?;
-        let items = items_at_start(alloc, launch.global, depth_of(&lines), variables, rest)?;
+        let grid = Grid {
+            global: launch.global,
+            local: launch.local,
+        };
+        let lines = lines_of(alloc, body)?;
+        let memory = Memory::start(alloc, grid, ins, outs, &locals, &privates, rest)?;
+        let tables = Tables::start(alloc, grid, &memory.outs, &locals)?;
+        let items = items_at_start(
+            alloc,
+            grid.item_count(),
+            depth_of(&lines),
+            variables,
+            vectors,
+            rest,
+        )?;
+        let Tables {
+            groups,
+            marks,
+            ready,
+        } = tables;
         let mut machine = Machine {
             lines,
             launch,
-            memory: Memory {
-                ins,
-                outs,
-                locals,
-                privates,
-            },
+            memory,
             items,
+            groups,
             marks,
             ready,
         };
@@ -113,9 +130,11 @@ impl Machine {
     }
 
     /// The enabled event of this number, in the order of the work-items, from 0.
+    #[inline(always)]
     pub fn nth_enabled(&self, k: u32) -> Event
         requires { k < enabled_count self.now }
-        ensures { (kernel : code.Kernel) (l : seen.Launch) (c : seen.Cells)
+        ensures told { slice_get (flagged_events self.now.ready) k ≡ Some result }
+        ensures event { (kernel : code.Kernel) (l : seen.Launch) (c : seen.Cells)
             (es all : List held_event.Event)
             → StandsFor kernel l c self.now es
             → AreEnabled (device_of kernel l c) (state_after kernel l c es) all
@@ -126,15 +145,18 @@ impl Machine {
     }
 
     /// The enabled event of this number, in the order of the work-items, from 0. A step is a look at
-    /// one count of enabled events: at most n of them where there are at most 2 ^ n work-items.
+    /// one count of enabled events: just n of them, where 2 ^ n is the least power that isn't below the
+    /// number of work-items.
     pub fn nth_enabled_counted<L: Ledger>(&self, k: u32, steps: &mut Steps<L>) -> Event
         requires { k < enabled_count self.now }
+        ensures told { slice_get (flagged_events self.now.ready) k ≡ Some result }
         ensures event { (kernel : code.Kernel) (l : seen.Launch) (c : seen.Cells)
             (es all : List held_event.Event)
             → StandsFor kernel l c self.now es
             → AreEnabled (device_of kernel l c) (state_after kernel l c es) all
             → slice_get all k ≡ Some result }
-        ensures cost { (n : ℕ) → self.now.launch.global ≤ 2 ^ n → steps.new ≤ steps.old + n }
+        ensures cost { (n : ℕ) → IsHeight (seen.item_count self.now.launch) n
+            → steps.new ≡ steps.old + n }
     {
         flags_tell();
         self.ready.nth_enabled_counted(k, steps)
@@ -161,11 +183,37 @@ impl Machine {
         ensures takes { Takes self.old event self.new result }
         ensures release { (g : ℕ) → event ≡ event_form.Release g → result.fault ≡ None }
     {
+        let access = self.access(event);
+        let fault = self.advance(event);
+        Seen {
+            event,
+            access,
+            fault,
+        }
+    }
+
+    /// The access of shared memory that an enabled event has, if any.
+    pub fn access(&self, event: Event) -> Option<Access>
+        ensures { TellsAccess self.now event result }
+    {
+        match event {
+            Event::Step(item) => access_in(self.want(item)),
+            Event::Release(_) => None,
+        }
+    }
+
+    /// Takes an enabled event, and tells its fault alone. No event is taken after a fault. A release
+    /// has none.
+    #[inline(always)]
+    pub fn advance(&mut self, event: Event) -> Option<Fault>
+        ensures advances { Advances self.old event self.new result }
+        ensures release { (g : ℕ) → event ≡ event_form.Release g → result ≡ None }
+    {
         match event {
             Event::Step(item) => self.step_item(item),
             Event::Release(group) => {
                 self.release_group(group);
-                seen(event, None, None)
+                None
             }
         }
     }
@@ -219,15 +267,16 @@ impl Machine {
 
     // Whether all work-items of a group stand at one barrier, in turns of the same numbers.
     fn are_together(&self, group: u32) -> bool
-        requires { group < self.now.launch.global / self.now.launch.local }
+        requires { group < seen.group_count self.now.launch }
         ensures { TellsTogether self.now group result }
     {
-        let first = self.first_of(group);
+        let grid = self.grid();
+        let first = grid.first_of(group);
         if !self.is_at_barrier(first) {
             return false;
         }
-        for item in first..self.end_of(group) {
-            if !self.stand_together(first, item) {
+        for number in 0..grid.group_size() {
+            if !self.stand_together(first, grid.member(group, number)) {
                 return false;
             }
         }
@@ -236,11 +285,12 @@ impl Machine {
 
     // Whether all work-items of a group have ended.
     fn have_ended(&self, group: u32) -> bool
-        requires { group < self.now.launch.global / self.now.launch.local }
+        requires { group < seen.group_count self.now.launch }
         ensures { TellsEnded self.now group result }
     {
-        for item in self.first_of(group)..self.end_of(group) {
-            if !self.has_ended(item) {
+        let grid = self.grid();
+        for number in 0..grid.group_size() {
+            if !self.has_ended(grid.member(group, number)) {
                 return false;
             }
         }
@@ -274,34 +324,23 @@ impl Machine {
 
     // Groups
 
+    // How work-items lie in groups.
+    fn grid(&self) -> Grid
+        ensures { result ≡ grid_of self.now.launch }
+    {
+        Grid {
+            global: self.launch.global,
+            local: self.launch.local,
+        }
+    }
+
     // The group of a work-item.
-    fn group_of(&self, item: u32) -> u32
-        ensures { result ≡ item / self.now.launch.local }
+    #[inline(always)]
+    fn group_of(&self, item: u32) -> u16
+        requires { item < seen.item_count self.now.launch }
+        ensures { result ≡ seen.group_of self.now.launch item }
     {
-        item / self.launch.local
-    }
-
-    // How many groups there are.
-    fn group_count(&self) -> u32
-        ensures { result ≡ self.now.launch.global / self.now.launch.local }
-    {
-        self.launch.global / self.launch.local
-    }
-
-    // The first work-item of a group.
-    fn first_of(&self, group: u32) -> u32
-        requires { group < self.now.launch.global / self.now.launch.local }
-        ensures { result ≡ group * self.now.launch.local }
-    {
-        group * self.launch.local
-    }
-
-    // The first work-item past a group.
-    fn end_of(&self, group: u32) -> u32
-        requires { group < self.now.launch.global / self.now.launch.local }
-        ensures { result ≡ group * self.now.launch.local + self.now.launch.local }
-    {
-        group * self.launch.local + self.launch.local
+        self.groups[item as usize]
     }
 
     // Which events are enabled
@@ -312,7 +351,7 @@ impl Machine {
         ensures marks { self.new.marks ≡ self.old.marks }
         ensures flag { SetsFlag self.old self.new item }
     {
-        if item < self.launch.global {
+        if item < self.grid().item_count() {
             let steps = self.can_step(item);
             self.ready.set_item(item, steps);
         }
@@ -320,13 +359,14 @@ impl Machine {
 
     // Sets which work-items of a group have an event of their own, and whether it may be released.
     fn refresh(&mut self, group: u32)
-        requires { group < self.old.launch.global / self.old.launch.local }
+        requires { group < seen.group_count self.old.launch }
         ensures core { SameCore self.old self.new }
         ensures marks { self.new.marks ≡ self.old.marks }
         ensures flags { Refreshes self.old self.new group }
     {
-        for item in self.first_of(group)..self.end_of(group) {
-            self.set_flag(item);
+        let grid = self.grid();
+        for number in 0..grid.group_size() {
+            self.set_flag(grid.member(group, number));
         }
         let together = self.are_together(group);
         self.ready.set_group(group, together);
@@ -338,7 +378,7 @@ impl Machine {
         ensures marks { self.new.marks ≡ self.old.marks }
         ensures flags { Begins self.old self.new }
     {
-        for group in 0..self.group_count() {
+        for group in 0..self.grid().group_count() {
             self.refresh(group);
         }
     }
@@ -346,7 +386,7 @@ impl Machine {
     // Sets whether a group whose work-items have all stopped may be released, and says whether it
     // diverges.
     fn meet(&mut self, group: u32) -> bool
-        requires { group < self.old.launch.global / self.old.launch.local }
+        requires { group < seen.group_count self.old.launch }
         ensures core { SameCore self.old self.new }
         ensures marks { self.new.marks ≡ self.old.marks }
         ensures meets { Meets self.old self.new group result }
@@ -362,7 +402,7 @@ impl Machine {
 
     // Sets which events are enabled after a work-item's step, and says whether its group diverges.
     fn settle(&mut self, item: u32) -> bool
-        requires { item < self.old.launch.global }
+        requires { item < seen.item_count self.old.launch }
         ensures core { SameCore self.old self.new }
         ensures marks { self.new.marks ≡ self.old.marks }
         ensures settles { Settles self.old self.new item result }
@@ -372,7 +412,7 @@ impl Machine {
             return false;
         }
         self.ready.set_item(item, false);
-        let group = self.group_of(item);
+        let group = self.group_of(item) as u32;
         if self.ready.has_stopped(group) {
             self.meet(group)
         } else {
@@ -383,121 +423,213 @@ impl Machine {
     // Events
 
     // Takes the next step of a work-item that there is.
-    fn step_item(&mut self, item: u32) -> Seen
-        ensures { Takes self.old (event_form.Step item) self.new result }
+    #[inline(always)]
+    fn step_item(&mut self, item: u32) -> Option<Fault>
+        ensures { Advances self.old (event_form.Step item) self.new result }
     {
-        if item < self.launch.global {
+        if (item as usize) < self.groups.len() {
             self.go(item)
         } else {
-            seen(Event::Step(item), None, None)
+            None
         }
     }
 
     // Takes the next step of a work-item.
-    fn go(&mut self, item: u32) -> Seen
-        requires { item < self.old.launch.global }
-        ensures { Takes self.old (event_form.Step item) self.new result }
+    #[inline(always)]
+    fn go(&mut self, item: u32) -> Option<Fault>
+        requires { item < seen.item_count self.old.launch }
+        ensures { Advances self.old (event_form.Step item) self.new result }
     {
         marks_stay();
-        let event = Event::Step(item);
         match self.want(item) {
-            Want::Ends => seen(event, None, None),
-            Want::Waits { .. } => seen(event, None, None),
-            Want::Fails(kind) => seen(event, None, Some(kind)),
+            Want::Ends | Want::Waits { .. } => None,
+            Want::Fails(kind) => Some(Fault { kind, cell: None }),
             Want::Changes(change, line) => {
                 self.change(item, change, line);
                 let diverges = self.settle(item);
-                seen(event, None, fault_kind(false, diverges))
+                fault(None, None, diverges)
             }
             Want::Reads(variable, array, index, line) => {
                 self.load(item, variable, array, index, line)
             }
             Want::Writes(array, index, word, line) => self.store(item, array, index, word, line),
+            Want::ReadsFour(variable, array, offset, line) => {
+                self.load_four(item, variable, array, offset, line)
+            }
+            Want::WritesFour(array, offset, four, line) => {
+                self.store_four(item, array, offset, four, line)
+            }
         }
     }
 
     // Loads a cell's word into a private variable, and goes to the line.
-    fn load(&mut self, item: u32, variable: u32, array: Array, index: u32, line: usize) -> Seen
-        requires { item < self.old.launch.global }
+    #[inline(always)]
+    fn load(
+        &mut self,
+        item: u32,
+        variable: u32,
+        array: Array,
+        index: u32,
+        line: usize,
+    ) -> Option<Fault>
+        requires { item < seen.item_count self.old.launch }
         ensures { IsWanted self.old item (want_form.Reads variable array index line)
-            → Takes self.old (event_form.Step item) self.new result }
+            → Advances self.old (event_form.Step item) self.new result }
     {
-        let event = Event::Step(item);
-        let group = self.group_of(item);
-        match self.memory.read(array, group, item, index) {
+        let group = self.group_of(item) as u32;
+        match self.memory.read(array, group, item, index as u64) {
             Some(word) => {
                 let races = self.touch(item, array, index, false);
                 self.change(item, Change::Sets(variable, word), line);
                 let diverges = self.settle(item);
-                seen(event, read_of(array, index), fault_kind(races, diverges))
+                fault(lane_if(races), shared(array, index as u64), diverges)
             }
-            None => {
-                self.change(item, Change::Keeps, line);
-                self.settle(item);
-                seen(event, read_of(array, index), Some(FaultKind::OutOfRange))
-            }
+            None => self.stop_outside(item, line),
         }
     }
 
     // Stores the word in a cell, and goes to the line.
-    fn store(&mut self, item: u32, array: Array, index: u32, word: u32, line: usize) -> Seen
-        requires { item < self.old.launch.global }
+    #[inline(always)]
+    fn store(
+        &mut self,
+        item: u32,
+        array: Array,
+        index: u32,
+        word: u32,
+        line: usize,
+    ) -> Option<Fault>
+        requires { item < seen.item_count self.old.launch }
         ensures { IsWanted self.old item (want_form.Writes array index word line)
-            → Takes self.old (event_form.Step item) self.new result }
+            → Advances self.old (event_form.Step item) self.new result }
     {
-        let event = Event::Step(item);
-        let group = self.group_of(item);
-        if self.memory.write(array, group, item, index, word) {
+        let group = self.group_of(item) as u32;
+        if self.memory.write(array, group, item, index as u64, word) {
             let races = self.touch(item, array, index, true);
             self.change(item, Change::Keeps, line);
             let diverges = self.settle(item);
-            seen(event, write_of(array, index), fault_kind(races, diverges))
+            fault(lane_if(races), shared(array, index as u64), diverges)
         } else {
-            self.change(item, Change::Keeps, line);
-            self.settle(item);
-            seen(event, write_of(array, index), Some(FaultKind::OutOfRange))
+            self.stop_outside(item, line)
         }
     }
 
+    // Loads four cells' words into a private variable of four, and goes to the line.
+    fn load_four(
+        &mut self,
+        item: u32,
+        variable: u32,
+        array: Array,
+        offset: u32,
+        line: usize,
+    ) -> Option<Fault>
+        requires { item < seen.item_count self.old.launch }
+        ensures { IsWanted self.old item (want_form.ReadsFour variable array offset line)
+            → Advances self.old (event_form.Step item) self.new result }
+    {
+        let group = self.group_of(item) as u32;
+        match self.memory.read_four(array, group, item, offset) {
+            Some(four) => {
+                let lane = self.touch_four(item, array, offset, false);
+                self.change(item, Change::SetsFour(variable, four), line);
+                let diverges = self.settle(item);
+                fault(lane, shared_lane(array, offset, lane), diverges)
+            }
+            None => self.stop_outside(item, line),
+        }
+    }
+
+    // Stores four words in cells, and goes to the line.
+    fn store_four(
+        &mut self,
+        item: u32,
+        array: Array,
+        offset: u32,
+        four: Four,
+        line: usize,
+    ) -> Option<Fault>
+        requires { item < seen.item_count self.old.launch }
+        ensures { IsWanted self.old item (want_form.WritesFour array offset four line)
+            → Advances self.old (event_form.Step item) self.new result }
+    {
+        let group = self.group_of(item) as u32;
+        if self.memory.write_four(array, group, item, offset, four) {
+            let lane = self.touch_four(item, array, offset, true);
+            self.change(item, Change::Keeps, line);
+            let diverges = self.settle(item);
+            fault(lane, shared_lane(array, offset, lane), diverges)
+        } else {
+            self.stop_outside(item, line)
+        }
+    }
+
+    // Goes to the line after an access outside its array.
+    fn stop_outside(&mut self, item: u32, line: usize) -> Option<Fault>
+        requires { item < seen.item_count self.old.launch }
+        ensures fault { result ≡ Some (record { kind = OutOfRange; cell = None }) }
+        ensures stops { Stops self.old self.new item line }
+    {
+        self.change(item, Change::Keeps, line);
+        self.settle(item);
+        Some(Fault {
+            kind: FaultKind::OutOfRange,
+            cell: None,
+        })
+    }
+
     // Takes a work-item's access of a cell into account, and says whether it is a race.
+    #[inline(always)]
     fn touch(&mut self, item: u32, array: Array, index: u32, writes: bool) -> bool
-        requires { item < self.old.launch.global }
+        requires { item < seen.item_count self.old.launch }
         ensures core { SameCore self.old self.new }
         ensures ready { self.new.ready ≡ self.old.ready }
         ensures tracks { TracksAccess self.old.marks (array_of array) index
-            (record { group = item / self.old.launch.local; item = item; writes = writes })
-            result self.new.marks }
+            (touch_at self.old.launch item writes) result self.new.marks }
     {
-        let group = self.group_of(item);
-        self.marks.touch(
-            array,
-            index,
-            Touch {
-                group,
-                item,
-                writes,
-            },
-        )
+        let touch = self.touch_of(item, writes);
+        self.marks.touch(array, index, touch)
+    }
+
+    // Takes a work-item's access of four cells into account, and tells the first that is a race.
+    fn touch_four(&mut self, item: u32, array: Array, offset: u32, writes: bool) -> Option<u32>
+        requires { item < seen.item_count self.old.launch }
+        ensures core { SameCore self.old self.new }
+        ensures ready { self.new.ready ≡ self.old.ready }
+        ensures tracks { TracksFour self.old.marks (array_of array) offset
+            (touch_at self.old.launch item writes) result self.new.marks }
+    {
+        let touch = self.touch_of(item, writes);
+        self.marks.touch_four(array, offset, touch)
+    }
+
+    // A work-item's access as the marks take it.
+    #[inline(always)]
+    fn touch_of(&self, item: u32, writes: bool) -> Touch
+        requires { item < seen.item_count self.now.launch }
+        ensures { result ≡ touch_at self.now.launch item writes }
+    {
+        Touch {
+            group: self.group_of(item),
+            item: item as u16,
+            writes,
+        }
     }
 
     // Takes the release of a group that there is.
     fn release_group(&mut self, group: u32)
-        ensures { Takes self.old (event_form.Release group) self.new
-            (seen_as (event_form.Release group) None None) }
+        ensures { Advances self.old (event_form.Release group) self.new None }
     {
-        if group < self.group_count() {
+        if group < self.grid().group_count() {
             self.release(group);
         }
     }
 
     // Takes the release of a group.
     fn release(&mut self, group: u32)
-        requires { group < self.old.launch.global / self.old.launch.local }
-        ensures { Takes self.old (event_form.Release group) self.new
-            (seen_as (event_form.Release group) None None) }
+        requires { group < seen.group_count self.old.launch }
+        ensures { Advances self.old (event_form.Release group) self.new None }
     {
         flags_follow();
-        let want = self.want(self.first_of(group));
+        let want = self.want(self.grid().first_of(group));
         self.pass_group(group);
         self.release_marks(group, want);
         self.refresh(group);
@@ -505,7 +637,7 @@ impl Machine {
 
     // Takes the release of a group into account that stands at this barrier.
     fn release_marks(&mut self, group: u32, want: Want)
-        requires { group < self.old.launch.global / self.old.launch.local }
+        requires { group < seen.group_count self.old.launch }
         ensures core { SameCore self.old self.new }
         ensures ready { self.new.ready ≡ self.old.ready }
         ensures marks { MarksRelease self.old self.new group want }
@@ -522,18 +654,18 @@ impl Machine {
 
     // Takes the work-items of a group past their barrier.
     fn pass_group(&mut self, group: u32)
-        requires { group < self.old.launch.global / self.old.launch.local }
-        ensures { Passes self.old self.new (group * self.old.launch.local)
-            (group * self.old.launch.local + self.old.launch.local) }
+        requires { group < seen.group_count self.old.launch }
+        ensures { PassesGroup self.old self.new group }
     {
-        for item in self.first_of(group)..self.end_of(group) {
-            self.pass(item);
+        let grid = self.grid();
+        for number in 0..grid.group_size() {
+            self.pass(grid.member(group, number));
         }
     }
 
     // Takes a work-item past its barrier.
     fn pass(&mut self, item: u32)
-        ensures { Passes self.old self.new item (item + 1) }
+        ensures { PassesOne self.old self.new item }
     {
         if let Want::Waits { next, .. } = self.want(item) {
             self.change(item, Change::Keeps, next);
@@ -554,26 +686,79 @@ impl Machine {
     }
 }
 
+// What a machine keeps of its work-items and groups beside where they stand: each item's group, the
+// marks of cells, and which events are enabled.
+#[derive(Drop)]
+struct Tables {
+    groups: Vec<u16>,
+    marks: CellMarks,
+    ready: Ready,
+}
+
+impl Tables {
+    // Of outputs with these cells and local arrays of these lengths, where nothing was touched and
+    // nothing is enabled.
+    fn start(
+        alloc: Global,
+        grid: Grid,
+        outs: &[Vec<u32>],
+        locals: &[u32],
+    ) -> Result<Tables, AllocError>
+        requires { IsSmall grid }
+        ensures groups { IfOk result
+            (λ t. AreGroups grid (seen.item_count (laid grid)) t.groups.items) }
+        ensures marked { IfOk result (λ t. t.marks.groups ≡ seen.group_count (laid grid)) }
+        ensures marks { IfOk result (λ t. BeginsMarks outs.now locals.now
+            (seen.group_count (laid grid)) t.marks) }
+        ensures ready { IfOk result (λ t. t.ready ≡ record {
+          grid = grid;
+          items = replicate (seen.item_count (laid grid)) false;
+          groups = replicate (seen.group_count (laid grid)) false;
+        }) }
+    {
+        let groups = groups_of_items(alloc, grid)?;
+        let marks = CellMarks::new(alloc, outs, locals, grid.group_count())?;
+        Ok(Tables {
+            groups,
+            marks,
+            ready: Ready::new(alloc, grid)?,
+        })
+    }
+}
+
+// The group of each work-item.
+fn groups_of_items(alloc: Global, grid: Grid) -> Result<Vec<u16>, AllocError>
+    requires { IsSmall grid }
+    ensures { IfOk result (λ groups. AreGroups grid (seen.item_count (laid grid)) groups.items) }
+{
+    let mut groups = Vec::new(alloc);
+    for item in 0..grid.item_count() {
+        groups.push(grid.group_of(item) as u16)?;
+    }
+    Ok(groups)
+}
+
 // So many work-items at the first line.
 fn items_at_start(
     alloc: Global,
     count: u32,
     depth: usize,
     variables: u32,
+    vectors: u32,
     word: u32,
 ) -> Result<Vec<Item>, AllocError>
     ensures { IfOk result
-        (λ items. items.items ≡ replicate count (start_view depth variables word)) }
+        (λ items. items.items ≡ replicate count (start_view depth variables vectors word)) }
 {
     let mut items = Vec::new(alloc);
     for _ in 0..count {
-        items.push(Item::start(alloc, depth, variables, word)?)?;
+        items.push(Item::start(alloc, depth, variables, vectors, word)?)?;
     }
     Ok(items)
 }
 
 // The cell as it is seen; a private array's isn't.
-fn shared(array: Array, index: u32) -> Option<Cell>
+fn shared(array: Array, index: u64) -> Option<Cell>
     ensures { result ≡ shared_cell (array_of array) index }
 {
     match array {
@@ -582,59 +767,56 @@ fn shared(array: Array, index: u32) -> Option<Cell>
     }
 }
 
-// The read as it is seen.
-fn read_of(array: Array, index: u32) -> Option<Access>
-    ensures { result ≡ option_map access.Read (shared_cell (array_of array) index) }
+// The cell of the lane that races, as it is seen, where one does.
+fn shared_lane(array: Array, offset: u32, lane: Option<u32>) -> Option<Cell>
+    ensures { result ≡ raced_cell (array_of array) offset lane }
 {
-    shared(array, index).map(Access::Read)
+    match lane {
+        Some(lane) => shared(array, 4 * offset as u64 + lane as u64),
+        None => None,
+    }
 }
 
-// The write as it is seen.
-fn write_of(array: Array, index: u32) -> Option<Access>
-    ensures { result ≡ option_map access.Write (shared_cell (array_of array) index) }
+// The access of shared memory that a work-item makes that wants this.
+fn access_in(want: Want) -> Option<Access>
+    ensures { result ≡ access_of_want want }
 {
-    shared(array, index).map(Access::Write)
+    match want {
+        Want::Reads(_, array, index, _) => shared(array, index as u64).map(Access::Read),
+        Want::Writes(array, index, ..) => shared(array, index as u64).map(Access::Write),
+        Want::ReadsFour(_, array, offset, _) => {
+            shared(array, 4 * offset as u64).map(Access::ReadFour)
+        }
+        Want::WritesFour(array, offset, ..) => {
+            shared(array, 4 * offset as u64).map(Access::WriteFour)
+        }
+        Want::Ends | Want::Waits { .. } | Want::Fails(_) | Want::Changes(..) => None,
+    }
 }
 
-// The fault of an event that may race, or leave a group that diverges.
-fn fault_kind(races: bool, diverges: bool) -> Option<FaultKind>
-    ensures { result ≡ kind_of races diverges }
+// The lane of an access of one cell, where it races.
+fn lane_if(races: bool) -> Option<u32>
+    ensures { result ≡ lane_of races }
 {
-    if races {
-        Some(FaultKind::Race)
+    if races { Some(0) } else { None }
+}
+
+// The fault of an event of which this lane races, with this cell, or that leaves a group that diverges.
+#[inline(always)]
+fn fault(lane: Option<u32>, cell: Option<Cell>, diverges: bool) -> Option<Fault>
+    ensures { result ≡ fault_in lane cell diverges }
+{
+    if lane.is_some() {
+        Some(Fault {
+            kind: FaultKind::Race,
+            cell,
+        })
     } else if diverges {
-        Some(FaultKind::Divergent)
+        Some(Fault {
+            kind: FaultKind::Divergent,
+            cell: None,
+        })
     } else {
         None
-    }
-}
-
-// The cell of an access.
-fn cell_of(access: Option<Access>) -> Option<Cell>
-    ensures { result ≡ accessed_cell access }
-{
-    match access {
-        Some(Access::Read(cell)) => Some(cell),
-        Some(Access::Write(cell)) => Some(cell),
-        None => None,
-    }
-}
-
-// What is seen of an event.
-fn seen(event: Event, access: Option<Access>, kind: Option<FaultKind>) -> Seen
-    ensures { result ≡ seen_as event access kind }
-{
-    let fault = match kind {
-        None => None,
-        Some(FaultKind::Race) => Some(Fault {
-            kind: FaultKind::Race,
-            cell: cell_of(access),
-        }),
-        Some(kind) => Some(Fault { kind, cell: None }),
-    };
-    Seen {
-        event,
-        access,
-        fault,
     }
 }

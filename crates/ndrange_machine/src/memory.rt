@@ -1,10 +1,15 @@
 //! All memory: a row of cells for each array, once for each home that the array has.
 
-ghost use Rattle.std.specs.Prelude.{◌≡◌, ℕ, ◌==◌, ◌&&◌, is_some, Some, IfOk, length, map, replicate, if◌then◌else◌};
-ghost use Rattle.kernel_tree.specs.Device.{Cell, home, same_cell};
+ghost use Rattle.std.specs.Prelude.{◌≡◌, ◌+◌, ◌*◌, ℕ, ◌==◌, ◌&&◌, is_some, Some, IfOk, length, map, option_map, replicate, if◌then◌else◌};
+ghost use Rattle.kernel_tree.specs.Device.{Cell, behind, home};
+ghost use Rattle.kernel_tree.specs.Launch.{group_count, item_count};
+ghost use Rattle.enabled_events.specs.Grids.{laid, IsSmall};
+ghost use Rattle.ndrange_machine.specs.Known.{four_of};
 ghost use Rattle.kernel_tree.specs.Tree.{array_of};
-ghost use Rattle.ndrange_machine.specs.Memory.{cell_in, rows_at, rows_of, held};
+ghost use Rattle.ndrange_machine.specs.Memory.{cell_in, rows_at, rows_of, held, read_held, put_held, put_four};
 
+use crate::four::Four;
+use enabled_events::grid::Grid;
 use kernel_tree::tree::Array;
 use std::alloc::{AllocError, Global};
 
@@ -19,8 +24,38 @@ pub struct Memory {
 }
 
 impl Memory {
+    /// The inputs and outputs with these cells, and the word in each cell of local and private arrays
+    /// of these lengths, which each group and each work-item of the grid has. All memory is taken here.
+    pub fn start(
+        alloc: Global,
+        grid: Grid,
+        ins: Vec<Vec<u32>>,
+        outs: Vec<Vec<u32>>,
+        locals: &[u32],
+        privates: &[u32],
+        word: u32,
+    ) -> Result<Memory, AllocError>
+        requires { IsSmall grid }
+        ensures ins { IfOk result (λ m. m.ins.items ≡ ins.items) }
+        ensures outs { IfOk result (λ m. m.outs.items ≡ outs.items) }
+        ensures locals { IfOk result (λ m. map (λ rows. rows_of rows.items) m.locals.items
+            ≡ replicate (group_count (laid grid)) (map (λ n. replicate n word) locals.now)) }
+        ensures privates { IfOk result (λ m. map (λ rows. rows_of rows.items) m.privates.items
+            ≡ replicate (item_count (laid grid)) (map (λ n. replicate n word) privates.now)) }
+    {
+        let locals = rows_for(alloc, grid.group_count(), locals, word)?;
+        let privates = rows_for(alloc, grid.item_count(), privates, word)?;
+        Ok(Memory {
+            ins,
+            outs,
+            locals,
+            privates,
+        })
+    }
+
     /// The word in a cell of the array as a work-item of this group names it; none outside the array.
-    pub fn read(&self, array: Array, group: u32, item: u32, index: u32) -> Option<u32>
+    #[inline(always)]
+    pub fn read(&self, array: Array, group: u32, item: u32, index: u64) -> Option<u32>
         ensures { let a = array_of array in
             result ≡ held self.now (record { array = a; home = home group item a; index = index }) }
     {
@@ -34,7 +69,8 @@ impl Memory {
 
     /// Puts the word into a cell of the array as a work-item of this group names it, and says whether
     /// there is such a cell.
-    pub fn write(&mut self, array: Array, group: u32, item: u32, index: u32, word: u32) -> bool
+    #[inline(always)]
+    pub fn write(&mut self, array: Array, group: u32, item: u32, index: u64, word: u32) -> bool
         ensures there { let a = array_of array in
             result ≡ is_some (held self.old (record {
               array = a;
@@ -44,8 +80,7 @@ impl Memory {
         ensures outputs { length self.new.outs.items ≡ length self.old.outs.items }
         ensures cells { let a = array_of array in
             let d : Cell = record { array = a; home = home group item a; index = index } in
-            (c : Cell) → held self.new c
-            ≡ (if same_cell c d && is_some (held self.old d) then Some word else held self.old c) }
+            (c : Cell) → held self.new c ≡ put_held (held self.old) d word c }
     {
         match array {
             Array::Input(a) => write_in(&mut self.ins, a, index, word),
@@ -54,10 +89,50 @@ impl Memory {
             Array::Private(a) => write_at(&mut self.privates, item, a, index, word),
         }
     }
+
+    /// The words in the four cells of the array at the offset, which counts in fours; none where one
+    /// is outside the array.
+    pub fn read_four(&self, array: Array, group: u32, item: u32, offset: u32) -> Option<Four>
+        ensures { let a = array_of array in
+            let d : Cell = record { array = a; home = home group item a; index = 4 * offset } in
+            option_map four_of result ≡ read_held (held self.now) d }
+    {
+        let first = 4 * offset as u64;
+        let x = self.read(array, group, item, first)?;
+        let y = self.read(array, group, item, first + 1)?;
+        let z = self.read(array, group, item, first + 2)?;
+        let w = self.read(array, group, item, first + 3)?;
+        Some(Four { x, y, z, w })
+    }
+
+    /// Puts four words into the cells of the array at the offset, which counts in fours, as many of
+    /// them as there are, and says whether there is the last.
+    pub fn write_four(
+        &mut self,
+        array: Array,
+        group: u32,
+        item: u32,
+        offset: u32,
+        four: Four,
+    ) -> bool
+        ensures there { let a = array_of array in
+            let d : Cell = record { array = a; home = home group item a; index = 4 * offset } in
+            result ≡ is_some (held self.old (behind 3 d)) }
+        ensures outputs { length self.new.outs.items ≡ length self.old.outs.items }
+        ensures cells { let a = array_of array in
+            let d : Cell = record { array = a; home = home group item a; index = 4 * offset } in
+            (c : Cell) → held self.new c ≡ put_four (held self.old) d (four_of four) c }
+    {
+        let first = 4 * offset as u64;
+        self.write(array, group, item, first, four.x);
+        self.write(array, group, item, first + 1, four.y);
+        self.write(array, group, item, first + 2, four.z);
+        self.write(array, group, item, first + 3, four.w)
+    }
 }
 
-/// Rows of these lengths, once for each of so many homes, with the word in each cell.
-pub fn rows_for(
+// Rows of these lengths, once for each of so many homes, with the word in each cell.
+fn rows_for(
     alloc: Global,
     homes: u32,
     lengths: &[u32],
@@ -84,7 +159,7 @@ fn rows(alloc: Global, lengths: &[u32], word: u32) -> Result<Vec<Vec<u32>>, Allo
     Ok(rows)
 }
 
-fn read_at(homes: &[Vec<Vec<u32>>], home: u32, row: u32, index: u32) -> Option<u32>
+fn read_at(homes: &[Vec<Vec<u32>>], home: u32, row: u32, index: u64) -> Option<u32>
     ensures { result ≡ cell_in (rows_at homes.now home) row index }
 {
     match homes.get(home as usize) {
@@ -93,7 +168,7 @@ fn read_at(homes: &[Vec<Vec<u32>>], home: u32, row: u32, index: u32) -> Option<u
     }
 }
 
-fn write_at(homes: &mut [Vec<Vec<u32>>], home: u32, row: u32, index: u32, word: u32) -> bool
+fn write_at(homes: &mut [Vec<Vec<u32>>], home: u32, row: u32, index: u64, word: u32) -> bool
     ensures there { result ≡ is_some (cell_in (rows_at homes.old home) row index) }
     ensures cells { (h a i : ℕ) → cell_in (rows_at homes.new h) a i
         ≡ (if ((a == row) && ((h == home) && (i == index)))
@@ -108,13 +183,13 @@ fn write_at(homes: &mut [Vec<Vec<u32>>], home: u32, row: u32, index: u32, word: 
     there
 }
 
-fn read_in(rows: &[Vec<u32>], row: u32, index: u32) -> Option<u32>
+fn read_in(rows: &[Vec<u32>], row: u32, index: u64) -> Option<u32>
     ensures { result ≡ cell_in rows.now row index }
 {
     rows.get(row as usize)?.get(index as usize).copied()
 }
 
-fn write_in(rows: &mut [Vec<u32>], row: u32, index: u32, word: u32) -> bool
+fn write_in(rows: &mut [Vec<u32>], row: u32, index: u64, word: u32) -> bool
     ensures there { result ≡ is_some (cell_in rows.old row index) }
     ensures cells { (a i : ℕ) → cell_in rows.new a i
         ≡ (if (a == row) && (i == index) && is_some (cell_in rows.old row index)

@@ -1,15 +1,16 @@
 //! What a work-item does in its next event.
 
 ghost use Rattle.std.specs.Prelude.{◌≡◌, ◌+◌, ◌<◌, ◌^◌};
-ghost use Rattle.ndrange_machine.specs.Known.{known};
-ghost use Rattle.ndrange_machine.specs.Wants.{want_head, want_tail, want_line};
+ghost use Rattle.ndrange_machine.specs.Known.{known, vars_of};
+ghost use Rattle.ndrange_machine.specs.Wants.{want_head, want_tail, want_test, want_line};
 ghost use Rattle.kernel_tree.specs.Tree.{formula_of, start_of};
 
+use crate::four::Four;
 use crate::ids::Ids;
 use crate::item::Change;
 use crate::line::Line;
 use crate::turn::Turn;
-use crate::value::{bound_of, value_of};
+use crate::value::{bound_of, lanes_value_of, value_of};
 use kernel_tree::events::FaultKind;
 use kernel_tree::tree::{Array, Expr, Start};
 
@@ -32,36 +33,60 @@ pub enum Want {
     Reads(u32, Array, u32, usize),
     /// It writes the word, the last of the three, into the array's element at the index.
     Writes(Array, u32, u32, usize),
+    /// It reads the array's four elements at the offset, which counts in fours, into a private
+    /// variable of four words.
+    ReadsFour(u32, Array, u32, usize),
+    /// It writes the four words into the array's elements at the offset, which counts in fours.
+    WritesFour(Array, u32, Four, usize),
 }
 
 /// What an item wants that stands at this line, in these turns, with these private variables.
+#[inline(always)]
 pub fn want_at(
     lines: &[Line],
     ids: Ids,
     sizes: &[u32],
     at: usize,
     turns: &[Turn],
-    vars: &[u32],
+    words: &[u32],
+    vectors: &[Four],
 ) -> Want
-    ensures { result ≡ want_line lines.now (known ids sizes.now) at turns.now vars.now }
+    ensures { result ≡ want_line lines.now (known ids sizes.now) at turns.now
+        (vars_of words.now vectors.now) }
 {
     match lines.get(at) {
         None => Want::Ends,
-        Some(Line::Assign(v, e)) => match value_of(ids, sizes, turns, vars, e) {
+        Some(Line::Assign(v, e)) => match value_of(ids, sizes, turns, words, vectors, e) {
             Some(word) => Want::Changes(Change::Sets(*v, word), at + 1),
             None => Want::Fails(FaultKind::ZeroDivisor),
         },
-        Some(Line::Load(v, array, i)) => match value_of(ids, sizes, turns, vars, i) {
+        Some(Line::Load(v, array, i)) => match value_of(ids, sizes, turns, words, vectors, i) {
             Some(index) => Want::Reads(*v, *array, index, at + 1),
             None => Want::Fails(FaultKind::ZeroDivisor),
         },
-        Some(Line::Store(array, i, e)) => match value_of(ids, sizes, turns, vars, i) {
-            Some(index) => match value_of(ids, sizes, turns, vars, e) {
+        Some(Line::Store(array, i, e)) => match value_of(ids, sizes, turns, words, vectors, i) {
+            Some(index) => match value_of(ids, sizes, turns, words, vectors, e) {
                 Some(word) => Want::Writes(*array, index, word, at + 1),
                 None => Want::Fails(FaultKind::ZeroDivisor),
             },
             None => Want::Fails(FaultKind::ZeroDivisor),
         },
+        Some(Line::AssignFour(v, e)) => match lanes_value_of(ids, sizes, turns, words, vectors, e) {
+            Some(four) => Want::Changes(Change::SetsFour(*v, four), at + 1),
+            None => Want::Fails(FaultKind::ZeroDivisor),
+        },
+        Some(Line::LoadFour(v, array, i)) => match value_of(ids, sizes, turns, words, vectors, i) {
+            Some(offset) => Want::ReadsFour(*v, *array, offset, at + 1),
+            None => Want::Fails(FaultKind::ZeroDivisor),
+        },
+        Some(Line::StoreFour(array, i, e)) => match value_of(ids, sizes, turns, words, vectors, i) {
+            Some(offset) => match lanes_value_of(ids, sizes, turns, words, vectors, e) {
+                Some(four) => Want::WritesFour(*array, offset, four, at + 1),
+                None => Want::Fails(FaultKind::ZeroDivisor),
+            },
+            None => Want::Fails(FaultKind::ZeroDivisor),
+        },
+        Some(Line::Test(start, bound, exit)) => want_at_test(ids, sizes, *start, bound, at, *exit),
         Some(Line::Head(start, bound, _, exit)) => want_at_head(
             ids, sizes, *start, bound, at, *exit,
         ),
@@ -79,7 +104,27 @@ pub fn want_at(
     }
 }
 
+// What an item wants at the test of an `if`, on the line `at`.
+#[inline(always)]
+fn want_at_test(ids: Ids, sizes: &[u32], start: Start, bound: &Expr, at: usize, exit: usize) -> Want
+    requires { at + 1 < 2 ^ 64 }
+    ensures { result
+        ≡ want_test (known ids sizes.now) (start_of start) (formula_of bound.now) at exit }
+{
+    match bound_of(sizes, bound) {
+        Some(bound) => {
+            if ids.start(start) < bound {
+                Want::Changes(Change::Keeps, at + 1)
+            } else {
+                Want::Changes(Change::Keeps, exit)
+            }
+        }
+        None => Want::Fails(FaultKind::ZeroDivisor),
+    }
+}
+
 // What an item wants at a loop's head, on the line `at`.
+#[inline(always)]
 fn want_at_head(ids: Ids, sizes: &[u32], start: Start, bound: &Expr, at: usize, exit: usize) -> Want
     requires { at + 1 < 2 ^ 64 }
     ensures { result
@@ -99,6 +144,7 @@ fn want_at_head(ids: Ids, sizes: &[u32], start: Start, bound: &Expr, at: usize, 
 }
 
 // What an item wants at the end of the body of the loop whose head is this line.
+#[inline(always)]
 fn want_at_tail(lines: &[Line], ids: Ids, sizes: &[u32], head: usize, turns: &[Turn]) -> Want
     ensures { result ≡ want_tail lines.now (known ids sizes.now) head turns.now }
 {

@@ -1,5 +1,5 @@
 -- Legal terms can be lowered and printed.
-use Rattle.std.proofs.Common.{◌≡◌, ℕ, ◌/◌, ◌<◌, ◌^◌, Bool, true, false, List, [], ◌∷◌, refl, sym, subst, inl, inr, arith, map}
+use Rattle.std.proofs.Common.{◌≡◌, ℕ, ◌/◌, ◌<◌, ◌^◌, Bool, true, false, List, [], ◌∷◌, refl, sym, ◌∙◌, subst, inl, inr, arith, map}
 use Rattle.std.specs.Prelude.{◌↔◌}
 use Rattle.std.proofs.Math.Nat.{mul-div-le, mod-eq-sub-mul-div}
 use Rattle.size_arith.specs.declared.names.Name.{Name}
@@ -15,6 +15,7 @@ use Rattle.lift_tree.specs.WorkedOut.{worked_out, range_of}
 use Rattle.lift_tree.specs.Typing.{Declared, declared_by}
 use Rattle.lift_tree.specs.Annotations.{Annotation, type_in}
 use Rattle.kernel_tree.specs.Launch.{Launch}
+use Rattle.kernel_tree.proofs.Grouping.{flat_items}
 use Rattle.lift_ir.specs.Types.{IsFlat, IsShort, IsPlaced, size}
 use Rattle.lift_ir.specs.AtLaunch.{length_at, shape_of}
 use Rattle.lift_ir.specs.Forms.{Stands, StandsOverLaunch}
@@ -118,7 +119,7 @@ module _ (p : PlainProgram) (t : Tree) (n : Annotation) (r : IsLegalTerm p t n) 
   all_items e = over_launch d (at_root t) [] t n r.nodes unbroken staged (over_no_task is_global global_parallel t n e) refl e
 
   task : is_task t ≡ true → IsPrintable d t n
-  task z = printable (λ bases l k. inl (k.admissible.alone z, one_item z))
+  task z = printable (λ bases l k. inl (flat_items l k.flat ∙ k.admissible.alone z, one_item z))
 
   over : Over is_global t n → IsPrintable d t n
   over e = printable (λ bases l k. inr (all_items e))

@@ -102,8 +102,8 @@ fn has_owners(alloc: Global, row: &Row) -> Result<bool, Fail> {
         return Ok(false);
     }
     let launch = Launch {
-        global: row.global,
-        local: row.local,
+        global: (row.global, 1),
+        local: (row.local, 1),
         sizes: row.sizes.to_vec(alloc)?,
     };
     for (cell, item) in row.owners.iter().enumerate() {

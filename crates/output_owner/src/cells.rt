@@ -1,7 +1,7 @@
 //! The owner of a cell.
 
 ghost use Rattle.std.specs.Prelude.{◌≡◌, ◌+◌, ◌*◌, ◌%◌, ◌<◌, ℕ, List};
-ghost use Rattle.kernel_tree.specs.Launch.{IsWhole, group_count};
+ghost use Rattle.kernel_tree.specs.Launch.{IsWhole, groups_across};
 ghost use Rattle.lift_tree.specs.Annotations.{annotation_of};
 ghost use Rattle.lift_tree.specs.Programs.{PlainProgram};
 ghost use Rattle.lift_tree.specs.Tree.{tree_of};
@@ -26,18 +26,18 @@ use size_arith::Name;
 // Which of a group's items writes a scalar of the group's turn.
 fn local_item(top: &OnTop, launch: &Launch, names: &[Name]) -> u32
     requires names { AreNames names.now }
-    requires some { 0 < launch.now.local }
+    requires some { 0 < launch.now.local.0 }
     ensures item { IsScalarOf names.now launch.now.sizes (tree_of top.now.body.now)
         (annotation_of top.now.types.now) top.now.number
         → result ≡ local_owner (length_at (bases_of names.now launch.now.sizes)) launch.now
         (written (tree_of top.now.body.now) (annotation_of top.now.types.now))
         (position (bases_of names.now launch.now.sizes) (annotation_of top.now.types.now)
         top.now.number) }
-    ensures below { result < launch.now.local }
+    ensures below { result < launch.now.local.0 }
 {
     match on_top(top.body, top.types, top.number, names, &launch.sizes) {
         Some(inner) => match inner.kind {
-            MapKind::Local => (inner.turn % launch.local as u64) as u32,
+            MapKind::Local => (inner.turn % launch.local.0 as u64) as u32,
             MapKind::Global | MapKind::WorkGroup | MapKind::Plain | MapKind::Sequential => 0,
         },
         None => 0,
@@ -47,26 +47,26 @@ fn local_item(top: &OnTop, launch: &Launch, names: &[Name]) -> u32
 // The item of a local item of a group.
 fn in_group(launch: &Launch, turn: u64, local: u32) -> u32
     requires whole { IsWhole launch.now }
-    requires some { 0 < launch.now.global }
-    requires below { local < launch.now.local }
-    ensures { result ≡ (turn % group_count launch.now) * launch.now.local + local }
+    requires some { 0 < launch.now.global.0 }
+    requires below { local < launch.now.local.0 }
+    ensures { result ≡ (turn % groups_across launch.now) * launch.now.local.0 + local }
 {
-    let groups = launch.global / launch.local;
+    let groups = launch.global.0 / launch.local.0;
     let group = (turn % groups as u64) as u32;
-    group * launch.local + local
+    group * launch.local.0 + local
 }
 
 // The owner of a scalar of the map on top.
 fn item(top: &OnTop, launch: &Launch, names: &[Name]) -> u32
     requires names { AreNames names.now }
     requires whole { IsWhole launch.now }
-    requires some { 0 < launch.now.global }
+    requires some { 0 < launch.now.global.0 }
     ensures { IsScalarOf names.now launch.now.sizes (tree_of top.now.body.now)
         (annotation_of top.now.types.now) top.now.number
         → result ≡ owner_on_top (bases_of names.now launch.now.sizes) launch.now top.now }
 {
     match top.kind {
-        MapKind::Global => (top.turn % launch.global as u64) as u32,
+        MapKind::Global => (top.turn % launch.global.0 as u64) as u32,
         MapKind::WorkGroup => in_group(launch, top.turn, local_item(top, launch, names)),
         MapKind::Local | MapKind::Plain | MapKind::Sequential => 0,
     }
@@ -77,11 +77,11 @@ fn item(top: &OnTop, launch: &Launch, names: &[Name]) -> u32
 ///
 /// Under `mapGlb` at turn i it is item i mod G, where the launch has G; under `mapWrg` at turn i and
 /// `mapLcl` at turn j local item j mod L of group i mod (G / L), where a group has L; with no
-/// parallel map item 0. The term is a program's legal one, the launch is admissible for it, and the
-/// cell is in the output. It takes no memory.
+/// parallel map item 0. The term is a program's legal one, the launch is one row and admissible for
+/// it, and the cell is in the output. It takes no memory.
 pub fn owner(lowered: &Lowered, launch: &Launch, cell: u64) -> u32
     requires whole { IsWhole launch.now }
-    requires some { 0 < launch.now.global }
+    requires some { 0 < launch.now.global.0 }
     ensures { (p : PlainProgram) (bases : List ℕ) → IsLegalFor p lowered.now
         → IsLaunchOf (declared_by p) (is_task (tree_of lowered.now.term)) bases launch.now
         → (array : ℕ) → cell < cell_count bases lowered.now

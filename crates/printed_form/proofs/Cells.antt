@@ -1,8 +1,8 @@
 -- Loads and stores of one item.
 use Rattle.std.proofs.Common.{◌≡◌, ℕ, ◌+◌, ◌<◌, ◌≤◌, Bool, true, false, List, [], ◌∷◌, length, Option, Some, refl, sym, ap, ◌∙◌, subst, ◌⊎◌, inl, inr, arith}
-use Rattle.std.specs.Prelude.{slice_index, slice_set, if◌then◌else◌}
+use Rattle.std.specs.Prelude.{if◌then◌else◌}
 use Rattle.std.proofs.lemmas.List.{get_or-set_same}
-use Rattle.kernel_tree.specs.Formula.{Formula, value}
+use Rattle.kernel_tree.specs.Formula.{Formula, word, set_word, value}
 use Rattle.kernel_tree.specs.Code.{Array, Input, Output, Local, Private, Code, Loads, Stores}
 use Rattle.kernel_tree.specs.Launch.{ids_of}
 use Rattle.kernel_tree.specs.Item.{Frame, item, loop_variables}
@@ -27,17 +27,17 @@ not_true true h = absurd (h refl)
 not_true false h = refl
 
 module _ (st : Setting) (ts : List ℕ) (fs : List Frame) (at : loop_variables fs ≡ ts) (ins : ℕ → Marks) where
-  here : (x : Known) (i : Formula) (n : ℕ) → IsIndex st.device.launch ins ts i n → value (ids_of st.device.launch st.item) (loop_variables fs) x.vars i ≡ Some n
-  here x i n h = subst (λ t. value (ids_of st.device.launch st.item) t x.vars i ≡ Some n) (sym at) (h st.item x.vars)
+  here : (x : Known) (i : Formula) (n : ℕ) → IsIndex st.device.launch st.item ins ts i n → value (ids_of st.device.launch st.item) (loop_variables fs) x.vars i ≡ Some n
+  here x i n h = subst (λ t. value (ids_of st.device.launch st.item) t x.vars i ≡ Some n) (sym at) (h x.vars)
 
-  load_one : (m : Mark) (s : Scalars) (x : Known) (code rest : Code) (a : Array) (i : Formula) → IsSpot st.device.launch ins ts m a i → code ≡ Loads x.count a i rest → x.count < length x.vars → HoldsAt st x m (s [] [])
+  load_one : (m : Mark) (s : Scalars) (x : Known) (code rest : Code) (a : Array) (i : Formula) → IsSpot st.device.launch st.item ins ts m a i → code ≡ Loads x.count a i rest → x.count < length x.vars.words → HoldsAt st x m (s [] [])
       → Ran st x fs code rest (x.count + 1) x.arrays nothing no_target (λ y. Holds st y Scalar (λ cs q. Register x.count) s)
   load_one Nowhere s x code rest a i h is room holds = absurd h
   load_one (Register r) s x code rest a i h is room holds = absurd h
   load_one (Spot b n) s x code rest a i h is room holds =
       let v = s [] [] in
       let c = spot_cell st b n in
-      let vars = slice_set x.vars x.count v in
+      let vars = set_word x.vars x.count v in
       record {
         after = vars;
         deeds = Got c ∷ [];
@@ -46,16 +46,16 @@ module _ (st : Setting) (ts : List ℕ) (fs : List Frame) (at : loop_variables f
         later = record { more = omega arith; more_arrays = omega arith; kept = kept_set x.count x.count v x.vars (omega arith); same = λ c f. refl };
         allowed = (holds.may, tt);
         wrote = silent x.memory (Got c ∷ []) (λ c. refl);
-        good = held_one (known_after x (Got c ∷ []) vars (x.count + 1) x.arrays) (get_or-set_same x.vars x.count v 0 room);
+        good = held_one (known_after x (Got c ∷ []) vars (x.count + 1) x.arrays) (get_or-set_same x.vars.words x.count v 0 room);
       }
     where
-      held_one : (y : Known) → slice_index (slice_set x.vars x.count (s [] [])) x.count ≡ s [] [] → Holds st (known_after x (Got (spot_cell st b n) ∷ []) (slice_set x.vars x.count (s [] [])) (x.count + 1) x.arrays) Scalar (λ cs q. Register x.count) s
+      held_one : (y : Known) → word (set_word x.vars x.count (s [] [])) x.count ≡ s [] [] → Holds st (known_after x (Got (spot_cell st b n) ∷ []) (set_word x.vars x.count (s [] [])) (x.count + 1) x.arrays) Scalar (λ cs q. Register x.count) s
       held_one y h [] [] w = (omega arith, h)
       held_one y h [] (j ∷ q) w = absurd w
       held_one y h (c ∷ cs) q w = absurd w
 
   -- the loads of a turn's element
-  pub loads_run : (loads : LoadSet) (ty : Ty) (e : Marks) (s : Scalars) (x : Known) (code rest : Code) → LoadsScalars loads ty → IsLoaded st.device.launch ins ts loads e x.count code rest → x.count + load_count loads ≤ length x.vars → Holds st x ty e s
+  pub loads_run : (loads : LoadSet) (ty : Ty) (e : Marks) (s : Scalars) (x : Known) (code rest : Code) → LoadsScalars loads ty → IsLoaded st.device.launch st.item ins ts loads e x.count code rest → x.count + load_count loads ≤ length x.vars.words → Holds st x ty e s
       → Ran st x fs code rest (x.count + load_count loads) x.arrays nothing no_target (λ y. Holds st y ty (loaded_marks loads e x.count) s)
   loads_run Skip ty e s x code rest ok h room holds =
       let z : x.count ≡ x.count + 0 = omega arith in
@@ -125,7 +125,7 @@ module _ (st : Setting) (ts : List ℕ) (fs : List Frame) (at : loop_variables f
   open_unfilled l a (Local n) h f = let z : n < n = omega arith in omega arith
   open_unfilled l a (Private n) h f = let z : n < n = omega arith in omega arith
 
-  store_one : (m : Mark) (w : Marks) (s : Scalars) (x : Known) (code rest : Code) (a : Array) (i e : Formula) → w [] [] ≡ m → IsSpot st.device.launch ins ts m a i → code ≡ Stores a i e rest → value (ids_of st.device.launch st.item) ts x.vars e ≡ Some (s [] []) → DueAt st x.arrays m
+  store_one : (m : Mark) (w : Marks) (s : Scalars) (x : Known) (code rest : Code) (a : Array) (i e : Formula) → w [] [] ≡ m → IsSpot st.device.launch st.item ins ts m a i → code ≡ Stores a i e rest → value (ids_of st.device.launch st.item) ts x.vars e ≡ Some (s [] []) → DueAt st x.arrays m
       → Ran st x fs code rest x.count x.arrays nothing (Targets st Scalar w s) (λ y. Unit {0})
   store_one Nowhere w s x code rest a i e is h q v d = absurd h
   store_one (Register r) w s x code rest a i e is h q v d = absurd h
@@ -167,7 +167,7 @@ module _ (st : Setting) (ts : List ℕ) (fs : List Frame) (at : loop_variables f
       go c v (true ∷ cs) q i e z = inr (cs, q, i, e, z)
 
   -- the stores of an element
-  pub stores_run : (ty : Ty) (f : List Bool → Option Formula) (s : Scalars) (w : Marks) (x : Known) (code rest : Code) → IsStored st.device.launch ins ts ty f w code rest → Values st ts x ty f s → Due st x.arrays ty w
+  pub stores_run : (ty : Ty) (f : List Bool → Option Formula) (s : Scalars) (w : Marks) (x : Known) (code rest : Code) → IsStored st.device.launch st.item ins ts ty f w code rest → Values st ts x ty f s → Due st x.arrays ty w
       → Ran st x fs code rest x.count x.arrays nothing (Targets st ty w s) (λ y. Unit {0})
   stores_run Scalar f s w x code rest h right due = store_one (w [] []) w s x code rest h.0 h.1 h.2 refl h.4 h.5 (right [] h.2 tt h.3 x.vars (kept x.count x.vars)) (due.at [] [] tt)
   stores_run (PairOf a b) f s w x code rest h right due =

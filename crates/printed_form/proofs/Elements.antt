@@ -1,12 +1,12 @@
 -- Element terms, loads and stores of one item.
 use Rattle.std.proofs.Common.{◌≡◌, ℕ, zero, suc, ◌+◌, ◌<◌, ◌≤◌, Bool, true, false, List, [], ◌∷◌, length, Option, Some, None, refl, sym, ap, ◌∙◌, subst, arith}
-use Rattle.std.specs.Prelude.{slice_index, slice_set, if◌then◌else◌, nat_lt, nat_eq, ◌==◌, ◌&&◌}
+use Rattle.std.specs.Prelude.{if◌then◌else◌, nat_lt, nat_eq, ◌==◌, ◌&&◌}
 use Rattle.std.proofs.lemmas.List.{get_or-set_same}
 use Rattle.std.proofs.lemmas.Bool.{ne_eqb}
 use Rattle.scalar_ops.specs.declared.op.Op.{Op}
 use Rattle.scalar_ops.specs.declared.op.Op.TheVariants as op
 use Rattle.scalar_ops.specs.Operators.{apply_op, choose}
-use Rattle.kernel_tree.specs.Formula.{Formula, Number, Variable, Binary, divides, operate, value}
+use Rattle.kernel_tree.specs.Formula.{Formula, Vars, word, set_word, Number, Variable, Binary, divides, operate, value}
 use Rattle.kernel_tree.specs.Code.{Code, Assigns}
 use Rattle.kernel_tree.specs.Launch.{ids_of}
 use Rattle.kernel_tree.specs.Item.{Frame, item, loop_variables}
@@ -23,7 +23,7 @@ use Rattle.printed_form.specs.Runs.{Setting, Known, Kept, Later, HoldsAt, Holds,
 use Rattle.printed_form.proofs.Runs.{kept, kept_set, later_on, holds_later, all_hold_later, values_later, silent, ran_on, after_silence, ran_at_once}
 
 -- what is known, with these variables
-abbrev pub with_vars : Known → List ℕ → (count : ℕ) → Known
+abbrev pub with_vars : Known → Vars → (count : ℕ) → Known
 with_vars x vars n = record { memory = x.memory; vars = vars; count = n; arrays = x.arrays }
 
 some_is : {A : Type 0} (x y : A) → Some x ≡ Some y → x ≡ y
@@ -39,33 +39,33 @@ module _ (st : Setting) where
   all_hold_push x t e s g env sems h r zero = h
   all_hold_push x t e s g env sems h r (suc v) = r v
 
-  later_set : (x : Known) (v : ℕ) → Later st x (with_vars x (slice_set x.vars x.count v) (suc x.count))
+  later_set : (x : Known) (v : ℕ) → Later st x (with_vars x (set_word x.vars x.count v) (suc x.count))
   later_set x v = record { more = omega arith; more_arrays = omega arith; kept = kept_set x.count x.count v x.vars (omega arith); same = λ c f. refl }
 
-  held_one : (x : Known) (n v : ℕ) (s : Scalars) → n < x.count → slice_index x.vars n ≡ s [] [] → Holds st x Scalar (λ cs q. Register n) s
+  held_one : (x : Known) (n v : ℕ) (s : Scalars) → n < x.count → word x.vars n ≡ s [] [] → Holds st x Scalar (λ cs q. Register n) s
   held_one x n v s lt h [] [] w = (lt, h)
   held_one x n v s lt h [] (i ∷ q) w = absurd w
   held_one x n v s lt h (c ∷ cs) q w = absurd w
 
   module _ (ts : List ℕ) (fs : List Frame) (at : loop_variables fs ≡ ts) where
     -- one assignment
-    pub assign : (x : Known) (e : Formula) (v : ℕ) (code rest : Code) → code ≡ Assigns x.count e rest → x.count < length x.vars → value (ids_of st.device.launch st.item) ts x.vars e ≡ Some v → Ran st x fs code rest (suc x.count) x.arrays nothing no_target (λ y. slice_index y.vars x.count ≡ v)
+    pub assign : (x : Known) (e : Formula) (v : ℕ) (code rest : Code) → code ≡ Assigns x.count e rest → x.count < length x.vars.words → value (ids_of st.device.launch st.item) ts x.vars e ≡ Some v → Ran st x fs code rest (suc x.count) x.arrays nothing no_target (λ y. word y.vars x.count ≡ v)
     assign x e v code rest is room h = record {
-      after = slice_set x.vars x.count v;
+      after = set_word x.vars x.count v;
       deeds = Moved ∷ [];
-      goes = λ m ag. subst (λ c. Goes st.device st.item (item c fs x.vars) m (Moved ∷ []) (item rest fs (slice_set x.vars x.count v))) (sym is)
+      goes = λ m ag. subst (λ c. Goes st.device st.item (item c fs x.vars) m (Moved ∷ []) (item rest fs (set_word x.vars x.count v))) (sym is)
           (goes_assign st.device st.item fs x.vars m x.count e rest v (subst (λ t. value (ids_of st.device.launch st.item) t x.vars e ≡ Some v) (sym at) h));
       later = later_set x v;
       allowed = (tt, tt);
       wrote = silent x.memory (Moved ∷ []) (λ c. refl);
-      good = get_or-set_same x.vars x.count v 0 room;
+      good = get_or-set_same x.vars.words x.count v 0 room;
     }
 
-    pub long_enough : (x : Known) (n : ℕ) (vars : List ℕ) → Kept x.count x.vars vars → n ≤ length x.vars → n ≤ length vars
+    pub long_enough : (x : Known) (n : ℕ) (vars : Vars) → Kept x.count x.vars vars → n ≤ length x.vars.words → n ≤ length vars.words
     long_enough x n vars k h = subst (λ z. n ≤ z) (sym k.long) h
 
     -- one for each component
-    pub assigned : (ty : Ty) (f : List Bool → Option Formula) (s : Scalars) (x : Known) (code rest : Code) → IsAssigned ty f x.count code rest → x.count + width ty ≤ length x.vars → Values st ts x ty f s
+    pub assigned : (ty : Ty) (f : List Bool → Option Formula) (s : Scalars) (x : Known) (code rest : Code) → IsAssigned ty f x.count code rest → x.count + width ty ≤ length x.vars.words → Values st ts x ty f s
         → Ran st x fs code rest (x.count + width ty) x.arrays nothing no_target (λ y. Holds st y ty (held_marks ty x.count) s)
     assigned Scalar f s x code rest h room right =
         let e : suc x.count ≡ x.count + 1 = omega arith in
@@ -95,7 +95,7 @@ module _ (st : Setting) where
 
     -- expressions
 
-    abbrev Val : List ℕ → Formula → Option ℕ
+    abbrev Val : Vars → Formula → Option ℕ
     Val vars e = value (ids_of st.device.launch st.item) ts vars e
 
     if_some : (b : Bool) (x y : ℕ) → (if b then Some x else Some y) ≡ Some (if b then x else y)
@@ -105,10 +105,10 @@ module _ (st : Setting) where
     operate_is : (o : Op) (u v : ℕ) → divides o ≡ false → operate o u v ≡ Some (apply_op o u v)
     operate_is o u v h = rw h refl
 
-    value_binary : (o : Op) (x y : Formula) (vars : List ℕ) (u v : ℕ) → divides o ≡ false → Val vars x ≡ Some u → Val vars y ≡ Some v → Val vars (Binary o x y) ≡ Some (apply_op o u v)
+    value_binary : (o : Op) (x y : Formula) (vars : Vars) (u v : ℕ) → divides o ≡ false → Val vars x ≡ Some u → Val vars y ≡ Some v → Val vars (Binary o x y) ≡ Some (apply_op o u v)
     value_binary o x y vars u v h p q = rw (p, q) (operate_is o u v h)
 
-    value_operation : (o : Op) (x y : Formula) (vars : List ℕ) (u v : ℕ) → divides o ≡ false → Val vars x ≡ Some u → Val vars y ≡ Some v → Val vars (operation o x y) ≡ Some (apply_op o u v)
+    value_operation : (o : Op) (x y : Formula) (vars : Vars) (u v : ℕ) → divides o ≡ false → Val vars x ≡ Some u → Val vars y ≡ Some v → Val vars (operation o x y) ≡ Some (apply_op o u v)
     value_operation op.Lt x y vars u v h p q = rw (p, q) (if_some (nat_lt u v) 1 0)
     value_operation op.Eq x y vars u v h p q = rw (p, q) (if_some (nat_eq u v) 1 0)
     value_operation op.Add x y vars u v h p q = value_binary op.Add x y vars u v h p q
@@ -131,10 +131,10 @@ module _ (st : Setting) where
         go true = refl
         go false = refl
 
-    value_scale : (o : Op) (x : Formula) (n : ℕ) (vars : List ℕ) (u : ℕ) → 0 < n → Val vars x ≡ Some u → Val vars (Binary o x (Number n)) ≡ Some (apply_op o u n)
+    value_scale : (o : Op) (x : Formula) (n : ℕ) (vars : Vars) (u : ℕ) → 0 < n → Val vars x ≡ Some u → Val vars (Binary o x (Number n)) ≡ Some (apply_op o u n)
     value_scale o x n vars u h p = rw p (operate_by o u n h)
 
-    value_selection : (c x y : Formula) (vars : List ℕ) (i u v : ℕ) → Val vars c ≡ Some i → Val vars x ≡ Some u → Val vars y ≡ Some v → Val vars (selection c x y) ≡ Some (choose i u v)
+    value_selection : (c x y : Formula) (vars : Vars) (i u v : ℕ) → Val vars c ≡ Some i → Val vars x ≡ Some u → Val vars y ≡ Some v → Val vars (selection c x y) ≡ Some (choose i u v)
     value_selection c x y vars zero u v p q r = rw p r
     value_selection c x y vars (suc i) u v p q r = let e : nat_eq (suc i) 0 ≡ false = ne_eqb (suc i) 0 (λ z. absurd (omega arith)) in rw (p, e) q
 
@@ -151,7 +151,7 @@ module _ (st : Setting) where
     three_are f None b c e h = absurd (cc)
     three_are f (Some x) b c e h = let r = both_are (f x) b c e h in (x, r.0, r.1, refl, r.2, r.3, r.4)
 
-    held_is : (x : Known) (m : Mark) (v : ℕ) (e : Formula) → HoldsAt st x m v → held m ≡ Some e → (later : List ℕ) → Kept x.count x.vars later → Val later e ≡ Some v
+    held_is : (x : Known) (m : Mark) (v : ℕ) (e : Formula) → HoldsAt st x m v → held m ≡ Some e → (later : Vars) → Kept x.count x.vars later → Val later e ≡ Some v
     held_is x Nowhere v e h q later k = absurd h
     held_is x (Register r) v e h q later k = subst (λ y. Val later y ≡ Some v) (some_is (Variable r) e q) (ap Some (k.same r h.0 ∙ h.1))
     held_is x (Spot b i) v e h q later k = absurd (cc)
@@ -159,7 +159,7 @@ module _ (st : Setting) where
     pub values_held : (x : Known) (ty : Ty) (m : Marks) (s : Scalars) → Holds st x ty m s → Values st ts x ty (λ cs. held (m cs [])) s
     values_held x ty m s h cs e w q later k = held_is x (m cs []) (s cs []) e (h cs [] w) q later k
 
-    values_is : (x e : Formula) (later : List ℕ) (v : ℕ) → x ≡ e → Val later x ≡ Some v → Val later e ≡ Some v
+    values_is : (x e : Formula) (later : Vars) (v : ℕ) → x ≡ e → Val later x ≡ Some v → Val later e ≡ Some v
     values_is x e later v q h = subst (λ y. Val later y ≡ Some v) q h
 
     no_choices : (cs : List Bool) (P : List Bool → Type 0) → IsPosition Scalar cs [] → P [] → P cs
@@ -178,7 +178,7 @@ module _ (st : Setting) where
       both_types false g a b ty ok = (ok.0, ok.1, ok.5, ok.6, λ x f h s t m n. subst (λ y. Values st ts x y (by_side None f h) (by_side (λ q. 0) s t)) (sym ok.2) (values_sides x ok.0 ok.1 f h s t m n))
       both_types true g a b ty ok = (ArrayOf ok.0 ok.1, ArrayOf ok.0 ok.2, ok.4, ok.5, λ x f h s t m n. subst (λ y. Values st ts x y (by_side None f h) (by_side (λ q. 0) s t)) (sym ok.3) (λ cs e w q later k. absurd w))
 
-      pub elements : (t : Term A) (g : ℕ → Ty) (env : ℕ → Marks) (sems : ℕ → Scalars) (ty : Ty) (x : Known) (code rest : Code) → HasType num src g t ty → IsElementWork env x.count t code rest → x.count + let_variables t ≤ length x.vars → AllHold st x g env sems
+      pub elements : (t : Term A) (g : ℕ → Ty) (env : ℕ → Marks) (sems : ℕ → Scalars) (ty : Ty) (x : Known) (code rest : Code) → HasType num src g t ty → IsElementWork env x.count t code rest → x.count + let_variables t ≤ length x.vars.words → AllHold st x g env sems
           → Ran st x fs code rest (x.count + let_variables t) x.arrays nothing no_target (λ y. Values st ts y ty (exprs env x.count t) (scalars_of num sources sems t))
       elements (Literal c) g env sems ty x code rest ok h room es =
           let e : x.count ≡ x.count + 0 = omega arith in
@@ -227,7 +227,7 @@ module _ (st : Setting) where
           let es2 = all_hold_later st x y g env sems r.later es in
           let r2 = elements a g env sems Scalar y h.0 h.1 ok.2 h.3 (long_enough x (x.count + let_variables c + let_variables a) r.after r.later.kept (omega arith)) es2 in
           let z = known_after y r2.deeds r2.after (x.count + let_variables c + let_variables a) x.arrays in
-          let room2 : x.count + let_variables c + let_variables a + let_variables b ≤ length r2.after = long_enough y (x.count + let_variables c + let_variables a + let_variables b) r2.after r2.later.kept (long_enough x (x.count + let_variables c + let_variables a + let_variables b) r.after r.later.kept (omega arith)) in
+          let room2 : x.count + let_variables c + let_variables a + let_variables b ≤ length r2.after.words = long_enough y (x.count + let_variables c + let_variables a + let_variables b) r2.after r2.later.kept (long_enough x (x.count + let_variables c + let_variables a + let_variables b) r.after r.later.kept (omega arith)) in
           let r3 = elements b g env sems Scalar z h.1 rest ok.3 h.4 room2 (all_hold_later st y z g env sems r2.later es2) in
           let u = known_after z r3.deeds r3.after (x.count + let_variables c + let_variables a + let_variables b) x.arrays in
           let vc = values_later st ts y u Scalar (exprs env x.count c) (scalars_of num sources sems c) (later_on st y z u r2.later r3.later) r.good in
@@ -278,7 +278,7 @@ module _ (st : Setting) where
           let r2 = assigned u (exprs env x.count v) D y h.0 h.1 h.3 (long_enough x (x.count + let_variables v + width u) r.after r.later.kept (omega arith)) r.good in
           let z = known_after y r2.deeds r2.after (x.count + let_variables v + width u) x.arrays in
           let es3 = all_hold_push z u (held_marks u (x.count + let_variables v)) D g env sems r2.good (all_hold_later st x z g env sems (later_on st x y z r.later r2.later) es) in
-          let room2 : x.count + let_variables v + width u + let_variables b ≤ length r2.after = long_enough y (x.count + let_variables v + width u + let_variables b) r2.after r2.later.kept (long_enough x (x.count + let_variables v + width u + let_variables b) r.after r.later.kept (omega arith)) in
+          let room2 : x.count + let_variables v + width u + let_variables b ≤ length r2.after.words = long_enough y (x.count + let_variables v + width u + let_variables b) r2.after r2.later.kept (long_enough x (x.count + let_variables v + width u + let_variables b) r.after r.later.kept (omega arith)) in
           let r3 = elements b (push u g) (push (held_marks u (x.count + let_variables v)) env) (push D sems) ty z h.1 rest ok.2 h.4 room2 es3 in
           let e : x.count + let_variables v + width u + let_variables b ≡ x.count + (let_variables v + (width u + let_variables b)) = omega arith in
           subst (λ n. Ran st x fs code rest n x.arrays nothing no_target (λ y. Values st ts y ty (exprs env x.count (LetElement u v b)) (scalars_of num sources sems (LetElement u v b)))) e

@@ -17,9 +17,9 @@ use Rattle.printed_form.proofs.GrammarExpressions.{both, as_expression, good_num
 use Rattle.printed_form.proofs.GrammarViews.{view_more, part_good, part_target, held_good, loaded_good}
 
 module _ (k : Kernel) (S : ℕ) (one : 1 ≤ S) (small : S ≤ 1024) where
-  -- statements within so many loops
+  -- statements within so many loops, and no `if`
   abbrev pub Fine : (l : ℕ) → Code → Type 0
-  Fine l c = are_statements k l c ≡ true
+  Fine l c = are_statements k l l c ≡ true
 
   abbrev pub Does : Code → Type 0
   Does c = has_statement c ≡ true
@@ -140,7 +140,7 @@ module _ (k : Kernel) (S : ℕ) (one : 1 ≤ S) (small : S ≤ 1024) where
       both (nat_lt l deepest) _ (lt-ltb l 1024 lt)
       (both (is_constant b) _ s.constant
       (both (is_expression k l b) _ (as_expression k l S b small (s.declared l, s.low))
-      (both (has_statement body) _ d (both (are_statements k (suc l) body) _ f r))))
+      (both (has_statement body) _ d (both (are_statements k (suc l) (suc l) body) _ f r))))
 
   module _ {A : Type 0} (P : A → Type 0) (Q : ℕ → Type 0) where
     high_some : (t : Term A) → 1 ≤ expression_height t

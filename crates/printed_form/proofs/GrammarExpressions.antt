@@ -30,7 +30,7 @@ module _ (k : Kernel) where
   deeper l m (Variable v) le h = h
   deeper l m (LoopVariable i) le h = let b = ltb-true i l h in lt-ltb i m (omega arith)
   deeper l m (Size s) le h = h
-  deeper l m (Id form) le h = h
+  deeper l m (Id d form) le h = h
   deeper l m (Binary o a b) le h =
       let r = second_of (is_operator o) (names_declared k l a && names_declared k l b) h in
       both (is_operator o) (names_declared k m a && names_declared k m b) (first_of (is_operator o) (names_declared k l a && names_declared k l b) h)

@@ -23,5 +23,5 @@ of_the_grammar spell S M d t a h =
     let privates = counted r in
     let can : CanBePrinted k spell S M d (λ v. 0) 0 0 0 0 r = record { written = h.written; sound = h.sound; layouts = h.layouts; low = h.low; deep = omega arith; variables = omega arith; privates = omega arith } in
     let out = terms.output ty refl h.lengths h.few in
-    terms.kernel ty r refl refl refl h.sound (terms.statements 0 0 0 0 (λ v. 0) no_view r w End out can)
+    terms.kernel ty r refl refl refl h.sound refl (terms.statements 0 0 0 0 (λ v. 0) no_view r w End out can)
     (terms.codes 0 0 0 0 (λ v. 0) no_view r w End (λ v. blank_good k S h.some k.variables 0 (8 + 3 * 0)) out can refl)

@@ -7,7 +7,7 @@ use Rattle.lift_tree.specs.Types.{PlainTy}
 use Rattle.lift_tree.specs.Typing.{Declared}
 use Rattle.kernel_tree.specs.Formula.{Formula, LoopVariable}
 use Rattle.kernel_tree.specs.Code.{Input, Output, Kernel}
-use Rattle.kernel_tree.specs.Grammar.{are_lengths, has_statement}
+use Rattle.kernel_tree.specs.Grammar.{are_lengths, has_statement, is_group_size}
 use Rattle.lift_ir.specs.Types.{Ty, width, size}
 use Rattle.lift_ir.specs.Terms.{Space, LocalMemory, PrivateMemory, Term, Literal, Bound, Source, Apply, ApplyNumber, Select, Both, Project, Reshape, LetArray, LetElement, Map, Fold, Store, Copy}
 use Rattle.printed_form.specs.Counts.{copied, copy_lengths}
@@ -119,10 +119,10 @@ module _ (k : Kernel) (spell : List Monomial → Formula) (S M : ℕ) (d : Decla
         (placed_target k S room.some spell Output 0 ty 0 (λ c lt. lt-ltb (0 + c) k.outputs (omega arith)) s);
     codes = λ l above n a g env t w rest all f c r. written_fine k S room.some small spell ins Q inputs M room.fits l g env a n t w above rest all f c.written c.sound c.layouts c.low c.deep c.variables c.privates r;
     statements = λ l above n a g env t w rest f c. written_does k S room.some small spell ins Q inputs M room.fits l env a n t w (8 + 3 * above) rest c.written c.sound f;
-    kernel = λ ty t outs locals privates s has are.
+    kernel = λ ty t outs locals privates s group has are.
         both (nat_lt 0 k.outputs) _ (lt-ltb 0 k.outputs (let x = some_width k S room.some spell ty in omega arith))
         (both (are_lengths k.locals) _ (subst (λ ns. are_lengths ns ≡ true) (sym locals) (arrays_declared k spell S d LocalMemory t s))
-        (both (are_lengths k.privates) _ (subst (λ ns. are_lengths ns ≡ true) (sym privates) (arrays_declared k spell S d PrivateMemory t s)) (both (has_statement k.code) _ has are)));
+        (both (are_lengths k.privates) _ (subst (λ ns. are_lengths ns ≡ true) (sym privates) (arrays_declared k spell S d PrivateMemory t s)) (both (is_group_size k.local) _ group (both (has_statement k.code) _ has are))));
   }
 
 pub terms_printed : TermsArePrintedWithin

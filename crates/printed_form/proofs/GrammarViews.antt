@@ -90,7 +90,7 @@ module _ (k : Kernel) (S : ℕ) (one : 1 ≤ S) where
   dividend_good l h (Variable v) g = g
   dividend_good l h (LoopVariable i) g = g
   dividend_good l h (Size s) g = g
-  dividend_good l h (Id form) g = g
+  dividend_good l h (Id d form) g = g
   dividend_good l h (Binary o a b) g =
       let named = second_of (is_operator o) (names_declared k l a && names_declared k l b) g.0 in
       (first_of (names_declared k l a) (names_declared k l b) named, (let low = g.1 in omega arith))

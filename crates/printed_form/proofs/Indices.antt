@@ -17,15 +17,15 @@ use Rattle.printed_form.specs.Means.{IsSpelled, Means, AllMean, HasCells}
 use Rattle.lift_ir.proofs.Positions.{operand_in}
 use Rattle.lift_ir.proofs.Numbers.{flat_below}
 
-module _ (l : Launch) {A : Type 0} (num : A → ℕ) (spell : A → Formula) (spelled : (n : A) → num n < 2 ^ 31 → IsSpelled l (spell n) (num n)) where
-  means_number : (ts : List ℕ) (n : ℕ) → n < 2 ^ 32 → Means l ts (Number n) n
-  means_number ts n lt = record { fits = lt; always = λ k vs. refl }
+module _ (l : Launch) (item : ℕ) {A : Type 0} (num : A → ℕ) (spell : A → Formula) (spelled : (n : A) → num n < 2 ^ 31 → IsSpelled l (spell n) (num n)) where
+  means_number : (ts : List ℕ) (n : ℕ) → n < 2 ^ 32 → Means l item ts (Number n) n
+  means_number ts n lt = record { fits = lt; always = λ vs. refl }
 
-  pub means_spell : (ts : List ℕ) (n : A) → num n < 2 ^ 31 → Means l ts (spell n) (num n)
-  means_spell ts n lt = record { fits = omega arith; always = λ k vs. (spelled n lt).1 k ts vs }
+  pub means_spell : (ts : List ℕ) (n : A) → num n < 2 ^ 31 → Means l item ts (spell n) (num n)
+  means_spell ts n lt = record { fits = omega arith; always = λ vs. (spelled n lt).1 item ts vs }
 
-  means_op : (ts : List ℕ) (o : Op) (f h : Formula) (x y z : ℕ) → divides o ≡ false → Means l ts f x → Means l ts h y → apply_op o x y ≡ z → z < 2 ^ 32 → Means l ts (Binary o f h) z
-  means_op ts o f h x y z d a b e lt = record { fits = lt; always = λ k vs. rw (a.always k vs, b.always k vs, d) (ap Some e) }
+  means_op : (ts : List ℕ) (o : Op) (f h : Formula) (x y z : ℕ) → divides o ≡ false → Means l item ts f x → Means l item ts h y → apply_op o x y ≡ z → z < 2 ^ 32 → Means l item ts (Binary o f h) z
+  means_op ts o f h x y z d a b e lt = record { fits = lt; always = λ vs. rw (a.always vs, b.always vs, d) (ap Some e) }
 
   operate_by : (o : Op) (u n : ℕ) → 0 < n → operate o u n ≡ Some (apply_op o u n)
   operate_by o u n h = let e : (n == 0) ≡ false = ne_eqb n 0 (λ q. absurd (omega arith)) in rw e (go (divides o))
@@ -34,11 +34,11 @@ module _ (l : Launch) {A : Type 0} (num : A → ℕ) (spell : A → Formula) (sp
       go true = refl
       go false = refl
 
-  means_by : (ts : List ℕ) (o : Op) (f h : Formula) (x y z : ℕ) → 0 < y → Means l ts f x → Means l ts h y → apply_op o x y ≡ z → z < 2 ^ 32 → Means l ts (Binary o f h) z
-  means_by ts o f h x y z pos a b e lt = record { fits = lt; always = λ k vs. rw (a.always k vs, b.always k vs) (operate_by o x y pos ∙ ap Some e) }
+  means_by : (ts : List ℕ) (o : Op) (f h : Formula) (x y z : ℕ) → 0 < y → Means l item ts f x → Means l item ts h y → apply_op o x y ≡ z → z < 2 ^ 32 → Means l item ts (Binary o f h) z
+  means_by ts o f h x y z pos a b e lt = record { fits = lt; always = λ vs. rw (a.always vs, b.always vs) (operate_by o x y pos ∙ ap Some e) }
 
   -- a step of an index: i * m + j
-  means_step : (ts : List ℕ) (f g h : Formula) (i j m n : ℕ) → Means l ts f i → Means l ts g m → Means l ts h j → i * m + j < n → n ≤ 2 ^ 32 → Means l ts (Binary Add (Binary Mul f g) h) (i * m + j)
+  means_step : (ts : List ℕ) (f g h : Formula) (i j m n : ℕ) → Means l item ts f i → Means l item ts g m → Means l item ts h j → i * m + j < n → n ≤ 2 ^ 32 → Means l item ts (Binary Add (Binary Mul f g) h) (i * m + j)
   means_step ts f g h i j m n a c b lt fn =
       means_op ts Add (Binary Mul f g) h (i * m) j (i * m + j) refl (means_op ts Mul f g i m (i * m) refl a c (mod-eq_of_lt (omega arith)) (omega arith)) b (mod-eq_of_lt (omega arith)) (omega arith)
 
@@ -89,24 +89,24 @@ module _ (l : Launch) {A : Type 0} (num : A → ℕ) (spell : A → Formula) (sp
       turned = omega arith
 
   -- the index of a column in a row
-  means_cell : (ts : List ℕ) (f g h : Formula) (i j m n : ℕ) → 0 < m → Means l ts f i → Means l ts g m → Means l ts h j → i * m + j < n → n ≤ 2 ^ 32 → Means l ts (cell_in_rows f g h) (i * m + j)
+  means_cell : (ts : List ℕ) (f g h : Formula) (i j m n : ℕ) → 0 < m → Means l item ts f i → Means l item ts g m → Means l item ts h j → i * m + j < n → n ≤ 2 ^ 32 → Means l item ts (cell_in_rows f g h) (i * m + j)
   means_cell ts f g h i j m n pos a c b lt fn = go (are_parts f g h) refl
     where
-      go : (z : Bool) → are_parts f g h ≡ z → Means l ts (if z then dividend f else Binary Add (Binary Mul f g) h) (i * m + j)
+      go : (z : Bool) → are_parts f g h ≡ z → Means l item ts (if z then dividend f else Binary Add (Binary Mul f g) h) (i * m + j)
       go false e = means_step ts f g h i j m n a c b lt fn
       go true e =
           let p = parts_are f g h e in
           record {
             fits = omega arith;
-            always = λ k vs. divided (value (ids_of l k) ts vs (dividend f)) m i j pos
-                (ap (with_both (operate Div) (value (ids_of l k) ts vs (dividend f))) (sym (c.always k vs)) ∙ ap (value (ids_of l k) ts vs) (sym p.0) ∙ a.always k vs)
-                (ap (with_both (operate Rem) (value (ids_of l k) ts vs (dividend f))) (sym (c.always k vs)) ∙ ap (value (ids_of l k) ts vs) (sym p.1) ∙ b.always k vs);
+            always = λ vs. divided (value (ids_of l item) ts vs (dividend f)) m i j pos
+                (ap (with_both (operate Div) (value (ids_of l item) ts vs (dividend f))) (sym (c.always vs)) ∙ ap (value (ids_of l item) ts vs) (sym p.0) ∙ a.always vs)
+                (ap (with_both (operate Rem) (value (ids_of l item) ts vs (dividend f))) (sym (c.always vs)) ∙ ap (value (ids_of l item) ts vs) (sym p.1) ∙ b.always vs);
           }
 
   less : (x y : ℕ) → y ≤ x → x < 2 ^ 32 → (x + (2 ^ 32 - y)) % 2 ^ 32 ≡ x - y
   less x y le fx = omega arith
 
-  means_pad : (ts : List ℕ) (f : Formula) (i a b : ℕ) (k : A) → Means l ts f i → 0 < num k → i < a + num k + b → a + num k + b < 2 ^ 31 → Means l ts (Binary Min (Binary Sub (Binary Max f (Number a)) (Number a)) (Binary Sub (spell k) (Number 1))) (min (max i a - a) (num k - 1))
+  means_pad : (ts : List ℕ) (f : Formula) (i a b : ℕ) (k : A) → Means l item ts f i → 0 < num k → i < a + num k + b → a + num k + b < 2 ^ 31 → Means l item ts (Binary Min (Binary Sub (Binary Max f (Number a)) (Number a)) (Binary Sub (spell k) (Number 1))) (min (max i a - a) (num k - 1))
   means_pad ts f i a b k h pos lt small =
       let n = num k in
       let s = means_number ts a (omega arith) in
@@ -115,7 +115,7 @@ module _ (l : Launch) {A : Type 0} (num : A → ℕ) (spell : A → Formula) (sp
       let z = means_op ts Sub (spell k) (Number 1) n 1 (n - 1) refl (means_spell ts k (omega arith)) (means_number ts 1 (omega arith)) (less n 1 (omega arith) (omega arith)) (omega arith) in
       means_op ts Min (Binary Sub (Binary Max f (Number a)) (Number a)) (Binary Sub (spell k) (Number 1)) (max i a - a) (n - 1) (min (max i a - a) (n - 1)) refl y z refl (omega arith)
 
-  means_parts : (ts : List ℕ) (f : Formula) (i : ℕ) (z : A) → Means l ts f i → 0 < num z → num z < 2 ^ 31 → Means l ts (Binary Div f (spell z)) (i / num z) × Means l ts (Binary Rem f (spell z)) (i % num z)
+  means_parts : (ts : List ℕ) (f : Formula) (i : ℕ) (z : A) → Means l item ts f i → 0 < num z → num z < 2 ^ 31 → Means l item ts (Binary Div f (spell z)) (i / num z) × Means l item ts (Binary Rem f (spell z)) (i % num z)
   means_parts ts f i z a pos lt =
       let m = num z in
       let s = means_spell ts z lt in
@@ -124,10 +124,10 @@ module _ (l : Launch) {A : Type 0} (num : A → ℕ) (spell : A → Formula) (sp
       (means_by ts Div f (spell z) i m (i / m) pos a s refl (omega arith), means_by ts Rem f (spell z) i m (i % m) pos a s refl (omega arith))
 
   -- a position through a layout
-  pub operand_means : (ts : List ℕ) (y : Layout A) (t u : Ty) (cs : List Bool) (is : List Formula) (q : List ℕ) → HasWordStep y → Reshapes num y t u → IsShort t → IsShort u → IsPosition u cs q → AllMean l ts is q → AllMean l ts (operand_indices spell y is) (operand_position num y q)
+  pub operand_means : (ts : List ℕ) (y : Layout A) (t u : Ty) (cs : List Bool) (is : List Formula) (q : List ℕ) → HasWordStep y → Reshapes num y t u → IsShort t → IsShort u → IsPosition u cs q → AllMean l item ts is q → AllMean l item ts (operand_indices spell y is) (operand_position num y q)
   operand_means ts (Split m) (ArrayOf n t) u cs is q sp a sh su w g = go is q (subst (λ z. IsPosition z cs q) a.2 w) (subst IsShort a.2 su) g
     where
-      go : (is : List Formula) (q : List ℕ) → IsPosition (ArrayOf (n / num m) (ArrayOf (num m) t)) cs q → IsShort (ArrayOf (n / num m) (ArrayOf (num m) t)) → AllMean l ts is q → AllMean l ts (operand_indices spell (Split m) is) (operand_position num (Split m) q)
+      go : (is : List Formula) (q : List ℕ) → IsPosition (ArrayOf (n / num m) (ArrayOf (num m) t)) cs q → IsShort (ArrayOf (n / num m) (ArrayOf (num m) t)) → AllMean l item ts is q → AllMean l item ts (operand_indices spell (Split m) is) (operand_position num (Split m) q)
       go is [] w s g = absurd w
       go is (i ∷ []) w s g = absurd w.1
       go [] (i ∷ j ∷ q) w s g = absurd g
@@ -137,13 +137,13 @@ module _ (l : Launch) {A : Type 0} (num : A → ℕ) (spell : A → Formula) (sp
           (means_cell ts f (spell m) h i j (num m) n a.0 g.0 (means_spell ts m s.1.0) g.1.0 b.0 (let z = sh.0 in omega arith), g.1.1)
   operand_means ts (Join m) (ArrayOf n (ArrayOf k t)) u cs is q sp a sh su w g = go is q (subst (λ z. IsPosition z cs q) a.2 w) g
     where
-      go : (is : List Formula) (q : List ℕ) → IsPosition (ArrayOf (n * num m) t) cs q → AllMean l ts is q → AllMean l ts (operand_indices spell (Join m) is) (operand_position num (Join m) q)
+      go : (is : List Formula) (q : List ℕ) → IsPosition (ArrayOf (n * num m) t) cs q → AllMean l item ts is q → AllMean l item ts (operand_indices spell (Join m) is) (operand_position num (Join m) q)
       go is [] w g = absurd w
       go [] (i ∷ q) w g = absurd g
       go (f ∷ fs) (i ∷ q) w g = let p = means_parts ts f i m g.0 a.0 (let e = a.1 in let z = sh.1.0 in omega arith) in (p.0, (p.1, g.1))
   operand_means ts Transpose (ArrayOf n (ArrayOf m t)) u cs is q sp a sh su w g = go is q (subst (λ z. IsPosition z cs q) a.1 w) g
     where
-      go : (is : List Formula) (q : List ℕ) → IsPosition (ArrayOf m (ArrayOf n t)) cs q → AllMean l ts is q → AllMean l ts (operand_indices spell Transpose is) (operand_position num Transpose q)
+      go : (is : List Formula) (q : List ℕ) → IsPosition (ArrayOf m (ArrayOf n t)) cs q → AllMean l item ts is q → AllMean l item ts (operand_indices spell Transpose is) (operand_position num Transpose q)
       go is [] w g = absurd w
       go is (i ∷ []) w g = absurd w.1
       go [] (i ∷ j ∷ q) w g = absurd g
@@ -151,7 +151,7 @@ module _ (l : Launch) {A : Type 0} (num : A → ℕ) (spell : A → Formula) (sp
       go (f ∷ h ∷ fs) (i ∷ j ∷ q) w g = (g.1.0, (g.0, g.1.1))
   operand_means ts (Slide s k) (ArrayOf n t) u cs is q sp a sh su w g = go is q (subst (λ z. IsPosition z cs q) a.3 w) g
     where
-      go : (is : List Formula) (q : List ℕ) → IsPosition (ArrayOf ((n - s) / k + 1) (ArrayOf s t)) cs q → AllMean l ts is q → AllMean l ts (operand_indices spell (Slide s k) is) (operand_position num (Slide s k) q)
+      go : (is : List Formula) (q : List ℕ) → IsPosition (ArrayOf ((n - s) / k + 1) (ArrayOf s t)) cs q → AllMean l item ts is q → AllMean l item ts (operand_indices spell (Slide s k) is) (operand_position num (Slide s k) q)
       go is [] w g = absurd w
       go is (i ∷ []) w g = absurd w.1
       go [] (i ∷ j ∷ q) w g = absurd g
@@ -161,14 +161,14 @@ module _ (l : Launch) {A : Type 0} (num : A → ℕ) (spell : A → Formula) (sp
           (means_cell ts f (Number k) h i j k n a.0 g.0 (means_number ts k (omega (arith, sp))) g.1.0 b.0 (let z = sh.0 in omega arith), g.1.1)
   operand_means ts (Pad x y k) (ArrayOf n t) u cs is q sp a sh su w g = go is q (subst (λ z. IsPosition z cs q) (a.2 ∙ ap (λ z. ArrayOf (x + z + y) t) (sym a.1)) w) (subst IsShort (a.2 ∙ ap (λ z. ArrayOf (x + z + y) t) (sym a.1)) su) g
     where
-      go : (is : List Formula) (q : List ℕ) → IsPosition (ArrayOf (x + num k + y) t) cs q → IsShort (ArrayOf (x + num k + y) t) → AllMean l ts is q → AllMean l ts (operand_indices spell (Pad x y k) is) (operand_position num (Pad x y k) q)
+      go : (is : List Formula) (q : List ℕ) → IsPosition (ArrayOf (x + num k + y) t) cs q → IsShort (ArrayOf (x + num k + y) t) → AllMean l item ts is q → AllMean l item ts (operand_indices spell (Pad x y k) is) (operand_position num (Pad x y k) q)
       go is [] w s g = absurd w
       go [] (i ∷ q) w s g = absurd g
       go (f ∷ fs) (i ∷ q) w s g = (means_pad ts f i x y k g.0 (let p = a.0 in let e = a.1 in omega arith) w.0 s.0, g.1)
   operand_means ts _ t u cs is q sp a sh su w g = absurd (assumption)
 
   -- and back, in writing
-  pub result_means : (ts : List ℕ) (y : Layout A) (t u : Ty) (cs : List Bool) (is : List Formula) (q : List ℕ) → IsInvertible y → Reshapes num y t u → IsShort t → IsShort u → IsPosition t cs q → AllMean l ts is q → AllMean l ts (result_indices spell y is) (result_position num y q)
+  pub result_means : (ts : List ℕ) (y : Layout A) (t u : Ty) (cs : List Bool) (is : List Formula) (q : List ℕ) → IsInvertible y → Reshapes num y t u → IsShort t → IsShort u → IsPosition t cs q → AllMean l item ts is q → AllMean l item ts (result_indices spell y is) (result_position num y q)
   result_means ts (Split m) (ArrayOf n t) u cs is [] z a sh su w g = absurd w
   result_means ts (Split m) (ArrayOf n t) u cs [] (i ∷ q) z a sh su w g = absurd g
   result_means ts (Split m) (ArrayOf n t) u cs (f ∷ fs) (i ∷ q) z a sh su w g =
@@ -212,7 +212,7 @@ module _ (l : Launch) {A : Type 0} (num : A → ℕ) (spell : A → Formula) (sp
   size_pos : (t : Ty) (cs : List Bool) (q : List ℕ) → IsFlat t → IsPosition t cs q → 1 ≤ size t
   size_pos t cs q f w = let a = flat_below t cs q f w in omega arith
 
-  from_means : (ts : List ℕ) (f : Formula) (i n : ℕ) (t : Ty) (cs : List Bool) (is : List Formula) (q : List ℕ) → IsFlat t → IsShort t → IsPosition t cs q → Means l ts f i → flat_from i t q < n → n ≤ 2 ^ 32 → AllMean l ts is q → Means l ts (index_from Number f t is) (flat_from i t q)
+  from_means : (ts : List ℕ) (f : Formula) (i n : ℕ) (t : Ty) (cs : List Bool) (is : List Formula) (q : List ℕ) → IsFlat t → IsShort t → IsPosition t cs q → Means l item ts f i → flat_from i t q < n → n ≤ 2 ^ 32 → AllMean l item ts is q → Means l item ts (index_from Number f t is) (flat_from i t q)
   from_means ts f i n Scalar cs is q e sh w a lt fn g = a
   from_means ts f i n (PairOf x y) cs is q e sh w a lt fn g = a
   from_means ts f i n (ArrayOf m t) cs is [] e sh w a lt fn g = absurd w
@@ -223,18 +223,18 @@ module _ (l : Launch) {A : Type 0} (num : A → ℕ) (spell : A → Formula) (sp
       let more = mul-le-mul_left {m = 1} {n = size t} k (size_pos t cs q e w.1) in
       from_means ts (Binary Add (Binary Mul f (Number m)) h) k n t cs fs q e sh.1 w.1 (means_step ts f (Number m) h i j m n a (means_number ts m (omega (arith, sh.0))) g.0 (omega arith) fn) lt fn g.1
 
-  flat_means : (ts : List ℕ) (t : Ty) (cs : List Bool) (is : List Formula) (q : List ℕ) → IsFlat t → IsShort t → size t < 2 ^ 31 → IsPosition t cs q → AllMean l ts is q → Means l ts (index_in Number t is) (flat t q)
-  flat_means ts Scalar cs is q e sh small w g = record { fits = omega arith; always = λ k vs. refl }
-  flat_means ts (PairOf a b) cs is q e sh small w g = record { fits = omega arith; always = λ k vs. refl }
+  flat_means : (ts : List ℕ) (t : Ty) (cs : List Bool) (is : List Formula) (q : List ℕ) → IsFlat t → IsShort t → size t < 2 ^ 31 → IsPosition t cs q → AllMean l item ts is q → Means l item ts (index_in Number t is) (flat t q)
+  flat_means ts Scalar cs is q e sh small w g = record { fits = omega arith; always = λ vs. refl }
+  flat_means ts (PairOf a b) cs is q e sh small w g = record { fits = omega arith; always = λ vs. refl }
   flat_means ts (ArrayOf n t) cs is [] e sh small w g = absurd w
   flat_means ts (ArrayOf n t) cs [] (i ∷ q) e sh small w g = absurd g
   flat_means ts (ArrayOf n t) cs (f ∷ fs) (i ∷ q) e sh small w g =
       let long = flat_long i t cs q e w.1 in
       let below = flat_below (ArrayOf n t) cs (i ∷ q) e w in
-      subst (Means l ts (index_in Number (ArrayOf n t) (f ∷ fs))) long (from_means ts f i (2 ^ 32) t cs fs q e sh.1 w.1 g.0 (omega arith) (omega arith) g.1)
+      subst (Means l item ts (index_in Number (ArrayOf n t) (f ∷ fs))) long (from_means ts f i (2 ^ 32) t cs fs q e sh.1 w.1 g.0 (omega arith) (omega arith) g.1)
 
   -- a value laid in arrays has its cells
-  pub laid_cells : (ts : List ℕ) (form : ℕ → Array) (first : ℕ) (t : Ty) → IsFlat t → IsShort t → size t < 2 ^ 31 → HasCells l ts t (laid_view form first t) (laid_in form first t)
+  pub laid_cells : (ts : List ℕ) (form : ℕ → Array) (first : ℕ) (t : Ty) → IsFlat t → IsShort t → size t < 2 ^ 31 → HasCells l item ts t (laid_view form first t) (laid_in form first t)
   laid_cells ts form first t e sh small us cs is q w g = (refl, flat_means (ts ++ us) t cs is q e sh small w g)
 
   -- the same over shapes
@@ -251,7 +251,7 @@ module _ (l : Launch) {A : Type 0} (num : A → ℕ) (spell : A → Formula) (sp
   component_same (PairOf a b) (true ∷ cs) = let x = width_same a in let y = component_same b cs in omega arith
   component_same (ArrayOf n t) cs = component_same t cs
 
-  shape_from_means : (ts : List ℕ) (f : Formula) (i n : ℕ) (t : Shape A) (cs : List Bool) (is : List Formula) (q : List ℕ) → IsFlat (measured num t) → IsShort (measured num t) → IsPosition (measured num t) cs q → Means l ts f i → flat_from i (measured num t) q < n → n ≤ 2 ^ 32 → AllMean l ts is q → Means l ts (index_from spell f t is) (flat_from i (measured num t) q)
+  shape_from_means : (ts : List ℕ) (f : Formula) (i n : ℕ) (t : Shape A) (cs : List Bool) (is : List Formula) (q : List ℕ) → IsFlat (measured num t) → IsShort (measured num t) → IsPosition (measured num t) cs q → Means l item ts f i → flat_from i (measured num t) q < n → n ≤ 2 ^ 32 → AllMean l item ts is q → Means l item ts (index_from spell f t is) (flat_from i (measured num t) q)
   shape_from_means ts f i n Scalar cs is q e sh w a lt fn g = a
   shape_from_means ts f i n (PairOf x y) cs is q e sh w a lt fn g = a
   shape_from_means ts f i n (ArrayOf m t) cs is [] e sh w a lt fn g = absurd w
@@ -262,15 +262,15 @@ module _ (l : Launch) {A : Type 0} (num : A → ℕ) (spell : A → Formula) (sp
       let more = mul-le-mul_left {m = 1} {n = size (measured num t)} k (size_pos (measured num t) cs q e w.1) in
       shape_from_means ts (Binary Add (Binary Mul f (spell m)) h) k n t cs fs q e sh.1 w.1 (means_step ts f (spell m) h i j (num m) n a (means_spell ts m sh.0) g.0 (omega arith) fn) lt fn g.1
 
-  shape_flat_means : (ts : List ℕ) (t : Shape A) (cs : List Bool) (is : List Formula) (q : List ℕ) → IsFlat (measured num t) → IsShort (measured num t) → size (measured num t) < 2 ^ 31 → IsPosition (measured num t) cs q → AllMean l ts is q → Means l ts (index_in spell t is) (flat (measured num t) q)
-  shape_flat_means ts Scalar cs is q e sh small w g = record { fits = omega arith; always = λ k vs. refl }
-  shape_flat_means ts (PairOf a b) cs is q e sh small w g = record { fits = omega arith; always = λ k vs. refl }
+  shape_flat_means : (ts : List ℕ) (t : Shape A) (cs : List Bool) (is : List Formula) (q : List ℕ) → IsFlat (measured num t) → IsShort (measured num t) → size (measured num t) < 2 ^ 31 → IsPosition (measured num t) cs q → AllMean l item ts is q → Means l item ts (index_in spell t is) (flat (measured num t) q)
+  shape_flat_means ts Scalar cs is q e sh small w g = record { fits = omega arith; always = λ vs. refl }
+  shape_flat_means ts (PairOf a b) cs is q e sh small w g = record { fits = omega arith; always = λ vs. refl }
   shape_flat_means ts (ArrayOf n t) cs is [] e sh small w g = absurd w
   shape_flat_means ts (ArrayOf n t) cs [] (i ∷ q) e sh small w g = absurd g
   shape_flat_means ts (ArrayOf n t) cs (f ∷ fs) (i ∷ q) e sh small w g =
       let long = flat_long i (measured num t) cs q e w.1 in
       let below = flat_below (measured num (ArrayOf n t)) cs (i ∷ q) e w in
-      subst (Means l ts (index_in spell (ArrayOf n t) (f ∷ fs))) long (shape_from_means ts f i (2 ^ 32) t cs fs q e sh.1 w.1 g.0 (omega arith) (omega arith) g.1)
+      subst (Means l item ts (index_in spell (ArrayOf n t) (f ∷ fs))) long (shape_from_means ts f i (2 ^ 32) t cs fs q e sh.1 w.1 g.0 (omega arith) (omega arith) g.1)
 
-  pub placed_cells : (ts : List ℕ) (form : ℕ → Array) (first : ℕ) (t : Shape A) → IsFlat (measured num t) → IsShort (measured num t) → size (measured num t) < 2 ^ 31 → HasCells l ts (measured num t) (placed_view spell form first t) (laid_in form first (measured num t))
+  pub placed_cells : (ts : List ℕ) (form : ℕ → Array) (first : ℕ) (t : Shape A) → IsFlat (measured num t) → IsShort (measured num t) → size (measured num t) < 2 ^ 31 → HasCells l item ts (measured num t) (placed_view spell form first t) (laid_in form first (measured num t))
   placed_cells ts form first t e sh small us cs is q w g = (ap (λ c. form (first + c)) (sym (component_same t cs)), shape_flat_means (ts ++ us) t cs is q e sh small w g)

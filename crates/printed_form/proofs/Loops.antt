@@ -1,6 +1,7 @@
 -- Loops of one item, whose turns change what it knows.
 use Rattle.std.proofs.Common.{◌≡◌, ℕ, zero, suc, ◌<◌, ◌≤◌, Bool, List, [], ◌∷◌, ◌++◌, refl, sym, ap, ◌∙◌, subst, ⊎_elim, inl, inr, arith}
 use Rattle.std.proofs.lemmas.Bool.{cases_lt}
+use Rattle.kernel_tree.specs.Formula.{Vars}
 use Rattle.kernel_tree.specs.Code.{Array, Private, Code, End}
 use Rattle.kernel_tree.specs.Item.{Frame, item}
 use Rattle.kernel_tree.specs.Device.{Cell, Memory}
@@ -17,7 +18,7 @@ use Rattle.printed_form.specs.Runs.{Setting, Known, IsOpen, IsBetween, Scratch, 
 use Rattle.printed_form.proofs.Runs.{kept_less, filled_more, later_same, later_on, silent, wrote_on, agrees_on, before_silence}
 
 -- what is known, with another memory and other variables
-abbrev pub at : Known → Memory → List ℕ → Known
+abbrev pub at : Known → Memory → Vars → Known
 at x m vars = record { memory = m; vars = vars; count = x.count; arrays = x.arrays }
 
 -- counted from fewer variables and arrays
@@ -34,7 +35,7 @@ module _ (st : Setting) where
   }
 
   pub ran_from : {S : Cell → Type 0} {T : Cell → ℕ → Type 0} {G : Known → Type 0} (x : Known) (fs : List Frame) (code rest : Code) (n a n1 a1 n2 a2 : ℕ) (H : Known → Type 0) → n ≤ x.count → a ≤ x.arrays → n ≤ n2 → a ≤ a2
-      → ((m : Memory) (vars : List ℕ) → G (record { memory = m; vars = vars; count = n1; arrays = a1 }) → H (record { memory = m; vars = vars; count = n2; arrays = a2 })) → Ran st x fs code rest n1 a1 S T G → Ran st (from x n a) fs code rest n2 a2 S T H
+      → ((m : Memory) (vars : Vars) → G (record { memory = m; vars = vars; count = n1; arrays = a1 }) → H (record { memory = m; vars = vars; count = n2; arrays = a2 })) → Ran st x fs code rest n1 a1 S T G → Ran st (from x n a) fs code rest n2 a2 S T H
   ran_from x fs code rest n a n1 a1 n2 a2 H p q r s up h = record {
     after = h.after;
     deeds = h.deeds;
@@ -45,13 +46,13 @@ module _ (st : Setting) where
     good = up (written h.deeds x.memory) h.after h.good;
   }
 
-  module _ (fs : List Frame) (p : Loop) (count : ℕ) (r : Counts st.device st.item p count) (x : Known) (S : Cell → Type 0) (T T1 : ℕ → Cell → ℕ → Type 0) (Inv : ℕ → Memory → List ℕ → Type 0)
+  module _ (fs : List Frame) (p : Loop) (count : ℕ) (r : Counts st.device st.item p count) (x : Known) (S : Cell → Type 0) (T T1 : ℕ → Cell → ℕ → Type 0) (Inv : ℕ → Memory → Vars → Type 0)
       (none : (c : Cell) (v : ℕ) → T 0 c v → ⊥) (apart : (t : ℕ) → t < count → Apart S (T t) S (T1 t) S (T (suc t))) where
     frame : ℕ → Frame
     frame t = frame_of st.device st.item p t
 
     record Reached (t : ℕ) : Type 0 where
-      vars : List ℕ
+      vars : Vars
       deeds : List Deed
       goes : (m : Memory) → Agrees st.owners st.item x.memory m → Goes st.device st.item (item (loop_code p) fs x.vars) m deeds (tested_at st.device st.item fs r.bound p.start p.bound p.stride p.body p.after t vars)
       later : Later st x (at x (written deeds x.memory) vars)
@@ -61,7 +62,7 @@ module _ (st : Setting) where
 
     -- a turn, from what is known at its beginning
     abbrev pub TurnRuns : (n a : ℕ) → Type 0
-    TurnRuns n a = (t : ℕ) → t < count → (m : Memory) (vars : List ℕ) → Later st x (at x m vars) → Inv t m vars → Ran st (at x m vars) (frame_of st.device st.item p t ∷ fs) p.body End n a S (T1 t) (λ y. Inv (suc t) y.memory y.vars)
+    TurnRuns n a = (t : ℕ) → t < count → (m : Memory) (vars : Vars) → Later st x (at x m vars) → Inv t m vars → Ran st (at x m vars) (frame_of st.device st.item p t ∷ fs) p.body End n a S (T1 t) (λ y. Inv (suc t) y.memory y.vars)
 
     module _ (n a : ℕ) (begin : Inv 0 x.memory x.vars) (turn : TurnRuns n a) where
       reach : (t : ℕ) → t ≤ count → Reached t

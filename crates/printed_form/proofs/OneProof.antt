@@ -5,7 +5,7 @@ use Rattle.std.proofs.Math.Path.{path_j}
 use Rattle.kernel_tree.specs.declared.events.Event.{Event}
 use Rattle.kernel_tree.specs.Code.{Kernel}
 use Rattle.kernel_tree.specs.Launch.{Launch, Cells}
-use Rattle.kernel_tree.specs.Item.{Wants, Ends, Waits, Moves, Reads, Writes, Fails}
+use Rattle.kernel_tree.specs.Item.{Wants, Ends, Waits, Moves, Reads, Writes, ReadsFour, WritesFour, Fails}
 use Rattle.kernel_tree.specs.Device.{Device, State, after}
 use Rattle.kernel_tree.specs.Faults.{NoFailure, NoDivergence}
 use Rattle.printed_form.specs.Headline.{EveryRunLeaves, EveryRunKeeps}
@@ -20,6 +20,8 @@ is_end (Waits a b x) e = absurd (true≢false (sym e))
 is_end (Moves x) e = absurd (true≢false (sym e))
 is_end (Reads a n f) e = absurd (true≢false (sym e))
 is_end (Writes a n v x) e = absurd (true≢false (sym e))
+is_end (ReadsFour a n f) e = absurd (true≢false (sym e))
+is_end (WritesFour a n u x) e = absurd (true≢false (sym e))
 is_end (Fails f) e = absurd (true≢false (sym e))
 
 -- an equation with the end is the one that the test gives
@@ -32,6 +34,8 @@ ends_once (Waits a b x) p q = absurd (true≢false (sym (ap ends p)))
 ends_once (Moves x) p q = absurd (true≢false (sym (ap ends p)))
 ends_once (Reads a n f) p q = absurd (true≢false (sym (ap ends p)))
 ends_once (Writes a n v x) p q = absurd (true≢false (sym (ap ends p)))
+ends_once (ReadsFour a n f) p q = absurd (true≢false (sym (ap ends p)))
+ends_once (WritesFour a n u x) p q = absurd (true≢false (sym (ap ends p)))
 ends_once (Fails f) p q = absurd (true≢false (sym (ap ends p)))
 
 pub no_failure_once : (d : Device) (s : State) (es : List Event) → IsProp (NoFailure d s es)

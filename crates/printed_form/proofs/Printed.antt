@@ -13,21 +13,21 @@ use Rattle.printed_form.specs.PrinterLaw.{PrinterPrints}
 use Rattle.printed_form.proofs.Indices.{placed_cells}
 use Rattle.printed_form.proofs.Printer.{cells_show, HeldIn, written_is, over_launch_is}
 
-nothing_shown : (l : Launch) → AllShow l [] no_type no_view no_marks
-nothing_shown l v us cs is [] w g = absurd w
-nothing_shown l v us cs is (i ∷ q) w g = let z = w.0 in absurd (omega arith)
+nothing_shown : (l : Launch) (item : ℕ) → AllShow l item [] no_type no_view no_marks
+nothing_shown l item v us cs is [] w g = absurd w
+nothing_shown l item v us cs is (i ∷ q) w g = let z = w.0 in absurd (omega arith)
 
-nothing_held : (l : Launch) → HeldIn l no_type no_marks (λ v. none)
-nothing_held l v cs w h = absurd w
+nothing_held : (l : Launch) (item : ℕ) → HeldIn l item no_type no_marks (λ v. none)
+nothing_held l item v cs w h = absurd w
 
 pub code_is : (A : Type 0) → PrinterPrints A
 code_is A l num spell spelled first src t ty kind ok nm out inputs =
-    let shown = λ (v : ℕ). cells_show l [] (measured num (src v)) _ _ (let p = inputs v in placed_cells l num spell spelled [] Input (first v) (src v) p.flat p.short p.small) in
-    let place = placed_cells l num spell spelled [] Output 0 ty out.flat out.short out.small in
+    let shown = λ (item v : ℕ). cells_show l item [] (measured num (src v)) _ _ (let p = inputs v in placed_cells l item num spell spelled [] Input (first v) (src v) p.flat p.short p.small) in
+    let place = λ (item : ℕ). placed_cells l item num spell spelled [] Output 0 ty out.flat out.short out.small in
     ⊎_elim
     (λ k. inl (
       k.0,
-      written_is l num spell spelled (λ v. measured num (src v)) (input_marks num first src) (input_views spell first src) t [] 0 no_type no_view no_marks (λ v. none) 0 0 (measured num ty) (placed_view spell Output 0 ty) (output_marks (measured num ty)) End refl ok nm k.1 (nothing_shown l) shown (nothing_held l) place,
+      written_is l 0 num spell spelled (λ v. measured num (src v)) (input_marks num first src) (input_views spell first src) t [] 0 no_type no_view no_marks (λ v. none) 0 0 (measured num ty) (placed_view spell Output 0 ty) (output_marks (measured num ty)) End refl ok nm k.1 (nothing_shown l 0) (shown 0) (nothing_held l 0) (place 0),
     ))
-    (λ k. inr (over_launch_is l num spell spelled (λ v. measured num (src v)) (input_marks num first src) (input_views spell first src) t no_type no_view no_marks (λ v. none) 0 0 (measured num ty) (placed_view spell Output 0 ty) (output_marks (measured num ty)) End ok nm k (nothing_shown l) shown (nothing_held l) place))
+    (λ k. inr (λ item lt. over_launch_is l item num spell spelled (λ v. measured num (src v)) (input_marks num first src) (input_views spell first src) t no_type no_view no_marks (λ v. none) 0 0 (measured num ty) (placed_view spell Output 0 ty) (output_marks (measured num ty)) End ok nm k (nothing_shown l item) (shown item) (nothing_held l item) (place item)))
     kind

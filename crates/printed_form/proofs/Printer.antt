@@ -23,19 +23,19 @@ use Rattle.printed_form.specs.Means.{IsSpelled, Means, AllMean, IsCell, IsScalar
 use Rattle.lift_ir.proofs.Positions.{operand_in, result_in}
 use Rattle.printed_form.proofs.Indices.{operand_means, result_means, laid_cells}
 
-module _ (l : Launch) where
-  cell_scalar : (ts : List ℕ) (s : Sign) (m : Mark) → IsCell l ts s m → IsScalar l ts s m
+module _ (l : Launch) (item : ℕ) where
+  cell_scalar : (ts : List ℕ) (s : Sign) (m : Mark) → IsCell l item ts s m → IsScalar l item ts s m
   cell_scalar ts (Read a f) (Spot b i) h = h
   cell_scalar ts Blank m h = absurd h
   cell_scalar ts (Held v) m h = absurd h
   cell_scalar ts (Read a f) Nowhere h = absurd h
   cell_scalar ts (Read a f) (Register r) h = absurd h
 
-  cells_side : (ts : List ℕ) (b : Bool) (t u : Ty) (x : View) (y : Marks) → ((cs : List Bool) (q : List ℕ) → IsPosition t cs q → IsPosition u (b ∷ cs) q) → HasCells l ts u x y → HasCells l ts t (λ cs. x (b ∷ cs)) (λ cs. y (b ∷ cs))
+  cells_side : (ts : List ℕ) (b : Bool) (t u : Ty) (x : View) (y : Marks) → ((cs : List Bool) (q : List ℕ) → IsPosition t cs q → IsPosition u (b ∷ cs) q) → HasCells l item ts u x y → HasCells l item ts t (λ cs. x (b ∷ cs)) (λ cs. y (b ∷ cs))
   cells_side ts b t u x y up h us cs is q w g = h us (b ∷ cs) is q (up cs q w) g
 
   -- what has cells shows
-  pub cells_show : (ts : List ℕ) (t : Ty) (x : View) (y : Marks) → HasCells l ts t x y → Shows l ts t x y
+  pub cells_show : (ts : List ℕ) (t : Ty) (x : View) (y : Marks) → HasCells l item ts t x y → Shows l item ts t x y
   cells_show ts Scalar x y h = λ us. cell_scalar (ts ++ us) (x [] []) (y [] []) (h us [] [] [] tt tt)
   cells_show ts (PairOf a b) x y h = (
     cells_show ts a (λ cs. x (false ∷ cs)) (λ cs. y (false ∷ cs)) (cells_side ts false a (PairOf a b) x y (λ cs q w. w) h),
@@ -45,47 +45,47 @@ module _ (l : Launch) where
 
   -- within one more loop
 
-  cells_within : (ts : List ℕ) (i : ℕ) (t : Ty) (x : View) (y : Marks) → HasCells l ts t x y → HasCells l (ts ++ i ∷ []) t x y
+  cells_within : (ts : List ℕ) (i : ℕ) (t : Ty) (x : View) (y : Marks) → HasCells l item ts t x y → HasCells l item (ts ++ i ∷ []) t x y
   cells_within ts i t x y h us cs is q w g =
       let e = append_assoc ts (i ∷ []) us in
-      subst (λ z. IsCell l z (x cs is) (y cs q)) (sym e) (h (i ∷ us) cs is q w (subst (λ z. AllMean l z is q) e g))
+      subst (λ z. IsCell l item z (x cs is) (y cs q)) (sym e) (h (i ∷ us) cs is q w (subst (λ z. AllMean l item z is q) e g))
 
-  shows_within : (ts : List ℕ) (i : ℕ) (t : Ty) (x : View) (y : Marks) → Shows l ts t x y → Shows l (ts ++ i ∷ []) t x y
-  shows_within ts i Scalar x y h = λ us. subst (λ z. IsScalar l z (x [] []) (y [] [])) (sym (append_assoc ts (i ∷ []) us)) (h (i ∷ us))
+  shows_within : (ts : List ℕ) (i : ℕ) (t : Ty) (x : View) (y : Marks) → Shows l item ts t x y → Shows l item (ts ++ i ∷ []) t x y
+  shows_within ts i Scalar x y h = λ us. subst (λ z. IsScalar l item z (x [] []) (y [] [])) (sym (append_assoc ts (i ∷ []) us)) (h (i ∷ us))
   shows_within ts i (PairOf a b) x y h = (shows_within ts i a _ _ h.0, shows_within ts i b _ _ h.1)
   shows_within ts i (ArrayOf n t) x y h = cells_within ts i (ArrayOf n t) x y h
 
-  all_within : (ts : List ℕ) (i : ℕ) (g : ℕ → Ty) (views : ℕ → View) (env : ℕ → Marks) → AllShow l ts g views env → AllShow l (ts ++ i ∷ []) g views env
+  all_within : (ts : List ℕ) (i : ℕ) (g : ℕ → Ty) (views : ℕ → View) (env : ℕ → Marks) → AllShow l item ts g views env → AllShow l item (ts ++ i ∷ []) g views env
   all_within ts i g views env h v = shows_within ts i (g v) (views v) (env v) (h v)
 
-  all_push : (ts : List ℕ) (t : Ty) (x : View) (y : Marks) (g : ℕ → Ty) (views : ℕ → View) (env : ℕ → Marks) → Shows l ts t x y → AllShow l ts g views env → AllShow l ts (push t g) (push x views) (push y env)
+  all_push : (ts : List ℕ) (t : Ty) (x : View) (y : Marks) (g : ℕ → Ty) (views : ℕ → View) (env : ℕ → Marks) → Shows l item ts t x y → AllShow l item ts g views env → AllShow l item ts (push t g) (push x views) (push y env)
   all_push ts t x y g views env h es zero = h
   all_push ts t x y g views env h es (suc v) = es v
 
   -- the loop variable of the innermost loop
-  loop_means : (ts us : List ℕ) (d i : ℕ) → length ts ≡ d → i < 2 ^ 31 → Means l ((ts ++ i ∷ []) ++ us) (LoopVariable d) i
+  loop_means : (ts us : List ℕ) (d i : ℕ) → length ts ≡ d → i < 2 ^ 31 → Means l item ((ts ++ i ∷ []) ++ us) (LoopVariable d) i
   loop_means ts us d i e lt =
       let more = length-append ts (i ∷ []) in
       record {
         fits = omega arith;
-        always = λ k vs. ap Some (
+        always = λ vs. ap Some (
             get_or-append (ts ++ i ∷ []) us 0 d (omega arith) ∙ get_or-append_right ts (i ∷ []) d 0 (omega arith) ∙ ap (λ z. slice_index (i ∷ []) z) (let z : d - length ts ≡ 0 = omega arith in z));
       }
 
-  turned_cells : (ts : List ℕ) (d i n : ℕ) (t : Ty) (x : View) (y : Marks) → length ts ≡ d → i < n → n < 2 ^ 31 → HasCells l ts (ArrayOf n t) x y → HasCells l (ts ++ i ∷ []) t (view_at (LoopVariable d) x) (at_index i y)
+  turned_cells : (ts : List ℕ) (d i n : ℕ) (t : Ty) (x : View) (y : Marks) → length ts ≡ d → i < n → n < 2 ^ 31 → HasCells l item ts (ArrayOf n t) x y → HasCells l item (ts ++ i ∷ []) t (view_at (LoopVariable d) x) (at_index i y)
   turned_cells ts d i n t x y e lt small h us cs is q w g = cells_within ts i (ArrayOf n t) x y h us cs (LoopVariable d ∷ is) (i ∷ q) (lt, w) (loop_means ts us d i e (omega arith), g)
 
-  first_cells : (ts : List ℕ) (t : Ty) (x : View) (y : Marks) → HasCells l ts (ArrayOf 1 t) x y → HasCells l ts t (view_at (Number 0) x) (at_index 0 y)
-  first_cells ts t x y h us cs is q w g = h us cs (Number 0 ∷ is) (0 ∷ q) (omega arith, w) (record { fits = omega arith; always = λ k vs. refl }, g)
+  first_cells : (ts : List ℕ) (t : Ty) (x : View) (y : Marks) → HasCells l item ts (ArrayOf 1 t) x y → HasCells l item ts t (view_at (Number 0) x) (at_index 0 y)
+  first_cells ts t x y h us cs is q w g = h us cs (Number 0 ∷ is) (0 ∷ q) (omega arith, w) (record { fits = omega arith; always = λ vs. refl }, g)
 
-  held_shows : (ts : List ℕ) (t : Ty) (n : ℕ) → IsElement t → Shows l ts t (held_view t n) (held_marks t n)
+  held_shows : (ts : List ℕ) (t : Ty) (n : ℕ) → IsElement t → Shows l item ts t (held_view t n) (held_marks t n)
   held_shows ts Scalar n e = λ us. refl
   held_shows ts (PairOf a b) n e = (held_shows ts a n e.0, held_shows ts b (n + width a) e.1)
   held_shows ts (ArrayOf m t) n e = absurd e
 
   -- expressions
 
-  scalar_held : (ts : List ℕ) (s : Sign) (m : Mark) → IsScalar l ts s m → held_sign s ≡ held m
+  scalar_held : (ts : List ℕ) (s : Sign) (m : Mark) → IsScalar l item ts s m → held_sign s ≡ held m
   scalar_held ts (Held v) (Register u) h = ap (λ z. Some (Variable z)) h
   scalar_held ts (Read a f) (Spot b i) h = refl
   scalar_held ts Blank m h = absurd h
@@ -94,7 +94,7 @@ module _ (l : Launch) where
   scalar_held ts (Read a f) Nowhere h = absurd h
   scalar_held ts (Read a f) (Register r) h = absurd h
 
-  bound_same : (ts : List ℕ) (t : Ty) (x : View) (y : Marks) (cs : List Bool) → IsPosition t cs [] → Shows l ts t x y → held_sign (x cs []) ≡ held (y cs [])
+  bound_same : (ts : List ℕ) (t : Ty) (x : View) (y : Marks) (cs : List Bool) → IsPosition t cs [] → Shows l item ts t x y → held_sign (x cs []) ≡ held (y cs [])
   bound_same ts Scalar x y [] w h = scalar_held (ts ++ []) (x [] []) (y [] []) (h [])
   bound_same ts Scalar x y (c ∷ cs) w h = absurd w
   bound_same ts (PairOf a b) x y [] w h = absurd w
@@ -103,7 +103,7 @@ module _ (l : Launch) where
   bound_same ts (ArrayOf n t) x y cs w h = absurd w
 
   module _ {A : Type 0} (num : A → ℕ) (src : ℕ → Ty) (ts : List ℕ) where
-    exprs_same : (t : Term A) (g : ℕ → Ty) (views : ℕ → View) (env : ℕ → Marks) (n : ℕ) (ty : Ty) (cs : List Bool) → HasType num src g t ty → IsPosition ty cs [] → AllShow l ts g views env → sign_exprs views n t cs ≡ exprs env n t cs
+    exprs_same : (t : Term A) (g : ℕ → Ty) (views : ℕ → View) (env : ℕ → Marks) (n : ℕ) (ty : Ty) (cs : List Bool) → HasType num src g t ty → IsPosition ty cs [] → AllShow l item ts g views env → sign_exprs views n t cs ≡ exprs env n t cs
     exprs_same (Literal c) g views env n ty cs ok w es = refl
     exprs_same (Bound v) g views env n ty cs ok w es = bound_same ts (g v) (views v) (env v) cs (subst (λ z. IsPosition z cs []) ok w) (es v)
     exprs_same (Apply o a b) g views env n ty cs ok w es =
@@ -224,24 +224,24 @@ module _ (l : Launch) where
     nil_after [] = refl
     nil_after (i ∷ ts) = ap (λ z. i ∷ z) (nil_after ts)
 
-    store_is : (ts : List ℕ) (s : Sign) (m : Mark) (e : Formula) (rest : Code) → IsCell l ts s m → (a : Array) × (i : Formula) × IsSpot l ins ts m a i × (print_store s e rest ≡ Stores a i e rest)
+    store_is : (ts : List ℕ) (s : Sign) (m : Mark) (e : Formula) (rest : Code) → IsCell l item ts s m → (a : Array) × (i : Formula) × IsSpot l item ins ts m a i × (print_store s e rest ≡ Stores a i e rest)
     store_is ts (Read a f) (Spot b j) e rest h = (a, f, (h.0, h.1.always), refl)
     store_is ts (Read a f) Nowhere e rest h = absurd h
     store_is ts (Read a f) (Register r) e rest h = absurd h
     store_is ts (Held v) m e rest h = absurd h
     store_is ts Blank m e rest h = absurd h
 
-    load_is : (ts : List ℕ) (s : Sign) (m : Mark) (n : ℕ) (rest : Code) → IsCell l ts s m → (a : Array) × (i : Formula) × IsSpot l ins ts m a i × (print_load s n rest ≡ Loads n a i rest)
+    load_is : (ts : List ℕ) (s : Sign) (m : Mark) (n : ℕ) (rest : Code) → IsCell l item ts s m → (a : Array) × (i : Formula) × IsSpot l item ins ts m a i × (print_load s n rest ≡ Loads n a i rest)
     load_is ts (Read a f) (Spot b j) n rest h = (a, f, (h.0, h.1.always), refl)
     load_is ts (Read a f) Nowhere n rest h = absurd h
     load_is ts (Read a f) (Register r) n rest h = absurd h
     load_is ts (Held v) m n rest h = absurd h
     load_is ts Blank m n rest h = absurd h
 
-    stored_is : (ts : List ℕ) (ty : Ty) (f k : List Bool → Option Formula) (w : Marks) (v : View) (rest : Code) → IsElement ty → Sames ty f k → Defines ty f → HasCells l ts ty v w → IsStored l ins ts ty f w (print_stored ty k v rest) rest
+    stored_is : (ts : List ℕ) (ty : Ty) (f k : List Bool → Option Formula) (w : Marks) (v : View) (rest : Code) → IsElement ty → Sames ty f k → Defines ty f → HasCells l item ts ty v w → IsStored l item ins ts ty f w (print_stored ty k v rest) rest
     stored_is ts Scalar f k w v rest el s d h =
         let e = d [] tt in
-        let c = store_is ts (v [] []) (w [] []) (or_number (k [])) rest (subst (λ z. IsCell l z (v [] []) (w [] [])) (nil_after ts) (h [] [] [] [] tt tt)) in
+        let c = store_is ts (v [] []) (w [] []) (or_number (k [])) rest (subst (λ z. IsCell l item z (v [] []) (w [] [])) (nil_after ts) (h [] [] [] [] tt tt)) in
         (c.0, c.1, e.0, e.1, c.2, c.3 ∙ ap (λ z. Stores c.0 c.1 (or_number z) rest) (s [] tt ∙ e.1))
     stored_is ts (PairOf a b) f k w v rest el s d h = (
       print_stored b (λ cs. k (true ∷ cs)) (λ cs. v (true ∷ cs)) rest,
@@ -250,9 +250,9 @@ module _ (l : Launch) where
     )
     stored_is ts (ArrayOf m t) f k w v rest el s d h = absurd el
 
-    loaded_is : (ts : List ℕ) (loads : LoadSet) (ty : Ty) (x : View) (y : Marks) (n : ℕ) (rest : Code) → LoadsScalars loads ty → HasCells l ts ty x y → IsLoaded l ins ts loads y n (print_loaded loads x n rest) rest
+    loaded_is : (ts : List ℕ) (loads : LoadSet) (ty : Ty) (x : View) (y : Marks) (n : ℕ) (rest : Code) → LoadsScalars loads ty → HasCells l item ts ty x y → IsLoaded l item ins ts loads y n (print_loaded loads x n rest) rest
     loaded_is ts Skip ty x y n rest ok h = refl
-    loaded_is ts Take Scalar x y n rest ok h = load_is ts (x [] []) (y [] []) n rest (subst (λ z. IsCell l z (x [] []) (y [] [])) (nil_after ts) (h [] [] [] [] tt tt))
+    loaded_is ts Take Scalar x y n rest ok h = load_is ts (x [] []) (y [] []) n rest (subst (λ z. IsCell l item z (x [] []) (y [] [])) (nil_after ts) (h [] [] [] [] tt tt))
     loaded_is ts Take (PairOf a b) x y n rest ok h = absurd ok
     loaded_is ts Take (ArrayOf m t) x y n rest ok h = absurd ok
     loaded_is ts (Each p q) Scalar x y n rest ok h = absurd ok
@@ -263,7 +263,7 @@ module _ (l : Launch) where
       loaded_is ts q b (λ cs. x (true ∷ cs)) (λ cs. y (true ∷ cs)) (n + load_count p) rest ok.1 (cells_side ts true b (PairOf a b) x y (λ cs q z. z) h),
     )
 
-    loaded_shows : (ts : List ℕ) (loads : LoadSet) (ty : Ty) (x : View) (y : Marks) (n : ℕ) → LoadsScalars loads ty → HasCells l ts ty x y → Shows l ts ty (loaded_view loads x n) (loaded_marks loads y n)
+    loaded_shows : (ts : List ℕ) (loads : LoadSet) (ty : Ty) (x : View) (y : Marks) (n : ℕ) → LoadsScalars loads ty → HasCells l item ts ty x y → Shows l item ts ty (loaded_view loads x n) (loaded_marks loads y n)
     loaded_shows ts Skip ty x y n ok h = cells_show ts ty x y h
     loaded_shows ts Take Scalar x y n ok h = λ us. refl
     loaded_shows ts Take (PairOf a b) x y n ok h = absurd ok
@@ -276,7 +276,7 @@ module _ (l : Launch) where
     )
 
     module _ {A : Type 0} (num : A → ℕ) (src : ℕ → Ty) (ts : List ℕ) where
-      element_is : (t : Term A) (g : ℕ → Ty) (views : ℕ → View) (env : ℕ → Marks) (h : ℕ → List Bool → Bool) (n : ℕ) (ty : Ty) (rest : Code) → HasType num src g t ty → AreLetsHeld h t → AllShow l ts g views env → HeldIn g env h → IsElementWork env n t (print_element views n t rest) rest
+      element_is : (t : Term A) (g : ℕ → Ty) (views : ℕ → View) (env : ℕ → Marks) (h : ℕ → List Bool → Bool) (n : ℕ) (ty : Ty) (rest : Code) → HasType num src g t ty → AreLetsHeld h t → AllShow l item ts g views env → HeldIn g env h → IsElementWork env n t (print_element views n t rest) rest
       element_is (Literal c) g views env h n ty rest ok nm es r = refl
       element_is (Bound v) g views env h n ty rest ok nm es r = refl
       element_is (Apply o a b) g views env h n ty rest ok nm es r =
@@ -308,22 +308,22 @@ module _ (l : Launch) where
           )
       element_is _ g views env h n ty rest ok nm es r = absurd nm
 
-module _ (l : Launch) {A : Type 0} (num : A → ℕ) (spell : A → Formula) (spelled : (n : A) → num n < 2 ^ 31 → IsSpelled l (spell n) (num n)) where
-  back_cells : (ts : List ℕ) (y : Layout A) (t u : Ty) (v : View) (w : Marks) → IsInvertible y → Reshapes num y t u → IsShort t → IsShort u → HasCells l ts u v w → HasCells l ts t (λ cs is. v cs (result_indices spell y is)) (λ cs q. w cs (result_position num y q))
-  back_cells ts y t u v w turn rel st su h us cs is q i g = h us cs (result_indices spell y is) (result_position num y q) (result_in num y t u cs q turn rel i).0 (result_means l num spell spelled (ts ++ us) y t u cs is q turn rel st su i g)
+module _ (l : Launch) (item : ℕ) {A : Type 0} (num : A → ℕ) (spell : A → Formula) (spelled : (n : A) → num n < 2 ^ 31 → IsSpelled l (spell n) (num n)) where
+  back_cells : (ts : List ℕ) (y : Layout A) (t u : Ty) (v : View) (w : Marks) → IsInvertible y → Reshapes num y t u → IsShort t → IsShort u → HasCells l item ts u v w → HasCells l item ts t (λ cs is. v cs (result_indices spell y is)) (λ cs q. w cs (result_position num y q))
+  back_cells ts y t u v w turn rel st su h us cs is q i g = h us cs (result_indices spell y is) (result_position num y q) (result_in num y t u cs q turn rel i).0 (result_means l item num spell spelled (ts ++ us) y t u cs is q turn rel st su i g)
 
-  moved_cells : (ts : List ℕ) (y : Layout A) (t u : Ty) (x : View) (e : Marks) → HasWordStep y → Reshapes num y t u → IsShort t → IsShort u → HasCells l ts t x e → HasCells l ts u (λ cs is. x cs (operand_indices spell y is)) (λ cs q. e cs (operand_position num y q))
-  moved_cells ts y t u x e sp rel st su h us cs is q i g = h us cs (operand_indices spell y is) (operand_position num y q) (operand_in num y t u cs q rel i) (operand_means l num spell spelled (ts ++ us) y t u cs is q sp rel st su i g)
+  moved_cells : (ts : List ℕ) (y : Layout A) (t u : Ty) (x : View) (e : Marks) → HasWordStep y → Reshapes num y t u → IsShort t → IsShort u → HasCells l item ts t x e → HasCells l item ts u (λ cs is. x cs (operand_indices spell y is)) (λ cs q. e cs (operand_position num y q))
+  moved_cells ts y t u x e sp rel st su h us cs is q i g = h us cs (operand_indices spell y is) (operand_position num y q) (operand_in num y t u cs q rel i) (operand_means l item num spell spelled (ts ++ us) y t u cs is q sp rel st su i g)
 
-  moved_shows : (ts : List ℕ) (y : Layout A) (t u : Ty) (x : View) (e : Marks) → HasWordStep y → Reshapes num y t u → IsShort t → IsShort u → Shows l ts t x e → Shows l ts u (λ cs is. x cs (operand_indices spell y is)) (λ cs q. e cs (operand_position num y q))
-  moved_shows ts (Split m) (ArrayOf n t) u x e sp rel st su h = cells_show l ts u _ _ (moved_cells ts (Split m) (ArrayOf n t) u x e sp rel st su h)
-  moved_shows ts (Join m) (ArrayOf n (ArrayOf k t)) u x e sp rel st su h = cells_show l ts u _ _ (moved_cells ts (Join m) (ArrayOf n (ArrayOf k t)) u x e sp rel st su h)
-  moved_shows ts Transpose (ArrayOf n (ArrayOf m t)) u x e sp rel st su h = cells_show l ts u _ _ (moved_cells ts Transpose (ArrayOf n (ArrayOf m t)) u x e sp rel st su h)
-  moved_shows ts (Slide s k) (ArrayOf n t) u x e sp rel st su h = cells_show l ts u _ _ (moved_cells ts (Slide s k) (ArrayOf n t) u x e sp rel st su h)
-  moved_shows ts (Pad a b k) (ArrayOf n t) u x e sp rel st su h = cells_show l ts u _ _ (moved_cells ts (Pad a b k) (ArrayOf n t) u x e sp rel st su h)
+  moved_shows : (ts : List ℕ) (y : Layout A) (t u : Ty) (x : View) (e : Marks) → HasWordStep y → Reshapes num y t u → IsShort t → IsShort u → Shows l item ts t x e → Shows l item ts u (λ cs is. x cs (operand_indices spell y is)) (λ cs q. e cs (operand_position num y q))
+  moved_shows ts (Split m) (ArrayOf n t) u x e sp rel st su h = cells_show l item ts u _ _ (moved_cells ts (Split m) (ArrayOf n t) u x e sp rel st su h)
+  moved_shows ts (Join m) (ArrayOf n (ArrayOf k t)) u x e sp rel st su h = cells_show l item ts u _ _ (moved_cells ts (Join m) (ArrayOf n (ArrayOf k t)) u x e sp rel st su h)
+  moved_shows ts Transpose (ArrayOf n (ArrayOf m t)) u x e sp rel st su h = cells_show l item ts u _ _ (moved_cells ts Transpose (ArrayOf n (ArrayOf m t)) u x e sp rel st su h)
+  moved_shows ts (Slide s k) (ArrayOf n t) u x e sp rel st su h = cells_show l item ts u _ _ (moved_cells ts (Slide s k) (ArrayOf n t) u x e sp rel st su h)
+  moved_shows ts (Pad a b k) (ArrayOf n t) u x e sp rel st su h = cells_show l item ts u _ _ (moved_cells ts (Pad a b k) (ArrayOf n t) u x e sp rel st su h)
   moved_shows ts _ t u x e sp rel st su h = absurd (assumption)
 
-  zip_cells : (ts : List ℕ) (n : ℕ) (a b : Ty) (x y : View) (e f : Marks) → HasCells l ts (ArrayOf n a) x e → HasCells l ts (ArrayOf n b) y f → HasCells l ts (ArrayOf n (PairOf a b)) (by_side (λ is. Blank) x y) (by_side (λ q. Nowhere) e f)
+  zip_cells : (ts : List ℕ) (n : ℕ) (a b : Ty) (x y : View) (e f : Marks) → HasCells l item ts (ArrayOf n a) x e → HasCells l item ts (ArrayOf n b) y f → HasCells l item ts (ArrayOf n (PairOf a b)) (by_side (λ is. Blank) x y) (by_side (λ q. Nowhere) e f)
   zip_cells ts n a b x y e f h k us cs is [] w g = absurd w
   zip_cells ts n a b x y e f h k us [] is (i ∷ q) w g = absurd w.1
   zip_cells ts n a b x y e f h k us (false ∷ cs) is (i ∷ q) w g = h us cs is (i ∷ q) w g
@@ -332,7 +332,7 @@ module _ (l : Launch) {A : Type 0} (num : A → ℕ) (spell : A → Formula) (sp
   module _ (src : ℕ → Ty) (ins : ℕ → Marks) (sins : ℕ → View) where
     -- a fold's turn
     turn_is : (ts : List ℕ) (g : ℕ → Ty) (views : ℕ → View) (env : ℕ → Marks) (h : ℕ → List Bool → Bool) (loads : LoadSet) (xt ty : Ty) (x : View) (y : Marks) (acc : ℕ) (b : Term A) → LoadsScalars loads xt → IsElement ty → HasType num src (push xt (push ty g)) b ty
-        → AllHeld (push (covers loads) (push all h)) ty b → AreLetsHeld (push (covers loads) (push all h)) b → HasCells l ts xt x y → AllShow l ts g views env → HeldIn l g env h → IsFoldTurn l ins ts env loads ty y acc b (print_fold_turn views loads ty x acc b)
+        → AllHeld (push (covers loads) (push all h)) ty b → AreLetsHeld (push (covers loads) (push all h)) b → HasCells l item ts xt x y → AllShow l item ts g views env → HeldIn l item g env h → IsFoldTurn l item ins ts env loads ty y acc b (print_fold_turn views loads ty x acc b)
     turn_is ts g views env h loads xt ty x y acc b suits el ok nm lets cells es r =
         let n1 = acc + width ty in
         let n2 = n1 + load_count loads in
@@ -340,31 +340,31 @@ module _ (l : Launch) {A : Type 0} (num : A → ℕ) (spell : A → Formula) (sp
         let views2 = push (loaded_view loads x n1) (push (held_view ty acc) views) in
         let env2 = push (loaded_marks loads y n1) (push (held_marks ty acc) env) in
         let h2 = push (covers loads) (push all h) in
-        let es2 = all_push l ts xt (loaded_view loads x n1) (loaded_marks loads y n1) (push ty g) (push (held_view ty acc) views) (push (held_marks ty acc) env) (loaded_shows l ins ts loads xt x y n1 suits cells)
-        (all_push l ts ty (held_view ty acc) (held_marks ty acc) g views env (held_shows l ts ty acc el) es) in
-        let r2 = held_push l xt (loaded_marks loads y n1) (covers loads) (push ty g) (push (held_marks ty acc) env) (push all h) (λ cs w q. loaded_held l loads y n1 cs q)
-        (held_push l ty (held_marks ty acc) all g env h (λ cs w q. held_all l ty acc cs w) r) in
+        let es2 = all_push l item ts xt (loaded_view loads x n1) (loaded_marks loads y n1) (push ty g) (push (held_view ty acc) views) (push (held_marks ty acc) env) (loaded_shows l item ins ts loads xt x y n1 suits cells)
+        (all_push l item ts ty (held_view ty acc) (held_marks ty acc) g views env (held_shows l item ts ty acc el) es) in
+        let r2 = held_push l item xt (loaded_marks loads y n1) (covers loads) (push ty g) (push (held_marks ty acc) env) (push all h) (λ cs w q. loaded_held l item loads y n1 cs q)
+        (held_push l item ty (held_marks ty acc) all g env h (λ cs w q. held_all l item ty acc cs w) r) in
         let last = print_reassigned ty (sign_exprs views2 n2 b) acc (n2 + let_variables b) End in (
           print_element views2 n2 b last,
           last,
-          loaded_is l ins ts loads xt x y n1 _ suits cells,
-          element_is l ins num src ts b g2 views2 env2 h2 n2 ty last ok lets es2 r2,
-          again_is l ins ty (exprs env2 n2 b) (sign_exprs views2 n2 b) acc (n2 + let_variables b) End el (λ cs w. exprs_same l num src ts b g2 views2 env2 n2 ty cs ok w es2) (λ cs w. defined l num src b g2 env2 h2 n2 ty cs ok w (nm cs w) r2),
+          loaded_is l item ins ts loads xt x y n1 _ suits cells,
+          element_is l item ins num src ts b g2 views2 env2 h2 n2 ty last ok lets es2 r2,
+          again_is l item ins ty (exprs env2 n2 b) (sign_exprs views2 n2 b) acc (n2 + let_variables b) End el (λ cs w. exprs_same l item num src ts b g2 views2 env2 n2 ty cs ok w es2) (λ cs w. defined l item num src b g2 env2 h2 n2 ty cs ok w (nm cs w) r2),
         )
 
     mutual
-      gathered_is : (t : Term A) (ts : List ℕ) (depth : ℕ) (g : ℕ → Ty) (views : ℕ → View) (env : ℕ → Marks) (h : ℕ → List Bool → Bool) (a n : ℕ) (ty : Ty) (rest : Code) → length ts ≡ depth → HasType num src g t ty → LoadsSuffice h t → Stands false t → AllShow l ts g views env → AllShow l ts src sins ins → HeldIn l g env h
-          → IsArgumentWork l ins num ts env a n t (print_argument spell sins depth views a n t rest) rest × Shows l ts ty (argument_view spell sins views a t) (argument_marks l ins num env a t)
-      gathered_is (Bound v) ts depth g views env h a n ty rest d ok nm sd es gs r = (refl, subst (λ z. Shows l ts z (views v) (env v)) (sym ok) (es v))
-      gathered_is (Source v) ts depth g views env h a n ty rest d ok nm sd es gs r = (refl, subst (λ z. Shows l ts z (sins v) (ins v)) (sym ok) (gs v))
+      gathered_is : (t : Term A) (ts : List ℕ) (depth : ℕ) (g : ℕ → Ty) (views : ℕ → View) (env : ℕ → Marks) (h : ℕ → List Bool → Bool) (a n : ℕ) (ty : Ty) (rest : Code) → length ts ≡ depth → HasType num src g t ty → LoadsSuffice h t → Stands false t → AllShow l item ts g views env → AllShow l item ts src sins ins → HeldIn l item g env h
+          → IsArgumentWork l item ins num ts env a n t (print_argument spell sins depth views a n t rest) rest × Shows l item ts ty (argument_view spell sins views a t) (argument_marks l ins num env a t)
+      gathered_is (Bound v) ts depth g views env h a n ty rest d ok nm sd es gs r = (refl, subst (λ z. Shows l item ts z (views v) (env v)) (sym ok) (es v))
+      gathered_is (Source v) ts depth g views env h a n ty rest d ok nm sd es gs r = (refl, subst (λ z. Shows l item ts z (sins v) (ins v)) (sym ok) (gs v))
       gathered_is (Both false x y) ts depth g views env h a n ty rest d ok nm sd es gs r =
           let p = gathered_is x ts depth g views env h a n ok.0 (print_argument spell sins depth views (a + private_count x) (n + variable_count x) y rest) d ok.5 nm.0 sd.0 es gs r in
           let q = gathered_is y ts depth g views env h (a + private_count x) (n + variable_count x) ok.1 rest d ok.6 nm.1 sd.1 es gs r in
-          ((print_argument spell sins depth views (a + private_count x) (n + variable_count x) y rest, p.0, q.0), subst (λ z. Shows l ts z (argument_view spell sins views a (Both false x y)) (argument_marks l ins num env a (Both false x y))) (sym ok.2) (p.1, q.1))
+          ((print_argument spell sins depth views (a + private_count x) (n + variable_count x) y rest, p.0, q.0), subst (λ z. Shows l item ts z (argument_view spell sins views a (Both false x y)) (argument_marks l ins num env a (Both false x y))) (sym ok.2) (p.1, q.1))
       gathered_is (Both true x y) ts depth g views env h a n ty rest d ok nm sd es gs r =
           let p = gathered_is x ts depth g views env h a n (ArrayOf ok.0 ok.1) (print_argument spell sins depth views (a + private_count x) (n + variable_count x) y rest) d ok.4 nm.0 sd.0 es gs r in
           let q = gathered_is y ts depth g views env h (a + private_count x) (n + variable_count x) (ArrayOf ok.0 ok.2) rest d ok.5 nm.1 sd.1 es gs r in
-          ((print_argument spell sins depth views (a + private_count x) (n + variable_count x) y rest, p.0, q.0), subst (λ z. Shows l ts z (argument_view spell sins views a (Both true x y)) (argument_marks l ins num env a (Both true x y))) (sym ok.3) (zip_cells ts ok.0 ok.1 ok.2 _ _ _ _ p.1 q.1))
+          ((print_argument spell sins depth views (a + private_count x) (n + variable_count x) y rest, p.0, q.0), subst (λ z. Shows l item ts z (argument_view spell sins views a (Both true x y)) (argument_marks l ins num env a (Both true x y))) (sym ok.3) (zip_cells ts ok.0 ok.1 ok.2 _ _ _ _ p.1 q.1))
       gathered_is (Project false x) ts depth g views env h a n ty rest d ok nm sd es gs r = let p = gathered_is x ts depth g views env h a n (PairOf ty ok.0) rest d ok.1 nm sd es gs r in (p.0, p.1.0)
       gathered_is (Project true x) ts depth g views env h a n ty rest d ok nm sd es gs r = let p = gathered_is x ts depth g views env h a n (PairOf ok.0 ty) rest d ok.1 nm sd es gs r in (p.0, p.1.1)
       gathered_is (Reshape y x) ts depth g views env h a n ty rest d ok nm sd es gs r =
@@ -375,23 +375,23 @@ module _ (l : Launch) {A : Type 0} (num : A → ℕ) (spell : A → Formula) (sp
           let y = argument_marks l ins num env a v in
           let next = print_argument spell sins depth (push x views) (a + private_count v) (n + variable_count v) b rest in
           let p = gathered_is v ts depth g views env h a n ok.0 next d ok.1 nm.0 sd.0 es gs r in
-          let q = gathered_is b ts depth (push ok.0 g) (push x views) (push y env) (push (held_scalars h v) h) (a + private_count v) (n + variable_count v) ty rest d ok.2 nm.1 sd.1 (all_push l ts ok.0 x y g views env p.1 es) gs (held_push l ok.0 y (held_scalars h v) g env h (λ cs w z. kept_is l num src ins v g env h a ok.0 cs ok.1 w z r) r) in
+          let q = gathered_is b ts depth (push ok.0 g) (push x views) (push y env) (push (held_scalars h v) h) (a + private_count v) (n + variable_count v) ty rest d ok.2 nm.1 sd.1 (all_push l item ts ok.0 x y g views env p.1 es) gs (held_push l item ok.0 y (held_scalars h v) g env h (λ cs w z. kept_is l item num src ins v g env h a ok.0 cs ok.1 w z r) r) in
           ((next, p.0, q.0), q.1)
       gathered_is (Copy PrivateMemory u x) ts depth g views env h a n ty rest d ok nm sd es gs r =
           let first = a + private_count x in
-          let c = laid_cells l num spell spelled ts Private first u ok.1 nm.1 nm.0 in (
+          let c = laid_cells l item num spell spelled ts Private first u ok.1 nm.1 nm.0 in (
             written_is x ts depth g views env h a n u (laid_view Private first u) (laid_in Private first u) rest d (subst (HasType num src g x) ok.0 ok.2) nm.2 sd es gs r c,
-            subst (λ z. Shows l ts z (laid_view Private first u) (laid_in Private first u)) (sym ok.0) (cells_show l ts u _ _ c),
+            subst (λ z. Shows l item ts z (laid_view Private first u) (laid_in Private first u)) (sym ok.0) (cells_show l item ts u _ _ c),
           )
       gathered_is _ ts depth g views env h a n ty rest d ok nm sd es gs r = absurd sd
 
-      pub written_is : (t : Term A) (ts : List ℕ) (depth : ℕ) (g : ℕ → Ty) (views : ℕ → View) (env : ℕ → Marks) (h : ℕ → List Bool → Bool) (a n : ℕ) (ty : Ty) (v : View) (w : Marks) (rest : Code) → length ts ≡ depth → HasType num src g t ty → LoadsSuffice h t → Stands true t → AllShow l ts g views env → AllShow l ts src sins ins → HeldIn l g env h → HasCells l ts ty v w
-          → IsWritten l ins num ts env a n t w (print_written spell sins depth views a n t v rest) rest
+      pub written_is : (t : Term A) (ts : List ℕ) (depth : ℕ) (g : ℕ → Ty) (views : ℕ → View) (env : ℕ → Marks) (h : ℕ → List Bool → Bool) (a n : ℕ) (ty : Ty) (v : View) (w : Marks) (rest : Code) → length ts ≡ depth → HasType num src g t ty → LoadsSuffice h t → Stands true t → AllShow l item ts g views env → AllShow l item ts src sins ins → HeldIn l item g env h → HasCells l item ts ty v w
+          → IsWritten l item ins num ts env a n t w (print_written spell sins depth views a n t v rest) rest
       written_is (Store u t) ts depth g views env h a n ty v w rest d ok nm sd es gs r cells =
           let last = print_stored u (sign_exprs views n t) v rest in (
             last,
-            element_is l ins num src ts t g views env h n ty last ok.2 nm.1 es r,
-            stored_is l ins ts u (exprs env n t) (sign_exprs views n t) w v rest ok.1 (λ cs z. exprs_same l num src ts t g views env n u cs (subst (HasType num src g t) ok.0 ok.2) z es) (λ cs z. defined l num src t g env h n u cs (subst (HasType num src g t) ok.0 ok.2) z (nm.0 cs z) r) (subst (λ z. HasCells l ts z v w) ok.0 cells),
+            element_is l item ins num src ts t g views env h n ty last ok.2 nm.1 es r,
+            stored_is l item ins ts u (exprs env n t) (sign_exprs views n t) w v rest ok.1 (λ cs z. exprs_same l item num src ts t g views env n u cs (subst (HasType num src g t) ok.0 ok.2) z es) (λ cs z. defined l item num src t g env h n u cs (subst (HasType num src g t) ok.0 ok.2) z (nm.0 cs z) r) (subst (λ z. HasCells l item ts z v w) ok.0 cells),
           )
       written_is (Reshape y t) ts depth g views env h a n ty v w rest d ok nm sd es gs r cells =
           (sd.0, written_is t ts depth g views env h a n ok.0 (λ cs is. v cs (result_indices spell y is)) (λ cs q. w cs (result_position num y q)) rest d ok.1 nm sd.1 es gs r (back_cells ts y ok.0 ty v w sd.0 ok.2 ok.3 ok.4 cells))
@@ -400,7 +400,7 @@ module _ (l : Launch) {A : Type 0} (num : A → ℕ) (spell : A → Formula) (sp
           let f = argument_marks l ins num env a x in
           let next = print_written spell sins depth (push e views) (a + private_count x) (n + variable_count x) b v rest in
           let p = gathered_is x ts depth g views env h a n ok.0 next d ok.1 nm.0 sd.0 es gs r in
-          (next, p.0, written_is b ts depth (push ok.0 g) (push e views) (push f env) (push (held_scalars h x) h) (a + private_count x) (n + variable_count x) ty v w rest d ok.2 nm.1 sd.1 (all_push l ts ok.0 e f g views env p.1 es) gs (held_push l ok.0 f (held_scalars h x) g env h (λ cs i z. kept_is l num src ins x g env h a ok.0 cs ok.1 i z r) r) cells)
+          (next, p.0, written_is b ts depth (push ok.0 g) (push e views) (push f env) (push (held_scalars h x) h) (a + private_count x) (n + variable_count x) ty v w rest d ok.2 nm.1 sd.1 (all_push l item ts ok.0 e f g views env p.1 es) gs (held_push l item ok.0 f (held_scalars h x) g env h (λ cs i z. kept_is l item num src ins x g env h a ok.0 cs ok.1 i z r) r) cells)
       written_is (LetElement u x b) ts depth g views env h a n ty v w rest d ok nm sd es gs r cells =
           let n1 = n + let_variables x in
           let views2 = push (held_view u n1) views in
@@ -408,9 +408,9 @@ module _ (l : Launch) {A : Type 0} (num : A → ℕ) (spell : A → Formula) (sp
           let last = print_written spell sins depth views2 a (n1 + width u) b v rest in (
             print_assigned u (sign_exprs views n x) n1 last,
             last,
-            element_is l ins num src ts x g views env h n u _ ok.1 nm.1 es r,
-            assigned_is l ins u (exprs env n x) (sign_exprs views n x) n1 last ok.0 (λ cs z. exprs_same l num src ts x g views env n u cs ok.1 z es) (λ cs z. defined l num src x g env h n u cs ok.1 z (nm.0 cs z) r),
-            written_is b ts depth (push u g) views2 env2 (push all h) a (n1 + width u) ty v w rest d ok.2 nm.2 sd (all_push l ts u (held_view u n1) (held_marks u n1) g views env (held_shows l ts u n1 ok.0) es) gs (held_push l u (held_marks u n1) all g env h (λ cs z q. held_all l u n1 cs z) r) cells,
+            element_is l item ins num src ts x g views env h n u _ ok.1 nm.1 es r,
+            assigned_is l item ins u (exprs env n x) (sign_exprs views n x) n1 last ok.0 (λ cs z. exprs_same l item num src ts x g views env n u cs ok.1 z es) (λ cs z. defined l item num src x g env h n u cs ok.1 z (nm.0 cs z) r),
+            written_is b ts depth (push u g) views2 env2 (push all h) a (n1 + width u) ty v w rest d ok.2 nm.2 sd (all_push l item ts u (held_view u n1) (held_marks u n1) g views env (held_shows l item ts u n1 ok.0) es) gs (held_push l item u (held_marks u n1) all g env h (λ cs z q. held_all l item u n1 cs z) r) cells,
           )
       written_is (Map Sequential z0 loads xs b) ts depth g views env h a n ty v w rest d ok nm sd es gs r cells =
           let len = num z0 in
@@ -423,7 +423,7 @@ module _ (l : Launch) {A : Type 0} (num : A → ℕ) (spell : A → Formula) (sp
           let body = print_loaded loads (view_at (LoopVariable depth) e) n1 inner in
           let loop = Loops (start_of Sequential) (spell z0) (stride_of Sequential) body rest in
           let p = gathered_is xs ts depth g views env h a n (ArrayOf len ok.0) loop d ok.4 nm.0 sd.0 es gs r in
-          let cells2 = subst (λ z. HasCells l ts z v w) ok.6 cells in (
+          let cells2 = subst (λ z. HasCells l item ts z v w) ok.6 cells in (
             loop,
             p.0,
             (
@@ -431,17 +431,17 @@ module _ (l : Launch) {A : Type 0} (num : A → ℕ) (spell : A → Formula) (sp
               body,
               refl,
               (spelled z0 ok.2).0,
-              λ i lt.
+              λ i lt own.
                   let ts2 = ts ++ i ∷ [] in
                   let y = loaded_marks loads (at_index i f) n1 in
-                  let c = turned_cells l ts depth i len ok.0 e f d lt ok.2 p.1 in
+                  let c = turned_cells l item ts depth i len ok.0 e f d lt ok.2 p.1 in
                   let d2 : length ts2 ≡ suc depth = (let z = length-append ts (i ∷ []) in omega arith) in
-                  let es2 = all_push l ts2 ok.0 x y g views env (loaded_shows l ins ts2 loads ok.0 (view_at (LoopVariable depth) e) (at_index i f) n1 ok.3 c) (all_within l ts i g views env es) in
-                  let r2 = held_push l ok.0 y (covers loads) g env h (λ cs z q. loaded_held l loads (at_index i f) n1 cs q) r in (
+                  let es2 = all_push l item ts2 ok.0 x y g views env (loaded_shows l item ins ts2 loads ok.0 (view_at (LoopVariable depth) e) (at_index i f) n1 ok.3 c) (all_within l item ts i g views env es) in
+                  let r2 = held_push l item ok.0 y (covers loads) g env h (λ cs z q. loaded_held l item loads (at_index i f) n1 cs q) r in (
                     inner,
-                    loaded_is l ins ts2 loads ok.0 (view_at (LoopVariable depth) e) (at_index i f) n1 inner ok.3 c,
-                    written_is b ts2 (suc depth) (push ok.0 g) views2 (push y env) (push (covers loads) h) (a + private_count xs) (n1 + load_count loads) ok.1 (view_at (LoopVariable depth) v) (at_index i w) End d2 ok.5 nm.1 sd.1 es2 (all_within l ts i src sins ins gs) r2
-                        (turned_cells l ts depth i len ok.1 v w d lt ok.2 cells2),
+                    loaded_is l item ins ts2 loads ok.0 (view_at (LoopVariable depth) e) (at_index i f) n1 inner ok.3 c,
+                    written_is b ts2 (suc depth) (push ok.0 g) views2 (push y env) (push (covers loads) h) (a + private_count xs) (n1 + load_count loads) ok.1 (view_at (LoopVariable depth) v) (at_index i w) End d2 ok.5 nm.1 sd.1 es2 (all_within l item ts i src sins ins gs) r2
+                        (turned_cells l item ts depth i len ok.1 v w d lt ok.2 cells2),
                   ),
             ),
           )
@@ -457,29 +457,29 @@ module _ (l : Launch) {A : Type 0} (num : A → ℕ) (spell : A → Formula) (sp
           let assign = print_assigned yt (sign_exprs views n1 s) n2 loop in
           let start = print_element views n1 s assign in
           let p = gathered_is xs ts depth g views env h a n (ArrayOf len ok.0) start d ok.4 nm.0 sd es gs r in
-          let cells2 = subst (λ z. HasCells l ts z v w) ok.7 cells in (
+          let cells2 = subst (λ z. HasCells l item ts z v w) ok.7 cells in (
             start,
             assign,
             loop,
             last,
             p.0,
-            element_is l ins num src ts s g views env h n1 yt assign ok.5 nm.2 es r,
-            assigned_is l ins yt (exprs env n1 s) (sign_exprs views n1 s) n2 loop ok.3 (λ cs z. exprs_same l num src ts s g views env n1 yt cs ok.5 z es) (λ cs z. defined l num src s g env h n1 yt cs ok.5 z (nm.1 cs z) r),
+            element_is l item ins num src ts s g views env h n1 yt assign ok.5 nm.2 es r,
+            assigned_is l item ins yt (exprs env n1 s) (sign_exprs views n1 s) n2 loop ok.3 (λ cs z. exprs_same l item num src ts s g views env n1 yt cs ok.5 z es) (λ cs z. defined l item num src s g env h n1 yt cs ok.5 z (nm.1 cs z) r),
             (
               spell z0,
               body,
               refl,
               (spelled z0 ok.1).0,
-              λ i lt.
-                  turn_is (ts ++ i ∷ []) g views env h loads ok.0 yt (view_at (LoopVariable depth) e) (at_index i f) n2 b ok.2 ok.3 ok.6 nm.3 nm.4 (turned_cells l ts depth i len ok.0 e f d lt ok.1 p.1) (all_within l ts i g views env es) r,
+              λ i lt own.
+                  turn_is (ts ++ i ∷ []) g views env h loads ok.0 yt (view_at (LoopVariable depth) e) (at_index i f) n2 b ok.2 ok.3 ok.6 nm.3 nm.4 (turned_cells l item ts depth i len ok.0 e f d lt ok.1 p.1) (all_within l item ts i g views env es) r,
             ),
-            stored_is l ins ts yt (λ cs. held (held_marks yt n2 cs [])) (λ cs. held_sign (held_view yt n2 cs [])) (at_index 0 w) (view_at (Number 0) v) rest ok.3
-                (λ cs z. bound_same l ts yt (held_view yt n2) (held_marks yt n2) cs z (held_shows l ts yt n2 ok.3)) (λ cs z. held_all l yt n2 cs z) (first_cells l ts yt v w cells2),
+            stored_is l item ins ts yt (λ cs. held (held_marks yt n2 cs [])) (λ cs. held_sign (held_view yt n2 cs [])) (at_index 0 w) (view_at (Number 0) v) rest ok.3
+                (λ cs z. bound_same l item ts yt (held_view yt n2) (held_marks yt n2) cs z (held_shows l item ts yt n2 ok.3)) (λ cs z. held_all l item yt n2 cs z) (first_cells l item ts yt v w cells2),
           )
       written_is _ ts depth g views env h a n ty v w rest d ok nm sd es gs r cells = absurd sd
 
-    pub over_launch_is : (t : Term A) (g : ℕ → Ty) (views : ℕ → View) (env : ℕ → Marks) (h : ℕ → List Bool → Bool) (a n : ℕ) (ty : Ty) (v : View) (w : Marks) (rest : Code) → HasType num src g t ty → LoadsSuffice h t → StandsOverLaunch t → AllShow l [] g views env → AllShow l [] src sins ins → HeldIn l g env h → HasCells l [] ty v w
-        → IsOverLaunch l ins num env a n t w (print_written spell sins 0 views a n t v rest) rest
+    pub over_launch_is : (t : Term A) (g : ℕ → Ty) (views : ℕ → View) (env : ℕ → Marks) (h : ℕ → List Bool → Bool) (a n : ℕ) (ty : Ty) (v : View) (w : Marks) (rest : Code) → HasType num src g t ty → LoadsSuffice h t → StandsOverLaunch t → AllShow l item [] g views env → AllShow l item [] src sins ins → HeldIn l item g env h → HasCells l item [] ty v w
+        → IsOverLaunch l item ins num env a n t w (print_written spell sins 0 views a n t v rest) rest
     over_launch_is (Reshape y t) g views env h a n ty v w rest ok nm sd es gs r cells =
         (sd.0, over_launch_is t g views env h a n ok.0 (λ cs is. v cs (result_indices spell y is)) (λ cs q. w cs (result_position num y q)) rest ok.1 nm sd.1 es gs r (back_cells [] y ok.0 ty v w sd.0 ok.2 ok.3 ok.4 cells))
     over_launch_is (LetArray x b) g views env h a n ty v w rest ok nm sd es gs r cells =
@@ -487,7 +487,7 @@ module _ (l : Launch) {A : Type 0} (num : A → ℕ) (spell : A → Formula) (sp
         let f = argument_marks l ins num env a x in
         let next = print_written spell sins 0 (push e views) (a + private_count x) (n + variable_count x) b v rest in
         let p = gathered_is x [] 0 g views env h a n ok.0 next refl ok.1 nm.0 sd.0 es gs r in
-        (next, p.0, over_launch_is b (push ok.0 g) (push e views) (push f env) (push (held_scalars h x) h) (a + private_count x) (n + variable_count x) ty v w rest ok.2 nm.1 sd.1 (all_push l [] ok.0 e f g views env p.1 es) gs (held_push l ok.0 f (held_scalars h x) g env h (λ cs i z. kept_is l num src ins x g env h a ok.0 cs ok.1 i z r) r) cells)
+        (next, p.0, over_launch_is b (push ok.0 g) (push e views) (push f env) (push (held_scalars h x) h) (a + private_count x) (n + variable_count x) ty v w rest ok.2 nm.1 sd.1 (all_push l item [] ok.0 e f g views env p.1 es) gs (held_push l item ok.0 f (held_scalars h x) g env h (λ cs i z. kept_is l item num src ins x g env h a ok.0 cs ok.1 i z r) r) cells)
     over_launch_is (Map Global z0 loads xs b) g views env h a n ty v w rest ok nm sd es gs r cells =
         let len = num z0 in
         let e = argument_view spell sins views a xs in
@@ -499,7 +499,7 @@ module _ (l : Launch) {A : Type 0} (num : A → ℕ) (spell : A → Formula) (sp
         let body = print_loaded loads (view_at (LoopVariable 0) e) n1 inner in
         let loop = Loops (start_of Global) (spell z0) (stride_of Global) body rest in
         let p = gathered_is xs [] 0 g views env h a n (ArrayOf len ok.0) loop refl ok.4 nm.0 sd.0 es gs r in
-        let cells2 = subst (λ z. HasCells l [] z v w) ok.6 cells in (
+        let cells2 = subst (λ z. HasCells l item [] z v w) ok.6 cells in (
           loop,
           p.0,
           (
@@ -507,16 +507,16 @@ module _ (l : Launch) {A : Type 0} (num : A → ℕ) (spell : A → Formula) (sp
             body,
             refl,
             (spelled z0 ok.2).0,
-            λ i lt.
+            λ i lt own.
                 let ts2 = [] ++ i ∷ [] in
                 let y = loaded_marks loads (at_index i f) n1 in
-                let c = turned_cells l [] 0 i len ok.0 e f refl lt ok.2 p.1 in
-                let es2 = all_push l ts2 ok.0 x y g views env (loaded_shows l ins ts2 loads ok.0 (view_at (LoopVariable 0) e) (at_index i f) n1 ok.3 c) (all_within l [] i g views env es) in
-                let r2 = held_push l ok.0 y (covers loads) g env h (λ cs z q. loaded_held l loads (at_index i f) n1 cs q) r in (
+                let c = turned_cells l item [] 0 i len ok.0 e f refl lt ok.2 p.1 in
+                let es2 = all_push l item ts2 ok.0 x y g views env (loaded_shows l item ins ts2 loads ok.0 (view_at (LoopVariable 0) e) (at_index i f) n1 ok.3 c) (all_within l item [] i g views env es) in
+                let r2 = held_push l item ok.0 y (covers loads) g env h (λ cs z q. loaded_held l item loads (at_index i f) n1 cs q) r in (
                   inner,
-                  loaded_is l ins ts2 loads ok.0 (view_at (LoopVariable 0) e) (at_index i f) n1 inner ok.3 c,
-                  written_is b ts2 1 (push ok.0 g) views2 (push y env) (push (covers loads) h) (a + private_count xs) (n1 + load_count loads) ok.1 (view_at (LoopVariable 0) v) (at_index i w) End refl ok.5 nm.1 sd.1 es2 (all_within l [] i src sins ins gs) r2
-                      (turned_cells l [] 0 i len ok.1 v w refl lt ok.2 cells2),
+                  loaded_is l item ins ts2 loads ok.0 (view_at (LoopVariable 0) e) (at_index i f) n1 inner ok.3 c,
+                  written_is b ts2 1 (push ok.0 g) views2 (push y env) (push (covers loads) h) (a + private_count xs) (n1 + load_count loads) ok.1 (view_at (LoopVariable 0) v) (at_index i w) End refl ok.5 nm.1 sd.1 es2 (all_within l item [] i src sins ins gs) r2
+                      (turned_cells l item [] 0 i len ok.1 v w refl lt ok.2 cells2),
                 ),
           ),
         )

@@ -1,6 +1,6 @@
 -- Kernels printed for a program's typed term: they keep what they owe, they may be started, and the
 -- printer's kernel is one.
-use Rattle.std.proofs.Common.{◌≡◌, ℕ, zero, suc, ◌+◌, ◌*◌, ◌/◌, ◌%◌, ◌-◌, ◌<◌, ◌≤◌, Bool, List, [], ◌∷◌, ◌++◌, length, get_or, Some, refl, sym, ap, ◌∙◌, subst, pos, ◌≤ℤ◌, arith, length-append}
+use Rattle.std.proofs.Common.{◌≡◌, ℕ, zero, suc, ◌+◌, ◌*◌, ◌/◌, ◌%◌, ◌-◌, ◌<◌, ◌≤◌, ◌^◌, Bool, List, [], ◌∷◌, ◌++◌, length, get_or, Some, refl, sym, ap, ◌∙◌, subst, pos, ◌≤ℤ◌, arith, length-append}
 use Rattle.std.specs.Prelude.{map, slice_get, slice_index}
 use Rattle.std.proofs.Math.ListN.{get_or-append}
 use Rattle.std.proofs.Math.Seq.{get_or-append_right}
@@ -22,11 +22,14 @@ use Rattle.lift_tree.specs.Launches as launches
 use Rattle.lift_tree.specs.Launches.{IsAdmissibleLaunch, buffers_of}
 use Rattle.lift_tree.proofs.Members.{length-map}
 use Rattle.kernel_tree.specs.Code.{Array, Input, Output, Local, Private, Kernel}
-use Rattle.kernel_tree.specs.Launch.{Launch, Cells, IsWhole}
+use Rattle.kernel_tree.specs.Grammar.{largest_group}
+use Rattle.kernel_tree.specs.Launch as kernel_launch
+use Rattle.kernel_tree.specs.Launch.{Launch, Cells, IsWhole, HasLocal}
 use Rattle.kernel_tree.specs.Device.{State, IsStart, row, length_in, device_of}
 use Rattle.kernel_tree.specs.Item.{Item, item}
 use Rattle.kernel_tree.specs.Histories.{history}
 use Rattle.kernel_tree.specs.Alike.{Enacts, GoesAlike}
+use Rattle.kernel_tree.proofs.Grouping.{flat_items}
 use Rattle.kernel_tree.proofs.Alike.{goes_alike}
 use Rattle.lift_ir.specs.Types.{Ty, Scalar, ArrayOf, IsPosition, IsPlaced, component, flat, width, measured, IsFlat}
 use Rattle.lift_ir.specs.Terms.{HasType, no_type}
@@ -132,9 +135,19 @@ buffers_count ys (b ∷ tys) (v ∷ vs) all h =
 
 -- launches
 
-pub whole : (l : Launch) (is_task : Bool) (names : List Name) (bases : List ℕ) → IsAdmissibleLaunch names is_task bases l.global l.local → IsWhole l
-whole l is_task names bases h = let a = h.local_least in let b = h.divides in record { positive = omega arith; divides = parts l.global l.local b (omega arith) }
+pub whole : (l : Launch) (is_task : Bool) (names : List Name) (bases : List ℕ) → kernel_launch.IsFlat l → IsAdmissibleLaunch names is_task bases l.global.0 l.local.0 → IsWhole l
+whole l is_task names bases flat h =
+    let a = h.local_least in
+    let b = h.divides in
+    let c = flat.one_local_row in
+    record {
+      x = record { positive = omega arith; divides = parts l.global.0 l.local.0 b (omega arith) };
+      y = record { positive = omega arith; divides = one_group l.global.1 l.local.1 c };
+    }
   where
+    one_group : (g n : ℕ) → n ≡ 1 → g ≡ g / n * n
+    one_group g n e = subst (λ m. g ≡ g / m * m) (sym e) (let z : g ≡ g / 1 * 1 = omega arith in z)
+
     parts : (g n : ℕ) → g % n ≡ 0 → 0 < n → g ≡ g / n * n
     parts g n e h = omega arith
 
@@ -226,9 +239,10 @@ module _ (d : Declared) (is_task : Bool) (w : World) (t : Tree) (a : Annotation)
 
   is_printed : (k : Kernel) → Prints d w.bases t a l k → IsPrinted l num src (input_marks num (first_buffer d.inputs) (input_shape d.inputs)) sources low result k c
   is_printed k printed = record {
-    whole = whole l is_task d.names w.bases launch.admissible;
-    some = let z = launch.admissible.global_least in omega arith;
-    few = let z = launch.admissible.global_most in omega arith;
+    whole = whole l is_task d.names w.bases launch.flat launch.admissible;
+    flat = launch.flat;
+    some = subst (λ n. 0 < n) (sym (flat_items l launch.flat)) (let z = launch.admissible.global_least in omega arith);
+    few = subst (λ n. n < 2 ^ 31) (sym (flat_items l launch.flat)) (let z = launch.admissible.global_most in omega arith);
     typed = has;
     flat_type = flat_type;
     code = printed.code;
@@ -254,14 +268,14 @@ module _ (d : Declared) (is_task : Bool) (w : World) (t : Tree) (a : Annotation)
     states = record {
       items = λ j lt.
           let vars : start.vars j ≡ begin.vars j = sym (ap Item.vars (start.items j lt)) ∙ same.variables j lt ∙ ap Item.vars (begin.items j lt) in
-          subst (λ z. AlikeItems l z (r.items j)) (sym (start.items j lt)) (subst (λ z. AlikeItems l (item k.code [] (start.vars j)) z) (sym (begin.items j lt)) (record { code = codes_alike num l (input_marks num (first_buffer d.inputs) (input_shape d.inputs)) low result k.code m.code one.code two.code; frames = tt; vars = vars }));
+          subst (λ z. AlikeItems l j z (r.items j)) (sym (start.items j lt)) (subst (λ z. AlikeItems l j (item k.code [] (start.vars j)) z) (sym (begin.items j lt)) (record { code = codes_alike num l (input_marks num (first_buffer d.inputs) (input_shape d.inputs)) low result k.code m.code one.code two.code j lt; frames = tt; vars = vars }));
       memory = same.memory;
       epochs = λ g f. start.epochs g f ∙ sym (begin.epochs g f);
     }
 
     go_alike : GoesAlike (device_of k l c) s (device_of m l c) r
     go_alike =
-        let whole_launch = whole l is_task d.names w.bases launch.admissible in
+        let whole_launch = whole l is_task d.names w.bases launch.flat launch.admissible in
         let full = completed num l src (input_marks num (first_buffer d.inputs) (input_shape d.inputs)) sources low result k c (is_printed k one) s start in
         let told : Enacts (device_of k l c) s (history (device_of k l c) s full.0) = record { events = full.0; completes = full.1; acts = λ j lt. refl } in
         let again : Enacts (device_of m l c) r (history (device_of k l c) s full.0) = record {
@@ -276,9 +290,10 @@ printed_programs_keep d is_task w t a l k c program ok launch buffers printed = 
 
 pub printed_programs_start : PrintedProgramsStart
 printed_programs_start d is_task w t a l k c program ok launch buffers printed = record {
-  whole = whole l is_task d.names w.bases launch.admissible;
-  small_groups = launch.admissible.local_most;
-  few_items = launch.admissible.global_most;
+  whole = whole l is_task d.names w.bases launch.flat launch.admissible;
+  small_groups = subst (λ n. l.local.0 * n ≤ largest_group) (sym launch.flat.one_local_row) (let z = launch.admissible.local_most in omega arith);
+  few_items = subst (λ n. n ≤ 65536) (sym (flat_items l launch.flat)) launch.admissible.global_most;
+  local = subst (λ size. HasLocal size l) (sym printed.local) tt;
   sizes = ap length launch.sizes ∙ sizes_count d.names w.bases launch.admissible.sizes ∙ sym printed.sizes;
   ins = ap length buffers.inputs ∙ buffers_count w.bases d.inputs w.inputs program.declared.arrays ok.inputs ∙ sym printed.inputs;
   outs = sym (length-map length c.outs) ∙ ap length buffers.outputs ∙ length-map length (launches.lists_of (type_in a) (meaning w [] t)) ∙ lists_length w.bases (type_in a) (meaning w [] t) ∙ sym printed.outputs;
@@ -298,6 +313,8 @@ programs_are_printed d is_task bases t a l spell program launch staged stands pl
       locals = refl;
       privates = refl;
       variables = refl;
+      vectors = refl;
+      local = refl;
       code =
           subst (λ z. IsCode l (input_marks num (first_buffer d.inputs) (input_shape d.inputs)) num low z (kernel_code spell (first_buffer d.inputs) (input_shape d.inputs) low (shape_of (type_in a)))) same
           (code_is (List Monomial) l num spell spelled (first_buffer d.inputs) (input_shape d.inputs) low (shape_of (type_in a)) stands (subst (λ z. HasType num src no_type low z) (sym same) has) (names_suffice d bases t a program.nodes program.lowerable staged) placed.0 (inputs_placed bases d.inputs placed.1));

@@ -1,13 +1,13 @@
 -- Stretches of one item, one after another.
 use Rattle.std.proofs.Common.{◌≡◌, ℕ, ◌≤◌, Bool, true, List, [], ◌∷◌, ◌++◌, Option, refl, sym, ap, ◌∙◌, subst, ⊎_elim, inl, inr, arith}
-use Rattle.std.specs.Prelude.{slice_set, if◌then◌else◌}
+use Rattle.std.specs.Prelude.{◌+◌, if◌then◌else◌}
 use Rattle.std.proofs.lemmas.List.{get_or-set_other, length-set}
-use Rattle.kernel_tree.specs.Formula.{Formula}
+use Rattle.kernel_tree.specs.Formula.{Formula, Vars, set_word}
 use Rattle.kernel_tree.specs.Code.{Array, Input, Output, Local, Private, Code}
 use Rattle.kernel_tree.specs.Item.{Frame, item}
-use Rattle.kernel_tree.specs.Device.{Cell, cell_at, Memory, same_cell}
-use Rattle.kernel_tree.specs.Deeds.{Deed, Moved, Got, Gave, WritesTo, written}
-use Rattle.kernel_tree.specs.Independent.{Owners, IsAllowed, Agrees, write_count}
+use Rattle.kernel_tree.specs.Device.{Cell, behind, cell_at, Memory, same_cell}
+use Rattle.kernel_tree.specs.Deeds.{Deed, Moved, Got, Gave, GotFour, GaveFour, WritesTo, written}
+use Rattle.kernel_tree.specs.Independent.{Owners, IsAllowed, Agrees, one_if_same, write_count}
 use Rattle.kernel_tree.proofs.Confluence.{same_cell-itself}
 use Rattle.kernel_tree.proofs.Deeds.{goes_on}
 use Rattle.kernel_tree.proofs.Independent.{written-same, written-append, written-kept}
@@ -19,17 +19,17 @@ use Rattle.printed_form.specs.Runs.{Setting, Known, Kept, IsFilled, Later, Holds
 
 -- variables
 
-pub kept : (n : ℕ) (a : List ℕ) → Kept n a a
-kept n a = record { long = refl; same = λ v lt. refl }
+pub kept : (n : ℕ) (a : Vars) → Kept n a a
+kept n a = record { long = refl; same = λ v lt. refl; vectors = refl }
 
-pub kept_on : (n k : ℕ) (a b c : List ℕ) → n ≤ k → Kept n a b → Kept k b c → Kept n a c
-kept_on n k a b c le x y = record { long = y.long ∙ x.long; same = λ v lt. y.same v (omega arith) ∙ x.same v lt }
+pub kept_on : (n k : ℕ) (a b c : Vars) → n ≤ k → Kept n a b → Kept k b c → Kept n a c
+kept_on n k a b c le x y = record { long = y.long ∙ x.long; same = λ v lt. y.same v (omega arith) ∙ x.same v lt; vectors = y.vectors ∙ x.vectors }
 
-pub kept_set : (n v x : ℕ) (a : List ℕ) → n ≤ v → Kept n a (slice_set a v x)
-kept_set n v x a le = record { long = length-set a v x; same = λ w lt. get_or-set_other a v w x 0 (λ e. absurd (omega arith)) }
+pub kept_set : (n v x : ℕ) (a : Vars) → n ≤ v → Kept n a (set_word a v x)
+kept_set n v x a le = record { long = length-set a.words v x; same = λ w lt. get_or-set_other a.words v w x 0 (λ e. absurd (omega arith)); vectors = refl }
 
-pub kept_less : (n k : ℕ) (a b : List ℕ) → n ≤ k → Kept k a b → Kept n a b
-kept_less n k a b le x = record { long = x.long; same = λ v lt. x.same v (omega arith) }
+pub kept_less : (n k : ℕ) (a b : Vars) → n ≤ k → Kept k a b → Kept n a b
+kept_less n k a b le x = record { long = x.long; same = λ v lt. x.same v (omega arith); vectors = x.vectors }
 
 -- what is known
 
@@ -72,18 +72,34 @@ module _ (st : Setting) where
 
 -- what deeds write
 
+one_here : (b c : Cell) → c ≡ b → one_if_same b c ≡ 1
+one_here b c e = ap (λ y. if y then 1 else 0) (subst (λ x. same_cell b x ≡ true) (sym e) (same_cell-itself b))
+
+here_too : (b c : Cell) → one_if_same b c ≡ 0 → c ≡ b → ⊥
+here_too b c h e = both (one_if_same b c) (one_here b c e) h
+  where
+    both : (n : ℕ) → n ≡ 1 → n ≡ 0 → ⊥
+    both n p q = omega arith
+
+all_none : (p q r s n : ℕ) → (p + (q + (r + s))) + n ≡ 0 → (p ≡ 0) × (q ≡ 0) × (r ≡ 0) × (s ≡ 0) × (n ≡ 0)
+all_none p q r s n h = (omega arith, omega arith, omega arith, omega arith, omega arith)
+
 no-writes : (ds : List Deed) (c : Cell) → write_count c ds ≡ 0 → WritesTo c ds → ⊥
 no-writes [] c h w = w
 no-writes (Moved ∷ ds) c h w = no-writes ds c h w
 no-writes (Got b ∷ ds) c h w = no-writes ds c h w
+no-writes (GotFour b ∷ ds) c h w = no-writes ds c h w
 no-writes (Gave b v ∷ ds) c h w =
     let n : ℕ = if same_cell b c then 1 else 0 in
     ⊎_elim
-    (λ e.
-    let t : same_cell b c ≡ true = subst (λ x. same_cell b x ≡ true) (sym e) (same_cell-itself b) in
-    let z : n ≡ 1 = ap (λ y. if y then 1 else 0) t in
-    omega arith)
+    (λ e. here_too b c (let z : n ≡ 0 = omega arith in z) e)
     (λ r. no-writes ds c (omega arith) r)
+    w
+no-writes (GaveFour b u ∷ ds) c h w =
+    let z = all_none (one_if_same b c) (one_if_same (behind 1 b) c) (one_if_same (behind 2 b) c) (one_if_same (behind 3 b) c) (write_count c ds) h in
+    ⊎_elim
+    (λ i. ⊎_elim (here_too b c z.0) (λ j. ⊎_elim (here_too (behind 1 b) c z.1) (λ m. ⊎_elim (here_too (behind 2 b) c z.2) (λ n. ⊎_elim (here_too (behind 3 b) c z.3) (λ none. none) n) m) j) i)
+    (λ r. no-writes ds c z.4 r)
     w
 
 pub count-kept : (ds : List Deed) (m : Memory) (c : Cell) → write_count c ds ≡ 0 → written ds m c ≡ m c

@@ -1,8 +1,8 @@
 -- Every run of a printed kernel keeps the headline.
-use Rattle.std.proofs.Common.{◌≡◌, ℕ, ◌+◌, ◌-◌, ◌*◌, ◌/◌, ◌%◌, ◌<◌, ◌≤◌, ◌^◌, Bool, List, [], ◌∷◌, ◌++◌, length, Option, Some, None, refl, sym, ap, ◌∙◌, subst, ⊎_elim, inl, arith}
+use Rattle.std.proofs.Common.{◌≡◌, ℕ, ◌+◌, ◌-◌, ◌*◌, ◌/◌, ◌%◌, ◌<◌, ◌≤◌, ◌^◌, Bool, List, [], ◌∷◌, ◌++◌, length, suc, Option, Some, None, refl, sym, ap, ◌∙◌, subst, ⊎_elim, inl, arith}
 use Rattle.std.specs.Prelude.{map, slice_index}
 use Rattle.std.proofs.lemmas.Bool.{cases_lt, and_parts}
-use Rattle.std.proofs.Math.Nat.{mul-div_cancel}
+use Rattle.std.proofs.Math.Nat.{mul-div_cancel, mod-eq_of_lt}
 use Rattle.kernel_tree.specs.declared.events.Event.{Event}
 use Rattle.kernel_tree.specs.Formula.{Formula, bound_value}
 use Rattle.kernel_tree.specs.Code.{Array, Input, Output, Local, Private, Code, End, Kernel}
@@ -15,6 +15,7 @@ use Rattle.kernel_tree.specs.Rounds.{variable_at, Counts}
 use Rattle.kernel_tree.specs.EveryRun.{Completes}
 use Rattle.kernel_tree.proofs.Bound.{within_bound}
 use Rattle.kernel_tree.proofs.Confluence.{same_cell-true}
+use Rattle.kernel_tree.proofs.Grouping.{flat_items}
 use Rattle.kernel_tree.proofs.Independent.{as_allowed}
 use Rattle.kernel_tree.proofs.Stride.{turns_of, turn_below, turn_past, turn_owner, owner_turn, owner_has}
 use Rattle.printed_form.specs.Headline.{output_cell, KeepsHeadline, EveryRunKeeps}
@@ -24,7 +25,7 @@ use Rattle.lift_ir.specs.Layouts.{Layout, operand_position, Reshapes, result_pos
 use Rattle.lift_ir.specs.Scalars.{Scalars, at_index, mapped, scalars_of, no_scalars, AreLists}
 use Rattle.printed_form.specs.Marks.{Mark, Nowhere, Register, Spot, Marks, loaded_marks}
 use Rattle.printed_form.specs.Counts.{variable_count, private_count, load_count}
-use Rattle.printed_form.specs.Form.{argument_marks, Declares}
+use Rattle.printed_form.specs.Form.{argument_marks, IsWritten, Declares}
 use Rattle.printed_form.specs.Runs.{Setting, Known, Scratch, spot_cell, mark_cell, HoldsAt, AllHold, DueAt, Due, Wrote, known_after, Ran}
 use Rattle.lift_ir.specs.Owner.{owner}
 use Rattle.printed_form.specs.Whole.{IsOverLaunch, no_marks, output_marks, IsGiven, IsPrinted}
@@ -40,9 +41,9 @@ use Rattle.printed_form.proofs.Writes.{ran_as, ran_eq, scratch_then, loop_of, in
 
 -- one item's part
 
-module _ {A : Type 0} (num : A → ℕ) (ins : ℕ → Marks) (src : ℕ → Ty) (sources : ℕ → Scalars) (st : Setting) (own : (p i : ℕ) → st.owners (spot_cell st (Private p) i) ≡ Some st.item) (here : st.item < st.device.launch.global) (few : st.device.launch.global < 2 ^ 31) where
+module _ {A : Type 0} (num : A → ℕ) (ins : ℕ → Marks) (src : ℕ → Ty) (sources : ℕ → Scalars) (st : Setting) (own : (p i : ℕ) → st.owners (spot_cell st (Private p) i) ≡ Some st.item) (here : st.item < st.device.launch.global.0) (few : st.device.launch.global.0 < 2 ^ 31) where
   abbrev g : ℕ
-  g = st.device.launch.global
+  g = st.device.launch.global.0
 
   -- the item's own scalars
   abbrev pub OwnTargets : Term A → Ty → Marks → Scalars → Cell → ℕ → Type 0
@@ -90,13 +91,17 @@ module _ {A : Type 0} (num : A → ℕ) (ins : ℕ → Marks) (src : ℕ → Ty)
   own_row : ℕ → ℕ
   own_row t = st.item + t * g
 
+  -- in a row an item's number is its column
+  column : st.item % g ≡ st.item
+  column = mod-eq_of_lt here
+
   glb_counts : (len : ℕ) (f : Formula) (body rest : Code) → len < 2 ^ 31 → bound_value st.device.launch.sizes f ≡ Some len → Counts st.device st.item (loop_of st num ins src sources own Global f body rest) (turns_of len g st.item)
   glb_counts len f body rest small h = record {
     bound = len;
     bound_is = h;
-    below = λ t lt. turn_below len g st.item t here lt;
-    past = turn_past len g st.item here;
-    fits = λ t lt. let a = turn_below len g st.item t here lt in omega arith;
+    below = λ t lt. subst (λ c. c + t * g < len) (sym column) (turn_below len g st.item t here lt);
+    past = subst (λ c. len ≤ c + turns_of len g st.item * g) (sym column) (turn_past len g st.item here);
+    fits = λ t lt. subst (λ c. c + suc t * g < 2 ^ 32) (sym column) (let a = turn_below len g st.item t here lt in omega arith);
   }
 
   rows_differ : (t u : ℕ) → own_row t ≡ own_row u → t ≡ u
@@ -126,7 +131,7 @@ module _ {A : Type 0} (num : A → ℕ) (ins : ℕ → Marks) (src : ℕ → Ty)
 
   row_is : (f : Formula) (body rest : Code) (t : ℕ) → variable_at st.device st.item (loop_of st num ins src sources own Global f body rest) t ≡ own_row t
   unfolding own_row
-  row_is f body rest t = refl
+  row_is f body rest t = ap (λ c. c + t * g) column
 
   row_below : (len t : ℕ) → t < turns_of len g st.item → own_row t < len
   unfolding own_row
@@ -136,8 +141,8 @@ module _ {A : Type 0} (num : A → ℕ) (ins : ℕ → Marks) (src : ℕ → Ty)
   unfolding own_row
   row_mine t = turn_owner g st.item t here
 
-  tops : (t : Term A) (gt : ℕ → Ty) (env : ℕ → Marks) (sems : ℕ → Scalars) (ty : Ty) (w : Marks) (x : Known) (code rest : Code) → HasType num src gt t ty → IsOverLaunch st.device.launch ins num env x.arrays x.count t w code rest
-      → x.count + variable_count t ≤ length x.vars → Declares st.device.lengths x.arrays t → DueOwn (x.arrays + private_count t) t ty w → AllHold st x gt env sems → AllHold st x src ins sources → FillsOwn x code rest t ty w (scalars_of num sources sems t)
+  tops : (t : Term A) (gt : ℕ → Ty) (env : ℕ → Marks) (sems : ℕ → Scalars) (ty : Ty) (w : Marks) (x : Known) (code rest : Code) → HasType num src gt t ty → IsOverLaunch st.device.launch st.item ins num env x.arrays x.count t w code rest
+      → x.count + variable_count t ≤ length x.vars.words → Declares st.device.lengths x.arrays t → DueOwn (x.arrays + private_count t) t ty w → AllHold st x gt env sems → AllHold st x src ins sources → FillsOwn x code rest t ty w (scalars_of num sources sems t)
   tops (Reshape y a) gt env sems ty w x code rest ok h room long due es gs =
       let u = ok.0 in
       let w2 = λ (cs : List Bool) (q : List ℕ). w cs (result_position num y q) in
@@ -149,7 +154,7 @@ module _ {A : Type 0} (num : A → ℕ) (ins : ℕ → Marks) (src : ℕ → Ty)
   tops (LetArray v b) gt env sems ty w x code rest ok h room long due es gs =
       let r = gathers st num ins src sources own v [] [] refl gt env sems ok.0 x code h.0 ok.1 h.1 (omega arith) long.0 es gs in
       let y = known_after x r.deeds r.after (x.count + variable_count v) (x.arrays + private_count v) in
-      let room2 : x.count + variable_count v + variable_count b ≤ length r.after = subst (λ q. x.count + variable_count v + variable_count b ≤ q) (sym r.later.kept.long) (omega arith) in
+      let room2 : x.count + variable_count v + variable_count b ≤ length r.after.words = subst (λ q. x.count + variable_count v + variable_count b ≤ q) (sym r.later.kept.long) (omega arith) in
       let e = argument_marks st.device.launch ins num env x.arrays v in
       let D = scalars_of num sources sems v in
       let a2 = x.arrays + private_count v + private_count b in
@@ -176,7 +181,7 @@ module _ {A : Type 0} (num : A → ℕ) (ins : ℕ → Marks) (src : ℕ → Ty)
       let D = scalars_of num sources sems xs in
       let s = mapped (λ z. scalars_of num sources (push z sems) b) D in
       let count = turns_of len g st.item in
-      let room2 : x.count + variable_count xs + load_count loads + variable_count b ≤ length r.after = subst (λ q. x.count + variable_count xs + load_count loads + variable_count b ≤ q) (sym r.later.kept.long) (omega arith) in
+      let room2 : x.count + variable_count xs + load_count loads + variable_count b ≤ length r.after.words = subst (λ q. x.count + variable_count xs + load_count loads + variable_count b ≤ q) (sym r.later.kept.long) (omega arith) in
       let M = Map Global n loads xs b in
       let due1 : DueOwn (x.arrays + (private_count xs + private_count b)) M (ArrayOf len yt) w = subst (λ t. DueOwn (x.arrays + (private_count xs + private_count b)) M t w) ok.6 due in
       let a2 = a1 + private_count b in
@@ -268,17 +273,20 @@ module _ {A : Type 0} (num : A → ℕ) (l : Launch) (src : ℕ → Ty) (ins : �
   abbrev Runs : ℕ → Type 0
   Runs j = Ran (setting j) (known j) [] k.code End (0 + variable_count t) (0 + private_count t) (Scratch 0 (0 + private_count t)) (Mine j) (λ y. Unit {0})
 
-  item_runs : (j : ℕ) → j < l.global → Runs j
+  all_in_a_row : item_count l ≡ l.global.0
+  all_in_a_row = flat_items l h.flat
+
+  item_runs : (j : ℕ) → j < item_count l → Runs j
   item_runs j lt =
-      let room : 0 + variable_count t ≤ length (start.vars j) = (let a = h.variables in let b = start.long j lt in omega arith) in
+      let room : 0 + variable_count t ≤ length (start.vars j).words = (let a = h.variables in let b = start.long j lt in omega arith) in
       ⊎_elim
       (λ z.
       let only = λ (q : List ℕ). (let a = owner_below num l t q h.whole h.some in let b = z.0 in let e : owner num l t q ≡ j = omega arith in e) in
       ran_as (setting j) (known j) [] k.code End (0 + variable_count t) (0 + private_count t) (0 + variable_count t) (0 + private_count t) (λ y. Unit {0}) (omega arith) (omega arith) (λ m vars u. u) (λ b u. u)
       (λ b v u. inl (u.0, u.1, u.2, only u.1, u.3, u.4)) (λ b v u. (u.0, u.1, u.2, u.4, u.5))
-      (writes (setting j) num ins src sources (own j) t [] [] refl no_type no_marks no_scalars ty (output_marks ty) (known j) k.code End h.typed z.1 room declared
+      (writes (setting j) num ins src sources (own j) t [] [] refl no_type no_marks no_scalars ty (output_marks ty) (known j) k.code End h.typed (subst (λ i. IsWritten l i ins num [] no_marks 0 0 t (output_marks ty) k.code End) (let b = z.0 in omega arith) z.1) room declared
       (record { at = λ cs q w. due_at j cs q w (only q); choices = same_choices j; places = same_places j }) (nothing_bound j) (all_given j)))
-      (λ z. tops num ins src sources (setting j) (own j) lt h.few t no_type no_marks no_scalars ty (output_marks ty) (known j) k.code End h.typed z room declared
+      (λ z. tops num ins src sources (setting j) (own j) (subst (λ n. j < n) all_in_a_row lt) (subst (λ n. n < 2 ^ 31) all_in_a_row h.few) t no_type no_marks no_scalars ty (output_marks ty) (known j) k.code End h.typed (z j lt) room declared
       (record { at = λ cs q w o. due_at j cs q w o; choices = same_choices j; places = same_places j }) (nothing_bound j) (all_given j))
       h.code
 
@@ -286,10 +294,10 @@ module _ {A : Type 0} (num : A → ℕ) (l : Launch) (src : ℕ → Ty) (ins : �
   record OneItem (j : ℕ) : Type 0 where
     deeds : List Deed
     end : Item
-    goes : j < l.global → (m : Memory) → Agrees owners j s.memory m → Goes d j (s.items j) m deeds end
-    allowed : j < l.global → Every (IsAllowed owners j) deeds
-    over : j < l.global → next (ids_of l j) end ≡ Ends
-    wrote : j < l.global → Wrote (Scratch 0 (0 + private_count t)) (Mine j) s.memory deeds
+    goes : j < item_count l → (m : Memory) → Agrees owners j s.memory m → Goes d j (s.items j) m deeds end
+    allowed : j < item_count l → Every (IsAllowed owners j) deeds
+    over : j < item_count l → next (ids_of l j) end ≡ Ends
+    wrote : j < item_count l → Wrote (Scratch 0 (0 + private_count t)) (Mine j) s.memory deeds
 
   one_item : (j : ℕ) → OneItem j
   unfolding next
@@ -304,7 +312,7 @@ module _ {A : Type 0} (num : A → ℕ) (l : Launch) (src : ℕ → Ty) (ins : �
         wrote = λ below. r.wrote;
       })
       (λ ge. record { deeds = []; end = s.items j; goes = λ lt. absurd (omega arith); allowed = λ lt. absurd (omega arith); over = λ lt. absurd (omega arith); wrote = λ lt. absurd (omega arith) })
-      (cases_lt j l.global)
+      (cases_lt j (item_count l))
 
   deeds_of : ℕ → List Deed
   deeds_of j = (one_item j).deeds
@@ -328,7 +336,7 @@ module _ {A : Type 0} (num : A → ℕ) (l : Launch) (src : ℕ → Ty) (ins : �
   completed = (the_run, all.completes)
 
   -- an output's cell is written once, or it is none of the value's
-  few_writes : (j a i : ℕ) → j < l.global → owner_of i ≡ j → write_count (output_cell a i) (deeds_of j) ≤ 1
+  few_writes : (j a i : ℕ) → j < item_count l → owner_of i ≡ j → write_count (output_cell a i) (deeds_of j) ≤ 1
   unfolding deeds_of
   few_writes j a i lt o =
       let w = (one_item j).wrote lt in
@@ -349,7 +357,7 @@ module _ {A : Type 0} (num : A → ℕ) (l : Launch) (src : ℕ → Ty) (ins : �
   owner_is a i j b e o = let p : Some (owner_of i) ≡ Some j = ap owners (sym e) ∙ o in cc
 
   module _ (lists : List (List ℕ)) (shape : map length lists ≡ map length c.outs) (listed : AreLists ty value lists) where
-    in_range : (i : ℕ) → owner_of i < l.global
+    in_range : (i : ℕ) → owner_of i < item_count l
     in_range i = owner_below num l t (unflat ty i) h.whole h.some
 
     -- a scalar of the lists is its owner's

@@ -1,7 +1,7 @@
 -- An item runs the code of a term in writing position: each of its scalars is written once, and
 -- nothing else but private copies.
 use Rattle.std.proofs.Common.{◌≡◌, ℕ, suc, ◌+◌, ◌*◌, ◌<◌, ◌≤◌, ◌^◌, Bool, true, false, List, [], ◌∷◌, ◌++◌, length, Some, refl, sym, ap, ◌∙◌, subst, ◌⊎◌, ⊎_elim, inl, inr, arith}
-use Rattle.kernel_tree.specs.Formula.{Formula, bound_value}
+use Rattle.kernel_tree.specs.Formula.{Formula, Vars, bound_value}
 use Rattle.kernel_tree.specs.Code.{Array, Input, Output, Local, Private, FromZero, ByOne, Code, End}
 use Rattle.kernel_tree.specs.Item.{Frame, loop_variables}
 use Rattle.kernel_tree.specs.Device.{Cell, Memory}
@@ -33,7 +33,7 @@ between_more a b c d (Private n) p q h = (let z = h.0 in omega arith, let z = h.
 module _ (st : Setting) where
   -- the same stretch, otherwise described
   pub ran_as : {S S2 : Cell → Type 0} {T T2 : Cell → ℕ → Type 0} {G : Known → Type 0} (x : Known) (fs : List Frame) (code rest : Code) (n1 a1 n2 a2 : ℕ) (H : Known → Type 0) → x.count ≤ n2 → x.arrays ≤ a2
-      → ((m : Memory) (vars : List ℕ) → G (record { memory = m; vars = vars; count = n1; arrays = a1 }) → H (record { memory = m; vars = vars; count = n2; arrays = a2 }))
+      → ((m : Memory) (vars : Vars) → G (record { memory = m; vars = vars; count = n1; arrays = a1 }) → H (record { memory = m; vars = vars; count = n2; arrays = a2 }))
       → ((c : Cell) → S c → S2 c) → ((c : Cell) (v : ℕ) → T c v → T2 c v ⊎ S2 c) → ((c : Cell) (v : ℕ) → T2 c v → T c v)
       → Ran st x fs code rest n1 a1 S T G → Ran st x fs code rest n2 a2 S2 T2 H
   ran_as x fs code rest n1 a1 n2 a2 H le le2 up scratch fwd bwd h =
@@ -160,7 +160,7 @@ module _ (st : Setting) {A : Type 0} (num : A → ℕ) (ins : ℕ → Marks) (sr
   loop_of kind e body rest = record { start = start_of kind; bound = e; stride = stride_of kind; body = body; after = rest }
 
   -- what is known at a turn, once its element is loaded
-  abbrev pub in_turn : Known → LoadSet → Memory → List ℕ → Known
+  abbrev pub in_turn : Known → LoadSet → Memory → Vars → Known
   in_turn x loads m vars = record { memory = m; vars = vars; count = x.count + load_count loads; arrays = x.arrays }
 
   -- a map, of any kind, by what its body does: its turns fill the rows `row 0`, `row 1` ..
@@ -169,14 +169,14 @@ module _ (st : Setting) {A : Type 0} (num : A → ℕ) (ins : ℕ → Marks) (sr
       → ((f : Formula) (body : Code) → bound_value st.device.launch.sizes f ≡ Some len → Counts st.device st.item (loop_of kind f body rest) count)
       → ((f : Formula) (body : Code) (t : ℕ) → variable_at st.device st.item (loop_of kind f body rest) t ≡ row t) → ((t : ℕ) → t < count → row t < len) → ((t u : ℕ) → row t ≡ row u → t ≡ u)
       → LoadsScalars loads xt → PlacesDiffer st row y w D (ArrayOf len y) → ((t : ℕ) → t < count → Due st (x.arrays + private_count b) y (at_index (row t) w))
-      → IsLoop st.device.launch ins kind len
-      (λ i body. (inner : Code) × IsLoaded st.device.launch ins (ts ++ i ∷ []) loads (at_index i e) x.count body inner
-      × IsWritten st.device.launch ins num (ts ++ i ∷ []) (push (loaded_marks loads (at_index i e) x.count) env) x.arrays (x.count + load_count loads) b (at_index i w) inner End)
+      → IsLoop st.device.launch st.item ins kind len
+      (λ i body. (inner : Code) × IsLoaded st.device.launch st.item ins (ts ++ i ∷ []) loads (at_index i e) x.count body inner
+      × IsWritten st.device.launch st.item ins num (ts ++ i ∷ []) (push (loaded_marks loads (at_index i e) x.count) env) x.arrays (x.count + load_count loads) b (at_index i w) inner End)
       code rest
-      → x.count + load_count loads + variable_count b ≤ length x.vars → Holds st x (ArrayOf len xt) e D → AllHold st x g env sems → AllHold st x src ins sources
-      → ((i : ℕ) → i < len → (m : Memory) (vars : List ℕ) (fs2 : List Frame) (inner : Code) → loop_variables fs2 ≡ ts ++ i ∷ []
-      → IsWritten st.device.launch ins num (ts ++ i ∷ []) (push (loaded_marks loads (at_index i e) x.count) env) x.arrays (x.count + load_count loads) b (at_index i w) inner End
-      → x.count + load_count loads + variable_count b ≤ length vars → Due st (x.arrays + private_count b) y (at_index i w)
+      → x.count + load_count loads + variable_count b ≤ length x.vars.words → Holds st x (ArrayOf len xt) e D → AllHold st x g env sems → AllHold st x src ins sources
+      → ((i : ℕ) → i < len → (m : Memory) (vars : Vars) (fs2 : List Frame) (inner : Code) → loop_variables fs2 ≡ ts ++ i ∷ []
+      → IsWritten st.device.launch st.item ins num (ts ++ i ∷ []) (push (loaded_marks loads (at_index i e) x.count) env) x.arrays (x.count + load_count loads) b (at_index i w) inner End
+      → x.count + load_count loads + variable_count b ≤ length vars.words → Due st (x.arrays + private_count b) y (at_index i w)
       → AllHold st (in_turn x loads m vars) (push xt g) (push (loaded_marks loads (at_index i e) x.count) env) (push (at_index i D) sems) → AllHold st (in_turn x loads m vars) src ins sources
       → Fills (in_turn x loads m vars) fs2 inner End b y (at_index i w) (scalars_of num sources (push (at_index i D) sems) b))
       → x.count ≤ n2 → x.arrays ≤ a2
@@ -207,7 +207,7 @@ module _ (st : Setting) {A : Type 0} (num : A → ℕ) (ins : ℕ → Marks) (sr
           let z = at x m vars in
           let fs2 = frame_of st.device st.item (loop_of kind h.0 h.1 rest) t ∷ fs in
           let at2 : loop_variables fs2 ≡ ts ++ i ∷ [] = ap (λ q. q ++ variable_at st.device st.item (loop_of kind h.0 h.1 rest) t ∷ []) at_ts ∙ ap (λ q. ts ++ q ∷ []) (row_is h.0 h.1 t) in
-          let k = h.4 i lt2 in
+          let k = h.4 i lt2 (t, sym (row_is h.0 h.1 t)) in
           let el : Holds st z xt (at_index i e) (at_index i D) = λ cs q a. holds_later st x z (ArrayOf len xt) e D later holds cs (i ∷ q) (lt2, a) in
           let long = subst (λ q. x.count + load_count loads + variable_count b ≤ q) (sym later.kept.long) room in
           let r = loads_run st (ts ++ i ∷ []) fs2 at2 ins loads xt (at_index i e) (at_index i D) z h.1 k.0 suits k.1 (omega arith) el in
@@ -223,12 +223,12 @@ module _ (st : Setting) {A : Type 0} (num : A → ℕ) (ins : ℕ → Marks) (sr
     abbrev pub step : ℕ → Scalars → Scalars
     step t acc = scalars_of num sources (push (at_index t D) (push acc sems)) b
 
-    abbrev pub Accumulates : ℕ → Memory → List ℕ → Type 0
+    abbrev pub Accumulates : ℕ → Memory → Vars → Type 0
     Accumulates t m vars = Holds st (record { memory = m; vars = vars; count = x.count + width ty; arrays = x.arrays }) ty (held_marks ty x.count) (folded step S0 t)
 
     pub fold_run : len < 2 ^ 31 → LoadsScalars loads xt → HasType num src (push xt (push ty g)) b ty
-        → IsLoop st.device.launch ins Sequential len (λ i body. IsFoldTurn st.device.launch ins (ts ++ i ∷ []) env loads ty (at_index i e) x.count b body) code rest
-        → x.count + width ty + load_count loads + let_variables b + temporaries ty ≤ length x.vars → Holds st x (ArrayOf len xt) e D → AllHold st x g env sems → Accumulates 0 x.memory x.vars
+        → IsLoop st.device.launch st.item ins Sequential len (λ i body. IsFoldTurn st.device.launch st.item ins (ts ++ i ∷ []) env loads ty (at_index i e) x.count b body) code rest
+        → x.count + width ty + load_count loads + let_variables b + temporaries ty ≤ length x.vars.words → Holds st x (ArrayOf len xt) e D → AllHold st x g env sems → Accumulates 0 x.memory x.vars
         → Ran st x fs code rest (x.count + width ty) x.arrays nothing no_target (λ y. Accumulates len y.memory y.vars)
     fold_run small suits ok h room holds es start =
         subst (λ c. Ran st x fs c rest (x.count + width ty) x.arrays nothing no_target (λ y. Accumulates len y.memory y.vars)) (sym h.2)
@@ -244,14 +244,14 @@ module _ (st : Setting) {A : Type 0} (num : A → ℕ) (ins : ℕ → Marks) (sr
             let eq : 0 + t * 1 ≡ t = omega arith in
             let ts2 = ts ++ t ∷ [] in
             let at2 : loop_variables fs2 ≡ ts2 = ap (λ q. q ++ (0 + t * 1) ∷ []) at_ts ∙ ap (λ q. ts ++ q ∷ []) eq in
-            let k = h.4 t lt in
+            let k = h.4 t lt (t, sym eq) in
             let acc = folded step S0 t in
             let el : Holds st z1 xt (at_index t e) (at_index t D) = λ cs q a. holds_later st x z1 (ArrayOf len xt) e D up holds cs (t ∷ q) (lt, a) in
-            let long : x.count + width ty + load_count loads + let_variables b + temporaries ty ≤ length vars = subst (λ q. x.count + width ty + load_count loads + let_variables b + temporaries ty ≤ q) (sym later.kept.long) room in
+            let long : x.count + width ty + load_count loads + let_variables b + temporaries ty ≤ length vars.words = subst (λ q. x.count + width ty + load_count loads + let_variables b + temporaries ty ≤ q) (sym later.kept.long) room in
             let r = loads_run st ts2 fs2 at2 ins loads xt (at_index t e) (at_index t D) z1 h.1 k.0 suits k.2 (omega arith) el in
             let n2 = n1 + load_count loads in
             let z2 = known_after z1 r.deeds r.after n2 x.arrays in
-            let long2 : x.count + width ty + load_count loads + let_variables b + temporaries ty ≤ length r.after = subst (λ q. x.count + width ty + load_count loads + let_variables b + temporaries ty ≤ q) (sym r.later.kept.long) long in
+            let long2 : x.count + width ty + load_count loads + let_variables b + temporaries ty ≤ length r.after.words = subst (λ q. x.count + width ty + load_count loads + let_variables b + temporaries ty ≤ q) (sym r.later.kept.long) long in
             let es2 = all_hold_push st z2 ty (held_marks ty x.count) acc g env sems (holds_later st z1 z2 ty (held_marks ty x.count) acc r.later inv) (all_hold_later st x z2 g env sems (later_on st x z1 z2 up r.later) es) in
             let es3 = all_hold_push st z2 xt (loaded_marks loads (at_index t e) n1) (at_index t D) (push ty g) (push (held_marks ty x.count) env) (push acc sems) r.good es2 in
             let env3 = push (loaded_marks loads (at_index t e) n1) (push (held_marks ty x.count) env) in
@@ -261,7 +261,7 @@ module _ (st : Setting) {A : Type 0} (num : A → ℕ) (ins : ℕ → Marks) (sr
             let V = λ (y : Known). Values st ts2 (from y n3 x.arrays) ty (exprs env3 n2 b) (step t acc) in
             let ra = ran_from st z1 fs2 h.1 k.1 x.count x.arrays n3 x.arrays x.count x.arrays V (omega arith) (omega arith) (omega arith) (omega arith) (λ m2 vars2 v. v) r12 in
             let y = known_after z ra.deeds ra.after x.count x.arrays in
-            let long3 : n3 + temporaries ty ≤ length ra.after = subst (λ q. n3 + temporaries ty ≤ q) (sym ra.later.kept.long) long in
+            let long3 : n3 + temporaries ty ≤ length ra.after.words = subst (λ q. n3 + temporaries ty ≤ q) (sym ra.later.kept.long) long in
             let rc = again_run st ts2 fs2 at2 ty (exprs env3 n2 b) (step t acc) x.count (from y n3 x.arrays) k.1 End (omega arith) k.4 long3 ra.good in
             ran_from st z fs2 h.1 End x.count x.arrays (x.count + width ty) x.arrays (x.count + width ty) x.arrays (λ q. Accumulates (suc t) q.memory q.vars) (omega arith) (omega arith) (omega arith) (omega arith) (λ m2 vars2 v. v)
             (ran_on st z fs2 h.1 k.1 End x.count x.arrays (x.count + width ty) x.arrays after_silence ra rc)
@@ -270,12 +270,12 @@ module _ (st : Setting) {A : Type 0} (num : A → ℕ) (ins : ℕ → Marks) (sr
   abbrev FoldAfter : ℕ → LoadSet → Ty → (s b : Term A) → List ℕ → (ℕ → Marks) → Marks → Marks → (n : ℕ) → (code rest : Code) → Type 0
   FoldAfter len loads yt s b ts env e w n code rest =
       (mid2 mid3 mid4 : Code) × IsElementWork env n s code mid2 × IsAssigned yt (exprs env n s) (n + let_variables s) mid2 mid3
-      × IsLoop st.device.launch ins Sequential len (λ i body. IsFoldTurn st.device.launch ins (ts ++ i ∷ []) env loads yt (at_index i e) (n + let_variables s) b body) mid3 mid4
-      × IsStored st.device.launch ins ts yt (λ cs. held (held_marks yt (n + let_variables s) cs [])) (at_index 0 w) mid4 rest
+      × IsLoop st.device.launch st.item ins Sequential len (λ i body. IsFoldTurn st.device.launch st.item ins (ts ++ i ∷ []) env loads yt (at_index i e) (n + let_variables s) b body) mid3 mid4
+      × IsStored st.device.launch st.item ins ts yt (λ cs. held (held_marks yt (n + let_variables s) cs [])) (at_index 0 w) mid4 rest
 
   fold_after : (len : ℕ) (loads : LoadSet) (yt : Ty) (s b : Term A) (ts : List ℕ) (fs : List Frame) → loop_variables fs ≡ ts → (g : ℕ → Ty) (env : ℕ → Marks) (sems : ℕ → Scalars) (xt : Ty) (e w : Marks) (D : Scalars) (x : Known) (code rest : Code)
       → len < 2 ^ 31 → LoadsScalars loads xt → HasType num src g s yt → HasType num src (push xt (push yt g)) b yt → FoldAfter len loads yt s b ts env e w x.count code rest
-      → x.count + (let_variables s + (width yt + (load_count loads + (let_variables b + temporaries yt)))) ≤ length x.vars → Holds st x (ArrayOf len xt) e D → AllHold st x g env sems → Due st x.arrays (ArrayOf 1 yt) w
+      → x.count + (let_variables s + (width yt + (load_count loads + (let_variables b + temporaries yt)))) ≤ length x.vars.words → Holds st x (ArrayOf len xt) e D → AllHold st x g env sems → Due st x.arrays (ArrayOf 1 yt) w
       → Ran st x fs code rest (x.count + let_variables s + width yt) x.arrays nothing (Targets st yt (at_index 0 w) (folded (λ t acc. scalars_of num sources (push (at_index t D) (push acc sems)) b) (scalars_of num sources sems s) len)) (λ k. Unit {0})
   fold_after len loads yt s b ts fs at_ts g env sems xt e w D x code rest small suits has_s has_b h room holds es due =
       let S0 = scalars_of num sources sems s in
@@ -285,11 +285,11 @@ module _ (st : Setting) {A : Type 0} (num : A → ℕ) (ins : ℕ → Marks) (sr
       let due2 = due_row st (λ u. u) yt w F x.arrays 1 0 (omega arith) due in
       let r2 = elements st ts fs at_ts num src sources s g env sems yt x code h.0 has_s h.3 (omega arith) es in
       let y2 = known_after x r2.deeds r2.after n2 x.arrays in
-      let room2 : n3 + load_count loads + let_variables b + temporaries yt ≤ length r2.after = subst (λ q. n3 + load_count loads + let_variables b + temporaries yt ≤ q) (sym r2.later.kept.long) (omega arith) in
+      let room2 : n3 + load_count loads + let_variables b + temporaries yt ≤ length r2.after.words = subst (λ q. n3 + load_count loads + let_variables b + temporaries yt ≤ q) (sym r2.later.kept.long) (omega arith) in
       let r3 = ran_from st y2 fs h.0 h.1 n2 x.arrays n3 x.arrays n2 x.arrays (λ k. Holds st (from k n3 x.arrays) yt (held_marks yt n2) S0) (omega arith) (omega arith) (omega arith) (omega arith) (λ m vars z. z)
       (assigned st ts fs at_ts yt (exprs env x.count s) S0 y2 h.0 h.1 h.4 (omega arith) r2.good) in
       let y3 = known_after y2 r3.deeds r3.after n2 x.arrays in
-      let room3 : n3 + load_count loads + let_variables b + temporaries yt ≤ length r3.after = subst (λ q. n3 + load_count loads + let_variables b + temporaries yt ≤ q) (sym r3.later.kept.long) room2 in
+      let room3 : n3 + load_count loads + let_variables b + temporaries yt ≤ length r3.after.words = subst (λ q. n3 + load_count loads + let_variables b + temporaries yt ≤ q) (sym r3.later.kept.long) room2 in
       let later = later_on st x y2 y3 r2.later r3.later in
       let r4 = fold_run len loads yt b ts fs at_ts g env sems xt e D S0 y3 h.1 h.2 small suits has_b h.5 room3 (holds_later st x y3 (ArrayOf len xt) e D later holds) (all_hold_later st x y3 g env sems later es) r3.good in
       let y4 = known_after y3 r4.deeds r4.after n3 x.arrays in
@@ -297,7 +297,7 @@ module _ (st : Setting) {A : Type 0} (num : A → ℕ) (ins : ℕ → Marks) (sr
       ran_on st x fs code h.0 rest n2 x.arrays n3 x.arrays after_silence r2 (ran_on st y2 fs h.0 h.1 rest n2 x.arrays n3 x.arrays after_silence r3 (ran_on st y3 fs h.1 h.2 rest n3 x.arrays n3 x.arrays after_silence r4 r5))
 
   fold_whole : (n : A) (loads : LoadSet) (yt : Ty) (xs s b : Term A) (ts : List ℕ) (fs : List Frame) → loop_variables fs ≡ ts → (g : ℕ → Ty) (env : ℕ → Marks) (sems : ℕ → Scalars) (xt ty : Ty) (w : Marks) (x : Known) (code mid rest : Code)
-      → ty ≡ ArrayOf 1 yt → x.count + variable_count (Fold n loads yt xs s b) ≤ length x.vars → Due st (x.arrays + private_count xs) ty w
+      → ty ≡ ArrayOf 1 yt → x.count + variable_count (Fold n loads yt xs s b) ≤ length x.vars.words → Due st (x.arrays + private_count xs) ty w
       → (r : Gathers x fs code mid xs (ArrayOf (num n) xt) (argument_marks st.device.launch ins num env x.arrays xs) (scalars_of num sources sems xs))
       → Ran st (known_after x r.deeds r.after (x.count + variable_count xs) (x.arrays + private_count xs)) fs mid rest (x.count + variable_count xs + let_variables s + width yt) (x.arrays + private_count xs) nothing (Targets st yt (at_index 0 w) (folded (λ t acc. scalars_of num sources (push (at_index t (scalars_of num sources sems xs)) (push acc sems)) b) (scalars_of num sources sems s) (num n))) (λ k. Unit {0})
       → Fills x fs code rest (Fold n loads yt xs s b) ty w (scalars_of num sources sems (Fold n loads yt xs s b))
@@ -318,15 +318,15 @@ module _ (st : Setting) {A : Type 0} (num : A → ℕ) (ins : ℕ → Marks) (sr
 
   mutual
     -- what stands for an argument, once its work is done
-    pub gathers : (t : Term A) (ts : List ℕ) (fs : List Frame) → loop_variables fs ≡ ts → (g : ℕ → Ty) (env : ℕ → Marks) (sems : ℕ → Scalars) (ty : Ty) (x : Known) (code rest : Code) → HasType num src g t ty → IsArgumentWork st.device.launch ins num ts env x.arrays x.count t code rest
-        → x.count + variable_count t ≤ length x.vars → Declares st.device.lengths x.arrays t → AllHold st x g env sems → AllHold st x src ins sources → Gathers x fs code rest t ty (argument_marks st.device.launch ins num env x.arrays t) (scalars_of num sources sems t)
+    pub gathers : (t : Term A) (ts : List ℕ) (fs : List Frame) → loop_variables fs ≡ ts → (g : ℕ → Ty) (env : ℕ → Marks) (sems : ℕ → Scalars) (ty : Ty) (x : Known) (code rest : Code) → HasType num src g t ty → IsArgumentWork st.device.launch st.item ins num ts env x.arrays x.count t code rest
+        → x.count + variable_count t ≤ length x.vars.words → Declares st.device.lengths x.arrays t → AllHold st x g env sems → AllHold st x src ins sources → Gathers x fs code rest t ty (argument_marks st.device.launch ins num env x.arrays t) (scalars_of num sources sems t)
     gathers (Bound v) ts fs at_ts g env sems ty x code rest ok h room long es gs = at_once x fs code rest ty (env v) (sems v) h (holds_as st x (g v) ty (env v) (sems v) ok (es v))
     gathers (Source v) ts fs at_ts g env sems ty x code rest ok h room long es gs = at_once x fs code rest ty (ins v) (sources v) h (holds_as st x (src v) ty (ins v) (sources v) ok (gs v))
     gathers (Both zips a b) ts fs at_ts g env sems ty x code rest ok h room long es gs =
         let p = both_hold st num zips src g a b ty ok in
         let r = gathers a ts fs at_ts g env sems p.0 x code h.0 p.2 h.1 (omega arith) long.0 es gs in
         let y = known_after x r.deeds r.after (x.count + variable_count a) (x.arrays + private_count a) in
-        let room2 : x.count + variable_count a + variable_count b ≤ length r.after = subst (λ q. x.count + variable_count a + variable_count b ≤ q) (sym r.later.kept.long) (omega arith) in
+        let room2 : x.count + variable_count a + variable_count b ≤ length r.after.words = subst (λ q. x.count + variable_count a + variable_count b ≤ q) (sym r.later.kept.long) (omega arith) in
         let r2 = gathers b ts fs at_ts g env sems p.1 y h.0 rest p.3 h.2 room2 long.1 (all_hold_later st x y g env sems r.later es) (all_hold_later st x y src ins sources r.later gs) in
         let n2 = x.count + variable_count a + variable_count b in
         let a2 = x.arrays + private_count a + private_count b in
@@ -357,7 +357,7 @@ module _ (st : Setting) {A : Type 0} (num : A → ℕ) (ins : ℕ → Marks) (sr
     gathers (LetArray v b) ts fs at_ts g env sems ty x code rest ok h room long es gs =
         let r = gathers v ts fs at_ts g env sems ok.0 x code h.0 ok.1 h.1 (omega arith) long.0 es gs in
         let y = known_after x r.deeds r.after (x.count + variable_count v) (x.arrays + private_count v) in
-        let room2 : x.count + variable_count v + variable_count b ≤ length r.after = subst (λ q. x.count + variable_count v + variable_count b ≤ q) (sym r.later.kept.long) (omega arith) in
+        let room2 : x.count + variable_count v + variable_count b ≤ length r.after.words = subst (λ q. x.count + variable_count v + variable_count b ≤ q) (sym r.later.kept.long) (omega arith) in
         let e = argument_marks st.device.launch ins num env x.arrays v in
         let D = scalars_of num sources sems v in
         let es2 = all_hold_push st y ok.0 e D g env sems r.good (all_hold_later st x y g env sems r.later es) in
@@ -391,13 +391,13 @@ module _ (st : Setting) {A : Type 0} (num : A → ℕ) (ins : ℕ → Marks) (sr
     gathers _ ts fs at_ts g env sems ty x code rest ok h room long es gs = absurd h
 
     -- a term in writing position fills its place
-    pub writes : (t : Term A) (ts : List ℕ) (fs : List Frame) → loop_variables fs ≡ ts → (g : ℕ → Ty) (env : ℕ → Marks) (sems : ℕ → Scalars) (ty : Ty) (w : Marks) (x : Known) (code rest : Code) → HasType num src g t ty → IsWritten st.device.launch ins num ts env x.arrays x.count t w code rest
-        → x.count + variable_count t ≤ length x.vars → Declares st.device.lengths x.arrays t → Due st (x.arrays + private_count t) ty w → AllHold st x g env sems → AllHold st x src ins sources → Fills x fs code rest t ty w (scalars_of num sources sems t)
+    pub writes : (t : Term A) (ts : List ℕ) (fs : List Frame) → loop_variables fs ≡ ts → (g : ℕ → Ty) (env : ℕ → Marks) (sems : ℕ → Scalars) (ty : Ty) (w : Marks) (x : Known) (code rest : Code) → HasType num src g t ty → IsWritten st.device.launch st.item ins num ts env x.arrays x.count t w code rest
+        → x.count + variable_count t ≤ length x.vars.words → Declares st.device.lengths x.arrays t → Due st (x.arrays + private_count t) ty w → AllHold st x g env sems → AllHold st x src ins sources → Fills x fs code rest t ty w (scalars_of num sources sems t)
     writes (Store u a) ts fs at_ts g env sems ty w x code rest ok h room long due es gs =
         let D = scalars_of num sources sems a in
         let r = elements st ts fs at_ts num src sources a g env sems ty x code h.0 ok.2 h.1 room es in
         let y = known_after x r.deeds r.after (x.count + let_variables a) x.arrays in
-        let h2 = subst (λ t. IsStored st.device.launch ins ts t (exprs env x.count a) w h.0 rest) (sym ok.0) h.2 in
+        let h2 = subst (λ t. IsStored st.device.launch st.item ins ts t (exprs env x.count a) w h.0 rest) (sym ok.0) h.2 in
         let due2 = due_at st (x.arrays + 0) x.arrays ty w (omega arith) due in
         let r2 = stores_run st ts fs at_ts ins ty (exprs env x.count a) D w y h.0 rest h2 r.good due2 in
         let r3 = ran_on st x fs code h.0 rest (x.count + let_variables a) x.arrays (x.count + let_variables a) x.arrays after_silence r r2 in
@@ -414,7 +414,7 @@ module _ (st : Setting) {A : Type 0} (num : A → ℕ) (ins : ℕ → Marks) (sr
     writes (LetArray v b) ts fs at_ts g env sems ty w x code rest ok h room long due es gs =
         let r = gathers v ts fs at_ts g env sems ok.0 x code h.0 ok.1 h.1 (omega arith) long.0 es gs in
         let y = known_after x r.deeds r.after (x.count + variable_count v) (x.arrays + private_count v) in
-        let room2 : x.count + variable_count v + variable_count b ≤ length r.after = subst (λ q. x.count + variable_count v + variable_count b ≤ q) (sym r.later.kept.long) (omega arith) in
+        let room2 : x.count + variable_count v + variable_count b ≤ length r.after.words = subst (λ q. x.count + variable_count v + variable_count b ≤ q) (sym r.later.kept.long) (omega arith) in
         let e = argument_marks st.device.launch ins num env x.arrays v in
         let D = scalars_of num sources sems v in
         let a2 = x.arrays + private_count v + private_count b in
@@ -431,10 +431,10 @@ module _ (st : Setting) {A : Type 0} (num : A → ℕ) (ins : ℕ → Marks) (sr
         let n2 = n1 + width u in
         let r = elements st ts fs at_ts num src sources v g env sems u x code h.0 ok.1 h.2 (omega arith) es in
         let y = known_after x r.deeds r.after n1 x.arrays in
-        let room2 : x.count + let_variables v + width u + variable_count b ≤ length r.after = subst (λ q. x.count + let_variables v + width u + variable_count b ≤ q) (sym r.later.kept.long) (omega arith) in
+        let room2 : x.count + let_variables v + width u + variable_count b ≤ length r.after.words = subst (λ q. x.count + let_variables v + width u + variable_count b ≤ q) (sym r.later.kept.long) (omega arith) in
         let r2 = assigned st ts fs at_ts u (exprs env x.count v) D y h.0 h.1 h.3 (omega arith) r.good in
         let z = known_after y r2.deeds r2.after n2 x.arrays in
-        let room3 : x.count + let_variables v + width u + variable_count b ≤ length r2.after = subst (λ q. x.count + let_variables v + width u + variable_count b ≤ q) (sym r2.later.kept.long) room2 in
+        let room3 : x.count + let_variables v + width u + variable_count b ≤ length r2.after.words = subst (λ q. x.count + let_variables v + width u + variable_count b ≤ q) (sym r2.later.kept.long) room2 in
         let later = later_on st x y z r.later r2.later in
         let es2 = all_hold_push st z u (held_marks u n1) D g env sems r2.good (all_hold_later st x z g env sems later es) in
         let r3 = writes b ts fs at_ts (push u g) (push (held_marks u n1) env) (push D sems) ty w z h.1 rest ok.2 h.4 room3 long due es2 (all_hold_later st x z src ins sources later gs) in
@@ -452,7 +452,7 @@ module _ (st : Setting) {A : Type 0} (num : A → ℕ) (ins : ℕ → Marks) (sr
         let e = argument_marks st.device.launch ins num env x.arrays xs in
         let D = scalars_of num sources sems xs in
         let s = mapped (λ z. scalars_of num sources (push z sems) b) D in
-        let room2 : x.count + variable_count xs + load_count loads + variable_count b ≤ length r.after = subst (λ q. x.count + variable_count xs + load_count loads + variable_count b ≤ q) (sym r.later.kept.long) (omega arith) in
+        let room2 : x.count + variable_count xs + load_count loads + variable_count b ≤ length r.after.words = subst (λ q. x.count + variable_count xs + load_count loads + variable_count b ≤ q) (sym r.later.kept.long) (omega arith) in
         let due1 : Due st (x.arrays + (private_count xs + private_count b)) (ArrayOf len yt) w = subst (λ t. Due st (x.arrays + (private_count xs + private_count b)) t w) ok.6 due in
         let a2 = a1 + private_count b in
         let n2 = x.count + (variable_count xs + (load_count loads + variable_count b)) in

@@ -1,8 +1,8 @@
 -- Kernels that differ in the spelling of indices and bounds alone.
-use Rattle.std.specs.Prelude.{◌≡◌, ℕ, ◌<◌, List, [], ◌∷◌, ◌++◌, Some}
+use Rattle.std.specs.Prelude.{◌≡◌, ℕ, ◌+◌, ◌*◌, ◌<◌, List, [], ◌∷◌, ◌++◌, Some}
 use Rattle.kernel_tree.specs.declared.events.Event.{Event}
-use Rattle.kernel_tree.specs.Formula.{Formula, value, bound_value}
-use Rattle.kernel_tree.specs.Code.{Array, Code, End, Assigns, Loads, Stores, Loops, Kernel}
+use Rattle.kernel_tree.specs.Formula.{Formula, Vars, value, bound_value}
+use Rattle.kernel_tree.specs.Code.{Array, Code, End, Assigns, Loads, Stores, Loops, Kernel, stride_value}
 use Rattle.kernel_tree.specs.Launch.{Launch, Cells, IsWhole, item_count, ids_of}
 use Rattle.kernel_tree.specs.Item.{Frame, Item, item, loop_variables, Wants, Ends, Moves, Reads, Writes, Fails}
 use Rattle.kernel_tree.specs.Device.{Device, State, Fence, device_of, length_in, run, IsRun}
@@ -10,28 +10,35 @@ use Rattle.kernel_tree.specs.Faults.{accesses, NoFailure}
 use Rattle.kernel_tree.specs.Histories.{history}
 use Rattle.lift_ir.specs.Types.{Ty}
 use Rattle.lift_ir.specs.Terms.{Term}
+use Rattle.printed_form.specs.Form.{IsTurn}
 use Rattle.printed_form.specs.Marks.{Marks}
 use Rattle.printed_form.specs.Whole.{IsCode}
 
-module _ (l : Launch) where
+-- as this item runs them
+module _ (l : Launch) (item : ℕ) where
   abbrev pub SameIndex : List ℕ → Formula → Formula → Type 0
-  SameIndex ts i j = (k : ℕ) (vs : List ℕ) → value (ids_of l k) ts vs i ≡ value (ids_of l k) ts vs j
+  SameIndex ts i j = (vs : Vars) → value (ids_of l item) ts vs i ≡ value (ids_of l item) ts vs j
 
-  -- at these turns of the loops around them; without barriers
+  -- at these turns of the loops around them, and the turns that the item takes of those within;
+  -- without barriers, `if`s and variables of four words
   abbrev pub Alike : List ℕ → Code → Code → Type 0
   Alike ts End End = Unit {0}
   Alike ts (Assigns v e r) (Assigns u f q) = (v ≡ u) × (e ≡ f) × Alike ts r q
   Alike ts (Loads v a i r) (Loads u b j q) = (v ≡ u) × (a ≡ b) × SameIndex ts i j × Alike ts r q
   Alike ts (Stores a i e r) (Stores b j f q) = (a ≡ b) × SameIndex ts i j × (e ≡ f) × Alike ts r q
   Alike ts (Loops s b c body r) (Loops t d e other q) =
-      (s ≡ t) × (c ≡ e) × (n : ℕ) × (bound_value l.sizes b ≡ Some n) × (bound_value l.sizes d ≡ Some n) × ((i : ℕ) → i < n → Alike (ts ++ i ∷ []) body other) × Alike ts r q
+      (s ≡ t) × (c ≡ e) × (n : ℕ) × (bound_value l.sizes b ≡ Some n) × (bound_value l.sizes d ≡ Some n) × ((i : ℕ) → i < n → IsTurn l item s c i → Alike (ts ++ i ∷ []) body other) × Alike ts r q
   Alike ts _ _ = ⊥
+
+  -- a value of the loop's variable from this turn on
+  abbrev pub IsAhead : Frame → ℕ → Type 0
+  IsAhead f i = (t : ℕ) × (i ≡ f.variable + t * stride_value (ids_of l item) f.stride)
 
   abbrev pub AlikeFrames : List Frame → List Frame → Type 0
   AlikeFrames [] [] = Unit {0}
   AlikeFrames (f ∷ fs) (h ∷ hs) =
       (f.turn ≡ h.turn) × (f.variable ≡ h.variable) × (f.stride ≡ h.stride) × (n : ℕ) × (bound_value l.sizes f.bound ≡ Some n) × (bound_value l.sizes h.bound ≡ Some n)
-      × ((i : ℕ) → i < n → Alike (loop_variables fs ++ i ∷ []) f.body h.body) × Alike (loop_variables fs) f.after h.after × AlikeFrames fs hs
+      × ((i : ℕ) → i < n → IsAhead f i → Alike (loop_variables fs ++ i ∷ []) f.body h.body) × Alike (loop_variables fs) f.after h.after × AlikeFrames fs hs
   AlikeFrames _ _ = ⊥
 
   pub record AlikeItems (x y : Item) : Type 0 where
@@ -47,10 +54,10 @@ module _ (l : Launch) where
   AlikeWants (Fails f) (Fails g) = f ≡ g
   AlikeWants _ _ = ⊥
 
-  pub record AlikeStates (s t : State) : Type 0 where
-    pub items : (j : ℕ) → j < item_count l → AlikeItems (s.items j) (t.items j)
-    pub memory : s.memory ≡ t.memory
-    pub epochs : (g : ℕ) (f : Fence) → s.epochs g f ≡ t.epochs g f
+pub record AlikeStates (l : Launch) (s t : State) : Type 0 where
+  pub items : (j : ℕ) → j < item_count l → AlikeItems l j (s.items j) (t.items j)
+  pub memory : s.memory ≡ t.memory
+  pub epochs : (g : ℕ) (f : Fence) → s.epochs g f ≡ t.epochs g f
 
 -- the same run, on a device with the same launch whose arrays are as long: the same events can
 -- come, with the same accesses, deeds and failures
@@ -63,7 +70,7 @@ pub record SameRun (d e : Device) (s t : State) (es : List Event) : Type 0 where
 
 -- both begin with these variables and the same memory
 pub record BeginAlike (l : Launch) (k k2 : Kernel) (s t : State) : Type 0 where
-  pub vars : ℕ → List ℕ
+  pub vars : ℕ → Vars
   pub first : (j : ℕ) → j < item_count l → s.items j ≡ item k.code [] (vars j)
   pub second : (j : ℕ) → j < item_count l → t.items j ≡ item k2.code [] (vars j)
   pub memory : s.memory ≡ t.memory

@@ -1,8 +1,9 @@
--- Which code is printed for a term by one work-item, at given turns of the loops around it: any
--- index expressions and bounds of the right values.
-use Rattle.std.specs.Prelude.{◌≡◌, ℕ, ◌+◌, ◌<◌, Bool, true, false, List, [], ◌∷◌, ◌++◌, Option, Some}
-use Rattle.kernel_tree.specs.Formula.{Formula, value, bound_value}
-use Rattle.kernel_tree.specs.Code.{Array, Private, Start, FromZero, FromGlobalId, FromGroupId, FromLocalId, Stride, ByOne, ByGlobalSize, ByGroupCount, ByLocalSize, Code, End, Assigns, Loads, Stores, Loops}
+-- Which code is printed for a term, as one work-item runs it, at given turns of the loops around it:
+-- any index expressions and bounds of the right values.
+use Rattle.std.specs.Prelude.{◌≡◌, ℕ, ◌+◌, ◌*◌, ◌<◌, Bool, true, false, List, [], ◌∷◌, ◌++◌, Option, Some}
+use Rattle.kernel_tree.specs.declared.tree.Dimension.TheVariants.{X}
+use Rattle.kernel_tree.specs.Formula.{Formula, Vars, value, bound_value}
+use Rattle.kernel_tree.specs.Code.{Array, Private, Start, FromZero, FromGlobalId, FromGroupId, FromLocalId, Stride, ByOne, ByGlobalSize, ByGroupCount, ByLocalSize, start_value, stride_value, Code, End, Assigns, Loads, Stores, Loops}
 use Rattle.kernel_tree.specs.Launch.{Launch, ids_of}
 use Rattle.lift_ir.specs.Types.{Ty, Scalar, PairOf, ArrayOf, width, size}
 use Rattle.lift_ir.specs.Layouts.{operand_position, result_position, IsInvertible}
@@ -13,16 +14,25 @@ use Rattle.printed_form.specs.Marks.{Mark, Nowhere, Spot, Marks, laid_in, held_m
 use Rattle.printed_form.specs.Expressions.{held, exprs}
 
 abbrev pub start_of : Kind → Start
-start_of Global = FromGlobalId
-start_of WorkGroup = FromGroupId
-start_of Local = FromLocalId
+start_of Global = FromGlobalId X
+start_of WorkGroup = FromGroupId X
+start_of Local = FromLocalId X
 start_of Sequential = FromZero
 
 abbrev pub stride_of : Kind → Stride
-stride_of Global = ByGlobalSize
-stride_of WorkGroup = ByGroupCount
-stride_of Local = ByLocalSize
+stride_of Global = ByGlobalSize X
+stride_of WorkGroup = ByGroupCount X
+stride_of Local = ByLocalSize X
 stride_of Sequential = ByOne
+
+-- a turn that an item takes of a loop: from its start on, stride by stride
+abbrev pub IsTurn : Launch → (item : ℕ) → Start → Stride → ℕ → Type 0
+IsTurn l item s c i =
+    (t : ℕ) × (i ≡ start_value (ids_of l item) s + t * stride_value (ids_of l item) c)
+
+-- a turn that it takes of a map of a kind
+abbrev pub IsTurnOf : Launch → (item : ℕ) → Kind → ℕ → Type 0
+IsTurnOf l item k i = IsTurn l item (start_of k) (stride_of k) i
 
 -- one assignment for each component, each to the next variable
 abbrev pub IsAssigned : Ty → (List Bool → Option Formula) → ℕ → (code rest : Code) → Type 0
@@ -65,16 +75,33 @@ IsElementWork env n (LetElement ty v b) code rest =
 IsElementWork env n _ code rest = ⊥
 
 module _ (l : Launch) (ins : ℕ → Marks) where
-  -- an index expression's value, for every item
+  abbrev pub IsLength : Formula → ℕ → Type 0
+  IsLength b n = bound_value l.sizes b ≡ Some n
+
+  -- what stands for an argument, whose first private array is this
+  abbrev pub argument_marks : {A : Type 0} → (A → ℕ) → (ℕ → Marks) → ℕ → Term A → Marks
+  argument_marks num env a (Bound v) = env v
+  argument_marks num env a (Source s) = ins s
+  argument_marks num env a (Both zips x y) =
+      by_side (λ q. Nowhere) (argument_marks num env a x)
+      (argument_marks num env (a + private_count x) y)
+  argument_marks num env a (Project s x) = λ cs q. argument_marks num env a x (s ∷ cs) q
+  argument_marks num env a (Reshape y x) =
+      λ cs q. argument_marks num env a x cs (operand_position num y q)
+  argument_marks num env a (LetArray v b) =
+      argument_marks num (push (argument_marks num env a v) env) (a + private_count v) b
+  argument_marks num env a (Copy PrivateMemory ty x) = laid_in Private (a + private_count x) ty
+  argument_marks num env a _ = λ cs q. Nowhere
+
+-- as this item comes there
+module _ (l : Launch) (item : ℕ) (ins : ℕ → Marks) where
+  -- an index expression's value, whatever the variables hold
   abbrev pub IsIndex : List ℕ → Formula → ℕ → Type 0
-  IsIndex ts i n = (k : ℕ) (vs : List ℕ) → value (ids_of l k) ts vs i ≡ Some n
+  IsIndex ts i n = (vs : Vars) → value (ids_of l item) ts vs i ≡ Some n
 
   abbrev pub IsSpot : List ℕ → Mark → Array → Formula → Type 0
   IsSpot ts (Spot a n) b i = (b ≡ a) × IsIndex ts i n
   IsSpot ts _ b i = ⊥
-
-  abbrev pub IsLength : Formula → ℕ → Type 0
-  IsLength b n = bound_value l.sizes b ≡ Some n
 
   -- one store for each component
   abbrev pub IsStored : List ℕ → Ty → (List Bool → Option Formula) → Marks → (code rest : Code)
@@ -96,26 +123,11 @@ module _ (l : Launch) (ins : ℕ → Marks) where
       (mid : Code) × IsLoaded ts a (λ cs. x (false ∷ cs)) n code mid
       × IsLoaded ts b (λ cs. x (true ∷ cs)) (n + load_count a) mid rest
 
-  -- a loop of a kind over n, whose body is printed so at each turn
+  -- a loop of a kind over n, whose body is printed so at each turn that the item takes
   abbrev pub IsLoop : Kind → ℕ → (ℕ → Code → Type 0) → (code rest : Code) → Type 0
   IsLoop k n B code rest =
       (b : Formula) × (body : Code) × (code ≡ Loops (start_of k) b (stride_of k) body rest)
-      × IsLength b n × ((i : ℕ) → i < n → B i body)
-
-  -- what stands for an argument, whose first private array is this
-  abbrev pub argument_marks : {A : Type 0} → (A → ℕ) → (ℕ → Marks) → ℕ → Term A → Marks
-  argument_marks num env a (Bound v) = env v
-  argument_marks num env a (Source s) = ins s
-  argument_marks num env a (Both zips x y) =
-      by_side (λ q. Nowhere) (argument_marks num env a x)
-      (argument_marks num env (a + private_count x) y)
-  argument_marks num env a (Project s x) = λ cs q. argument_marks num env a x (s ∷ cs) q
-  argument_marks num env a (Reshape y x) =
-      λ cs q. argument_marks num env a x cs (operand_position num y q)
-  argument_marks num env a (LetArray v b) =
-      argument_marks num (push (argument_marks num env a v) env) (a + private_count v) b
-  argument_marks num env a (Copy PrivateMemory ty x) = laid_in Private (a + private_count x) ty
-  argument_marks num env a _ = λ cs q. Nowhere
+      × IsLength l ins b n × ((i : ℕ) → i < n → IsTurnOf l item k i → B i body)
 
   -- a turn of a fold, whose accumulator is held from variable acc on
   abbrev pub IsFoldTurn : {A : Type 0} → List ℕ → (ℕ → Marks) → LoadSet → Ty → Marks → (acc : ℕ)
@@ -144,7 +156,7 @@ module _ (l : Launch) (ins : ℕ → Marks) where
         IsArgumentWork num ts env a n x code rest
     IsArgumentWork num ts env a n (LetArray v b) code rest =
         (mid : Code) × IsArgumentWork num ts env a n v code mid
-        × IsArgumentWork num ts (push (argument_marks num env a v) env) (a + private_count v)
+        × IsArgumentWork num ts (push (argument_marks l ins num env a v) env) (a + private_count v)
         (n + variable_count v) b mid rest
     IsArgumentWork num ts env a n (Copy PrivateMemory ty x) code rest =
         IsWritten num ts env a n x (laid_in Private (a + private_count x) ty) code rest
@@ -160,7 +172,7 @@ module _ (l : Launch) (ins : ℕ → Marks) where
         × IsWritten num ts env a n t (λ cs q. w cs (result_position num y q)) code rest
     IsWritten num ts env a n (LetArray v b) w code rest =
         (mid : Code) × IsArgumentWork num ts env a n v code mid
-        × IsWritten num ts (push (argument_marks num env a v) env) (a + private_count v)
+        × IsWritten num ts (push (argument_marks l ins num env a v) env) (a + private_count v)
         (n + variable_count v) b w mid rest
     IsWritten num ts env a n (LetElement ty v b) w code rest =
         (mid mid2 : Code) × IsElementWork env n v code mid
@@ -171,11 +183,11 @@ module _ (l : Launch) (ins : ℕ → Marks) where
         (mid : Code) × IsArgumentWork num ts env a n xs code mid
         × IsLoop Sequential (num len)
         (λ i body. (inner : Code)
-        × IsLoaded (ts ++ i ∷ []) loads (at_index i (argument_marks num env a xs)) (n
+        × IsLoaded (ts ++ i ∷ []) loads (at_index i (argument_marks l ins num env a xs)) (n
         + variable_count xs) body inner
         × IsWritten num (ts ++ i ∷ [])
         (push
-        (loaded_marks loads (at_index i (argument_marks num env a xs)) (n
+        (loaded_marks loads (at_index i (argument_marks l ins num env a xs)) (n
         + variable_count xs)) env) (a + private_count xs)
         (n + variable_count xs + load_count loads) b (at_index i w) inner End)
         mid rest
@@ -185,7 +197,7 @@ module _ (l : Launch) (ins : ℕ → Marks) where
         × IsAssigned ty (exprs env (n + variable_count xs) s)
         (n + variable_count xs + let_variables s) mid2 mid3
         × IsLoop Sequential (num len)
-        (λ i body. IsFoldTurn (ts ++ i ∷ []) env loads ty (at_index i (argument_marks num env a xs))
+        (λ i body. IsFoldTurn (ts ++ i ∷ []) env loads ty (at_index i (argument_marks l ins num env a xs))
         (n + variable_count xs + let_variables s) b body)
         mid3 mid4
         × IsStored ts ty

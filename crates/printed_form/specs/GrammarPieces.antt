@@ -5,7 +5,7 @@ use Rattle.size_arith.specs.declared.poly.Monomial.{Monomial}
 use Rattle.lift_tree.specs.Typing.{Declared}
 use Rattle.kernel_tree.specs.Formula.{Formula, LoopVariable}
 use Rattle.kernel_tree.specs.Code.{Array, Output, Code, Loops, Kernel}
-use Rattle.kernel_tree.specs.Grammar.{are_lengths, are_statements, has_statement, is_kernel, is_readable, is_writable}
+use Rattle.kernel_tree.specs.Grammar.{are_lengths, are_statements, has_statement, is_group_size, is_kernel, is_readable, is_writable}
 use Rattle.lift_ir.specs.Types.{Shape, Ty, width}
 use Rattle.lift_ir.specs.Layouts.{Layout}
 use Rattle.lift_ir.specs.Scalars.{by_side}
@@ -64,9 +64,9 @@ LoopsAreOfTheGrammar =
     (body rest : Code)
     → 1 ≤ high → high + (8 + 3 * h) ≤ 1024 → l < 1024 → n + load_count loads ≤ k.variables
     → IsSpelledIn k high bound → ReadsWithin k high l h x
-    → has_statement body ≡ true → are_statements k (suc l) body ≡ true
-    → are_statements k l rest ≡ true
-    → are_statements k l (Loops (start_of kind) bound (stride_of kind)
+    → has_statement body ≡ true → are_statements k (suc l) (suc l) body ≡ true
+    → are_statements k l l rest ≡ true
+    → are_statements k l l (Loops (start_of kind) bound (stride_of kind)
     (print_loaded loads (view_at (LoopVariable l) x) n body) rest) ≡ true
 
 -- lengths are at most so high, at most so many layouts stand one on another, and the kernel has the
@@ -108,8 +108,8 @@ module _ (k : Kernel) (spell : List Monomial → Formula) (high most : ℕ) (d :
     pub codes : (l above variable private : ℕ) (g : ℕ → ℕ) (env : ℕ → View)
         (t : Term (List Monomial)) (w : View) (rest : Code)
         → AllReadWithin k high l g env → FillsWithin k high l above w
-        → CanBePrinted g l above variable private t → are_statements k l rest ≡ true
-        → are_statements k l
+        → CanBePrinted g l above variable private t → are_statements k l l rest ≡ true
+        → are_statements k l l
         (print_written spell (views_of_inputs spell d) l env private variable t w rest) ≡ true
     pub statements : (l above variable private : ℕ) (g : ℕ → ℕ) (env : ℕ → View)
         (t : Term (List Monomial)) (w : View) (rest : Code)
@@ -120,7 +120,7 @@ module _ (k : Kernel) (spell : List Monomial → Formula) (high most : ℕ) (d :
     pub kernel : (ty : Shape (List Monomial)) (t : Term (List Monomial))
         → k.outputs ≡ width ty → k.locals ≡ copy_lengths LocalMemory t
         → k.privates ≡ copy_lengths PrivateMemory t → IsSoundIn k spell high d t
-        → has_statement k.code ≡ true → are_statements k 0 k.code ≡ true → is_kernel k ≡ true
+        → is_group_size k.local ≡ true → has_statement k.code ≡ true → are_statements k 0 0 k.code ≡ true → is_kernel k ≡ true
 
 abbrev pub TermsArePrintedWithin : Type 0
 TermsArePrintedWithin =

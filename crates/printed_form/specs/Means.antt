@@ -1,6 +1,6 @@
--- Index expressions that have values, and views that stand for marks.
+-- Index expressions that have values as one work-item comes there, and views that stand for marks.
 use Rattle.std.specs.Prelude.{◌≡◌, ℕ, ◌<◌, ◌^◌, Bool, true, false, List, [], ◌∷◌, ◌++◌, Some}
-use Rattle.kernel_tree.specs.Formula.{Formula, value, bound_value}
+use Rattle.kernel_tree.specs.Formula.{Formula, Vars, value, bound_value}
 use Rattle.kernel_tree.specs.Launch.{Launch, ids_of}
 use Rattle.lift_ir.specs.Types.{Ty, Scalar, PairOf, ArrayOf, IsPosition}
 use Rattle.printed_form.specs.Marks.{Mark, Register, Spot, Marks}
@@ -10,13 +10,13 @@ use Rattle.printed_form.specs.Views.{Sign, Held, Read, View}
 abbrev pub IsSpelled : Launch → Formula → ℕ → Type 0
 IsSpelled l f n =
     (bound_value l.sizes f ≡ Some n)
-    × ((k : ℕ) (ts vs : List ℕ) → value (ids_of l k) ts vs f ≡ Some n)
+    × ((k : ℕ) (ts : List ℕ) (vs : Vars) → value (ids_of l k) ts vs f ≡ Some n)
 
-module _ (l : Launch) where
+module _ (l : Launch) (item : ℕ) where
   -- an index expression's value at these turns, a word
   pub record Means (ts : List ℕ) (f : Formula) (n : ℕ) : Type 0 where
     pub fits : n < 2 ^ 32
-    pub always : (k : ℕ) (vs : List ℕ) → value (ids_of l k) ts vs f ≡ Some n
+    pub always : (vs : Vars) → value (ids_of l item) ts vs f ≡ Some n
 
   abbrev pub AllMean : List ℕ → List Formula → List ℕ → Type 0
   AllMean ts [] [] = Unit {0}

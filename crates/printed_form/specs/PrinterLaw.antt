@@ -1,7 +1,7 @@
 -- What the printer owes.
 use Rattle.std.specs.Prelude.{◌≡◌, ℕ, ◌<◌, ◌^◌, ◌⊎◌, true}
 use Rattle.kernel_tree.specs.Formula.{Formula}
-use Rattle.kernel_tree.specs.Launch.{Launch}
+use Rattle.kernel_tree.specs.Launch.{Launch, item_count}
 use Rattle.lift_ir.specs.Types.{Shape, measured, IsPlaced}
 use Rattle.lift_ir.specs.Terms.{Term, HasType, no_type}
 use Rattle.lift_ir.specs.Loads.{none, LoadsSuffice}
@@ -16,7 +16,7 @@ abbrev pub PrinterPrints : Type 0 → Type 0
 PrinterPrints A =
     (l : Launch) (num : A → ℕ) (spell : A → Formula)
     → ((n : A) → num n < 2 ^ 31 → IsSpelled l (spell n) (num n)) → (first : ℕ → ℕ)
-    (src : ℕ → Shape A) (t : Term A) (ty : Shape A) → ((l.global ≡ 1) × Stands true t)
+    (src : ℕ → Shape A) (t : Term A) (ty : Shape A) → ((item_count l ≡ 1) × Stands true t)
     ⊎ StandsOverLaunch t
     → HasType num (λ v. measured num (src v)) no_type t (measured num ty)
     → LoadsSuffice (λ v. none) t → IsPlaced num ty → ((v : ℕ) → IsPlaced num (src v))

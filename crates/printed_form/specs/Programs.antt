@@ -1,5 +1,5 @@
 -- A kernel printed for a whole program's typed term.
-use Rattle.std.specs.Prelude.{◌≡◌, ℕ, zero, suc, ◌+◌, ◌<◌, ◌^◌, ◌⊎◌, Bool, true, List, [], ◌∷◌, length, map}
+use Rattle.std.specs.Prelude.{◌≡◌, ℕ, zero, suc, ◌+◌, ◌<◌, ◌^◌, ◌⊎◌, Bool, true, List, [], ◌∷◌, length, map, None}
 use Rattle.size_arith.specs.declared.poly.Monomial.{Monomial}
 use Rattle.size_arith.specs.Ranges.{sizes_at}
 use Rattle.lift_tree.specs.Lists.{Every}
@@ -11,7 +11,7 @@ use Rattle.lift_tree.specs.Meaning.{World, meaning}
 use Rattle.lift_tree.specs.Launches.{IsAdmissibleLaunch, buffers_of, lists_of}
 use Rattle.kernel_tree.specs.Formula.{Formula}
 use Rattle.kernel_tree.specs.Code.{Kernel}
-use Rattle.kernel_tree.specs.Launch.{Launch, Cells, MayStart, item_count}
+use Rattle.kernel_tree.specs.Launch.{Launch, Cells, IsFlat, MayStart, item_count}
 use Rattle.kernel_tree.specs.Device.{State, device_of, IsStart}
 use Rattle.kernel_tree.specs.Alike.{GoesAlike}
 use Rattle.lift_ir.specs.Types.{Shape, ArrayOf, Scalar, width, unflat, IsPlaced}
@@ -50,7 +50,8 @@ lowered_root t a = lower Written t a
 
 -- The kernel is printed for the typed term at a launch, where the base names have these values: it
 -- has a parameter for each component of each input, then of the output, then for each size; private
--- variables and arrays as the term needs them; and its code is printed for the term.
+-- variables and arrays as the term needs them, and no variable of four words; it asks for no size of
+-- groups; and its code is printed for the term.
 pub record Prints (d : Declared) (bases : List ℕ) (t : Tree) (a : Annotation) (l : Launch)
     (k : Kernel) : Type 0 where
   pub inputs : k.inputs ≡ buffer_count d.inputs
@@ -59,6 +60,8 @@ pub record Prints (d : Declared) (bases : List ℕ) (t : Tree) (a : Annotation) 
   pub locals : k.locals ≡ copy_lengths LocalMemory (lowered_root t a)
   pub privates : k.privates ≡ copy_lengths PrivateMemory (lowered_root t a)
   pub variables : k.variables ≡ variable_count (lowered_root t a)
+  pub vectors : k.vectors ≡ 0
+  pub local : k.local ≡ None
   pub code : IsCode l (input_marks (length_at bases) (first_buffer d.inputs) (input_shape d.inputs))
       (length_at bases) (lowered_root t a) (ty_at bases (type_in a)) k.code
 
@@ -71,6 +74,8 @@ printed_kernel spell d t a = record {
   locals = copy_lengths LocalMemory (lowered_root t a);
   privates = copy_lengths PrivateMemory (lowered_root t a);
   variables = variable_count (lowered_root t a);
+  vectors = 0;
+  local = None;
   code =
       kernel_code spell (first_buffer d.inputs) (input_shape d.inputs) (lowered_root t a)
       (shape_of (type_in a));
@@ -81,9 +86,10 @@ abbrev pub cell_owner : (bases : List ℕ) → Launch → Tree → Annotation �
 cell_owner bases l t a array index =
     owner (length_at bases) l (lowered_root t a) (unflat (ty_at bases (type_in a)) index)
 
--- the launch has these sizes, and one work-item where the term is a task
+-- the launch is one row, has these sizes, and one work-item where the term is a task
 pub record IsLaunchOf (d : Declared) (is_task : Bool) (bases : List ℕ) (l : Launch) : Type 0 where
-  pub admissible : IsAdmissibleLaunch d.names is_task bases l.global l.local
+  pub flat : IsFlat l
+  pub admissible : IsAdmissibleLaunch d.names is_task bases l.global.0 l.local.0
   pub sizes : l.sizes ≡ sizes_at d.names bases
 
 -- the buffers hold the inputs, and the output's are as long as the value's lists
@@ -125,7 +131,7 @@ IsSpelling spell bases l =
 
 -- a term that one work-item runs, where there is but one, or a map over the launch
 abbrev pub StandsAt : Launch → Lowered → Type 0
-StandsAt l t = ((l.global ≡ 1) × Stands true t) ⊎ StandsOverLaunch t
+StandsAt l t = ((item_count l ≡ 1) × Stands true t) ⊎ StandsOverLaunch t
 
 -- what lies in buffers has lengths and sizes below 2^31
 abbrev pub FitsBuffers : Declared → (bases : List ℕ) → Annotation → Type 0

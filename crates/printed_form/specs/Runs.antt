@@ -1,6 +1,6 @@
 -- What one item does, whatever the others do to cells that it does not look at.
-use Rattle.std.specs.Prelude.{◌≡◌, ℕ, ◌<◌, ◌≤◌, Bool, List, [], length, Option, Some, ◌⊎◌, slice_index}
-use Rattle.kernel_tree.specs.Formula.{Formula, value}
+use Rattle.std.specs.Prelude.{◌≡◌, ℕ, ◌<◌, ◌≤◌, Bool, List, [], length, Option, Some, ◌⊎◌}
+use Rattle.kernel_tree.specs.Formula.{Formula, Vars, word, value}
 use Rattle.kernel_tree.specs.Code.{Array, Input, Output, Local, Private, Code}
 use Rattle.kernel_tree.specs.Launch.{ids_of}
 use Rattle.kernel_tree.specs.Item.{Frame, item}
@@ -22,14 +22,15 @@ pub record Setting : Type 0 where
 -- are in use
 pub record Known : Type 0 where
   pub memory : Memory
-  pub vars : List ℕ
+  pub vars : Vars
   pub count : ℕ
   pub arrays : ℕ
 
--- variables below n are as they were
-pub record Kept (n : ℕ) (vars later : List ℕ) : Type 0 where
-  pub long : length later ≡ length vars
-  pub same : (v : ℕ) → v < n → slice_index later v ≡ slice_index vars v
+-- variables below n are as they were, and so are those of four words
+pub record Kept (n : ℕ) (vars later : Vars) : Type 0 where
+  pub long : length later.words ≡ length vars.words
+  pub same : (v : ℕ) → v < n → word later v ≡ word vars v
+  pub vectors : later.vectors ≡ vars.vectors
 
 -- an array that is filled already: an input, or one numbered below
 abbrev pub IsFilled : (locals privates : ℕ) → Array → Type 0
@@ -77,7 +78,7 @@ module _ (st : Setting) where
 
   abbrev pub HoldsAt : Known → Mark → ℕ → Type 0
   HoldsAt x Nowhere v = ⊥
-  HoldsAt x (Register r) v = (r < x.count) × (slice_index x.vars r ≡ v)
+  HoldsAt x (Register r) v = (r < x.count) × (word x.vars r ≡ v)
   HoldsAt x (Spot b i) v = Readable x b i v
 
   -- what stands for a value of a type has its scalars
@@ -90,7 +91,7 @@ module _ (st : Setting) where
   -- expressions have an element's scalars, now and as long as the variables in use are kept
   abbrev pub Values : List ℕ → Known → Ty → (List Bool → Option Formula) → Scalars → Type 0
   Values ts x ty f s =
-      (cs : List Bool) (e : Formula) → IsPosition ty cs [] → f cs ≡ Some e → (later : List ℕ)
+      (cs : List Bool) (e : Formula) → IsPosition ty cs [] → f cs ≡ Some e → (later : Vars)
       → Kept x.count x.vars later
       → value (ids_of st.device.launch st.item) ts later e ≡ Some (s cs [])
 
@@ -127,7 +128,7 @@ nothing c = ⊥
 abbrev pub no_target : Cell → ℕ → Type 0
 no_target c v = ⊥
 
-abbrev pub known_after : Known → List Deed → List ℕ → (count arrays : ℕ) → Known
+abbrev pub known_after : Known → List Deed → Vars → (count arrays : ℕ) → Known
 known_after x ds vars n a = record {
   memory = written ds x.memory;
   vars = vars;
@@ -138,7 +139,7 @@ known_after x ds vars n a = record {
 -- the item goes through the code up to the rest, in whatever memory agrees with what it knows
 pub record Ran (st : Setting) (x : Known) (fs : List Frame) (code rest : Code) (n a : ℕ)
     (S : Cell → Type 0) (T : Cell → ℕ → Type 0) (G : Known → Type 0) : Type 0 where
-  pub after : List ℕ
+  pub after : Vars
   pub deeds : List Deed
   pub goes : (m : Memory) → Agrees st.owners st.item x.memory m
       → Goes st.device st.item (item code fs x.vars) m deeds (item rest fs after)

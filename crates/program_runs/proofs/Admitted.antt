@@ -8,4 +8,4 @@ use Rattle.program_runs.specs.Runs.{IsAdmissibleFor}
 pub given_is_admissible : (p : PlainProgram) (ask : Ask) (bytes : List ℕ) (g : Given) → IsLaunchFile p ask bytes g → IsAdmissibleFor p (is_task ask) g
 given_is_admissible p ask bytes g is =
     let gives = is.2 in
-    record { world = record { bases = gives.admissible.sizes; sizes = gives.bases; inputs = gives.typed }; launch = gives.admissible }
+    record { world = record { bases = gives.admissible.sizes; sizes = gives.bases; inputs = gives.typed }; flat = gives.flat; launch = gives.admissible }

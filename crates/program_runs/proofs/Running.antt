@@ -1,12 +1,14 @@
 -- The run of a compiled kernel at what a launch file gives.
-use Rattle.std.proofs.Common.{◌≡◌, ◌∙◌, Bool, true, false, ℕ, List, [], ◌∷◌, ◌++◌, length, map, replicate, refl, sym, ap, subst, arith, Option, Result, Ok, Err}
+use Rattle.std.proofs.Common.{◌≡◌, ◌∙◌, Bool, true, false, ℕ, List, [], ◌∷◌, ◌++◌, length, map, replicate, refl, sym, ap, subst, arith, Option, Some, None, Result, Ok, Err}
+use Rattle.std.proofs.Props.{props}
 use Rattle.std.specs.Prelude.{IfOk}
 use Rattle.kernel_tree.specs.declared.events.Event.{Event}
 use Rattle.kernel_tree.specs.declared.events.Seen.{Seen}
 use Rattle.kernel_tree.specs.Code.{Kernel}
-use Rattle.kernel_tree.specs.KernelText.{IsKernelText}
-use Rattle.kernel_tree.specs.Launch.{Launch, Cells, MayStart}
-use Rattle.kernel_tree.specs.Device.{Device, State, IsStart, start_state, device_of, IsRun}
+use Rattle.kernel_tree.specs.Formula.{spread}
+use Rattle.kernel_tree.specs.KernelText.{IsKernelText, lift}
+use Rattle.kernel_tree.specs.Launch.{Launch, Cells, HasLocal, MayStart}
+use Rattle.kernel_tree.specs.Device.{Device, State, IsStart, first_vars, start_state, device_of, IsRun}
 use Rattle.std.proofs.lemmas.List.{length-replicate}
 use Rattle.kernel_tree.specs.Schedule.{Schedule, ScheduledRun}
 use Rattle.kernel_tree.proofs.Scheduled.{no_fault}
@@ -31,12 +33,21 @@ use Rattle.program_runs.proofs.LaidOut.{blank_lengths, row_lengths, rows_are}
 
 -- each text is of one kernel
 abbrev pub OneKernel : Type 0
-OneKernel = (bytes : List ℕ) (k l : Kernel) → IsKernelText bytes k → IsKernelText bytes l → k ≡ l
+OneKernel = (name bytes : List ℕ) (k l : Kernel) → IsKernelText name bytes k → IsKernelText name bytes l → k ≡ l
+
+local_once : (size : Option (ℕ × ℕ)) (l : Launch) → IsProp (HasLocal size l)
+local_once None l = Prim.hlevel props
+local_once (Some size) l = Prim.hlevel props
+
+-- that a kernel may start is a fact that a truncated fact gives
+pub start_once : (k : Kernel) (l : Launch) (c : Cells) → IsProp (MayStart k l c)
+start_once k l c = let x = local_once k.local l in Prim.hlevel (x, props)
 
 start_is : (k : Kernel) (l : Launch) (c : Cells) → IsStart k l c (start_state k c)
 start_is k l c = record {
-  vars = λ j. replicate k.variables c.rest;
+  vars = λ j. first_vars k c.rest;
   long = λ j lt. length-replicate k.variables c.rest;
+  wide = λ j lt. length-replicate k.vectors (spread c.rest);
   items = λ j lt. refl;
   inputs = λ a i lt. refl;
   epochs = λ g f. refl;
@@ -63,11 +74,11 @@ module _ (p : PlainProgram) (output : PlainTy) (task : Bool) (text : List ℕ) (
     long = blank_lengths (list_lengths g.bases output) ∙ sym (lengths g.bases output (source_value p (world_given g)) is.laid_out.elements value_typed)
 
     admits : Admits p output task (world_given g) g.launch (begun p output (world_given g))
-    admits = record { world = ok.world; launch = ok.launch; sizes = refl; inputs = refl; outputs = long }
+    admits = record { world = ok.world; flat = ok.flat; launch = ok.launch; sizes = refl; inputs = refl; outputs = long }
 
-    module _ (one : OneKernel) (k : Kernel) (read : IsKernelText text k) where
+    module _ (one : OneKernel) (k : Kernel) (read : IsKernelText lift text k) where
       same : is.kernel ≡ k
-      same = one text is.kernel k is.written read
+      same = one lift text is.kernel k is.written read
 
       -- the device takes the kernel
       starts : MayStart k g.launch (begun p output (world_given g))
@@ -84,7 +95,7 @@ module _ (p : PlainProgram) (output : PlainTy) (task : Bool) (text : List ℕ) (
       clean : (schedule : Schedule) (kind : FaultKind) (event item : ℕ) (cell : Option shown.Cell) → FaultsUnder schedule k g.launch (begun p output (world_given g)) kind event item cell → ⊥
       clean schedule kind event item cell f =
           no_fault (device_of k g.launch (begun p output (world_given g))) (start_state k (begun p output (world_given g))) f.front (Step item) [] kind
-          (leaves (f.front ++ Step item ∷ []) f.scheduled.is_run.enabled).faultless f.fault
+          (leaves (f.front ++ Step item ∷ []) f.faults.scheduled.is_run.enabled).faultless f.faults.fault
 
       -- the run leaves the value's lists
       left : (schedule : Schedule) (rows : List (List ℕ)) (events releases : ℕ) → EndsUnder schedule k g.launch (begun p output (world_given g)) rows events releases → rows ≡ lists_of output (source_value p (world_given g))

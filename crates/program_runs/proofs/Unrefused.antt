@@ -46,7 +46,7 @@ admitted once law d may p output task text seed c =
     let parallel : false ≡ task = sym d.parallel ∙ ap (λ s. is_task s.tree) last ∙ c.alone in
     let m = may seed in
     subst (λ b. IsAdmissibleFor p b (demo_given seed)) parallel
-    (subst (λ q. IsAdmissibleFor q false (demo_given seed)) same (record { world = m.world; launch = m.launch }))
+    (subst (λ q. IsAdmissibleFor q false (demo_given seed)) same (record { world = m.world; flat = m.flat; launch = m.launch }))
 
 -- ---- the texts as they are handed over
 

@@ -1,7 +1,7 @@
 -- The demo's line.
 use Rattle.std.specs.Prelude.{◌≡◌, ℕ, List, Bool}
 use Rattle.kernel_tree.specs.Code.{Kernel}
-use Rattle.kernel_tree.specs.KernelText.{IsKernelText}
+use Rattle.kernel_tree.specs.KernelText.{IsKernelText, lift}
 use Rattle.lift_tree.specs.Launches.{lists_of}
 use Rattle.lift_tree.specs.Programs.{PlainProgram}
 use Rattle.lift_tree.specs.Types.{PlainTy}
@@ -16,7 +16,7 @@ use Rattle.program_runs.specs.Runs.{RunsAsGiven, world_given}
 -- The line is that of the run of the text on the demo's data: the text is a kernel's, whose run at the demo's launch leaves the source's value, and has so many events, so many of them releases; and the sum is that of the source's value.
 pub record IsLineOfDemo (p : PlainProgram) (output : PlainTy) (text : List ℕ) (seed : ℕ) (line : List ℕ) : Type 0 where
   pub kernel : Kernel
-  pub read : IsKernelText text kernel
+  pub read : IsKernelText lift text kernel
   pub events : ℕ
   pub releases : ℕ
   pub run : RunsAsGiven p output kernel (demo_given seed) events releases

@@ -3,9 +3,9 @@ use Rattle.std.specs.Prelude.{◌≡◌, ◌++◌, ℕ, List, [], Bool, Some, if
 use Rattle.kernel_tree.specs.declared.events.Event.{Event}
 use Rattle.kernel_tree.specs.declared.events.Seen.{Seen}
 use Rattle.kernel_tree.specs.Code.{Kernel}
-use Rattle.kernel_tree.specs.KernelText.{IsKernelText}
+use Rattle.kernel_tree.specs.KernelText.{IsKernelText, lift}
 use Rattle.kernel_tree.specs.Device.{device_of, start_state}
-use Rattle.kernel_tree.specs.Launch.{Cells, Launch}
+use Rattle.kernel_tree.specs.Launch.{Cells, IsFlat, Launch}
 use Rattle.ndrange_device.specs.Outcomes.{EndsUnder, sights}
 use Rattle.lift_tree.specs.Launches.{IsAdmissibleLaunch, buffers_of, lists_of}
 use Rattle.lift_tree.specs.Meaning.{World}
@@ -30,10 +30,11 @@ begun p output w = record {
   rest = 0;
 }
 
--- the sizes, the inputs and the launch that are given are admissible for the program
+-- the sizes, the inputs and the launch that are given are admissible for the program; the launch is one row
 pub record IsAdmissibleFor (p : PlainProgram) (is_task : Bool) (g : Given) : Type 0 where
   pub world : IsAdmissible (declared_by p) (world_given g)
-  pub launch : IsAdmissibleLaunch (declared_by p).names is_task g.bases g.launch.global g.launch.local
+  pub flat : IsFlat g.launch
+  pub launch : IsAdmissibleLaunch (declared_by p).names is_task g.bases g.launch.global.0 g.launch.local.0
 
 -- the kernel's run under the schedule, at the launch and on the inputs that are given leaves the source's value, and has so many events, so many of them releases
 abbrev pub RunsAsGiven : PlainProgram → (output : PlainTy) → Kernel → Given → (events releases : ℕ) → Type 0
@@ -46,7 +47,7 @@ traced_sights traced k l c es = if traced then sights (device_of k l c) (start_s
 -- The text is a kernel's, whose run at what is given leaves the source's value, and has so many events, so many of them releases; this is seen of them, where the run is traced.
 pub record RunsText (p : PlainProgram) (output : PlainTy) (text : List ℕ) (g : Given) (traced : Bool) (events releases : ℕ) (seen : List Seen) : Type 0 where
   pub kernel : Kernel
-  pub read : IsKernelText text kernel
+  pub read : IsKernelText lift text kernel
   pub run : RunsAsGiven p output kernel g events releases
   pub seen_of_it : seen ≡ traced_sights traced kernel g.launch (begun p output (world_given g)) run.run
 

@@ -1,7 +1,7 @@
 //! The run of the text of a kernel.
 ghost use Rattle.std.specs.Prelude.{◌≡◌, ◌++◌, [], false, true, IfErr, IfOk, Some, map};
 ghost use Rattle.kernel_tree.specs.Kernels.{kernel_of};
-ghost use Rattle.kernel_tree.specs.KernelText.{IsKernelText};
+ghost use Rattle.kernel_tree.specs.KernelText.{IsKernelText, lift};
 ghost use Rattle.kernel_tree.specs.Launch as shown;
 ghost use Rattle.kernel_tree.specs.Schedule.{schedule_of};
 ghost use Rattle.ndrange_device.specs.Outcomes.{EndsUnder, Refuses, SeesRun};
@@ -42,7 +42,7 @@ use value_lists::value_of_lists;
 
 // The kernel that is read back from the text.
 fn read_back(alloc: Global, compiled: &Compiled) -> Result<Kernel, AllocError>
-    ensures { IfOk result (λ k. IsKernelText compiled.now.text.items (kernel_of k)) }
+    ensures { IfOk result (λ k. IsKernelText lift compiled.now.text.items (kernel_of k)) }
 {
     match read_kernel(alloc, compiled.text.as_slice()) {
         Ok(kernel) => Ok(kernel),

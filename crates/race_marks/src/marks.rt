@@ -1,10 +1,11 @@
-//! Marks of cells: one record a cell, which tells of all accesses of a run so far as much as a
-//! race can ask.
+//! Marks of cells: eight bytes a cell, which tell of all accesses of a run so far as much as a race
+//! can ask.
 
-ghost use Rattle.std.specs.Prelude.{◌≡◌, ◌<◌, ◌==◌, length, map, replicate, slice_index, slice_index_or, slice_set, if◌then◌else◌, IfOk, true};
+ghost use Rattle.std.specs.Prelude.{◌≡◌, ◌<◌, ◌==◌, false, length, map, replicate, slice_index_or, slice_set, if◌then◌else◌, IfOk};
 ghost use Rattle.std.specs.List.{All};
 ghost use Rattle.race_marks.specs.Marks as told;
-ghost use Rattle.race_marks.specs.Held.{lately_of, mark_of, swept_mark, IsKept, View};
+ghost use Rattle.race_marks.specs.Held.{lately_of, in_group, mark_at, mark_of, swept_mark, IsKept, Notes, View};
+ghost use Rattle.race_marks.specs.declared.marks.Lately.TheVariants as lately;
 
 use std::alloc::{AllocError, Global};
 use std::marker::Model;
@@ -12,8 +13,8 @@ use std::marker::Model;
 /// An access of a cell by a work-item of a group.
 #[derive(Clone, Copy)]
 pub struct Touch {
-    pub group: u32,
-    pub item: u32,
+    pub group: u16,
+    pub item: u16,
     pub writes: bool,
 }
 
@@ -22,32 +23,43 @@ pub struct Touch {
 pub enum Lately {
     /// None has touched it.
     Nothing,
-    /// This item alone has read it, and none has written it.
-    ReadByOne(u32),
+    /// One item alone has read it, and none has written it.
+    ReadByOne,
     /// Several items have read it, and none has written it.
     ReadByMany,
-    /// This item alone has touched it, and has written it.
-    WrittenBy(u32),
+    /// One item alone has touched it, and has written it.
+    WrittenByOne,
 }
 
-/// What a run without a race has done with a cell.
+/// Who has touched a cell in a run without a race.
 #[derive(Clone, Copy)]
-pub enum Mark {
-    /// Nobody has touched it.
-    Untouched,
+pub enum Touched {
+    /// Nobody.
+    ByNone,
     /// Items of several groups have read it, and none has written it.
     ReadByGroups,
-    /// Items of this group alone have touched it; whether any has written it; the group's epoch at
-    /// the last access, and what was done in that epoch. An epoch that isn't the group's is an
-    /// earlier one.
-    InGroup(u32, bool, u32, Lately),
+    /// Items of one group alone, which have only read it.
+    ReadInGroup,
+    /// Items of one group alone, and one has written it.
+    WrittenInGroup,
+}
+
+/// A cell's mark: who has touched it, and of a single group what was done in its epoch at the last
+/// access, and by which item. An epoch that isn't the group's is an earlier one.
+#[derive(Clone, Copy)]
+pub struct Mark {
+    pub touched: Touched,
+    pub lately: Lately,
+    pub item: u16,
+    pub group: u16,
+    pub epoch: u16,
 }
 
 /// The marks of cells whose accesses one flag orders, and the epochs of the groups.
 #[derive(Drop)]
 pub struct Marks {
     marks: Vec<Mark>,
-    epochs: Vec<u32>,
+    epochs: Vec<u16>,
 }
 
 impl Model for Marks {
@@ -70,32 +82,39 @@ impl Marks {
           marks = replicate cells told.Untouched;
         }) }
     {
-        let marks = vec![in alloc; Mark::Untouched; cells]?;
-        let epochs = vec![in alloc; 1u32; groups]?;
+        let untouched = Mark {
+            touched: Touched::ByNone,
+            lately: Lately::Nothing,
+            item: 0,
+            group: 0,
+            epoch: 0,
+        };
+        let marks = vec![in alloc; untouched; cells]?;
+        let epochs = vec![in alloc; 1u16; groups]?;
         Ok(Marks { marks, epochs })
     }
 
-    /// Whether the access races with one of the run so far.
-    pub fn races(&self, cell: usize, touch: Touch) -> bool
-        requires { cell < length self.now.marks }
-        ensures { result ≡ told.races (slice_index_or self.now.marks cell told.Untouched)
-            touch.group touch.item touch.writes }
-    {
-        races_at(self.marks[cell], &self.epochs, touch)
-    }
-
-    /// Takes an access into account that is no race.
-    pub fn note(&mut self, cell: usize, touch: Touch)
+    /// Whether the access races with one of the run so far. One that doesn't is taken into account.
+    #[inline(always)]
+    pub fn touch(&mut self, cell: usize, touch: Touch) -> bool
         requires cell { cell < length self.old.marks }
         requires group { touch.group < self.old.groups }
-        ensures { self.new ≡ record {
+        ensures race { result ≡ told.races (slice_index_or self.old.marks cell told.Untouched)
+            touch.group touch.item touch.writes }
+        ensures marks { self.new ≡ record {
           groups = self.old.groups;
-          marks = slice_set self.old.marks cell
+          marks = if result then self.old.marks else slice_set self.old.marks cell
               (told.noted (slice_index_or self.old.marks cell told.Untouched)
               touch.group touch.item touch.writes);
         } }
     {
-        self.marks[cell] = noted_at(self.marks[cell], &self.epochs, touch);
+        match noted(self.marks[cell], self.epochs[touch.group as usize], touch) {
+            Some(mark) => {
+                self.marks[cell] = mark;
+                false
+            }
+            None => true,
+        }
     }
 
     /// Takes a release of the group with the flag into account.
@@ -107,7 +126,7 @@ impl Marks {
         } }
     {
         let epoch = self.epochs[group as usize];
-        if epoch < u32::MAX {
+        if epoch < u16::MAX {
             self.epochs[group as usize] = epoch + 1;
         } else {
             sweep(&mut self.marks, group);
@@ -116,103 +135,133 @@ impl Marks {
     }
 }
 
-fn lately_at(epochs: &[u32], group: u32, epoch: u32, lately: Lately) -> Lately
-    requires { group < length epochs.now }
-    ensures { lately_of result ≡
-        (if epoch == slice_index epochs.now group then lately_of lately else told.Nothing) }
+// What was done in the epoch, where the last access was in this one.
+fn lately_now(mark: Mark, now: u16) -> Lately
+    ensures { lately_of result mark.item
+        ≡ (if mark.epoch == now then lately_of mark.lately mark.item else told.Nothing) }
 {
-    if epoch == epochs[group as usize] {
-        lately
+    if mark.epoch == now {
+        mark.lately
     } else {
         Lately::Nothing
     }
 }
 
-fn races_lately(lately: Lately, touch: Touch) -> bool
-    ensures { result ≡ told.races_lately (lately_of lately) touch.item touch.writes }
+// Whether the touch races with what an item of its group has done in its epoch.
+fn races_lately(lately: Lately, item: u16, touch: Touch) -> bool
+    ensures { result ≡ told.races_lately (lately_of lately item) touch.item touch.writes }
 {
     match lately {
         Lately::Nothing => false,
-        Lately::ReadByOne(item) => {
-            if item == touch.item {
-                false
-            } else {
-                touch.writes
-            }
-        }
+        Lately::ReadByOne => item != touch.item && touch.writes,
         Lately::ReadByMany => touch.writes,
-        Lately::WrittenBy(item) => item != touch.item,
+        Lately::WrittenByOne => item != touch.item,
     }
 }
 
-fn noted_lately(lately: Lately, touch: Touch) -> Lately
-    ensures { lately_of result ≡ told.noted_lately (lately_of lately) touch.item touch.writes }
+// What was done with the touch, which is no race, where this item was the last.
+fn noted_lately(lately: Lately, item: u16, touch: Touch) -> Lately
+    ensures { told.races_lately (lately_of lately item) touch.item touch.writes ≡ false
+        → lately_of result touch.item
+        ≡ told.noted_lately (lately_of lately item) touch.item touch.writes }
 {
     if touch.writes {
-        Lately::WrittenBy(touch.item)
+        return Lately::WrittenByOne;
+    }
+    match lately {
+        Lately::Nothing => Lately::ReadByOne,
+        Lately::ReadByOne => {
+            if item == touch.item {
+                Lately::ReadByOne
+            } else {
+                Lately::ReadByMany
+            }
+        }
+        Lately::ReadByMany => Lately::ReadByMany,
+        Lately::WrittenByOne => Lately::WrittenByOne,
+    }
+}
+
+// The mark with the touch, at its group's epoch; none where it is a race.
+#[inline(always)]
+fn noted(mark: Mark, now: u16, touch: Touch) -> Option<Mark>
+    ensures { Notes mark now touch result }
+{
+    match mark.touched {
+        Touched::ByNone => Some(first_mark(now, touch)),
+        Touched::ReadByGroups => { if touch.writes { None } else { Some(mark) } }
+        Touched::ReadInGroup => noted_in_group(mark, now, touch, false),
+        Touched::WrittenInGroup => noted_in_group(mark, now, touch, true),
+    }
+}
+
+// The mark of a cell that nobody has touched before.
+fn first_mark(now: u16, touch: Touch) -> Mark
+    ensures { result ≡ mark_at now touch touch.writes
+        (if touch.writes then lately.WrittenByOne else lately.ReadByOne) }
+{
+    Mark {
+        touched: touched_in_group(touch.writes),
+        lately: if touch.writes {
+            Lately::WrittenByOne
+        } else {
+            Lately::ReadByOne
+        },
+        item: touch.item,
+        group: touch.group,
+        epoch: now,
+    }
+}
+
+// Of a mark that tells of one group, which has written the cell or not.
+#[inline(always)]
+fn noted_in_group(mark: Mark, now: u16, touch: Touch, written: bool) -> Option<Mark>
+    requires { mark.touched ≡ in_group written }
+    ensures { Notes mark now touch result }
+{
+    if mark.group == touch.group {
+        noted_in_own(mark, now, touch, written)
+    } else if written || touch.writes {
+        None
     } else {
-        match lately {
-            Lately::Nothing => Lately::ReadByOne(touch.item),
-            Lately::ReadByOne(item) => {
-                if item == touch.item {
-                    lately
-                } else {
-                    Lately::ReadByMany
-                }
-            }
-            _ => lately,
-        }
+        Some(Mark {
+            touched: Touched::ReadByGroups,
+            lately: mark.lately,
+            item: mark.item,
+            group: mark.group,
+            epoch: mark.epoch,
+        })
     }
 }
 
-fn races_at(mark: Mark, epochs: &[u32], touch: Touch) -> bool
-    requires { IsKept epochs.now mark }
-    ensures { result ≡ told.races (mark_of epochs.now mark)
-        touch.group touch.item touch.writes }
+// Of a mark that tells of the touch's group.
+#[inline(always)]
+fn noted_in_own(mark: Mark, now: u16, touch: Touch, written: bool) -> Option<Mark>
+    requires touched { mark.touched ≡ in_group written }
+    requires own { mark.group ≡ touch.group }
+    ensures { Notes mark now touch result }
 {
-    match mark {
-        Mark::Untouched => false,
-        Mark::ReadByGroups => touch.writes,
-        Mark::InGroup(group, written, epoch, lately) => {
-            if group == touch.group {
-                races_lately(lately_at(epochs, group, epoch, lately), touch)
-            } else if written {
-                true
-            } else {
-                touch.writes
-            }
-        }
+    let lately = lately_now(mark, now);
+    if races_lately(lately, mark.item, touch) {
+        None
+    } else {
+        Some(Mark {
+            touched: touched_in_group(written || touch.writes),
+            lately: noted_lately(lately, mark.item, touch),
+            item: touch.item,
+            group: touch.group,
+            epoch: now,
+        })
     }
 }
 
-fn noted_at(mark: Mark, epochs: &[u32], touch: Touch) -> Mark
-    requires kept { IsKept epochs.now mark }
-    requires group { touch.group < length epochs.now }
-    ensures kept { IsKept epochs.now result }
-    ensures seen { mark_of epochs.now result ≡ told.noted (mark_of epochs.now mark)
-        touch.group touch.item touch.writes }
+fn touched_in_group(written: bool) -> Touched
+    ensures { result ≡ in_group written }
 {
-    let now = epochs[touch.group as usize];
-    match mark {
-        Mark::Untouched => Mark::InGroup(
-            touch.group,
-            touch.writes,
-            now,
-            noted_lately(Lately::Nothing, touch),
-        ),
-        Mark::ReadByGroups => Mark::ReadByGroups,
-        Mark::InGroup(group, written, epoch, lately) => {
-            if group == touch.group {
-                Mark::InGroup(
-                    group,
-                    if written { true } else { touch.writes },
-                    now,
-                    noted_lately(lately_at(epochs, group, epoch, lately), touch),
-                )
-            } else {
-                Mark::ReadByGroups
-            }
-        }
+    if written {
+        Touched::WrittenInGroup
+    } else {
+        Touched::ReadInGroup
     }
 }
 
@@ -228,14 +277,15 @@ fn sweep(marks: &mut [Mark], group: u32)
 fn swept(mark: Mark, group: u32) -> Mark
     ensures { result ≡ swept_mark group mark }
 {
-    match mark {
-        Mark::InGroup(other, written, epoch, lately) => {
-            if other == group {
-                Mark::InGroup(other, written, 0, lately)
-            } else {
-                Mark::InGroup(other, written, epoch, lately)
-            }
-        }
-        _ => mark,
+    Mark {
+        touched: mark.touched,
+        lately: mark.lately,
+        item: mark.item,
+        group: mark.group,
+        epoch: if mark.group as u32 == group {
+            0
+        } else {
+            mark.epoch
+        },
     }
 }

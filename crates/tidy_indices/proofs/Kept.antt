@@ -4,7 +4,7 @@ use Rattle.std.specs.Prelude.{◌∷◌, if◌then◌else◌}
 use Rattle.size_arith.specs.declared.names.Name.{Name}
 use Rattle.index_expr.specs.Expression as index
 use Rattle.index_expr.specs.Expression.{Expression, nodes}
-use Rattle.kernel_tree.specs.Formula.{Formula, Ids, value}
+use Rattle.kernel_tree.specs.Formula.{Formula, Ids, Vars, value}
 use Rattle.length_spelling.specs.Formulas.{index_formula}
 use Rattle.length_spelling.specs.Laws.{AreWords}
 use Rattle.index_simplify.specs.PlainRanges.{PlainRanges}
@@ -28,7 +28,7 @@ use Rattle.tidy_indices.proofs.Intervals.{AreSizesOf, is_shown, is_ranged}
 use Rattle.tidy_indices.proofs.Turns.{Holds, place_is_of, place_holds, turns_fit, turns_up_to, are_below_lengths, multiples_at, sizes_fit, sizes_within, sizes_divide, shown_value}
 
 -- ---- values
-module _ (facts : Known) (names : List Name) (ids : Ids) (fit : AreWords ids.sizes) (sizes_are : AreSizesOf names ids.sizes) (all : AreMultiples (ranges_outside names) ids.sizes) (turns variables : List ℕ) (p : PlainPlace) (h : Holds names ids.sizes fit sizes_are all p turns) (f : Formula) (n : ℕ) (is : value ids turns variables f ≡ Some n) where
+module _ (facts : Known) (names : List Name) (ids : Ids) (fit : AreWords ids.sizes) (sizes_are : AreSizesOf names ids.sizes) (all : AreMultiples (ranges_outside names) ids.sizes) (turns : List ℕ) (variables : Vars) (p : PlainPlace) (h : Holds names ids.sizes fit sizes_are all p turns) (f : Formula) (n : ℕ) (is : value ids turns variables f ≡ Some n) where
   module _ (known : p.is_known ≡ true) (e : Expression) (read : reading f ≡ Some e) where
     words : AreWords turns
     words = turns_fit names ids.sizes fit sizes_are all p.around.lengths p.lasts turns (h.loops known)

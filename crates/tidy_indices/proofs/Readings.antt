@@ -66,7 +66,7 @@ is_read (Number n) e h = number_read n (nat_lt n (2 ^ 32)) e refl h
 is_read (Variable v) e h = absurd (cc h)
 is_read (LoopVariable k) e h = let same : index.Variable k 0 4294967295 ≡ e = cc h in subst (IsRead (LoopVariable k)) same (loop_read k)
 is_read (Size k) e h = let same : index.Size k ≡ e = cc h in subst (IsRead (Size k)) same (size_read k)
-is_read (Id form) e h = absurd (cc h)
+is_read (Id d form) e h = absurd (cc h)
 is_read (Binary o a b) e h = operation_read o (operation_of o) a b (reading a) (reading b) e refl (is_read a) (is_read b) h
 is_read (Choose c a b x y) e h = absurd (cc h)
 
@@ -89,7 +89,7 @@ index_reads (Number n) h = (index.Literal n, ap (λ (b : Bool). if b then Some (
 index_reads (Variable v) h = absurd h
 index_reads (LoopVariable k) h = (index.Variable k 0 4294967295, refl)
 index_reads (Size k) h = (index.Size k, refl)
-index_reads (Id form) h = absurd h
+index_reads (Id d form) h = absurd h
 index_reads (Binary o a b) h =
     let p = operator_read o h.0 in
     let x = index_reads a h.1 in

@@ -10,7 +10,7 @@ use Rattle.index_expr.specs.declared.operation.Operation.{Operation}
 use Rattle.index_expr.specs.Expression as index
 use Rattle.index_expr.specs.Expression.{Expression}
 use Rattle.index_expr.specs.Values.{operate, exact}
-use Rattle.kernel_tree.specs.Formula.{Formula, Ids, value, bound_value, sizes_alone}
+use Rattle.kernel_tree.specs.Formula.{Formula, Ids, Vars, no_vars, value, bound_value, sizes_alone}
 use Rattle.length_spelling.specs.Formulas.{index_formula}
 use Rattle.length_spelling.specs.Laws.{AreWords}
 use Rattle.index_simplify.specs.Operations.{simple}
@@ -70,7 +70,7 @@ sizes_divide (n ∷ names) (y ∷ bases) ok zero m h =
 sizes_divide (n ∷ names) (y ∷ bases) ok (suc k) m h = sizes_divide names bases ok.1 k m h
 
 -- ---- an expression that has a span is worth what it is exactly
-pub shown_value : Known → (names : List Name) (ids : Ids) (lasts turns variables : List ℕ) (sizes_are : AreSizesOf names ids.sizes) (turns_are : AreUpTo lasts turns) (e : Expression) (s : Span)
+pub shown_value : Known → (names : List Name) (ids : Ids) (lasts turns : List ℕ) (variables : Vars) (sizes_are : AreSizesOf names ids.sizes) (turns_are : AreUpTo lasts turns) (e : Expression) (s : Span)
     → AreWords ids.sizes → AreWords turns → HasWordLiterals e → (h : IsShown names ids.sizes lasts turns sizes_are turns_are e s)
     → value ids turns variables (index_formula e) ≡ Some h.at
 shown_value facts names ids lasts turns variables sizes_are turns_are e s fit turns_fit lits h =
@@ -163,10 +163,10 @@ module _ (names : List Name) (sizes : List ℕ) (fit : AreWords sizes) (sizes_ar
 
   module _ (facts : Known) where
     -- the turn of a loop whose bound has a span
-    shown_turn : (p : PlainPlace) (e : Expression) (s : Span) (n t : ℕ) → IsOf names p → HasWordLiterals e → AreWide e → span_of names [] e ≡ Some s → value (sizes_alone sizes) [] [] (index_formula e) ≡ Some n → t < n → IsTurn (simple (without_loops p.around) e) (s.greatest - 1) t
+    shown_turn : (p : PlainPlace) (e : Expression) (s : Span) (n t : ℕ) → IsOf names p → HasWordLiterals e → AreWide e → span_of names [] e ≡ Some s → value (sizes_alone sizes) [] no_vars (index_formula e) ≡ Some n → t < n → IsTurn (simple (without_loops p.around) e) (s.greatest - 1) t
     shown_turn p e s n t is_of lits wide h w lt =
         let shown = is_shown names sizes [] [] sizes_are (λ k g f. absurd (cc f)) e s lits h in
-        let same : n ≡ shown.at = (let both : Some n ≡ Some shown.at = sym w ∙ shown_value facts names (sizes_alone sizes) [] [] [] sizes_are (λ k g f. absurd (cc f)) e s fit no_words lits shown in cc both) in
+        let same : n ≡ shown.at = (let both : Some n ≡ Some shown.at = sym w ∙ shown_value facts names (sizes_alone sizes) [] [] no_vars sizes_are (λ k g f. absurd (cc f)) e s fit no_words lits shown in cc both) in
         let below = shown.within.below in
         let fits = shown.within.fits in
         record {
@@ -180,12 +180,12 @@ module _ (names : List Name) (sizes : List ℕ) (fit : AreWords sizes) (sizes_ar
         }
 
     -- and of one whose bound may wrap
-    word_turn : (p : PlainPlace) (e : Expression) (n t : ℕ) → IsOf names p → HasWordLiterals e → value (sizes_alone sizes) [] [] (index_formula e) ≡ Some n → t < n → IsTurn beyond_words 4294967295 t
+    word_turn : (p : PlainPlace) (e : Expression) (n t : ℕ) → IsOf names p → HasWordLiterals e → value (sizes_alone sizes) [] no_vars (index_formula e) ≡ Some n → t < n → IsTurn beyond_words 4294967295 t
     word_turn p e n t is_of lits w lt =
-        let word = word_of facts p.around.multiples (sizes_alone sizes) [] [] fit no_words (multiples_at p is_of) e n lits w in
+        let word = word_of facts p.around.multiples (sizes_alone sizes) [] no_vars fit no_words (multiples_at p is_of) e n lits w in
         record { count = 4294967296; length_is = λ turns words. refl; below = omega arith; last = omega arith; fits = omega arith }
 
-    loop_holds : (p : PlainPlace) (us : List ℕ) (e : Expression) (n t : ℕ) → Holds p us → HasWordLiterals e → AreWide e → value (sizes_alone sizes) [] [] (index_formula e) ≡ Some n → t < n → (s : Option Span) → span_of p.sizes [] e ≡ s → Holds (in_loop_of p e s) (us ++ t ∷ [])
+    loop_holds : (p : PlainPlace) (us : List ℕ) (e : Expression) (n t : ℕ) → Holds p us → HasWordLiterals e → AreWide e → value (sizes_alone sizes) [] no_vars (index_formula e) ≡ Some n → t < n → (s : Option Span) → span_of p.sizes [] e ≡ s → Holds (in_loop_of p e s) (us ++ t ∷ [])
     loop_holds p us e n t h lits wide w lt (Some s) f =
         let turn = shown_turn p e s n t h.is_of lits wide (ap (λ z. span_of z [] e) (sym h.is_of.sizes) ∙ f) w lt in
         record { is_of = loop_is_of names p e (Some s) h.is_of; loops = λ known. one_more p.around.lengths p.lasts us (simple (without_loops p.around) e) (s.greatest - 1) t (h.loops known) turn }
@@ -196,7 +196,7 @@ module _ (names : List Name) (sizes : List ℕ) (fit : AreWords sizes) (sizes_ar
     in_holds : (p : PlainPlace) (us : List ℕ) (b : Formula) (n t : ℕ) → Holds p us → bound_value sizes b ≡ Some n → t < n → (e : Option Expression) → reading b ≡ e → Holds (in_loop p e) (us ++ t ∷ [])
     in_holds p us b n t h w lt (Some e) f =
         let read = is_read b e f in
-        loop_holds p us e n t h read.literals read.wide (ap (value (sizes_alone sizes) [] []) read.same ∙ w) lt (span_of p.sizes [] e) refl
+        loop_holds p us e n t h read.literals read.wide (ap (value (sizes_alone sizes) [] no_vars) read.same ∙ w) lt (span_of p.sizes [] e) refl
     in_holds p us b n t h w lt None f = record { is_of = in_is_of names p None h.is_of; loops = λ known. absurd (cc known) }
 
     append_more : (us : List ℕ) (t : ℕ) (ts : List ℕ) → (us ++ t ∷ []) ++ ts ≡ us ++ t ∷ ts

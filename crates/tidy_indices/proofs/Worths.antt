@@ -8,7 +8,7 @@ use Rattle.index_expr.specs.declared.operation.Operation.TheVariants.{Sum, Diffe
 use Rattle.index_expr.specs.Expression.{Expression, Variable, Literal, Size, Binary}
 use Rattle.index_expr.specs.Values.{operate_words, Divides}
 use Rattle.kernel_tree.specs.Formula as formula
-use Rattle.kernel_tree.specs.Formula.{Formula, Ids, operate, with_both, value}
+use Rattle.kernel_tree.specs.Formula.{Formula, Ids, Vars, operate, with_both, value}
 use Rattle.length_spelling.specs.Formulas.{index_formula, operator_of}
 use Rattle.length_spelling.specs.Laws.{AreWords}
 use Rattle.index_simplify.specs.PlainRanges.{PlainRanges}
@@ -365,10 +365,11 @@ module _ (facts : Known) (multiples : List ℕ) where
   otherwise true x y h e = absurd (h refl)
   otherwise false x y h e = e
 
-  no_part : (o : Operation) (a b : Expression) → AreWide a → HasWordLiterals a → HasWordLiterals b → part_of Sizes o a b ≡ None
-  no_part Quotient a b wide x y = otherwise (stays_below Sizes a b) (Some (Literal 0)) (quotient_of Sizes a b) (stays_nowhere a b wide x y) (no_quotient_of a b wide x)
-  no_part Remainder a b wide x y = otherwise (stays_below Sizes a b) (Some a) (remainder_of Sizes a b) (stays_nowhere a b wide x y) (no_remainder_of a b wide x)
-  no_part _ a b wide x y = refl
+  no_part : (o : Operation) (a b : Expression) → AreWide a → AreWide b → HasWordLiterals a → HasWordLiterals b → part_of Sizes o a b ≡ None
+  no_part Sum a b wide second x y = unless (stays_below Sizes b (Literal 1)) (Some a) (stays_nowhere b (Literal 1) second y (omega arith))
+  no_part Quotient a b wide second x y = otherwise (stays_below Sizes a b) (Some (Literal 0)) (quotient_of Sizes a b) (stays_nowhere a b wide x y) (no_quotient_of a b wide x)
+  no_part Remainder a b wide second x y = otherwise (stays_below Sizes a b) (Some a) (remainder_of Sizes a b) (stays_nowhere a b wide x y) (no_remainder_of a b wide x)
+  no_part _ a b wide second x y = refl
 
   parted_same : (e : Expression) → AreWide e → HasWordLiterals e → parted Sizes e ≡ e
   parted_same (Variable k l g) wide h = refl
@@ -377,9 +378,9 @@ module _ (facts : Known) (multiples : List ℕ) where
   parted_same (Binary o a b) wide h =
       ap (λ z. parted_operation Sizes o z (parted Sizes b)) (parted_same a (λ turns w. (wide turns w).0) h.0)
       ∙ ap (parted_operation Sizes o a) (parted_same b (λ turns w. (wide turns w).1) h.1)
-      ∙ ap (λ z. unwrap_or z (Binary o a b)) (no_part o a b (λ turns w. (wide turns w).0) h.0 h.1)
+      ∙ ap (λ z. unwrap_or z (Binary o a b)) (no_part o a b (λ turns w. (wide turns w).0) (λ turns w. (wide turns w).1) h.0 h.1)
 
-  module _ (ids : Ids) (turns variables : List ℕ) (sizes_fit : AreWords ids.sizes) (turns_fit : AreWords turns) (all : AreMultiples Sizes ids.sizes) where
+  module _ (ids : Ids) (turns : List ℕ) (variables : Vars) (sizes_fit : AreWords ids.sizes) (turns_fit : AreWords turns) (all : AreMultiples Sizes ids.sizes) where
     abbrev IsWorth : Expression → ℕ → Type 0
     IsWorth e n = value ids turns variables (index_formula e) ≡ Some n
 

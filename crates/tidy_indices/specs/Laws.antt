@@ -3,7 +3,7 @@ use Rattle.std.specs.Prelude.{ℕ, ◌≡◌, ◌≤◌, ◌<◌, List, [], ◌�
 use Rattle.size_arith.specs.declared.names.Name.{Name}
 use Rattle.size_arith.specs.Ranges.{AreNames, Admissible, sizes_at}
 use Rattle.index_expr.specs.Expression.{Expression, short_nodes}
-use Rattle.kernel_tree.specs.Formula.{Formula, Ids, value, bound_value}
+use Rattle.kernel_tree.specs.Formula.{Formula, Ids, Vars, value, bound_value}
 use Rattle.index_simplify.specs.Simplified.{AreDeclared}
 use Rattle.tidy_indices.specs.Formulas.{formula_nodes}
 use Rattle.tidy_indices.specs.Redundant.{IsIrredundant}
@@ -25,7 +25,7 @@ Change = (bounds : List Formula) → Formula → Formula
 -- at these sizes it leaves each value, at the turns of the loops around
 abbrev pub KeepsValues : Change → (sizes : List ℕ) → Type 0
 KeepsValues change sizes =
-    (ids : Ids) (bounds : List Formula) (turns variables : List ℕ) (f : Formula) (n : ℕ)
+    (ids : Ids) (bounds : List Formula) (turns : List ℕ) (variables : Vars) (f : Formula) (n : ℕ)
     → ids.sizes ≡ sizes → AreBelow sizes bounds turns → value ids turns variables f ≡ Some n
     → value ids turns variables (change bounds f) ≡ Some n
 

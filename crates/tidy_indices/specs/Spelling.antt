@@ -2,7 +2,7 @@
 use Rattle.std.specs.Prelude.{ℕ, ◌≡◌, ◌≤◌, pos, true, List, Some}
 use Rattle.index_expr.specs.Expression.{Expression}
 use Rattle.index_expr.specs.Values.{exact, IsRangedAt, HasNoZeroDivisorAt}
-use Rattle.kernel_tree.specs.Formula.{Formula, Ids, value}
+use Rattle.kernel_tree.specs.Formula.{Formula, Ids, Vars, value}
 use Rattle.kernel_tree.specs.Code.{Kernel}
 use Rattle.kernel_tree.specs.Grammar.{height, is_constant, names_declared}
 use Rattle.length_spelling.specs.Formulas.{index_formula}
@@ -16,7 +16,7 @@ use Rattle.tidy_indices.specs.Redundant.{IsIrredundant}
 -- among words, where an expression is ranged and divides by no 0, it has its exact value
 abbrev pub RangedFormulasHaveTheValues : Type 0
 RangedFormulasHaveTheValues =
-    (ids : Ids) (loops variables : List ℕ) (e : Expression) (n : ℕ)
+    (ids : Ids) (loops : List ℕ) (variables : Vars) (e : Expression) (n : ℕ)
     → AreWords ids.sizes → AreWords loops → HasWordLiterals e
     → IsRangedAt ids.sizes loops e → HasNoZeroDivisorAt ids.sizes loops e
     → exact ids.sizes loops e ≡ pos n → value ids loops variables (index_formula e) ≡ Some n
@@ -24,7 +24,7 @@ RangedFormulasHaveTheValues =
 -- and simplified too, at a point of the ranges
 abbrev pub SimpleFormulasHaveTheValues : Type 0
 SimpleFormulasHaveTheValues =
-    (r : PlainRanges) (ids : Ids) (loops variables : List ℕ) (e : Expression) (n : ℕ)
+    (r : PlainRanges) (ids : Ids) (loops : List ℕ) (variables : Vars) (e : Expression) (n : ℕ)
     → AreWords ids.sizes → AreWords loops → HasWordLiterals e → IsPoint r ids.sizes loops e
     → IsRangedAt ids.sizes loops e → HasNoZeroDivisorAt ids.sizes loops e → exact ids.sizes loops e ≡ pos n
     → value ids loops variables (simple_formula r e) ≡ Some n

@@ -15,7 +15,7 @@ pub fn copied(alloc: Global, expr: &Expr) -> Result<Expr, AllocError>
         Expr::Variable(number) => Ok(Expr::Variable(*number)),
         Expr::LoopVariable(number) => Ok(Expr::LoopVariable(*number)),
         Expr::Size(number) => Ok(Expr::Size(*number)),
-        Expr::Id(form) => Ok(Expr::Id(*form)),
+        Expr::Id(dimension, form) => Ok(Expr::Id(*dimension, *form)),
         Expr::Binary(op, a, b) => {
             let a = copied(alloc, a)?;
             Expr::binary(alloc, *op, a, copied(alloc, b)?)

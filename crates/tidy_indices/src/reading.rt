@@ -63,6 +63,6 @@ pub fn reading(alloc: Global, expr: &Expr) -> Result<Option<Index>, AllocError>
             }
             None => Ok(None),
         },
-        Expr::Variable(_) | Expr::Id(_) | Expr::Choose(_, _, _, _, _) => Ok(None),
+        Expr::Variable(_) | Expr::Id(_, _) | Expr::Choose(_, _, _, _, _) => Ok(None),
     }
 }

@@ -1,14 +1,14 @@
--- Tidy statements one after another, and tidy loops.
+-- Tidy statements one after another, tidy loops and tidy ifs.
 use Rattle.std.proofs.Common.{◌≡◌, List, [], ◌∷◌, ◌++◌, sym, ap, ◌∙◌}
 use Rattle.std.specs.Prelude.{Vec}
 use Rattle.std.specs.Global.{Global}
 use Rattle.kernel_tree.specs.declared.tree.Expr.{Expr}
 use Rattle.kernel_tree.specs.declared.tree.Start.{Start}
 use Rattle.kernel_tree.specs.declared.tree.Stride.{Stride}
-use Rattle.kernel_tree.specs.declared.tree.Stmt.{Stmt, Loop}
-use Rattle.kernel_tree.specs.Code.{Code, End, Loops}
+use Rattle.kernel_tree.specs.declared.tree.Stmt.{Stmt, Loop, If}
+use Rattle.kernel_tree.specs.Code.{Code, End, Loops, Guards}
 use Rattle.kernel_tree.specs.Tree.{before, code_then, formula_of, start_of, stride_of}
-use Rattle.kernel_tree.proofs.Rows.{before-Loop, code_then-append}
+use Rattle.kernel_tree.proofs.Rows.{before-Loop, before-If, code_then-append}
 use Rattle.tidy_indices.specs.Places.{PlainPlace, inside}
 use Rattle.tidy_indices.specs.Tidy.{tidied_at}
 use Rattle.tidy_kernels.specs.Places.{tidied_in}
@@ -34,3 +34,12 @@ module _ (outermost here : PlainPlace) where
       ∙ ap (λ f. Loops (start_of s) f (stride_of c) (code_then made.items End) (tidied_in outermost here after)) is
       ∙ ap (λ k. Loops (start_of s) (tidied_at outermost (formula_of b)) (stride_of c) k (tidied_in outermost here after)) (are ∙ ap (λ p. tidied_in outermost p (code_then body.items End)) at)
       ∙ ap (tidied_in outermost here) (sym (before-Loop s b c body after))
+
+  pub guarded : (s : Start) (b bound : Expr) (body made : Vec Stmt Global)
+      → formula_of bound ≡ tidied_at outermost (formula_of b) → code_then made.items End ≡ tidied_in outermost here (code_then body.items End)
+      → StandsFor (before (If s bound made)) (before (If s b body))
+  guarded s b bound body made is are after =
+      before-If s bound made (tidied_in outermost here after)
+      ∙ ap (λ f. Guards (start_of s) f (code_then made.items End) (tidied_in outermost here after)) is
+      ∙ ap (λ k. Guards (start_of s) (tidied_at outermost (formula_of b)) k (tidied_in outermost here after)) are
+      ∙ ap (tidied_in outermost here) (sym (before-If s b body after))

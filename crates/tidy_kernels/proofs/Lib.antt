@@ -1,3 +1,4 @@
 mod Grammar
 mod Blocks
 mod Places
+mod Runs

@@ -1,3 +1,4 @@
 pub mod Pass
 pub mod Places
+pub mod Runs
 pub mod Laws

@@ -53,12 +53,23 @@ fn tidied_statement(
         Stmt::Store(array, index, value) => {
             Ok(Stmt::Store(array, here.tidied(alloc, &index)?, value))
         }
+        Stmt::LoadFour(vector, array, offset) => {
+            Ok(Stmt::LoadFour(vector, array, here.tidied(alloc, &offset)?))
+        }
+        Stmt::StoreFour(array, offset, value) => {
+            Ok(Stmt::StoreFour(array, here.tidied(alloc, &offset)?, value))
+        }
         Stmt::Loop(start, bound, stride, body) => {
             let inside = here.inside(alloc, &bound)?;
             let body = tidied_block(alloc, outermost, &inside, body)?;
             Ok(Stmt::Loop(start, outermost.tidied(alloc, &bound)?, stride, body))
         }
+        Stmt::If(start, bound, body) => {
+            let body = tidied_block(alloc, outermost, here, body)?;
+            Ok(Stmt::If(start, outermost.tidied(alloc, &bound)?, body))
+        }
         Stmt::Assign(variable, value) => Ok(Stmt::Assign(variable, value)),
+        Stmt::AssignFour(vector, value) => Ok(Stmt::AssignFour(vector, value)),
         Stmt::Barrier {
             on_local,
             on_global,
@@ -69,8 +80,8 @@ fn tidied_statement(
     }
 }
 
-/// The kernel with tidy indices and bounds: each index of a load or a store is simplified in the
-/// loops around it, and each loop's bound outside of all loops.
+/// The kernel with tidy indices and bounds: each index of a load or a store, and each offset of four,
+/// is simplified in the loops around it, and each bound of a loop or an `if` outside of all loops.
 pub fn tidied(alloc: Global, kernel: Kernel, names: &Names) -> Result<Kernel, AllocError>
     ensures { IfOk result (λ k. kernel_of k
         ≡ tidied_kernel (tidy_formula names.now) (kernel_of kernel)) }
@@ -85,6 +96,8 @@ pub fn tidied(alloc: Global, kernel: Kernel, names: &Names) -> Result<Kernel, Al
         locals: kernel.locals,
         privates: kernel.privates,
         variables: kernel.variables,
+        vectors: kernel.vectors,
+        local: kernel.local,
         body,
     })
 }

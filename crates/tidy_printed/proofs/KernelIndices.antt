@@ -4,8 +4,8 @@ use Rattle.std.specs.Prelude.{◌&&◌, ◌||◌, nat_lt, nat_le}
 use Rattle.size_arith.specs.declared.names.Name.{Name}
 use Rattle.index_expr.specs.Expression.{Expression}
 use Rattle.kernel_tree.specs.Formula.{Formula}
-use Rattle.kernel_tree.specs.Code.{Input, Output, Code, End, Assigns, Loads, Stores, Loops, Syncs, Kernel}
-use Rattle.kernel_tree.specs.Grammar.{deepest, height, is_constant, names_declared, is_expression, is_readable, is_writable, has_statement, are_statements, are_lengths, is_kernel}
+use Rattle.kernel_tree.specs.Code.{Input, Output, Code, End, Assigns, Loads, Stores, AssignsFour, LoadsFour, StoresFour, Loops, Guards, Syncs, Kernel}
+use Rattle.kernel_tree.specs.Grammar.{deepest, height, is_constant, names_declared, is_expression, is_readable, is_writable, is_shared, are_lanes, has_statement, are_statements, are_lengths, is_group_size, is_kernel}
 use Rattle.lift_tree.specs.Annotations.{type_in}
 use Rattle.lift_ir.specs.AtLaunch.{shape_of}
 use Rattle.length_spelling.specs.Formulas.{length_formula}
@@ -18,7 +18,7 @@ use Rattle.tidy_indices.specs.Reading.{reading}
 use Rattle.tidy_kernels.specs.Pass.{tidied_code}
 use Rattle.tidy_printed.specs.Indices.{EachIndexAndBound, IsDeclaredIndex}
 use Rattle.tidy_printed.specs.Tidy.{IsTidyIndex, IsTidyFor, MakesTidy}
-use Rattle.tidy_printed.specs.TidyLaws.{TermsHaveIndexFormulas, GroupsHaveIndexFormulas, TidiedTermsAreTidy, TidiedGroupsAreTidy}
+use Rattle.tidy_printed.specs.TidyLaws.{TermsHaveIndexFormulas, GroupsHaveIndexFormulas, TidiedCodesAreTidy, TidiedTermsAreTidy, TidiedGroupsAreTidy}
 use Rattle.tidy_printed.proofs.Formulas.{Spelled}
 use Rattle.tidy_printed.proofs.Lengths.{lengths_are_spelled}
 use Rattle.tidy_printed.proofs.Readings.{first_of, second_of, spelled_read, read_index}
@@ -34,29 +34,45 @@ module _ (names : List Name) (k : Kernel) where
   read loops f rest h s = spelled_read names k loops f (first_of (names_declared k loops f) (nat_le (height f) deepest) (first_of (is_expression k loops f) rest h)) s
 
   -- what is spelled in the grammar is read
-  all_read : (loops : ℕ) (c : Code) → are_statements k loops c ≡ true → EachIndexAndBound (Spelled names) c → EachIndexAndBound (IsDeclaredIndex names) c
-  all_read loops End h s = tt
-  all_read loops (Assigns v e after) h s = all_read loops after (after_two (nat_lt v k.variables) (is_expression k loops e) (are_statements k loops after) h) s
-  all_read loops (Loads v a i after) h s =
-      let here = after_two (nat_lt v k.variables) (is_readable k a) (is_expression k loops i && are_statements k loops after) h in
-      (read loops i (are_statements k loops after) here s.0, all_read loops after (second_of (is_expression k loops i) (are_statements k loops after) here) s.1)
-  all_read loops (Stores a i e after) h s =
-      let here = second_of (is_writable k a) (is_expression k loops i && (is_expression k loops e && are_statements k loops after)) h in
-      (read loops i (is_expression k loops e && are_statements k loops after) here s.0, all_read loops after (after_two (is_expression k loops i) (is_expression k loops e) (are_statements k loops after) here) s.1)
-  all_read loops (Loops st b c body after) h s =
-      let codes = are_statements k (suc loops) body && are_statements k loops after in
-      let here = after_two (nat_lt loops deepest) (is_constant b) (is_expression k loops b && (has_statement body && codes)) h in
+  all_read : (loops depth : ℕ) (c : Code) → are_statements k loops depth c ≡ true → EachIndexAndBound (Spelled names) c → EachIndexAndBound (IsDeclaredIndex names) c
+  all_read loops depth End h s = tt
+  all_read loops depth (Assigns v e after) h s = all_read loops depth after (after_two (nat_lt v k.variables) (is_expression k loops e) (are_statements k loops depth after) h) s
+  all_read loops depth (Loads v a i after) h s =
+      let here = after_two (nat_lt v k.variables) (is_readable k a) (is_expression k loops i && are_statements k loops depth after) h in
+      (read loops i (are_statements k loops depth after) here s.0, all_read loops depth after (second_of (is_expression k loops i) (are_statements k loops depth after) here) s.1)
+  all_read loops depth (Stores a i e after) h s =
+      let here = second_of (is_writable k a) (is_expression k loops i && (is_expression k loops e && are_statements k loops depth after)) h in
+      (read loops i (is_expression k loops e && are_statements k loops depth after) here s.0, all_read loops depth after (after_two (is_expression k loops i) (is_expression k loops e) (are_statements k loops depth after) here) s.1)
+  all_read loops depth (AssignsFour v e after) h s = all_read loops depth after (after_two (nat_lt v k.vectors) (are_lanes k loops e) (are_statements k loops depth after) h) s
+  all_read loops depth (LoadsFour v a i after) h s =
+      let here = after_two (nat_lt v k.vectors) (is_shared a && is_readable k a) (is_expression k loops i && are_statements k loops depth after) h in
+      (read loops i (are_statements k loops depth after) here s.0, all_read loops depth after (second_of (is_expression k loops i) (are_statements k loops depth after) here) s.1)
+  all_read loops depth (StoresFour a i e after) h s =
+      let here = second_of (is_shared a && is_writable k a) (is_expression k loops i && (are_lanes k loops e && are_statements k loops depth after)) h in
+      (read loops i (are_lanes k loops e && are_statements k loops depth after) here s.0, all_read loops depth after (after_two (is_expression k loops i) (are_lanes k loops e) (are_statements k loops depth after) here) s.1)
+  all_read loops depth (Loops st b c body after) h s =
+      let codes = are_statements k (suc loops) (suc depth) body && are_statements k loops depth after in
+      let here = after_two (nat_lt depth deepest) (is_constant b) (is_expression k loops b && (has_statement body && codes)) h in
       let inside = after_two (is_expression k loops b) (has_statement body) codes here in (
         read loops b (has_statement body && codes) here s.0,
-        all_read (suc loops) body (first_of (are_statements k (suc loops) body) (are_statements k loops after) inside) s.1,
-        all_read loops after (second_of (are_statements k (suc loops) body) (are_statements k loops after) inside) s.2,
+        all_read (suc loops) (suc depth) body (first_of (are_statements k (suc loops) (suc depth) body) (are_statements k loops depth after) inside) s.1,
+        all_read loops depth after (second_of (are_statements k (suc loops) (suc depth) body) (are_statements k loops depth after) inside) s.2,
       )
-  all_read loops (Syncs l g after) h s = all_read loops after (second_of (l || g) (are_statements k loops after) h) s
+  all_read loops depth (Guards st b body after) h s =
+      let codes = are_statements k loops (suc depth) body && are_statements k loops depth after in
+      let here = after_two (nat_lt depth deepest) (is_constant b) (is_expression k loops b && (has_statement body && codes)) h in
+      let inside = after_two (is_expression k loops b) (has_statement body) codes here in (
+        read loops b (has_statement body && codes) here s.0,
+        all_read loops (suc depth) body (first_of (are_statements k loops (suc depth) body) (are_statements k loops depth after) inside) s.1,
+        all_read loops depth after (second_of (are_statements k loops (suc depth) body) (are_statements k loops depth after) inside) s.2,
+      )
+  all_read loops depth (Syncs l g after) h s = all_read loops depth after (second_of (l || g) (are_statements k loops depth after) h) s
 
   kernel_read : is_kernel k ≡ true → EachIndexAndBound (Spelled names) k.code → EachIndexAndBound (IsDeclaredIndex names) k.code
   kernel_read h s =
-      let code = has_statement k.code && are_statements k 0 k.code in
-      all_read 0 k.code (after_two (are_lengths k.privates) (has_statement k.code) (are_statements k 0 k.code) (after_two (nat_lt 0 k.outputs) (are_lengths k.locals) (are_lengths k.privates && code) h)) s
+      let code = has_statement k.code && are_statements k 0 0 k.code in
+      let sized = is_group_size k.local && code in
+      all_read 0 0 k.code (after_two (is_group_size k.local) (has_statement k.code) (are_statements k 0 0 k.code) (second_of (are_lengths k.privates) sized (after_two (nat_lt 0 k.outputs) (are_lengths k.locals) (are_lengths k.privates && sized) h))) s
 
 pub terms_have : TermsHaveIndexFormulas
 terms_have d t a are kernel =
@@ -96,9 +112,16 @@ module _ (names : List Name) (tidy : Change) (makes : MakesTidy names tidy) wher
   tidied_fine around (Assigns v e after) all h = (refl, refl, tidied_fine around after all h)
   tidied_fine around (Loads v a i after) all h = (refl, refl, tidied_index around i all h.0, tidied_fine around after all h.1)
   tidied_fine around (Stores a i e after) all h = (refl, tidied_index around i all h.0, refl, tidied_fine around after all h.1)
+  tidied_fine around (AssignsFour v e after) all h = (refl, refl, tidied_fine around after all h)
+  tidied_fine around (LoadsFour v a i after) all h = (refl, refl, tidied_index around i all h.0, tidied_fine around after all h.1)
+  tidied_fine around (StoresFour a i e after) all h = (refl, tidied_index around i all h.0, refl, tidied_fine around after all h.1)
   tidied_fine around (Loops s b c body after) all h =
       (refl, tidied_index [] b tt h.0, refl, tidied_fine (around ++ b ∷ []) body (one_more around b h.0.expression all h.0.spelled) h.1, tidied_fine around after all h.2)
+  tidied_fine around (Guards s b body after) all h = (refl, tidied_index [] b tt h.0, tidied_fine around body all h.1, tidied_fine around after all h.2)
   tidied_fine around (Syncs l g after) all h = (refl, refl, tidied_fine around after all h)
+
+pub codes_are_tidy : TidiedCodesAreTidy
+codes_are_tidy names tidy code makes h = tidied_fine names tidy makes [] code tt h
 
 pub terms_are_tidy : TidiedTermsAreTidy
 terms_are_tidy d t a tidy are kernel makes = tidied_fine d.names tidy makes [] _ tt (terms_have d t a are kernel)

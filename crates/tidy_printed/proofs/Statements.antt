@@ -1,7 +1,7 @@
 -- Tidied, loads, stores and loops are what they were printed for: indices and bounds keep their
 -- values.
 use Rattle.std.proofs.Common.{◌≡◌, ℕ, ◌+◌, ◌<◌, Bool, true, false, List, [], ◌∷◌, ◌++◌, Option, Some, refl, ap}
-use Rattle.kernel_tree.specs.Formula.{Formula, bound_value, sizes_alone}
+use Rattle.kernel_tree.specs.Formula.{Formula, no_vars, bound_value, sizes_alone}
 use Rattle.kernel_tree.specs.Code.{Array, Code, End}
 use Rattle.kernel_tree.specs.Launch.{Launch, ids_of}
 use Rattle.lift_ir.specs.Types.{Ty, Scalar, PairOf, ArrayOf, width}
@@ -22,22 +22,22 @@ below_more sizes [] (u ∷ turns) b n t h e lt = absurd h
 below_more sizes (c ∷ bounds) [] b n t h e lt = absurd h
 below_more sizes (c ∷ bounds) (u ∷ turns) b n t h e lt = (h.0, h.1, h.2, below_more sizes bounds turns b n t h.3 e lt)
 
-module _ (l : Launch) (ins : ℕ → Marks) (tidy : Change) (keeps : KeepsValues tidy l.sizes) (around : List Formula) (ts : List ℕ) (below : AreBelow l.sizes around ts) where
+module _ (l : Launch) (item : ℕ) (ins : ℕ → Marks) (tidy : Change) (keeps : KeepsValues tidy l.sizes) (around : List Formula) (ts : List ℕ) (below : AreBelow l.sizes around ts) where
   abbrev tidied : Code → Code
   tidied = tidied_code tidy around
 
-  spot : (m : Mark) (a : Array) (i : Formula) → IsSpot l ins ts m a i → IsSpot l ins ts m a (tidy around i)
-  spot (Spot b n) a i h = (h.0, λ k vs. keeps (ids_of l k) around ts vs i n refl below (h.1 k vs))
+  spot : (m : Mark) (a : Array) (i : Formula) → IsSpot l item ins ts m a i → IsSpot l item ins ts m a (tidy around i)
+  spot (Spot b n) a i h = (h.0, λ vs. keeps (ids_of l item) around ts vs i n refl below (h.1 vs))
   spot Nowhere a i h = absurd h
   spot (Register v) a i h = absurd h
 
-  pub stored : (ty : Ty) (f : List Bool → Option Formula) (w : Marks) (code rest : Code) → IsStored l ins ts ty f w code rest → IsStored l ins ts ty f w (tidied code) (tidied rest)
+  pub stored : (ty : Ty) (f : List Bool → Option Formula) (w : Marks) (code rest : Code) → IsStored l item ins ts ty f w code rest → IsStored l item ins ts ty f w (tidied code) (tidied rest)
   stored Scalar f w code rest h = (h.0, tidy around h.1, h.2, h.3, spot (w [] []) h.0 h.1 h.4, ap tidied h.5)
   stored (PairOf a b) f w code rest h =
       (tidied h.0, stored a (λ cs. f (false ∷ cs)) (λ cs. w (false ∷ cs)) code h.0 h.1, stored b (λ cs. f (true ∷ cs)) (λ cs. w (true ∷ cs)) h.0 rest h.2)
   stored (ArrayOf m t) f w code rest h = absurd h
 
-  pub loaded : (loads : LoadSet) (x : Marks) (n : ℕ) (code rest : Code) → IsLoaded l ins ts loads x n code rest → IsLoaded l ins ts loads x n (tidied code) (tidied rest)
+  pub loaded : (loads : LoadSet) (x : Marks) (n : ℕ) (code rest : Code) → IsLoaded l item ins ts loads x n code rest → IsLoaded l item ins ts loads x n (tidied code) (tidied rest)
   loaded Skip x n code rest h = ap tidied h
   loaded Take x n code rest h = (h.0, tidy around h.1, spot (x [] []) h.0 h.1 h.2, ap tidied h.3)
   loaded (Each a b) x n code rest h = (tidied h.0, loaded a (λ cs. x (false ∷ cs)) n code h.0 h.1, loaded b (λ cs. x (true ∷ cs)) (n + load_count a) h.0 rest h.2)
@@ -45,16 +45,16 @@ module _ (l : Launch) (ins : ℕ → Marks) (tidy : Change) (keeps : KeepsValues
   -- a loop whose tidied body is what it was printed for at each turn
   pub loop : (kind : Kind) (n : ℕ) (B : ℕ → Code → Type 0) (code rest : Code)
       → ((b : Formula) (i : ℕ) (body : Code) → AreBelow l.sizes (around ++ b ∷ []) (ts ++ i ∷ []) → B i body → B i (tidied_code tidy (around ++ b ∷ []) body))
-      → IsLoop l ins kind n B code rest → IsLoop l ins kind n B (tidied code) (tidied rest)
+      → IsLoop l item ins kind n B code rest → IsLoop l item ins kind n B (tidied code) (tidied rest)
   loop kind n B code rest turn h = (
     tidy [] h.0,
     tidied_code tidy (around ++ h.0 ∷ []) h.1,
     ap tidied h.2,
-    keeps (sizes_alone l.sizes) [] [] [] h.0 n refl tt h.3,
-    λ i lt. turn h.0 i h.1 (below_more l.sizes around ts h.0 n i below h.3 lt) (h.4 i lt),
+    keeps (sizes_alone l.sizes) [] [] no_vars h.0 n refl tt h.3,
+    λ i lt own. turn h.0 i h.1 (below_more l.sizes around ts h.0 n i below h.3 lt) (h.4 i lt own),
   )
 
-  pub fold_turn : {A : Type 0} → (env : ℕ → Marks) (loads : LoadSet) (ty : Ty) (x : Marks) (acc : ℕ) (b : Term A) (body : Code) → IsFoldTurn l ins ts env loads ty x acc b body → IsFoldTurn l ins ts env loads ty x acc b (tidied body)
+  pub fold_turn : {A : Type 0} → (env : ℕ → Marks) (loads : LoadSet) (ty : Ty) (x : Marks) (acc : ℕ) (b : Term A) (body : Code) → IsFoldTurn l item ins ts env loads ty x acc b body → IsFoldTurn l item ins ts env loads ty x acc b (tidied body)
   fold_turn env loads ty x acc b body h =
       let inside = push (loaded_marks loads x (acc + width ty)) (push (held_marks ty acc) env) in
       let n = acc + width ty + load_count loads in (
@@ -66,4 +66,4 @@ module _ (l : Launch) (ins : ℕ → Marks) (tidy : Change) (keeps : KeepsValues
       )
 
 pub loads_are : TidiedLoadsArePrinted
-loads_are l ins tidy around ts loads x n code rest keeps below h = loaded l ins tidy keeps around ts below loads x n code rest h
+loads_are l item ins tidy around ts loads x n code rest keeps below h = loaded l item ins tidy keeps around ts below loads x n code rest h

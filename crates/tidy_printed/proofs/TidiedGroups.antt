@@ -2,7 +2,7 @@
 use Rattle.std.proofs.Common.{◌≡◌, ℕ, ◌+◌, ◌<◌, true, List, [], ◌∷◌, Some, refl, ap}
 use Rattle.size_arith.specs.declared.poly.Monomial.{Monomial}
 use Rattle.lift_tree.specs.Annotations.{type_in}
-use Rattle.kernel_tree.specs.Formula.{Formula, bound_value, sizes_alone}
+use Rattle.kernel_tree.specs.Formula.{Formula, no_vars, bound_value, sizes_alone}
 use Rattle.kernel_tree.specs.Code.{Local as LocalArray, Code, End}
 use Rattle.kernel_tree.specs.Launch.{Launch}
 use Rattle.barrier_placement.specs.Fencing.{Fencing, Open, Fenced}
@@ -44,8 +44,8 @@ module _ {A : Type 0} (loaded : TidiedLoadsArePrinted) (looped : TidiedMapLoopsA
 
     local_loop : (env : (turn var : ℕ) → Marks) (u : Used) (len : ℕ) (loads : LoadSet) (marks : ℕ → Marks) (b : Term A) (w : ℕ → Marks) (code rest : Code)
         → IsLocalLoop num l ins fence turns env u len loads marks b w code rest → IsLocalLoop num l ins fence turns env u len loads marks b w (tidied code) (tidied rest)
-    local_loop env u len loads marks b w code rest h = λ i lt.
-        looped l ins num tidy around (i ∷ []) Local len (env i) u.privates u.variables loads (marks i) (w i) b code rest keeps (below i lt) (h i lt)
+    local_loop env u len loads marks b w code rest h = λ item i here lt own.
+        looped l item ins num tidy around (i ∷ []) Local len (env i) u.privates u.variables loads (marks i) (w i) b code rest keeps (below i lt) (h item i here lt own)
 
     mutual
       group_argument : (env : (turn var : ℕ) → Marks) (u : Used) (t : Term A) (code rest : Code)
@@ -79,7 +79,7 @@ module _ {A : Type 0} (loaded : TidiedLoadsArePrinted) (looped : TidiedMapLoopsA
     group_turn env loads marks b w code h = (
       tidied h.0,
       tidied h.1,
-      λ i lt. loaded l ins tidy around (i ∷ []) loads (at_index i marks) 0 code h.0 keeps (below i lt) (h.2 i lt),
+      λ item i here lt own. loaded l item ins tidy around (i ∷ []) loads (at_index i marks) 0 code h.0 keeps (below i lt) (h.2 item i here lt own),
       group_written (λ i. push (loaded_marks loads (at_index i marks) 0) env) (record { locals = 0; privates = 0; variables = load_count loads; phases = 0 }) b (λ i. at_index i w) h.0 h.1 h.3,
       past tidy around (fence (phases_in b)) h.1 End h.4,
     )
@@ -91,7 +91,7 @@ module _ {A : Type 0} (loaded : TidiedLoadsArePrinted) (looped : TidiedMapLoopsA
     tidy [] h.0,
     tidied_code tidy (h.0 ∷ []) h.1,
     ap (tidied_code tidy []) h.2,
-    keeps (sizes_alone l.sizes) [] [] [] h.0 (num n) refl tt h.3,
+    keeps (sizes_alone l.sizes) [] [] no_vars h.0 (num n) refl tt h.3,
     group_turn h.0 (num n) h.3 env loads (argument_marks l ins num env 0 xs) b w h.1 h.4,
   )
   over_groups env _ w code h = absurd h
@@ -107,6 +107,8 @@ kernel_is loaded looped d bases t a l tidy k keeps h = record {
   locals = h.locals;
   privates = h.privates;
   variables = h.variables;
+  vectors = h.vectors;
+  local = h.local;
   fence = h.fence;
   needed = h.needed;
   code = over_groups loaded looped (length_at bases) l (input_marks (length_at bases) (first_buffer d.inputs) (input_shape d.inputs)) h.fence tidy keeps no_marks (lowered_root t a) (output_marks (ty_at bases (type_in a))) k.code h.code;

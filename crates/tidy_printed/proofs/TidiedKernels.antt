@@ -18,25 +18,25 @@ use Rattle.tidy_kernels.specs.Pass.{tidied_code}
 use Rattle.tidy_printed.specs.Terms.{TidiedCodesArePrinted, TidiedKernelsArePrinted}
 use Rattle.tidy_printed.proofs.TidiedTerms.{argument, written, map_loops_are}
 
-module _ {A : Type 0} (l : Launch) (ins : ℕ → Marks) (num : A → ℕ) (tidy : Change) (keeps : KeepsValues tidy l.sizes) where
+module _ {A : Type 0} (l : Launch) (item : ℕ) (ins : ℕ → Marks) (num : A → ℕ) (tidy : Change) (keeps : KeepsValues tidy l.sizes) where
   over_launch : (env : ℕ → Marks) (a n : ℕ) (t : Term A) (w : Marks) (code rest : Code)
-      → IsOverLaunch l ins num env a n t w code rest → IsOverLaunch l ins num env a n t w (tidied_code tidy [] code) (tidied_code tidy [] rest)
+      → IsOverLaunch l item ins num env a n t w code rest → IsOverLaunch l item ins num env a n t w (tidied_code tidy [] code) (tidied_code tidy [] rest)
   over_launch env a n (Reshape y t) w code rest h = (h.0, over_launch env a n t (λ cs q. w cs (result_position num y q)) code rest h.1)
   over_launch env a n (LetArray v b) w code rest h = (
     tidied_code tidy [] h.0,
-    argument l ins num tidy keeps [] [] tt env a n v code h.0 h.1,
+    argument l item ins num tidy keeps [] [] tt env a n v code h.0 h.1,
     over_launch (push (argument_marks l ins num env a v) env) (a + private_count v) (n + variable_count v) b w h.0 rest h.2,
   )
   over_launch env a n (Map Global len loads xs b) w code rest h = (
     tidied_code tidy [] h.0,
-    argument l ins num tidy keeps [] [] tt env a n xs code h.0 h.1,
-    map_loops_are l ins num tidy [] [] Global (num len) env (a + private_count xs) (n + variable_count xs) loads (argument_marks l ins num env a xs) w b h.0 rest keeps tt h.2,
+    argument l item ins num tidy keeps [] [] tt env a n xs code h.0 h.1,
+    map_loops_are l item ins num tidy [] [] Global (num len) env (a + private_count xs) (n + variable_count xs) loads (argument_marks l ins num env a xs) w b h.0 rest keeps tt h.2,
   )
   over_launch env a n _ w code rest h = absurd h
 
 pub code_is : TidiedCodesArePrinted (List Monomial)
-code_is l ins num tidy t ty code keeps (inl h) = inl (h.0, written l ins num tidy keeps [] [] tt no_marks 0 0 t (output_marks ty) code End h.1)
-code_is l ins num tidy t ty code keeps (inr h) = inr (over_launch l ins num tidy keeps no_marks 0 0 t (output_marks ty) code End h)
+code_is l ins num tidy t ty code keeps (inl h) = inl (h.0, written l 0 ins num tidy keeps [] [] tt no_marks 0 0 t (output_marks ty) code End h.1)
+code_is l ins num tidy t ty code keeps (inr h) = inr (λ item lt. over_launch l item ins num tidy keeps no_marks 0 0 t (output_marks ty) code End (h item lt))
 
 pub kernel_is : TidiedKernelsArePrinted
 kernel_is d bases t a l tidy k keeps h = record {
@@ -46,5 +46,7 @@ kernel_is d bases t a l tidy k keeps h = record {
   locals = h.locals;
   privates = h.privates;
   variables = h.variables;
+  vectors = h.vectors;
+  local = h.local;
   code = code_is l (input_marks (length_at bases) (first_buffer d.inputs) (input_shape d.inputs)) (length_at bases) tidy (lowered_root t a) (ty_at bases (type_in a)) k.code keeps h.code;
 }

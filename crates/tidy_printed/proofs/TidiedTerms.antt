@@ -17,29 +17,29 @@ use Rattle.tidy_printed.specs.Terms.{IsMapTurn, TidiedMapLoopsArePrinted}
 use Rattle.tidy_printed.proofs.Elements.{assigned, element}
 use Rattle.tidy_printed.proofs.Statements.{stored, loaded, loop, fold_turn}
 
-module _ {A : Type 0} (l : Launch) (ins : ℕ → Marks) (num : A → ℕ) (tidy : Change) (keeps : KeepsValues tidy l.sizes) where
+module _ {A : Type 0} (l : Launch) (item : ℕ) (ins : ℕ → Marks) (num : A → ℕ) (tidy : Change) (keeps : KeepsValues tidy l.sizes) where
   -- what is written for a term, tidied, is written for it, in whatever loops
   abbrev Stays : Term A → Type 0
   Stays b = (around : List Formula) (ts : List ℕ) → AreBelow l.sizes around ts → (env : ℕ → Marks) (a n : ℕ) (w : Marks) (code rest : Code)
-      → IsWritten l ins num ts env a n b w code rest → IsWritten l ins num ts env a n b w (tidied_code tidy around code) (tidied_code tidy around rest)
+      → IsWritten l item ins num ts env a n b w code rest → IsWritten l item ins num ts env a n b w (tidied_code tidy around code) (tidied_code tidy around rest)
 
   -- the loop of a map whose body stays
   map_loop : (around : List Formula) (ts : List ℕ) → AreBelow l.sizes around ts → (kind : Kind) (len : ℕ) (env : ℕ → Marks) (a n : ℕ) (loads : LoadSet) (x w : Marks) (b : Term A) (code rest : Code)
-      → Stays b → IsLoop l ins kind len (IsMapTurn l ins num ts env a n loads x w b) code rest
-      → IsLoop l ins kind len (IsMapTurn l ins num ts env a n loads x w b) (tidied_code tidy around code) (tidied_code tidy around rest)
+      → Stays b → IsLoop l item ins kind len (IsMapTurn l item ins num ts env a n loads x w b) code rest
+      → IsLoop l item ins kind len (IsMapTurn l item ins num ts env a n loads x w b) (tidied_code tidy around code) (tidied_code tidy around rest)
   map_loop around ts below kind len env a n loads x w b code rest stays h =
-      loop l ins tidy keeps around ts below kind len (IsMapTurn l ins num ts env a n loads x w b)
+      loop l item ins tidy keeps around ts below kind len (IsMapTurn l item ins num ts env a n loads x w b)
       code rest
       (λ bound i body at turn. (
         tidied_code tidy (around ++ bound ∷ []) turn.0,
-        loaded l ins tidy keeps (around ++ bound ∷ []) (ts ++ i ∷ []) at loads (at_index i x) n body turn.0 turn.1,
+        loaded l item ins tidy keeps (around ++ bound ∷ []) (ts ++ i ∷ []) at loads (at_index i x) n body turn.0 turn.1,
         stays (around ++ bound ∷ []) (ts ++ i ∷ []) at (push (loaded_marks loads (at_index i x) n) env) a (n + load_count loads) (at_index i w) turn.0 End turn.2,
       ))
       h
 
   mutual
     pub argument : (around : List Formula) (ts : List ℕ) → AreBelow l.sizes around ts → (env : ℕ → Marks) (a n : ℕ) (t : Term A) (code rest : Code)
-        → IsArgumentWork l ins num ts env a n t code rest → IsArgumentWork l ins num ts env a n t (tidied_code tidy around code) (tidied_code tidy around rest)
+        → IsArgumentWork l item ins num ts env a n t code rest → IsArgumentWork l item ins num ts env a n t (tidied_code tidy around code) (tidied_code tidy around rest)
     argument around ts below env a n (Bound v) code rest h = ap (tidied_code tidy around) h
     argument around ts below env a n (Source s) code rest h = ap (tidied_code tidy around) h
     argument around ts below env a n (Both zips x y) code rest h =
@@ -55,9 +55,9 @@ module _ {A : Type 0} (l : Launch) (ins : ℕ → Marks) (num : A → ℕ) (tidy
     argument around ts below env a n _ code rest h = absurd h
 
     pub written : (around : List Formula) (ts : List ℕ) → AreBelow l.sizes around ts → (env : ℕ → Marks) (a n : ℕ) (t : Term A) (w : Marks) (code rest : Code)
-        → IsWritten l ins num ts env a n t w code rest → IsWritten l ins num ts env a n t w (tidied_code tidy around code) (tidied_code tidy around rest)
+        → IsWritten l item ins num ts env a n t w code rest → IsWritten l item ins num ts env a n t w (tidied_code tidy around code) (tidied_code tidy around rest)
     written around ts below env a n (Store ty t) w code rest h =
-        (tidied_code tidy around h.0, element tidy around env n t code h.0 h.1, stored l ins tidy keeps around ts below ty (exprs env n t) w h.0 rest h.2)
+        (tidied_code tidy around h.0, element tidy around env n t code h.0 h.1, stored l item ins tidy keeps around ts below ty (exprs env n t) w h.0 rest h.2)
     written around ts below env a n (Reshape y t) w code rest h = (h.0, written around ts below env a n t (λ cs q. w cs (result_position num y q)) code rest h.1)
     written around ts below env a n (LetArray v b) w code rest h = (
       tidied_code tidy around h.0,
@@ -87,13 +87,13 @@ module _ {A : Type 0} (l : Launch) (ins : ℕ → Marks) (num : A → ℕ) (tidy
           argument around ts below env a n xs code h.0 h.4,
           element tidy around env (n + variable_count xs) s h.0 h.1 h.5,
           assigned tidy around ty (exprs env (n + variable_count xs) s) acc h.1 h.2 h.6,
-          loop l ins tidy keeps around ts below Sequential (num len) (λ i body. IsFoldTurn l ins (ts ++ i ∷ []) env loads ty (at_index i x) acc b body) h.2 h.3
-              (λ bound i body at turn. fold_turn l ins tidy keeps (around ++ bound ∷ []) (ts ++ i ∷ []) at env loads ty (at_index i x) acc b body turn)
+          loop l item ins tidy keeps around ts below Sequential (num len) (λ i body. IsFoldTurn l item ins (ts ++ i ∷ []) env loads ty (at_index i x) acc b body) h.2 h.3
+              (λ bound i body at turn. fold_turn l item ins tidy keeps (around ++ bound ∷ []) (ts ++ i ∷ []) at env loads ty (at_index i x) acc b body turn)
               h.7,
-          stored l ins tidy keeps around ts below ty (λ cs. held (held_marks ty acc cs [])) (at_index 0 w) h.3 rest h.8,
+          stored l item ins tidy keeps around ts below ty (λ cs. held (held_marks ty acc cs [])) (at_index 0 w) h.3 rest h.8,
         )
     written around ts below env a n _ w code rest h = absurd h
 
 pub map_loops_are : {A : Type 0} → TidiedMapLoopsArePrinted A
-map_loops_are l ins num tidy around ts kind len env a n loads x w b code rest keeps below h =
-    map_loop l ins num tidy keeps around ts below kind len env a n loads x w b code rest (λ around ts below env a n w code rest h. written l ins num tidy keeps around ts below env a n b w code rest h) h
+map_loops_are l item ins num tidy around ts kind len env a n loads x w b code rest keeps below h =
+    map_loop l item ins num tidy keeps around ts below kind len env a n loads x w b code rest (λ around ts below env a n w code rest h. written l item ins num tidy keeps around ts below env a n b w code rest h) h

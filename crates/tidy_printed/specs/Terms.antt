@@ -17,33 +17,33 @@ use Rattle.printed_form.specs.Programs.{Prints}
 use Rattle.tidy_indices.specs.Laws.{AreBelow, Change, KeepsValues}
 use Rattle.tidy_kernels.specs.Pass.{tidied_code, tidied_kernel}
 
-module _ {A : Type 0} (l : Launch) (ins : ℕ → Marks) (num : A → ℕ) (ts : List ℕ) where
+module _ {A : Type 0} (l : Launch) (item : ℕ) (ins : ℕ → Marks) (num : A → ℕ) (ts : List ℕ) where
   -- a turn of a map's loop: the loads of its element, and what is written for the map's body
   abbrev pub IsMapTurn : (env : ℕ → Marks) → (a n : ℕ) → LoadSet → (from to : Marks) → Term A
       → (i : ℕ) → Code → Type 0
   IsMapTurn env a n loads x w b i body =
-      (inner : Code) × IsLoaded l ins (ts ++ i ∷ []) loads (at_index i x) n body inner
-      × IsWritten l ins num (ts ++ i ∷ []) (push (loaded_marks loads (at_index i x) n) env) a
+      (inner : Code) × IsLoaded l item ins (ts ++ i ∷ []) loads (at_index i x) n body inner
+      × IsWritten l item ins num (ts ++ i ∷ []) (push (loaded_marks loads (at_index i x) n) env) a
       (n + load_count loads) b (at_index i w) inner End
 
 -- in loops of these bounds, at these turns
 abbrev pub TidiedLoadsArePrinted : Type 0
 TidiedLoadsArePrinted =
-    (l : Launch) (ins : ℕ → Marks) (tidy : Change) (around : List Formula) (ts : List ℕ)
-    (loads : LoadSet) (x : Marks) (n : ℕ) (code rest : Code)
+    (l : Launch) (item : ℕ) (ins : ℕ → Marks) (tidy : Change) (around : List Formula)
+    (ts : List ℕ) (loads : LoadSet) (x : Marks) (n : ℕ) (code rest : Code)
     → KeepsValues tidy l.sizes → AreBelow l.sizes around ts
-    → IsLoaded l ins ts loads x n code rest
-    → IsLoaded l ins ts loads x n (tidied_code tidy around code) (tidied_code tidy around rest)
+    → IsLoaded l item ins ts loads x n code rest
+    → IsLoaded l item ins ts loads x n (tidied_code tidy around code) (tidied_code tidy around rest)
 
 -- and there a loop of any kind, whose turns are a map's
 abbrev pub TidiedMapLoopsArePrinted : Type 0 → Type 0
 TidiedMapLoopsArePrinted A =
-    (l : Launch) (ins : ℕ → Marks) (num : A → ℕ) (tidy : Change) (around : List Formula)
-    (ts : List ℕ) (kind : Kind) (len : ℕ) (env : ℕ → Marks) (a n : ℕ) (loads : LoadSet)
+    (l : Launch) (item : ℕ) (ins : ℕ → Marks) (num : A → ℕ) (tidy : Change)
+    (around : List Formula) (ts : List ℕ) (kind : Kind) (len : ℕ) (env : ℕ → Marks) (a n : ℕ) (loads : LoadSet)
     (x w : Marks) (b : Term A) (code rest : Code)
     → KeepsValues tidy l.sizes → AreBelow l.sizes around ts
-    → IsLoop l ins kind len (IsMapTurn l ins num ts env a n loads x w b) code rest
-    → IsLoop l ins kind len (IsMapTurn l ins num ts env a n loads x w b)
+    → IsLoop l item ins kind len (IsMapTurn l item ins num ts env a n loads x w b) code rest
+    → IsLoop l item ins kind len (IsMapTurn l item ins num ts env a n loads x w b)
     (tidied_code tidy around code) (tidied_code tidy around rest)
 
 -- of any term, by one work-item or over the launch

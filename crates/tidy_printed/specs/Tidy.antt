@@ -3,7 +3,7 @@ use Rattle.std.specs.Prelude.{◌≡◌, ◌≤◌, List, Some}
 use Rattle.size_arith.specs.declared.names.Name.{Name}
 use Rattle.index_expr.specs.Expression.{Expression, short_nodes}
 use Rattle.kernel_tree.specs.Formula.{Formula}
-use Rattle.kernel_tree.specs.Code.{Code, End, Assigns, Loads, Stores, Loops, Syncs}
+use Rattle.kernel_tree.specs.Code.{Code, End, Assigns, Loads, Stores, AssignsFour, LoadsFour, StoresFour, Loops, Guards, Syncs}
 use Rattle.index_simplify.specs.Simplified.{AreDeclared}
 use Rattle.tidy_indices.specs.Formulas.{formula_nodes}
 use Rattle.tidy_indices.specs.Redundant.{IsIrredundant}
@@ -19,15 +19,22 @@ pub record IsTidyIndex (plain printed : Formula) : Type 0 where
   pub irredundant : IsIrredundant printed
   pub short : formula_nodes printed ≤ short_nodes expression
 
--- the same statements but for the indices of loads and stores and the bounds of loops, which are
--- tidy
+-- the same statements but for the indices of loads and stores, the offsets of fours and the bounds of
+-- loops and ifs, which are tidy
 abbrev pub IsTidyFor : (plain printed : Code) → Type 0
 IsTidyFor End End = Unit {0}
 IsTidyFor (Assigns v e r) (Assigns u f q) = (v ≡ u) × (e ≡ f) × IsTidyFor r q
 IsTidyFor (Loads v a i r) (Loads u b j q) = (v ≡ u) × (a ≡ b) × IsTidyIndex i j × IsTidyFor r q
 IsTidyFor (Stores a i e r) (Stores b j f q) = (a ≡ b) × IsTidyIndex i j × (e ≡ f) × IsTidyFor r q
+IsTidyFor (AssignsFour v e r) (AssignsFour u f q) = (v ≡ u) × (e ≡ f) × IsTidyFor r q
+IsTidyFor (LoadsFour v a i r) (LoadsFour u b j q) =
+    (v ≡ u) × (a ≡ b) × IsTidyIndex i j × IsTidyFor r q
+IsTidyFor (StoresFour a i e r) (StoresFour b j f q) =
+    (a ≡ b) × IsTidyIndex i j × (e ≡ f) × IsTidyFor r q
 IsTidyFor (Loops s b c body r) (Loops t d e other q) =
     (s ≡ t) × IsTidyIndex b d × (c ≡ e) × IsTidyFor body other × IsTidyFor r q
+IsTidyFor (Guards s b body r) (Guards t d other q) =
+    (s ≡ t) × IsTidyIndex b d × IsTidyFor body other × IsTidyFor r q
 IsTidyFor (Syncs l g r) (Syncs m h q) = (l ≡ m) × (g ≡ h) × IsTidyFor r q
 IsTidyFor _ _ = ⊥
 

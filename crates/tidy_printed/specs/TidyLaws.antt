@@ -1,11 +1,12 @@
 -- The indices and bounds of the kernels that are printed with lengths as they are spelled, and of
 -- those kernels tidied.
-use Rattle.std.specs.Prelude.{◌≡◌, ℕ, true, List}
+use Rattle.std.specs.Prelude.{◌≡◌, ℕ, true, List, []}
 use Rattle.size_arith.specs.declared.names.Name.{Name}
 use Rattle.size_arith.specs.Ranges.{AreNames}
 use Rattle.lift_tree.specs.Tree.{Tree}
 use Rattle.lift_tree.specs.Annotations.{Annotation}
 use Rattle.lift_tree.specs.Typing.{Declared}
+use Rattle.kernel_tree.specs.Code.{Code}
 use Rattle.kernel_tree.specs.Grammar.{is_kernel}
 use Rattle.barrier_placement.specs.Fencing.{Fencing}
 use Rattle.length_spelling.specs.Formulas.{length_formula}
@@ -13,7 +14,7 @@ use Rattle.printed_form.specs.Programs.{printed_kernel}
 use Rattle.group_form.specs.Printer.{printed_group_kernel}
 use Rattle.tidy_indices.specs.Tidy.{tidy_formula}
 use Rattle.tidy_indices.specs.Laws.{Change}
-use Rattle.tidy_kernels.specs.Pass.{tidied_kernel}
+use Rattle.tidy_kernels.specs.Pass.{tidied_code, tidied_kernel}
 use Rattle.tidy_printed.specs.Indices.{EachIndexAndBound, IsDeclaredIndex}
 use Rattle.tidy_printed.specs.Tidy.{IsTidyFor, MakesTidy}
 
@@ -46,6 +47,13 @@ TidiedGroupsAreTidy =
     (let plain = printed_group_kernel (length_formula d.names) fence d t a in AreNames d.names
     → is_kernel plain ≡ true → MakesTidy d.names tidy
     → IsTidyFor plain.code (tidied_kernel tidy plain).code)
+
+-- any code whose indices and bounds spell such index expressions is so when it is tidied
+abbrev pub TidiedCodesAreTidy : Type 0
+TidiedCodesAreTidy =
+    (names : List Name) (tidy : Change) (code : Code)
+    → MakesTidy names tidy → EachIndexAndBound (IsDeclaredIndex names) code
+    → IsTidyFor code (tidied_code tidy [] code)
 
 -- the tidy formulas of the declared sizes are such
 abbrev pub TidyFormulasMakeTidy : Type 0

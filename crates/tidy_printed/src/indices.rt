@@ -1,6 +1,6 @@
 //! Laws of the indices and bounds of printed kernels, each carried by a function that does nothing.
 
-ghost use Rattle.tidy_printed.specs.TidyLaws.{TermsHaveIndexFormulas, GroupsHaveIndexFormulas, TidiedTermsAreTidy, TidiedGroupsAreTidy, TidyFormulasMakeTidy};
+ghost use Rattle.tidy_printed.specs.TidyLaws.{TermsHaveIndexFormulas, GroupsHaveIndexFormulas, TidiedCodesAreTidy, TidiedTermsAreTidy, TidiedGroupsAreTidy, TidyFormulasMakeTidy};
 
 use tidy_indices::laws::{tidy_formulas_are_irredundant, tidy_formulas_are_short};
 
@@ -13,6 +13,11 @@ pub fn terms_have_index_formulas()
 /// And where the printer of maps over work-groups makes one.
 pub fn groups_have_index_formulas()
     ensures { GroupsHaveIndexFormulas }
+{}
+
+/// Code with such indices and bounds, in whatever loops and ifs, tidied, is tidy for the plain one.
+pub fn tidied_codes_are_tidy()
+    ensures { TidiedCodesAreTidy }
 {}
 
 /// Such a kernel of a typed term, tidied, is tidy for the plain one.

@@ -5,9 +5,10 @@ use Rattle.std.proofs.Math.Nat.{mod-eq_of_lt, le-max_right, max-le}
 use Rattle.std.proofs.lemmas.List.{length-map, get_or-map}
 use Rattle.scalar_ops.specs.declared.op.Op.TheVariants.{Add, Sub, Div}
 use Rattle.scalar_ops.specs.Operators.{apply_op}
-use Rattle.kernel_tree.specs.Formula.{Number, Size, Variable, LoopVariable, Binary, value, bound_value}
+use Rattle.kernel_tree.specs.Formula.{Number, Size, Variable, LoopVariable, Binary, Vars, value, bound_value}
 use Rattle.kernel_tree.specs.Code.{Input, Output, Local as LocalArray, End, Stores, Assigns, Syncs}
-use Rattle.kernel_tree.specs.Launch.{Launch, Cells, ids_of}
+use Rattle.kernel_tree.specs.Launch.{Launch, in_a_row, Cells, item_count, ids_of}
+use Rattle.kernel_tree.proofs.Grouping.{whole_in_a_row, flat_in_a_row}
 use Rattle.barrier_placement.specs.declared.touches.Touch.{Touch}
 use Rattle.barrier_placement.specs.Fencing.{Fencing}
 use Rattle.barrier_placement.specs.Needed.{Needed}
@@ -45,7 +46,7 @@ module _ (l : Launch) (tiles : ℕ) (xs out : List ℕ) (rest : ℕ) (h : AreTil
   given zero [] (i ∷ j ∷ p) x = absurd x.1
   given zero [] (i ∷ []) x = given_at (i * 1 + 0) i (let e : i * 1 + 0 ≡ i = omega arith in e) x.0
 
-  place_is : (k i u : ℕ) (more vars : List ℕ) → i < tiles → u < 4 → value (ids_of l k) (i ∷ u ∷ more) vars tile_place ≡ Some (i * 2 + u)
+  place_is : (k i u : ℕ) (more : List ℕ) (vars : Vars) → i < tiles → u < 4 → value (ids_of l k) (i ∷ u ∷ more) vars tile_place ≡ Some (i * 2 + u)
   place_is k i u more vars il ul =
       let short = h.short in
       let small : (i * 2) % 2 ^ 32 ≡ i * 2 = mod-eq_of_lt (omega arith) in
@@ -55,7 +56,7 @@ module _ (l : Launch) (tiles : ℕ) (xs out : List ℕ) (rest : ℕ) (h : AreTil
   halved : bound_value l.sizes (Binary Div (Size 0) (Number 2)) ≡ Some tiles
   halved = ap (λ z. Some (slice_index z 0 / 2)) h.sizes ∙ (let e : tiles * 2 / 2 ≡ tiles = omega arith in ap Some e)
 
-  few : l.global < 2 ^ 31
+  few : item_count l < 2 ^ 31
   few = let e = h.few_items in omega arith
 
   -- one is added to each
@@ -91,7 +92,7 @@ module _ (l : Launch) (tiles : ℕ) (xs out : List ℕ) (rest : ℕ) (h : AreTil
       (
         tile_body false no_barriers,
         End,
-        (λ i il. refl),
+        (λ k i here il own. refl),
         (
           phase_code false 1 End,
           phase_code false 1 End,
@@ -100,31 +101,31 @@ module _ (l : Launch) (tiles : ℕ) (xs out : List ℕ) (rest : ℕ) (h : AreTil
             tile_body false no_barriers,
             refl,
             refl,
-            λ i il. (
+            λ k i here il own. (
               Number 2,
               copy_turn,
               refl,
               refl,
-              λ u ul. (
+              λ u ul mine. (
                 Stores (LocalArray 0) (LoopVariable 1) (Variable 0) End,
-                (Input 0, tile_index, (refl, λ k vs. place_is k i u [] vs il (omega arith) ∙ (let e : i * 2 + u ≡ (i * 2 + u) * 1 + 0 = omega arith in ap Some e)), refl),
-                (Stores (LocalArray 0) (LoopVariable 1) (Variable 0) End, refl, (LocalArray 0, LoopVariable 1, Variable 0, refl, (refl, λ k vs. let e : u ≡ u * 1 + 0 = omega arith in ap Some e), refl)),
+                (Input 0, tile_index, (refl, λ vs. place_is k i u [] vs il (omega arith) ∙ (let e : i * 2 + u ≡ (i * 2 + u) * 1 + 0 = omega arith in ap Some e)), refl),
+                (Stores (LocalArray 0) (LoopVariable 1) (Variable 0) End, refl, (LocalArray 0, LoopVariable 1, Variable 0, refl, (refl, λ vs. let e : u ≡ u * 1 + 0 = omega arith in ap Some e), refl)),
               ),
             ),
           ),
           refl,
-          λ i il. (
+          λ k i here il own. (
             Number 2,
             add_turn false,
             refl,
             refl,
-            λ u ul. (
+            λ u ul mine. (
               Stores (Output 0) tile_index (Binary Add (Variable 1) (Number 1)) End,
-              (LocalArray 0, LoopVariable 1, (refl, λ k vs. let e : u ≡ u * 1 + 0 = omega arith in ap Some e), refl),
+              (LocalArray 0, LoopVariable 1, (refl, λ vs. let e : u ≡ u * 1 + 0 = omega arith in ap Some e), refl),
               (
                 Stores (Output 0) tile_index (Binary Add (Variable 1) (Number 1)) End,
                 (Stores (Output 0) tile_index (Binary Add (Variable 1) (Number 1)) End, refl, refl),
-                (Output 0, tile_index, Binary Add (Variable 1) (Number 1), refl, (refl, λ k vs. place_is k i u [] vs il (omega arith) ∙ (let e : i * 2 + u ≡ (i * 2 + u) * 1 + 0 = omega arith in ap Some e)), refl),
+                (Output 0, tile_index, Binary Add (Variable 1) (Number 1), refl, (refl, λ vs. place_is k i u [] vs il (omega arith) ∙ (let e : i * 2 + u ≡ (i * 2 + u) * 1 + 0 = omega arith in ap Some e)), refl),
               ),
             ),
           ),
@@ -137,6 +138,7 @@ module _ (l : Launch) (tiles : ℕ) (xs out : List ℕ) (rest : ℕ) (h : AreTil
   added_printed : IsPrintedOverGroups l itself (input_types n) (input_marks n) (input_scalars xs) no_barriers (added_tiles tiles) (numbers n) (tile_kernel false no_barriers) c
   added_printed = record {
     whole = h.whole;
+    flat = h.flat;
     some = h.some_items;
     few = few;
     stands = (tt, (tt, ((tt, tt), tt)));
@@ -197,7 +199,7 @@ difference : (a b : ℕ) → b ≤ a → a < 2 ^ 32 → apply_op Sub a b ≡ a -
 difference a b le small = omega arith
 
 module _ (l : Launch) (tiles : ℕ) (xs out : List ℕ) (rest : ℕ) (h : AreTiles l tiles xs out) (some : 0 < tiles) (short : tiles < 2 ^ 29) where
-  padded_is : (k i u : ℕ) (vars : List ℕ) → i < tiles → u < 4 → value (ids_of l k) (i ∷ u ∷ []) vars padded_place ≡ Some (min (max (i * 2 + u) 1 - 1) (tiles * 2 - 1) * 1 + 0)
+  padded_is : (k i u : ℕ) (vars : Vars) → i < tiles → u < 4 → value (ids_of l k) (i ∷ u ∷ []) vars padded_place ≡ Some (min (max (i * 2 + u) 1 - 1) (tiles * 2 - 1) * 1 + 0)
   padded_is k i u vars il ul =
       let m = i * 2 + u in
       let small : (i * 2) % 2 ^ 32 ≡ i * 2 = mod-eq_of_lt (omega arith) in
@@ -267,7 +269,7 @@ module _ (l : Launch) (tiles : ℕ) (xs out : List ℕ) (rest : ℕ) (h : AreTil
         (
           sums_body,
           Syncs true false End,
-          (λ i il. refl),
+          (λ k i here il own. refl),
           (
             Syncs true false windows,
             windows,
@@ -276,25 +278,25 @@ module _ (l : Launch) (tiles : ℕ) (xs out : List ℕ) (rest : ℕ) (h : AreTil
               sums_body,
               refl,
               refl,
-              λ i il. (
+              λ k i here il own. (
                 Number 4,
                 worked.copy_turn,
                 refl,
                 refl,
-                λ u ul. (
+                λ u ul mine. (
                   Stores (LocalArray 0) (LoopVariable 1) (Variable 0) End,
-                  (Input 0, padded_place, (refl, λ k vs. padded_is k i u vs il ul), refl),
-                  (Stores (LocalArray 0) (LoopVariable 1) (Variable 0) End, refl, (LocalArray 0, LoopVariable 1, Variable 0, refl, (refl, λ k vs. let e : u ≡ u * 1 + 0 = omega arith in ap Some e), refl)),
+                  (Input 0, padded_place, (refl, λ vs. padded_is k i u vs il ul), refl),
+                  (Stores (LocalArray 0) (LoopVariable 1) (Variable 0) End, refl, (LocalArray 0, LoopVariable 1, Variable 0, refl, (refl, λ vs. let e : u ≡ u * 1 + 0 = omega arith in ap Some e), refl)),
                 ),
               ),
             ),
             refl,
-            λ i il. (
+            λ k i here il own. (
               Number 2,
               window_turn,
               refl,
               refl,
-              λ u ul. (
+              λ u ul mine. (
                 window_turn,
                 refl,
                 (
@@ -310,15 +312,15 @@ module _ (l : Launch) (tiles : ℕ) (xs out : List ℕ) (rest : ℕ) (h : AreTil
                     sum_turn,
                     refl,
                     refl,
-                    λ t tl. (
+                    λ t tl turn. (
                       Assigns 1 (Binary Add (Variable 1) (Variable 2)) End,
                       Assigns 1 (Binary Add (Variable 1) (Variable 2)) End,
-                      (LocalArray 0, in_window, (refl, λ k vs. window_is u t ul tl), refl),
+                      (LocalArray 0, in_window, (refl, λ vs. window_is u t ul tl), refl),
                       (Assigns 1 (Binary Add (Variable 1) (Variable 2)) End, refl, refl),
                       (Binary Add (Variable 1) (Variable 2), refl, refl),
                     ),
                   ),
-                  (Output 0, tile_place, Variable 1, refl, (refl, λ k vs. place_is l tiles xs out rest h k i u [] vs il (omega arith) ∙ (let e : i * 2 + u ≡ ((i * 2 + u) * 1 + 0) * 1 + 0 = omega arith in ap Some e)), refl),
+                  (Output 0, tile_place, Variable 1, refl, (refl, λ vs. place_is l tiles xs out rest h k i u [] vs il (omega arith) ∙ (let e : i * 2 + u ≡ ((i * 2 + u) * 1 + 0) * 1 + 0 = omega arith in ap Some e)), refl),
                 ),
               ),
             ),
@@ -332,6 +334,7 @@ module _ (l : Launch) (tiles : ℕ) (xs out : List ℕ) (rest : ℕ) (h : AreTil
   sums_printed : IsPrintedOverGroups l itself (input_types m) (input_marks m) (input_scalars xs) two_barriers (summed_tiles tiles) (numbers (m * 1)) sums_kernel (tile_cells xs out rest)
   sums_printed = record {
     whole = h.whole;
+    flat = h.flat;
     some = h.some_items;
     few = few l tiles xs out rest h;
     stands = (tt, (tt, (tt, ((tt, tt), tt))));
@@ -382,8 +385,8 @@ summed_tiles_keep told exchanged keep apart = record {
 }
 
 pub six_keep : SummedTilesKeep → SixKeep
-six_keep summed out rest long = summed.keeps (record { global = 2; local = 2; sizes = 6 ∷ [] }) 3 (1 ∷ 2 ∷ 3 ∷ 4 ∷ 5 ∷ 6 ∷ []) out (4 ∷ 6 ∷ 9 ∷ 12 ∷ 15 ∷ 17 ∷ []) rest
-    (record { whole = record { positive = omega arith; divides = refl }; some_items = omega arith; small_groups = omega arith; few_items = omega arith; short = omega arith; sizes = refl; long = refl; out_long = long }) (omega arith) (omega arith)
+six_keep summed out rest long = summed.keeps (in_a_row 2 2 (6 ∷ [])) 3 (1 ∷ 2 ∷ 3 ∷ 4 ∷ 5 ∷ 6 ∷ []) out (4 ∷ 6 ∷ 9 ∷ 12 ∷ 15 ∷ 17 ∷ []) rest
+    (record { whole = whole_in_a_row 2 2 (6 ∷ []) (record { positive = omega arith; divides = refl }); flat = flat_in_a_row 2 2 (6 ∷ []); some_items = omega arith; small_groups = omega arith; few_items = omega arith; short = omega arith; sizes = refl; long = refl; out_long = long }) (omega arith) (omega arith)
     (record { long = refl; each = sum_at })
   where
     sum_at : (n : ℕ) → n < 6 → slice_index (4 ∷ 6 ∷ 9 ∷ 12 ∷ 15 ∷ 17 ∷ []) n ≡ scalars_of itself (input_scalars (1 ∷ 2 ∷ 3 ∷ 4 ∷ 5 ∷ 6 ∷ [])) no_scalars (summed_tiles 3) [] (n ∷ [])

@@ -29,8 +29,8 @@ values_of xs v cs (i ∷ q) = slice_index xs i
 one_index : (i : ℕ) → i ≡ i * 1 + 0
 one_index i = omega arith
 
-written : (l : Launch) (n : ℕ) → l.sizes ≡ n ∷ [] → IsOverLaunch l (inputs_at n) itself no_marks 0 0 (increments n) (output_marks (ArrayOf n Scalar)) increments_kernel.code End
-written l n e = (
+written : (l : Launch) (item n : ℕ) → l.sizes ≡ n ∷ [] → IsOverLaunch l item (inputs_at n) itself no_marks 0 0 (increments n) (output_marks (ArrayOf n Scalar)) increments_kernel.code End
+written l item n e = (
   increments_kernel.code,
   refl,
   (
@@ -38,7 +38,7 @@ written l n e = (
     turn_body,
     refl,
     ap (λ ns. Some (slice_index ns 0)) e,
-    λ i lt. (turn_store, (Input 0, LoopVariable 0, (refl, λ k vs. ap Some (one_index i)), refl), (turn_store, (turn_store, refl, refl), (Output 0, LoopVariable 0, Binary Add (Variable 0) (Number 1), refl, (refl, λ k vs. ap Some (one_index i)), refl))),
+    λ i lt own. (turn_store, (Input 0, LoopVariable 0, (refl, λ vs. ap Some (one_index i)), refl), (turn_store, (turn_store, refl, refl), (Output 0, LoopVariable 0, Binary Add (Variable 0) (Number 1), refl, (refl, λ vs. ap Some (one_index i)), refl))),
   ),
 )
 
@@ -62,19 +62,20 @@ one_row n out e = ap (λ k. k ∷ []) (let z : length out ≡ n * 1 = omega arit
 
 -- at every launch over fewer than 2^31 elements
 pub increments_keep : IncrementsKeep
-increments_keep l xs out rest whole some few sizes small room s es start r =
+increments_keep l xs out rest whole flat some few sizes small room s es start r =
     let h = every_run_keeps itself l (types_at (length xs)) (inputs_at (length xs)) (values_of xs) (increments (length xs)) (ArrayOf (length xs) Scalar) increments_kernel (increments_cells xs out rest) (incremented xs ∷ [])
     (record {
       whole = whole;
+      flat = flat;
       some = some;
       few = few;
       typed = typed (length xs) small;
       flat_type = tt;
-      code = inr (written l (length xs) sizes);
+      code = inr (λ item lt. written l item (length xs) sizes);
       variables = refl;
       privates = refl;
       outputs = one_row (length xs) out room;
       inputs = given xs out rest;
     })
     (ap (λ n. n ∷ []) (length-map xs (λ x. (x + 1) % 2 ^ 32) ∙ sym room)) (all_listed xs) s es start r in
-    record { leaves = h.leaves; by_owner = λ x among a i w. h.by_owner x among a i w ∙ ap (λ j. j % l.global) (let z : i / 1 ≡ i = omega arith in z) }
+    record { leaves = h.leaves; by_owner = λ x among a i w. h.by_owner x among a i w ∙ ap (λ j. j % l.global.0) (let z : i / 1 ≡ i = omega arith in z) }

@@ -6,6 +6,7 @@ use Rattle.scalar_ops.specs.declared.op.Op.TheVariants.{Add, Mul}
 use Rattle.kernel_tree.specs.Formula.{Number, Variable, LoopVariable, Binary}
 use Rattle.kernel_tree.specs.Code.{Input, Output, Private, End, Assigns, Stores}
 use Rattle.kernel_tree.specs.Launch.{IsWhole}
+use Rattle.kernel_tree.proofs.Grouping.{whole_in_a_row, flat_in_a_row}
 use Rattle.lift_ir.specs.Types.{Ty, Scalar, PairOf, ArrayOf, IsPosition}
 use Rattle.lift_ir.specs.Terms.{HasType, no_type}
 use Rattle.lift_ir.specs.Scalars.{Scalars, scalars_of, no_scalars, AreLists}
@@ -20,7 +21,7 @@ abbrev pub itself : ℕ → ℕ
 itself n = n
 
 one_is_whole : IsWhole one_item
-one_is_whole = record { positive = omega arith; divides = refl }
+one_is_whole = whole_in_a_row 1 1 [] (record { positive = omega arith; divides = refl })
 
 -- the input's cells as a value
 abbrev listed : List ℕ → Scalars
@@ -69,7 +70,7 @@ row_index i = omega arith
 one_index : (i : ℕ) → i ≡ i * 1 + 0
 one_index i = omega arith
 
-sums_written : IsWritten one_item sums_inputs itself [] no_marks 0 0 sums (output_marks (ArrayOf 1 Scalar)) sums_kernel.code End
+sums_written : IsWritten one_item 0 sums_inputs itself [] no_marks 0 0 sums (output_marks (ArrayOf 1 Scalar)) sums_kernel.code End
 sums_written = (
   outer,
   outer,
@@ -85,7 +86,7 @@ sums_written = (
         row_body,
         refl,
         refl,
-        λ i lt. (
+        λ i lt own. (
           row_body,
           refl,
           (
@@ -101,9 +102,9 @@ sums_written = (
               inner_body,
               refl,
               refl,
-              λ j below. (add_inner, add_inner, (Input 0, Binary Add (Binary Mul (LoopVariable 0) (Number 2)) (LoopVariable 1), (refl, λ k vs. ap Some (split_index i j lt below)), refl), (add_inner, refl, refl), (Binary Add (Variable 0) (Variable 1), refl, refl)),
+              λ j below mine. (add_inner, add_inner, (Input 0, Binary Add (Binary Mul (LoopVariable 0) (Number 2)) (LoopVariable 1), (refl, λ vs. ap Some (split_index i j lt below)), refl), (add_inner, refl, refl), (Binary Add (Variable 0) (Variable 1), refl, refl)),
             ),
-            (Private 0, LoopVariable 0, Variable 0, refl, (refl, λ k vs. ap Some (row_index i)), refl),
+            (Private 0, LoopVariable 0, Variable 0, refl, (refl, λ vs. ap Some (row_index i)), refl),
           ),
         ),
       ),
@@ -116,14 +117,15 @@ sums_written = (
     outer_body,
     refl,
     refl,
-    λ i lt. (add_outer, add_outer, (Private 0, LoopVariable 0, (refl, λ k vs. ap Some (one_index i)), refl), (add_outer, refl, refl), (Binary Add (Variable 2) (Variable 3), refl, refl)),
+    λ i lt own. (add_outer, add_outer, (Private 0, LoopVariable 0, (refl, λ vs. ap Some (one_index i)), refl), (add_outer, refl, refl), (Binary Add (Variable 2) (Variable 3), refl, refl)),
   ),
-  (Output 0, Number 0, Variable 2, refl, (refl, λ k vs. refl), refl),
+  (Output 0, Number 0, Variable 2, refl, (refl, λ vs. refl), refl),
 )
 
 sums_printed : (rest out : ℕ) → IsPrinted one_item itself sums_types sums_inputs (λ v. listed (1 ∷ 2 ∷ 3 ∷ 4 ∷ [])) sums (ArrayOf 1 Scalar) sums_kernel (sums_cells rest out)
 sums_printed rest out = record {
   whole = one_is_whole;
+  flat = flat_in_a_row 1 1 [];
   some = omega arith;
   few = omega arith;
   typed = sums_typed;
@@ -179,7 +181,7 @@ swaps_typed = (
   refl,
 )
 
-swaps_written : IsWritten one_item swaps_inputs itself [] no_marks 0 0 swaps (output_marks (ArrayOf 1 (PairOf Scalar Scalar))) swaps_kernel.code End
+swaps_written : IsWritten one_item 0 swaps_inputs itself [] no_marks 0 0 swaps (output_marks (ArrayOf 1 (PairOf Scalar Scalar))) swaps_kernel.code End
 swaps_written = (
   swaps_kernel.code,
   swaps_kernel.code,
@@ -193,20 +195,21 @@ swaps_written = (
     swap_body,
     refl,
     refl,
-    λ i lt. (
+    λ i lt own. (
       swap_new,
       swap_new,
-      (Input 0, LoopVariable 0, (refl, λ k vs. ap Some (one_index i)), refl),
+      (Input 0, LoopVariable 0, (refl, λ vs. ap Some (one_index i)), refl),
       (swap_new, refl, (swap_new, refl, refl)),
       (swap_back, (Assigns 4 (Binary Add (Variable 0) (Variable 2)) swap_back, (Variable 1, refl, refl), (Binary Add (Variable 0) (Variable 2), refl, refl)), (Assigns 1 (Variable 4) End, (Variable 3, refl, refl), (Variable 4, refl, refl))),
     ),
   ),
-  (Stores (Output 1) (Number 0) (Variable 1) End, (Output 0, Number 0, Variable 0, refl, (refl, λ k vs. refl), refl), (Output 1, Number 0, Variable 1, refl, (refl, λ k vs. refl), refl)),
+  (Stores (Output 1) (Number 0) (Variable 1) End, (Output 0, Number 0, Variable 0, refl, (refl, λ vs. refl), refl), (Output 1, Number 0, Variable 1, refl, (refl, λ vs. refl), refl)),
 )
 
 swaps_printed : (rest o p : ℕ) → IsPrinted one_item itself swaps_types swaps_inputs (λ v. listed (5 ∷ 6 ∷ 7 ∷ [])) swaps (ArrayOf 1 (PairOf Scalar Scalar)) swaps_kernel (swaps_cells rest o p)
 swaps_printed rest o p = record {
   whole = one_is_whole;
+  flat = flat_in_a_row 1 1 [];
   some = omega arith;
   few = omega arith;
   typed = swaps_typed;

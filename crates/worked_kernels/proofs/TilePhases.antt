@@ -4,11 +4,11 @@ use Rattle.std.specs.Prelude.{slice_index, not, ◌&&◌, if◌then◌else◌}
 use Rattle.std.proofs.Math.Nat.{div-le_self, mod-lt, mod-eq_of_lt, div-eq_of_lt, mul-add-div_right, mul-add-mod_self_right}
 use Rattle.std.proofs.lemmas.List.{length-map, get_or-map}
 use Rattle.scalar_ops.specs.declared.op.Op.TheVariants.{Add, Sub, Div}
-use Rattle.kernel_tree.specs.Formula.{Number, Variable, LoopVariable, Binary, Size, operate, value, bound_value}
+use Rattle.kernel_tree.specs.Formula.{Number, Variable, LoopVariable, Binary, Size, Vars, operate, value, bound_value}
 use Rattle.kernel_tree.specs.Code.{Input, Output, Local, Code, End, Stores}
-use Rattle.kernel_tree.specs.Launch.{Launch, Cells, ids_of, group_of, group_count}
+use Rattle.kernel_tree.specs.Launch.{Launch, Cells, ids_of, item_count, groups_across, group_of, group_count}
 use Rattle.kernel_tree.specs.Device.{Cell, GlobalFence, LocalFence, fence_of, row}
-use Rattle.kernel_tree.proofs.Grouping.{group_in_launch, in_launch}
+use Rattle.kernel_tree.proofs.Grouping.{group_in_launch, in_launch, flat_items, flat_groups, flat_group}
 use Rattle.kernel_tree.proofs.Stride.{turns_of, turn_below, turn_owner, owner_turn, owner_has}
 use Rattle.barrier_placement.specs.Fencing.{Fencing, Open, Fenced}
 use Rattle.lift_ir.specs.Types.{Scalar, ArrayOf, IsPosition}
@@ -102,48 +102,54 @@ module _ (l : Launch) (tiles : ℕ) (xs out : List ℕ) (rest : ℕ) (nb : Bool)
   p = tile_list l nb tiles xs
 
   abbrev L : ℕ
-  L = l.local
+  L = l.local.0
 
   abbrev G : ℕ
-  G = group_count l
+  G = groups_across l
 
-  positive : 0 < l.local
-  positive = h.whole.positive
+  positive : 0 < l.local.0
+  positive = h.whole.x.positive
+
+  all_groups : group_count l ≡ G
+  all_groups = flat_groups l h.flat
+
+  group_below : (j : ℕ) → j < item_count l → group_of l j < G
+  group_below j lt = subst (λ z. group_of l j < z) all_groups (group_in_launch l h.whole j lt)
 
   groups_positive : 0 < G
-  groups_positive = let e = group_in_launch l h.whole 0 h.some_items in omega arith
+  groups_positive = let e = group_below 0 h.some_items in omega arith
 
   groups_small : G ≤ 65536
-  groups_small = let e = div-le_self l.global l.local in let f = h.few_items in omega arith
+  groups_small = let e = div-le_self l.global.0 l.local.0 in let f = h.few_items in let g = flat_items l h.flat in omega arith
 
-  group_below : (j : ℕ) → j < l.global → group_of l j < G
-  group_below j lt = group_in_launch l h.whole j lt
+  local_small : l.local.0 ≤ 256
+  local_small = let e : l.local.0 * l.local.1 ≡ l.local.0 * 1 = ap (λ x. l.local.0 * x) h.flat.one_local_row in let s = h.small_groups in omega arith
 
-  group_is : (g r : ℕ) → r < l.local → group_of l (g * l.local + r) ≡ g
-  group_is g r lt = mul-add-div_right positive g r ∙ (let e : r / l.local ≡ 0 = div-eq_of_lt lt in let q : g + r / l.local ≡ g = omega arith in q)
+  group_is : (g r : ℕ) → r < l.local.0 → group_of l (g * l.local.0 + r) ≡ g
+  group_is g r lt = flat_group l h.flat h.whole (g * l.local.0 + r) ∙ mul-add-div_right positive g r ∙ (let e : r / l.local.0 ≡ 0 = div-eq_of_lt lt in let q : g + r / l.local.0 ≡ g = omega arith in q)
 
-  local_is : (g r : ℕ) → r < l.local → (g * l.local + r) % l.local ≡ r
-  local_is g r lt = mul-add-mod_self_right g l.local r ∙ mod-eq_of_lt lt
+  local_is : (g r : ℕ) → r < l.local.0 → (g * l.local.0 + r) % l.local.0 ≡ r
+  local_is g r lt = mul-add-mod_self_right g l.local.0 r ∙ mod-eq_of_lt lt
 
-  item_is : (j : ℕ) → group_of l j * l.local + j % l.local ≡ j
-  item_is j = let e = owner_turn l.local j positive in omega arith
+  item_is : (j : ℕ) → group_of l j * l.local.0 + j % l.local.0 ≡ j
+  item_is j = ap (λ g. g * l.local.0 + j % l.local.0) (flat_group l h.flat h.whole j) ∙ (let e = owner_turn l.local.0 j positive in omega arith)
 
   turn_is : (g t : ℕ) → g < G → (g + t * G) / G ≡ t
   turn_is g t lt = let q : g + t * G ≡ t * G + g = omega arith in let e : g / G ≡ 0 = div-eq_of_lt lt in ap (λ z. z / G) q ∙ mul-add-div_right groups_positive t g ∙ (let z : t + g / G ≡ t = omega arith in z)
 
   -- rows
 
-  row_below : (j u : ℕ) → u < turns_of 2 l.local (j % l.local) → row_of l j u < 2
-  row_below j u lt = turn_below 2 l.local (j % l.local) u (mod-lt j positive) lt
+  row_below : (j u : ℕ) → u < turns_of 2 l.local.0 (j % l.local.0) → row_of l j u < 2
+  row_below j u lt = turn_below 2 l.local.0 (j % l.local.0) u (mod-lt j positive) lt
 
-  row_owner : (j u : ℕ) → row_of l j u % l.local ≡ j % l.local
-  row_owner j u = turn_owner l.local (j % l.local) u (mod-lt j positive)
+  row_owner : (j u : ℕ) → row_of l j u % l.local.0 ≡ j % l.local.0
+  row_owner j u = turn_owner l.local.0 (j % l.local.0) u (mod-lt j positive)
 
-  row_is : (j i : ℕ) → i % l.local ≡ j % l.local → i ≡ row_of l j (i / l.local)
-  row_is j i e = owner_turn l.local i positive ∙ ap (λ z. z + (i / l.local) * l.local) e
+  row_is : (j i : ℕ) → i % l.local.0 ≡ j % l.local.0 → i ≡ row_of l j (i / l.local.0)
+  row_is j i e = owner_turn l.local.0 i positive ∙ ap (λ z. z + (i / l.local.0) * l.local.0) e
 
-  row_turn : (j i : ℕ) → i < 2 → i % l.local ≡ j % l.local → i / l.local < turns_of 2 l.local (j % l.local)
-  row_turn j i lt e = subst (λ z. i / l.local < turns_of 2 l.local z) e (owner_has 2 l.local i positive lt)
+  row_turn : (j i : ℕ) → i < 2 → i % l.local.0 ≡ j % l.local.0 → i / l.local.0 < turns_of 2 l.local.0 (j % l.local.0)
+  row_turn j i lt e = subst (λ z. i / l.local.0 < turns_of 2 l.local.0 z) e (owner_has 2 l.local.0 i positive lt)
 
   -- the cell of element i of a tile, in each phase
   abbrev fills : (t q j i : ℕ) → Cell
@@ -153,24 +159,24 @@ module _ (l : Launch) (tiles : ℕ) (xs out : List ℕ) (rest : ℕ) (nb : Bool)
   abbrev mine : (t q j : ℕ) → Cell → Type 0
   mine = targets itself l p
 
-  as_row : (t q j : ℕ) (b : Cell) → mine t q j b → (i : ℕ) × (i < 2) × (i % l.local ≡ j % l.local) × (b ≡ fills t q j i)
+  as_row : (t q j : ℕ) (b : Cell) → mine t q j b → (i : ℕ) × (i < 2) × (i % l.local.0 ≡ j % l.local.0) × (b ≡ fills t q j i)
   as_row t zero j b x = (row_of l j x.1, row_below j x.1 x.2, row_owner j x.1, x.6)
   as_row t (suc q) j b x = (row_of l j x.1, row_below j x.1 x.2, row_owner j x.1, x.6)
 
-  of_row : (t q j i : ℕ) → turn_of l t j < tiles → i < 2 → i % l.local ≡ j % l.local → mine t q j (fills t q j i)
-  of_row t zero j i il lt e = (il, i / l.local, row_turn j i lt e, [], [], tt, ap (λ z. local_cell (group_of l j) 0 z) (row_is j i e))
-  of_row t (suc q) j i il lt e = (il, i / l.local, row_turn j i lt e, [], [], tt, ap (λ z. output_cell 0 (turn_of l t j * 2 + z)) (row_is j i e))
+  of_row : (t q j i : ℕ) → turn_of l t j < tiles → i < 2 → i % l.local.0 ≡ j % l.local.0 → mine t q j (fills t q j i)
+  of_row t zero j i il lt e = (il, i / l.local.0, row_turn j i lt e, [], [], tt, ap (λ z. local_cell (group_of l j) 0 z) (row_is j i e))
+  of_row t (suc q) j i il lt e = (il, i / l.local.0, row_turn j i lt e, [], [], tt, ap (λ z. output_cell 0 (turn_of l t j * 2 + z)) (row_is j i e))
 
   -- index expressions
 
-  index_is : (k i j : ℕ) (vars : List ℕ) → i < tiles → j < 2 → value (ids_of l k) (i ∷ j ∷ []) vars tile_index ≡ Some (i * 2 + j)
+  index_is : (k i j : ℕ) (vars : Vars) → i < tiles → j < 2 → value (ids_of l k) (i ∷ j ∷ []) vars tile_index ≡ Some (i * 2 + j)
   index_is k i j vars il jl =
       let s = h.short in
       let small : (i * 2) % 2 ^ 32 ≡ i * 2 = mod-eq_of_lt (omega arith) in
       let all_small : (i * 2 + j) % 2 ^ 32 ≡ i * 2 + j = mod-eq_of_lt (omega arith) in
       ap (λ z. Some ((z + j) % 2 ^ 32)) small ∙ ap Some all_small
 
-  read_is : (n : Bool) (k i j : ℕ) (vars : List ℕ) → j < 2 → value (ids_of l k) (i ∷ j ∷ []) vars (read_index n) ≡ Some (read_place n j)
+  read_is : (n : Bool) (k i j : ℕ) (vars : Vars) → j < 2 → value (ids_of l k) (i ∷ j ∷ []) vars (read_index n) ≡ Some (read_place n j)
   read_is true k i j vars jl = subtracts j jl
   read_is false k i j vars jl = refl
 
@@ -187,12 +193,12 @@ module _ (l : Launch) (tiles : ℕ) (xs out : List ℕ) (rest : ℕ) (nb : Bool)
   straight false j e = refl
 
   -- the place that the second phase reads was filled in the first
-  kept : (t j i : ℕ) → turn_of l t j < tiles → i < 2 → i % l.local ≡ j % l.local → IsFilledEarlier l (work_of itself l p) t 1 j (local_cell (group_of l j) 0 (read_place nb i))
+  kept : (t j i : ℕ) → turn_of l t j < tiles → i < 2 → i % l.local.0 ≡ j % l.local.0 → IsFilledEarlier l (work_of itself l p) t 1 j (local_cell (group_of l j) 0 (read_place nb i))
   kept t j i il lt at =
       let r = read_place nb i in
-      let q = r % l.local in
-      let ql : q < l.local = mod-lt r positive in
-      let by = group_of l j * l.local + q in
+      let q = r % l.local.0 in
+      let ql : q < l.local.0 = mod-lt r positive in
+      let by = group_of l j * l.local.0 + q in
       let same : group_of l by ≡ group_of l j = group_is (group_of l j) q ql in
       record {
         array = 0;
@@ -212,10 +218,10 @@ module _ (l : Launch) (tiles : ℕ) (xs out : List ℕ) (rest : ℕ) (nb : Bool)
         writer_local = refl;
         reader_local = refl;
         writes = refl;
-        aligned = λ a. ap (λ z. group_of l j * l.local + z % l.local) (straight nb i a) ∙ ap (λ z. group_of l j * l.local + z) at ∙ item_is j;
+        aligned = λ a. ap (λ z. group_of l j * l.local.0 + z % l.local.0) (straight nb i a) ∙ ap (λ z. group_of l j * l.local.0 + z) at ∙ item_is j;
       }
 
-  elements : (t q j u : ℕ) → turn_of l t j < tiles → q < 2 → j < l.global → u < turns_of (tile_phases q).len l.local (j % l.local) → AreRead itself (tile_kernel nb fence) l c p t q j (tile_phases q).element (λ cs r. (tile_places nb xs (turn_of l t j) q).marks cs (row_of l j u ∷ r)) (λ cs r. (tile_places nb xs (turn_of l t j) q).scalars cs (row_of l j u ∷ r))
+  elements : (t q j u : ℕ) → turn_of l t j < tiles → q < 2 → j < item_count l → u < turns_of (tile_phases q).len l.local.0 (j % l.local.0) → AreRead itself (tile_kernel nb fence) l c p t q j (tile_phases q).element (λ cs r. (tile_places nb xs (turn_of l t j) q).marks cs (row_of l j u ∷ r)) (λ cs r. (tile_places nb xs (turn_of l t j) q).scalars cs (row_of l j u ∷ r))
   elements t zero j u il ql jl lt cs r x =
       let b = row_below j u lt in
       let n = turn_of l t j * 2 + row_of l j u in
@@ -227,7 +233,7 @@ module _ (l : Launch) (tiles : ℕ) (xs out : List ℕ) (rest : ℕ) (nb : Bool)
       (read_below nb i b, omega arith, inr (kept t j i il b (row_owner j u)), refl)
   elements t (suc (suc q)) j u il ql jl lt cs r x = absurd (omega arith)
 
-  envs : (t q j v : ℕ) → turn_of l t j < tiles → q < 2 → j < l.global → AreRead itself (tile_kernel nb fence) l c p t q j ((tile_phases q).types v) ((tile_places nb xs (turn_of l t j) q).env v) ((tile_places nb xs (turn_of l t j) q).sems v)
+  envs : (t q j v : ℕ) → turn_of l t j < tiles → q < 2 → j < item_count l → AreRead itself (tile_kernel nb fence) l c p t q j ((tile_phases q).types v) ((tile_places nb xs (turn_of l t j) q).env v) ((tile_places nb xs (turn_of l t j) q).sems v)
   envs t zero j v il ql jl cs r x = in_none cs r x
   envs t (suc q) j v il ql jl cs r x = in_none cs r x
 
@@ -247,16 +253,16 @@ module _ (l : Launch) (tiles : ℕ) (xs out : List ℕ) (rest : ℕ) (nb : Bool)
   places i zero j il ql cs ds r s x y e = same_place cs ds r s x y (ap (λ z. z.index) e)
   places i (suc q) j il ql cs ds r s x y e = same_place cs ds r s x y (let z : i * 2 + first_index r ≡ i * 2 + first_index s = ap (λ z. z.index) e in omega arith)
 
-  valued : (t q j : ℕ) → turn_of l t j < tiles → q < 2 → j < l.global → (cs : List Bool) (r : List ℕ) → IsPosition (ArrayOf (tile_phases q).len (tile_phases q).result) cs r → tile_value l nb xs (group_of l j) t (cell_of l j ((tile_places nb xs (turn_of l t j) q).to cs r)) ≡ phase_scalars itself l p (turn_of l t j) q cs r
+  valued : (t q j : ℕ) → turn_of l t j < tiles → q < 2 → j < item_count l → (cs : List Bool) (r : List ℕ) → IsPosition (ArrayOf (tile_phases q).len (tile_phases q).result) cs r → tile_value l nb xs (group_of l j) t (cell_of l j ((tile_places nb xs (turn_of l t j) q).to cs r)) ≡ phase_scalars itself l p (turn_of l t j) q cs r
   valued t zero j il ql jl cs [] x = absurd x
   valued t zero j il ql jl cs (i ∷ r) x = refl
   valued t (suc q) j il ql jl cs [] x = absurd x
   valued t (suc q) j il ql jl cs (i ∷ r) x = let e = h.long in added_at nb xs (turn_of l t j) i x.0 (omega arith)
 
-  due : (t q j : ℕ) (b : Cell) → q < 2 → j < l.global → mine t q j b → IsOwnOutput (tile_owner l) j b ⊎ IsOwnLocal l (work_of itself l p) q j b
+  due : (t q j : ℕ) (b : Cell) → q < 2 → j < item_count l → mine t q j b → IsOwnOutput (tile_owner l) j b ⊎ IsOwnLocal l (work_of itself l p) q j b
   due t zero j b ql lt x =
       let r = as_row t 0 j b x in
-      inr (record { array = 0; index = r.0; is = r.3; in_phase = refl; owned = ap (tile_filler l) r.3 ∙ ap (λ z. group_of l j * l.local + z) r.2 ∙ item_is j })
+      inr (record { array = 0; index = r.0; is = r.3; in_phase = refl; owned = ap (tile_filler l) r.3 ∙ ap (λ z. group_of l j * l.local.0 + z) r.2 ∙ item_is j })
   due t (suc zero) j b ql lt x =
       let r = as_row t 1 j b x in
       let i = r.0 in
@@ -264,7 +270,7 @@ module _ (l : Launch) (tiles : ℕ) (xs out : List ℕ) (rest : ℕ) (nb : Bool)
       let n = turn_of l t j * 2 + i in
       let n1 : n / 2 ≡ turn_of l t j = omega arith in
       let n2 : n % 2 ≡ i = omega arith in
-      inl (record { array = 0; index = n; is = r.3; owned = ap (λ z. (z % G) * l.local + (n % 2) % l.local) n1 ∙ ap (λ z. z * l.local + (n % 2) % l.local) (turn_owner G (group_of l j) t (group_below j lt)) ∙ ap (λ z. group_of l j * l.local + z % l.local) n2 ∙ ap (λ z. group_of l j * l.local + z) r.2 ∙ item_is j })
+      inl (record { array = 0; index = n; is = r.3; owned = ap (λ z. (z % G) * l.local.0 + (n % 2) % l.local.0) n1 ∙ ap (λ z. z * l.local.0 + (n % 2) % l.local.0) (turn_owner G (group_of l j) t (group_below j lt)) ∙ ap (λ z. group_of l j * l.local.0 + z % l.local.0) n2 ∙ ap (λ z. group_of l j * l.local.0 + z) r.2 ∙ item_is j })
   due t (suc (suc q)) j b ql lt x = absurd (omega arith)
 
   not_local : (a i g m j : ℕ) → output_cell a i ≡ local_cell g m j → ⊥
@@ -273,7 +279,7 @@ module _ (l : Launch) (tiles : ℕ) (xs out : List ℕ) (rest : ℕ) (nb : Bool)
       fences_differ : GlobalFence ≡ LocalFence → ⊥
       fences_differ q = cc
 
-  differ : (a i t q j u r m : ℕ) → q < 2 → r < 2 → j < l.global → m < l.global → mine t q j (output_cell a i) → mine u r m (output_cell a i) → (t ≡ u) × (q ≡ r)
+  differ : (a i t q j u r m : ℕ) → q < 2 → r < 2 → j < item_count l → m < item_count l → mine t q j (output_cell a i) → mine u r m (output_cell a i) → (t ≡ u) × (q ≡ r)
   differ a i t zero j u r m ql rl jl ml x y = absurd (let z = as_row t 0 j (output_cell a i) x in not_local a i (group_of l j) 0 z.0 z.3)
   differ a i t (suc q) j u zero m ql rl jl ml x y = absurd (let z = as_row u 0 m (output_cell a i) y in not_local a i (group_of l m) 0 z.0 z.3)
   differ a i t (suc q) j u (suc r) m ql rl jl ml x y =
@@ -293,8 +299,8 @@ module _ (l : Launch) (tiles : ℕ) (xs out : List ℕ) (rest : ℕ) (nb : Bool)
       let al = added_long nb xs in
       let low : i < length (added nb xs) = lt in
       let il : i / 2 < tiles = omega arith in
-      let r = (i % 2) % l.local in
-      let rl : r < l.local = mod-lt (i % 2) positive in
+      let r = (i % 2) % l.local.0 in
+      let rl : r < l.local.0 = mod-lt (i % 2) positive in
       let j = tile_owner l 0 i in
       let g : group_of l j ≡ (i / 2) % G = group_is ((i / 2) % G) r rl in
       let t = (i / 2) / G in
@@ -312,21 +318,22 @@ module _ (l : Launch) (tiles : ℕ) (xs out : List ℕ) (rest : ℕ) (nb : Bool)
 
   outputs : GroupOutputs l (tile_owner l) (added nb xs ∷ []) 2 (loop_turns l tiles) (work_of itself l p)
   outputs = record {
-    owners_within = λ a i. in_launch l h.whole ((i / 2) % G) (tile_owner l a i) (mod-lt (i / 2) groups_positive) (group_is ((i / 2) % G) ((i % 2) % l.local) (mod-lt (i % 2) positive));
+    owners_within = λ a i. in_launch l h.whole ((i / 2) % G) (tile_owner l a i) (subst (λ z. (i / 2) % G < z) (sym all_groups) (mod-lt (i / 2) groups_positive)) (group_is ((i / 2) % G) ((i % 2) % l.local.0) (mod-lt (i % 2) positive));
     all = all;
   }
 
   top_given : (i : ℕ) → i < tiles → (cs : List Bool) (r : List ℕ) → IsPosition (ArrayOf 2 Scalar) cs r → (i * 2 + first_index r < length xs) × (slice_index xs (i * 2 + first_index r) ≡ slice_index xs (i * 2 + first_index r))
   top_given i il cs r x = let a = in_array cs r x in let b : first_index r ≡ a.0 = ap first_index a.3 in let le = h.long in let lt = a.1 in (omega arith, refl)
 
-  rows_fit : (q : ℕ) → q < 2 → (tile_phases q).len + l.local ≤ 2 ^ 32
-  rows_fit zero lt = let s = h.small_groups in omega arith
-  rows_fit (suc q) lt = let s = h.small_groups in omega arith
+  rows_fit : (q : ℕ) → q < 2 → (tile_phases q).len + l.local.0 ≤ 2 ^ 32
+  rows_fit zero lt = let s = local_small in omega arith
+  rows_fit (suc q) lt = let s = local_small in omega arith
 
   pub phased : IsPhased p itself (tile_kernel nb fence) l c (tile_owner l) (added nb xs ∷ [])
   phased = record {
     room = record {
       whole = h.whole;
+      flat = h.flat;
       some = omega arith;
       turns = let g = groups_small in let s = h.short in omega arith;
       rows = rows_fit;
@@ -368,7 +375,7 @@ module _ (l : Launch) (tiles : ℕ) (xs out : List ℕ) (rest : ℕ) (nb : Bool)
       phase_code nb 0 after_first,
       after_first,
       past_fenced (fence 0) _,
-      (phase_code nb 0 after_first, (λ i il. refl), first),
+      (phase_code nb 0 after_first, (λ k i here il own. refl), first),
       (phase_code nb 1 (fenced (fence 2) End), fenced (fence 2) End, past_fenced (fence 1) _, second, past_fenced (fence 2) End),
     );
   }
@@ -380,27 +387,27 @@ module _ (l : Launch) (tiles : ℕ) (xs out : List ℕ) (rest : ℕ) (nb : Bool)
       halved = ap (λ ns. Some (slice_index ns 0 / 2)) h.sizes ∙ ap Some (let z : tiles * 2 / 2 ≡ tiles = omega arith in z)
 
       first : IsPhaseLoop itself l p 0 (phase_code nb 0 (fenced (fence 1) (phase_code nb 1 (fenced (fence 2) End)))) (fenced (fence 1) (phase_code nb 1 (fenced (fence 2) End)))
-      first i il = (
+      first k i here il own = (
         Number 2,
         copy_turn,
         refl,
         refl,
-        λ j jl. (
+        λ j jl mine. (
           Stores (Local 0) (LoopVariable 1) (Variable 0) End,
-          (Input 0, tile_index, (refl, λ k vs. index_is k i j vs il jl), refl),
-          (Stores (Local 0) (LoopVariable 1) (Variable 0) End, refl, (Local 0, LoopVariable 1, Variable 0, refl, (refl, λ k vs. refl), refl)),
+          (Input 0, tile_index, (refl, λ vs. index_is k i j vs il jl), refl),
+          (Stores (Local 0) (LoopVariable 1) (Variable 0) End, refl, (Local 0, LoopVariable 1, Variable 0, refl, (refl, λ vs. refl), refl)),
         ),
       )
 
       second : IsPhaseLoop itself l p 1 (phase_code nb 1 (fenced (fence 2) End)) (fenced (fence 2) End)
-      second i il = (
+      second k i here il own = (
         Number 2,
         add_turn nb,
         refl,
         refl,
-        λ j jl. (
+        λ j jl mine. (
           Stores (Output 0) tile_index (Binary Add (Variable 1) (Number 1)) End,
-          (Local 0, read_index nb, (refl, λ k vs. read_is nb k i j vs jl), refl),
-          (Stores (Output 0) tile_index (Binary Add (Variable 1) (Number 1)) End, (Stores (Output 0) tile_index (Binary Add (Variable 1) (Number 1)) End, refl, refl), (Output 0, tile_index, Binary Add (Variable 1) (Number 1), refl, (refl, λ k vs. index_is k i j vs il jl), refl)),
+          (Local 0, read_index nb, (refl, λ vs. read_is nb k i j vs jl), refl),
+          (Stores (Output 0) tile_index (Binary Add (Variable 1) (Number 1)) End, (Stores (Output 0) tile_index (Binary Add (Variable 1) (Number 1)) End, refl, refl), (Output 0, tile_index, Binary Add (Variable 1) (Number 1), refl, (refl, λ vs. index_is k i j vs il jl), refl)),
         ),
       )

@@ -1,5 +1,6 @@
 -- Every run of the worked tiles.
 use Rattle.std.proofs.Common.{ℕ, [], ◌∷◌, true, false, refl, arith}
+use Rattle.kernel_tree.proofs.Grouping.{whole_in_a_row, flat_in_a_row}
 use Rattle.group_phases.specs.Printed.{PhasesKeep, PhasesServe, NeededBarriersKeep}
 use Rattle.worked_kernels.specs.Tiles.{tile_kernel, tile_cells, tile_owner, added, tile_list, no_barriers, two_barriers, TilesKeep, TilesServe, AlignedTilesKeep, ExchangedTilesKeep, AreTiles, two_groups, FourKeep, FourExchangedKeep}
 use Rattle.worked_kernels.proofs.TilePhases.{itself, phased, printed}
@@ -27,7 +28,8 @@ exchanged_keep keep = (
 
 four : (a b c d : ℕ) → AreTiles two_groups 2 (1 ∷ 2 ∷ 3 ∷ 4 ∷ []) (a ∷ b ∷ c ∷ d ∷ [])
 four a b c d = record {
-  whole = record { positive = omega arith; divides = refl };
+  whole = whole_in_a_row 4 2 (4 ∷ []) (record { positive = omega arith; divides = refl });
+  flat = flat_in_a_row 4 2 (4 ∷ []);
   some_items = omega arith;
   small_groups = omega arith;
   few_items = omega arith;

@@ -1,10 +1,11 @@
 -- Worked terms: what their phases use, which barriers these need, and that every run of their
 -- kernels keeps the headline.
-use Rattle.std.specs.Prelude.{◌≡◌, ℕ, zero, suc, ◌*◌, ◌<◌, ◌^◌, Bool, true, false, List, [], ◌∷◌, length, slice_index}
+use Rattle.std.specs.Prelude.{◌≡◌, ℕ, zero, suc, ◌*◌, ◌<◌, ◌^◌, Bool, true, false, List, [], ◌∷◌, length, slice_index, None}
 use Rattle.scalar_ops.specs.declared.op.Op.TheVariants.{Add, Sub, Mul, Div, Min, Max}
+use Rattle.kernel_tree.specs.declared.tree.Dimension.TheVariants.{X}
 use Rattle.kernel_tree.specs.Formula.{Formula, Number, Size, Variable, LoopVariable, Binary}
 use Rattle.kernel_tree.specs.Code.{Input, Output, Local as LocalArray, FromZero, FromGroupId, FromLocalId, ByOne, ByGroupCount, ByLocalSize, Code, End, Assigns, Loads, Stores, Loops, Syncs, Kernel}
-use Rattle.kernel_tree.specs.Launch.{Launch}
+use Rattle.kernel_tree.specs.Launch.{Launch, in_a_row}
 use Rattle.barrier_placement.specs.declared.touches.Touch.{Touch}
 use Rattle.barrier_placement.specs.Needed.{Needed}
 use Rattle.lift_ir.specs.Types.{Ty, Scalar, ArrayOf, unflat}
@@ -66,7 +67,7 @@ added_tiles_code =
     (added_tiles_over (Number 2) (Binary Div (Size 0) (Number 2))) (ArrayOf (Size 0) Scalar)
 
 -- each item reads what it copied, so no barrier is needed; every run of the kernel without barriers
--- keeps the headline, at every launch
+-- keeps the headline, at every launch of one row
 pub record AddedTilesKeep : Type 0 where
   pub phases : (tiles : ℕ) → phase_count (added_tiles tiles) ≡ 2
   pub touches : (tiles : ℕ)
@@ -144,10 +145,10 @@ abbrev pub window_turn : Code
 window_turn = Assigns 1 (Number 0) sum_loop
 
 abbrev pub windows : Code
-windows = Loops FromLocalId (Number 2) ByLocalSize window_turn (Syncs true false End)
+windows = Loops (FromLocalId X) (Number 2) (ByLocalSize X) window_turn (Syncs true false End)
 
 abbrev pub sums_body : Code
-sums_body = Loops FromLocalId (Number 4) ByLocalSize copy_turn (Syncs true false windows)
+sums_body = Loops (FromLocalId X) (Number 4) (ByLocalSize X) copy_turn (Syncs true false windows)
 
 -- a barrier between the phases, and one that closes the body
 abbrev pub sums_kernel : Kernel
@@ -158,7 +159,9 @@ sums_kernel = record {
   locals = 4 ∷ [];
   privates = [];
   variables = 3;
-  code = Loops FromGroupId (Binary Div (Size 0) (Number 2)) ByGroupCount sums_body End;
+  vectors = 0;
+  local = None;
+  code = Loops (FromGroupId X) (Binary Div (Size 0) (Number 2)) (ByGroupCount X) sums_body End;
 }
 
 -- the term's scalars, in a list
@@ -169,7 +172,7 @@ pub record AreSums (tiles : ℕ) (xs sums : List ℕ) : Type 0 where
       (n ∷ [])
 
 -- each item reads its neighbours' elements, so both barriers are needed; every run with them keeps
--- the headline, at every launch
+-- the headline, at every launch of one row
 pub record SummedTilesKeep : Type 0 where
   pub phases : (tiles : ℕ) → phase_count (summed_tiles tiles) ≡ 2
   pub touches : (tiles : ℕ)
@@ -186,7 +189,7 @@ pub record SummedTilesKeep : Type 0 where
 -- leaves 4, 6, 9, 12, 15 and 17
 abbrev pub SixKeep : Type 0
 SixKeep = (out : List ℕ) (rest : ℕ) → length out ≡ 6
-    → EveryRunKeeps sums_kernel (record { global = 2; local = 2; sizes = 6 ∷ [] })
+    → EveryRunKeeps sums_kernel (in_a_row 2 2 (6 ∷ []))
     (tile_cells (1 ∷ 2 ∷ 3 ∷ 4 ∷ 5 ∷ 6 ∷ []) out rest)
-    (λ a i. owner itself (record { global = 2; local = 2; sizes = 6 ∷ [] }) (summed_tiles 3)
+    (λ a i. owner itself (in_a_row 2 2 (6 ∷ [])) (summed_tiles 3)
     (unflat (numbers 6) i)) ((4 ∷ 6 ∷ 9 ∷ 12 ∷ 15 ∷ 17 ∷ []) ∷ [])

@@ -1,9 +1,10 @@
 -- Worked kernels.
-use Rattle.std.specs.Prelude.{◌≡◌, ℕ, ◌+◌, ◌%◌, ◌<◌, ◌^◌, true, false, List, [], ◌∷◌, length, map}
+use Rattle.std.specs.Prelude.{◌≡◌, ℕ, ◌+◌, ◌%◌, ◌<◌, ◌^◌, true, false, List, [], ◌∷◌, length, map, None}
 use Rattle.scalar_ops.specs.declared.op.Op.TheVariants.{Add, Mul}
+use Rattle.kernel_tree.specs.declared.tree.Dimension.TheVariants.{X}
 use Rattle.kernel_tree.specs.Formula.{Number, Variable, LoopVariable, Size, Binary}
 use Rattle.kernel_tree.specs.Code.{Input, Output, Private, FromZero, ByOne, FromGlobalId, ByGlobalSize, Code, End, Assigns, Loads, Stores, Loops, Kernel}
-use Rattle.kernel_tree.specs.Launch.{Launch, Cells, IsWhole}
+use Rattle.kernel_tree.specs.Launch.{Launch, Cells, IsWhole, IsFlat, in_a_row, item_count}
 use Rattle.lift_ir.specs.Types.{Scalar, PairOf, ArrayOf}
 use Rattle.lift_ir.specs.Layouts.{Split, Join}
 use Rattle.lift_ir.specs.Terms.{Skip, Take, Global, Sequential, PrivateMemory, Term, Literal, Bound, Source, Apply, Both, Project, Reshape, Map, Fold, Store, Copy}
@@ -11,7 +12,7 @@ use Rattle.printed_form.specs.Headline.{EveryRunKeeps}
 
 -- one work-item, and no sizes
 abbrev pub one_item : Launch
-one_item = record { global = 1; local = 1; sizes = [] }
+one_item = in_a_row 1 1 []
 
 -- ---- a sum, from 5 on, of partial sums in a private array
 abbrev pub sums : Term ℕ
@@ -64,6 +65,8 @@ sums_kernel = record {
   locals = [];
   privates = 2 ∷ [];
   variables = 4;
+  vectors = 0;
+  local = None;
   code = Loops FromZero (Number 2) ByOne row_body outer;
 }
 
@@ -112,6 +115,8 @@ swaps_kernel = record {
   locals = [];
   privates = [];
   variables = 5;
+  vectors = 0;
+  local = None;
   code = Assigns 0 (Number 0) (Assigns 1 (Number 1) swap_loop);
 }
 
@@ -149,7 +154,9 @@ increments_kernel = record {
   locals = [];
   privates = [];
   variables = 1;
-  code = Loops FromGlobalId (Size 0) ByGlobalSize turn_body End;
+  vectors = 0;
+  local = None;
+  code = Loops (FromGlobalId X) (Size 0) (ByGlobalSize X) turn_body End;
 }
 
 abbrev pub increments_cells : List ℕ → List ℕ → ℕ → Cells
@@ -158,11 +165,12 @@ increments_cells xs out rest = record { ins = xs ∷ []; outs = out ∷ []; rest
 abbrev pub incremented : List ℕ → List ℕ
 incremented xs = map (λ x. (x + 1) % 2 ^ 32) xs
 
--- at every launch, over fewer than 2^31 elements, every run leaves the sums, each written by the
--- work-item of its index modulo G
+-- at every launch of one row, over fewer than 2^31 elements, every run leaves the sums, each written
+-- by the work-item of its index modulo G
 abbrev pub IncrementsKeep : Type 0
 IncrementsKeep =
-    (l : Launch) (xs out : List ℕ) (rest : ℕ) → IsWhole l → 0 < l.global → l.global < 2 ^ 31
-    → l.sizes ≡ length xs ∷ [] → length xs < 2 ^ 31 → length out ≡ length xs
-    → EveryRunKeeps increments_kernel l (increments_cells xs out rest) (λ array i. i % l.global)
+    (l : Launch) (xs out : List ℕ) (rest : ℕ) → IsWhole l → IsFlat l → 0 < item_count l
+    → item_count l < 2 ^ 31 → l.sizes ≡ length xs ∷ [] → length xs < 2 ^ 31
+    → length out ≡ length xs
+    → EveryRunKeeps increments_kernel l (increments_cells xs out rest) (λ array i. i % l.global.0)
     (incremented xs ∷ [])

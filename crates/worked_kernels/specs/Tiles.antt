@@ -1,10 +1,11 @@
 -- A worked kernel: tiles of two elements are copied to local memory, and one is added to each
 -- element, by the item that copied it or by its neighbour.
-use Rattle.std.specs.Prelude.{◌≡◌, ℕ, zero, suc, ◌+◌, ◌*◌, ◌-◌, ◌/◌, ◌%◌, ◌<◌, ◌≤◌, ◌^◌, Bool, true, false, not, List, [], ◌∷◌, length, map, slice_index, if◌then◌else◌}
+use Rattle.std.specs.Prelude.{◌≡◌, ℕ, zero, suc, ◌+◌, ◌*◌, ◌-◌, ◌/◌, ◌%◌, ◌<◌, ◌≤◌, ◌^◌, Bool, true, false, not, List, [], ◌∷◌, length, map, slice_index, if◌then◌else◌, None}
 use Rattle.scalar_ops.specs.declared.op.Op.TheVariants.{Add, Sub, Mul, Div}
+use Rattle.kernel_tree.specs.declared.tree.Dimension.TheVariants.{X}
 use Rattle.kernel_tree.specs.Formula.{Formula, Number, Variable, LoopVariable, Size, Binary}
 use Rattle.kernel_tree.specs.Code.{Array, Input, Output, Local, Private, FromGroupId, ByGroupCount, FromLocalId, ByLocalSize, Code, End, Loads, Stores, Loops, Syncs, Kernel}
-use Rattle.kernel_tree.specs.Launch.{Launch, Cells, IsWhole, group_count}
+use Rattle.kernel_tree.specs.Launch.{Launch, Cells, IsWhole, IsFlat, in_a_row, item_count, group_size, groups_across}
 use Rattle.kernel_tree.specs.Device.{Cell, row}
 use Rattle.barrier_placement.specs.declared.touches.Touch.{Touch}
 use Rattle.barrier_placement.specs.Conflicts as placed
@@ -45,9 +46,9 @@ add_turn neighbour =
     (Stores (Output 0) tile_index (Binary Add (Variable 1) (Number 1)) End)
 
 abbrev pub phase_code : (neighbour : Bool) → ℕ → Code → Code
-phase_code neighbour zero rest = Loops FromLocalId (Number 2) ByLocalSize copy_turn rest
+phase_code neighbour zero rest = Loops (FromLocalId X) (Number 2) (ByLocalSize X) copy_turn rest
 phase_code neighbour (suc q) rest =
-    Loops FromLocalId (Number 2) ByLocalSize (add_turn neighbour) rest
+    Loops (FromLocalId X) (Number 2) (ByLocalSize X) (add_turn neighbour) rest
 
 abbrev pub fenced : Fencing → Code → Code
 fenced Open rest = rest
@@ -68,8 +69,10 @@ tile_kernel neighbour fence = record {
   locals = 2 ∷ [];
   privates = [];
   variables = 2;
+  vectors = 0;
+  local = None;
   code =
-      Loops FromGroupId (Binary Div (Size 0) (Number 2)) ByGroupCount
+      Loops (FromGroupId X) (Binary Div (Size 0) (Number 2)) (ByGroupCount X)
       (tile_body neighbour fence) End;
 }
 
@@ -123,18 +126,19 @@ added neighbour xs = map (λ x. (x + 1) % 2 ^ 32) (if neighbour then exchanged x
 
 -- the element with index i belongs to local item (i mod 2) mod L of group (i div 2) mod (G / L)
 abbrev pub tile_owner : Launch → (array index : ℕ) → ℕ
-tile_owner l a i = ((i / 2) % group_count l) * l.local + (i % 2) % l.local
+tile_owner l a i = ((i / 2) % groups_across l) * l.local.0 + (i % 2) % l.local.0
 
 -- a place of a tile belongs to the item that copies it
 abbrev pub tile_filler : Launch → Cell → ℕ
-tile_filler l b = b.home * l.local + b.index % l.local
+tile_filler l b = b.home * l.local.0 + b.index % l.local.0
 
--- an admissible launch, and cells for `tiles` tiles
+-- an admissible launch of one row, and cells for `tiles` tiles
 pub record AreTiles (l : Launch) (tiles : ℕ) (xs out : List ℕ) : Type 0 where
   pub whole : IsWhole l
-  pub some_items : 0 < l.global
-  pub small_groups : l.local ≤ 256
-  pub few_items : l.global ≤ 65536
+  pub flat : IsFlat l
+  pub some_items : 0 < item_count l
+  pub small_groups : group_size l ≤ 256
+  pub few_items : item_count l ≤ 65536
   pub short : tiles < 2 ^ 30
   pub sizes : l.sizes ≡ (tiles * 2) ∷ []
   pub long : length xs ≡ tiles * 2
@@ -192,7 +196,7 @@ tile_value l neighbour xs g t b = in_array b.array b.index
     in_array : Array → ℕ → ℕ
     in_array (Input a) i = slice_index (row (xs ∷ []) a) i
     in_array (Output a) i = slice_index (added neighbour xs) i
-    in_array (Local a) i = slice_index xs ((g + t * group_count l) * 2 + i)
+    in_array (Local a) i = slice_index xs ((g + t * groups_across l) * 2 + i)
     in_array (Private a) i = 0
 
 abbrev pub tile_list : Launch → (neighbour : Bool) → (tiles : ℕ) → List ℕ → PhaseList ℕ
@@ -249,7 +253,7 @@ ExchangedTilesKeep = Needed (tile_touches true) 2 two_barriers
 
 -- two groups of two items, and 1, 2, 3 and 4
 abbrev pub two_groups : Launch
-two_groups = record { global = 4; local = 2; sizes = 4 ∷ [] }
+two_groups = in_a_row 4 2 (4 ∷ [])
 
 -- whatever the outputs and other memory hold, every run without barriers leaves 2, 3, 4 and 5
 abbrev pub FourKeep : Type 0

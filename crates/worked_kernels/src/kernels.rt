@@ -3,7 +3,7 @@
 ghost use Rattle.worked_kernels.specs.Kernels.{IncrementsKeep, SumsKeep, SwapsKeep};
 
 /// Worked kernels: one with a private array, one whose accumulator has two components, and a map
-/// over the launch at every launch.
+/// over the launch at every launch of one row.
 pub fn worked_kernels_keep()
     ensures sums { SumsKeep }
     ensures swaps { SwapsKeep }

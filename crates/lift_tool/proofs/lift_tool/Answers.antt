@@ -17,7 +17,7 @@ returns-clause-complete g c = λ request texts asks is are ok well _.
     inr (c.fail-in-Err.ensures.status ∙ words_stand c.one_end.ensures told rose words request texts _ asks is are ok well c.in-Err.ensures.refused)
 
 pub returns-clause-exact : goal.returns-clause-exact
-returns-clause-exact g c = λ request failure asks is well _ cause.
+returns-clause-exact g c = λ request failure asks is well cause.
     let told : Told = g.F.Files.told c.args.files.now in
     let rose : List ℕ → Type 0 = rose_between (g.F.Files.faults c.args.files.now) (g.F.Files.faults c.answer.new.files) in
     let words : List (List ℕ) = map (string_bytes {Z = Global}) c.args.words.now in
@@ -40,7 +40,7 @@ returns-clause-plain g c = λ request plain is.
     (asks, subst (λ n. n ≢ 2) (sym c.fail-in-Err.ensures.status) (words_taken told rose words request _ c.in-Err.ensures.refused asks))
 
 pub returns-in-Ok-write_whole-clause-exact : goal.returns-in-Ok-write_whole-clause-exact
-returns-in-Ok-write_whole-clause-exact g c = λ request failure asks is well _ cause.
+returns-in-Ok-write_whole-clause-exact g c = λ request failure asks is well cause.
     let told : Told = g.F.Files.told c.args.files.now in
     let rose : List ℕ → Type 0 = rose_between (g.F.Files.faults c.args.files.now) (g.F.Files.faults c.answer.new.files) in
     let words : List (List ℕ) = map (string_bytes {Z = Global}) c.args.words.now in
@@ -51,6 +51,13 @@ returns-in-Ok-write_whole-clause-plain g c = λ request plain is. (c.answer.ensu
 
 pub returns-in-Ok-write_whole-clause-words : goal.returns-in-Ok-write_whole-clause-words
 returns-in-Ok-write_whole-clause-words g c = λ refused. absurd (asked_stands (map (string_bytes {Z = Global}) c.args.words.now) _ c.in-Ok.ensures.ok.1 refused)
+
+pub returns-in-Ok-clause-exact : goal.returns-in-Ok-clause-exact
+returns-in-Ok-clause-exact g c = λ request failure asks is well cause.
+    let told : Told = g.F.Files.told c.args.files.now in
+    let rose : List ℕ → Type 0 = rose_between (g.F.Files.faults c.args.files.now) (g.F.Files.faults c.answer.new.files) in
+    let words : List (List ℕ) = map (string_bytes {Z = Global}) c.args.words.now in
+    absurd (words_answered c.one_end.ensures told rose words request _ failure asks is well c.in-Ok.ensures.ok cause)
 
 pub returns-in-Ok-clause-plain : goal.returns-in-Ok-clause-plain
 returns-in-Ok-clause-plain g c = λ request plain is.

@@ -1,5 +1,4 @@
-use Rattle.std.proofs.Common.{refl}
 use Rattle.ndrange_device.proofs.launch.Goals as goal
 
 pub returns-in-Some-clause-trace : goal.returns-in-Some-clause-trace
-returns-in-Some-clause-trace c = rw c.in-Some.is (c.follow.ensures.trace refl)
+returns-in-Some-clause-trace c = rw c.in-Some.is c.run_traced.ensures.trace

@@ -5,11 +5,11 @@ use Rattle.kernel_printer.specs.Bytes.{write_code}
 use Rattle.kernel_printer.proofs.text.+printing.Given as goal
 
 abbrev pub invariant-print_block-loop-statement : goal.invariant-print_block-loop-statement
-invariant-print_block-loop-statement l = (after : Code) → write_code l.loops l.fn.text.items (code_then (take l.statement-index l.block) after) ≡ write_code l.loops l.text.items after
+invariant-print_block-loop-statement l = (after : Code) → write_code l.place.loops l.place.nest l.fn.text.items (code_then (take l.statement-index l.block) after) ≡ write_code l.place.loops l.place.nest l.text.items after
 
 -- how many levels are left
 abbrev pub decreases-print_block : goal.decreases-print_block
-decreases-print_block l = 2 * (1025 - l.loops) + 1
+decreases-print_block l = 2 * (1025 - l.place.nest) + 1
 
 abbrev pub decreases-print_statement : goal.decreases-print_statement
-decreases-print_statement l = 2 * (1025 - l.loops)
+decreases-print_statement l = 2 * (1025 - l.place.nest)

@@ -8,8 +8,8 @@ use Rattle.kernel_spelling.proofs.laws.one_text.Goals as goal
 
 pub returns : goal.returns
 returns c = record {
-  taken = λ k h. (spelled k, spelled_stands k h, spelled_made k h);
-  only = λ bytes k h.
-      let w = made_whole h.0 k h.2 in
+  taken = λ name k named h. (spelled name k, spelled_stands name k named h, spelled_made name k h);
+  only = λ name bytes k h.
+      let w = made_whole name h.0 k h.2 in
       (w.0, joined_pieces bytes h.0 h.1 ∙ ap joined w.1);
 }

@@ -1,3 +1,4 @@
+-- The law of `a_release`, by the lemmas beside.
 use Rattle.kernel_tree.proofs.Releases.{released}
 use Rattle.kernel_tree.proofs.laws.a_release.Goals as goal
 

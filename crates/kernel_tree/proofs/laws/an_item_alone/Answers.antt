@@ -1,3 +1,4 @@
+-- The law of `an_item_alone`, by the lemmas beside.
 use Rattle.kernel_tree.proofs.Deeds.{alone_run}
 use Rattle.kernel_tree.proofs.laws.an_item_alone.Goals as goal
 

@@ -1,3 +1,4 @@
+-- The law of `footprints`, by the lemmas beside.
 use Rattle.kernel_tree.proofs.Footprints.{by_groups, by_items, groups_apart, items_apart}
 use Rattle.kernel_tree.proofs.laws.footprints.Goals as goal
 

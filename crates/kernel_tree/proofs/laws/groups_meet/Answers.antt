@@ -1,3 +1,4 @@
+-- The law of `groups_meet`, by the lemmas beside.
 use Rattle.kernel_tree.proofs.Meets.{every_run_meets}
 use Rattle.kernel_tree.proofs.laws.groups_meet.Goals as goal
 

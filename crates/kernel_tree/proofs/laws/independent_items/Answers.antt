@@ -1,3 +1,4 @@
+-- The law of `independent_items`, by the lemmas beside.
 use Rattle.kernel_tree.proofs.Independent.{as_allowed}
 use Rattle.kernel_tree.proofs.laws.independent_items.Goals as goal
 

@@ -1,3 +1,4 @@
+-- The law of `items_between_releases`, by the lemmas beside.
 use Rattle.kernel_tree.proofs.Chunks.{passed, state_after}
 use Rattle.kernel_tree.proofs.laws.items_between_releases.Goals as goal
 

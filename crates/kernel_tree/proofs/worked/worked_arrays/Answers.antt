@@ -1,3 +1,4 @@
+-- The clauses of `worked_arrays`, by the lemmas beside.
 use Rattle.kernel_tree.proofs.WorkedKernels.{one_group_races, two_groups_apart, private_apart}
 use Rattle.kernel_tree.proofs.worked.worked_arrays.Goals as goal
 

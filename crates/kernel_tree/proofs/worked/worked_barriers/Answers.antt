@@ -1,3 +1,4 @@
+-- The clauses of `worked_barriers`, by the lemmas beside.
 use Rattle.kernel_tree.proofs.WorkedKernels.{ordered, unordered}
 use Rattle.kernel_tree.proofs.worked.worked_barriers.Goals as goal
 

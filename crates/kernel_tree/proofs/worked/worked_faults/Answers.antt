@@ -1,3 +1,4 @@
+-- The clauses of `worked_faults`, by the lemmas beside.
 use Rattle.kernel_tree.proofs.WorkedKernels.{race, out_of_range, zero_divisor, divergent}
 use Rattle.kernel_tree.proofs.worked.worked_faults.Goals as goal
 

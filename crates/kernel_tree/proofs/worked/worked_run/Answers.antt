@@ -1,3 +1,4 @@
+-- The clauses of `worked_run`, by the lemmas beside.
 use Rattle.kernel_tree.proofs.WorkedKernels.{runs, all_ended, first, second, third}
 use Rattle.kernel_tree.proofs.worked.worked_run.Goals as goal
 

@@ -1,3 +1,4 @@
+-- The clauses of `worked_sights`, by the lemmas beside.
 use Rattle.kernel_tree.proofs.WorkedKernels.{race_seen}
 use Rattle.kernel_tree.proofs.worked.worked_sights.Goals as goal
 

@@ -1,3 +1,4 @@
+-- The clauses of `worked_turns`, by the lemmas beside.
 use Rattle.kernel_tree.proofs.WorkedKernels as worked
 use Rattle.kernel_tree.proofs.worked.worked_turns.Goals as goal
 

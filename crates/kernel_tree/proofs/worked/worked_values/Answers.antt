@@ -1,3 +1,4 @@
+-- The clauses of `worked_values`, by the lemmas beside.
 use Rattle.kernel_tree.proofs.WorkedKernels as worked
 use Rattle.kernel_tree.proofs.worked.worked_values.Goals as goal
 

@@ -3,7 +3,7 @@ use Rattle.kernel_tree.specs.Code.{End}
 use Rattle.kernel_tree.specs.Tree.{before}
 use Rattle.ndrange_machine.specs.Lines.{lines_at}
 use Rattle.ndrange_machine.specs.Wants.{text_of}
-use Rattle.ndrange_machine.proofs.Laying.{laid_on, laid_loop}
+use Rattle.ndrange_machine.proofs.Laying.{laid_on, laid_loop, laid_if}
 use Rattle.ndrange_machine.proofs.line.+laying.Goals as goal
 
 pub lay-loop-statement-preserved : goal.lay-loop-statement-preserved
@@ -15,6 +15,15 @@ lay_one-returns-in_ok-push-in-Loop-2 t c =
     let before_it = c.args.lines.now in
     let all = c.push-in-Loop-2.new.self in
     let head : c.len-head.result ≡ length before_it.items = search rules in
-    let exit : c.len-exit.result ≡ length all.items = search rules in
-    laid_loop before_it.items c.push-in-Loop.new.self.items c.lay.new.lines.items all.items c.len-head.result c.len-exit.result c.in-Loop.start c.in-Loop.bound c.in-Loop.stride c.in-Loop.body c.index_mut.result.now c.set_exit.new.self head exit c.in_ok-push-in-Loop.ensures.items c.in_ok-lay-in-Loop.ensures c.in_ok-push-in-Loop-2.ensures.items c.index_mut.ensures.value c.set_exit.ensures
+    let exit : c.len-exit-in-Loop.result ≡ length all.items = search rules in
+    laid_loop before_it.items c.push-in-Loop.new.self.items c.lay-in-Loop.new.lines.items all.items c.len-head.result c.len-exit-in-Loop.result c.in-Loop.start c.in-Loop.bound c.in-Loop.stride c.in-Loop.body c.index_mut-in-Loop.result.now c.set_exit-in-Loop.new.self head exit c.in_ok-push-in-Loop.ensures.items c.in_ok-lay-in-Loop.ensures c.in_ok-push-in-Loop-2.ensures.items c.index_mut-in-Loop.ensures.value c.set_exit-in-Loop.ensures
     ∙ ap (λ s. map text_of before_it.items ++ lines_at (length before_it.items) (before s End)) (sym c.in-Loop.is)
+
+pub lay_one-returns-in_ok-lay-in-If : goal.lay_one-returns-in_ok-lay-in-If
+lay_one-returns-in_ok-lay-in-If t c =
+    let before_it = c.args.lines.now in
+    let all = c.lay.new.lines in
+    let test : c.len-test.result ≡ length before_it.items = search rules in
+    let exit : c.len-exit.result ≡ length all.items = search rules in
+    laid_if before_it.items c.push-in-If.new.self.items all.items c.len-test.result c.len-exit.result c.in-If.start c.in-If.bound c.in-If.body c.index_mut.result.now c.set_exit.new.self test exit c.in_ok-push-in-If.ensures.items c.in_ok-lay-in-If.ensures c.index_mut.ensures.value c.set_exit.ensures
+    ∙ ap (λ s. map text_of before_it.items ++ lines_at (length before_it.items) (before s End)) (sym c.in-If.is)

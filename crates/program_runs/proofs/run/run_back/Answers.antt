@@ -8,14 +8,14 @@ use Rattle.ndrange_device.specs.declared.outcome.DeviceNo.{DeviceNo}
 use Rattle.launch_file.specs.LaunchFile.{given_by}
 use Rattle.lift_tree.specs.Programs.{program_of}
 use Rattle.lift_tree.specs.Types.{ty_of}
-use Rattle.program_runs.proofs.Running.{clean_as_made, left_as_made, run_is, seen_is, starts_as_made}
+use Rattle.program_runs.proofs.Running.{clean_as_made, left_as_made, run_is, seen_is, start_once, starts_as_made}
 use Rattle.program_runs.proofs.run.run_back.Goals as goal
 
 pub traced_launch-requires : goal.traced_launch-requires
 traced_launch-requires c =
     let compiled = c.args.compiled.now in
     record {
-      may_start = ∥∥₁_elim compiled.text_for (Prim.hlevel props) (λ t.
+      may_start = ∥∥₁_elim compiled.text_for (start_once _ _ _) (λ t.
           starts_as_made (program_of compiled.program) (ty_of compiled.output) compiled.is_task compiled.text.items (given_by c.args.file.now) c.values_have_their_types.ensures c.requires t
           c.lists_have_lengths.ensures c.one_kernel.ensures _ c.in_ok-kernel.ensures _ _ c.in_ok-at.ensures c.in_ok-cells.ensures);
     }

@@ -2,7 +2,7 @@ use Rattle.std.proofs.Common.{◌∙◌, ap, sym}
 use Rattle.kernel_tree.specs.Tree.{before, code_then}
 use Rattle.tidy_indices.specs.Places.{plain_place}
 use Rattle.tidy_kernels.specs.Places.{tidied_in}
-use Rattle.tidy_kernels.proofs.Blocks.{one_more, looped}
+use Rattle.tidy_kernels.proofs.Blocks.{one_more, looped, guarded}
 use Rattle.tidy_kernels.proofs.pass.+tidying.Goals as goal
 
 pub tidied_block-loop-statement-preserved : goal.tidied_block-loop-statement-preserved
@@ -18,4 +18,12 @@ tidied_statement-returns-in_ok-tidied-in-Loop t c = λ after.
     let p = plain_place c.args.here.now in
     let q = c.in-Loop in
     looped o p (plain_place c.in_ok-inside-in-Loop.inside) q.start q.bound c.in_ok-tidied-in-Loop.field-0 q.stride q.body c.in_ok-body-in-Loop.body c.in_ok-inside-in-Loop.ensures c.in_ok-tidied-in-Loop.ensures c.in_ok-body-in-Loop.ensures after
+    ∙ ap (λ s. tidied_in o p (before s after)) (sym q.is)
+
+pub tidied_statement-returns-in_ok-tidied-in-If : goal.tidied_statement-returns-in_ok-tidied-in-If
+tidied_statement-returns-in_ok-tidied-in-If t c = λ after.
+    let o = plain_place c.args.outermost.now in
+    let p = plain_place c.args.here.now in
+    let q = c.in-If in
+    guarded o p q.start q.bound c.in_ok-tidied-in-If.field-0 q.body c.in_ok-body-in-If.body c.in_ok-tidied-in-If.ensures c.in_ok-body-in-If.ensures after
     ∙ ap (λ s. tidied_in o p (before s after)) (sym q.is)

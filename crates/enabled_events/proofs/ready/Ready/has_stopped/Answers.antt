@@ -13,4 +13,4 @@ returns c =
     let long = c.self.invariant.1.long in
     let read : c.index.result.now ≡ slice_index r.steps.items c.args.group = get_or_read r.steps.items _ _ (omega arith) c.index.ensures 0 in
     subst (λ v. IsTrue (nat_eq c.index.result.now 0) ↔ NoneSteps v c.args.group) c.self.view_is
-    (stopped r.local c.self.invariant.0.positive r.items.items r.groups.items r.steps.items c.self.invariant.1 c.args.group lt (nat_eq c.index.result.now 0) (ap (λ n. nat_eq n 0) read))
+    (stopped r.grid r.items.items r.groups.items r.steps.items c.self.invariant.1 c.args.group lt (nat_eq c.index.result.now 0) (ap (λ n. nat_eq n 0) read))

@@ -1,8 +1,11 @@
-use Rattle.std.proofs.Common.{◌≡◌, ℕ, ◌*◌, ◌<◌, ◌≤◌, Some}
+use Rattle.std.proofs.Common.{◌≡◌, ℕ, ◌<◌, Some}
 use Rattle.std.specs.Prelude.{slice_get}
+use Rattle.kernel_tree.specs.Launch.{first_item}
+use Rattle.kernel_tree.specs.Numbering.{member_at}
 use Rattle.ndrange_machine.specs.Groups.{SamePlace}
 use Rattle.ndrange_machine.specs.ItemView.{ItemView}
 use Rattle.ndrange_machine.proofs.machine.Machine.are_together.Given as goal
 
-abbrev pub invariant-loop-item : goal.invariant-loop-item
-invariant-loop-item l = (j : ℕ) (a b : ItemView) → l.group * l.self.launch.local ≤ j → j < l.item → slice_get l.self.items.items (l.group * l.self.launch.local) ≡ Some a → slice_get l.self.items.items j ≡ Some b → SamePlace a b
+-- the items so far stand with the first
+abbrev pub invariant-loop-number : goal.invariant-loop-number
+invariant-loop-number l = (j : ℕ) (a b : ItemView) → j < l.number → slice_get l.self.items.items (first_item l.self.launch l.group) ≡ Some a → slice_get l.self.items.items (member_at l.self.launch l.group j) ≡ Some b → SamePlace a b

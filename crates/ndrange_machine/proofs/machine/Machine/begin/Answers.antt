@@ -1,4 +1,6 @@
-use Rattle.std.proofs.Common.{arith}
+use Rattle.std.proofs.Common.{◌∙◌, ap, arith}
+use Rattle.kernel_tree.specs.Launch.{group_count}
+use Rattle.enabled_events.specs.Grids.{laid}
 use Rattle.ndrange_machine.proofs.Settling.{begun_none, begun_more, begins}
 use Rattle.ndrange_machine.proofs.machine.Machine.begin.Goals as goal
 
@@ -15,4 +17,7 @@ pub returns-clause-marks : goal.returns-clause-marks
 returns-clause-marks c = c.loop-group.invariant.marks
 
 pub returns-clause-flags : goal.returns-clause-flags
-returns-clause-flags c = begins c.args.self.now c.loop-group.self c.loop-group.group c.loop-group.invariant (let e = c.group_count-group-end.ensures in let far = c.loop-group-test.false in omega arith)
+returns-clause-flags c =
+    let count = c.group_count-group-end.ensures ∙ ap (λ z. group_count (laid z)) c.grid.ensures in
+    let far = c.loop-group-test.false in
+    begins c.args.self.now c.loop-group.self c.loop-group.group c.loop-group.invariant (omega arith)

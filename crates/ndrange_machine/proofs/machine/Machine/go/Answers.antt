@@ -1,24 +1,23 @@
-use Rattle.std.proofs.Common.{refl, subst, None}
-use Rattle.ndrange_machine.specs.Takes.{IsWanted}
-use Rattle.ndrange_machine.proofs.Stepping.{as_seen, as_seen_kind, took_change, took_fault, never_ends, never_waits}
+use Rattle.std.proofs.Common.{subst, sym, ⊎_elim}
+use Rattle.kernel_tree.specs.declared.events.Event.TheVariants.{Step}
+use Rattle.ndrange_machine.specs.Takes.{Advanced, IsWanted}
+use Rattle.ndrange_machine.proofs.Stepping.{took_change, took_fault, never_ends, never_waits}
 use Rattle.ndrange_machine.proofs.machine.Machine.go.Goals as goal
 
 pub returns-in-Ends : goal.returns-in-Ends
 returns-in-Ends c = λ k l d es st clean en.
-    absurd (never_ends k l d c.args.self.now es st clean c.args.item en (subst (IsWanted c.args.self.now c.args.item) c.in-Ends.is c.want.ensures))
-
-pub returns-in-Waits : goal.returns-in-Waits
-returns-in-Waits c = λ k l d es st clean en.
-    absurd (never_waits k l d c.args.self.now es st clean c.args.item en _ _ _ (subst (IsWanted c.args.self.now c.args.item) c.in-Waits.is c.want.ensures))
+    absurd (⊎_elim
+    (λ ends. never_ends k l d c.args.self.now es st clean c.args.item en (subst (IsWanted c.args.self.now c.args.item) ends c.want.ensures))
+    (λ waits. never_waits k l d c.args.self.now es st clean c.args.item en waits.0 waits.1 waits.2 (subst (IsWanted c.args.self.now c.args.item) waits.3 c.want.ensures))
+    c.in-Ends.is)
 
 pub returns-in-Fails : goal.returns-in-Fails
 returns-in-Fails c = λ k l d es st clean en.
-    as_seen k l d es _ _ c.seen-in-Fails.result _ c.seen-in-Fails.ensures
-    (took_fault k l d c.args.self.now es st clean c.args.item en c.in-Fails.kind (subst (IsWanted c.args.self.now c.args.item) c.in-Fails.is c.want.ensures))
+    took_fault k l d c.args.self.now es st clean c.args.item en c.in-Fails.kind (subst (IsWanted c.args.self.now c.args.item) c.in-Fails.is c.want.ensures)
 
 pub returns-in-Changes : goal.returns-in-Changes
 returns-in-Changes c = λ k l d es st clean en.
-    as_seen_kind k l d es _ _ c.seen-in-Changes.result None None _ _ c.seen-in-Changes.ensures refl c.fault_kind.ensures
+    subst (Advanced k l d es (Step c.args.item) c.settle-diverges.new.self) (sym c.fault.ensures)
     (took_change k l d c.args.self.now es st clean c.args.item en c.marks_stay.ensures c.change.new.self c.settle-diverges.new.self c.in-Changes.change c.in-Changes.line c.settle-diverges.result (subst (IsWanted c.args.self.now c.args.item) c.in-Changes.is c.want.ensures) c.change.ensures.item c.change.ensures.memory c.change.ensures.marks c.change.ensures.ready c.settle-diverges.ensures.core c.settle-diverges.ensures.marks c.settle-diverges.ensures.settles)
 
 pub returns-in-Reads : goal.returns-in-Reads
@@ -26,3 +25,9 @@ returns-in-Reads c = c.load.ensures (subst (IsWanted c.args.self.now c.args.item
 
 pub returns-in-Writes : goal.returns-in-Writes
 returns-in-Writes c = c.store.ensures (subst (IsWanted c.args.self.now c.args.item) c.in-Writes.is c.want.ensures)
+
+pub returns-in-ReadsFour : goal.returns-in-ReadsFour
+returns-in-ReadsFour c = c.load_four.ensures (subst (IsWanted c.args.self.now c.args.item) c.in-ReadsFour.is c.want.ensures)
+
+pub returns-in-WritesFour : goal.returns-in-WritesFour
+returns-in-WritesFour c = c.store_four.ensures (subst (IsWanted c.args.self.now c.args.item) c.in-WritesFour.is c.want.ensures)

@@ -1,24 +1,38 @@
-use Rattle.std.proofs.Common.{◌≡◌, ◌≤◌, Some, length, subst, arith}
+use Rattle.std.proofs.Common.{◌≡◌, ℕ, ◌≤◌, Bool, Some, length, ◌∙◌, ap, subst, arith}
 use Rattle.std.specs.Prelude.{◌↔◌, slice_get, IsTrue}
+use Rattle.kernel_tree.specs.Launch.{group_size}
+use Rattle.kernel_tree.specs.Numbering.{member_at}
+use Rattle.enabled_events.specs.Grids.{laid}
+use Rattle.ndrange_machine.specs.declared.machine.Machine.{Machine}
 use Rattle.ndrange_machine.specs.ItemView.{ItemView}
 use Rattle.ndrange_machine.proofs.Settling.{tells_going, tells_over, over_more}
 use Rattle.ndrange_machine.proofs.machine.Machine.have_ended.Goals as goal
 
-pub loop-item-preserved : goal.loop-item-preserved
-loop-item-preserved c =
+abbrev Over : Machine → (item : ℕ) → Bool → Type 0
+Over m item t = (a : ItemView) → slice_get m.items.items item ≡ Some a → IsTrue t ↔ length m.lines.items ≤ a.line
+
+pub loop-number-preserved : goal.loop-number-preserved
+loop-number-preserved c =
     let m = c.args.self.now in
-    over_more m c.args.group c.requires c.loop-item.item c.loop-item.invariant
-    (subst (λ b. (a : ItemView) → slice_get m.items.items c.loop-item.item ≡ Some a → IsTrue b ↔ length m.lines.items ≤ a.line) c.if-not-has_ended.false c.has_ended.ensures)
+    let g = c.args.group in
+    let n = c.loop-number.number in
+    let other = c.member.ensures ∙ ap (λ z. member_at (laid z) g n) c.grid-grid.ensures in
+    over_more m g c.requires n c.loop-number.invariant
+    (subst (Over m (member_at m.launch g n)) c.if-not-has_ended.false (subst (λ j. Over m j c.has_ended.result) other c.has_ended.ensures))
 
 pub returns-then-not-has_ended : goal.returns-then-not-has_ended
 returns-then-not-has_ended c =
     let m = c.args.self.now in
-    let first = c.first_of-item.ensures in
-    let end = c.end_of-item-end.ensures in
-    let low = c.loop-item.auto.item in
-    let high = c.loop-item-test.true in
-    tells_going m c.args.group c.requires c.loop-item.item (omega arith) (omega arith)
-    (subst (λ b. (a : ItemView) → slice_get m.items.items c.loop-item.item ≡ Some a → IsTrue b ↔ length m.lines.items ≤ a.line) c.if-not-has_ended.true c.has_ended.ensures)
+    let g = c.args.group in
+    let n = c.loop-number.number in
+    let other = c.member.ensures ∙ ap (λ z. member_at (laid z) g n) c.grid-grid.ensures in
+    let size = c.group_size-number-end.ensures ∙ ap (λ z. group_size (laid z)) c.grid-grid.ensures in
+    let low = c.loop-number-test.true in
+    tells_going m g c.requires n (omega arith)
+    (subst (Over m (member_at m.launch g n)) c.if-not-has_ended.true (subst (λ j. Over m j c.has_ended.result) other c.has_ended.ensures))
 
 pub returns : goal.returns
-returns c = tells_over c.args.self.now c.args.group c.requires c.loop-item.item (let e = c.end_of-item-end.ensures in let far = c.loop-item-test.false in omega arith) c.loop-item.invariant
+returns c =
+    let size = c.group_size-number-end.ensures ∙ ap (λ z. group_size (laid z)) c.grid-grid.ensures in
+    let far = c.loop-number-test.false in
+    tells_over c.args.self.now c.args.group c.requires c.loop-number.number (omega arith) c.loop-number.invariant

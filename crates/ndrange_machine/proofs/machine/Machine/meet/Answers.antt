@@ -8,12 +8,12 @@ returns-then-together-clause-meets c =
     let m = c.args.self.now in
     let g = c.args.group in
     meets_together m g c.set_group.new.self (subst (TellsTogether m g) c.if-together.true c.are_together-together.ensures)
-    (subst (λ t. c.set_group.new.self ≡ record { local = m.ready.local; items = m.ready.items; groups = set m.ready.groups g t }) c.if-together.true c.set_group.ensures)
+    (subst (λ t. c.set_group.new.self ≡ record { grid = m.ready.grid; items = m.ready.items; groups = set m.ready.groups g t }) c.if-together.true c.set_group.ensures)
 
 pub returns-else-together-clause-meets : goal.returns-else-together-clause-meets
 returns-else-together-clause-meets c =
     let m = c.args.self.now in
     let g = c.args.group in
     meets_apart m _ g c.have_ended.result c.set_group.new.self (subst (TellsTogether m g) c.if-together.false c.are_together-together.ensures)
-    (subst (λ t. c.set_group.new.self ≡ record { local = m.ready.local; items = m.ready.items; groups = set m.ready.groups g t }) c.if-together.false c.set_group.ensures)
+    (subst (λ t. c.set_group.new.self ≡ record { grid = m.ready.grid; items = m.ready.items; groups = set m.ready.groups g t }) c.if-together.false c.set_group.ensures)
     (record { lines = refl; launch = refl; memory = refl; items = refl }) c.have_ended.ensures

@@ -1,20 +1,27 @@
-use Rattle.std.proofs.Common.{◌≡◌, ◌+◌, ◌*◌, subst, arith}
-use Rattle.ndrange_machine.specs.Takes.{Passes}
-use Rattle.ndrange_machine.proofs.Passing.{passes_none, passes_more}
+use Rattle.std.proofs.Common.{◌∙◌, ap, subst, arith}
+use Rattle.kernel_tree.specs.Launch.{group_size}
+use Rattle.kernel_tree.specs.Numbering.{member_at}
+use Rattle.enabled_events.specs.Grids.{laid}
+use Rattle.ndrange_machine.specs.Takes.{PassesOne}
+use Rattle.ndrange_machine.proofs.Passing.{passes_none, passes_more, passes_group}
 use Rattle.ndrange_machine.proofs.machine.Machine.pass_group.Goals as goal
 
-pub loop-item-init : goal.loop-item-init
-loop-item-init c = passes_none c.args.self.now _
+pub loop-number-init : goal.loop-number-init
+loop-number-init c = passes_none c.args.self.now c.args.group
 
-pub loop-item-preserved : goal.loop-item-preserved
-loop-item-preserved c = passes_more c.args.self.now c.loop-item.self c.pass.new.self _ c.loop-item.item c.loop-item.auto.item c.loop-item.invariant c.pass.ensures
+pub loop-number-preserved : goal.loop-number-preserved
+loop-number-preserved c =
+    let m = c.args.self.now in
+    let g = c.args.group in
+    let n = c.loop-number.number in
+    let other = c.member.ensures ∙ ap (λ z. member_at (laid z) g n) c.grid-grid.ensures in
+    let size = c.group_size-number-end.ensures ∙ ap (λ z. group_size (laid z)) c.grid-grid.ensures in
+    let low = c.loop-number-test.true in
+    passes_more m g c.requires c.loop-number.self c.pass.new.self n (omega arith) c.loop-number.invariant (subst (PassesOne c.loop-number.self c.pass.new.self) other c.pass.ensures)
 
 pub returns : goal.returns
 returns c =
-    let m = c.args.self.now in
-    let n = c.loop-item.self in
-    let local = m.launch.local in
-    let first = c.first_of-item.ensures in
-    let past = c.end_of-item-end.ensures in
-    let end : c.loop-item.item ≡ c.args.group * local + local = omega arith in
-    subst (λ a. Passes m n a (c.args.group * local + local)) first (subst (Passes m n c.first_of-item.result) end c.loop-item.invariant)
+    let size = c.group_size-number-end.ensures ∙ ap (λ z. group_size (laid z)) c.grid-grid.ensures in
+    let far = c.loop-number-test.false in
+    let up = c.loop-number.auto.number-end in
+    passes_group c.args.self.now c.args.group c.requires c.loop-number.self c.loop-number.number (omega arith) c.loop-number.invariant

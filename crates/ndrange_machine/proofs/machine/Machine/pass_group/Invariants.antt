@@ -1,5 +1,5 @@
-use Rattle.ndrange_machine.specs.Takes.{Passes}
+use Rattle.ndrange_machine.proofs.Passing.{PassesUpTo}
 use Rattle.ndrange_machine.proofs.machine.Machine.pass_group.Given as goal
 
-abbrev pub invariant-loop-item : goal.invariant-loop-item
-invariant-loop-item l = Passes l.initial.self l.self l.initial.item l.item
+abbrev pub invariant-loop-number : goal.invariant-loop-number
+invariant-loop-number l = PassesUpTo l.initial.self l.self l.group l.number

@@ -1,5 +1,5 @@
 use Rattle.ndrange_machine.proofs.Settling.{SetUpTo}
 use Rattle.ndrange_machine.proofs.machine.Machine.refresh.Given as goal
 
-abbrev pub invariant-loop-item : goal.invariant-loop-item
-invariant-loop-item l = SetUpTo l.initial.self l.self l.initial.item l.item
+abbrev pub invariant-loop-number : goal.invariant-loop-number
+invariant-loop-number l = SetUpTo l.initial.self l.self l.group l.number

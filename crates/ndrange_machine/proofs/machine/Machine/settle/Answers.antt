@@ -1,6 +1,16 @@
-use Rattle.std.proofs.Common.{refl}
+use Rattle.std.proofs.Common.{◌<◌, ◌∙◌, ap, length, refl, subst, sym}
+use Rattle.enabled_events.specs.Listed.{Flags}
+use Rattle.ndrange_machine.proofs.Grids.{group_there}
 use Rattle.ndrange_machine.proofs.Settling.{settles_going, settles_some, settles_met}
 use Rattle.ndrange_machine.proofs.machine.Machine.settle.Goals as goal
+
+pub has_stopped-requires : goal.has_stopped-requires
+has_stopped-requires c =
+    let m = c.args.self.now in
+    subst (λ n. c.group_of-group.result < n) (sym (ap (λ (v : Flags). length v.groups) c.set_item.ensures ∙ m.ready_groups)) (group_there m c.args.item c.group_of-group.result c.requires c.group_of-group.ensures)
+
+pub meet-requires : goal.meet-requires
+meet-requires c = group_there c.args.self.now c.args.item c.group_of-group.result c.requires c.group_of-group.ensures
 
 pub returns-then-can_step-clause-settles : goal.returns-then-can_step-clause-settles
 returns-then-can_step-clause-settles c = settles_going c.flags_follow.ensures c.args.self.now c.args.item c.can_step.result c.can_step.ensures c.if-can_step.true

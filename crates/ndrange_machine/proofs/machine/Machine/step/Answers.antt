@@ -1,16 +1,24 @@
-use Rattle.std.proofs.Common.{◌≡◌, sym, subst, ◌∙◌}
+use Rattle.std.proofs.Common.{◌≡◌, Option, None, ap, ◌∙◌}
+use Rattle.kernel_tree.specs.declared.events.Access.{Access}
+use Rattle.kernel_tree.specs.declared.events.Event.{Event}
 use Rattle.kernel_tree.specs.declared.events.Event.TheVariants.{Step, Release}
-use Rattle.ndrange_machine.specs.Takes.{Takes}
+use Rattle.kernel_tree.specs.declared.events.Fault.{Fault}
+use Rattle.kernel_tree.specs.declared.events.FaultKind.{FaultKind}
+use Rattle.std.proofs.Common.{ℕ}
+use Rattle.kernel_tree.specs.Device.{Device, State, device_of, start_state, run}
+use Rattle.kernel_tree.specs.Seen.{seen_of}
 use Rattle.ndrange_machine.proofs.machine.Machine.step.Goals as goal
 
-pub returns-in-Step-clause-takes : goal.returns-in-Step-clause-takes
-returns-in-Step-clause-takes c = subst (λ e. Takes c.args.self.now e c.step_item.new.self c.step_item.result) (sym c.in-Step.is) c.step_item.ensures
+-- what is seen of an event, by its access and its fault
+seen_is : (d : Device) (s : State) (e : Event) (lane : ℕ) (kind : Option FaultKind) (access : Option Access) (fault : Option Fault) → access ≡ (seen_of d s e 0 None).access → fault ≡ (seen_of d s e lane kind).fault → record { event = e; access = access; fault = fault } ≡ seen_of d s e lane kind
+seen_is d s (Step k) lane kind access fault p q = ap (λ z. record { event = Step k; access = z; fault = fault }) p ∙ ap (λ z. record { event = Step k; access = (seen_of d s (Step k) 0 None).access; fault = z }) q
+seen_is d s (Release g) lane kind access fault p q = ap (λ z. record { event = Release g; access = z; fault = fault }) p ∙ ap (λ z. record { event = Release g; access = None; fault = z }) q
 
-pub returns-in-Step-clause-release : goal.returns-in-Step-clause-release
-returns-in-Step-clause-release c = λ g e. let both : Step c.in-Step.item ≡ Release g = sym c.in-Step.is ∙ e in cc
-
-pub returns-in-Release-clause-takes : goal.returns-in-Release-clause-takes
-returns-in-Release-clause-takes c =
-    let m = c.args.self.now in
-    subst (λ e. Takes m e c.release_group.new.self c.seen.result) (sym c.in-Release.is)
-    (subst (Takes m (Release c.in-Release.group) c.release_group.new.self) (sym c.seen.ensures) c.release_group.ensures)
+pub returns-clause-takes : goal.returns-clause-takes
+returns-clause-takes c = λ k l d es st clean en.
+    let a = c.advance-fault.ensures.advances k l d es st clean en in
+    let h = a.tells in
+    record {
+      stands = a.stands;
+      tells = record { kind = h.kind; fault = h.is; lane = h.lane; in_lane = h.in_lane; is = seen_is (device_of k l d) (run (device_of k l d) (start_state k d) es) c.args.event h.lane h.kind c.access-access.result c.advance-fault.result (c.access-access.ensures k l d es st clean en) h.told };
+    }

@@ -1,11 +1,10 @@
-use Rattle.std.proofs.Common.{◌≤◌, ap, subst, arith}
-use Rattle.kernel_tree.specs.Launch.{Launch}
-use Rattle.ndrange_machine.specs.declared.machine.Machine.{Machine}
+use Rattle.std.proofs.Common.{ap, arith}
+use Rattle.kernel_tree.specs.Launch.{item_count}
 use Rattle.ndrange_machine.proofs.machine.Machine.step_item.Goals as goal
 
-pub returns-else-item-self : goal.returns-else-item-self
-returns-else-item-self c = λ k l d es st clean en.
-    let far = subst (λ (z : Machine). z.launch.global ≤ c.args.item) c.self.view_is c.if-item-self.false in
-    let e = ap (λ (z : Launch). z.global) st.holds.launch in
+pub returns-else-item-len : goal.returns-else-item-len
+returns-else-item-len c = λ k l d es st clean en.
+    let count = ap item_count st.holds.launch in
+    let all = c.args.self.now.grouped in
     let lt = en.0 in
-    absurd (omega arith)
+    absurd (omega (arith, c.if-item-len.false, c.len.ensures, count, all, lt))

@@ -1,7 +1,11 @@
-use Rattle.std.proofs.Common.{◌≡◌, ◌∙◌, Some, length, ap, sym, subst, refl}
-use Rattle.kernel_tree.specs.declared.events.FaultKind.TheVariants.{OutOfRange}
-use Rattle.ndrange_machine.proofs.Cells.{Puts}
-use Rattle.ndrange_machine.proofs.Stepping.{as_seen_kind, named, took_write, took_write_outside}
+use Rattle.std.proofs.Common.{◌≡◌, ◌∙◌, length, ap, sym, subst, refl}
+use Rattle.kernel_tree.specs.declared.events.Event.TheVariants.{Step}
+use Rattle.ndrange_machine.specs.Memory.{held, put_held}
+use Rattle.ndrange_machine.specs.Sights.{fault_in, lane_of}
+use Rattle.ndrange_machine.specs.Takes.{Advanced}
+use Rattle.ndrange_machine.specs.declared.memory.Memory.{Memory}
+use Rattle.kernel_tree.specs.Device.{Cell}
+use Rattle.ndrange_machine.proofs.Stepping.{named, took_one, took_one_outside}
 use Rattle.ndrange_machine.proofs.machine.Machine.store.Goals as goal
 
 pub returns-then-write : goal.returns-then-write
@@ -10,9 +14,10 @@ returns-then-write c = λ w k l d es st clean en.
     let n = c.change.new.self in
     let g = c.group_of-group.result in
     let mem : n.memory ≡ c.write.new.self = c.change.ensures.memory ∙ c.touch-races.ensures.core.memory in
-    as_seen_kind k l d es _ _ c.seen.result _ _ _ _ c.seen.ensures c.write_of.ensures c.fault_kind.ensures
-    (took_write k l d m es st clean c.args.item en g c.group_of-group.ensures c.args.array c.args.index c.args.word c.args.line w n
-    (subst (λ z. Puts m.memory z c.args.index c.args.word (named k l d m es st clean c.args.item en g c.args.array c.args.index)) (sym mem) c.write.ensures.cells)
+    let told = c.fault.ensures ∙ ap (λ z. fault_in z c.shared.result c.settle-diverges.result) c.lane_if.ensures ∙ ap (λ z. fault_in (lane_of c.touch-races.result) z c.settle-diverges.result) c.shared.ensures in
+    subst (Advanced k l d es (Step c.args.item) c.settle-diverges.new.self) (sym told)
+    (took_one k l d m es st clean c.args.item en g c.group_of-group.ensures c.args.array c.args.index c.args.word c.args.line w n
+    (subst (λ (z : Memory). (e : Cell) → held z e ≡ put_held (held m.memory) (named k l d m es st clean c.args.item en g c.args.array c.args.index) c.args.word e) (sym mem) c.write.ensures.cells)
     (ap (λ z. length z.outs.items) mem ∙ c.write.ensures.outputs) (sym c.write.ensures.there ∙ c.if-write.true)
     _ c.touch-races.new.self n c.settle-diverges.new.self c.touch-races.result c.settle-diverges.result c.touch-races.ensures.core refl refl refl (sym mem) refl refl c.touch-races.ensures.ready c.touch-races.ensures.tracks
     c.change.ensures.item c.change.ensures.memory c.change.ensures.marks c.change.ensures.ready c.settle-diverges.ensures.core c.settle-diverges.ensures.marks c.settle-diverges.ensures.settles)
@@ -20,11 +25,11 @@ returns-then-write c = λ w k l d es st clean en.
 pub returns-else-write : goal.returns-else-write
 returns-else-write c = λ w k l d es st clean en.
     let m = c.args.self.now in
-    let n = c.change-else-write.new.self in
     let g = c.group_of-group.result in
-    let mem : n.memory ≡ c.write.new.self = c.change-else-write.ensures.memory in
-    as_seen_kind k l d es _ _ c.seen-else-write.result _ _ (Some OutOfRange) (Some OutOfRange) c.seen-else-write.ensures c.write_of-else-write.ensures refl
-    (took_write_outside k l d m es st clean c.args.item en g c.group_of-group.ensures c.args.array c.args.index c.args.word c.args.line w n
-    (subst (λ z. Puts m.memory z c.args.index c.args.word (named k l d m es st clean c.args.item en g c.args.array c.args.index)) (sym mem) c.write.ensures.cells)
+    let b = c.stop_outside.ensures.stops.between in
+    let mem : b.memory ≡ c.write.new.self = c.stop_outside.ensures.stops.memory in
+    subst (Advanced k l d es (Step c.args.item) c.stop_outside.new.self) (sym c.stop_outside.ensures.fault)
+    (took_one_outside k l d m es st clean c.args.item en g c.group_of-group.ensures c.args.array c.args.index c.args.word c.args.line w b
+    (subst (λ (z : Memory). (e : Cell) → held z e ≡ put_held (held m.memory) (named k l d m es st clean c.args.item en g c.args.array c.args.index) c.args.word e) (sym mem) c.write.ensures.cells)
     (ap (λ z. length z.outs.items) mem ∙ c.write.ensures.outputs) (sym c.write.ensures.there ∙ c.if-write.false)
-    _ n c.settle.new.self c.settle.result refl refl refl (sym mem) refl c.change-else-write.ensures.item c.change-else-write.ensures.memory c.change-else-write.ensures.ready c.settle.ensures.core c.settle.ensures.settles)
+    _ c.stop_outside.new.self refl refl refl (sym mem) refl c.stop_outside.ensures.stops)

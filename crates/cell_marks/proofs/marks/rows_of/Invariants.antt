@@ -1,5 +1,0 @@
-use Rattle.std.proofs.Common.{◌≡◌, length, map, take}
-use Rattle.cell_marks.proofs.marks.rows_of.Given as goal
-
-abbrev pub invariant-loop-row : goal.invariant-loop-row
-invariant-loop-row l = l.rows ≡ record { homes = 1; lengths = map (λ row. length row.items) (take l.row-index l.cells) }

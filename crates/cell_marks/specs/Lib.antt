@@ -1,4 +1,0 @@
-pub mod Marked
-pub mod Rows
-pub mod Tracked
-pub mod Laws
