@@ -22,9 +22,9 @@ CODE = (".rt", ".antt")
 BARRIER = r"\bStmt::Barrier\b|\bBarrier \{ on_|\bSyncs\b|\bbarrier\("
 # a change, the one that is looked for, and the names that it has in files
 CHANGES = [
-    ("a rewrite rule", "private-copy", r"\bPrivateCopy\b|private-copy"),
+    ("a rewrite rule", "stride-layout", r"\bStrideLayout\b|stride-layout|\bstride_layout\b"),
     ("a statement of kernels", "barrier", BARRIER),
-    ("a layout", "transpose", r"\bTranspose\b|\"transpose\""),
+    ("a layout", "reverse", r"\bReverse\b|\"reverse\""),
     ("a rule of the nest", "N11", r"\bN11\b"),
     ("a refusal of launch files", "no task", r"\bNotTask\b"),
     ("a command", "demo", r"\bDemo\b|\bdemo\b"),

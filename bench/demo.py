@@ -7,7 +7,7 @@ The demo compiles the tiled stencil of 4,096 numbers and runs it by 256 work-ite
 time of ten calls, and the instructions of one (valgrind --tool=callgrind), each also per event: reading, rewriting, printing
 and reading back are in it.
 
-Taken once, beside other work: 5.8 ms, 12.5 million events a second; 528 instructions an event.
+Taken once, beside other work: 6.3 ms, 11.5 million events a second; 458 instructions an event.
 """
 import re
 import tempfile

@@ -7,7 +7,8 @@ Runs a map over the launch, from one input number to 1,000 and to a million numb
 prints the most memory that each call took. After its start the machine takes none; the text of the value is made behind it,
 as in `lift eval`, whose peak stands beside.
 
-Taken once: for 10^6 cells `run` took 42 MB by one work-item and 43 by 65,536, `eval` 66.
+Taken once: for 10^6 cells `run` took 15 MB by one work-item and 26 by 65,536, `eval` 66. With 10^6 input cells too, each read
+from the launch file, `run` took 67 MB.
 """
 import json
 import tempfile

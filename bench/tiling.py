@@ -9,14 +9,15 @@ compiler does behind the script: it judges the nest, plans, prints and writes. T
 
 - a stencil by tiles which are copied to local memory, its input behind 1 to 24 layouts: joins of splits, pads, transpositions of
   transpositions, and reorderings (a join of a transposition of a split), which no law undoes, so that each doubles the index that
-  the kernel has;
+  the kernel has; reverses; strides and splits by turns, each stride of which doubles the index too;
 - a stencil of a stencil of .. in one tile, 1 to 20 deep, each in local memory but the last: a phase and its barrier for each.
 
 Prints the count in all, for each node of the last term more than in the first of its shape, and the bytes of the kernel.
 
 Counted once, for each node more: joins of splits 46,000 at 2 layouts (the second is a pad), 28,800 at 6, 22,600 at 24; pads 46,000,
 41,900 and 40,900; transpositions 46,000, 28,100 and 25,300; stencils in a tile 15,000 at 2 and 14,000 at 20. Reorderings 47,000 at
-6 layouts, 570,000 at 24: there the kernel grows from 850 bytes to 14,200, and a byte of it costs 611 instructions and 942.
+6 layouts, 570,000 at 24: there the kernel grows from 850 bytes to 14,200, and a byte of it costs 611 instructions and 942. Reverses 40,600 at 6, 43,000 at
+24; strides and splits by turns as reorderings, 78,000 at 6 and 1,200,000 at 24, where the kernel has 14,200 bytes.
 """
 import tempfile
 from pathlib import Path
@@ -60,6 +61,8 @@ FORMS = [
     ("pads", 1, "pad(0, 0, {})"),
     ("transpositions", 4, "join(transpose(transpose(split(2, {}))))"),
     ("reorderings", 3, "join(transpose(split(2, {})))"),
+    ("reverses", 1, "reverse({})"),
+    ("strides and splits by turns", 3, "join(split(2, stride(2, {})))"),
 ]
 SHAPES = [
     (f"layouts, {told}", lambda layouts, most=most, form=form: behind_layouts(layouts, most, form), (1, 2, 6, 12, 18, 24))

@@ -27,6 +27,8 @@ ORDER = [
     "matrix_product",
     "matrix_product_short",
     "partial_sums",
+    "blocked_sums",
+    "strided_sums",
     "transpose_tiles",
     "stencil",
 ]

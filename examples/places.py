@@ -76,7 +76,7 @@ class Parser:
         self.take("(")
         if form in MAPS + FOLDS:
             return self.loop(form)
-        if form in ("reduce", "split", *NUMBERS):
+        if form in ("reduce", "split", "stride", *NUMBERS):
             return self.behind_words(form)
         first = self.term()
         if form in NUMBER_BEHIND:

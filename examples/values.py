@@ -64,12 +64,22 @@ def sums_so_far(xs):
     return [total(xs[: k + 1]) for k in range(len(xs))]
 
 
+def sums_from_on(xs):
+    return [total(xs[k:]) for k in range(len(xs))]
+
+
+def squares(xs):
+    """The sum of the squares."""
+    return total(x * x for x in xs)
+
+
 def framed_squares(xs):
     return [word(x * x + 1) for x in [xs[0], *xs, xs[-1], xs[-1]]]
 
 
 VALUES = {
     "argmin": lambda rows, columns: [least(row) for row in rows],
+    "blocked_sums": lambda xs: [squares(block) for block in parts(xs, len(xs) // 8)],
     "convolution": convolution,
     "dot_product": lambda xs, ys: [dot(xs, ys)],
     "five_point": weighted_neighbours,
@@ -86,9 +96,12 @@ VALUES = {
     "row_sums": lambda rows: [total(row) for row in rows],
     "squares_smoothed": lambda rows: [stencil([x * x for x in row]) for row in rows],
     "stencil": stencil,
+    "strided_sums": lambda xs: [squares(xs[k::8]) for k in range(8)],
+    "suffix_sums": lambda xs, ids: [it for part in parts(xs, 16) for it in sums_from_on(part)],
     "sum": lambda xs, one: [total(xs)],
     "sum_of_parts": lambda parts, one: [total(part) for part in parts],
     "transpose": columns,
     "transpose_tiles": columns,
+    "turned_back": lambda xs: [word(2 * x + 1) for x in xs],
     "two_passes": lambda rows: [[word(2 * x + 1) for x in row] for row in rows],
 }

@@ -5,7 +5,7 @@ use Rattle.std.specs.Int.{int_min, int_max}
 use Rattle.std.proofs.lemmas.Int.{ints, clamps}
 use Rattle.std.proofs.Math.Nat.{div-le_self, mod-le, mul-le-mul_left, mod-add-div'}
 use Rattle.lift_ir.specs.Types.{Shape, Ty, Scalar, PairOf, ArrayOf, measured, size, flat, IsPosition, IsFlat, IsShort}
-use Rattle.lift_ir.specs.Layouts.{Layout, Split, Join, Transpose, Slide, Pad, operand_position, result_position, IsInvertible}
+use Rattle.lift_ir.specs.Layouts.{Layout, Split, Join, Transpose, Reverse, Slide, Pad, operand_position, result_position, IsInvertible}
 use Rattle.lift_ir.proofs.Positions.{operand_in, join_in}
 use Rattle.lift_ir.proofs.Numbers.{flat_below}
 use Rattle.index_expr.specs.declared.operation.Operation.{Operation}
@@ -15,7 +15,7 @@ use Rattle.index_expr.specs.Values.{exact, operate, Divides, WantsWords, IsWord}
 use Rattle.index_simplify.specs.Laws.{first_part}
 use Rattle.index_simplify.specs.Tests.{same}
 use Rattle.index_simplify.specs.Promises.{SameExpressionsHaveOneValue}
-use Rattle.array_views.specs.Layouts.{are_parts, cell_in_rows, flattened, parted, swapped, clamped, to_operand, to_result}
+use Rattle.array_views.specs.Layouts.{are_parts, cell_in_rows, flattened, parted, swapped, turned, clamped, to_operand, to_result}
 use Rattle.array_views.specs.Accesses.{row_major, row_major_from}
 use Rattle.array_views.specs.Cells.{number_at, IsIndex, AreIndices, HasLengths, Leads}
 
@@ -121,6 +121,12 @@ module _ (sizes variables : List ℕ) where
       let last = plain Difference g (Literal 1) n 1 (n - 1) (λ w. w) (λ d. d) b (literal 1 (omega arith)) (less_is n 1 (omega arith)) (omega arith) in
       of_words Least (Binary Difference (Binary Greatest f (Literal l)) (Literal l)) (Binary Difference g (Literal 1)) (max i l - l) (n - 1) (min (max i l - l) (n - 1)) (λ d. absurd d) back last (min_is (max i l - l) (n - 1)) (omega arith)
 
+  turn : (f g : Expression) (i n : ℕ) → IsIndex sizes variables f i → IsIndex sizes variables g n → i < n → IsIndex sizes variables (Binary Difference (Binary Difference g (Literal 1)) f) (n - 1 - i)
+  turn f g i n a b lt =
+      let y = fits g n b in
+      let last = plain Difference g (Literal 1) n 1 (n - 1) (λ w. w) (λ d. d) b (literal 1 (omega arith)) (less_is n 1 (omega arith)) (omega arith) in
+      plain Difference (Binary Difference g (Literal 1)) f (n - 1) i (n - 1 - i) (λ w. w) (λ d. d) last a (less_is (n - 1) i (omega arith)) (omega arith)
+
   -- indices of a position in the result are, in the operand, those of the position there
   pub operand_exact : SameExpressionsHaveOneValue → (y : Layout Expression) (t u : Ty) (cs : List Bool) (is : List Expression) (q : List ℕ) → Leads sizes variables y t u → IsPosition u cs q → AreIndices sizes variables is q → AreIndices sizes variables (to_operand y is) (operand_position num y q)
   operand_exact one_value (Split m) (ArrayOf n t) u cs is q a w g = go is q (subst (λ z. IsPosition z cs q) a.shapes.2 w) g
@@ -147,6 +153,12 @@ module _ (sizes variables : List ℕ) where
       go [] (i ∷ j ∷ q) w g = absurd g
       go (f ∷ []) (i ∷ j ∷ q) w g = absurd g.1
       go (f ∷ h ∷ fs) (i ∷ j ∷ q) w g = (g.1.0, (g.0, g.1.1))
+  operand_exact one_value (Reverse k) (ArrayOf n t) u cs is q a w g = go is q (subst (λ z. IsPosition z cs q) (a.shapes.1 ∙ ap (λ z. ArrayOf z t) (sym a.shapes.0)) w) g
+    where
+      go : (is : List Expression) (q : List ℕ) → IsPosition (ArrayOf (num k) t) cs q → AreIndices sizes variables is q → AreIndices sizes variables (turned k is) (operand_position num (Reverse k) q)
+      go is [] w g = absurd w
+      go [] (i ∷ q) w g = absurd g
+      go (f ∷ fs) (i ∷ q) w g = (turn f k i (num k) g.0 a.lengths w.0, g.1)
   operand_exact one_value (Slide s k) (ArrayOf n t) u cs is q a w g = go is q (subst (λ z. IsPosition z cs q) a.shapes.3 w) g
     where
       go : (is : List Expression) (q : List ℕ) → IsPosition (ArrayOf ((n - s) / k + 1) (ArrayOf s t)) cs q → AreIndices sizes variables is q → AreIndices sizes variables (flattened (Literal k) is) (operand_position num (Slide s k) q)
@@ -186,6 +198,7 @@ module _ (sizes variables : List ℕ) where
   result_exact one_value Transpose (ArrayOf n (ArrayOf m t)) u cs [] (i ∷ j ∷ q) z a w g = absurd g
   result_exact one_value Transpose (ArrayOf n (ArrayOf m t)) u cs (f ∷ []) (i ∷ j ∷ q) z a w g = absurd g.1
   result_exact one_value Transpose (ArrayOf n (ArrayOf m t)) u cs (f ∷ h ∷ fs) (i ∷ j ∷ q) z a w g = (g.1.0, (g.0, g.1.1))
+  result_exact one_value (Reverse k) (ArrayOf n t) u cs is q z a w g = operand_exact one_value (Reverse k) (ArrayOf n t) u cs is q a (subst (λ z. IsPosition z cs q) (sym a.shapes.1) w) g
   result_exact one_value (Slide s k) t u cs is q z a w g = absurd z
   result_exact one_value (Pad x y k) t u cs is q z a w g = absurd z
   result_exact one_value _ t u cs is q z a w g = absurd a.shapes

@@ -2,7 +2,7 @@
 use Rattle.std.proofs.Common.{ℕ, ◌+◌, ◌≤◌, Bool, true, false, List, [], ◌∷◌, arith}
 use Rattle.std.specs.Prelude.{◌==◌, ◌%◌, ◌&&◌, nat_lt, if◌then◌else◌, map}
 use Rattle.lift_ir.specs.Types.{Shape, Scalar, PairOf, ArrayOf}
-use Rattle.lift_ir.specs.Layouts.{Layout, Split, Join, Transpose, Slide, Pad}
+use Rattle.lift_ir.specs.Layouts.{Layout, Split, Join, Transpose, Reverse, Slide, Pad}
 use Rattle.index_expr.specs.declared.operation.Operation.{Operation}
 use Rattle.index_expr.specs.declared.operation.Operation.TheVariants.{Sum, Difference, Product, Quotient, Remainder, Least, Greatest}
 use Rattle.index_expr.specs.Expression.{Expression, Variable, Literal, Size, Binary, nodes, short_nodes, short_operation, divisor_of, scaled_nodes}
@@ -110,6 +110,11 @@ module _ (count : Expression → ℕ) (counts : IsCount count) where
       let last = binary_within Difference n (Literal 1) (count n) 1 (omega arith) (counts.literal 1) in
       binary_within Least (Binary Difference (Binary Greatest i (Literal l)) (Literal l)) (Binary Difference n (Literal 1)) (a + 1 + 1 + 1 + 1) (count n + 1 + 1) back last
 
+  turned_within : (i n : Expression) (a : ℕ) → count i ≤ a → count (Binary Difference (Binary Difference n (Literal 1)) i) ≤ count n + 1 + 1 + a + 1
+  turned_within i n a x =
+      let last = binary_within Difference n (Literal 1) (count n) 1 (omega arith) (counts.literal 1) in
+      binary_within Difference (Binary Difference n (Literal 1)) i (count n + 1 + 1) a last x
+
   operand_within : (y : Layout Expression) (is : List Expression) (ns : List ℕ) → AreWithin is ns → AreWithin (to_operand y is) (operand_nodes count y ns)
   operand_within (Split m) [] [] h = tt
   operand_within (Split m) (i ∷ []) (a ∷ []) h = h
@@ -120,6 +125,8 @@ module _ (count : Expression → ℕ) (counts : IsCount count) where
   operand_within Transpose [] [] h = tt
   operand_within Transpose (i ∷ []) (a ∷ []) h = h
   operand_within Transpose (i ∷ j ∷ is) (a ∷ b ∷ ns) h = (h.1.0, (h.0, h.1.1))
+  operand_within (Reverse n) [] [] h = tt
+  operand_within (Reverse n) (i ∷ is) (a ∷ ns) h = (turned_within i n a h.0, h.1)
   operand_within (Slide s t) [] [] h = tt
   operand_within (Slide s t) (i ∷ []) (a ∷ []) h = h
   operand_within (Slide s t) (i ∷ j ∷ is) (a ∷ b ∷ ns) h = (cell_within i (Literal t) j a 1 b h.0 (counts.literal t) h.1.0, h.1.1)
@@ -131,6 +138,7 @@ module _ (count : Expression → ℕ) (counts : IsCount count) where
   result_within (Split m) is ns h = operand_within (Join m) is ns h
   result_within (Join m) is ns h = operand_within (Split m) is ns h
   result_within Transpose is ns h = operand_within Transpose is ns h
+  result_within (Reverse n) is ns h = operand_within (Reverse n) is ns h
   result_within (Slide s t) is ns h = h
   result_within (Pad l r n) is ns h = h
 

@@ -6,7 +6,7 @@ use Rattle.kernel_tree.specs.Formula.{Formula}
 use Rattle.kernel_tree.specs.Code.{Array}
 use Rattle.scalar_ops.specs.declared.op.Op.TheVariants.{Add, Mul}
 use Rattle.lift_ir.specs.Types.{Shape, Scalar, PairOf, ArrayOf, width, component}
-use Rattle.lift_ir.specs.Layouts.{Layout, Split, Join, Transpose, Slide, Pad}
+use Rattle.lift_ir.specs.Layouts.{Layout, Split, Join, Transpose, Reverse, Slide, Pad}
 use Rattle.printed_form.specs.Views.{Read, placed_view, index_from, index_in, operand_indices, result_indices}
 use Rattle.index_expr.specs.Expression.{Expression}
 use Rattle.length_spelling.specs.Formulas.{index_formula}
@@ -58,6 +58,8 @@ module _ {A : Type 0} (spell : A → Expression) where
   operand_spelled Transpose [] = refl
   operand_spelled Transpose (i ∷ []) = refl
   operand_spelled Transpose (i ∷ j ∷ is) = refl
+  operand_spelled (Reverse n) [] = refl
+  operand_spelled (Reverse n) (i ∷ is) = refl
   operand_spelled (Slide s t) [] = refl
   operand_spelled (Slide s t) (i ∷ []) = refl
   operand_spelled (Slide s t) (i ∷ j ∷ is) = refl
@@ -68,5 +70,6 @@ module _ {A : Type 0} (spell : A → Expression) where
   result_spelled (Split m) is = operand_spelled (Join m) is
   result_spelled (Join m) is = operand_spelled (Split m) is
   result_spelled Transpose is = operand_spelled Transpose is
+  result_spelled (Reverse n) is = operand_spelled (Reverse n) is
   result_spelled (Slide s t) is = refl
   result_spelled (Pad l r n) is = refl

@@ -2,7 +2,7 @@
 use Rattle.std.proofs.Common.{◌≡◌, ◌+◌, Bool, true, false, List, [], ◌∷◌, refl, ap, ◌∙◌}
 use Rattle.std.specs.Prelude.{◌&&◌, if◌then◌else◌, map}
 use Rattle.lift_ir.specs.Types.{Shape, Scalar, PairOf, ArrayOf, component}
-use Rattle.lift_ir.specs.Layouts.{Layout, Split, Join, Transpose, Slide, Pad}
+use Rattle.lift_ir.specs.Layouts.{Layout, Split, Join, Transpose, Reverse, Slide, Pad}
 use Rattle.kernel_tree.specs.Formula.{Formula}
 use Rattle.kernel_tree.specs.Formula as formula
 use Rattle.scalar_ops.specs.declared.op.Op.TheVariants.{Add, Mul}
@@ -86,6 +86,8 @@ operand_is (Join m) (i ∷ is) = refl
 operand_is Transpose [] = refl
 operand_is Transpose (i ∷ []) = refl
 operand_is Transpose (i ∷ j ∷ is) = refl
+operand_is (Reverse n) [] = refl
+operand_is (Reverse n) (i ∷ is) = refl
 operand_is (Slide s t) [] = refl
 operand_is (Slide s t) (i ∷ []) = refl
 operand_is (Slide s t) (i ∷ j ∷ is) = ap (λ z. z ∷ map index_formula is) (cell_is i (Literal t) j)
@@ -96,6 +98,7 @@ result_is : (y : Layout Expression) (is : List Expression) → map index_formula
 result_is (Split m) is = operand_is (Join m) is
 result_is (Join m) is = operand_is (Split m) is
 result_is Transpose is = operand_is Transpose is
+result_is (Reverse n) is = operand_is (Reverse n) is
 result_is (Slide s t) is = refl
 result_is (Pad l r n) is = refl
 

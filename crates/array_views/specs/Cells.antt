@@ -3,7 +3,7 @@ use Rattle.std.specs.Prelude.{◌≡◌, ℕ, ◌+◌, ◌<◌, ◌⊎◌, pos, 
 use Rattle.kernel_tree.specs.Code.{Array}
 use Rattle.lift_ir.specs.AtLaunch.{natural}
 use Rattle.lift_ir.specs.Types.{Shape, Ty, Scalar, PairOf, ArrayOf, measured, width, size, IsShort, IsPlaced}
-use Rattle.lift_ir.specs.Layouts.{Layout, Split, Join, Pad, operand_position, result_position, Reshapes, IsInvertible, HasWordStep}
+use Rattle.lift_ir.specs.Layouts.{Layout, Split, Join, Reverse, Pad, operand_position, result_position, Reshapes, IsInvertible, HasWordStep}
 use Rattle.lift_ir.specs.Scalars.{by_side, at_index}
 use Rattle.printed_form.specs.Marks.{Mark, Nowhere, Register, Spot, Marks, laid_in}
 use Rattle.index_expr.specs.Expression.{Expression}
@@ -58,6 +58,7 @@ module _ (sizes variables : List ℕ) where
   abbrev pub KeepsLengths : Layout Expression → Type 0
   KeepsLengths (Split m) = IsLength m
   KeepsLengths (Join m) = IsLength m
+  KeepsLengths (Reverse n) = IsLength n
   KeepsLengths (Pad l r n) = IsLength n
   KeepsLengths _ = Unit {0}
 

@@ -12,6 +12,7 @@ abbrev pub layout_in : Layout → ir.Layout Expression
 layout_in (layout.Split m) = ir.Split (expression_of m)
 layout_in (layout.Join m) = ir.Join (expression_of m)
 layout_in layout.Transpose = ir.Transpose
+layout_in (layout.Reverse n) = ir.Reverse (expression_of n)
 layout_in (layout.Slide s t) = ir.Slide s t
 layout_in (layout.Pad l r n) = ir.Pad l r (expression_of n)
 
@@ -20,6 +21,7 @@ abbrev pub spelled_layout : {A : Type 0} → (A → Expression) → ir.Layout A 
 spelled_layout spell (ir.Split m) = ir.Split (spell m)
 spelled_layout spell (ir.Join m) = ir.Join (spell m)
 spelled_layout spell ir.Transpose = ir.Transpose
+spelled_layout spell (ir.Reverse n) = ir.Reverse (spell n)
 spelled_layout spell (ir.Slide s t) = ir.Slide s t
 spelled_layout spell (ir.Pad l r n) = ir.Pad l r (spell n)
 
@@ -46,6 +48,11 @@ abbrev pub swapped : List Expression → List Expression
 swapped (i ∷ j ∷ p) = j ∷ i ∷ p
 swapped p = p
 
+-- as far from the last as from the first
+abbrev pub turned : (length : Expression) → List Expression → List Expression
+turned n (i ∷ p) = Binary Difference (Binary Difference n (Literal 1)) i ∷ p
+turned n p = p
+
 -- the index without so many in front, and not past the last
 abbrev pub clamped : (left length : Expression) → List Expression → List Expression
 clamped l n (i ∷ p) = Binary Least (Binary Difference (Binary Greatest i l) l) (Binary Difference n (Literal 1)) ∷ p
@@ -56,12 +63,14 @@ abbrev pub to_operand : ir.Layout Expression → List Expression → List Expres
 to_operand (ir.Split m) is = flattened m is
 to_operand (ir.Join m) is = parted m is
 to_operand ir.Transpose is = swapped is
+to_operand (ir.Reverse n) is = turned n is
 to_operand (ir.Slide s t) is = flattened (Literal t) is
 to_operand (ir.Pad l r n) is = clamped (Literal l) n is
 
--- the indices in the result of indices in the operand, for join, split and transpose
+-- the indices in the result of indices in the operand, for join, split, transpose and reverse
 abbrev pub to_result : ir.Layout Expression → List Expression → List Expression
 to_result (ir.Split m) is = parted m is
 to_result (ir.Join m) is = flattened m is
 to_result ir.Transpose is = swapped is
+to_result (ir.Reverse n) is = turned n is
 to_result _ is = is

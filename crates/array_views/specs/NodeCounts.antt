@@ -1,7 +1,7 @@
 -- The nodes of the layouts' formulas put into one another, from the nodes of the indices.
 use Rattle.std.specs.Prelude.{ℕ, ◌+◌, ◌≤◌, Bool, true, false, List, ◌∷◌, map}
 use Rattle.lift_ir.specs.Types.{Shape, ArrayOf}
-use Rattle.lift_ir.specs.Layouts.{Layout, Split, Join, Transpose, Slide, Pad}
+use Rattle.lift_ir.specs.Layouts.{Layout, Split, Join, Transpose, Reverse, Slide, Pad}
 use Rattle.index_expr.specs.Expression.{Expression, nodes, short_nodes}
 use Rattle.array_views.specs.Views.{PlainView, Placed, Both, Component, At, Reading, Writing}
 use Rattle.array_views.specs.Accesses as access
@@ -21,6 +21,11 @@ abbrev pub swapped_nodes : List ℕ → List ℕ
 swapped_nodes (i ∷ j ∷ p) = j ∷ i ∷ p
 swapped_nodes p = p
 
+-- n - 1 - i
+abbrev pub turned_nodes : (length : ℕ) → List ℕ → List ℕ
+turned_nodes n (i ∷ p) = (n + 1 + 1 + i + 1) ∷ p
+turned_nodes n p = p
+
 -- min(max(i, l) - l, n - 1)
 abbrev pub clamped_nodes : (length : ℕ) → List ℕ → List ℕ
 clamped_nodes n (i ∷ p) = (i + 1 + 1 + 1 + 1 + (n + 1 + 1) + 1) ∷ p
@@ -32,6 +37,7 @@ module _ (count : Expression → ℕ) where
   operand_nodes (Split m) ns = flattened_nodes (count m) ns
   operand_nodes (Join m) ns = parted_nodes (count m) ns
   operand_nodes Transpose ns = swapped_nodes ns
+  operand_nodes (Reverse n) ns = turned_nodes (count n) ns
   operand_nodes (Slide s t) ns = flattened_nodes 1 ns
   operand_nodes (Pad l r n) ns = clamped_nodes (count n) ns
 
@@ -39,6 +45,7 @@ module _ (count : Expression → ℕ) where
   result_nodes (Split m) ns = parted_nodes (count m) ns
   result_nodes (Join m) ns = flattened_nodes (count m) ns
   result_nodes Transpose ns = swapped_nodes ns
+  result_nodes (Reverse n) ns = turned_nodes (count n) ns
   result_nodes _ ns = ns
 
   -- i, then i * m + j for each further index j below m

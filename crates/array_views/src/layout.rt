@@ -9,13 +9,14 @@ ghost use Rattle.length_spelling.specs.Formulas.{spelled_length};
 ghost use Rattle.array_views.specs.Stacks.{indices_in};
 ghost use Rattle.index_simplify.specs.Laws.{first_part};
 ghost use Rattle.array_views.specs.Layouts as spec;
-ghost use Rattle.array_views.specs.Layouts.{layout_in, spelled_layout, flattened, parted, swapped, clamped, to_operand, to_result};
+ghost use Rattle.array_views.specs.Layouts.{layout_in, spelled_layout, flattened, parted, swapped, turned, clamped, to_operand, to_result};
 
 use crate::extent::flat_index;
 use crate::stack::IndexStack;
 use index_expr::{Index, Operation};
 use index_simplify::same::same;
 use length_spelling::spelled_length;
+use lift_tree::layout as forms;
 use lift_tree::term::UnaryForm;
 use lift_tree::ty::Ty;
 use size_arith::Names;
@@ -29,6 +30,8 @@ pub enum Layout {
     /// The rows, of this length, one after another.
     Join(Index),
     Transpose,
+    /// From the last to the first of so many.
+    Reverse(Index),
     /// Pieces of this size, which begin at the multiples of the step.
     Slide {
         size: u32,
@@ -43,7 +46,7 @@ pub enum Layout {
 }
 
 impl Layout {
-    /// The layout of a form, of a type over an operand's; any form that is no layout is taken for transpose.
+    /// The layout of a form, of a type over an operand's; any form that is no layout of its own is taken for transpose, a stride too, which is lowered to three.
     pub fn of_form(
         alloc: Global,
         names: &Names,
@@ -55,8 +58,15 @@ impl Layout {
             (layout_of form.now (ty_of ty.now) (ty_of operand.now))) }
     {
         match form {
-            UnaryForm::Split(_) => Ok(Layout::Split(inner_length(alloc, names, ty)?)),
-            UnaryForm::Join => Ok(Layout::Join(inner_length(alloc, names, operand)?)),
+            UnaryForm::Layout(forms::Layout::Split(_)) => {
+                Ok(Layout::Split(inner_length(alloc, names, ty)?))
+            }
+            UnaryForm::Layout(forms::Layout::Join) => {
+                Ok(Layout::Join(inner_length(alloc, names, operand)?))
+            }
+            UnaryForm::Layout(forms::Layout::Reverse) => {
+                Ok(Layout::Reverse(outer_length(alloc, names, operand)?))
+            }
             UnaryForm::Slide(size, step) => Ok(Layout::Slide {
                 size: *size,
                 step: *step,
@@ -79,12 +89,13 @@ impl Layout {
             Layout::Split(length) => flatten(alloc, length, indices),
             Layout::Join(length) => part(alloc, length, indices),
             Layout::Transpose => swap(indices),
+            Layout::Reverse(length) => turn(alloc, length, indices),
             Layout::Slide { step, .. } => flatten(alloc, &Index::Literal(*step), indices),
             Layout::Pad { left, length, .. } => clamp(alloc, *left, length, indices),
         }
     }
 
-    /// Makes of indices in the operand those in the result, for join, split and transpose.
+    /// Makes of indices in the operand those in the result, for join, split, transpose and reverse.
     pub fn to_result(&self, alloc: Global, indices: &mut IndexStack) -> Result<(), AllocError>
         ensures { OnOk result (indices_in indices.new
             ≡ to_result (layout_in self.now) (indices_in indices.old)) }
@@ -93,6 +104,7 @@ impl Layout {
             Layout::Split(length) => part(alloc, length, indices),
             Layout::Join(length) => flatten(alloc, length, indices),
             Layout::Transpose => swap(indices),
+            Layout::Reverse(length) => turn(alloc, length, indices),
             Layout::Slide { .. } | Layout::Pad { .. } => Ok(()),
         }
     }
@@ -176,6 +188,10 @@ fn divided(quotient: Index) -> Index
     }
 }
 
+// The most nodes of an index that is put in two places. Each of many layouts can double an index, so
+// that a term of some thirty nodes would have one of 2^24; past this the answer is want of memory.
+const MOST_PARTED: u64 = 262_144;
+
 // An index becomes the row and the index in it.
 fn part(alloc: Global, length: &Index, indices: &mut IndexStack) -> Result<(), AllocError>
     ensures { OnOk result (indices_in indices.new
@@ -184,6 +200,9 @@ fn part(alloc: Global, length: &Index, indices: &mut IndexStack) -> Result<(), A
     let Some(index) = indices.pop() else {
         return Ok(());
     };
+    if index.node_count() > MOST_PARTED {
+        return Err(AllocError);
+    }
     let row = Index::binary(
         alloc,
         Operation::Quotient,
@@ -207,6 +226,19 @@ fn swap(indices: &mut IndexStack) -> Result<(), AllocError>
             indices.push(index)
         }
     }
+}
+
+// As far from the last as the index is from the first.
+fn turn(alloc: Global, length: &Index, indices: &mut IndexStack) -> Result<(), AllocError>
+    ensures { OnOk result (indices_in indices.new
+        ≡ turned (expression_of length.now) (indices_in indices.old)) }
+{
+    let Some(index) = indices.pop() else {
+        return Ok(());
+    };
+    let length = length.copy(alloc)?;
+    let last = Index::binary(alloc, Operation::Difference, length, Index::Literal(1))?;
+    indices.push(Index::binary(alloc, Operation::Difference, last, index)?)
 }
 
 // The index without so many in front, and not past the last.

@@ -177,7 +177,7 @@ impl View {
 
     /// A layout of this type over the operand, an array of that type, which this view stands for: to be read.
     ///
-    /// Any form that is no layout is taken for transpose.
+    /// Any form that is no layout of its own is taken for transpose, a stride too, which is lowered to three.
     pub fn reading(
         &self,
         alloc: Global,
@@ -197,7 +197,7 @@ impl View {
         View::new(alloc, Node::Reading(layout, self.node.clone()?))
     }
 
-    /// Where the operand of a layout goes, where what the layout makes goes to this view: join, split and transpose write by their inverses.
+    /// Where the operand of a layout goes, where what the layout makes goes to this view: join, split, transpose and reverse write by their inverses.
     pub fn writing(
         &self,
         alloc: Global,
@@ -218,6 +218,8 @@ impl View {
     }
 
     /// What stands for the scalar at these pair choices and indices.
+    ///
+    /// Where a layout would put an index of more than 262,144 nodes in two places, the answer is want of memory.
     #[tactic(auto, using(crate::proofs::Signs::sign_is))]
     pub fn access(
         &self,

@@ -24,20 +24,20 @@ use Rattle.barrier_free.proofs.Copies as copies
 use Rattle.barrier_free.proofs.Waits.{never_waits}
 
 module _ (keep : PrintedProgramsKeep) (begins : PrintedProgramsStart) (d : Declared) (is_task : Bool) (w : World) (t : Tree) (a : Annotation) (l : Launch) (k : Kernel) (c : Cells)
-    (program : IsLowerableProgram d w.bases t a) (stands : StandsAt l (lowered_root t a)) (ok : IsAdmissible d w) (launch : IsLaunchOf d is_task w.bases l) (buffers : AreBuffersOf d w t a c) (printed : Prints d w.bases t a l k) where
+    (program : IsLowerableProgram d w.bases t a) (stands : StandsAt l (lowered_root d.names t a)) (ok : IsAdmissible d w) (launch : IsLaunchOf d is_task w.bases l) (buffers : AreBuffersOf d w t a c) (printed : Prints d w.bases t a l k) where
   whole : IsWhole l
   whole = (begins d is_task w t a l k c program ok launch buffers printed).whole
 
   -- no local array has a cell
   none_long : (n : ℕ) → length_in k c (Local n) ≡ 0
-  none_long n = ap (λ ns. slice_index ns n) (printed.locals ∙ ⊎_elim (λ one. copies.written (lowered_root t a) one.1) (λ all. copies.over_launch (lowered_root t a) all) stands)
+  none_long n = ap (λ ns. slice_index ns n) (printed.locals ∙ ⊎_elim (λ one. copies.written (lowered_root d.names t a) one.1) (λ all. copies.over_launch (lowered_root d.names t a) all) stands)
 
   no_local : (x : Access) (n : ℕ) → x.cell.index < length_in k c x.cell.array → x.cell.array ≡ Local n → ⊥
   no_local x n lt is = let none : length_in k c x.cell.array ≡ 0 = ap (length_in k c) is ∙ none_long n in omega (arith, lt, none)
 
   -- its code is alike itself, so it has no barrier at which an item could wait
   itself : (j : ℕ) → j < item_count l → Alike l j [] k.code k.code
-  itself = codes_alike (length_at w.bases) l (input_marks (length_at w.bases) (first_buffer d.inputs) (input_shape d.inputs)) (lowered_root t a) (ty_at w.bases (type_in a)) k.code k.code printed.code printed.code
+  itself = codes_alike (length_at w.bases) l (input_marks (length_at w.bases) (first_buffer d.inputs) (input_shape d.inputs)) (lowered_root d.names t a) (ty_at w.bases (type_in a)) k.code k.code printed.code printed.code
 
   module _ (s : State) (es : List Event) (start : IsStart k l c s) (r : IsRun (device_of k l c) s es) where
     begin : AlikeStates l s s

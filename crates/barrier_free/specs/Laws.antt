@@ -14,5 +14,5 @@ use Rattle.group_phases.specs.Outcome.{BarriersServeAll}
 abbrev pub PrintedProgramsServe : Type 0
 PrintedProgramsServe =
     (d : Declared) (is_task : Bool) (w : World) (t : Tree) (a : Annotation) (l : Launch) (k : Kernel) (c : Cells)
-    → IsLowerableProgram d w.bases t a → StandsAt l (lowered_root t a) → IsAdmissible d w → IsLaunchOf d is_task w.bases l → AreBuffersOf d w t a c → Prints d w.bases t a l k
+    → IsLowerableProgram d w.bases t a → StandsAt l (lowered_root d.names t a) → IsAdmissible d w → IsLaunchOf d is_task w.bases l → AreBuffersOf d w t a c → Prints d w.bases t a l k
     → (filler : Cell → ℕ) × BarriersServeAll k l c filler

@@ -1,6 +1,7 @@
 ghost use Rattle.std.specs.Prelude.{◌≤◌, unsigned_abs};
 
 use lift_tree::input_type::InputType;
+use lift_tree::layout::Layout;
 use lift_tree::length::{Factor, Length, Part, Product, Sign};
 use lift_tree::place::{Place, at, replaced};
 use lift_tree::program::{Identifier, Input, Program, Size};
@@ -288,9 +289,17 @@ fn substitutes_for_the_nearest_binder(rt: HostRuntime) -> Result<(), Fail> {
 #[test]
 fn small_numbers_may_be_renumbered(rt: HostRuntime) -> Result<(), Fail> {
     let alloc = rt.alloc();
-    let least = Term::unary(alloc, UnaryForm::Join, Term::Variable(2147483647))?;
+    let least = Term::unary(
+        alloc,
+        UnaryForm::Layout(Layout::Join),
+        Term::Variable(2147483647),
+    )?;
     assert!(rt; is_renumberable(&least));
-    let large = Term::unary(alloc, UnaryForm::Join, Term::Variable(2147483648))?;
+    let large = Term::unary(
+        alloc,
+        UnaryForm::Layout(Layout::Join),
+        Term::Variable(2147483648),
+    )?;
     assert!(rt; !is_renumberable(&large));
     Ok(())
 }
@@ -356,7 +365,8 @@ fn size(alloc: Global) -> Result<Size, AllocError> {
 
 // A term with each kind of node.
 fn varied(alloc: Global) -> Result<Term, AllocError> {
-    let form = UnaryForm::Split(product(alloc, &[Factor::Size(0), Factor::Number(3)])?);
+    let pieces = product(alloc, &[Factor::Size(0), Factor::Number(3)])?;
+    let form = UnaryForm::Layout(Layout::Split(pieces));
     let split = Term::unary(alloc, form, Term::Input(0))?;
     let zipped = Term::binary(alloc, BinaryForm::Zip, split, sum(alloc)?)?;
     let lowered = Term::unary(alloc, UnaryForm::ToLocal, zipped)?;
@@ -433,8 +443,9 @@ fn copies_each_form(rt: HostRuntime) -> Result<(), Fail> {
         UnaryForm::Rem(4),
         UnaryForm::First,
         UnaryForm::Second,
-        UnaryForm::Join,
-        UnaryForm::Transpose,
+        UnaryForm::Layout(Layout::Join),
+        UnaryForm::Layout(Layout::Transpose),
+        UnaryForm::Layout(Layout::Reverse),
         UnaryForm::Slide(3, 1),
         UnaryForm::Pad(0, 2),
         UnaryForm::ToLocal,

@@ -2,7 +2,7 @@
 use Rattle.std.specs.Prelude.{ℕ, ◌*◌, min, Bool, true, false, List, [], ◌++◌, replicate, if◌then◌else◌}
 use Rattle.std.specs.List.{sum}
 use Rattle.lift_tree.specs.declared.term.UnaryForm.{UnaryForm}
-use Rattle.lift_tree.specs.declared.term.UnaryForm.TheVariants.{Div, Rem, First, Second, Join, Transpose, Split, Slide, Pad, ToLocal, ToPrivate}
+use Rattle.lift_tree.specs.declared.term.UnaryForm.TheVariants.{Div, Rem, First, Second, Layout, Slide, Pad, ToLocal, ToPrivate}
 use Rattle.lift_tree.specs.Tree.{Tree, Unary, Binary, Select, Let, Map, Fold}
 use Rattle.lift_tree.specs.Types.{PlainTy}
 use Rattle.lift_tree.specs.Annotations.{Annotation, One, Two, Three}
@@ -23,9 +23,7 @@ is_kept m (Div n) = false
 is_kept m (Rem n) = false
 is_kept m First = false
 is_kept m Second = false
-is_kept m Join = false
-is_kept m Transpose = false
-is_kept m (Split fs) = false
+is_kept m (Layout l) = false
 is_kept m (Slide s t) = false
 is_kept m (Pad l r) = false
 is_kept Local ToLocal = true

@@ -1,7 +1,7 @@
 -- How many layouts stand one on another over a buffer.
 use Rattle.std.specs.Prelude.{ℕ, ◌+◌, min, max, Bool, true, false, ◌&&◌, ◌||◌, List, [], ◌∷◌, get_or, if◌then◌else◌}
 use Rattle.lift_tree.specs.declared.term.UnaryForm.{UnaryForm}
-use Rattle.lift_tree.specs.declared.term.UnaryForm.TheVariants.{Div, Rem, First, Second, Join, Transpose, Split, Slide, Pad, ToLocal, ToPrivate}
+use Rattle.lift_tree.specs.declared.term.UnaryForm.TheVariants.{Div, Rem, First, Second, Layout, Slide, Pad, ToLocal, ToPrivate}
 use Rattle.lift_tree.specs.declared.term.BinaryForm.{BinaryForm}
 use Rattle.lift_tree.specs.declared.term.BinaryForm.TheVariants.{Operator, Pair, Zip, Reduce}
 use Rattle.lift_tree.specs.Tree.{Tree, Variable, Unary, Binary, Select, Let, Map, Fold}
@@ -21,9 +21,7 @@ on_form (Div n) h = 0
 on_form (Rem n) h = 0
 on_form First h = raised h
 on_form Second h = raised h
-on_form Join h = raised h
-on_form Transpose h = raised h
-on_form (Split fs) h = raised h
+on_form (Layout l) h = raised h
 on_form (Slide s t) h = raised h
 on_form (Pad l r) h = raised h
 on_form ToLocal h = 0
@@ -43,15 +41,13 @@ height_of g (Binary f t u) (Two a n m) = on_both f (height_of g t n) (height_of 
 height_of g (Let v b) (Two a n m) = height_of (height_of g v n ∷ g) b m
 height_of g t n = 0
 
--- join, split and transpose, through which writing goes
+-- the layouts through which writing goes
 abbrev pub is_written_through : UnaryForm → Bool
 is_written_through (Div n) = false
 is_written_through (Rem n) = false
 is_written_through First = false
 is_written_through Second = false
-is_written_through Join = true
-is_written_through Transpose = true
-is_written_through (Split fs) = true
+is_written_through (Layout l) = true
 is_written_through (Slide s t) = false
 is_written_through (Pad l r) = false
 is_written_through ToLocal = false
@@ -62,9 +58,7 @@ is_copy (Div n) = false
 is_copy (Rem n) = false
 is_copy First = false
 is_copy Second = false
-is_copy Join = false
-is_copy Transpose = false
-is_copy (Split fs) = false
+is_copy (Layout l) = false
 is_copy (Slide s t) = false
 is_copy (Pad l r) = false
 is_copy ToLocal = true
@@ -75,9 +69,7 @@ is_projection (Div n) = false
 is_projection (Rem n) = false
 is_projection First = true
 is_projection Second = true
-is_projection Join = false
-is_projection Transpose = false
-is_projection (Split fs) = false
+is_projection (Layout l) = false
 is_projection (Slide s t) = false
 is_projection (Pad l r) = false
 is_projection ToLocal = false

@@ -1,3 +1,4 @@
 pub mod Layouts
 pub mod Copies
 pub mod Limits
+pub mod Allocated

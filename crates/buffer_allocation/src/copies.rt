@@ -71,9 +71,7 @@ fn is_kept(memory: Memory, form: &UnaryForm) -> bool
         | UnaryForm::Rem(_)
         | UnaryForm::First
         | UnaryForm::Second
-        | UnaryForm::Join
-        | UnaryForm::Transpose
-        | UnaryForm::Split(_)
+        | UnaryForm::Layout(_)
         | UnaryForm::Slide(_, _)
         | UnaryForm::Pad(_, _) => false,
     }

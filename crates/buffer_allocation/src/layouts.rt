@@ -1,5 +1,5 @@
-//! How many layouts stand one on another over a buffer: split, join, zip, transpose, slide and pad,
-//! and first and second of what isn't an element. Each is one more operation in an index.
+//! How many layouts stand one on another over a buffer: split, join, transpose, reverse, stride,
+//! zip, slide and pad, and first and second of what isn't an element. Each is one more operation in an index.
 
 ghost use Rattle.std.specs.Prelude.{◌≡◌, ◌∷◌, get_or, max, reverse, IfOk, OnOk};
 ghost use Rattle.lift_tree.specs.Tree as tree;
@@ -49,9 +49,7 @@ fn on_form(form: &UnaryForm, height: u64) -> u64
     match form {
         UnaryForm::First
         | UnaryForm::Second
-        | UnaryForm::Join
-        | UnaryForm::Transpose
-        | UnaryForm::Split(_)
+        | UnaryForm::Layout(_)
         | UnaryForm::Slide(_, _)
         | UnaryForm::Pad(_, _) => raised(height),
         UnaryForm::Div(_) | UnaryForm::Rem(_) | UnaryForm::ToLocal | UnaryForm::ToPrivate => 0,
@@ -76,9 +74,7 @@ fn is_copy(form: &UnaryForm) -> bool
         | UnaryForm::Rem(_)
         | UnaryForm::First
         | UnaryForm::Second
-        | UnaryForm::Join
-        | UnaryForm::Transpose
-        | UnaryForm::Split(_)
+        | UnaryForm::Layout(_)
         | UnaryForm::Slide(_, _)
         | UnaryForm::Pad(_, _) => false,
     }
@@ -88,7 +84,7 @@ fn is_written_through(form: &UnaryForm) -> bool
     ensures { result ≡ spec.is_written_through form.now }
 {
     match form {
-        UnaryForm::Join | UnaryForm::Transpose | UnaryForm::Split(_) => true,
+        UnaryForm::Layout(_) => true,
         UnaryForm::Div(_)
         | UnaryForm::Rem(_)
         | UnaryForm::First
@@ -143,9 +139,7 @@ fn is_projection(form: &UnaryForm) -> bool
         UnaryForm::First | UnaryForm::Second => true,
         UnaryForm::Div(_)
         | UnaryForm::Rem(_)
-        | UnaryForm::Join
-        | UnaryForm::Transpose
-        | UnaryForm::Split(_)
+        | UnaryForm::Layout(_)
         | UnaryForm::Slide(_, _)
         | UnaryForm::Pad(_, _)
         | UnaryForm::ToLocal

@@ -5,7 +5,6 @@ use Rattle.kernel_tree.specs.KernelText.{IsKernelText, lift}
 use Rattle.kernel_tree.specs.Launch.{Launch, Cells}
 use Rattle.lift_tree.specs.Annotations.{annotation_of, type_in}
 use Rattle.lift_tree.specs.Launches.{lists_of}
-use Rattle.lift_tree.specs.Lists.{Every}
 use Rattle.lift_tree.specs.Meaning.{World, meaning}
 use Rattle.lift_tree.specs.Programs.{PlainProgram, program_of}
 use Rattle.lift_tree.specs.Tree.{tree_of}
@@ -13,8 +12,6 @@ use Rattle.lift_tree.specs.Types.{PlainTy}
 use Rattle.lift_tree.specs.Typing.{IsAdmissible, declared_by}
 use Rattle.lift_tree.specs.Values.{Value}
 use Rattle.lift_tree.specs.declared.typed.Typed.{Typed}
-use Rattle.copied_arrays.specs.Laws.{ScriptsCopyArrays}
-use Rattle.lowered_tree.specs.Copies.{CopiesArrays}
 use Rattle.lowered_tree.specs.Kinds.{is_task}
 use Rattle.printed_form.specs.Headline.{EveryRunKeeps}
 use Rattle.printed_form.specs.Programs.{AreBuffersOf, IsLaunchOf, cell_owner}
@@ -23,14 +20,15 @@ use Rattle.strategy_script.specs.Steps.{State, state_of}
 use Rattle.fault_lines.specs.declared.refusal.Refusal.{Refusal}
 use Rattle.program_source.specs.Program.{OnProgram, StopsFor, source_value}
 use Rattle.program_source.specs.SourceTerms.{IsLastTerm}
-use Rattle.program_source.specs.Terms.{IsLast, TermsOf}
-use Rattle.compilation.specs.Compiled.{IsCompiled, IsKernelFor, ServesAtAll}
-use Rattle.compilation.specs.Legal.{CompilesTerm, IsTypedLast, LegalOf}
+use Rattle.program_source.specs.Terms.{TermsOf}
+use Rattle.kernel_emit.specs.Kernels.{IsKernelFor}
+use Rattle.compilation.specs.Compiled.{IsCompiled, ServesAtAll}
+use Rattle.compilation.specs.Legal.{CompilesTerm, IsAccepted, LegalOf}
 use Rattle.compilation.specs.Meets.{Admits, CanBeLaidOut, IsTextFor, LeavesSource, MeetsSource, Starts}
 
 -- ---- what is printed for a term that keeps the source's value
 
-module _ (p : PlainProgram) (s : State) (k : Kernel) (for : IsKernelFor p s k) (kept : Keeps (declared_by p) [] p.body s.tree) where
+module _ (p : PlainProgram) (s : State) (k : Kernel) (for : IsKernelFor (declared_by p) s.tree s.types k) (kept : Keeps (declared_by p) [] p.body s.tree) where
   same_value : (w : World) → IsAdmissible (declared_by p) w → meaning w [] s.tree ≡ source_value p w
   same_value w ok = kept.value w [] ok (λ n a e. absurd (cc (e)))
 
@@ -46,7 +44,7 @@ module _ (p : PlainProgram) (s : State) (k : Kernel) (for : IsKernelFor p s k) (
 
   pub meets : MeetsSource p (type_in s.types) s k
   meets w l c a =
-      subst (λ (v : Value). EveryRunKeeps k l c (cell_owner w.bases l s.tree s.types) (lists_of (type_in s.types) v)) (same_value w a.world)
+      subst (λ (v : Value). EveryRunKeeps k l c (cell_owner (declared_by p).names w.bases l s.tree s.types) (lists_of (type_in s.types) v)) (same_value w a.world)
       (for.keeps w l c a.world (launch_of w l c a) (cells_of w l c a))
 
   pub serve : ServesAtAll p (type_in s.types) s k
@@ -56,37 +54,12 @@ module _ (p : PlainProgram) (s : State) (k : Kernel) (for : IsKernelFor p s k) (
 pub leaves : (p : PlainProgram) (output : PlainTy) (s : State) (k : Kernel) → MeetsSource p output s k → LeavesSource p output (is_task s.tree) k
 leaves p output s k meets w l c a start es begins is = (meets w l c a start es begins is).leaves
 
--- ---- the last term
-
--- what holds of each term holds of the last
-last_has : (holds : State → Type 0) (terms : List State) (last : State) → IsLast last terms → Every holds terms → holds last
-last_has holds terms last is each = at_end is.front (subst (Every holds) is.is each)
-  where
-    at_end : (front : List State) → Every holds (front ++ last ∷ []) → holds last
-    at_end [] h = h.0
-    at_end (s ∷ front) h = at_end front h.1
-
--- the last term copies nothing but arrays
-last_copies : ScriptsCopyArrays → (program script : List ℕ) (t : Typed) → IsLastTerm program script t → CopiesArrays (tree_of t.term) (annotation_of t.types)
-last_copies law program script t last =
-    let made = last.made in
-    last_has (λ (s : State). CopiesArrays s.tree s.types) last.terms (state_of t) last.is_last
-    (law program (program_of t.program) made.0 made.2.0 last.terms last.read.is made.1 made.2.2)
-
-pub typed_last : ScriptsCopyArrays → (program script : List ℕ) (t : Typed) → IsLastTerm program script t → IsTypedLast t
-typed_last law program script t last = record {
-  proper = last.proper;
-  few = last.few;
-  typed = last.term.typed;
-  within = last.within;
-  low = last.low;
-  copies = last_copies law program script t last;
-}
+-- ---- what is compiled of the last term
 
 pub compiled_found : (program script : List ℕ) (t : Typed) (output : PlainTy) (task : Bool) (text : List ℕ) (k : Kernel) → output ≡ type_in (annotation_of t.types)
-    → is_task (tree_of t.term) ≡ task → IsLastTerm program script t → CompilesTerm (state_of t) (Ok (state_of t))
-    → IsKernelFor (program_of t.program) (state_of t) k → IsKernelText lift text k → IsCompiled program script (program_of t.program) output task text
-compiled_found program script t output task text k same alone last compiles for written =
+    → is_task (tree_of t.term) ≡ task → IsLastTerm program script t → CompilesTerm (state_of t) (Ok (state_of t)) → IsAccepted (program_of t.program) (tree_of t.term) (annotation_of t.types)
+    → IsKernelFor (declared_by (program_of t.program)) (tree_of t.term) (annotation_of t.types) k → IsKernelText lift text k → IsCompiled program script (program_of t.program) output task text
+compiled_found program script t output task text k same alone last compiles accepted for written =
     let p = program_of t.program in
     subst (λ (a : PlainTy). IsCompiled program script p a task text) (sym same)
     (record {
@@ -94,12 +67,15 @@ compiled_found program script t output task text k same alone last compiles for 
       typed = last.output;
       last = state_of t;
       legal = (last.terms, last.made, (state_of t, last.is_last, compiles));
+      accepted = accepted;
       alone = alone;
       keeps = last.term.keeps;
       kernel = k;
       written = written;
       prints = for.prints;
-      parameters = starts p (state_of t) k for last.term.keeps;
+      parameters = for.parameters;
+      memory = for.memory;
+      starts = starts p (state_of t) k for last.term.keeps;
       meets = meets p (state_of t) k for last.term.keeps;
       serve = serve p (state_of t) k for last.term.keeps;
       tidy = for.tidy;
@@ -108,7 +84,7 @@ compiled_found program script t output task text k same alone last compiles for 
 -- what a type keeps of it
 pub text_for : (program script : List ℕ) (t : Typed) (output : PlainTy) (task : Bool) (text : List ℕ) (k : Kernel) → output ≡ type_in (annotation_of t.types)
     → is_task (tree_of t.term) ≡ task → IsLastTerm program script t → CanBeLaidOut (program_of t.program) (type_in (annotation_of t.types))
-    → IsKernelFor (program_of t.program) (state_of t) k → IsKernelText lift text k
+    → IsKernelFor (declared_by (program_of t.program)) (tree_of t.term) (annotation_of t.types) k → IsKernelText lift text k
     → IsTextFor (program_of t.program) output task text
 text_for program script t output task text k same told last laid_out for written =
     let p = program_of t.program in

@@ -1,5 +1,5 @@
 -- Compiling comes to one end.
-use Rattle.std.proofs.Common.{◌∙◌, ap, sym, refl, Ok, Err}
+use Rattle.std.proofs.Common.{◌∙◌, ap, sym, refl, ℕ, List, Ok, Err}
 use Rattle.std.proofs.lemmas.Option.{none-some, same_Some}
 use Rattle.strategy_script.specs.Steps.{State}
 use Rattle.lowered_tree.specs.Nest.{LegalWithoutFault}
@@ -9,9 +9,10 @@ use Rattle.fault_lines.specs.declared.refusal.Refusal.TheVariants as told
 use Rattle.stages.specs.Stages.{As, IsOne, Then}
 use Rattle.stages.proofs.One.{as_one, gives_one, then_one}
 use Rattle.program_source.specs.Laws.{SourcesEndOnce}
+use Rattle.program_source.specs.Program.{OnProgram, ReadsProgram}
 use Rattle.program_source.specs.Terms.{LastOf, TermsOf}
 use Rattle.compilation.specs.Laws.{CompilationEndsOnce}
-use Rattle.compilation.specs.Legal.{BuffersOf, CompilesTerm, NestOf}
+use Rattle.compilation.specs.Legal.{BuffersOf, CompilesTerm, LegalOf, NestOf}
 
 nest_one : LegalWithoutFault → (s : State) → IsOne (NestOf s)
 nest_one law s (Ok x) (Ok y) h k = refl
@@ -38,3 +39,7 @@ pub legal_one : SourcesEndOnce → LegalWithoutFault → CompilationEndsOnce
 legal_one sources law p script =
     then_one (TermsOf p script) (λ terms. Then (LastOf terms) CompilesTerm) (sources.terms p script) (λ terms _.
     then_one (LastOf terms) CompilesTerm (sources.last terms) (λ last _. compiles_one law last))
+
+-- a text and a script come to one end
+pub text_one : SourcesEndOnce → CompilationEndsOnce → (program script : List ℕ) → IsOne (OnProgram program (λ p. LegalOf p script))
+text_one sources law program script = then_one _ (λ p. LegalOf p script) (as_one told.Program (ReadsProgram program) (sources.read program)) (λ p read. law p script)

@@ -1,18 +1,14 @@
 -- Which last terms are compiled.
-use Rattle.std.specs.Prelude.{◌≡◌, ◌≤◌, ℕ, List, length, Some, None, Result, Ok, Err}
-use Rattle.lift_tree.specs.Annotations.{Annotation, IsTyped, annotation_of}
-use Rattle.lift_tree.specs.Belonging.{IsProper}
-use Rattle.lift_tree.specs.Limits.{IsWithinLimits}
+use Rattle.std.specs.Prelude.{◌≡◌, ◌≤◌, ℕ, List, Some, None, Result, Ok, Err}
+use Rattle.lift_tree.specs.Annotations.{Annotation, annotation_of}
 use Rattle.lift_tree.specs.Programs.{PlainProgram, program_of}
 use Rattle.lift_tree.specs.Tree.{Tree, height, tree_of}
-use Rattle.lift_tree.specs.Typing.{declared_by}
 use Rattle.lift_tree.specs.declared.typed.Typed.{Typed}
-use Rattle.lowered_tree.specs.declared.lowered.Lowered.{Lowered}
-use Rattle.kernel_emit.specs.Emittable.{declared_of}
+use Rattle.lowered_tree.specs.Copies.{CopiesArrays}
+use Rattle.lowered_tree.specs.Whole.{IsTypedWithin}
+use Rattle.nest_premises.specs.Legal.{IsLegalTerm}
 use Rattle.strategy_script.specs.Steps.{State}
 use Rattle.lowered_tree.specs.Nest.{IsLegalNest, nest_fault}
-use Rattle.lowered_tree.specs.Copies.{CopiesArrays}
-use Rattle.nest_premises.specs.Legal.{IsLegalTerm}
 use Rattle.thread_mapping.specs.declared.judging.NestNo.{NestNo}
 use Rattle.thread_mapping.specs.declared.judging.NestNo.TheVariants as nests
 use Rattle.buffer_allocation.specs.Limits.{passed_limit}
@@ -24,13 +20,8 @@ use Rattle.stages.specs.Stages.{As, Gives, Then}
 use Rattle.program_source.specs.Terms.{LastOf, TermsOf}
 
 -- a typed term of a proper program with few inputs, within the limits on types, which copies nothing but arrays
-pub record IsTypedLast (t : Typed) : Type 0 where
-  pub proper : IsProper (program_of t.program)
-  pub few : length (program_of t.program).inputs ≤ 8
-  pub typed : IsTyped t
-  pub within : IsWithinLimits (program_of t.program) (tree_of t.term) (annotation_of t.types)
-  pub low : height (tree_of t.term) ≤ 256
-  pub copies : CopiesArrays (tree_of t.term) (annotation_of t.types)
+abbrev pub IsTypedLast : Typed → Type 0
+IsTypedLast t = IsTypedWithin (program_of t.program) (tree_of t.term) (annotation_of t.types)
 
 -- a legal term within the limits, which copies nothing but arrays
 pub record IsAccepted (p : PlainProgram) (t : Tree) (n : Annotation) : Type 0 where
@@ -59,9 +50,3 @@ CompilesTerm last =
 -- the last term of a program along a script, where it is compiled; or the first stage that stops
 abbrev pub LegalOf : PlainProgram → (script : List ℕ) → Result State Refusal → Type 0
 LegalOf p script = Then (TermsOf p script) (λ terms. Then (LastOf terms) CompilesTerm)
-
--- it is what the term is lowered to, with what the term may name
-pub record IsLoweredOf (t : Typed) (l : Lowered) : Type 0 where
-  pub declared : declared_of l ≡ declared_by (program_of t.program)
-  pub term : tree_of l.term ≡ tree_of t.term
-  pub types : annotation_of l.types ≡ annotation_of t.types

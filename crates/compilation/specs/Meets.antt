@@ -37,7 +37,7 @@ LeavesSource p output is_task k = (w : World) (l : Launch) (c : Cells) → Admit
 -- And each cell is written by its owner, which the last term tells.
 abbrev pub MeetsSource : PlainProgram → (output : PlainTy) → (last : State) → Kernel → Type 0
 MeetsSource p output last k = (w : World) (l : Launch) (c : Cells) → Admits p output (is_task last.tree) w l c
-    → EveryRunKeeps k l c (cell_owner w.bases l last.tree last.types) (lists_of output (source_value p w))
+    → EveryRunKeeps k l c (cell_owner (declared_by p).names w.bases l last.tree last.types) (lists_of output (source_value p w))
 
 -- Values of the output's type can be laid out in lists, at all admissible sizes.
 pub record CanBeLaidOut (p : PlainProgram) (output : PlainTy) : Type 0 where

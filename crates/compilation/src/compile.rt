@@ -3,13 +3,13 @@ ghost use Rattle.std.specs.Prelude.{◌≡◌, IfErr, IfOk};
 ghost use Rattle.lift_tree.specs.Annotations.{annotation_of, type_in};
 ghost use Rattle.lift_tree.specs.Programs.{program_of};
 ghost use Rattle.lift_tree.specs.Types.{ty_of};
-ghost use Rattle.program_source.specs.Program.{OnProgram, StopsFor};
+ghost use Rattle.program_source.specs.Program.{IsRefusedFor, OnProgram, StopsFor};
 ghost use Rattle.compilation.specs.Compiled.{IsCompiled};
 ghost use Rattle.compilation.specs.Legal.{LegalOf};
 ghost use Rattle.compilation.specs.Meets.{IsTextFor};
 
 use crate::kernel::compiled_kernel;
-use copied_arrays::laws::scripts_copy_arrays;
+use crate::laws::compilation_ends_once;
 use fault_lines::Refusal;
 use kernel_printer::print;
 use lift_tree::program::Program;
@@ -17,6 +17,7 @@ use lift_tree::ty::Ty;
 use lift_tree::typed::NodeTypes;
 use lowered_tree::around::is_task;
 use program_source::last_term;
+use program_source::laws::sources_end_once;
 use std::alloc::Global;
 
 /// The text of a kernel, with the program that it is compiled from.
@@ -47,17 +48,19 @@ fn own_type(types: NodeTypes) -> Ty
 }
 
 /// Compiles a program along a script: to the text of one kernel, of which every run at every
-/// admissible launch leaves the program's value. A refusal is the first cause in the order of the
-/// stages: the program's text and its limits, its types, the script's text and its limit, the
-/// steps; then the last term's nest, its layouts, and its local and private memory. Want of memory
-/// may come at any point.
+/// admissible launch leaves the program's value. It is refused just where a stage stops, for the
+/// first in their order: the program's text and its limits, its types, the script's text and its
+/// limit, the steps; then the last term's nest, its layouts, and its local and private memory. Want
+/// of memory may come at any point.
 pub fn compile_text(alloc: Global, program: &[u8], script: &[u8]) -> Result<Compiled, Refusal>
     ensures found { IfOk result (λ c. IsCompiled program.now script.now (program_of c.program)
         (ty_of c.output) c.is_task c.text.items) }
     ensures refused { IfErr result
         (StopsFor (OnProgram program.now (λ p. LegalOf p script.now))) }
+    ensures exact { IsRefusedFor (OnProgram program.now (λ p. LegalOf p script.now)) result }
 {
-    scripts_copy_arrays();
+    compilation_ends_once();
+    sources_end_once();
     let last = last_term(alloc, program, script)?;
     let kernel = compiled_kernel(alloc, &last)?;
     let text = print(alloc, &kernel)?;

@@ -5,6 +5,5 @@
 mod compile;
 mod kernel;
 pub mod laws;
-mod legal;
 
 pub use compile::{Compiled, compile_text};

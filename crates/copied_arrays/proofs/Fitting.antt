@@ -1,14 +1,16 @@
 -- Types that fit a term but for their lengths.
 use Rattle.std.proofs.Common.{◌≡◌, ◌∙◌, List, ◌∷◌, true, refl, sym, ap, subst}
+use Rattle.lift_tree.specs.declared.layout.Layout as layout
+use Rattle.lift_tree.specs.declared.layout.Layout.TheVariants.{Join, Transpose, Split, Reverse, Stride}
 use Rattle.lift_tree.specs.declared.term.UnaryForm.{UnaryForm}
-use Rattle.lift_tree.specs.declared.term.UnaryForm.TheVariants.{Div, Rem, First, Second, Join, Transpose, Split, Slide, Pad, ToLocal, ToPrivate}
+use Rattle.lift_tree.specs.declared.term.UnaryForm.TheVariants.{Div, Rem, First, Second, Layout, Slide, Pad, ToLocal, ToPrivate}
 use Rattle.lift_tree.specs.declared.term.BinaryForm.{BinaryForm}
 use Rattle.lift_tree.specs.declared.term.BinaryForm.TheVariants as binary
 use Rattle.lift_tree.specs.Tree.{Tree, Variable, Number, Input, Unary, Binary, Select, Let, Map, Fold}
 use Rattle.lift_tree.specs.Types.{PlainTy, U32, PairOf, ArrayOf, is_array}
 use Rattle.lift_tree.specs.Annotations.{Annotation, Leaf, One, Two, Three, type_in}
 use Rattle.lowered_tree.specs.Copies.{CopiesArrays, FormCopiesArrays}
-use Rattle.copied_arrays.proofs.Shapes.{Shape, Scalar, Array, shape, nth, UnaryShape, CopiesArray, BinaryShape, HasShape, element_same}
+use Rattle.copied_arrays.proofs.Shapes.{Shape, Scalar, Array, shape, nth, LayoutShape, UnaryShape, CopiesArray, BinaryShape, HasShape, element_same}
 
 abbrev pub shape_in : Annotation → Shape
 shape_in n = shape (type_in n)
@@ -29,14 +31,19 @@ Fits i g (Fold h xs s b) (Three a n m k) =
 Fits i g _ _ = ⊥
 
 -- ---- a term has one shape
+layout_unique : (l : layout.Layout) (b a c : Shape) → LayoutShape l b a → LayoutShape l b c → a ≡ c
+layout_unique Join b a c h k = let p = h.1 in let q = h.2 in let r = k.1 in let s = k.2 in cc
+layout_unique Transpose b a c h k = let p = h.1 in let q = h.2 in let r = k.1 in let s = k.2 in cc
+layout_unique (Split fs) b a c h k = let p = h.1 in let q = h.2 in let r = k.1 in let s = k.2 in cc
+layout_unique Reverse b a c h k = let p = h.1 in let q = h.2 in let r = k.1 in let s = k.2 in cc
+layout_unique (Stride fs) b a c h k = let p = h.1 in let q = h.2 in let r = k.1 in let s = k.2 in cc
+
 unary_unique : (f : UnaryForm) (b a c : Shape) → UnaryShape f b a → UnaryShape f b c → a ≡ c
 unary_unique (Div n) b a c h k = h ∙ sym k
 unary_unique (Rem n) b a c h k = h ∙ sym k
 unary_unique First b a c h k = let p = h.1 in let q = k.1 in cc
 unary_unique Second b a c h k = let p = h.1 in let q = k.1 in cc
-unary_unique Join b a c h k = let p = h.1 in let q = h.2 in let r = k.1 in let s = k.2 in cc
-unary_unique Transpose b a c h k = let p = h.1 in let q = h.2 in let r = k.1 in let s = k.2 in cc
-unary_unique (Split fs) b a c h k = let p = h.1 in let q = h.2 in let r = k.1 in let s = k.2 in cc
+unary_unique (Layout l) b a c h k = layout_unique l b a c h k
 unary_unique (Slide m n) b a c h k = let p = h.1 in let q = h.2 in let r = k.1 in let s = k.2 in cc
 unary_unique (Pad m n) b a c h k = let p = h.1 in let q = h.2 in let r = k.1 in let s = k.2 in cc
 unary_unique ToLocal b a c h k = sym h ∙ k
@@ -78,9 +85,7 @@ form_copies (Div n) b a h c = tt
 form_copies (Rem n) b a h c = tt
 form_copies First b a h c = tt
 form_copies Second b a h c = tt
-form_copies Join b a h c = tt
-form_copies Transpose b a h c = tt
-form_copies (Split fs) b a h c = tt
+form_copies (Layout l) b a h c = tt
 form_copies (Slide m n) b a h c = tt
 form_copies (Pad m n) b a h c = tt
 form_copies ToLocal b a h c = array_is a c.0 (sym h ∙ c.1)

@@ -6,8 +6,10 @@ use Rattle.size_arith.specs.declared.names.Name.{Name}
 use Rattle.size_arith.specs.declared.poly.Monomial.{Monomial}
 use Rattle.size_arith.specs.Polynomial.{minus, plus, times}
 use Rattle.size_arith.specs.Decisions.{is_shown, is_same}
+use Rattle.lift_tree.specs.declared.layout.Layout as layout
+use Rattle.lift_tree.specs.declared.layout.Layout.TheVariants.{Join, Transpose, Split, Reverse, Stride}
 use Rattle.lift_tree.specs.declared.term.UnaryForm.{UnaryForm}
-use Rattle.lift_tree.specs.declared.term.UnaryForm.TheVariants.{Div, Rem, First, Second, Join, Transpose, Split, Slide, Pad, ToLocal, ToPrivate}
+use Rattle.lift_tree.specs.declared.term.UnaryForm.TheVariants.{Div, Rem, First, Second, Layout, Slide, Pad, ToLocal, ToPrivate}
 use Rattle.lift_tree.specs.declared.term.BinaryForm.{BinaryForm}
 use Rattle.lift_tree.specs.declared.term.BinaryForm.TheVariants as binary
 use Rattle.lift_tree.specs.Types.{PlainTy, U32, PairOf, ArrayOf}
@@ -18,9 +20,9 @@ use Rattle.pattern_types.specs.declared.refusal.Rule.TheVariants as rule
 use Rattle.pattern_types.specs.declared.refusal.TypeLimit.TheVariants as limit
 use Rattle.pattern_types.specs.declared.fault.Fault.{Fault}
 use Rattle.pattern_types.specs.Tests.{exact_quotient, is_element, is_same_element}
-use Rattle.pattern_types.specs.Judged.{demand, at_most, counted, within, product_judged, formed, scalars_judged, unary_row, binary_row, split_row, pieces_row, windows_row, number_row, operator_row, zip_row, reduce_row, select_row, element_in, map_end, fold_start, fold_end}
+use Rattle.pattern_types.specs.Judged.{demand, at_most, counted, within, product_judged, formed, scalars_judged, unary_row, binary_row, layout_row, split_row, pieces_row, stride_row, strided_row, windows_row, number_row, operator_row, zip_row, reduce_row, select_row, element_in, map_end, fold_start, fold_end}
 use Rattle.copied_arrays.proofs.Results.{yes, and_ok, demand_ok}
-use Rattle.copied_arrays.proofs.Shapes.{Scalar, Pair, Array, shape, UnaryShape, BinaryShape}
+use Rattle.copied_arrays.proofs.Shapes.{Scalar, Pair, Array, shape, LayoutShape, UnaryShape, BinaryShape}
 
 same_ok : (a c : PlainTy) → yes Fault a ≡ Ok c → a ≡ c
 same_ok a c h = cc
@@ -55,6 +57,45 @@ windows_are names x a s (Some q) h =
     let u = and_ok (within (plus q (constant 1))) (λ n. formed names p.0 n) a p.2 in
     nested_is names x p.0 a (constant s) u.0 p.1 u.2
 
+strided_is : (x a : PlainTy) (n : List Monomial) (q : Option (List Monomial)) → strided_row x n q ≡ Ok a → shape a ≡ Array (shape x)
+strided_is x a n None h = absurd (cc)
+strided_is x a n (Some q) h = sym (ap shape (same_ok (ArrayOf x n) a h))
+
+layout_is : (names : List Name) (l : layout.Layout) (b a : PlainTy) → layout_row names l b ≡ Ok a → LayoutShape l (shape b) (shape a)
+layout_is names Join U32 a h = absurd (cc)
+layout_is names Join (PairOf b c) a h = absurd (cc)
+layout_is names Join (ArrayOf U32 n) a h = absurd (cc)
+layout_is names Join (ArrayOf (PairOf b c) n) a h = absurd (cc)
+layout_is names Join (ArrayOf (ArrayOf x m) n) a h =
+    let p = and_ok (within (times n m)) (λ l. formed names x l) a h in
+    (shape x, refl, formed_is names x a p.0 p.2)
+layout_is names Transpose U32 a h = absurd (cc)
+layout_is names Transpose (PairOf b c) a h = absurd (cc)
+layout_is names Transpose (ArrayOf U32 n) a h = absurd (cc)
+layout_is names Transpose (ArrayOf (PairOf b c) n) a h = absurd (cc)
+layout_is names Transpose (ArrayOf (ArrayOf x m) n) a h =
+    let p = and_ok (formed names x n) (λ row. formed names row m) a h in
+    (shape x, refl, nested_is names x p.0 a n m p.1 p.2)
+layout_is names (Split fs) b a h =
+    let p = and_ok (product_judged names (constant 1) fs) (λ m. split_row names m b) a h in
+    go b p.0 p.2
+  where
+    go : (b : PlainTy) (m : List Monomial) → split_row names m b ≡ Ok a → LayoutShape (Split fs) (shape b) (shape a)
+    go U32 m h = absurd (cc)
+    go (PairOf b c) m h = absurd (cc)
+    go (ArrayOf x n) m h = (shape x, refl, pieces_are names x a m (exact_quotient m n) h)
+layout_is names Reverse U32 a h = absurd (cc)
+layout_is names Reverse (PairOf b c) a h = absurd (cc)
+layout_is names Reverse (ArrayOf x n) a h = (shape x, refl, sym (ap shape (same_ok (ArrayOf x n) a h)))
+layout_is names (Stride fs) b a h =
+    let p = and_ok (product_judged names (constant 1) fs) (λ m. stride_row m b) a h in
+    go b p.0 p.2
+  where
+    go : (b : PlainTy) (m : List Monomial) → stride_row m b ≡ Ok a → LayoutShape (Stride fs) (shape b) (shape a)
+    go U32 m h = absurd (cc)
+    go (PairOf b c) m h = absurd (cc)
+    go (ArrayOf x n) m h = (shape x, refl, strided_is x a n (exact_quotient m n) h)
+
 pub unary_is : (names : List Name) (f : UnaryForm) (b a : PlainTy) → unary_row names f b ≡ Ok a → UnaryShape f (shape b) (shape a)
 unary_is names (Div n) b a h = number_is b a h
 unary_is names (Rem n) b a h = number_is b a h
@@ -64,28 +105,7 @@ unary_is names First (ArrayOf b n) a h = absurd (cc)
 unary_is names Second U32 a h = absurd (cc)
 unary_is names Second (PairOf b c) a h = (shape b, ap (λ z. Pair (shape b) (shape z)) (same_ok c a h))
 unary_is names Second (ArrayOf b n) a h = absurd (cc)
-unary_is names Join U32 a h = absurd (cc)
-unary_is names Join (PairOf b c) a h = absurd (cc)
-unary_is names Join (ArrayOf U32 n) a h = absurd (cc)
-unary_is names Join (ArrayOf (PairOf b c) n) a h = absurd (cc)
-unary_is names Join (ArrayOf (ArrayOf x m) n) a h =
-    let p = and_ok (within (times n m)) (λ l. formed names x l) a h in
-    (shape x, refl, formed_is names x a p.0 p.2)
-unary_is names Transpose U32 a h = absurd (cc)
-unary_is names Transpose (PairOf b c) a h = absurd (cc)
-unary_is names Transpose (ArrayOf U32 n) a h = absurd (cc)
-unary_is names Transpose (ArrayOf (PairOf b c) n) a h = absurd (cc)
-unary_is names Transpose (ArrayOf (ArrayOf x m) n) a h =
-    let p = and_ok (formed names x n) (λ row. formed names row m) a h in
-    (shape x, refl, nested_is names x p.0 a n m p.1 p.2)
-unary_is names (Split fs) b a h =
-    let p = and_ok (product_judged names (constant 1) fs) (λ m. split_row names m b) a h in
-    go b p.0 p.2
-  where
-    go : (b : PlainTy) (m : List Monomial) → split_row names m b ≡ Ok a → UnaryShape (Split fs) (shape b) (shape a)
-    go U32 m h = absurd (cc)
-    go (PairOf b c) m h = absurd (cc)
-    go (ArrayOf x n) m h = (shape x, refl, pieces_are names x a m (exact_quotient m n) h)
+unary_is names (Layout l) b a h = layout_is names l b a h
 unary_is names (Slide s t) U32 a h = absurd (cc)
 unary_is names (Slide s t) (PairOf b c) a h = absurd (cc)
 unary_is names (Slide s t) (ArrayOf x n) a h =

@@ -1,7 +1,9 @@
 -- Types without their lengths, and the terms that have them and copy nothing but arrays.
 use Rattle.std.proofs.Common.{◌≡◌, ℕ, zero, suc, List, [], ◌∷◌}
+use Rattle.lift_tree.specs.declared.layout.Layout as layout
+use Rattle.lift_tree.specs.declared.layout.Layout.TheVariants.{Join, Transpose, Split, Reverse, Stride}
 use Rattle.lift_tree.specs.declared.term.UnaryForm.{UnaryForm}
-use Rattle.lift_tree.specs.declared.term.UnaryForm.TheVariants.{Div, Rem, First, Second, Join, Transpose, Split, Slide, Pad, ToLocal, ToPrivate}
+use Rattle.lift_tree.specs.declared.term.UnaryForm.TheVariants.{Div, Rem, First, Second, Layout, Slide, Pad, ToLocal, ToPrivate}
 use Rattle.lift_tree.specs.declared.term.BinaryForm.{BinaryForm}
 use Rattle.lift_tree.specs.declared.term.BinaryForm.TheVariants as binary
 use Rattle.lift_tree.specs.Tree.{Tree, Variable, Number, Input, Unary, Binary, Select, Let, Map, Fold}
@@ -23,15 +25,21 @@ nth [] n = Scalar
 nth (a ∷ g) zero = a
 nth (a ∷ g) (suc n) = nth g n
 
+-- a layout of shape b has shape a
+abbrev pub LayoutShape : layout.Layout → (b a : Shape) → Type 0
+LayoutShape Join b a = (x : Shape) × (b ≡ Array (Array x)) × (a ≡ Array x)
+LayoutShape Transpose b a = (x : Shape) × (b ≡ Array (Array x)) × (a ≡ Array (Array x))
+LayoutShape (Split fs) b a = (x : Shape) × (b ≡ Array x) × (a ≡ Array (Array x))
+LayoutShape Reverse b a = (x : Shape) × (b ≡ Array x) × (a ≡ Array x)
+LayoutShape (Stride fs) b a = (x : Shape) × (b ≡ Array x) × (a ≡ Array x)
+
 -- a form with a child of shape b has shape a
 abbrev pub UnaryShape : UnaryForm → (b a : Shape) → Type 0
 UnaryShape (Div n) b a = a ≡ Scalar
 UnaryShape (Rem n) b a = a ≡ Scalar
 UnaryShape First b a = (c : Shape) × (b ≡ Pair a c)
 UnaryShape Second b a = (c : Shape) × (b ≡ Pair c a)
-UnaryShape Join b a = (x : Shape) × (b ≡ Array (Array x)) × (a ≡ Array x)
-UnaryShape Transpose b a = (x : Shape) × (b ≡ Array (Array x)) × (a ≡ Array (Array x))
-UnaryShape (Split fs) b a = (x : Shape) × (b ≡ Array x) × (a ≡ Array (Array x))
+UnaryShape (Layout l) b a = LayoutShape l b a
 UnaryShape (Slide s t) b a = (x : Shape) × (b ≡ Array x) × (a ≡ Array (Array x))
 UnaryShape (Pad l r) b a = (x : Shape) × (b ≡ Array x) × (a ≡ Array x)
 UnaryShape ToLocal b a = b ≡ a
@@ -43,9 +51,7 @@ CopiesArray (Div n) b = Unit {0}
 CopiesArray (Rem n) b = Unit {0}
 CopiesArray First b = Unit {0}
 CopiesArray Second b = Unit {0}
-CopiesArray Join b = Unit {0}
-CopiesArray Transpose b = Unit {0}
-CopiesArray (Split fs) b = Unit {0}
+CopiesArray (Layout l) b = Unit {0}
 CopiesArray (Slide s t) b = Unit {0}
 CopiesArray (Pad l r) b = Unit {0}
 CopiesArray ToLocal b = (x : Shape) × (b ≡ Array x)

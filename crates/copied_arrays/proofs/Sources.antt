@@ -4,6 +4,8 @@ use Rattle.std.proofs.lemmas.Option.{same_Some}
 use Rattle.readings.specs.Meanings.{AllMean, read_means}
 use Rattle.lift_tree.specs.Programs.{PlainProgram}
 use Rattle.lift_tree.specs.Annotations.{Annotation, Leaf, One, Two, Three}
+use Rattle.lift_tree.specs.declared.layout.Layout.TheVariants as layouts
+use Rattle.lift_tree.specs.declared.length.Factor.{Factor}
 use Rattle.lift_tree.specs.declared.term.UnaryForm.{UnaryForm}
 use Rattle.lift_tree.specs.declared.term.UnaryForm.TheVariants as unaries
 use Rattle.lift_tree.specs.declared.term.MapKind.TheVariants as maps
@@ -28,9 +30,7 @@ IsNoCopy (unaries.Div n) = Unit {0}
 IsNoCopy (unaries.Rem n) = Unit {0}
 IsNoCopy unaries.First = Unit {0}
 IsNoCopy unaries.Second = Unit {0}
-IsNoCopy unaries.Join = Unit {0}
-IsNoCopy unaries.Transpose = Unit {0}
-IsNoCopy (unaries.Split fs) = Unit {0}
+IsNoCopy (unaries.Layout l) = Unit {0}
 IsNoCopy (unaries.Slide s t) = Unit {0}
 IsNoCopy (unaries.Pad l r) = Unit {0}
 IsNoCopy unaries.ToLocal = ⊥
@@ -52,9 +52,7 @@ no_copy (unaries.Div n) b h = tt
 no_copy (unaries.Rem n) b h = tt
 no_copy unaries.First b h = tt
 no_copy unaries.Second b h = tt
-no_copy unaries.Join b h = tt
-no_copy unaries.Transpose b h = tt
-no_copy (unaries.Split fs) b h = tt
+no_copy (unaries.Layout l) b h = tt
 no_copy (unaries.Slide s t) b h = tt
 no_copy (unaries.Pad l r) b h = tt
 no_copy unaries.ToLocal b h = absurd h
@@ -119,7 +117,7 @@ means n (grammar.MapName d) ts m back = Makes n m
 means n (grammar.FoldName d) ts m back = Makes n m
 means n (grammar.FoldSecondName d x) ts m back = Makes n m
 means n (grammar.ReduceOperator d) ts m back = Makes n m
-means n (grammar.SplitRest d) ts m back = Makes n m
+means n (grammar.ProductRest f d) ts m back = ((p : List Factor) → IsNoCopy (f p)) → Makes n m
 
 -- ---- what an action leaves
 
@@ -222,19 +220,21 @@ wrapped n a b m h wraps e =
     let u = wraps.around h.term n.made h.is in
     makes_to n b m e (record { term = u.0; is = u.1; plain = u.2 h.plain })
 
-split_made : (a b : Noted) (t : Tree) (rest : List Tree) → a.made ≡ t ∷ rest → marked grammar.Split a ≡ Some b → (u : Tree) × (b.made ≡ u ∷ rest) × (HasNoCopies t → HasNoCopies u)
-split_made a b t rest is h = cut a.products (subst (λ (xs : List Tree). grammar.split_by a a.products xs ≡ Some b) is h)
+product_made : (f : List Factor → UnaryForm) (a b : Noted) (t : Tree) (rest : List Tree) → a.made ≡ t ∷ rest → marked (grammar.MakeByProduct f) a ≡ Some b → ((p : List Factor) → IsNoCopy (f p))
+    → (u : Tree) × (b.made ≡ u ∷ rest) × (HasNoCopies t → HasNoCopies u)
+product_made f a b t rest is h no_copy = cut a.products (subst (λ (xs : List Tree). grammar.by_product f a a.products xs ≡ Some b) is h)
   where
-    cut : (ps : List (List _)) → grammar.split_by a ps (t ∷ rest) ≡ Some b → (u : Tree) × (b.made ≡ u ∷ rest) × (HasNoCopies t → HasNoCopies u)
+    cut : (ps : List (List Factor)) → grammar.by_product f a ps (t ∷ rest) ≡ Some b → (u : Tree) × (b.made ≡ u ∷ rest) × (HasNoCopies t → HasNoCopies u)
     cut [] e = absurd (cc (e))
-    cut (p ∷ ps) e = (trees.Unary (unaries.Split p) t, made_some (record a { products = ps; made = trees.Unary (unaries.Split p) t ∷ rest }) b e, λ k. (tt, k))
+    cut (p ∷ ps) e = (trees.Unary (f p) t, made_some (record a { products = ps; made = trees.Unary (f p) t ∷ rest }) b e, λ k. (no_copy p, k))
 
 -- what is written before one term is no copy
 unary_plain : (w : Word) (f : UnaryForm) → unary_of w ≡ Some f → IsNoCopy f
 unary_plain word.First f e = subst IsNoCopy (same_Some unaries.First f e) tt
 unary_plain word.Second f e = subst IsNoCopy (same_Some unaries.Second f e) tt
-unary_plain word.Join f e = subst IsNoCopy (same_Some unaries.Join f e) tt
-unary_plain word.Transpose f e = subst IsNoCopy (same_Some unaries.Transpose f e) tt
+unary_plain word.Join f e = subst IsNoCopy (same_Some (unaries.Layout layouts.Join) f e) tt
+unary_plain word.Transpose f e = subst IsNoCopy (same_Some (unaries.Layout layouts.Transpose) f e) tt
+unary_plain word.Reverse f e = subst IsNoCopy (same_Some (unaries.Layout layouts.Reverse) f e) tt
 unary_plain _ f e = absurd (cc (e))
 
 -- ---- each alternative
@@ -300,11 +300,12 @@ kept n f t alt (grammar.fold_second_name {x = x} {y = y}) ts m back h =
     let body = makes_then _ _ _ (makes_from n _ _ (same_then _ _ _ (bound x n _ w.1) (bound y _ _ w.2.1)) w.2.2.2) (same_then _ _ _ (unbound _ _ q.1) (unbound _ _ q.2.1)) in
     let last = q.2.2.2.3.2 in
     three (λ b s xs. trees.Fold folds.Plain xs s b) n _ _ _ _ m body q.2.2.2.2 last.2 last.3.2.1 last.3.2.2.0 (λ t u v p q r. (r, q, p))
-kept n f t alt (grammar.split deep) ts m back h = makes_to n _ m h.2.2.3.3.0 (makes_from n _ _ (same_then _ _ _ (begun n _ h.2.1) h.2.2.2) h.2.2.3.2)
-kept n f t alt grammar.split_times ts m back h = makes_to n _ m h.3.3.0 (makes_from n _ _ h.2 h.3.2)
-kept n f t alt grammar.split_end ts m back h =
+kept n f t alt (grammar.split deep) ts m back h = makes_to n _ m h.2.2.3.3.0 (makes_from n _ _ (same_then _ _ _ (begun n _ h.2.1) h.2.2.2) (h.2.2.3.2 (λ p. tt)))
+kept n f t alt (grammar.stride deep) ts m back h = makes_to n _ m h.2.2.3.3.0 (makes_from n _ _ (same_then _ _ _ (begun n _ h.2.1) h.2.2.2) (h.2.2.3.2 (λ p. tt)))
+kept n f t alt grammar.product_times ts m back h = λ no_copy. makes_to n _ m h.3.3.0 (makes_from n _ _ h.2 (h.3.2 no_copy))
+kept n f t alt (grammar.product_end {f = g}) ts m back h = λ no_copy.
     let made = h.2 in
-    let u = split_made _ _ made.term n.made made.is h.3.2.1 in
+    let u = product_made g _ _ made.term n.made made.is h.3.2.1 no_copy in
     makes_to n _ m h.3.2.2.0 (record { term = u.0; is = u.1; plain = u.2 made.plain })
 kept n f t alt (grammar.slide deep) ts m back h = makes_to n _ m h.2.3.0 (h.2.2 (λ v w. tt))
 kept n f t alt (grammar.pad deep) ts m back h = makes_to n _ m h.2.3.0 (h.2.2 (λ v w. tt))

@@ -3,7 +3,8 @@ use Rattle.std.proofs.Common.{◌≡◌, ℕ, ◌+◌, ◌-◌, List, ◌∷◌,
 use Rattle.std.specs.Prelude.{Option, Some, None}
 use Rattle.scalar_ops.specs.declared.op.Reducer.{Reducer}
 use Rattle.scalar_ops.specs.Operators.{neutral}
-use Rattle.lift_tree.specs.declared.term.UnaryForm.TheVariants.{Transpose, Slide}
+use Rattle.lift_tree.specs.declared.layout.Layout.TheVariants.{Transpose}
+use Rattle.lift_tree.specs.declared.term.UnaryForm.TheVariants.{Layout, Slide}
 use Rattle.lift_tree.specs.declared.term.BinaryForm.TheVariants.{Reduce}
 use Rattle.lift_tree.specs.declared.term.MapKind.TheVariants.{Plain}
 use Rattle.lift_tree.specs.Renumbering.{raise}
@@ -75,7 +76,7 @@ module _ (i g : List Shape) where
 
   stride_reduce_kept : (k : ℕ) (a : Around) (t u : Tree) → stride_reduce k a t ≡ Becomes u → Keeps i g t u
   stride_reduce_kept k a (Binary (Reduce r) xs s) u e =
-      let rows = Unary Transpose (in_pieces k xs) in
+      let rows = Unary (Layout Transpose) (in_pieces k xs) in
       under_kept i g (piece_sides k (array_length a.types)) (Binary (Reduce r) xs s) (reduced_by_rows r rows s) u e
       (rows_reduced r xs s rows (λ x h. (Array (Array x), pieces k xs x h, (x, refl, refl), tt)))
   stride_reduce_kept k a _ u e = absurd (cc)

@@ -1,6 +1,7 @@
 -- The demo's steps are made, and the last term is legal and within its limits, by computing.
 use Rattle.std.proofs.Common.{◌≡◌, ◌++◌, ◌≤◌, List, [], ◌∷◌, false, None, Ok, Err, Result, refl, length, take, arith}
 use Rattle.scalar_ops.specs.declared.op.Reducer.TheVariants as reducer
+use Rattle.lift_tree.specs.declared.layout.Layout.TheVariants as layouts
 use Rattle.lift_tree.specs.declared.term.BinaryForm.TheVariants as binary
 use Rattle.lift_tree.specs.declared.term.FoldKind.TheVariants as fold_kind
 use Rattle.lift_tree.specs.declared.term.MapKind.TheVariants as map_kind
@@ -74,7 +75,7 @@ tiles = trees.Unary (unary.Slide 66 64) (trees.Unary (unary.Pad 1 1) (trees.Inpu
 
 tiled_sums : Tree
 unfolding copied_tile sum tiles
-tiled_sums = trees.Unary unary.Join (trees.Unary unary.Join (trees.Map map_kind.WorkGroup tiles (trees.Map map_kind.Local (trees.Unary (unary.Slide 3 1) copied_tile) sum)))
+tiled_sums = trees.Unary (unary.Layout layouts.Join) (trees.Unary (unary.Layout layouts.Join) (trees.Map map_kind.WorkGroup tiles (trees.Map map_kind.Local (trees.Unary (unary.Slide 3 1) copied_tile) sum)))
 
 last : State
 unfolding tiled_sums

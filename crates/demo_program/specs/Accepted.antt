@@ -1,5 +1,6 @@
 -- What each stage makes of the demo's texts: none refuses them.
 use Rattle.std.specs.Prelude.{◌≡◌, ◌≤◌, ◌++◌, List, [], ◌∷◌, codes, false, length, None, Ok}
+use Rattle.lift_tree.specs.declared.layout.Layout.TheVariants as layouts
 use Rattle.lift_tree.specs.declared.length.Factor.TheVariants as factor
 use Rattle.lift_tree.specs.declared.length.Sign.TheVariants as sign
 use Rattle.lift_tree.specs.declared.term.BinaryForm.TheVariants as binary
@@ -23,7 +24,7 @@ use Rattle.demo_program.specs.Texts.{program_text, script_text}
 
 -- join(map(\w. reduce(add, 0, w), slide(3, 1, pad(1, 1, xs))))
 abbrev pub sums : Tree
-sums = trees.Unary unary.Join (trees.Map map_kind.Plain (trees.Unary (unary.Slide 3 1) (trees.Unary (unary.Pad 1 1) (trees.Input 0))) (trees.Binary (binary.Reduce reducer.Add) (trees.Variable 0) (trees.Number 0)))
+sums = trees.Unary (unary.Layout layouts.Join) (trees.Map map_kind.Plain (trees.Unary (unary.Slide 3 1) (trees.Unary (unary.Pad 1 1) (trees.Input 0))) (trees.Binary (binary.Reduce reducer.Add) (trees.Variable 0) (trees.Number 0)))
 
 -- the program that the demo's text is
 abbrev pub demo_program : PlainProgram

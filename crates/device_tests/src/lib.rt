@@ -5,6 +5,8 @@
 #[cfg(test)]
 mod cells;
 #[cfg(test)]
+mod deep;
+#[cfg(test)]
 mod events;
 #[cfg(test)]
 mod faults;

@@ -51,7 +51,14 @@ struct Task {
 fn task_of(alloc: Global, run: &Run) -> Option<Task>
     ensures { IfSome result (λ t. seen.MayStart (kernel_of t.kernel) t.launch t.cells) }
 {
-    let kernel = read_kernel(alloc, run.text.as_bytes()).ok()?;
+    task_for(alloc, run.text.as_bytes(), run)
+}
+
+// The task of a text, with all but the text as the run says; none where it can't begin.
+fn task_for(alloc: Global, text: &[u8], run: &Run) -> Option<Task>
+    ensures { IfSome result (λ t. seen.MayStart (kernel_of t.kernel) t.launch t.cells) }
+{
+    let kernel = read_kernel(alloc, text).ok()?;
     let launch = Launch {
         global: run.global,
         local: run.local,
@@ -197,6 +204,30 @@ pub fn leaves(alloc: Global, run: &Run, words: &[u32], events: u64, releases: u6
                 && outcome.releases == releases
         }
         _ => false,
+    }
+}
+
+/// Whether a text, with all but the text as the run says, leaves this word in order after so many
+/// events.
+pub fn text_leaves(alloc: Global, text: &[u8], run: &Run, word: u32, events: u64) -> bool {
+    let Some(
+        Task {
+            kernel,
+            launch: launched,
+            cells,
+        },
+    ) = task_for(alloc, text, run)
+    else {
+        return false;
+    };
+    let schedule = Schedule::Numbers(Vec::new(alloc));
+    match launch(alloc, kernel, launched, cells, &schedule, None) {
+        Ok(outcome) => {
+            outcome.outputs.len() == 1
+                && outcome.outputs[0].as_slice() == [word].as_slice()
+                && outcome.events == events
+        }
+        Err(_) => false,
     }
 }
 

@@ -6,7 +6,7 @@ ghost use Rattle.lift_ir.specs.AtLaunch.{length_at, ty_at};
 ghost use Rattle.lift_ir.specs.Types as types;
 ghost use Rattle.lift_ir.specs.Types.{IsShort};
 ghost use Rattle.lowering.specs.Terms.{term_of};
-ghost use Rattle.kernel_emit.specs.Copies.{HasShortCopies, IsShortCopy};
+ghost use Rattle.item_emit.specs.Copies.{HasShortCopies, IsShortCopy};
 
 use lift_tree::ty::Ty;
 use lowering::term::Term;

@@ -1,26 +1,26 @@
 //! What is emitted for a program along a script, part by part, beside the kernel of a text.
 
 ghost use Rattle.lowering.specs.Terms.{term_of};
-ghost use Rattle.kernel_emit.specs.Copies.{HasShortCopies};
+ghost use Rattle.item_emit.specs.Copies.{HasShortCopies};
 
 use crate::copies::has_short_copies;
 use crate::last_terms::lowered_last;
 use crate::sameness::is_same;
 use barrier_placement::Barrier;
+use buffer_allocation::copies::{Memory, copy_lengths};
 use group_emit::counts::phase_count;
 use group_emit::groups::groups;
 use group_emit::setting::Setting;
-use kernel_emit::arguments::{Declared, output};
-use kernel_emit::block::Block;
-use kernel_emit::kernel::counted;
-use kernel_emit::lengths::copy_lengths;
-use kernel_emit::scope::Scope;
-use kernel_emit::statements::{Site, put_written};
+use item_emit::arguments::{Declared, output};
+use item_emit::block::Block;
+use item_emit::kernel::counted;
+use item_emit::scope::Scope;
+use item_emit::statements::{Site, put_written};
 use kernel_reader::read_kernel;
 use kernel_tree::tree::{Kernel, Stmt};
 use lowered_tree::lowered::Lowered;
 use lowering::lower::lower;
-use lowering::term::{Space, Term};
+use lowering::term::Term;
 use std::alloc::{AllocError, Global};
 use std::test::Fail;
 
@@ -73,6 +73,14 @@ fn groups_code(
     Ok(block.into_statements())
 }
 
+fn are_equal(lengths: &[u64], words: &[u32]) -> bool {
+    lengths.len() == words.len()
+        && lengths
+            .iter()
+            .zip(words)
+            .all(|(length, word)| *length == u64::from(*word))
+}
+
 // Whether the kernel declares what is counted for the term, and no variable of four words, and asks
 // for no size of groups.
 fn declares(
@@ -80,12 +88,10 @@ fn declares(
     kernel: &Kernel,
     lowered: &Lowered,
     term: &Term,
-) -> Result<bool, AllocError>
-    requires { HasShortCopies (term_of term.now) }
-{
+) -> Result<bool, AllocError> {
     let counts = counted(lowered, term)?;
-    let locals = copy_lengths(alloc, Space::Local, term)?;
-    let privates = copy_lengths(alloc, Space::Private, term)?;
+    let locals = copy_lengths(alloc, Memory::Local, &lowered.term, &lowered.types)?;
+    let privates = copy_lengths(alloc, Memory::Private, &lowered.term, &lowered.types)?;
     Ok(
         counts.inputs == kernel.inputs
             && counts.outputs == kernel.outputs
@@ -93,8 +99,8 @@ fn declares(
             && counts.variables == kernel.variables
             && kernel.vectors == 0
             && kernel.local.is_none()
-            && locals == kernel.locals
-            && privates == kernel.privates,
+            && are_equal(&locals, &kernel.locals)
+            && are_equal(&privates, &kernel.privates),
     )
 }
 
@@ -106,7 +112,7 @@ fn emits(alloc: Global, row: &Row, barriers: Option<&[Barrier]>) -> Result<bool,
     let Ok(kernel) = read_kernel(alloc, row.kernel.as_bytes()) else {
         return Ok(false);
     };
-    let term = lower(alloc, &lowered.term, &lowered.types)?;
+    let term = lower(alloc, &lowered.names, &lowered.term, &lowered.types)?;
     if !has_short_copies(alloc, &term) {
         return Ok(false);
     }

@@ -21,6 +21,8 @@ mod last_terms;
 #[cfg(test)]
 mod phases;
 #[cfg(test)]
+mod plans;
+#[cfg(test)]
 mod private_copies;
 #[cfg(test)]
 mod reading;

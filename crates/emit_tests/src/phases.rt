@@ -6,10 +6,11 @@ ghost use Rattle.lowering.specs.Terms.{term_of};
 ghost use Rattle.group_form.specs.Forms.{StandsInGroup, StandsOverGroups};
 
 use barrier_placement::{Barrier, Touch};
+use lift_tree::layout as forms;
 use lift_tree::term::UnaryForm;
 use lift_tree::ty::Ty;
 use lowering::term::{Kind, Layout, LoadSet, Space, Term};
-use phase_plan::{Plan, needed_barriers};
+use phase_plan::phases::Phases;
 use scalar_ops::op::Op;
 use size_arith::Poly;
 use std::alloc::{AllocError, Global};
@@ -109,7 +110,7 @@ fn joined(alloc: Global, rows: Box<Term>) -> Result<Box<Term>, AllocError>
     ensures { IfOk result (λ t. StandsInGroup true (term_of t.value)) }
 {
     let layout = Layout {
-        form: UnaryForm::Join,
+        form: UnaryForm::Layout(forms::Layout::Join),
         ty: numbers(alloc)?,
         operand: numbers(alloc)?,
     };
@@ -157,15 +158,16 @@ fn reads(touch: &Touch, phase: u32, buffer: u32, aligned: bool) -> bool {
 }
 
 // Phase 0 writes array 0 and phase 1 reads it, aligned or not; there is no other use.
-fn copies_and_reads(plan: &Plan, writes_aligned: bool, reads_aligned: bool) -> bool {
-    plan.touches
+fn copies_and_reads(phases: &Phases, writes_aligned: bool, reads_aligned: bool) -> bool {
+    phases
+        .touches
         .iter()
         .any(|touch| writes(touch, 0, 0, writes_aligned))
-        && plan
+        && phases
             .touches
             .iter()
             .any(|touch| reads(touch, 1, 0, reads_aligned))
-        && plan.touches.iter().all(|touch| {
+        && phases.touches.iter().all(|touch| {
             writes(touch, 0, 0, writes_aligned) || reads(touch, 1, 0, reads_aligned)
         })
 }
@@ -183,10 +185,10 @@ fn copied_tiles(rt: HostRuntime) -> Result<(), Fail> {
     let body = stored(alloc, sum)?;
     let map = local_map(alloc, LoadSet::Take, copy_of(alloc, 0)?, body)?;
     let root = over_groups(alloc, map)?;
-    let plan = Plan::of(alloc, &root)?;
-    assert_eq!(rt; plan.phases, 2);
-    assert!(rt; copies_and_reads(&plan, true, true));
-    assert!(rt; needed_barriers(alloc, &root)?.is_empty());
+    let phases = Phases::of(alloc, &root)?;
+    assert_eq!(rt; phases.count, 2);
+    assert!(rt; copies_and_reads(&phases, true, true));
+    assert!(rt; phases.barriers.is_empty());
     Ok(())
 }
 
@@ -199,10 +201,10 @@ fn a_stencil_by_tiles(rt: HostRuntime) -> Result<(), Fail> {
     let tile = windows(alloc, copy_of(alloc, 0)?)?;
     let map = local_map(alloc, LoadSet::Skip, tile, body)?;
     let root = over_groups(alloc, map)?;
-    let plan = Plan::of(alloc, &root)?;
-    assert_eq!(rt; plan.phases, 2);
-    assert!(rt; copies_and_reads(&plan, true, false));
-    let barriers = needed_barriers(alloc, &root)?;
+    let phases = Phases::of(alloc, &root)?;
+    assert_eq!(rt; phases.count, 2);
+    assert!(rt; copies_and_reads(&phases, true, false));
+    let barriers = phases.barriers;
     assert_eq!(rt; barriers.len(), 2);
     assert!(rt; stands(&barriers[0], Some(1), (0, 1)));
     assert!(rt; stands(&barriers[1], None, (1, 0)));
@@ -227,13 +229,13 @@ fn two_barriers_and_none_that_closes(rt: HostRuntime) -> Result<(), Fail> {
     let loads = LoadSet::Each(take, Box::new(alloc, LoadSet::Skip)?);
     let map = local_map(alloc, loads, both, body)?;
     let root = over_groups(alloc, let_array(alloc, sums, map)?)?;
-    let plan = Plan::of(alloc, &root)?;
-    assert_eq!(rt; plan.phases, 4);
-    assert!(rt; plan.touches.iter().any(|touch| writes(touch, 1, 1, true)));
-    assert!(rt; plan.touches.iter().any(|touch| reads(touch, 2, 1, true)));
-    assert!(rt; plan.touches.iter().any(|touch| reads(touch, 3, 1, false)));
-    assert!(rt; plan.touches.iter().any(|touch| reads(touch, 3, 2, true)));
-    let barriers = needed_barriers(alloc, &root)?;
+    let phases = Phases::of(alloc, &root)?;
+    assert_eq!(rt; phases.count, 4);
+    assert!(rt; phases.touches.iter().any(|touch| writes(touch, 1, 1, true)));
+    assert!(rt; phases.touches.iter().any(|touch| reads(touch, 2, 1, true)));
+    assert!(rt; phases.touches.iter().any(|touch| reads(touch, 3, 1, false)));
+    assert!(rt; phases.touches.iter().any(|touch| reads(touch, 3, 2, true)));
+    let barriers = phases.barriers;
     assert_eq!(rt; barriers.len(), 2);
     assert!(rt; stands(&barriers[0], Some(1), (0, 1)));
     assert!(rt; stands(&barriers[1], Some(3), (1, 3)));
@@ -255,12 +257,12 @@ fn components_that_are_not_named(rt: HostRuntime) -> Result<(), Fail> {
     let loads = LoadSet::Each(skip, Box::new(alloc, LoadSet::Take)?);
     let map = local_map(alloc, loads, tile, body)?;
     let root = over_groups(alloc, map)?;
-    let plan = Plan::of(alloc, &root)?;
-    assert!(rt; plan.touches.iter().any(|touch| writes(touch, 0, 0, true)));
-    assert!(rt; plan.touches.iter().any(|touch| writes(touch, 0, 1, true)));
-    assert!(rt; plan.touches.iter().any(|touch| reads(touch, 1, 1, true)));
-    assert!(rt; !plan.touches.iter().any(|touch| reads(touch, 1, 0, true)));
-    assert!(rt; needed_barriers(alloc, &root)?.is_empty());
+    let phases = Phases::of(alloc, &root)?;
+    assert!(rt; phases.touches.iter().any(|touch| writes(touch, 0, 0, true)));
+    assert!(rt; phases.touches.iter().any(|touch| writes(touch, 0, 1, true)));
+    assert!(rt; phases.touches.iter().any(|touch| reads(touch, 1, 1, true)));
+    assert!(rt; !phases.touches.iter().any(|touch| reads(touch, 1, 0, true)));
+    assert!(rt; phases.barriers.is_empty());
     Ok(())
 }
 
@@ -272,10 +274,10 @@ fn variables_of_the_body(rt: HostRuntime) -> Result<(), Fail> {
     let body = summed(alloc, row, Term::Bound(0))?;
     let map = local_map(alloc, LoadSet::Take, bound(alloc, 1)?, body)?;
     let root = over_groups(alloc, let_array(alloc, copy_of(alloc, 0)?, map)?)?;
-    let plan = Plan::of(alloc, &root)?;
-    assert_eq!(rt; plan.phases, 2);
-    assert!(rt; copies_and_reads(&plan, true, false));
-    let barriers = needed_barriers(alloc, &root)?;
+    let phases = Phases::of(alloc, &root)?;
+    assert_eq!(rt; phases.count, 2);
+    assert!(rt; copies_and_reads(&phases, true, false));
+    let barriers = phases.barriers;
     assert_eq!(rt; barriers.len(), 2);
     assert!(rt; stands(&barriers[0], Some(1), (0, 1)));
     assert!(rt; stands(&barriers[1], None, (1, 0)));
@@ -301,9 +303,9 @@ fn writes_through_a_layout(rt: HostRuntime) -> Result<(), Fail> {
         summed(alloc, row, Term::Literal(0))?,
     )?;
     let root = over_groups(alloc, map)?;
-    let plan = Plan::of(alloc, &root)?;
-    assert!(rt; copies_and_reads(&plan, false, true));
-    let barriers = needed_barriers(alloc, &root)?;
+    let phases = Phases::of(alloc, &root)?;
+    assert!(rt; copies_and_reads(&phases, false, true));
+    let barriers = phases.barriers;
     assert_eq!(rt; barriers.len(), 2);
     assert!(rt; stands(&barriers[0], Some(1), (0, 1)));
     assert!(rt; stands(&barriers[1], None, (1, 0)));

@@ -4,14 +4,15 @@ ghost use Rattle.std.specs.Prelude.{◌<◌, [], IfOk};
 ghost use Rattle.lift_tree.specs.Types.{ty_of};
 ghost use Rattle.lift_ir.specs.AtLaunch.{ty_at};
 ghost use Rattle.lowering.specs.Terms.{term_of};
-ghost use Rattle.kernel_emit.specs.Copies.{HasShortCopies, IsShortCopy};
+ghost use Rattle.item_emit.specs.Copies.{HasShortCopies, IsShortCopy};
 
 use barrier_placement::Barrier;
 use group_emit::groups::groups;
 use group_emit::setting::Setting;
-use kernel_emit::arguments::{Declared, output};
-use kernel_emit::scope::Scope;
+use item_emit::arguments::{Declared, output};
+use item_emit::scope::Scope;
 use kernel_tree::tree::{Array, Dimension, Expr, Start, Stmt, Stride};
+use lift_tree::layout as forms;
 use lift_tree::length::Product;
 use lift_tree::term::UnaryForm;
 use lift_tree::ty::Ty;
@@ -75,7 +76,7 @@ fn split_input(alloc: Global) -> Result<Term, AllocError>
 {
     let input = Box::new(alloc, Term::Source(0))?;
     let split = Layout {
-        form: UnaryForm::Split(Product::new(Vec::new(alloc))),
+        form: UnaryForm::Layout(forms::Layout::Split(Product::new(Vec::new(alloc)))),
         ty: tiles(alloc)?,
         operand: six(alloc)?,
     };
@@ -96,7 +97,7 @@ fn added_tiles(alloc: Global) -> Result<Term, AllocError>
 {
     let map = Box::new(alloc, over_groups(alloc)?)?;
     let join = Layout {
-        form: UnaryForm::Join,
+        form: UnaryForm::Layout(forms::Layout::Join),
         ty: six(alloc)?,
         operand: tiles(alloc)?,
     };

@@ -93,6 +93,7 @@ impl Ready {
     }
 
     /// Whether no item of a group can step.
+    #[inline(always)]
     pub fn has_stopped(&self, group: u32) -> bool
         requires { group < length self.now.groups }
         ensures { IsTrue result ↔ NoneSteps self.now group }

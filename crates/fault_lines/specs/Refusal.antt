@@ -1,18 +1,24 @@
 -- Why a program and a script have no kernel: the status, and the line.
 use Rattle.std.specs.Prelude.{ℕ, List, [], ◌∷◌, codes, decimal}
+use Rattle.lift_reader.specs.declared.refusal.ReadRefusal.{ReadRefusal}
 use Rattle.lift_reader.specs.declared.refusal.ReadRefusal.TheVariants as readings
 use Rattle.pattern_types.specs.declared.refusal.Rule.{Rule}
 use Rattle.pattern_types.specs.declared.refusal.Spot.{Spot}
 use Rattle.pattern_types.specs.declared.refusal.Spot.TheVariants as spots
+use Rattle.pattern_types.specs.declared.refusal.TypeRefusal.{TypeRefusal}
 use Rattle.pattern_types.specs.declared.refusal.TypeRefusal.TheVariants as typings
 use Rattle.fault_lines.specs.Lines.{line_of_texts, place_text}
+use Rattle.buffer_allocation.specs.declared.buffers.AllocNo.{AllocNo}
 use Rattle.buffer_allocation.specs.declared.buffers.AllocNo.TheVariants as allocations
 use Rattle.fault_lines.specs.Names.{alloc_limit_name, nest_rule_name, quantity_name, rule_name, step_limit_name, type_limit_name}
 use Rattle.rewriting.specs.Conditions.{condition_name}
+use Rattle.strategy_script.specs.declared.faults.StepNo.{StepNo}
 use Rattle.strategy_script.specs.declared.faults.StepNo.TheVariants as stops
 use Rattle.strategy_script.specs.declared.faults.Why.{Why}
 use Rattle.strategy_script.specs.declared.faults.Why.TheVariants as whys
+use Rattle.strategy_script.specs.declared.script.ScriptNo.{ScriptNo}
 use Rattle.strategy_script.specs.declared.script.ScriptNo.TheVariants as scripts
+use Rattle.thread_mapping.specs.declared.judging.NestNo.{NestNo}
 use Rattle.thread_mapping.specs.declared.judging.NestNo.TheVariants as nests
 use Rattle.fault_lines.specs.declared.refusal.Refusal.{Refusal}
 use Rattle.fault_lines.specs.declared.refusal.Refusal.TheVariants.{Program, Typing, Script, Step, Nest, Alloc, Memory}
@@ -76,3 +82,29 @@ line_of (Nest nests.Memory) = memory_line
 line_of (Alloc (allocations.Limit which count)) = limit_line (alloc_limit_name which) count
 line_of (Alloc allocations.Memory) = memory_line
 line_of Memory = memory_line
+
+-- ---- what a stage's refusal becomes: want of memory is the same in all of them
+
+abbrev pub program_refused : ReadRefusal → Refusal
+program_refused readings.Memory = Memory
+program_refused why = Program why
+
+abbrev pub typing_refused : TypeRefusal → Refusal
+typing_refused typings.Memory = Memory
+typing_refused why = Typing why
+
+abbrev pub script_refused : ScriptNo → Refusal
+script_refused scripts.Memory = Memory
+script_refused why = Script why
+
+abbrev pub step_refused : StepNo → Refusal
+step_refused stops.Memory = Memory
+step_refused why = Step why
+
+abbrev pub nest_refused : NestNo → Refusal
+nest_refused nests.Memory = Memory
+nest_refused why = Nest why
+
+abbrev pub alloc_refused : AllocNo → Refusal
+alloc_refused allocations.Memory = Memory
+alloc_refused why = Alloc why

@@ -70,6 +70,8 @@ pub fn rule_name(rule: Rule) -> &'static [u8]
         Rule::Split => b"split".as_slice(),
         Rule::Join => b"join".as_slice(),
         Rule::Transpose => b"transpose".as_slice(),
+        Rule::Reverse => b"reverse".as_slice(),
+        Rule::Stride => b"stride".as_slice(),
         Rule::Slide => b"slide".as_slice(),
         Rule::Pad => b"pad".as_slice(),
         Rule::Output => b"output".as_slice(),

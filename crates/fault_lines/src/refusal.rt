@@ -41,7 +41,7 @@ pub enum Refusal {
     Nest(NestNo),
     /// The term passes a limit on layouts or on memory.
     Alloc(AllocNo),
-    /// Memory ran out outside of these stages. Inside of one, its own refusal says so.
+    /// Memory ran out, in whichever stage.
     Memory,
 }
 
@@ -294,61 +294,79 @@ impl From<AllocError> for Refusal {
 }
 
 impl From<ReadRefusal> for Refusal {
-    ghost use Rattle.fault_lines.specs.declared.refusal.Refusal.TheVariants.{Program};
+    ghost use Rattle.fault_lines.specs.Refusal.{program_refused};
 
-    ghost from_gives = { λ no e. e ≡ Program no };
+    ghost from_gives = { λ no e. e ≡ program_refused no };
 
     fn from(no: ReadRefusal) -> Self {
-        Refusal::Program(no)
+        match no {
+            ReadRefusal::Memory => Refusal::Memory,
+            no => Refusal::Program(no),
+        }
     }
 }
 
 impl From<TypeRefusal> for Refusal {
-    ghost use Rattle.fault_lines.specs.declared.refusal.Refusal.TheVariants.{Typing};
+    ghost use Rattle.fault_lines.specs.Refusal.{typing_refused};
 
-    ghost from_gives = { λ no e. e ≡ Typing no };
+    ghost from_gives = { λ no e. e ≡ typing_refused no };
 
     fn from(no: TypeRefusal) -> Self {
-        Refusal::Typing(no)
+        match no {
+            TypeRefusal::Memory => Refusal::Memory,
+            no => Refusal::Typing(no),
+        }
     }
 }
 
 impl From<ScriptNo> for Refusal {
-    ghost use Rattle.fault_lines.specs.declared.refusal.Refusal.TheVariants.{Script};
+    ghost use Rattle.fault_lines.specs.Refusal.{script_refused};
 
-    ghost from_gives = { λ no e. e ≡ Script no };
+    ghost from_gives = { λ no e. e ≡ script_refused no };
 
     fn from(no: ScriptNo) -> Self {
-        Refusal::Script(no)
+        match no {
+            ScriptNo::Memory => Refusal::Memory,
+            no => Refusal::Script(no),
+        }
     }
 }
 
 impl From<StepNo> for Refusal {
-    ghost use Rattle.fault_lines.specs.declared.refusal.Refusal.TheVariants.{Step};
+    ghost use Rattle.fault_lines.specs.Refusal.{step_refused};
 
-    ghost from_gives = { λ no e. e ≡ Step no };
+    ghost from_gives = { λ no e. e ≡ step_refused no };
 
     fn from(no: StepNo) -> Self {
-        Refusal::Step(no)
+        match no {
+            StepNo::Memory => Refusal::Memory,
+            no => Refusal::Step(no),
+        }
     }
 }
 
 impl From<NestNo> for Refusal {
-    ghost use Rattle.fault_lines.specs.declared.refusal.Refusal.TheVariants.{Nest};
+    ghost use Rattle.fault_lines.specs.Refusal.{nest_refused};
 
-    ghost from_gives = { λ no e. e ≡ Nest no };
+    ghost from_gives = { λ no e. e ≡ nest_refused no };
 
     fn from(no: NestNo) -> Self {
-        Refusal::Nest(no)
+        match no {
+            NestNo::Memory => Refusal::Memory,
+            no => Refusal::Nest(no),
+        }
     }
 }
 
 impl From<AllocNo> for Refusal {
-    ghost use Rattle.fault_lines.specs.declared.refusal.Refusal.TheVariants.{Alloc};
+    ghost use Rattle.fault_lines.specs.Refusal.{alloc_refused};
 
-    ghost from_gives = { λ no e. e ≡ Alloc no };
+    ghost from_gives = { λ no e. e ≡ alloc_refused no };
 
     fn from(no: AllocNo) -> Self {
-        Refusal::Alloc(no)
+        match no {
+            AllocNo::Memory => Refusal::Memory,
+            no => Refusal::Alloc(no),
+        }
     }
 }

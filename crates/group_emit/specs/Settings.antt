@@ -5,7 +5,7 @@ use Rattle.kernel_tree.specs.Formula.{Formula}
 use Rattle.printed_form.specs.Views.{View}
 use Rattle.barrier_placement.specs.declared.placing.Barrier.{Barrier}
 use Rattle.barrier_placement.specs.Fencing.{Fencing, Open, fence, fencing_of}
-use Rattle.kernel_emit.specs.Inputs.{inputs_in, spell_in}
+use Rattle.item_emit.specs.Inputs.{inputs_in, spell_in}
 use Rattle.group_emit.specs.declared.setting.Setting.{Setting}
 
 abbrev pub spell_of : Setting → List Monomial → Formula

@@ -7,7 +7,7 @@ ghost use Rattle.group_form.specs.Uses as uses;
 ghost use Rattle.lowering.specs.Terms.{term_of};
 ghost use Rattle.group_emit.specs.Used.{used_of};
 
-use kernel_emit::counts::{plus, private_count, variable_count, width};
+use item_emit::counts::{plus, private_count, variable_count, width};
 use lowering::term::Term;
 use std::alloc::AllocError;
 

@@ -1,4 +1,5 @@
-//! The kernel of a lowered term that is a map over work-groups, with the barriers between its phases.
+//! The statements of a lowered term that is a map over work-groups, with the barriers between its
+//! phases.
 #![tactic(auto)]
 
 pub mod arguments;

@@ -3,12 +3,12 @@
 ghost use Rattle.std.specs.Prelude.{◌≡◌, OnOk};
 ghost use Rattle.barrier_placement.specs.Fencing.{fence};
 ghost use Rattle.group_form.specs.Printer as printer;
-ghost use Rattle.kernel_emit.specs.Blocks.{code_in};
+ghost use Rattle.item_emit.specs.Blocks.{code_in};
 ghost use Rattle.group_emit.specs.Settings.{fence_in, fencing_in};
 
 use barrier_placement::Barrier;
-use kernel_emit::arguments::Declared;
-use kernel_emit::block::Block;
+use item_emit::arguments::Declared;
+use item_emit::block::Block;
 use kernel_tree::tree::Stmt;
 use std::alloc::AllocError;
 

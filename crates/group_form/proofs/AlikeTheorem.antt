@@ -45,7 +45,7 @@ OneHistoryGoesAlike =
 module _ (determined : BarriersAreDetermined) (alike : OneHistoryGoesAlike) (keep : PrintedGroupProgramsKeep) (serve : PrintedGroupProgramsServe) (begins : PrintedGroupProgramsStart)
     (d : Declared) (is_task : Bool) (w : World) (t : Tree) (a : Annotation) (l : Launch) (c : Cells) (program : IsGroupProgram d w.bases t a) (ok : IsAdmissible d w) (launch : IsLaunchOf d is_task w.bases l) (buffers : AreBuffersOf d w t a c) where
   module _ (k : Kernel) (s : State) (printed : PrintsGroups d w.bases t a l k) (start : IsStart k l c s) where
-    keeps : EveryRunKeeps k l c (cell_owner w.bases l t a) (lists_of (type_in a) (meaning w [] t))
+    keeps : EveryRunKeeps k l c (cell_owner d.names w.bases l t a) (lists_of (type_in a) (meaning w [] t))
     keeps = keep d is_task w t a l k c program ok launch buffers printed
 
     meet : (es : List Event) → IsRun (device_of k l c) s es → MeetTogether (device_of k l c) (run (device_of k l c) s es)
@@ -61,8 +61,8 @@ module _ (determined : BarriersAreDetermined) (alike : OneHistoryGoesAlike) (kee
   module _ (k m : Kernel) (s r : State) (one : PrintsGroups d w.bases t a l k) (two : PrintsGroups d w.bases t a l m) (start : IsStart k l c s) (begin : IsStart m l c r) (same : SameContents l s r) where
     codes : (j : ℕ) → j < item_count l → Matches l j [] k.code m.code
     codes j lt =
-        over_groups l j (input_marks (length_at w.bases) (first_buffer d.inputs) (input_shape d.inputs)) (length_at w.bases) one.fence two.fence lt (lowered_root t a) no_marks (output_marks (ty_at w.bases (type_in a))) k.code m.code
-        (determined (group_touches (lowered_root t a)) (phase_count (lowered_root t a)) one.fence two.fence one.needed two.needed) one.code two.code
+        over_groups l j (input_marks (length_at w.bases) (first_buffer d.inputs) (input_shape d.inputs)) (length_at w.bases) one.fence two.fence lt (lowered_root d.names t a) no_marks (output_marks (ty_at w.bases (type_in a))) k.code m.code
+        (determined (group_touches (lowered_root d.names t a)) (phase_count (lowered_root d.names t a)) one.fence two.fence one.needed two.needed) one.code two.code
 
     states : MatchingStates l s r
     states = record {

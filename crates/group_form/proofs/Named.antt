@@ -4,7 +4,7 @@ use Rattle.std.specs.Prelude.{◌==◌, map, if◌then◌else◌}
 use Rattle.std.proofs.lemmas.Bool.{eq-eqb, eqb-true}
 use Rattle.kernel_tree.specs.Faults.{Among}
 use Rattle.lift_ir.specs.Types.{Ty, Scalar, PairOf, ArrayOf, IsPosition, IsShort}
-use Rattle.lift_ir.specs.Layouts.{Layout, Split, Join, Transpose, Slide, Pad, Reshapes}
+use Rattle.lift_ir.specs.Layouts.{Layout, Split, Join, Transpose, Reverse, Slide, Pad, Reshapes}
 use Rattle.lift_ir.specs.Terms.{LoadSet, Skip, Take, Each, Term, Literal, Bound, Source, Apply, ApplyNumber, Select, Both, Project, Reshape, LetArray, LetElement, Map, Fold, Store, Copy, LoadsScalars, push, HasType}
 use Rattle.group_form.specs.Named.{Component, whole, components_of, beneath, outside, ways, onward, taken, named, element_ways, named_outside, ends, cut}
 use Rattle.group_form.proofs.Lists.{among_left, among_right, among_map}
@@ -191,6 +191,8 @@ module _ {A : Type 0} (num : A → ℕ) where
       let i = k.3 in
       let same : v ≡ ArrayOf n (ArrayOf m i.1) = k.2 ∙ ap (ArrayOf n) i.2 in
       (ArrayOf m (ArrayOf n i.1), subst (λ z. Reshapes num Transpose z (ArrayOf m (ArrayOf n i.1))) (sym same) (r.0, refl), subst (λ z. KeepsIn z W (ArrayOf m (ArrayOf n i.1))) (sym r.1) (keeps_array m (ArrayOf n x) (ArrayOf n i.1) W (keeps_array n x i.1 W i.3)))
+  reshape_keeps (Reverse j) (ArrayOf n x) t v W r k =
+      (ArrayOf n k.1, subst (λ z. Reshapes num (Reverse j) z (ArrayOf n k.1)) (sym k.2) (r.0, refl), subst (λ z. KeepsIn z W (ArrayOf n k.1)) (sym r.1) (keeps_array n x k.1 W k.3))
   reshape_keeps (Slide s j) (ArrayOf n x) t v W r k =
       let rows = (n - s) / j + 1 in
       (ArrayOf rows (ArrayOf s k.1), subst (λ z. Reshapes num (Slide s j) z (ArrayOf rows (ArrayOf s k.1))) (sym k.2) (r.0, r.1, r.2, refl), subst (λ z. KeepsIn z W (ArrayOf rows (ArrayOf s k.1))) (sym r.3) (keeps_array rows (ArrayOf s x) (ArrayOf s k.1) W (keeps_array s x k.1 W k.3)))

@@ -243,7 +243,7 @@ inputs_placed num (a ∷ tys) all z (suc v) = inputs_placed num tys all.1 z v
 pub group_programs_are_printed : GroupProgramsArePrinted
 group_programs_are_printed d is_task bases t a l spell fence program launch staged placed spelled needed =
     let num = length_at bases in
-    let low = lowered_root t a in
+    let low = lowered_root d.names t a in
     let same = shape_is bases (type_in a) in
     record {
       inputs = refl;

@@ -49,7 +49,7 @@ module _ (d : Declared) (is_task : Bool) (w : World) (t : Tree) (a : Annotation)
   sources v = scalars_in (src v) (nth w.inputs v)
 
   abbrev low : Lowered
-  low = lowered_root t a
+  low = lowered_root d.names t a
 
   lowers : Lowers num w 0 (length d.inputs) t low
   lowers = lowers_is d w ok program.lowerable.declared.few t Written [] a 0 refl program.lowerable.nodes program.lowerable.lowerable
@@ -83,9 +83,9 @@ module _ (d : Declared) (is_task : Bool) (w : World) (t : Tree) (a : Annotation)
     inputs = input_given d w program.lowerable.declared ok c buffers.inputs;
   }
 
-  keeps : NeededGroupsKeep (List Monomial) → EveryRunKeeps k l c (cell_owner w.bases l t a) (launches.lists_of (type_in a) (meaning w [] t))
+  keeps : NeededGroupsKeep (List Monomial) → EveryRunKeeps k l c (cell_owner d.names w.bases l t a) (launches.lists_of (type_in a) (meaning w [] t))
   keeps keep =
-      subst (EveryRunKeeps k l c (cell_owner w.bases l t a)) (sym (same_lists w.bases (type_in a) (meaning w [] t)))
+      subst (EveryRunKeeps k l c (cell_owner d.names w.bases l t a)) (sym (same_lists w.bases (type_in a) (meaning w [] t)))
       (keep num l w t (length d.inputs) src (input_marks num (first_buffer d.inputs) (input_shape d.inputs)) sources printed.fence low result k c lowers given is_printed printed.needed)
 
   serves : SeparatedGroupsServe (List Monomial) → NeededKeepApart (List Monomial) → (filler : Cell → ℕ) × BarriersServeAll k l c filler

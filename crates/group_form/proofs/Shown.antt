@@ -7,7 +7,7 @@ use Rattle.kernel_tree.specs.Formula.{Formula, Variable, LoopVariable}
 use Rattle.kernel_tree.specs.Code.{Array, Code, Loads}
 use Rattle.kernel_tree.specs.Launch.{Launch}
 use Rattle.lift_ir.specs.Types.{Ty, Scalar, PairOf, ArrayOf, IsPosition, IsShort}
-use Rattle.lift_ir.specs.Layouts.{HasWordStep, Layout, Split, Join, Transpose, Slide, Pad, operand_position, Reshapes, result_position, IsInvertible}
+use Rattle.lift_ir.specs.Layouts.{HasWordStep, Layout, Split, Join, Transpose, Reverse, Slide, Pad, operand_position, Reshapes, result_position, IsInvertible}
 use Rattle.lift_ir.specs.Loads.{covers}
 use Rattle.lift_ir.specs.Terms.{LoadSet, Skip, Take, Each, LoadsScalars, push}
 use Rattle.lift_ir.specs.Scalars.{by_side, at_index}
@@ -114,6 +114,7 @@ module _ (l : Launch) (item : ℕ) {A : Type 0} (num : A → ℕ) (spell : A →
   moved_shows ts (Split m) (ArrayOf n t) u x e sp rel st su h = cells_show l item ts u _ _ (moved_cells ts (Split m) (ArrayOf n t) u x e sp rel st su h)
   moved_shows ts (Join m) (ArrayOf n (ArrayOf k t)) u x e sp rel st su h = cells_show l item ts u _ _ (moved_cells ts (Join m) (ArrayOf n (ArrayOf k t)) u x e sp rel st su h)
   moved_shows ts Transpose (ArrayOf n (ArrayOf m t)) u x e sp rel st su h = cells_show l item ts u _ _ (moved_cells ts Transpose (ArrayOf n (ArrayOf m t)) u x e sp rel st su h)
+  moved_shows ts (Reverse k) (ArrayOf n t) u x e sp rel st su h = cells_show l item ts u _ _ (moved_cells ts (Reverse k) (ArrayOf n t) u x e sp rel st su h)
   moved_shows ts (Slide s k) (ArrayOf n t) u x e sp rel st su h = cells_show l item ts u _ _ (moved_cells ts (Slide s k) (ArrayOf n t) u x e sp rel st su h)
   moved_shows ts (Pad a b k) (ArrayOf n t) u x e sp rel st su h = cells_show l item ts u _ _ (moved_cells ts (Pad a b k) (ArrayOf n t) u x e sp rel st su h)
   moved_shows ts _ t u x e sp rel st su h = absurd (assumption)

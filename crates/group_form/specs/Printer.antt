@@ -119,14 +119,14 @@ printed_group_kernel spell fence d t a = record {
   inputs = buffer_count d.inputs;
   outputs = width (shape_of (type_in a));
   sizes = length d.names;
-  locals = copy_lengths LocalMemory (lowered_root t a);
-  privates = copy_lengths PrivateMemory (lowered_root t a);
-  variables = variable_count (lowered_root t a);
+  locals = copy_lengths LocalMemory (lowered_root d.names t a);
+  privates = copy_lengths PrivateMemory (lowered_root d.names t a);
+  variables = variable_count (lowered_root d.names t a);
   vectors = 0;
   local = None;
   code =
       group_kernel_code spell (first_buffer d.inputs) (input_shape d.inputs) fence
-      (lowered_root t a) (shape_of (type_in a));
+      (lowered_root d.names t a) (shape_of (type_in a));
 }
 
 -- with the needed barriers it is printed for the term, at each admissible launch
@@ -136,5 +136,5 @@ GroupProgramsArePrinted =
     (spell : List Monomial → Formula) (fence : ℕ → Fencing)
     → IsGroupProgram d bases t a → IsLaunchOf d is_task bases l → IsStaged Written t a
     → FitsBuffers d bases a → IsSpelling spell bases l
-    → Needed (group_touches (lowered_root t a)) (phase_count (lowered_root t a)) fence
+    → Needed (group_touches (lowered_root d.names t a)) (phase_count (lowered_root d.names t a)) fence
     → PrintsGroups d bases t a l (printed_group_kernel spell fence d t a)

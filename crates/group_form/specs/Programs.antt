@@ -32,21 +32,21 @@ pub record PrintsGroups (d : Declared) (bases : List ℕ) (t : Tree) (a : Annota
   pub inputs : k.inputs ≡ buffer_count d.inputs
   pub outputs : k.outputs ≡ width (shape_of (type_in a))
   pub sizes : k.sizes ≡ length d.names
-  pub locals : k.locals ≡ copy_lengths LocalMemory (lowered_root t a)
-  pub privates : k.privates ≡ copy_lengths PrivateMemory (lowered_root t a)
-  pub variables : k.variables ≡ variable_count (lowered_root t a)
+  pub locals : k.locals ≡ copy_lengths LocalMemory (lowered_root d.names t a)
+  pub privates : k.privates ≡ copy_lengths PrivateMemory (lowered_root d.names t a)
+  pub variables : k.variables ≡ variable_count (lowered_root d.names t a)
   pub vectors : k.vectors ≡ 0
   pub local : k.local ≡ None
   pub fence : ℕ → Fencing
-  pub needed : Needed (group_touches (lowered_root t a)) (phase_count (lowered_root t a)) fence
+  pub needed : Needed (group_touches (lowered_root d.names t a)) (phase_count (lowered_root d.names t a)) fence
   pub code : IsOverGroups (length_at bases) l
       (input_marks (length_at bases) (first_buffer d.inputs) (input_shape d.inputs)) fence no_marks
-      (lowered_root t a) (output_marks (ty_at bases (type_in a))) k.code
+      (lowered_root d.names t a) (output_marks (ty_at bases (type_in a))) k.code
 
 -- a typed term of a program that can be lowered, and is a map over groups
 pub record IsGroupProgram (d : Declared) (bases : List ℕ) (t : Tree) (a : Annotation) : Type 0 where
   pub lowerable : IsLowerableProgram d bases t a
-  pub stands : StandsOverGroups (lowered_root t a)
+  pub stands : StandsOverGroups (lowered_root d.names t a)
 
 -- at each admissible launch, on all inputs, every run keeps what the kernel owes, with the source
 -- value
@@ -56,7 +56,7 @@ PrintedGroupProgramsKeep =
     (k : Kernel) (c : Cells)
     → IsGroupProgram d w.bases t a → IsAdmissible d w → IsLaunchOf d is_task w.bases l
     → AreBuffersOf d w t a c → PrintsGroups d w.bases t a l k
-    → EveryRunKeeps k l c (cell_owner w.bases l t a) (lists_of (type_in a) (meaning w [] t))
+    → EveryRunKeeps k l c (cell_owner d.names w.bases l t a) (lists_of (type_in a) (meaning w [] t))
 
 -- its barriers serve
 abbrev pub PrintedGroupProgramsServe : Type 0

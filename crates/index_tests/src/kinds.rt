@@ -7,6 +7,7 @@ ghost use Rattle.lift_ir.specs.Types.{width};
 
 use array_views::{Access, ArrayKind, IndexStack, PairStack, View};
 use index_expr::{Index, Operation};
+use lift_tree::layout::Layout;
 use lift_tree::length::Product;
 use lift_tree::term::UnaryForm;
 use lift_tree::ty::Ty;
@@ -19,6 +20,7 @@ pub enum Form {
     Split,
     Join,
     Transpose,
+    Reverse,
     Slide(u32, u32),
     Pad(u32, u32),
 }
@@ -26,9 +28,10 @@ pub enum Form {
 impl Form {
     pub fn unary(self, alloc: Global) -> UnaryForm {
         match self {
-            Form::Split => UnaryForm::Split(Product::new(Vec::new(alloc))),
-            Form::Join => UnaryForm::Join,
-            Form::Transpose => UnaryForm::Transpose,
+            Form::Split => UnaryForm::Layout(Layout::Split(Product::new(Vec::new(alloc)))),
+            Form::Join => UnaryForm::Layout(Layout::Join),
+            Form::Transpose => UnaryForm::Layout(Layout::Transpose),
+            Form::Reverse => UnaryForm::Layout(Layout::Reverse),
             Form::Slide(size, step) => UnaryForm::Slide(size, step),
             Form::Pad(left, right) => UnaryForm::Pad(left, right),
         }

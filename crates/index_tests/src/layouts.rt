@@ -6,7 +6,7 @@ use std::alloc::{AllocError, Global};
 use std::test::Fail;
 
 // An array's lengths, the layouts through which it is read, each with the lengths of what it makes, and the cells of the last one's scalars in row-major order.
-const READ: [(&[u32], &[(Form, &[u32])], &[u64]); 10] = [
+const READ: [(&[u32], &[(Form, &[u32])], &[u64]); 14] = [
     (&[6], &[(Form::Split, &[3, 2])], &[0, 1, 2, 3, 4, 5]),
     (&[2, 3], &[(Form::Join, &[6])], &[0, 1, 2, 3, 4, 5]),
     (&[2, 3], &[(Form::Transpose, &[3, 2])], &[0, 3, 1, 4, 2, 5]),
@@ -16,6 +16,29 @@ const READ: [(&[u32], &[(Form, &[u32])], &[u64]); 10] = [
         &[0, 1, 2, 2, 3, 4, 4, 5, 6],
     ),
     (&[3], &[(Form::Pad(2, 1), &[6])], &[0, 0, 0, 1, 2, 2]),
+    (&[3], &[(Form::Reverse, &[3])], &[2, 1, 0]),
+    (&[2, 3], &[(Form::Reverse, &[2, 3])], &[3, 4, 5, 0, 1, 2]),
+    // A stride of 2.
+    (
+        &[6],
+        &[
+            (Form::Split, &[3, 2]),
+            (Form::Transpose, &[2, 3]),
+            (Form::Join, &[6]),
+        ],
+        &[0, 2, 4, 1, 3, 5],
+    ),
+    // The same turned round.
+    (
+        &[6],
+        &[
+            (Form::Split, &[3, 2]),
+            (Form::Transpose, &[2, 3]),
+            (Form::Join, &[6]),
+            (Form::Reverse, &[6]),
+        ],
+        &[5, 3, 1, 4, 2, 0],
+    ),
     (
         &[3],
         &[(Form::Pad(1, 1), &[5]), (Form::Slide(3, 1), &[3, 3])],
@@ -48,10 +71,23 @@ const READ: [(&[u32], &[(Form, &[u32])], &[u64]); 10] = [
 ];
 
 // The lengths of an array that is written, the layouts from it inwards, each with the lengths of its operand, and the cells of the innermost operand's scalars.
-const WRITTEN: [(&[u32], &[(Form, &[u32])], &[u64]); 6] = [
+const WRITTEN: [(&[u32], &[(Form, &[u32])], &[u64]); 9] = [
     (&[2, 3], &[(Form::Split, &[6])], &[0, 1, 2, 3, 4, 5]),
     (&[6], &[(Form::Join, &[2, 3])], &[0, 1, 2, 3, 4, 5]),
     (&[3, 2], &[(Form::Transpose, &[2, 3])], &[0, 2, 4, 1, 3, 5]),
+    // Item 0 of 2 writes the first and the third, to the cells 2 and 0.
+    (&[3], &[(Form::Reverse, &[3])], &[2, 1, 0]),
+    (&[2, 3], &[(Form::Reverse, &[2, 3])], &[3, 4, 5, 0, 1, 2]),
+    // A stride of 2.
+    (
+        &[6],
+        &[
+            (Form::Join, &[2, 3]),
+            (Form::Transpose, &[3, 2]),
+            (Form::Split, &[6]),
+        ],
+        &[0, 3, 1, 4, 2, 5],
+    ),
     (
         &[6],
         &[(Form::Join, &[3, 2]), (Form::Transpose, &[2, 3])],

@@ -39,7 +39,7 @@ fn spelled(alloc: Global, view: &View, dimensions: u32) -> Result<String, AllocE
 }
 
 // An array's lengths, the layouts through which it is read, each with the lengths of what it makes, how many dimensions the last one has, and the index.
-const READ: [(&[u32], &[(Form, &[u32])], u32, &str); 14] = [
+const READ: [(&[u32], &[(Form, &[u32])], u32, &str); 16] = [
     (&[7], &[], 1, "i0"),
     (&[2, 3, 4], &[], 3, "((((i0 * 3) + i1) * 4) + i2)"),
     (&[12], &[(Form::Split, &[3, 4])], 2, "((i0 * 4) + i1)"),
@@ -56,6 +56,13 @@ const READ: [(&[u32], &[(Form, &[u32])], u32, &str); 14] = [
         &[(Form::Pad(1, 2), &[8])],
         1,
         "min((max(i0, 1) - 1), (5 - 1))",
+    ),
+    (&[5], &[(Form::Reverse, &[5])], 1, "((5 - 1) - i0)"),
+    (
+        &[5],
+        &[(Form::Reverse, &[5]), (Form::Reverse, &[5])],
+        1,
+        "((5 - 1) - ((5 - 1) - i0))",
     ),
     (
         &[5],
@@ -116,7 +123,7 @@ const READ: [(&[u32], &[(Form, &[u32])], u32, &str); 14] = [
 ];
 
 // The same for an array that is written through layouts, each with the lengths of its operand.
-const WRITTEN: [(&[u32], &[(Form, &[u32])], u32, &str); 4] = [
+const WRITTEN: [(&[u32], &[(Form, &[u32])], u32, &str); 6] = [
     (
         &[3, 4],
         &[(Form::Split, &[12])],
@@ -125,6 +132,18 @@ const WRITTEN: [(&[u32], &[(Form, &[u32])], u32, &str); 4] = [
     ),
     (&[12], &[(Form::Join, &[3, 4])], 2, "((i0 * 4) + i1)"),
     (&[3, 2], &[(Form::Transpose, &[2, 3])], 2, "((i1 * 2) + i0)"),
+    (&[5], &[(Form::Reverse, &[5])], 1, "((5 - 1) - i0)"),
+    // A stride of 4.
+    (
+        &[12],
+        &[
+            (Form::Join, &[4, 3]),
+            (Form::Transpose, &[3, 4]),
+            (Form::Split, &[12]),
+        ],
+        1,
+        "(((i0 % 4) * 3) + (i0 / 4))",
+    ),
     (
         &[12],
         &[(Form::Join, &[3, 4]), (Form::Split, &[12])],

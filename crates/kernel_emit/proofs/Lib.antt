@@ -1,8 +1,7 @@
-pub mod Rows
-pub mod Blocks
-pub mod Scopes
-pub mod Sizes
-pub mod Lists
-pub mod Copies
-pub mod Kernels
-pub mod Written
+pub mod Printing
+pub mod Told
+pub mod Tidied
+pub mod Giving
+pub mod Short
+pub mod Made
+pub mod Lengths

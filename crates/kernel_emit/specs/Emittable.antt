@@ -1,19 +1,14 @@
--- Which terms a kernel can be made of.
-use Rattle.std.specs.Prelude.{◌≡◌, true, map}
+-- Plans of which a kernel can be made.
+use Rattle.std.specs.Prelude.{◌≡◌, ◌<◌, ◌^◌, true, length}
 use Rattle.kernel_tree.specs.Grammar.{is_kernel}
-use Rattle.lift_tree.specs.Annotations.{Annotation}
-use Rattle.lift_tree.specs.Tree.{Tree}
-use Rattle.lift_tree.specs.Types.{ty_of}
-use Rattle.lift_tree.specs.Typing.{Declared}
-use Rattle.lowered_tree.specs.declared.lowered.Lowered.{Lowered}
-use Rattle.printed_form.specs.Programs.{lowered_root, printed_kernel}
-use Rattle.length_spelling.specs.Formulas.{length_formula}
-use Rattle.kernel_emit.specs.Copies.{HasShortCopies}
+use Rattle.lowering.specs.Terms.{term_of}
+use Rattle.item_emit.specs.Copies.{HasShortCopies}
+use Rattle.phase_plan.specs.declared.planned.Plan.{Plan}
+use Rattle.kernel_emit.specs.Plans.{printed_for}
 
-abbrev pub declared_of : Lowered → Declared
-declared_of l = record { names = l.names; inputs = map ty_of l.inputs.items }
-
--- what the printer makes of it is of the kernel grammar, and its copies are of words
-pub record IsEmittable (d : Declared) (t : Tree) (a : Annotation) : Type 0 where
-  pub grammar : is_kernel (printed_kernel (length_formula d.names) d t a) ≡ true
-  pub copies : HasShortCopies (lowered_root t a)
+-- what is printed is of the kernel grammar, with few arrays, and the copies are of words
+pub record IsEmittable (plan : Plan) : Type 0 where
+  pub grammar : is_kernel (printed_for plan) ≡ true
+  pub copies : HasShortCopies (term_of plan.root)
+  pub locals : length plan.buffers.now.local.items < 2 ^ 32
+  pub privates : length plan.buffers.now.private.items < 2 ^ 32

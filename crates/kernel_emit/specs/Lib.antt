@@ -1,7 +1,4 @@
-pub mod Blocks
-pub mod Scopes
-pub mod Parts
-pub mod Copies
-pub mod Inputs
+pub mod Plans
+pub mod Kernels
+pub mod Laws
 pub mod Emittable
-pub mod Nodes

@@ -1,14 +1,7 @@
-//! The kernel of a lowered term that one work-item runs, or a map over the launch. The parts of which it is made are public for kernels of maps over work-groups.
+//! The kernel of a plan: printed as its kind says, with simplified indices and bounds. It is the
+//! term's in every run, and its barriers serve.
 #![tactic(auto)]
 
-pub mod accesses;
-pub mod arguments;
-pub mod block;
-pub mod counts;
-pub mod elements;
-pub mod expressions;
-pub mod kernel;
+pub mod emit;
 pub mod laws;
-pub mod lengths;
-pub mod scope;
-pub mod statements;
+mod printed;

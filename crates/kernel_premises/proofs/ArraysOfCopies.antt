@@ -2,6 +2,7 @@
 use Rattle.std.proofs.Common.{◌≡◌, ◌∙◌, ℕ, Bool, true, false, List, [], ◌++◌, refl, sym, ap, subst, inl, inr}
 use Rattle.std.specs.Prelude.{if◌then◌else◌}
 use Rattle.std.proofs.lemmas.List.{append-nil}
+use Rattle.size_arith.specs.declared.names.Name.{Name}
 use Rattle.size_arith.specs.declared.poly.Monomial.{Monomial}
 use Rattle.lift_tree.specs.declared.term.UnaryForm.TheVariants as unary
 use Rattle.lift_tree.specs.declared.term.BinaryForm.TheVariants as binary
@@ -16,6 +17,7 @@ use Rattle.buffer_allocation.specs.Copies.{copies}
 use Rattle.buffer_allocation.specs.declared.copies.Memory.{Memory}
 use Rattle.printed_form.specs.Counts.{copy_lengths}
 use Rattle.printed_form.specs.Sound.{IsSound}
+use Rattle.lift_ir.proofs.Reshaped.{below_layout, through_layout}
 use Rattle.lift_ir.proofs.Lets.{written_let, argument_let}
 use Rattle.kernel_premises.specs.Arrays.{space_of}
 use Rattle.kernel_premises.proofs.ArrayLengths.{local_kept, private_kept}
@@ -27,17 +29,17 @@ joined xs us ys vs e f = ap (λ z. z ++ ys) e ∙ ap (λ z. us ++ z) f
 abbrev let_by : PlainTy → PlainTy → (x y : Bool) → (v b : Bool → Lowered) → Lowered
 let_by a c x y v b = let whole = if y then LetElement (element_ty c) (v y) (b x) else LetArray (v y) (b x) in if x then Store (element_ty a) whole else whole
 
-module _ (v b : Tree) (a : PlainTy) (n m : Annotation) where
+module _ (names : List Name) (v b : Tree) (a : PlainTy) (n m : Annotation) where
   abbrev value : Bool → Lowered
-  value y = lower (if y then Element else Argument) v n
+  value y = lower names (if y then Element else Argument) v n
 
   abbrev body : Bool → Lowered
-  body x = lower (if x then Element else Written) b m
+  body x = lower names (if x then Element else Written) b m
 
-  let_stored : is_element a ≡ true → lower Written (tree.Let v b) (Two a n m) ≡ Store (element_ty a) (if is_element (type_in n) then LetElement (element_ty (type_in n)) (value (is_element (type_in n))) (lower Element b m) else LetArray (value (is_element (type_in n))) (lower Element b m))
+  let_stored : is_element a ≡ true → lower names Written (tree.Let v b) (Two a n m) ≡ Store (element_ty a) (if is_element (type_in n) then LetElement (element_ty (type_in n)) (value (is_element (type_in n))) (lower names Element b m) else LetArray (value (is_element (type_in n))) (lower names Element b m))
   let_stored e = ap (λ x. let_by a (type_in n) x (is_element (type_in n)) value body) e
 
-  let_set : is_element a ≡ false → is_element (type_in n) ≡ true → lower Written (tree.Let v b) (Two a n m) ≡ LetElement (element_ty (type_in n)) (lower Element v n) (lower Written b m)
+  let_set : is_element a ≡ false → is_element (type_in n) ≡ true → lower names Written (tree.Let v b) (Two a n m) ≡ LetElement (element_ty (type_in n)) (lower names Element v n) (lower names Written b m)
   let_set e f = ap (λ x. let_by a (type_in n) x (is_element (type_in n)) value body) e ∙ ap (λ y. let_by a (type_in n) false y value body) f
 
 module _ (m : Memory) where
@@ -55,7 +57,7 @@ module _ (m : Memory) where
   none (tree.Let v b) (Two a n k) o = joined (copies m v n) [] (copies m b k) [] (none v n o.1) (none b k o.2)
   none _ _ o = absurd o
 
-  module _ (P : List Monomial → Type 0) (Q : ℕ → Type 0) where
+  module _ (names : List Name) (P : List Monomial → Type 0) (Q : ℕ → Type 0) where
     abbrev Sound : Lowered → Type 0
     Sound t = IsSound P Q t
 
@@ -63,16 +65,16 @@ module _ (m : Memory) where
     arrays t = copy_lengths (space_of m) t
 
     mutual
-      pub written_arrays : (t : Tree) (n : Annotation) → IsStaged Written t n → Sound (lower Written t n) → copies m t n ≡ arrays (lower Written t n)
+      pub written_arrays : (t : Tree) (n : Annotation) → IsStaged Written t n → Sound (lower names Written t n) → copies m t n ≡ arrays (lower names Written t n)
       written_arrays (tree.Variable v) (Leaf a) o s = refl
       written_arrays (tree.Number v) (Leaf a) o s = refl
       written_arrays (tree.Unary (unary.Div j) t) (One a n) o s = ap (λ z. z ++ []) (none t n o)
       written_arrays (tree.Unary (unary.Rem j) t) (One a n) o s = ap (λ z. z ++ []) (none t n o)
       written_arrays (tree.Unary unary.First t) (One a n) o s = ap (λ z. z ++ []) (none t n o)
       written_arrays (tree.Unary unary.Second t) (One a n) o s = ap (λ z. z ++ []) (none t n o)
-      written_arrays (tree.Unary unary.Join t) (One a n) o s = append-nil (copies m t n) ∙ written_arrays t n o s.1
-      written_arrays (tree.Unary unary.Transpose t) (One a n) o s = append-nil (copies m t n) ∙ written_arrays t n o s.1
-      written_arrays (tree.Unary (unary.Split fs) t) (One a n) o s = append-nil (copies m t n) ∙ written_arrays t n o s.1
+      written_arrays (tree.Unary (unary.Layout l) t) (One a n) o s =
+          through_layout (λ u. copies m (tree.Unary (unary.Layout l) t) (One a n) ≡ arrays u) (λ y u i k. k) names Written l a (type_in n) _
+          (append-nil (copies m t n) ∙ written_arrays t n o (below_layout Sound (λ y u k. k.1) names Written l a (type_in n) _ s))
       written_arrays (tree.Unary (unary.Slide j l) t) (One a n) o s = append-nil (copies m t n) ∙ written_arrays t n o s.1
       written_arrays (tree.Unary (unary.Pad j l) t) (One a n) o s = append-nil (copies m t n) ∙ written_arrays t n o s.1
       written_arrays (tree.Binary (binary.Operator q) t u) (Two a n k) o s = joined (copies m t n) [] (copies m u k) [] (none t n o.0) (none u k o.1)
@@ -80,35 +82,35 @@ module _ (m : Memory) where
       written_arrays (tree.Select t u x) (Three a n k l) o s =
           joined (copies m t n) [] (copies m u k ++ copies m x l) [] (none t n o.0) (joined (copies m u k) [] (copies m x l) [] (none u k o.1) (none x l o.2))
       written_arrays (tree.Let v b) (Two a n k) (inl o) s =
-          joined (copies m v n) [] (copies m b k) [] (none v n o.2) (none b k o.3) ∙ sym (ap arrays (let_stored v b a n k o.0))
+          joined (copies m v n) [] (copies m b k) [] (none v n o.2) (none b k o.3) ∙ sym (ap arrays (let_stored names v b a n k o.0))
       written_arrays (tree.Let v b) (Two a n k) (inr (inl o)) s =
-          let shape = let_set v b a n k o.0 o.1 in
+          let shape = let_set names v b a n k o.0 o.1 in
           let h = subst Sound shape s in
-          joined (copies m v n) [] (copies m b k) (arrays (lower Written b k)) (none v n o.2) (written_arrays b k o.3 h.1) ∙ sym (ap arrays shape)
+          joined (copies m v n) [] (copies m b k) (arrays (lower names Written b k)) (none v n o.2) (written_arrays b k o.3 h.1) ∙ sym (ap arrays shape)
       written_arrays (tree.Let v b) (Two a n k) (inr (inr o)) s =
-          let shape = written_let v b a n k o.0 o.1 in
+          let shape = written_let names v b a n k o.0 o.1 in
           let h = subst Sound shape s in
-          joined (copies m v n) (arrays (lower Argument v n)) (copies m b k) (arrays (lower Written b k)) (argument_arrays v n o.2 h.0) (written_arrays b k o.3 h.1) ∙ sym (ap arrays shape)
-      written_arrays (tree.Map j xs b) (Two a n k) o s = joined (copies m xs n) (arrays (lower Argument xs n)) (copies m b k) (arrays (lower Written b k)) (argument_arrays xs n o.0 s.1) (written_arrays b k o.1 s.2)
+          joined (copies m v n) (arrays (lower names Argument v n)) (copies m b k) (arrays (lower names Written b k)) (argument_arrays v n o.2 h.0) (written_arrays b k o.3 h.1) ∙ sym (ap arrays shape)
+      written_arrays (tree.Map j xs b) (Two a n k) o s = joined (copies m xs n) (arrays (lower names Argument xs n)) (copies m b k) (arrays (lower names Written b k)) (argument_arrays xs n o.0 s.1) (written_arrays b k o.1 s.2)
       written_arrays (tree.Fold j xs x b) (Three a n k l) o s =
-          joined (copies m xs n) (arrays (lower Argument xs n)) (copies m x k ++ copies m b l) [] (argument_arrays xs n o.0 s.2) (joined (copies m x k) [] (copies m b l) [] (none x k o.1) (none b l o.2)) ∙ append-nil (arrays (lower Argument xs n))
+          joined (copies m xs n) (arrays (lower names Argument xs n)) (copies m x k ++ copies m b l) [] (argument_arrays xs n o.0 s.2) (joined (copies m x k) [] (copies m b l) [] (none x k o.1) (none b l o.2)) ∙ append-nil (arrays (lower names Argument xs n))
       written_arrays _ _ o s = absurd o
 
-      pub argument_arrays : (t : Tree) (n : Annotation) → IsStaged Argument t n → Sound (lower Argument t n) → copies m t n ≡ arrays (lower Argument t n)
+      pub argument_arrays : (t : Tree) (n : Annotation) → IsStaged Argument t n → Sound (lower names Argument t n) → copies m t n ≡ arrays (lower names Argument t n)
       argument_arrays (tree.Variable v) (Leaf a) o s = refl
       argument_arrays (tree.Input i) (Leaf a) o s = refl
       argument_arrays (tree.Unary unary.First t) (One a n) o s = append-nil (copies m t n) ∙ argument_arrays t n o s
       argument_arrays (tree.Unary unary.Second t) (One a n) o s = append-nil (copies m t n) ∙ argument_arrays t n o s
-      argument_arrays (tree.Unary unary.Join t) (One a n) o s = append-nil (copies m t n) ∙ argument_arrays t n o s.1
-      argument_arrays (tree.Unary unary.Transpose t) (One a n) o s = append-nil (copies m t n) ∙ argument_arrays t n o s.1
-      argument_arrays (tree.Unary (unary.Split fs) t) (One a n) o s = append-nil (copies m t n) ∙ argument_arrays t n o s.1
+      argument_arrays (tree.Unary (unary.Layout l) t) (One a n) o s =
+          through_layout (λ u. copies m (tree.Unary (unary.Layout l) t) (One a n) ≡ arrays u) (λ y u i k. k) names Argument l a (type_in n) _
+          (append-nil (copies m t n) ∙ argument_arrays t n o (below_layout Sound (λ y u k. k.1) names Argument l a (type_in n) _ s))
       argument_arrays (tree.Unary (unary.Slide j l) t) (One a n) o s = append-nil (copies m t n) ∙ argument_arrays t n o s.1
       argument_arrays (tree.Unary (unary.Pad j l) t) (One a n) o s = append-nil (copies m t n) ∙ argument_arrays t n o s.1
-      argument_arrays (tree.Unary unary.ToLocal t) (One a n) o s = joined (copies m t n) (arrays (lower Written t n)) _ _ (written_arrays t n o.3 s.2) (local_kept a s.0 s.4 m)
-      argument_arrays (tree.Unary unary.ToPrivate t) (One a n) o s = joined (copies m t n) (arrays (lower Written t n)) _ _ (written_arrays t n o.3 s.2) (private_kept a s.0 s.4 m)
-      argument_arrays (tree.Binary binary.Zip t u) (Two a n k) o s = joined (copies m t n) (arrays (lower Argument t n)) (copies m u k) (arrays (lower Argument u k)) (argument_arrays t n o.0 s.0) (argument_arrays u k o.1 s.1)
+      argument_arrays (tree.Unary unary.ToLocal t) (One a n) o s = joined (copies m t n) (arrays (lower names Written t n)) _ _ (written_arrays t n o.3 s.2) (local_kept a s.0 s.4 m)
+      argument_arrays (tree.Unary unary.ToPrivate t) (One a n) o s = joined (copies m t n) (arrays (lower names Written t n)) _ _ (written_arrays t n o.3 s.2) (private_kept a s.0 s.4 m)
+      argument_arrays (tree.Binary binary.Zip t u) (Two a n k) o s = joined (copies m t n) (arrays (lower names Argument t n)) (copies m u k) (arrays (lower names Argument u k)) (argument_arrays t n o.0 s.0) (argument_arrays u k o.1 s.1)
       argument_arrays (tree.Let v b) (Two a n k) o s =
-          let shape = argument_let v b a n k o.0 in
+          let shape = argument_let names v b a n k o.0 in
           let h = subst Sound shape s in
-          joined (copies m v n) (arrays (lower Argument v n)) (copies m b k) (arrays (lower Argument b k)) (argument_arrays v n o.1 h.0) (argument_arrays b k o.2 h.1) ∙ sym (ap arrays shape)
+          joined (copies m v n) (arrays (lower names Argument v n)) (copies m b k) (arrays (lower names Argument b k)) (argument_arrays v n o.1 h.0) (argument_arrays b k o.2 h.1) ∙ sym (ap arrays shape)
       argument_arrays _ _ o s = absurd o

@@ -24,7 +24,7 @@ use Rattle.kernel_premises.proofs.ArrayLengths.{no_more}
 use Rattle.kernel_premises.proofs.ArraysOfCopies.{written_arrays}
 
 pub allocated_are_declared : AllocatedAreDeclared
-allocated_are_declared d t n o sound m = written_arrays m IsHeld (λ s. s < length d.inputs) t n o sound.parts
+allocated_are_declared d t n o sound m = written_arrays m d.names IsHeld (λ s. s < length d.inputs) t n o sound.parts
 
 not_passed : (b : Bool) (x : AllocLimit × ℕ) (rest : Option (AllocLimit × ℕ)) → (if b then Some x else rest) ≡ None → (b ≡ false) × (rest ≡ None)
 not_passed true x rest e = absurd (cc)
@@ -47,6 +47,6 @@ declared_are_few declared spelled d t n o sound e =
     let priv = within limit.Private t n _ loc.1 in
     let bytes = subst (λ z. 4 * sum z ≤ 32768) (allocated_are_declared d t n o sound Local) (not_held (4 * sum (copies Local t n)) 32768 (omega arith) loc.0) in
     let cells = subst (λ z. sum z ≤ 256) (allocated_are_declared d t n o sound Private) (not_held (sum (copies Private t n)) 256 (omega arith) priv.0) in
-    let locals = no_more (copy_lengths LocalMemory (lowered_root t n)) (declared k (length_formula d.names) length_height d LocalMemory (lowered_root t n) parts) in
-    let privates = no_more (copy_lengths PrivateMemory (lowered_root t n)) (declared k (length_formula d.names) length_height d PrivateMemory (lowered_root t n) parts) in
+    let locals = no_more (copy_lengths LocalMemory (lowered_root d.names t n)) (declared k (length_formula d.names) length_height d LocalMemory (lowered_root d.names t n) parts) in
+    let privates = no_more (copy_lengths PrivateMemory (lowered_root d.names t n)) (declared k (length_formula d.names) length_height d PrivateMemory (lowered_root d.names t n) parts) in
     record { bytes = bytes; cells = cells; locals = omega (arith, bytes, locals); privates = omega (arith, cells, privates) }

@@ -29,7 +29,7 @@ enough_locals counted _ st = absurd st
 pub group_kernels_are_of_the_grammar : ViewsStayWithin → LoopsAreOfTheGrammar → TermsArePrintedWithin → LocalArraysAreCounted (List Monomial) → GroupKernelsAreOfTheGrammar
 group_kernels_are_of_the_grammar stay loops printed counted spell fence S M d t a h =
     let k = printed_group_kernel spell fence d t a in
-    let r = lowered_root t a in
+    let r = lowered_root d.names t a in
     let ty = shape_of (type_in a) in
     let w = placed_view spell Output 0 ty in
     let room : HasRoomFor k S M d = record { some = h.some; fits = h.fits; inputs = refl } in

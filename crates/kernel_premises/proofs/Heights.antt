@@ -1,6 +1,7 @@
 -- How deep a lowered term nests, by the height of the term.
-use Rattle.std.proofs.Common.{ℕ, ◌+◌, ◌≤◌, Bool, true, false, arith}
+use Rattle.std.proofs.Common.{ℕ, ◌+◌, ◌≤◌, Bool, true, false, List, arith}
 use Rattle.std.specs.Prelude.{max, if◌then◌else◌}
+use Rattle.size_arith.specs.declared.names.Name.{Name}
 use Rattle.lift_tree.specs.declared.term.UnaryForm.{UnaryForm}
 use Rattle.lift_tree.specs.declared.term.UnaryForm.TheVariants as unary
 use Rattle.lift_tree.specs.declared.term.BinaryForm.{BinaryForm}
@@ -11,6 +12,7 @@ use Rattle.lift_tree.specs.Types.{PlainTy}
 use Rattle.lift_tree.specs.Annotations.{Annotation, Leaf, One, Two, Three, type_in}
 use Rattle.lift_ir.specs.Terms.{Literal, Bound, Source, Apply, ApplyNumber, Select, Both, Project, Reshape, LetArray, LetElement, Map, Fold, Store, Copy}
 use Rattle.lift_ir.specs.Lowering.{Place, Written, Argument, Element, Lowered, is_element, element_ty, placed, placed_element, lower, lower_unary, lower_binary, lower_let, operand_place, binary_place, value_place, body_place}
+use Rattle.lift_ir.proofs.Reshaped.{through_layout}
 use Rattle.printed_form.specs.Sound.{AreLow, expression_height, loop_depth}
 
 -- a lowered term that stands in the place of a term this high
@@ -47,18 +49,17 @@ low_more h i t le l = record { elements = are_low_more h i t le l.elements; expr
 literal_low : (h : ℕ) → 1 ≤ h → Low h (Literal 0)
 literal_low h one = record { elements = tt; expressions = one; loops = omega arith }
 
-unary_low : (p : Place) (f : UnaryForm) (a b : PlainTy) (h : ℕ) (t : Lowered) → Low h t → Low (h + 1) (lower_unary p f a b t)
-unary_low p (unary.Div m) a b h t l = let x = l.expressions in placed_low p a (h + 1) _ tt (omega arith) (omega arith) (omega arith)
-unary_low p (unary.Rem m) a b h t l = let x = l.expressions in placed_low p a (h + 1) _ tt (omega arith) (omega arith) (omega arith)
-unary_low p unary.First a b h t l = let m = low_more h (h + 1) t (omega arith) l in placed_low p a (h + 1) (Project false t) m.elements m.expressions m.loops (omega arith)
-unary_low p unary.Second a b h t l = let m = low_more h (h + 1) t (omega arith) l in placed_low p a (h + 1) (Project true t) m.elements m.expressions m.loops (omega arith)
-unary_low p unary.ToPrivate a b h t l = let m = low_more h (h + 1) t (omega arith) l in record { elements = m.elements; expressions = omega arith; loops = m.loops }
-unary_low p unary.ToLocal a b h t l = let m = low_more h (h + 1) t (omega arith) l in record { elements = m.elements; expressions = omega arith; loops = m.loops }
-unary_low p unary.Join a b h t l = let m = low_more h (h + 1) t (omega arith) l in record { elements = m.elements; expressions = omega arith; loops = m.loops }
-unary_low p unary.Transpose a b h t l = let m = low_more h (h + 1) t (omega arith) l in record { elements = m.elements; expressions = omega arith; loops = m.loops }
-unary_low p (unary.Split fs) a b h t l = let m = low_more h (h + 1) t (omega arith) l in record { elements = m.elements; expressions = omega arith; loops = m.loops }
-unary_low p (unary.Slide s k) a b h t l = let m = low_more h (h + 1) t (omega arith) l in record { elements = m.elements; expressions = omega arith; loops = m.loops }
-unary_low p (unary.Pad s k) a b h t l = let m = low_more h (h + 1) t (omega arith) l in record { elements = m.elements; expressions = omega arith; loops = m.loops }
+unary_low : (names : List Name) (p : Place) (f : UnaryForm) (a b : PlainTy) (h : ℕ) (t : Lowered) → Low h t → Low (h + 1) (lower_unary names p f a b t)
+unary_low names p (unary.Div m) a b h t l = let x = l.expressions in placed_low p a (h + 1) _ tt (omega arith) (omega arith) (omega arith)
+unary_low names p (unary.Rem m) a b h t l = let x = l.expressions in placed_low p a (h + 1) _ tt (omega arith) (omega arith) (omega arith)
+unary_low names p unary.First a b h t l = let m = low_more h (h + 1) t (omega arith) l in placed_low p a (h + 1) (Project false t) m.elements m.expressions m.loops (omega arith)
+unary_low names p unary.Second a b h t l = let m = low_more h (h + 1) t (omega arith) l in placed_low p a (h + 1) (Project true t) m.elements m.expressions m.loops (omega arith)
+unary_low names p unary.ToPrivate a b h t l = let m = low_more h (h + 1) t (omega arith) l in record { elements = m.elements; expressions = omega arith; loops = m.loops }
+unary_low names p unary.ToLocal a b h t l = let m = low_more h (h + 1) t (omega arith) l in record { elements = m.elements; expressions = omega arith; loops = m.loops }
+unary_low names p (unary.Layout y) a b h t l =
+    through_layout (Low (h + 1)) (λ z u i k. record { elements = k.elements; expressions = omega arith; loops = k.loops }) names p y a b t (low_more h (h + 1) t (omega arith) l)
+unary_low names p (unary.Slide s k) a b h t l = let m = low_more h (h + 1) t (omega arith) l in record { elements = m.elements; expressions = omega arith; loops = m.loops }
+unary_low names p (unary.Pad s k) a b h t l = let m = low_more h (h + 1) t (omega arith) l in record { elements = m.elements; expressions = omega arith; loops = m.loops }
 
 binary_low : (p : Place) (f : BinaryForm) (a : PlainTy) (h i : ℕ) (t u : Lowered) → Low h t → Low i u → Low (max h i + 1) (lower_binary p f a t u)
 binary_low p (binary.Operator o) a h i t u l r = let x = l.expressions in let y = r.expressions in placed_low p a (max h i + 1) _ tt (omega arith) (omega arith) (omega arith)
@@ -90,43 +91,43 @@ placed_element_low p a h t one l = by_test (is_element a) where
   by_test true = placed_low p a h t l.elements l.expressions l.loops one
   by_test false = l
 
-pub lower_low : (p : Place) (t : Tree) (n : Annotation) → Low (height t) (lower p t n)
-lower_low p (tree.Variable v) n = placed_low p (type_in n) 1 (Bound v) tt (omega arith) (omega arith) (omega arith)
-lower_low p (tree.Number c) n = placed_low p (type_in n) 1 (Literal c) tt (omega arith) (omega arith) (omega arith)
-lower_low p (tree.Input i) n = record { elements = tt; expressions = omega arith; loops = omega arith }
-lower_low p (tree.Unary f t) (One a n) = unary_low p f a (type_in n) (height t) (lower (operand_place f p) t n) (lower_low (operand_place f p) t n)
-lower_low p (tree.Unary f t) (Leaf a) = literal_low (height t + 1) (omega arith)
-lower_low p (tree.Unary f t) (Two a n m) = literal_low (height t + 1) (omega arith)
-lower_low p (tree.Unary f t) (Three a n m k) = literal_low (height t + 1) (omega arith)
-lower_low p (tree.Binary f t u) (Two a n m) = binary_low p f a (height t) (height u) (lower (binary_place f) t n) (lower (binary_place f) u m) (lower_low (binary_place f) t n) (lower_low (binary_place f) u m)
-lower_low p (tree.Binary f t u) (Leaf a) = literal_low (max (height t) (height u) + 1) (omega arith)
-lower_low p (tree.Binary f t u) (One a n) = literal_low (max (height t) (height u) + 1) (omega arith)
-lower_low p (tree.Binary f t u) (Three a n m k) = literal_low (max (height t) (height u) + 1) (omega arith)
-lower_low p (tree.Select t u v) (Three a n m k) =
-    let x = (lower_low Element t n).expressions in let y = (lower_low Element u m).expressions in let z = (lower_low Element v k).expressions in
-    placed_low p a (max (max (height t) (height u)) (height v) + 1) (Select (lower Element t n) (lower Element u m) (lower Element v k)) tt (omega arith) (omega arith) (omega arith)
-lower_low p (tree.Select t u v) (Leaf a) = literal_low (max (max (height t) (height u)) (height v) + 1) (omega arith)
-lower_low p (tree.Select t u v) (One a n) = literal_low (max (max (height t) (height u)) (height v) + 1) (omega arith)
-lower_low p (tree.Select t u v) (Two a n m) = literal_low (max (max (height t) (height u)) (height v) + 1) (omega arith)
-lower_low p (tree.Let v b) (Two a n m) =
-    placed_element_low p a (max (height v) (height b) + 1) (lower_let (type_in n) (lower (value_place n) v n) (lower (body_place p a) b m)) (omega arith)
-    (let_low (type_in n) (height v) (height b) (lower (value_place n) v n) (lower (body_place p a) b m) (lower_low (value_place n) v n) (lower_low (body_place p a) b m))
-lower_low p (tree.Let v b) (Leaf a) = literal_low (max (height v) (height b) + 1) (omega arith)
-lower_low p (tree.Let v b) (One a n) = literal_low (max (height v) (height b) + 1) (omega arith)
-lower_low p (tree.Let v b) (Three a n m k) = literal_low (max (height v) (height b) + 1) (omega arith)
-lower_low p (tree.Map h xs b) (Two a n m) =
-    let l = low_more (height xs) (max (height xs) (height b) + 1) (lower Argument xs n) (omega arith) (lower_low Argument xs n) in
-    let r = low_more (height b) (max (height xs) (height b) + 1) (lower Written b m) (omega arith) (lower_low Written b m) in
-    let x = l.loops in let y = (lower_low Written b m).loops in
+pub lower_low : (names : List Name) (p : Place) (t : Tree) (n : Annotation) → Low (height t) (lower names p t n)
+lower_low names p (tree.Variable v) n = placed_low p (type_in n) 1 (Bound v) tt (omega arith) (omega arith) (omega arith)
+lower_low names p (tree.Number c) n = placed_low p (type_in n) 1 (Literal c) tt (omega arith) (omega arith) (omega arith)
+lower_low names p (tree.Input i) n = record { elements = tt; expressions = omega arith; loops = omega arith }
+lower_low names p (tree.Unary f t) (One a n) = unary_low names p f a (type_in n) (height t) (lower names (operand_place f p) t n) (lower_low names (operand_place f p) t n)
+lower_low names p (tree.Unary f t) (Leaf a) = literal_low (height t + 1) (omega arith)
+lower_low names p (tree.Unary f t) (Two a n m) = literal_low (height t + 1) (omega arith)
+lower_low names p (tree.Unary f t) (Three a n m k) = literal_low (height t + 1) (omega arith)
+lower_low names p (tree.Binary f t u) (Two a n m) = binary_low p f a (height t) (height u) (lower names (binary_place f) t n) (lower names (binary_place f) u m) (lower_low names (binary_place f) t n) (lower_low names (binary_place f) u m)
+lower_low names p (tree.Binary f t u) (Leaf a) = literal_low (max (height t) (height u) + 1) (omega arith)
+lower_low names p (tree.Binary f t u) (One a n) = literal_low (max (height t) (height u) + 1) (omega arith)
+lower_low names p (tree.Binary f t u) (Three a n m k) = literal_low (max (height t) (height u) + 1) (omega arith)
+lower_low names p (tree.Select t u v) (Three a n m k) =
+    let x = (lower_low names Element t n).expressions in let y = (lower_low names Element u m).expressions in let z = (lower_low names Element v k).expressions in
+    placed_low p a (max (max (height t) (height u)) (height v) + 1) (Select (lower names Element t n) (lower names Element u m) (lower names Element v k)) tt (omega arith) (omega arith) (omega arith)
+lower_low names p (tree.Select t u v) (Leaf a) = literal_low (max (max (height t) (height u)) (height v) + 1) (omega arith)
+lower_low names p (tree.Select t u v) (One a n) = literal_low (max (max (height t) (height u)) (height v) + 1) (omega arith)
+lower_low names p (tree.Select t u v) (Two a n m) = literal_low (max (max (height t) (height u)) (height v) + 1) (omega arith)
+lower_low names p (tree.Let v b) (Two a n m) =
+    placed_element_low p a (max (height v) (height b) + 1) (lower_let (type_in n) (lower names (value_place n) v n) (lower names (body_place p a) b m)) (omega arith)
+    (let_low (type_in n) (height v) (height b) (lower names (value_place n) v n) (lower names (body_place p a) b m) (lower_low names (value_place n) v n) (lower_low names (body_place p a) b m))
+lower_low names p (tree.Let v b) (Leaf a) = literal_low (max (height v) (height b) + 1) (omega arith)
+lower_low names p (tree.Let v b) (One a n) = literal_low (max (height v) (height b) + 1) (omega arith)
+lower_low names p (tree.Let v b) (Three a n m k) = literal_low (max (height v) (height b) + 1) (omega arith)
+lower_low names p (tree.Map h xs b) (Two a n m) =
+    let l = low_more (height xs) (max (height xs) (height b) + 1) (lower names Argument xs n) (omega arith) (lower_low names Argument xs n) in
+    let r = low_more (height b) (max (height xs) (height b) + 1) (lower names Written b m) (omega arith) (lower_low names Written b m) in
+    let x = l.loops in let y = (lower_low names Written b m).loops in
     record { elements = (l.elements, r.elements); expressions = omega arith; loops = omega arith }
-lower_low p (tree.Map h xs b) (Leaf a) = literal_low (max (height xs) (height b) + 1) (omega arith)
-lower_low p (tree.Map h xs b) (One a n) = literal_low (max (height xs) (height b) + 1) (omega arith)
-lower_low p (tree.Map h xs b) (Three a n m k) = literal_low (max (height xs) (height b) + 1) (omega arith)
-lower_low p (tree.Fold h xs s b) (Three a n m k) =
+lower_low names p (tree.Map h xs b) (Leaf a) = literal_low (max (height xs) (height b) + 1) (omega arith)
+lower_low names p (tree.Map h xs b) (One a n) = literal_low (max (height xs) (height b) + 1) (omega arith)
+lower_low names p (tree.Map h xs b) (Three a n m k) = literal_low (max (height xs) (height b) + 1) (omega arith)
+lower_low names p (tree.Fold h xs s b) (Three a n m k) =
     let i = max (max (height xs) (height s)) (height b) + 1 in
-    let l = low_more (height xs) i (lower Argument xs n) (omega arith) (lower_low Argument xs n) in
-    let x = (lower_low Element s m).expressions in let y = (lower_low Element b k).expressions in let z = l.loops in
+    let l = low_more (height xs) i (lower names Argument xs n) (omega arith) (lower_low names Argument xs n) in
+    let x = (lower_low names Element s m).expressions in let y = (lower_low names Element b k).expressions in let z = l.loops in
     record { elements = (l.elements, omega arith, omega arith); expressions = omega arith; loops = omega arith }
-lower_low p (tree.Fold h xs s b) (Leaf a) = literal_low (max (max (height xs) (height s)) (height b) + 1) (omega arith)
-lower_low p (tree.Fold h xs s b) (One a n) = literal_low (max (max (height xs) (height s)) (height b) + 1) (omega arith)
-lower_low p (tree.Fold h xs s b) (Two a n m) = literal_low (max (max (height xs) (height s)) (height b) + 1) (omega arith)
+lower_low names p (tree.Fold h xs s b) (Leaf a) = literal_low (max (max (height xs) (height s)) (height b) + 1) (omega arith)
+lower_low names p (tree.Fold h xs s b) (One a n) = literal_low (max (max (height xs) (height s)) (height b) + 1) (omega arith)
+lower_low names p (tree.Fold h xs s b) (Two a n m) = literal_low (max (max (height xs) (height s)) (height b) + 1) (omega arith)

@@ -3,6 +3,8 @@ use Rattle.std.proofs.Common.{◌≡◌, ◌∙◌, ℕ, suc, ◌<◌, ◌≤◌
 use Rattle.std.specs.Prelude.{if◌then◌else◌, max}
 use Rattle.std.proofs.lemmas.Option.{slice_get_within}
 use Rattle.size_arith.specs.Ranges.{leasts}
+use Rattle.lift_tree.specs.declared.layout.Layout as tree_layout
+use Rattle.lift_tree.specs.declared.layout.Layout.TheVariants.{Join, Transpose, Split, Reverse, Stride}
 use Rattle.lift_tree.specs.declared.term.UnaryForm.TheVariants as unary
 use Rattle.lift_tree.specs.declared.term.BinaryForm.TheVariants as binary
 use Rattle.lift_tree.specs.Lists.{Every}
@@ -11,18 +13,20 @@ use Rattle.lift_tree.specs.Tree as tree
 use Rattle.lift_tree.specs.Tree.{Tree}
 use Rattle.lift_tree.specs.Types as types
 use Rattle.lift_tree.specs.Types.{PlainTy}
-use Rattle.lift_tree.specs.Typing.{Declared}
+use Rattle.lift_tree.specs.WorkedOut.{product_of}
+use Rattle.lift_tree.specs.Typing.{Declared, LayoutRow}
 use Rattle.lift_tree.specs.Annotations.{Annotates, Annotation, Leaf, One, Three, Two, type_in}
 use Rattle.lift_ir.specs.Types as ir
 use Rattle.lift_ir.specs.Types.{IsShort, size, Ty}
 use Rattle.lift_ir.specs.Terms.{Copy, LetArray, LetElement, LocalMemory, PrivateMemory, Space, Store}
-use Rattle.lift_ir.specs.AtLaunch.{shape_of, ty_at}
-use Rattle.lift_ir.specs.Lowering.{Argument, body_place, Element, element_ty, is_element, lower, lower_let, Lowered, Place, placed_element, value_place, Written}
+use Rattle.lift_ir.specs.AtLaunch.{outer_of, shape_of, ty_at}
+use Rattle.lift_ir.specs.Lowering.{Argument, body_place, Element, element_ty, is_element, lower, lower_let, lower_unary, Lowered, Place, placed_element, value_place, Written}
 use Rattle.lift_ir.specs.Lowerable.{IsElementTerm, IsLowerable, IsStaged}
 use Rattle.printed_form.specs.Sound.{AllLengths, dimensions, IsSound}
 use Rattle.kernel_premises.specs.Sound.{IsHeld}
 use Rattle.lowered_tree.specs.Words.{FormsHaveWords}
 use Rattle.kernel_premises.proofs.Leasts.{has_a_cell}
+use Rattle.kernel_premises.proofs.Lengths.{held_divisor, held_quotient}
 use Rattle.kernel_premises.proofs.Types.{good_element, good_in, inner_held, IsGood, outer_held}
 
 -- ---- elements
@@ -80,14 +84,14 @@ module _ (d : Declared) (inputs : Every (IsGood d.names) d.inputs) where
   written a t e h = subst (λ (x : Bool). Sound (if x then Store (element_ty a) t else t)) (sym e) h
 
   -- what is lowered at a place that is this one
-  moved : (p q : Place) (t : Tree) (n : Annotation) → p ≡ q → Sound (lower q t n) → Sound (lower p t n)
-  moved p q t n e h = subst (λ r. Sound (lower r t n)) (sym e) h
+  moved : (p q : Place) (t : Tree) (n : Annotation) → p ≡ q → Sound (lower d.names q t n) → Sound (lower d.names p t n)
+  moved p q t n e h = subst (λ r. Sound (lower d.names r t n)) (sym e) h
 
   lowerable_at : (p q : Place) (t : Tree) (n : Annotation) → p ≡ q → IsLowerable (leasts d.names) p t n → IsLowerable (leasts d.names) q t n
   lowerable_at p q t n e h = subst (λ r. IsLowerable (leasts d.names) r t n) e h
 
   -- ---- element terms
-  element : (g : List PlainTy) (t : Tree) (n : Annotation) → Annotates d g t n → FormsHaveWords t → IsElementTerm t n → Sound (lower Element t n)
+  element : (g : List PlainTy) (t : Tree) (n : Annotation) → Annotates d g t n → FormsHaveWords t → IsElementTerm t n → Sound (lower d.names Element t n)
   element g (tree.Variable v) (Leaf a) y w o = tt
   element g (tree.Number c) (Leaf a) y w o = y.0
   element g (tree.Unary (unary.Div k) t) (One a n) y w o = (refl, w.0, element g t n y.0 w.1 o)
@@ -100,11 +104,11 @@ module _ (d : Declared) (inputs : Every (IsGood d.names) d.inputs) where
   element g (tree.Let v b) (Two a n m) y w o =
       let x = moved (value_place n) Element v n (value_element n o.0) (element g v n y.0 w.0 o.1) in
       let z = element (type_in n ∷ g) b m y.1 w.1 o.2 in
-      same_either (is_element a) (lower_let (type_in n) (lower (value_place n) v n) (lower Element b m)) (let_element (type_in n) (lower (value_place n) v n) (lower Element b m) o.0 x z)
+      same_either (is_element a) (lower_let (type_in n) (lower d.names (value_place n) v n) (lower d.names Element b m)) (let_element (type_in n) (lower d.names (value_place n) v n) (lower d.names Element b m) o.0 x z)
   element g _ _ y w o = absurd o
 
   -- an element term that is stored
-  store : (g : List PlainTy) (t : Tree) (n : Annotation) → Annotates d g t n → FormsHaveWords t → IsElementTerm t n → Sound (Store (element_ty (type_in n)) (lower Element t n))
+  store : (g : List PlainTy) (t : Tree) (n : Annotation) → Annotates d g t n → FormsHaveWords t → IsElementTerm t n → Sound (Store (element_ty (type_in n)) (lower d.names Element t n))
   store g t n y w o = (element_is (type_in n), element g t n y w o)
 
   -- ---- copies
@@ -115,20 +119,28 @@ module _ (d : Declared) (inputs : Every (IsGood d.names) d.inputs) where
       let cell = subst (λ z. 1 ≤ size z) same (has_a_cell d.names a good.formed) in
       (short_words (ty_at [] a) short, omega (arith, dims, few), h, omega (arith, cell), omega (arith, small))
 
+  -- ---- layouts
+  layout : (p : Place) (y : tree_layout.Layout) (b a : PlainTy) (t : Lowered) → LayoutRow d.names y b a → IsGood d.names b → IsGood d.names a → Sound t → Sound (lower_unary d.names p (unary.Layout y) a b t)
+  layout p Join b a t r x z h = (inner_held b x.held, h)
+  layout p Transpose b a t r x z h = (tt, h)
+  layout p (Split fs) b a t r x z h = (inner_held a z.held, h)
+  layout p Reverse b a t r x z h = (outer_held b x.held, h)
+  layout p (Stride fs) b a t r x z h =
+      let step = product_of d.names fs in
+      let g = subst (IsGood d.names) r.2 x in
+      (held_quotient step (outer_of b) (outer_held b x.held), (tt, (held_divisor d.names step r.1 g.formed.0 r.3 g.held.lengths.0, h)))
+
   -- ---- terms in writing position, and arguments
   mutual
-    pub sound_written : (g : List PlainTy) (t : Tree) (n : Annotation) → Every (IsGood d.names) g → Annotates d g t n → NodesFit d.names t n → FormsHaveWords t → IsLowerable (leasts d.names) Written t n → IsStaged Written t n → Sound (lower Written t n)
+    pub sound_written : (g : List PlainTy) (t : Tree) (n : Annotation) → Every (IsGood d.names) g → Annotates d g t n → NodesFit d.names t n → FormsHaveWords t → IsLowerable (leasts d.names) Written t n → IsStaged Written t n → Sound (lower d.names Written t n)
     sound_written g (tree.Variable v) (Leaf a) all y f w l o = (element_is a, tt)
     sound_written g (tree.Number c) (Leaf a) all y f w l o = (element_is a, y.0)
     sound_written g (tree.Unary (unary.Div k) t) (One a n) all y f w l o = (element_is a, (refl, w.0, element g t n y.0 w.1 o))
     sound_written g (tree.Unary (unary.Rem k) t) (One a n) all y f w l o = (element_is a, (refl, w.0, element g t n y.0 w.1 o))
     sound_written g (tree.Unary unary.First t) (One a n) all y f w l o = (element_is a, element g t n y.0 w.1 o)
     sound_written g (tree.Unary unary.Second t) (One a n) all y f w l o = (element_is a, element g t n y.0 w.1 o)
-    sound_written g (tree.Unary unary.Join t) (One a n) all y f w l o =
-        (inner_held (type_in n) (good_in d inputs g t n all y.0 f.0).held, sound_written g t n all y.0 f.0 w.1 l.3 o)
-    sound_written g (tree.Unary unary.Transpose t) (One a n) all y f w l o = (tt, sound_written g t n all y.0 f.0 w.1 l.3 o)
-    sound_written g (tree.Unary (unary.Split fs) t) (One a n) all y f w l o =
-        (inner_held a (good_in d inputs g (tree.Unary (unary.Split fs) t) (One a n) all y f).held, sound_written g t n all y.0 f.0 w.1 l.3 o)
+    sound_written g (tree.Unary (unary.Layout y) t) (One a n) all e f w l o =
+        layout Written y (type_in n) a _ e.1 (good_in d inputs g t n all e.0 f.0) (good_in d inputs g (tree.Unary (unary.Layout y) t) (One a n) all e f) (sound_written g t n all e.0 f.0 w.1 l.3 o)
     sound_written g (tree.Unary (unary.Slide s k) t) (One a n) all y f w l o = (w.0, sound_written g t n all y.0 f.0 w.1 l.3 o)
     sound_written g (tree.Unary (unary.Pad s k) t) (One a n) all y f w l o =
         ((w.0, outer_held (type_in n) (good_in d inputs g t n all y.0 f.0).held), sound_written g t n all y.0 f.0 w.1 l.3 o)
@@ -138,20 +150,20 @@ module _ (d : Declared) (inputs : Every (IsGood d.names) d.inputs) where
     sound_written g (tree.Let v b) (Two a n m) all y f w l (inl o) =
         let x = moved (value_place n) Element v n (value_element n o.1) (element g v n y.0 w.0 o.2) in
         let z = moved (body_place Written a) Element b m (body_element a o.0) (element (type_in n ∷ g) b m y.1 w.1 o.3) in
-        stored a (lower_let (type_in n) (lower (value_place n) v n) (lower (body_place Written a) b m)) o.0 (let_element (type_in n) (lower (value_place n) v n) (lower (body_place Written a) b m) o.1 x z)
+        stored a (lower_let (type_in n) (lower d.names (value_place n) v n) (lower d.names (body_place Written a) b m)) o.0 (let_element (type_in n) (lower d.names (value_place n) v n) (lower d.names (body_place Written a) b m) o.1 x z)
     sound_written g (tree.Let v b) (Two a n m) all y f w l (inr (inl o)) =
         let x = moved (value_place n) Element v n (value_element n o.1) (element g v n y.0 w.0 o.2) in
         let good = good_in d inputs g v n all y.0 f.0 in
         let under = lowerable_at (body_place Written a) Written b m (body_written a o.0) l.1 in
         let z = moved (body_place Written a) Written b m (body_written a o.0) (sound_written (type_in n ∷ g) b m (good, all) y.1 f.1 w.1 under o.3) in
-        written a (lower_let (type_in n) (lower (value_place n) v n) (lower (body_place Written a) b m)) o.0 (let_element (type_in n) (lower (value_place n) v n) (lower (body_place Written a) b m) o.1 x z)
+        written a (lower_let (type_in n) (lower d.names (value_place n) v n) (lower d.names (body_place Written a) b m)) o.0 (let_element (type_in n) (lower d.names (value_place n) v n) (lower d.names (body_place Written a) b m) o.1 x z)
     sound_written g (tree.Let v b) (Two a n m) all y f w l (inr (inr o)) =
         let value = lowerable_at (value_place n) Argument v n (value_argument n o.1) l.0 in
         let x = moved (value_place n) Argument v n (value_argument n o.1) (sound_argument g v n all y.0 f.0 w.0 value o.2) in
         let good = good_in d inputs g v n all y.0 f.0 in
         let under = lowerable_at (body_place Written a) Written b m (body_written a o.0) l.1 in
         let z = moved (body_place Written a) Written b m (body_written a o.0) (sound_written (type_in n ∷ g) b m (good, all) y.1 f.1 w.1 under o.3) in
-        written a (lower_let (type_in n) (lower (value_place n) v n) (lower (body_place Written a) b m)) o.0 (let_array (type_in n) (lower (value_place n) v n) (lower (body_place Written a) b m) o.1 x z)
+        written a (lower_let (type_in n) (lower d.names (value_place n) v n) (lower d.names (body_place Written a) b m)) o.0 (let_array (type_in n) (lower d.names (value_place n) v n) (lower d.names (body_place Written a) b m) o.1 x z)
     sound_written g (tree.Map j xs b) (Two a n m) all y f w l o =
         let good = good_in d inputs g xs n all y.2 f.0 in (
           outer_held (type_in n) good.held,
@@ -168,23 +180,20 @@ module _ (d : Declared) (inputs : Every (IsGood d.names) d.inputs) where
         )
     sound_written g _ _ all y f w l o = absurd o
 
-    pub sound_argument : (g : List PlainTy) (t : Tree) (n : Annotation) → Every (IsGood d.names) g → Annotates d g t n → NodesFit d.names t n → FormsHaveWords t → IsLowerable (leasts d.names) Argument t n → IsStaged Argument t n → Sound (lower Argument t n)
+    pub sound_argument : (g : List PlainTy) (t : Tree) (n : Annotation) → Every (IsGood d.names) g → Annotates d g t n → NodesFit d.names t n → FormsHaveWords t → IsLowerable (leasts d.names) Argument t n → IsStaged Argument t n → Sound (lower d.names Argument t n)
     sound_argument g (tree.Variable v) (Leaf a) all y f w l o = tt
     sound_argument g (tree.Input i) (Leaf a) all y f w l o = slice_get_within d.inputs i a y
     sound_argument g (tree.Unary unary.First t) (One a n) all y f w l o = sound_argument g t n all y.0 f.0 w.1 l.3 o
     sound_argument g (tree.Unary unary.Second t) (One a n) all y f w l o = sound_argument g t n all y.0 f.0 w.1 l.3 o
-    sound_argument g (tree.Unary unary.Join t) (One a n) all y f w l o =
-        (inner_held (type_in n) (good_in d inputs g t n all y.0 f.0).held, sound_argument g t n all y.0 f.0 w.1 l.3 o)
-    sound_argument g (tree.Unary unary.Transpose t) (One a n) all y f w l o = (tt, sound_argument g t n all y.0 f.0 w.1 l.3 o)
-    sound_argument g (tree.Unary (unary.Split fs) t) (One a n) all y f w l o =
-        (inner_held a (good_in d inputs g (tree.Unary (unary.Split fs) t) (One a n) all y f).held, sound_argument g t n all y.0 f.0 w.1 l.3 o)
+    sound_argument g (tree.Unary (unary.Layout y) t) (One a n) all e f w l o =
+        layout Argument y (type_in n) a _ e.1 (good_in d inputs g t n all e.0 f.0) (good_in d inputs g (tree.Unary (unary.Layout y) t) (One a n) all e f) (sound_argument g t n all e.0 f.0 w.1 l.3 o)
     sound_argument g (tree.Unary (unary.Slide s k) t) (One a n) all y f w l o = (w.0, sound_argument g t n all y.0 f.0 w.1 l.3 o)
     sound_argument g (tree.Unary (unary.Pad s k) t) (One a n) all y f w l o =
         ((w.0, outer_held (type_in n) (good_in d inputs g t n all y.0 f.0).held), sound_argument g t n all y.0 f.0 w.1 l.3 o)
     sound_argument g (tree.Unary unary.ToLocal t) (One a n) all y f w l o =
-        copy LocalMemory a (lower Written t n) (good_in d inputs g (tree.Unary unary.ToLocal t) (One a n) all y f) o.1 o.2 l.2.1 (sound_written g t n all y.0 f.0 w.1 l.3 o.3)
+        copy LocalMemory a (lower d.names Written t n) (good_in d inputs g (tree.Unary unary.ToLocal t) (One a n) all y f) o.1 o.2 l.2.1 (sound_written g t n all y.0 f.0 w.1 l.3 o.3)
     sound_argument g (tree.Unary unary.ToPrivate t) (One a n) all y f w l o =
-        copy PrivateMemory a (lower Written t n) (good_in d inputs g (tree.Unary unary.ToPrivate t) (One a n) all y f) o.1 o.2 l.2.1 (sound_written g t n all y.0 f.0 w.1 l.3 o.3)
+        copy PrivateMemory a (lower d.names Written t n) (good_in d inputs g (tree.Unary unary.ToPrivate t) (One a n) all y f) o.1 o.2 l.2.1 (sound_written g t n all y.0 f.0 w.1 l.3 o.3)
     sound_argument g (tree.Binary binary.Zip t u) (Two a n m) all y f w l o =
         (sound_argument g t n all y.0 f.0 w.0 l.1 o.0, sound_argument g u m all y.1 f.1 w.1 l.2 o.1)
     sound_argument g (tree.Let v b) (Two a n m) all y f w l o =
@@ -192,5 +201,5 @@ module _ (d : Declared) (inputs : Every (IsGood d.names) d.inputs) where
         let x = moved (value_place n) Argument v n (value_argument n o.0) (sound_argument g v n all y.0 f.0 w.0 value o.1) in
         let good = good_in d inputs g v n all y.0 f.0 in
         let z = sound_argument (type_in n ∷ g) b m (good, all) y.1 f.1 w.1 l.1 o.2 in
-        same_either (is_element a) (lower_let (type_in n) (lower (value_place n) v n) (lower Argument b m)) (let_array (type_in n) (lower (value_place n) v n) (lower Argument b m) o.0 x z)
+        same_either (is_element a) (lower_let (type_in n) (lower d.names (value_place n) v n) (lower d.names Argument b m)) (let_array (type_in n) (lower d.names (value_place n) v n) (lower d.names Argument b m) o.0 x z)
     sound_argument g _ _ all y f w l o = absurd o

@@ -17,14 +17,14 @@ use Rattle.kernel_premises.specs.Groups.{kernel_of_groups, GroupsCanBeWritten, G
 
 pub in_the_grammar : GroupKernelsAreOfTheGrammar → NeededAreFlagged → GroupsCanBeWritten (List Monomial) → SoundPartsAreSpelled → TermsNestWithin → GroupKernelsAreInTheGrammar
 in_the_grammar grammar flags writable spelled nests d fence t n typed output staged stands needed few low sound =
-    let written = writable (lowered_root t n) stands in
+    let written = writable (lowered_root d.names t n) stands in
     let within = nests d 24 t n typed output staged written (omega arith) few low in
     let has = spelled (kernel_of_groups d fence t n) d t n refl sound in
-    grammar (length_formula d.names) fence length_height 24 d t n (record {
+    grammar (length_formula d.names) fence length_height 72 d t n (record {
       some = omega arith;
       fits = omega arith;
       stands = stands;
-      flagged = flags (group_touches (lowered_root t n)) (phase_count (lowered_root t n)) fence needed;
+      flagged = flags (group_touches (lowered_root d.names t n)) (phase_count (lowered_root d.names t n)) fence needed;
       written = written;
       sound = has.parts;
       layouts = within.0;

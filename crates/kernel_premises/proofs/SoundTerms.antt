@@ -7,7 +7,7 @@ use Rattle.lift_tree.specs.Typing.{Declared}
 use Rattle.lift_tree.specs.Annotations.{type_in}
 use Rattle.kernel_tree.specs.Code.{Kernel}
 use Rattle.lift_ir.specs.Types.{Shape, Scalar, PairOf, ArrayOf}
-use Rattle.lift_ir.specs.Layouts.{Layout, Split, Join, Transpose, Slide, Pad}
+use Rattle.lift_ir.specs.Layouts.{Layout, Split, Join, Transpose, Reverse, Slide, Pad}
 use Rattle.lift_ir.specs.Terms.{Term, Literal, Bound, Source, Apply, ApplyNumber, Select, Both, Project, Reshape, LetArray, LetElement, Map, Fold, Store, Copy}
 use Rattle.lift_ir.specs.AtLaunch.{shape_of}
 use Rattle.printed_form.specs.Programs.{input_shape, lowered_root}
@@ -30,6 +30,7 @@ module _ {A : Type 0} (P R : A → Type 0) (wider : (n : A) → P n → R n) whe
   layout_wider (Split m) h = wider m h
   layout_wider (Join m) h = wider m h
   layout_wider Transpose h = tt
+  layout_wider (Reverse n) h = wider n h
   layout_wider (Slide s t) h = h
   layout_wider (Pad l r n) h = (h.0, wider n h.1)
 
@@ -76,7 +77,7 @@ module _ (bounds : LengthsAreBounds) (k : Kernel) (d : Declared) (sizes : k.size
 
 pub parts_are_spelled : LengthsAreBounds → SoundPartsAreSpelled
 parts_are_spelled bounds k d t n sizes sound = record {
-  parts = sound_wider IsHeld (IsLengthIn k d) (spelled bounds k d sizes) (λ s. s < length d.inputs) (IsSourceIn k (length_formula d.names) length_height d) (source bounds k d sizes sound.inputs) (lowered_root t n) sound.parts;
+  parts = sound_wider IsHeld (IsLengthIn k d) (spelled bounds k d sizes) (λ s. s < length d.inputs) (IsSourceIn k (length_formula d.names) length_height d) (source bounds k d sizes sound.inputs) (lowered_root d.names t n) sound.parts;
   output = lengths_are_spelled bounds k d sizes (shape_of (type_in n)) sound.output.lengths;
   few = sound.output.few;
 }
@@ -85,7 +86,7 @@ pub in_the_grammar : KernelsAreOfTheGrammar → SoundPartsAreSpelled → TermsNe
 in_the_grammar grammar spelled nests d t n typed output staged written few low sound =
     let within = nests d 24 t n typed output staged written (omega arith) few low in
     let has = spelled (kernel_of_term d t n) d t n refl sound in
-    grammar (length_formula d.names) length_height 24 d t n (record {
+    grammar (length_formula d.names) length_height 72 d t n (record {
       some = omega arith;
       fits = omega arith;
       written = written;

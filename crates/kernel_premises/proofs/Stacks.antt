@@ -1,7 +1,9 @@
 -- How many layouts stand one on another in a lowered term, by those that are counted in the term.
-use Rattle.std.proofs.Common.{◌≡◌, ℕ, zero, suc, ◌+◌, ◌≤◌, Bool, true, false, List, ◌∷◌, get_or, refl, sym, ap, ◌∙◌, subst, arith, inl, inr}
+use Rattle.std.proofs.Common.{◌≡◌, ℕ, zero, suc, ◌+◌, ◌*◌, ◌≤◌, Bool, true, false, List, ◌∷◌, get_or, refl, sym, ap, ◌∙◌, subst, arith, inl, inr}
 use Rattle.std.specs.Prelude.{max, ◌&&◌, if◌then◌else◌}
 use Rattle.size_arith.specs.declared.poly.Monomial.{Monomial}
+use Rattle.lift_tree.specs.declared.layout.Layout as layout
+use Rattle.lift_tree.specs.declared.layout.Layout.TheVariants.{Join, Transpose, Split, Reverse, Stride}
 use Rattle.lift_tree.specs.declared.term.UnaryForm.TheVariants as unary
 use Rattle.lift_tree.specs.declared.term.BinaryForm.TheVariants as binary
 use Rattle.lift_tree.specs.Tree as tree
@@ -9,12 +11,14 @@ use Rattle.lift_tree.specs.Tree.{Tree, height}
 use Rattle.lift_tree.specs.Types as types
 use Rattle.lift_tree.specs.Types.{PlainTy}
 use Rattle.lift_tree.specs.Annotations.{Annotation, Annotates, Leaf, One, Two, Three, type_in}
-use Rattle.lift_tree.specs.Typing.{Declared}
+use Rattle.lift_tree.specs.Typing.{Declared, LayoutRow}
+use Rattle.lift_tree.proofs.Layouts.{layout_operand, layout_result}
 use Rattle.lowered_tree.specs.Elements as own
 use Rattle.lift_ir.specs.Layouts.{Layout}
 use Rattle.lift_ir.specs.Terms.{Project, Reshape, LetArray, LetElement, Store, push}
-use Rattle.lift_ir.specs.Lowering.{Place, Written, Argument, Element, Lowered, is_element, element_ty, lower}
+use Rattle.lift_ir.specs.Lowering.{Place, Written, Argument, Element, Lowered, is_element, element_ty, lower, lower_unary}
 use Rattle.lift_ir.specs.Lowerable.{IsStaged}
+use Rattle.lift_ir.proofs.Reshaped.{below_layout}
 use Rattle.buffer_allocation.specs.Layouts.{raised, height_of, most}
 use Rattle.buffer_allocation.specs.declared.layouts.Position.TheVariants as position
 use Rattle.printed_form.specs.Sound.{stacked, IsReadWithin, IsWrittenWithin, CanBeWritten, CanBeRead}
@@ -40,24 +44,43 @@ right_none a c e = ap (λ x. own.is_element c && x) e ∙ by_test (own.is_elemen
     by_test true = refl
     by_test false = refl
 
--- binders stand no higher than is counted
+-- binders stand no higher than is counted: a layout is lowered to at most three
 abbrev pub Under : (ℕ → ℕ) → List ℕ → Type 0
-Under j g = (v : ℕ) → j v ≤ get_or g v 0
+Under j g = (v : ℕ) → j v ≤ 3 * get_or g v 0
 
-pushed_under : (j : ℕ → ℕ) (g : List ℕ) (i h : ℕ) → i ≤ h → Under j g → Under (push i j) (h ∷ g)
+pushed_under : (j : ℕ → ℕ) (g : List ℕ) (i h : ℕ) → i ≤ 3 * h → Under j g → Under (push i j) (h ∷ g)
 pushed_under j g i h le u zero = le
 pushed_under j g i h le u (suc v) = u v
 
--- what is read: its height is within the limit, and its layouts are at most that
+-- what is read: its height is within the limit, and its layouts are at most three times that
 pub record Reads (M : ℕ) (j : ℕ → ℕ) (h : ℕ) (t : Lowered) : Type 0 where
   pub low : h ≤ M
-  pub stack : stacked j t ≤ h
-  pub within : IsReadWithin M j t
+  pub stack : stacked j t ≤ 3 * h
+  pub within : IsReadWithin (3 * M) j t
 
 module _ (d : Declared) (M : ℕ) (few : M ≤ 256) where
   -- a layout on what is read
   one_more : (j : ℕ → ℕ) (h : ℕ) (y : Layout (List Monomial)) (t : Lowered) → raised h ≤ M → Reads M j h t → Reads M j (raised h) (Reshape y t)
-  one_more j h y t le r = let a = r.stack in let s : suc (stacked j t) ≤ raised h = omega arith in record { low = le; stack = s; within = ((let z : raised h ≤ M = le in omega arith), r.within) }
+  one_more j h y t le r =
+      let a = r.stack in
+      let s : suc (stacked j t) ≤ 3 * raised h = omega arith in
+      record { low = le; stack = s; within = ((let z : raised h ≤ M = le in omega arith), r.within) }
+
+  -- or three, as a stride is lowered to
+  three_more : (j : ℕ → ℕ) (h : ℕ) (x y z : Layout (List Monomial)) (t : Lowered) → raised h ≤ M → Reads M j h t → Reads M j (raised h) (Reshape x (Reshape y (Reshape z t)))
+  three_more j h x y z t le r =
+      let a = r.stack in
+      let s : suc (suc (suc (stacked j t))) ≤ 3 * raised h = omega arith in
+      let e : raised h ≤ M = le in
+      record { low = le; stack = s; within = (omega arith, (omega arith, (omega arith, r.within))) }
+
+  -- a layout that is written through, on what is read
+  layout_more : (j : ℕ → ℕ) (h : ℕ) (p : Place) (l : layout.Layout) (a b : PlainTy) (t : Lowered) → raised h ≤ M → Reads M j h t → Reads M j (raised h) (lower_unary d.names p (unary.Layout l) a b t)
+  layout_more j h p Join a b t le r = one_more j h _ t le r
+  layout_more j h p Transpose a b t le r = one_more j h _ t le r
+  layout_more j h p (Split fs) a b t le r = one_more j h _ t le r
+  layout_more j h p Reverse a b t le r = one_more j h _ t le r
+  layout_more j h p (Stride fs) a b t le r = three_more j h _ _ _ t le r
 
   left : (a b : ℕ) → max a b ≤ M → a ≤ M
   left a b h = omega arith
@@ -65,13 +88,13 @@ module _ (d : Declared) (M : ℕ) (few : M ≤ 256) where
   right : (a b : ℕ) → max a b ≤ M → b ≤ M
   right a b h = omega arith
 
-  layout_read : (j : ℕ → ℕ) (g : List ℕ) (a : PlainTy) (t : Tree) (n : Annotation) (y : Layout (List Monomial)) (l : Lowered) → own.is_element a ≡ false
+  layout_read : (j : ℕ → ℕ) (g : List ℕ) (a : PlainTy) (t : Tree) (n : Annotation) (l u : Lowered) → (raised (height_of g t n) ≤ M → Reads M j (height_of g t n) l → Reads M j (raised (height_of g t n)) u) → own.is_element a ≡ false
       → max (if own.is_element a then 0 else raised (height_of g t n)) (most (if own.is_element a then position.Element else position.Argument) g t n) ≤ M
-      → (most position.Argument g t n ≤ M → Reads M j (height_of g t n) l) → Reads M j (if own.is_element a then 0 else raised (height_of g t n)) (Reshape y l)
-  layout_read j g a t n y l e h inner =
+      → (most position.Argument g t n ≤ M → Reads M j (height_of g t n) l) → Reads M j (if own.is_element a then 0 else raised (height_of g t n)) u
+  layout_read j g a t n l u more e h inner =
       let q = subst (λ x. max (if x then 0 else raised (height_of g t n)) (most (if x then position.Element else position.Argument) g t n) ≤ M) e h in
       let r = inner (right (raised (height_of g t n)) (most position.Argument g t n) q) in
-      subst (λ x. Reads M j (if x then 0 else raised (height_of g t n)) (Reshape y l)) (sym e) (one_more j (height_of g t n) y l (left (raised (height_of g t n)) (most position.Argument g t n) q) r)
+      subst (λ x. Reads M j (if x then 0 else raised (height_of g t n)) u) (sym e) (more (left (raised (height_of g t n)) (most position.Argument g t n) q) r)
 
   part_read : (j : ℕ → ℕ) (g : List ℕ) (a : PlainTy) (t : Tree) (n : Annotation) (s : Bool) (l : Lowered) → own.is_element a ≡ false
       → max (if own.is_element a then 0 else (if own.is_element a then 0 else raised (height_of g t n))) (most (if own.is_element a then position.Element else position.Argument) g t n) ≤ M
@@ -83,7 +106,7 @@ module _ (d : Declared) (M : ℕ) (few : M ≤ 256) where
       let st = r.stack in
       subst (λ x. Reads M j (if x then 0 else raised (height_of g t n)) (Project s l)) (sym e) (record { low = le; stack = (let z : raised (height_of g t n) ≤ M = le in omega arith); within = r.within })
 
-  copy_read : (j : ℕ → ℕ) (h : ℕ) (l : Lowered) → h ≡ 0 → stacked j l ≡ 0 → IsReadWithin M j l → Reads M j h l
+  copy_read : (j : ℕ → ℕ) (h : ℕ) (l : Lowered) → h ≡ 0 → stacked j l ≡ 0 → IsReadWithin (3 * M) j l → Reads M j h l
   copy_read j h l e s w = record { low = omega arith; stack = omega arith; within = w }
 
   abbrev zero_if : Bool → ℕ
@@ -92,6 +115,9 @@ module _ (d : Declared) (M : ℕ) (few : M ≤ 256) where
   none_zero : (b : Bool) → zero_if b ≡ 0
   none_zero true = refl
   none_zero false = refl
+
+  thrice : {w W : ℕ} → W ≤ M → w ≤ 3 * W → w ≤ 3 * M
+  thrice h le = omega arith
 
   upper : (W X Y : ℕ) → max (max W X) Y ≤ M → W ≤ M
   upper W X Y h = omega arith
@@ -107,6 +133,21 @@ module _ (d : Declared) (M : ℕ) (few : M ≤ 256) where
       let q = subst (λ z. max 0 (most (if z then position.Element else position.Written (raised W)) g t n) ≤ M) e h in
       let r : raised W ≡ suc W = omega arith in
       subst (λ z. most (position.Written z) g t n ≤ M) r (right 0 (most (position.Written (raised W)) g t n) q)
+
+  layout_written : (j : ℕ → ℕ) (W w : ℕ) → w ≤ 3 * W → (l : layout.Layout) (a b : PlainTy) (t : Lowered) → ((x : ℕ) → x ≤ 3 * suc W → IsWrittenWithin (3 * M) j x t)
+      → IsWrittenWithin (3 * M) j w (lower_unary d.names Written (unary.Layout l) a b t)
+  layout_written j W w le Join a b t below = below (suc w) (omega arith)
+  layout_written j W w le Transpose a b t below = below (suc w) (omega arith)
+  layout_written j W w le (Split fs) a b t below = below (suc w) (omega arith)
+  layout_written j W w le Reverse a b t below = below (suc w) (omega arith)
+  layout_written j W w le (Stride fs) a b t below = below (suc (suc (suc w))) (omega arith)
+
+  -- ---- layouts are arrays, of arrays
+  of_layout : (l : layout.Layout) (b a : PlainTy) → LayoutRow d.names l b a → own.is_element a ≡ false
+  of_layout l b a r = ap own.is_element (layout_result d.names l b a r).is
+
+  under_layout : (l : layout.Layout) (b a : PlainTy) → LayoutRow d.names l b a → own.is_element b ≡ false
+  under_layout l b a r = ap own.is_element (layout_operand d.names l b a r).is
 
   -- ---- what a let is lowered to
   same_if : (b : Bool) (x : Lowered) → (if b then x else x) ≡ x
@@ -135,28 +176,25 @@ module _ (d : Declared) (M : ℕ) (few : M ≤ 256) where
   let_array a c v b e f = ap (λ z. stored a c v b z (is_element c)) e ∙ ap (λ y. stored a c v b false y) f
 
   mutual
-    read : (G : List PlainTy) (j : ℕ → ℕ) (g : List ℕ) (t : Tree) (n : Annotation) → Annotates d G t n → own.is_element (type_in n) ≡ false → IsStaged Argument t n → CanBeRead (lower Argument t n) → Under j g → height t ≤ 512
-        → most position.Argument g t n ≤ M → Reads M j (height_of g t n) (lower Argument t n)
+    read : (G : List PlainTy) (j : ℕ → ℕ) (g : List ℕ) (t : Tree) (n : Annotation) → Annotates d G t n → own.is_element (type_in n) ≡ false → IsStaged Argument t n → CanBeRead (lower d.names Argument t n) → Under j g → height t ≤ 512
+        → most position.Argument g t n ≤ M → Reads M j (height_of g t n) (lower d.names Argument t n)
     read G j g (tree.Variable v) (Leaf a) ty e st can u high h = record { low = right 0 (get_or g v 0) h; stack = u v; within = tt }
     read G j g (tree.Input i) (Leaf a) ty e st can u high h = record { low = omega arith; stack = omega arith; within = tt }
     read G j g (tree.Unary unary.First t) (One a n) ty e st can u high h =
-        part_read j g a t n false (lower Argument t n) e h (read G j g t n ty.0 (ap own.is_element ty.1.1 ∙ left_none a ty.1.0 e) st can u (omega arith))
+        part_read j g a t n false (lower d.names Argument t n) e h (read G j g t n ty.0 (ap own.is_element ty.1.1 ∙ left_none a ty.1.0 e) st can u (omega arith))
     read G j g (tree.Unary unary.Second t) (One a n) ty e st can u high h =
-        part_read j g a t n true (lower Argument t n) e h (read G j g t n ty.0 (ap own.is_element ty.1.1 ∙ right_none a ty.1.0 e) st can u (omega arith))
-    read G j g (tree.Unary unary.Join t) (One a n) ty e st can u high h =
-        layout_read j g a t n _ (lower Argument t n) e h (read G j g t n ty.0 (ap own.is_element ty.1.3) st can u (omega arith))
-    read G j g (tree.Unary unary.Transpose t) (One a n) ty e st can u high h =
-        layout_read j g a t n _ (lower Argument t n) e h (read G j g t n ty.0 (ap own.is_element ty.1.3) st can u (omega arith))
-    read G j g (tree.Unary (unary.Split fs) t) (One a n) ty e st can u high h =
-        layout_read j g a t n _ (lower Argument t n) e h (read G j g t n ty.0 (ap own.is_element ty.1.2) st can u (omega arith))
+        part_read j g a t n true (lower d.names Argument t n) e h (read G j g t n ty.0 (ap own.is_element ty.1.1 ∙ right_none a ty.1.0 e) st can u (omega arith))
+    read G j g (tree.Unary (unary.Layout l) t) (One a n) ty e st can u high h =
+        layout_read j g a t n (lower d.names Argument t n) _ (layout_more j (height_of g t n) Argument l a (type_in n) (lower d.names Argument t n)) e h
+        (read G j g t n ty.0 (under_layout l (type_in n) a ty.1) st (below_layout CanBeRead (λ y z c. c) d.names Argument l a (type_in n) _ can) u (omega arith))
     read G j g (tree.Unary (unary.Slide s k) t) (One a n) ty e st can u high h =
-        layout_read j g a t n _ (lower Argument t n) e h (read G j g t n ty.0 (ap own.is_element ty.1.2) st can u (omega arith))
+        layout_read j g a t n (lower d.names Argument t n) _ (one_more j (height_of g t n) _ (lower d.names Argument t n)) e h (read G j g t n ty.0 (ap own.is_element ty.1.2) st can u (omega arith))
     read G j g (tree.Unary (unary.Pad s k) t) (One a n) ty e st can u high h =
-        layout_read j g a t n _ (lower Argument t n) e h (read G j g t n ty.0 (ap own.is_element ty.1.2) st can u (omega arith))
+        layout_read j g a t n (lower d.names Argument t n) _ (one_more j (height_of g t n) _ (lower d.names Argument t n)) e h (read G j g t n ty.0 (ap own.is_element ty.1.2) st can u (omega arith))
     read G j g (tree.Unary unary.ToPrivate t) (One a n) ty e st can u high h =
-        copy_read j _ _ (none_zero (own.is_element a)) refl (write G j g 0 t n ty.0 st.3 can u (omega arith) (omega arith) (right _ (most (position.Written 0) g t n) h))
+        copy_read j _ _ (none_zero (own.is_element a)) refl (write G j g 0 0 (omega arith) t n ty.0 st.3 can u (omega arith) (omega arith) (right _ (most (position.Written 0) g t n) h))
     read G j g (tree.Unary unary.ToLocal t) (One a n) ty e st can u high h =
-        copy_read j _ _ (none_zero (own.is_element a)) refl (write G j g 0 t n ty.0 st.3 can u (omega arith) (omega arith) (right _ (most (position.Written 0) g t n) h))
+        copy_read j _ _ (none_zero (own.is_element a)) refl (write G j g 0 0 (omega arith) t n ty.0 st.3 can u (omega arith) (omega arith) (right _ (most (position.Written 0) g t n) h))
     read G j g (tree.Unary (unary.Div m) t) (One a n) ty e st can u high h = absurd st
     read G j g (tree.Unary (unary.Rem m) t) (One a n) ty e st can u high h = absurd st
     read G j g (tree.Binary binary.Zip t w) (Two a n m) ty e st can u high h =
@@ -168,12 +206,12 @@ module _ (d : Declared) (M : ℕ) (few : M ≤ 256) where
         let xs = x.stack in let ys = y.stack in
         record { low = omega arith; stack = (let z : raised (max (height_of g t n) (height_of g w m)) ≤ M = omega arith in omega arith); within = (x.within, y.within) }
     read G j g (tree.Let v b) (Two a n m) ty e st can u high h =
-        let shape = let_read a (type_in n) (λ p. lower p v n) (lower Argument b m) st.0 in
+        let shape = let_read a (type_in n) (λ p. lower d.names p v n) (lower d.names Argument b m) st.0 in
         let c = subst CanBeRead shape can in
         let q = subst (λ z. max (if z then 0 else 0) (max (most position.Argument g v n) (most (if z then position.Element else position.Argument) (height_of g v n ∷ g) b m)) ≤ M) e h in
         let k = right 0 (max (most position.Argument g v n) (most position.Argument (height_of g v n ∷ g) b m)) q in
         let x = read G j g v n ty.0 (same_test (type_in n) ∙ st.0) st.1 c.0 u (omega arith) (left (most position.Argument g v n) (most position.Argument (height_of g v n ∷ g) b m) k) in
-        let y = read (type_in n ∷ G) (push (stacked j (lower Argument v n)) j) (height_of g v n ∷ g) b m ty.1 (ap own.is_element (sym ty.2) ∙ e) st.2 c.1 (pushed_under j g (stacked j (lower Argument v n)) (height_of g v n) x.stack u) (omega arith) (right (most position.Argument g v n) (most position.Argument (height_of g v n ∷ g) b m) k) in
+        let y = read (type_in n ∷ G) (push (stacked j (lower d.names Argument v n)) j) (height_of g v n ∷ g) b m ty.1 (ap own.is_element (sym ty.2) ∙ e) st.2 c.1 (pushed_under j g (stacked j (lower d.names Argument v n)) (height_of g v n) x.stack u) (omega arith) (right (most position.Argument g v n) (most position.Argument (height_of g v n ∷ g) b m) k) in
         subst (λ z. Reads M j (height_of (height_of g v n ∷ g) b m) z) (sym shape) (record { low = y.low; stack = y.stack; within = (x.within, y.within) })
     read G j g (tree.Number c) (Leaf a) ty e st can u high h = absurd st
     read G j g (tree.Select t w x) (Three a n m k) ty e st can u high h = absurd st
@@ -210,88 +248,85 @@ module _ (d : Declared) (M : ℕ) (few : M ≤ 256) where
     read G j g (tree.Fold f xs s b) (One a n) ty e st can u high h = absurd ty
     read G j g (tree.Fold f xs s b) (Two a n m) ty e st can u high h = absurd ty
 
-    pub write : (G : List PlainTy) (j : ℕ → ℕ) (g : List ℕ) (W : ℕ) (t : Tree) (n : Annotation) → Annotates d G t n → IsStaged Written t n → CanBeWritten (lower Written t n) → Under j g → height t ≤ 512 → W + height t ≤ 10000
-        → most (position.Written W) g t n ≤ M → IsWrittenWithin M j W (lower Written t n)
-    write G j g W (tree.Variable v) (Leaf a) ty st can u high deep h = left W (get_or g v 0) h
-    write G j g W (tree.Number c) (Leaf a) ty st can u high deep h = h
-    write G j g W (tree.Input i) (Leaf a) ty st can u high deep h = absurd st
-    write G j g W (tree.Unary (unary.Div k) t) (One a n) ty st can u high deep h = upper W _ _ h
-    write G j g W (tree.Unary (unary.Rem k) t) (One a n) ty st can u high deep h = upper W _ _ h
-    write G j g W (tree.Unary unary.First t) (One a n) ty st can u high deep h = projected (own.is_element a) W _ _ h
-    write G j g W (tree.Unary unary.Second t) (One a n) ty st can u high deep h = projected (own.is_element a) W _ _ h
-    write G j g W (tree.Unary unary.Join t) (One a n) ty st can u high deep h =
-        write G j g (suc W) t n ty.0 st can.1 u (omega arith) (omega arith) (through W g a t n (omega arith) (ap own.is_element ty.1.4) h)
-    write G j g W (tree.Unary unary.Transpose t) (One a n) ty st can u high deep h =
-        write G j g (suc W) t n ty.0 st can.1 u (omega arith) (omega arith) (through W g a t n (omega arith) (ap own.is_element ty.1.4) h)
-    write G j g W (tree.Unary (unary.Split fs) t) (One a n) ty st can u high deep h =
-        write G j g (suc W) t n ty.0 st can.1 u (omega arith) (omega arith) (through W g a t n (omega arith) (ap own.is_element ty.1.4) h)
-    write G j g W (tree.Unary (unary.Slide s k) t) (One a n) ty st can u high deep h = absurd can.0
-    write G j g W (tree.Unary (unary.Pad s k) t) (One a n) ty st can u high deep h = absurd can.0
-    write G j g W (tree.Unary unary.ToLocal t) (One a n) ty st can u high deep h = absurd st
-    write G j g W (tree.Unary unary.ToPrivate t) (One a n) ty st can u high deep h = absurd st
-    write G j g W (tree.Binary (binary.Operator o) t w) (Two a n m) ty st can u high deep h = upper W _ _ h
-    write G j g W (tree.Binary binary.Pair t w) (Two a n m) ty st can u high deep h = upper W _ _ h
-    write G j g W (tree.Binary binary.Zip t w) (Two a n m) ty st can u high deep h = absurd st
-    write G j g W (tree.Binary (binary.Reduce o) t w) (Two a n m) ty st can u high deep h = absurd st
-    write G j g W (tree.Select t w x) (Three a n m k) ty st can u high deep h = left W _ h
-    write G j g W (tree.Let v b) (Two a n m) ty (inl st) can u high deep h =
-        let shape = let_stored a (type_in n) (λ p. lower p v n) (λ p. lower p b m) st.0 in
-        subst (λ z. IsWrittenWithin M j W z) (sym shape)
-        (left W _ (subst (λ z. max (if z then W else 0) (max (most position.Argument g v n) (most (if z then position.Element else position.Written W) (height_of g v n ∷ g) b m)) ≤ M) (same_test a ∙ st.0) h))
-    write G j g W (tree.Let v b) (Two a n m) ty (inr (inl st)) can u high deep h =
-        let shape = let_element a (type_in n) (λ p. lower p v n) (λ p. lower p b m) st.0 st.1 in
+    pub write : (G : List PlainTy) (j : ℕ → ℕ) (g : List ℕ) (W w : ℕ) → w ≤ 3 * W → (t : Tree) (n : Annotation) → Annotates d G t n → IsStaged Written t n → CanBeWritten (lower d.names Written t n) → Under j g → height t ≤ 512 → W + height t ≤ 10000
+        → most (position.Written W) g t n ≤ M → IsWrittenWithin (3 * M) j w (lower d.names Written t n)
+    write G j g W w le (tree.Variable v) (Leaf a) ty st can u high deep h = thrice (left W (get_or g v 0) h) le
+    write G j g W w le (tree.Number c) (Leaf a) ty st can u high deep h = thrice h le
+    write G j g W w le (tree.Input i) (Leaf a) ty st can u high deep h = absurd st
+    write G j g W w le (tree.Unary (unary.Div k) t) (One a n) ty st can u high deep h = thrice (upper W _ _ h) le
+    write G j g W w le (tree.Unary (unary.Rem k) t) (One a n) ty st can u high deep h = thrice (upper W _ _ h) le
+    write G j g W w le (tree.Unary unary.First t) (One a n) ty st can u high deep h = thrice (projected (own.is_element a) W _ _ h) le
+    write G j g W w le (tree.Unary unary.Second t) (One a n) ty st can u high deep h = thrice (projected (own.is_element a) W _ _ h) le
+    write G j g W w le (tree.Unary (unary.Layout l) t) (One a n) ty st can u high deep h =
+        layout_written j W w le l a (type_in n) (lower d.names Written t n)
+        (λ x more. write G j g (suc W) x more t n ty.0 st (below_layout CanBeWritten (λ y z c. c.1) d.names Written l a (type_in n) _ can) u (omega arith) (omega arith) (through W g a t n (omega arith) (of_layout l (type_in n) a ty.1) h))
+    write G j g W w le (tree.Unary (unary.Slide s k) t) (One a n) ty st can u high deep h = absurd can.0
+    write G j g W w le (tree.Unary (unary.Pad s k) t) (One a n) ty st can u high deep h = absurd can.0
+    write G j g W w le (tree.Unary unary.ToLocal t) (One a n) ty st can u high deep h = absurd st
+    write G j g W w le (tree.Unary unary.ToPrivate t) (One a n) ty st can u high deep h = absurd st
+    write G j g W w le (tree.Binary (binary.Operator o) t x) (Two a n m) ty st can u high deep h = thrice (upper W _ _ h) le
+    write G j g W w le (tree.Binary binary.Pair t x) (Two a n m) ty st can u high deep h = thrice (upper W _ _ h) le
+    write G j g W w le (tree.Binary binary.Zip t x) (Two a n m) ty st can u high deep h = absurd st
+    write G j g W w le (tree.Binary (binary.Reduce o) t x) (Two a n m) ty st can u high deep h = absurd st
+    write G j g W w le (tree.Select t y x) (Three a n m k) ty st can u high deep h = thrice (left W _ h) le
+    write G j g W w le (tree.Let v b) (Two a n m) ty (inl st) can u high deep h =
+        let shape = let_stored a (type_in n) (λ p. lower d.names p v n) (λ p. lower d.names p b m) st.0 in
+        subst (λ z. IsWrittenWithin (3 * M) j w z) (sym shape)
+        (thrice (left W _ (subst (λ z. max (if z then W else 0) (max (most position.Argument g v n) (most (if z then position.Element else position.Written W) (height_of g v n ∷ g) b m)) ≤ M) (same_test a ∙ st.0) h)) le)
+    write G j g W w le (tree.Let v b) (Two a n m) ty (inr (inl st)) can u high deep h =
+        let shape = let_element a (type_in n) (λ p. lower d.names p v n) (λ p. lower d.names p b m) st.0 st.1 in
         let c = subst CanBeWritten shape can in
         let q = subst (λ z. max (if z then W else 0) (max (most position.Argument g v n) (most (if z then position.Element else position.Written W) (height_of g v n ∷ g) b m)) ≤ M) (same_test a ∙ st.0) h in
-        subst (λ z. IsWrittenWithin M j W z) (sym shape)
-        (write (type_in n ∷ G) (push 0 j) (height_of g v n ∷ g) W b m ty.1 st.3 c (pushed_under j g 0 (height_of g v n) (omega arith) u) (omega arith) (omega arith)
+        subst (λ z. IsWrittenWithin (3 * M) j w z) (sym shape)
+        (write (type_in n ∷ G) (push 0 j) (height_of g v n ∷ g) W w le b m ty.1 st.3 c (pushed_under j g 0 (height_of g v n) (omega arith) u) (omega arith) (omega arith)
         (right (most position.Argument g v n) (most (position.Written W) (height_of g v n ∷ g) b m) (right 0 (max (most position.Argument g v n) (most (position.Written W) (height_of g v n ∷ g) b m)) q)))
-    write G j g W (tree.Let v b) (Two a n m) ty (inr (inr st)) can u high deep h =
-        let shape = let_array a (type_in n) (λ p. lower p v n) (λ p. lower p b m) st.0 st.1 in
+    write G j g W w le (tree.Let v b) (Two a n m) ty (inr (inr st)) can u high deep h =
+        let shape = let_array a (type_in n) (λ p. lower d.names p v n) (λ p. lower d.names p b m) st.0 st.1 in
         let c = subst CanBeWritten shape can in
         let q = subst (λ z. max (if z then W else 0) (max (most position.Argument g v n) (most (if z then position.Element else position.Written W) (height_of g v n ∷ g) b m)) ≤ M) (same_test a ∙ st.0) h in
         let k = right 0 (max (most position.Argument g v n) (most (position.Written W) (height_of g v n ∷ g) b m)) q in
         let x = read G j g v n ty.0 (same_test (type_in n) ∙ st.1) st.2 c.0 u (omega arith) (left (most position.Argument g v n) (most (position.Written W) (height_of g v n ∷ g) b m) k) in
-        subst (λ z. IsWrittenWithin M j W z) (sym shape) (
+        subst (λ z. IsWrittenWithin (3 * M) j w z) (sym shape) (
           x.within,
-          write (type_in n ∷ G) (push (stacked j (lower Argument v n)) j) (height_of g v n ∷ g) W b m ty.1 st.3 c.1 (pushed_under j g (stacked j (lower Argument v n)) (height_of g v n) x.stack u) (omega arith) (omega arith)
+          write (type_in n ∷ G) (push (stacked j (lower d.names Argument v n)) j) (height_of g v n ∷ g) W w le b m ty.1 st.3 c.1 (pushed_under j g (stacked j (lower d.names Argument v n)) (height_of g v n) x.stack u) (omega arith) (omega arith)
               (right (most position.Argument g v n) (most (position.Written W) (height_of g v n ∷ g) b m) k),
         )
-    write G j g W (tree.Map f xs b) (Two a n m) ty st can u high deep h =
+    write G j g W w le (tree.Map f xs b) (Two a n m) ty st can u high deep h =
         let k = right W (max (most position.Argument g xs n) (most (position.Written W) (height_of g xs n ∷ g) b m)) h in
         let x = read G j g xs n ty.2 (ap own.is_element ty.3) st.0 can.0 u (omega arith) (left (most position.Argument g xs n) (most (position.Written W) (height_of g xs n ∷ g) b m) k) in (
           (let p = x.stack in let q = x.low in omega arith),
           x.within,
-          write (ty.0 ∷ G) (push (stacked j (lower Argument xs n)) j) (height_of g xs n ∷ g) W b m ty.4 st.1 can.1 (pushed_under j g (stacked j (lower Argument xs n)) (height_of g xs n) x.stack u) (omega arith) (omega arith)
+          write (ty.0 ∷ G) (push (stacked j (lower d.names Argument xs n)) j) (height_of g xs n ∷ g) W w le b m ty.4 st.1 can.1 (pushed_under j g (stacked j (lower d.names Argument xs n)) (height_of g xs n) x.stack u) (omega arith) (omega arith)
               (right (most position.Argument g xs n) (most (position.Written W) (height_of g xs n ∷ g) b m) k),
         )
-    write G j g W (tree.Fold f xs s b) (Three a n m l) ty st can u high deep h =
+    write G j g W w le (tree.Fold f xs s b) (Three a n m l) ty st can u high deep h =
         let k = right W (max (most position.Argument g xs n) (max (most position.Element g s m) (most position.Element (height_of g xs n ∷ 0 ∷ g) b l))) h in
         let x = read G j g xs n ty.2 (ap own.is_element ty.3) st.0 can u (omega arith) (left (most position.Argument g xs n) (max (most position.Element g s m) (most position.Element (height_of g xs n ∷ 0 ∷ g) b l)) k) in
-        (left W (max (most position.Argument g xs n) (max (most position.Element g s m) (most position.Element (height_of g xs n ∷ 0 ∷ g) b l))) h, (let p = x.stack in let q = x.low in omega arith), x.within)
-    write G j g W (tree.Variable v) (One a n) ty st can u high deep h = absurd ty
-    write G j g W (tree.Variable v) (Two a n m) ty st can u high deep h = absurd ty
-    write G j g W (tree.Variable v) (Three a n m k) ty st can u high deep h = absurd ty
-    write G j g W (tree.Number c) (One a n) ty st can u high deep h = absurd ty
-    write G j g W (tree.Number c) (Two a n m) ty st can u high deep h = absurd ty
-    write G j g W (tree.Number c) (Three a n m k) ty st can u high deep h = absurd ty
-    write G j g W (tree.Input i) (One a n) ty st can u high deep h = absurd ty
-    write G j g W (tree.Input i) (Two a n m) ty st can u high deep h = absurd ty
-    write G j g W (tree.Input i) (Three a n m k) ty st can u high deep h = absurd ty
-    write G j g W (tree.Unary f t) (Leaf a) ty st can u high deep h = absurd ty
-    write G j g W (tree.Unary f t) (Two a n m) ty st can u high deep h = absurd ty
-    write G j g W (tree.Unary f t) (Three a n m k) ty st can u high deep h = absurd ty
-    write G j g W (tree.Binary f t w) (Leaf a) ty st can u high deep h = absurd ty
-    write G j g W (tree.Binary f t w) (One a n) ty st can u high deep h = absurd ty
-    write G j g W (tree.Binary f t w) (Three a n m k) ty st can u high deep h = absurd ty
-    write G j g W (tree.Select t w x) (Leaf a) ty st can u high deep h = absurd ty
-    write G j g W (tree.Select t w x) (One a n) ty st can u high deep h = absurd ty
-    write G j g W (tree.Select t w x) (Two a n m) ty st can u high deep h = absurd ty
-    write G j g W (tree.Let v b) (Leaf a) ty st can u high deep h = absurd ty
-    write G j g W (tree.Let v b) (One a n) ty st can u high deep h = absurd ty
-    write G j g W (tree.Let v b) (Three a n m k) ty st can u high deep h = absurd ty
-    write G j g W (tree.Map f xs b) (Leaf a) ty st can u high deep h = absurd ty
-    write G j g W (tree.Map f xs b) (One a n) ty st can u high deep h = absurd ty
-    write G j g W (tree.Map f xs b) (Three a n m k) ty st can u high deep h = absurd ty
-    write G j g W (tree.Fold f xs s b) (Leaf a) ty st can u high deep h = absurd ty
-    write G j g W (tree.Fold f xs s b) (One a n) ty st can u high deep h = absurd ty
-    write G j g W (tree.Fold f xs s b) (Two a n m) ty st can u high deep h = absurd ty
+        (thrice (left W (max (most position.Argument g xs n) (max (most position.Element g s m) (most position.Element (height_of g xs n ∷ 0 ∷ g) b l))) h) le, (let p = x.stack in let q = x.low in omega arith), x.within)
+    write G j g W w le (tree.Variable v) (One a n) ty st can u high deep h = absurd ty
+    write G j g W w le (tree.Variable v) (Two a n m) ty st can u high deep h = absurd ty
+    write G j g W w le (tree.Variable v) (Three a n m k) ty st can u high deep h = absurd ty
+    write G j g W w le (tree.Number c) (One a n) ty st can u high deep h = absurd ty
+    write G j g W w le (tree.Number c) (Two a n m) ty st can u high deep h = absurd ty
+    write G j g W w le (tree.Number c) (Three a n m k) ty st can u high deep h = absurd ty
+    write G j g W w le (tree.Input i) (One a n) ty st can u high deep h = absurd ty
+    write G j g W w le (tree.Input i) (Two a n m) ty st can u high deep h = absurd ty
+    write G j g W w le (tree.Input i) (Three a n m k) ty st can u high deep h = absurd ty
+    write G j g W w le (tree.Unary f t) (Leaf a) ty st can u high deep h = absurd ty
+    write G j g W w le (tree.Unary f t) (Two a n m) ty st can u high deep h = absurd ty
+    write G j g W w le (tree.Unary f t) (Three a n m k) ty st can u high deep h = absurd ty
+    write G j g W w le (tree.Binary f t x) (Leaf a) ty st can u high deep h = absurd ty
+    write G j g W w le (tree.Binary f t x) (One a n) ty st can u high deep h = absurd ty
+    write G j g W w le (tree.Binary f t x) (Three a n m k) ty st can u high deep h = absurd ty
+    write G j g W w le (tree.Select t y x) (Leaf a) ty st can u high deep h = absurd ty
+    write G j g W w le (tree.Select t y x) (One a n) ty st can u high deep h = absurd ty
+    write G j g W w le (tree.Select t y x) (Two a n m) ty st can u high deep h = absurd ty
+    write G j g W w le (tree.Let v b) (Leaf a) ty st can u high deep h = absurd ty
+    write G j g W w le (tree.Let v b) (One a n) ty st can u high deep h = absurd ty
+    write G j g W w le (tree.Let v b) (Three a n m k) ty st can u high deep h = absurd ty
+    write G j g W w le (tree.Map f xs b) (Leaf a) ty st can u high deep h = absurd ty
+    write G j g W w le (tree.Map f xs b) (One a n) ty st can u high deep h = absurd ty
+    write G j g W w le (tree.Map f xs b) (Three a n m k) ty st can u high deep h = absurd ty
+    write G j g W w le (tree.Fold f xs s b) (Leaf a) ty st can u high deep h = absurd ty
+    write G j g W w le (tree.Fold f xs s b) (One a n) ty st can u high deep h = absurd ty
+    write G j g W w le (tree.Fold f xs s b) (Two a n m) ty st can u high deep h = absurd ty

@@ -8,6 +8,8 @@ use Rattle.size_arith.specs.Polynomial.{minus, no_powers, number, of_monomial, p
 use Rattle.size_arith.specs.Ranges.{leasts}
 use Rattle.size_arith.specs.Shown.{part, ShownAtLeast}
 use Rattle.lift_tree.specs.declared.length.Part.{Part}
+use Rattle.lift_tree.specs.declared.layout.Layout as layout
+use Rattle.lift_tree.specs.declared.layout.Layout.TheVariants.{Join, Transpose, Split, Reverse, Stride}
 use Rattle.lift_tree.specs.declared.term.UnaryForm.{UnaryForm}
 use Rattle.lift_tree.specs.declared.term.UnaryForm.TheVariants as unary
 use Rattle.lift_tree.specs.declared.term.BinaryForm.{BinaryForm}
@@ -21,8 +23,8 @@ use Rattle.lift_tree.specs.Tree.{Tree}
 use Rattle.lift_tree.specs.Types as types
 use Rattle.lift_tree.specs.Types.{PlainTy, IsFormed}
 use Rattle.lift_tree.specs.WorkedOut.{length_of, product_of, sum_of, with_part, worked_out}
-use Rattle.lift_tree.specs.Limits.{arrays, InputFits, NodesFit, OuterFits, SumFits, UnaryFits}
-use Rattle.lift_tree.specs.Typing.{BinaryRow, constant, Declared, UnaryRow}
+use Rattle.lift_tree.specs.Limits.{arrays, InputFits, LayoutFits, NodesFit, OuterFits, SumFits, UnaryFits}
+use Rattle.lift_tree.specs.Typing.{BinaryRow, constant, Declared, LayoutRow, UnaryRow}
 use Rattle.lift_tree.specs.Annotations.{Annotates, Annotation, Leaf, One, Three, Two, type_in}
 use Rattle.lift_ir.specs.AtLaunch.{inner_of, outer_of, shape_of}
 use Rattle.printed_form.specs.Sound.{dimensions}
@@ -117,28 +119,33 @@ module _ (d : Declared) (inputs : Every (IsGood d.names) d.inputs) where
   good_pair : (b c : PlainTy) → Good b → Good c → Good (types.PairOf b c)
   good_pair b c h k = record { formed = (h.formed, k.formed); held = pair_held b c h.held k.held }
 
+  good_layout : (l : layout.Layout) (b a : PlainTy) → LayoutRow d.names l b a → LayoutFits d.names l b → Good b → Good a
+  good_layout Join b a r u h =
+      let g = subst Good r.3 h in
+      let fits = subst (LayoutFits d.names Join) r.3 u in
+      good_array a r.0 (times r.2 r.1) r.4 (subst (IsFormed d.names) r.4 r.5) (held_small (times r.2 r.1) fits.0)
+      (element_held r.0 r.1 (element_held (types.ArrayOf r.0 r.1) r.2 g.held)) fits.1.arrays
+  good_layout Transpose b a r u h =
+      let g = subst Good r.3 h in
+      let fits = subst (LayoutFits d.names Transpose) r.3 u in
+      let x = element_held r.0 r.1 (element_held (types.ArrayOf r.0 r.1) r.2 g.held) in
+      good_array a (types.ArrayOf r.0 r.2) r.1 r.4 (subst (IsFormed d.names) r.4 r.5) g.held.lengths.1.0
+      (array_held r.0 r.2 g.held.lengths.0 x fits.0.arrays) fits.1.arrays
+  good_layout (Split fs) b a r u h =
+      let m = product_of d.names fs in
+      let g = subst Good r.2 h in
+      let fits = subst (LayoutFits d.names (Split fs)) r.2 u in
+      good_array a (types.ArrayOf r.0 (of_monomial m)) (quotient m r.1) r.4 (subst (IsFormed d.names) r.4 r.5) (held_quotient m r.1 g.held.lengths.0)
+      (array_held r.0 (of_monomial m) (held_divisor d.names m r.1 g.formed.0 r.3 g.held.lengths.0) (element_held r.0 r.1 g.held) fits.1.arrays) fits.2.arrays
+  good_layout Reverse b a r u h = subst Good (r.2 ∙ sym r.3) h
+  good_layout (Stride fs) b a r u h = subst Good (r.2 ∙ sym r.4) h
+
   good_unary : (f : UnaryForm) (b a : PlainTy) → UnaryRow d.names f b a → UnaryFits d.names f b → Good b → Good a
   good_unary (unary.Div k) b a r u h = good_number a r.2
   good_unary (unary.Rem k) b a r u h = good_number a r.2
   good_unary unary.First b a r u h = let g = subst Good r.1 h in record { formed = g.formed.0; held = left_held a r.0 g.held }
   good_unary unary.Second b a r u h = let g = subst Good r.1 h in record { formed = g.formed.1; held = right_held r.0 a g.held }
-  good_unary unary.Join b a r u h =
-      let g = subst Good r.3 h in
-      let fits = subst (UnaryFits d.names unary.Join) r.3 u in
-      good_array a r.0 (times r.2 r.1) r.4 (subst (IsFormed d.names) r.4 r.5) (held_small (times r.2 r.1) fits.0)
-      (element_held r.0 r.1 (element_held (types.ArrayOf r.0 r.1) r.2 g.held)) fits.1.arrays
-  good_unary unary.Transpose b a r u h =
-      let g = subst Good r.3 h in
-      let fits = subst (UnaryFits d.names unary.Transpose) r.3 u in
-      let x = element_held r.0 r.1 (element_held (types.ArrayOf r.0 r.1) r.2 g.held) in
-      good_array a (types.ArrayOf r.0 r.2) r.1 r.4 (subst (IsFormed d.names) r.4 r.5) g.held.lengths.1.0
-      (array_held r.0 r.2 g.held.lengths.0 x fits.0.arrays) fits.1.arrays
-  good_unary (unary.Split fs) b a r u h =
-      let m = product_of d.names fs in
-      let g = subst Good r.2 h in
-      let fits = subst (UnaryFits d.names (unary.Split fs)) r.2 u in
-      good_array a (types.ArrayOf r.0 (of_monomial m)) (quotient m r.1) r.4 (subst (IsFormed d.names) r.4 r.5) (held_quotient m r.1 g.held.lengths.0)
-      (array_held r.0 (of_monomial m) (held_divisor d.names m r.1 g.formed.0 r.3 g.held.lengths.0) (element_held r.0 r.1 g.held) fits.1.arrays) fits.2.arrays
+  good_unary (unary.Layout l) b a r u h = good_layout l b a r u h
   good_unary (unary.Slide s t) b a r u h =
       let g = subst Good r.2 h in
       let fits = subst (UnaryFits d.names (unary.Slide s t)) r.2 u in

@@ -23,18 +23,18 @@ space_of Private = PrivateMemory
 abbrev pub AllocatedAreDeclared : Type 0
 AllocatedAreDeclared =
     (d : Declared) (t : Tree) (n : Annotation) → IsStaged Written t n → HasSoundParts d t n
-    → (m : Memory) → copies m t n ≡ copy_lengths (space_of m) (lowered_root t n)
+    → (m : Memory) → copies m t n ≡ copy_lengths (space_of m) (lowered_root d.names t n)
 
 -- arrays in local memory take at most 32,768 bytes, four a cell, and those in private memory have
 -- at most 256 cells; so there are at most 8,192 of the first, and 256 of the second
-pub record AreFew (t : Tree) (n : Annotation) : Type 0 where
-  pub bytes : 4 * sum (copy_lengths LocalMemory (lowered_root t n)) ≤ 32768
-  pub cells : sum (copy_lengths PrivateMemory (lowered_root t n)) ≤ 256
-  pub locals : length (copy_lengths LocalMemory (lowered_root t n)) ≤ 8192
-  pub privates : length (copy_lengths PrivateMemory (lowered_root t n)) ≤ 256
+pub record AreFew (d : Declared) (t : Tree) (n : Annotation) : Type 0 where
+  pub bytes : 4 * sum (copy_lengths LocalMemory (lowered_root d.names t n)) ≤ 32768
+  pub cells : sum (copy_lengths PrivateMemory (lowered_root d.names t n)) ≤ 256
+  pub locals : length (copy_lengths LocalMemory (lowered_root d.names t n)) ≤ 8192
+  pub privates : length (copy_lengths PrivateMemory (lowered_root d.names t n)) ≤ 256
 
 -- where no limit is passed
 abbrev pub DeclaredAreFew : Type 0
 DeclaredAreFew =
     (d : Declared) (t : Tree) (n : Annotation) → IsStaged Written t n → HasSoundParts d t n
-    → passed_limit t n ≡ None → AreFew t n
+    → passed_limit t n ≡ None → AreFew d t n

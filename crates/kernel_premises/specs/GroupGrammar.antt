@@ -30,13 +30,13 @@ pub record IsGroupPrintedWithin (spell : List Monomial → Formula) (fence : ℕ
     (high most : ℕ) (d : Declared) (t : Tree) (a : Annotation) : Type 0 where
   pub some : 1 ≤ high
   pub fits : high + (8 + 3 * most) ≤ 1024
-  pub stands : StandsOverGroups (lowered_root t a)
-  pub flagged : (q : ℕ) → q ≤ phase_count (lowered_root t a) → IsFlagged (fence q)
-  pub written : CanBeWritten (lowered_root t a)
-  pub sound : IsSoundIn (printed_group_kernel spell fence d t a) spell high d (lowered_root t a)
-  pub layouts : IsWrittenWithin most (λ v. 0) 0 (lowered_root t a)
-  pub low : AreLow 1024 (lowered_root t a)
-  pub loops : loop_depth (lowered_root t a) ≤ 1024
+  pub stands : StandsOverGroups (lowered_root d.names t a)
+  pub flagged : (q : ℕ) → q ≤ phase_count (lowered_root d.names t a) → IsFlagged (fence q)
+  pub written : CanBeWritten (lowered_root d.names t a)
+  pub sound : IsSoundIn (printed_group_kernel spell fence d t a) spell high d (lowered_root d.names t a)
+  pub layouts : IsWrittenWithin most (λ v. 0) 0 (lowered_root d.names t a)
+  pub low : AreLow 1024 (lowered_root d.names t a)
+  pub loops : loop_depth (lowered_root d.names t a) ≤ 1024
   pub lengths : AllLengths
       (λ n. IsSpelledIn (printed_group_kernel spell fence d t a) high (spell n))
       (shape_of (type_in a))

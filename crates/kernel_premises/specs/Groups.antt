@@ -34,9 +34,9 @@ abbrev pub kernel_of_groups : Declared → (fence : ℕ → Fencing) → Tree �
 kernel_of_groups d fence t n = printed_group_kernel (length_formula d.names) fence d t n
 
 -- the barriers that the term's phases need
-abbrev pub AreNeeded : (fence : ℕ → Fencing) → Tree → Annotation → Type 0
-AreNeeded fence t n =
-    Needed (group_touches (lowered_root t n)) (phase_count (lowered_root t n)) fence
+abbrev pub AreNeeded : Declared → (fence : ℕ → Fencing) → Tree → Annotation → Type 0
+AreNeeded d fence t n =
+    Needed (group_touches (lowered_root d.names t n)) (phase_count (lowered_root d.names t n)) fence
 
 -- a map over work-groups can be written
 abbrev pub GroupsCanBeWritten : Type 0 → Type 0
@@ -48,7 +48,7 @@ abbrev pub GroupKernelsAreInTheGrammar : Type 0
 GroupKernelsAreInTheGrammar =
     (d : Declared) (fence : ℕ → Fencing) (t : Tree) (n : Annotation)
     → Annotates d [] t n → IsOutput (type_in n) → IsStaged Written t n
-    → StandsOverGroups (lowered_root t n) → AreNeeded fence t n
+    → StandsOverGroups (lowered_root d.names t n) → AreNeeded d fence t n
     → layouts t n ≤ 24 → height t ≤ 512 → HasSoundParts d t n
     → is_kernel (kernel_of_groups d fence t n) ≡ true
 
@@ -56,13 +56,14 @@ GroupKernelsAreInTheGrammar =
 abbrev pub GroupTermsArePrinted : Type 0
 GroupTermsArePrinted =
     (d : Declared) (bases : List ℕ) (fence : ℕ → Fencing) (t : Tree) (n : Annotation) (l : Launch)
-    → IsGroupPrintable d t n → IsLaunchOf d (is_task t) bases l → AreNeeded fence t n
+    → IsGroupPrintable d t n → IsLaunchOf d (is_task t) bases l → AreNeeded d fence t n
     → PrintsGroups d bases t n l (kernel_of_groups d fence t n)
 
 -- of a legal term within the limits on layouts and height it is of the kernel grammar
 abbrev pub LegalGroupKernelsAreInTheGrammar : Type 0
 LegalGroupKernelsAreInTheGrammar =
     (p : PlainProgram) (fence : ℕ → Fencing) (t : Tree) (n : Annotation)
-    → IsLegalTerm p t n → CopiesArrays t n → nest_kind t ≡ OverGroups → AreNeeded fence t n
+    → IsLegalTerm p t n → CopiesArrays t n → nest_kind t ≡ OverGroups
+    → AreNeeded (declared_by p) fence t n
     → layouts t n ≤ 24 → height t ≤ 512
     → is_kernel (kernel_of_groups (declared_by p) fence t n) ≡ true

@@ -31,7 +31,7 @@ pub record IsHeldType (a : PlainTy) : Type 0 where
 pub record HasSoundParts (d : Declared) (t : Tree) (n : Annotation) : Type 0 where
   pub inputs : Every IsHeldType d.inputs
   pub output : IsHeldType (type_in n)
-  pub parts : IsSound IsHeld (λ s. s < length d.inputs) (lowered_root t n)
+  pub parts : IsSound IsHeld (λ s. s < length d.inputs) (lowered_root d.names t n)
 
 -- the length's formula is of the kernel's grammar
 abbrev pub IsLengthIn : Kernel → Declared → List Monomial → Type 0
@@ -39,6 +39,6 @@ IsLengthIn k d p = IsSpelledIn k length_height (length_formula d.names p)
 
 -- the inputs, the output and all lengths in the term are of the kernel's grammar
 pub record HasSpelledParts (k : Kernel) (d : Declared) (t : Tree) (n : Annotation) : Type 0 where
-  pub parts : IsSoundIn k (length_formula d.names) length_height d (lowered_root t n)
+  pub parts : IsSoundIn k (length_formula d.names) length_height d (lowered_root d.names t n)
   pub output : AllLengths (IsLengthIn k d) (shape_of (type_in n))
   pub few : dimensions (shape_of (type_in n)) ≤ 4

@@ -42,7 +42,7 @@ abbrev pub KernelsAreInTheGrammar : Type 0
 KernelsAreInTheGrammar =
     (d : Declared) (t : Tree) (n : Annotation)
     → Annotates d [] t n → IsOutput (type_in n) → IsStaged Written t n
-    → CanBeWritten (lowered_root t n)
+    → CanBeWritten (lowered_root d.names t n)
     → layouts t n ≤ 24 → height t ≤ 512 → HasSoundParts d t n
     → is_kernel (kernel_of_term d t n) ≡ true
 

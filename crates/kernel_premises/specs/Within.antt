@@ -1,5 +1,5 @@
 -- What the limits on a term give its kernel.
-use Rattle.std.specs.Prelude.{ℕ, ◌≤◌, ◌⊎◌, []}
+use Rattle.std.specs.Prelude.{ℕ, ◌*◌, ◌≤◌, ◌⊎◌, []}
 use Rattle.lift_tree.specs.Tree.{Tree, height}
 use Rattle.lift_tree.specs.Types.{IsOutput}
 use Rattle.lift_tree.specs.Annotations.{Annotation, Annotates, type_in}
@@ -18,11 +18,12 @@ abbrev pub TermsCanBeWritten : Type 0 → Type 0
 TermsCanBeWritten A = (t : Term A) → Stands true t ⊎ StandsOverLaunch t → CanBeWritten t
 
 -- a typed term of at most so many layouts, whose height is at most 512, is lowered to one that
--- nests no deeper
+-- nests no deeper; a layout is lowered to at most three
 abbrev pub TermsNestWithin : Type 0
 TermsNestWithin =
     (d : Declared) (most : ℕ) (t : Tree) (n : Annotation) → Annotates d [] t n
-    → IsOutput (type_in n) → IsStaged Written t n → CanBeWritten (lowered_root t n)
+    → IsOutput (type_in n) → IsStaged Written t n → CanBeWritten (lowered_root d.names t n)
     → most ≤ 256 → layouts t n ≤ most → height t ≤ 512
-    → IsWrittenWithin most (λ v. 0) 0 (lowered_root t n) × AreLow 1024 (lowered_root t n)
-    × (loop_depth (lowered_root t n) ≤ 1024)
+    → IsWrittenWithin (3 * most) (λ v. 0) 0 (lowered_root d.names t n)
+    × AreLow 1024 (lowered_root d.names t n)
+    × (loop_depth (lowered_root d.names t n) ≤ 1024)

@@ -2,6 +2,7 @@ pub mod AtKeys
 pub mod Exact
 pub mod Inputs
 pub mod Lengths
+pub mod Listed
 pub mod Names
 pub mod NamesAt
 pub mod Options

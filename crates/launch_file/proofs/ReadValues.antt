@@ -1,8 +1,7 @@
 -- Values as the program holds them, read from JSON.
-use Rattle.std.proofs.Common.{◌≡◌, ◌∙◌, ℕ, ◌≤◌, List, [], ◌∷◌, ◌++◌, length, drop, refl, sym, ap, rules, append-nil, Option, Some, None, Bool, true, false}
+use Rattle.std.proofs.Common.{◌≡◌, ◌∙◌, ℕ, List, [], ◌∷◌, length, refl, sym, ap, rules, Option, Some, None, Bool, true, false}
 use Rattle.std.specs.Prelude.{Vec, map, IsTrue, ◌==◌, if◌then◌else◌, option_map, option_and_then}
 use Rattle.std.specs.Global.{Global}
-use Rattle.std.proofs.lemmas.List.{drop_all}
 use Rattle.serde_json.specs.Data.{Data}
 use Rattle.serde_json.specs.View.{items_view}
 use Rattle.serde_json.specs.declared.value.Value as json
@@ -42,18 +41,17 @@ no_many f n vs h = if_not (items_len (items_view vs) == n) (λ t. h (sym (items_
 pub all_many : (f : Data → Option Value) (n : ℕ) (vs : List json.Value) → length vs ≡ n → read_many f n (items_view vs) ≡ option_map array (read_all f (items_view vs))
 all_many f n vs h = ap (λ b. if b then option_map array (read_all f (items_view vs)) else None) (eq_to (items_len (items_view vs)) n (items_len-items_view vs ∙ h))
 
-pub ruleset read_values = (value_of-List, no_two, no_many, all_many)
+pub ruleset arrays = (value_of-List)
 
--- all members of a list are read
-pub array_done : (sizes : List ℕ) (a ty : Written) (parts : List Part) (d : Data) (vs xs : List json.Value) (members : Vec Val Global) (i : ℕ)
-    → ty ≡ Array a parts → Some (items_view vs) ≡ as_array d → xs ≡ vs → length vs ≡ length_at sizes parts → length xs ≤ i
-    → read_all (read_value sizes a) (items_view xs) ≡ option_map (λ us. map value_of members.items ++ us) (read_all (read_value sizes a) (items_view (drop i xs)))
-    → Some (value_of (held.List members)) ≡ read_value sizes ty d
-array_done sizes a ty parts d vs xs members i t e x len all so_far =
+pub ruleset read_values = (no_two, no_many)
+
+-- the members that are read make an array
+pub array_read : (sizes : List ℕ) (a ty : Written) (parts : List Part) (d : Data) (vs xs : List json.Value) (o : Option (Vec Val Global)) (r : Option Val)
+    → ty ≡ Array a parts → Some (items_view vs) ≡ as_array d → xs ≡ vs → length vs ≡ length_at sizes parts
+    → option_map (λ (ms : Vec Val Global). map value_of ms.items) o ≡ read_all (read_value sizes a) (items_view xs)
+    → option_map value_of r ≡ option_map array (option_map (λ (ms : Vec Val Global). map value_of ms.items) o)
+    → option_map value_of r ≡ read_value sizes ty d
+array_read sizes a ty parts d vs xs o r t e x len read made =
     let f = read_value sizes a in
-    let rest : drop i xs ≡ [] = drop_all i xs all in
-    let read : read_all f (items_view xs) ≡ Some (map value_of members.items) =
-    so_far ∙ ap (λ ys. option_map (λ us. map value_of members.items ++ us) (read_all f (items_view ys))) rest ∙ ap Some (append-nil (map value_of members.items)) in
-    let got : read_many f (length_at sizes parts) (items_view vs) ≡ Some (array (map value_of members.items)) =
-    all_many f (length_at sizes parts) vs len ∙ ap (λ ys. option_map array (read_all f (items_view ys))) (sym x) ∙ ap (option_map array) read in
-    ap Some (value_of-List members) ∙ sym got ∙ ap (option_and_then (read_many f (length_at sizes parts))) e ∙ ap (λ w. read_value sizes w d) (sym t)
+    made ∙ ap (option_map array) (read ∙ ap (λ ys. read_all f (items_view ys)) x) ∙ sym (all_many f (length_at sizes parts) vs len)
+    ∙ ap (option_and_then (read_many f (length_at sizes parts))) e ∙ ap (λ w. read_value sizes w d) (sym t)

@@ -3,31 +3,38 @@ use Rattle.std.proofs.Common.{◌≡◌, ◌∙◌, ◌+◌, ◌++◌, ◌<◌, 
 use Rattle.std.specs.Prelude.{Vec}
 use Rattle.std.specs.Global.{Global}
 use Rattle.std.specs.List.{join_with_byte}
+use Rattle.std.proofs.lemmas.Fmt.{decimal_digit}
 use Rattle.std.proofs.lemmas.List.{take_all, take_more, map-append, length-map, length-take-le}
 use Rattle.lift_tree.specs.declared.value.Val as held
 use Rattle.lift_tree.specs.declared.value.Val.{Val}
-use Rattle.lift_tree.specs.Values.{value_of, array}
+use Rattle.lift_tree.specs.Values.{Value, value_of, array}
 use Rattle.launch_file.specs.ResultLine.{list_text, value_text, member_texts}
 use Rattle.launch_file.proofs.ReadValues.{value_of-List}
 
 abbrev pub text_of : Val → List ℕ
 text_of v = value_text (value_of v)
 
-member_texts-array : (vs : List Val) → member_texts (array (map value_of vs)) ≡ map text_of vs
+member_texts-array : (vs : List Value) → member_texts (array vs) ≡ map value_text vs
 member_texts-array [] = refl
-member_texts-array (v ∷ vs) = ap (λ ts. text_of v ∷ ts) (member_texts-array vs)
+member_texts-array (v ∷ vs) = ap (λ ts. value_text v ∷ ts) (member_texts-array vs)
 
-value_text-array : (vs : List Val) → value_text (array (map value_of vs)) ≡ list_text (map text_of vs)
+pub value_text-array : (vs : List Value) → value_text (array vs) ≡ list_text (map value_text vs)
 value_text-array [] = refl
-value_text-array (v ∷ vs) = ap (λ ts. list_text (text_of v ∷ ts)) (member_texts-array vs)
+value_text-array (v ∷ vs) = ap (λ ts. list_text (value_text v ∷ ts)) (member_texts-array vs)
+
+texts_of : (vs : List Val) → map value_text (map value_of vs) ≡ map text_of vs
+texts_of [] = refl
+texts_of (v ∷ vs) = ap (λ ts. text_of v ∷ ts) (texts_of vs)
 
 pub value_text-List : (xs : Vec Val Global) → value_text (value_of (held.List xs)) ≡ list_text (map text_of xs.items)
-value_text-List xs = ap value_text (value_of-List xs) ∙ value_text-array xs.items
+value_text-List xs = ap value_text (value_of-List xs) ∙ value_text-array (map value_of xs.items) ∙ ap list_text (texts_of xs.items)
 
 pub ruleset value_texts = (value_text-List)
 
+pub ruleset one_digit = (decimal_digit)
+
 -- a further piece stands behind the others and a byte
-join_with_byte-push : (c : ℕ) (pieces : List (List ℕ)) (piece : List ℕ) → 0 < length pieces
+pub join_with_byte-push : (c : ℕ) (pieces : List (List ℕ)) (piece : List ℕ) → 0 < length pieces
     → join_with_byte c (pieces ++ piece ∷ []) ≡ join_with_byte c pieces ++ c ∷ piece
 join_with_byte-push c [] piece h = absurd (omega (arith, h))
 join_with_byte-push c (x ∷ []) piece h = refl

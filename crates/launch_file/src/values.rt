@@ -1,11 +1,12 @@
 //! The inputs that a launch file gives.
 
 ghost use Rattle.std.specs.Prelude.{◌≡◌, ◌≢◌, Err, IfErr, IfOk, Ok, map, option_map};
-ghost use Rattle.serde_json.specs.View.{view};
+ghost use Rattle.serde_json.specs.View.{items_view, view};
 ghost use Rattle.lift_tree.specs.InputTypes.{written_of};
 ghost use Rattle.lift_tree.specs.Programs.{input_of};
-ghost use Rattle.lift_tree.specs.Values.{Both, value_of};
-ghost use Rattle.launch_file.specs.Inputs.{InputsFit, LengthsFit, TypeFits, read_value};
+ghost use Rattle.lift_tree.specs.Values.{Both, Word, array, value_of};
+ghost use Rattle.launch_file.specs.Inputs.{InputsFit, LengthsFit, TypeFits, read_all, read_value};
+ghost use Rattle.launch_file.specs.Json.{word_in};
 ghost use Rattle.launch_file.specs.Judged.{input_judged, inputs_judged};
 ghost use Rattle.launch_file.specs.declared.refusal.LaunchNo.TheVariants.{Memory};
 
@@ -25,8 +26,62 @@ fn pair_of(alloc: Global, first: Val, second: Val) -> Result<Val, AllocError>
     Ok(Val::Pair(first, Box::new(alloc, second)?))
 }
 
+// The array of these members, where there are any.
+#[tactic(auto, using(crate::proofs::ReadValues::arrays))]
+fn array_of(members: Option<Vec<Val>>) -> Option<Val>
+    ensures { option_map value_of result
+        ≡ option_map array (option_map (λ vs. map value_of vs.items) members) }
+{
+    match members {
+        Some(members) => Some(Val::List(members)),
+        None => None,
+    }
+}
+
+// The numbers of a list as values, where all are whole and below 2^32.
+fn numbers_in(alloc: Global, values: &[Value]) -> Result<Option<Vec<Val>>, AllocError>
+    ensures { IfOk result (λ ns. option_map (λ ns. map value_of ns.items) ns
+        ≡ read_all (λ d. option_map Word (word_in d)) (items_view values.now)) }
+{
+    let mut numbers = Vec::with_capacity(alloc, values.len())?;
+    for value in values {
+        let Some(number) = word(value) else {
+            return Ok(None);
+        };
+        numbers.push(Val::Number(number))?;
+    }
+    Ok(Some(numbers))
+}
+
+// The values of the type that a list gives at these sizes, where each gives one. Numbers, of which
+// lists have most, are read without a call each.
+#[cycle(reading)]
+fn members_in(
+    alloc: Global,
+    sizes: &[u32],
+    ty: &InputType,
+    values: &[Value],
+) -> Result<Option<Vec<Val>>, AllocError>
+    requires { LengthsFit sizes.now (written_of ty.now) }
+    ensures { IfOk result (λ vs. option_map (λ vs. map value_of vs.items) vs
+        ≡ read_all (read_value sizes.now (written_of ty.now)) (items_view values.now)) }
+{
+    if let InputType::Number = ty {
+        return numbers_in(alloc, values);
+    }
+    let mut members = Vec::with_capacity(alloc, values.len())?;
+    for member in values {
+        match value_in(alloc, sizes, ty, member)? {
+            Some(member) => members.push(member)?,
+            None => return Ok(None),
+        }
+    }
+    Ok(Some(members))
+}
+
 #[tactic(auto, using(crate::proofs::ReadValues::read_values))]
 // The value of the type that JSON gives at these sizes, where it gives one.
+#[cycle(reading)]
 fn value_in(
     alloc: Global,
     sizes: &[u32],
@@ -61,14 +116,7 @@ fn value_in(
             if values.len() as u64 != length_at(sizes, length) {
                 return Ok(None);
             }
-            let mut members = Vec::with_capacity(alloc, values.len())?;
-            for member in values {
-                match value_in(alloc, sizes, element, member)? {
-                    Some(member) => members.push(member)?,
-                    None => return Ok(None),
-                }
-            }
-            Ok(Some(Val::List(members)))
+            Ok(array_of(members_in(alloc, sizes, element, values)?))
         }
     }
 }

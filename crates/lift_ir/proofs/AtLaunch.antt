@@ -1,22 +1,26 @@
 -- What the typing relation says of lengths holds of their values.
-use Rattle.std.proofs.Common.{◌≡◌, ℕ, ◌+◌, ◌-◌, ◌*◌, ◌/◌, ◌<◌, ◌≤◌, List, length, refl, sym, ap, ◌∙◌, subst, arith, ℤ, pos, negsuc, ◌+ℤ◌, ◌*ℤ◌, ◌≤ℤ◌}
+use Rattle.std.proofs.Common.{◌≡◌, ℕ, zero, suc, ◌+◌, ◌-◌, ◌*◌, ◌/◌, ◌<◌, ◌≤◌, List, [], ◌∷◌, length, refl, sym, ap, ◌∙◌, subst, arith, ℤ, pos, negsuc, ◌+ℤ◌, ◌*ℤ◌, ◌≤ℤ◌}
 use Rattle.std.proofs.lemmas.Int.{ints}
 use Rattle.std.proofs.Math.Nat.{mul-div_cancel_left}
+use Rattle.size_arith.specs.declared.names.Name.{Name}
 use Rattle.size_arith.specs.declared.poly.Monomial.{Monomial}
-use Rattle.size_arith.specs.Polynomial.{value_at, monomial_at, number, of_monomial, plus, minus, times, quotient}
+use Rattle.size_arith.specs.Polynomial.{value_at, monomial_at, product, number, of_monomial, plus, minus, times, quotient}
 use Rattle.size_arith.specs.Shown.{ShownAtLeast}
 use Rattle.size_arith.proofs.Values.{value-plus, value-minus, value-times}
+use Rattle.lift_tree.specs.declared.layout.Layout.TheVariants as layout
 use Rattle.lift_tree.specs.declared.length.Factor.{Factor}
+use Rattle.lift_tree.specs.declared.length.Factor.TheVariants as factor
 use Rattle.lift_tree.specs.declared.term.UnaryForm.{UnaryForm}
 use Rattle.lift_tree.specs.declared.term.UnaryForm.TheVariants as unary
 use Rattle.lift_tree.specs.Meaning.{World, product_at}
+use Rattle.lift_tree.specs.Types as types
 use Rattle.lift_tree.specs.Types.{PlainTy, IsFormed}
-use Rattle.lift_tree.specs.WorkedOut.{product_of}
+use Rattle.lift_tree.specs.WorkedOut.{nth_name, factor_monomial, product_of}
 use Rattle.lift_tree.specs.Typing.{Declared, UnaryRow, constant, IsAdmissible}
 use Rattle.lift_tree.proofs.Sizes.{number_at, value-of_monomial, value-constant, value-quotient, product_value}
 use Rattle.lift_ir.specs.Types.{ArrayOf}
-use Rattle.lift_ir.specs.Layouts.{Split, Transpose, Slide, Reshapes}
-use Rattle.lift_ir.specs.AtLaunch.{natural, inner_of, length_at, ty_at, layout_of}
+use Rattle.lift_ir.specs.Layouts.{Split, Transpose, Reverse, Slide, Reshapes}
+use Rattle.lift_ir.specs.AtLaunch.{natural, inner_of, outer_of, length_at, ty_at, layout_of}
 
 -- a length that is shown at least 1
 natural_is : (z : ℤ) → pos 0 ≤ℤ z → pos (natural z) ≡ z
@@ -28,6 +32,42 @@ pos_same m n e = cc
 
 pos_times : (m n : ℕ) → pos m *ℤ pos n ≡ pos (m * n)
 pos_times m n = refl
+
+-- a product of numbers and sizes is none below zero
+number_of_name : (i before : ℕ) (names : List Name) → (k : ℕ) × ((nth_name i before names).coefficient ≡ pos k)
+number_of_name i before [] = (0, refl)
+number_of_name zero before (n ∷ ns) = (n.multiple, refl)
+number_of_name (suc i) before (n ∷ ns) = number_of_name i (suc before) ns
+
+number_of_factor : (names : List Name) (f : Factor) → (k : ℕ) × ((factor_monomial names f).coefficient ≡ pos k)
+number_of_factor names (factor.Number n) = (n, refl)
+number_of_factor names (factor.Size i) = number_of_name i 0 names
+
+number_of_product : (names : List Name) (fs : List Factor) → (k : ℕ) × ((product_of names fs).coefficient ≡ pos k)
+number_of_product names [] = (1, refl)
+number_of_product names (f ∷ fs) =
+    let a = number_of_factor names f in
+    let b = number_of_product names fs in
+    (a.0 * b.0, ap (λ z. z *ℤ (product_of names fs).coefficient) a.1 ∙ ap (λ z. pos a.0 *ℤ z) b.1 ∙ pos_times a.0 b.0)
+
+value_of_product : (names : List Name) (ys : List ℕ) (fs : List Factor) → (k : ℕ) × (monomial_at ys (product_of names fs) ≡ pos k)
+value_of_product names ys fs =
+    let a = number_of_product names fs in
+    let powers = product ys (product_of names fs).powers in
+    (a.0 * powers, ap (λ z. z *ℤ pos powers) a.1 ∙ pos_times a.0 powers)
+
+-- what makes a number above 0 of one is above 0 too
+other_factor : (k n : ℕ) (z : ℤ) → pos n ≡ pos k *ℤ z → 0 < n → (q : ℕ) × (z ≡ pos q) × (n ≡ k * q)
+other_factor k n (pos q) e h = (q, refl, pos_same n (k * q) e)
+other_factor k n (negsuc q) e h = absurd (omega (arith, ints))
+
+some_first : (m q n : ℕ) → n ≡ m * q → 0 < n → 0 < m
+some_first zero q n e h = absurd (omega arith)
+some_first (suc m) q n e h = omega arith
+
+some_second : (m q n : ℕ) → n ≡ m * q → 0 < n → 0 < q
+some_second m zero n e h = absurd (omega arith)
+some_second m (suc q) n e h = omega arith
 
 module _ (d : Declared) (bases : List ℕ) (shown : (k : ℕ) (p : List Monomial) → ShownAtLeast k d.names p → pos k ≤ℤ value_at bases p) where
   abbrev at : List Monomial → ℕ
@@ -46,7 +86,7 @@ module _ (d : Declared) (bases : List ℕ) (shown : (k : ℕ) (p : List Monomial
   quotient_is : (n q : List Monomial) (m : Monomial) (k : ℕ) → monomial_at bases m ≡ pos k → value_at bases n ≡ monomial_at bases m *ℤ value_at bases q → pos (at n) ≡ value_at bases n → pos (at q) ≡ value_at bases q → at n ≡ k * at q
   quotient_is n q m k e f en eq = pos_same (at n) (k * at q) (en ∙ f ∙ ap (λ z. z *ℤ value_at bases q) e ∙ ap (λ z. pos k *ℤ z) (sym eq) ∙ pos_times k (at q))
 
-  pub split_reshapes : (fs : List Factor) (b a : PlainTy) → IsFormed d.names b → UnaryRow d.names (unary.Split fs) b a → Of b a (unary.Split fs)
+  pub split_reshapes : (fs : List Factor) (b a : PlainTy) → IsFormed d.names b → UnaryRow d.names (unary.Layout (layout.Split fs)) b a → Of b a (unary.Layout (layout.Split fs))
   split_reshapes fs b a fb r =
       let x = r.0 in
       let n = r.1 in
@@ -63,7 +103,7 @@ module _ (d : Declared) (bases : List ℕ) (shown : (k : ℕ) (p : List Monomial
       subst (λ z. Reshapes (length_at bases) (Split (inner_of z)) (ty_at bases b) (ty_at bases a)) (sym r.4)
       (subst (λ z. Reshapes (length_at bases) (Split size) (ty_at bases z) (ty_at bases a)) (sym r.2) (es.1, back, ap (ty_at bases) r.4 ∙ ap (λ z. ArrayOf z (ArrayOf (at size) (ty_at bases x))) (sym divided)))
 
-  pub join_reshapes : (b a : PlainTy) → IsFormed d.names b → UnaryRow d.names unary.Join b a → Of b a unary.Join
+  pub join_reshapes : (b a : PlainTy) → IsFormed d.names b → UnaryRow d.names (unary.Layout layout.Join) b a → Of b a (unary.Layout layout.Join)
   join_reshapes b a fb r =
       let x = r.0 in
       let m = r.1 in
@@ -72,12 +112,51 @@ module _ (d : Declared) (bases : List ℕ) (shown : (k : ℕ) (p : List Monomial
       let em = long m child.1.0 in
       let en = long n child.0 in
       let product : value_at bases (times n m) ≡ pos (at n * at m) = value-times bases n m ∙ ap (λ z. z *ℤ value_at bases m) (sym en.0) ∙ ap (λ z. pos (at n) *ℤ z) (sym em.0) ∙ pos_times (at n) (at m) in
-      subst (λ z. Reshapes (length_at bases) (layout_of unary.Join a z) (ty_at bases z) (ty_at bases a)) (sym r.3) (em.1, refl, ap (ty_at bases) r.4 ∙ ap (λ z. ArrayOf (natural z) (ty_at bases x)) product)
+      subst (λ z. Reshapes (length_at bases) (layout_of (unary.Layout layout.Join) a z) (ty_at bases z) (ty_at bases a)) (sym r.3) (em.1, refl, ap (ty_at bases) r.4 ∙ ap (λ z. ArrayOf (natural z) (ty_at bases x)) product)
 
-  pub transpose_reshapes : (b a : PlainTy) → IsFormed d.names b → UnaryRow d.names unary.Transpose b a → Of b a unary.Transpose
+  pub transpose_reshapes : (b a : PlainTy) → IsFormed d.names b → UnaryRow d.names (unary.Layout layout.Transpose) b a → Of b a (unary.Layout layout.Transpose)
   transpose_reshapes b a fb r =
       let child = subst (IsFormed d.names) r.3 fb in
       subst (λ z. Reshapes (length_at bases) Transpose (ty_at bases z) (ty_at bases a)) (sym r.3) ((long r.2 child.0).1, ap (ty_at bases) r.4)
+
+  pub reverse_reshapes : (b a : PlainTy) → IsFormed d.names b → UnaryRow d.names (unary.Layout layout.Reverse) b a → Of b a (unary.Layout layout.Reverse)
+  reverse_reshapes b a fb r =
+      subst (λ z. Reshapes (length_at bases) (Reverse (outer_of z)) (ty_at bases z) (ty_at bases a)) (sym r.2) (refl, ap (ty_at bases) r.3)
+
+  -- the lengths of a stride's rows and columns
+  pub record Strides (fs : List Factor) (b a : PlainTy) : Type 0 where
+    pub element : PlainTy
+    pub step : ℕ
+    pub rest : ℕ
+    pub step_is : at (of_monomial (product_of d.names fs)) ≡ step
+    pub rest_is : at (quotient (product_of d.names fs) (outer_of b)) ≡ rest
+    pub some_step : 0 < step
+    pub some_rest : 0 < rest
+    pub operand : ty_at bases b ≡ ArrayOf (step * rest) (ty_at bases element)
+    pub result : ty_at bases a ≡ ArrayOf (step * rest) (ty_at bases element)
+
+  pub stride_lengths : (fs : List Factor) (b a : PlainTy) → IsFormed d.names b → UnaryRow d.names (unary.Layout (layout.Stride fs)) b a → Strides fs b a
+  stride_lengths fs b a fb r =
+      let x = r.0 in
+      let n = r.1 in
+      let m = product_of d.names fs in
+      let child = subst (IsFormed d.names) r.2 fb in
+      let en = long n child.0 in
+      let k = value_of_product d.names bases fs in
+      let e : pos (at n) ≡ pos k.0 *ℤ value_at bases (quotient m n) = en.0 ∙ value-quotient bases m n r.3 ∙ ap (λ z. z *ℤ value_at bases (quotient m n)) k.1 in
+      let q = other_factor k.0 (at n) (value_at bases (quotient m n)) e en.1 in
+      let array : ty_at bases (types.ArrayOf x n) ≡ ArrayOf (k.0 * q.0) (ty_at bases x) = ap (λ z. ArrayOf z (ty_at bases x)) q.2 in
+      record {
+        element = x;
+        step = k.0;
+        rest = q.0;
+        step_is = ap natural (value-of_monomial bases m ∙ k.1);
+        rest_is = ap (λ z. at (quotient m (outer_of z))) r.2 ∙ ap natural q.1;
+        some_step = some_first k.0 q.0 (at n) q.2 en.1;
+        some_rest = some_second k.0 q.0 (at n) q.2 en.1;
+        operand = ap (ty_at bases) r.2 ∙ array;
+        result = ap (ty_at bases) r.4 ∙ array;
+      }
 
   pub slide_reshapes : (s t : ℕ) (b a : PlainTy) → IsFormed d.names b → UnaryRow d.names (unary.Slide s t) b a → Of b a (unary.Slide s t)
   slide_reshapes s t b a fb r =

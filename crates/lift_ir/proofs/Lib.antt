@@ -11,3 +11,4 @@ pub mod Typed
 pub mod Owner
 pub mod Values
 pub mod Served
+pub mod Reshaped

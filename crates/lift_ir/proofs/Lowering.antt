@@ -2,6 +2,7 @@
 use Rattle.std.proofs.Common.{◌≡◌, ℕ, zero, suc, ◌+◌, ◌<◌, ◌≤◌, Bool, true, false, List, [], ◌∷◌, length, Some, refl, sym, ap, ◌∙◌, inl, inr, arith}
 use Rattle.std.specs.Prelude.{slice_get, if◌then◌else◌, nat_eq}
 use Rattle.size_arith.specs.declared.poly.Monomial.{Monomial}
+use Rattle.lift_tree.specs.declared.layout.Layout.TheVariants as layout
 use Rattle.lift_tree.specs.declared.term.UnaryForm.TheVariants as unary
 use Rattle.lift_tree.specs.declared.term.BinaryForm.TheVariants as binary
 use Rattle.lift_tree.specs.Tree as tree
@@ -52,7 +53,7 @@ module _ (d : Declared) (w : World) (ok : IsAdmissible d w) (few : length d.name
       go false = h
 
   -- the lowered term is the source's
-  pub lowers_is : (t : Tree) (p : Place) (g : List PlainTy) (a : Annotation) (n : ℕ) → length g ≡ n → Annotates d g t a → IsLowerable w.bases p t a → Is n t (lower p t a)
+  pub lowers_is : (t : Tree) (p : Place) (g : List PlainTy) (a : Annotation) (n : ℕ) → length g ≡ n → Annotates d g t a → IsLowerable w.bases p t a → Is n t (lower d.names p t a)
   lowers_is (tree.Variable v) p g (Leaf a) n e h l = lowers_put p a n _ _ (refl, let z = there_is g v a h in omega arith)
   lowers_is (tree.Number c) p g (Leaf a) n e h l = lowers_put p a n _ _ refl
   lowers_is (tree.Input i) p g (Leaf a) n e h l = (refl, there_is d.inputs i a h)
@@ -60,9 +61,13 @@ module _ (d : Declared) (w : World) (ok : IsAdmissible d w) (few : length d.name
   lowers_is (tree.Unary (unary.Rem m) t) p g (One a x) n e h l = lowers_put p a n _ _ (t, inr (refl, refl), lowers_is t Element g x n e h.0 l.3)
   lowers_is (tree.Unary unary.First t) p g (One a x) n e h l = lowers_put p a n _ _ (t, refl, lowers_is t (operand_place unary.First p) g x n e h.0 l.3)
   lowers_is (tree.Unary unary.Second t) p g (One a x) n e h l = lowers_put p a n _ _ (t, refl, lowers_is t (operand_place unary.Second p) g x n e h.0 l.3)
-  lowers_is (tree.Unary unary.Join t) p g (One a x) n e h l = (t, refl, lowers_is t p g x n e h.0 l.3)
-  lowers_is (tree.Unary unary.Transpose t) p g (One a x) n e h l = (t, refl, lowers_is t p g x n e h.0 l.3)
-  lowers_is (tree.Unary (unary.Split fs) t) p g (One a x) n e h l = (t, (fs, refl, sym (ap (λ z. length_at w.bases (inner_of z)) h.1.4 ∙ split_size d w ok few fs)), lowers_is t p g x n e h.0 l.3)
+  lowers_is (tree.Unary (unary.Layout layout.Join) t) p g (One a x) n e h l = (t, inl refl, lowers_is t p g x n e h.0 l.3)
+  lowers_is (tree.Unary (unary.Layout layout.Transpose) t) p g (One a x) n e h l = (t, refl, lowers_is t p g x n e h.0 l.3)
+  lowers_is (tree.Unary (unary.Layout layout.Reverse) t) p g (One a x) n e h l = (t, refl, lowers_is t p g x n e h.0 l.3)
+  lowers_is (tree.Unary (unary.Layout (layout.Stride fs)) t) p g (One a x) n e h l =
+      let split = tree.Unary (unary.Layout (layout.Split fs)) t in
+      (tree.Unary (unary.Layout layout.Transpose) split, inr (fs, t, refl, refl), (split, refl, (t, (fs, refl, sym (split_size d w ok few fs)), lowers_is t p g x n e h.0 l.3)))
+  lowers_is (tree.Unary (unary.Layout (layout.Split fs)) t) p g (One a x) n e h l = (t, (fs, refl, sym (ap (λ z. length_at w.bases (inner_of z)) h.1.4 ∙ split_size d w ok few fs)), lowers_is t p g x n e h.0 l.3)
   lowers_is (tree.Unary (unary.Slide s k) t) p g (One a x) n e h l = (t, refl, lowers_is t p g x n e h.0 l.3)
   lowers_is (tree.Unary (unary.Pad s k) t) p g (One a x) n e h l = (t, refl, lowers_is t p g x n e h.0 l.3)
   lowers_is (tree.Unary unary.ToLocal t) p g (One a x) n e h l = (t, refl, lowers_is t Written g x n e h.0 l.3)

@@ -6,24 +6,32 @@ use Rattle.lift_tree.specs.Tree as tree
 use Rattle.lift_tree.specs.Tree.{Tree}
 use Rattle.lift_tree.specs.Values.{Value, Word, members, array, word, first, second, nth}
 use Rattle.lift_tree.specs.Values as value
-use Rattle.lift_tree.specs.Lists.{fold_left, zip_with, pieces}
-use Rattle.lift_tree.specs.Meaning.{World, meaning, array_of_rows}
+use Rattle.lift_tree.specs.Lists.{concat, fold_left, zip_with, pieces}
+use Rattle.lift_tree.specs.Meaning.{World, meaning, rows, array_of_rows, product_at}
 use Rattle.lift_tree.proofs.Members.{length-map}
 use Rattle.lift_ir.specs.Types.{Ty, Scalar, PairOf, ArrayOf}
 use Rattle.lift_ir.specs.Scalars.{Scalars, at_index, by_side, folded, scalars_of, HasScalars}
 use Rattle.lift_ir.specs.Terms.{LocalMemory, PrivateMemory, push, Term, Literal, Bound, Source, Apply, ApplyNumber, Select, Both, Project, Reshape, LetArray, LetElement, Map, Fold, Store, Copy, HasType}
-use Rattle.lift_ir.specs.Layouts.{Layout, Split, Join, Transpose, Slide, Pad, operand_position, Reshapes}
-use Rattle.lift_ir.specs.Sources.{IsLayout, Lowers}
-use Rattle.lift_ir.proofs.Nested.{at-map, members_of, is_as, split_is, slide_is, join_is, transpose_is, pad_is}
+use Rattle.lift_ir.specs.Layouts.{Layout, Split, Join, Transpose, Reverse, Slide, Pad, operand_position, Reshapes}
+use Rattle.lift_ir.specs.Sources.{IsJoin, IsLayout, Lowers}
+use Rattle.lift_ir.proofs.Nested.{at-map, members_of, is_as, split_is, slide_is, join_is, transpose_is, reverse_is, pad_is, stride_is}
 
 module _ {A : Type 0} (num : A → ℕ) (w : World) where
+  joined : (vs : List Value) (x y : Tree) → IsJoin x y → meaning w vs x ≡ array (concat (rows (meaning w vs y)))
+  joined vs x y i =
+      ⊎_elim
+      (λ e. ap (meaning w vs) e)
+      (λ s. ap (meaning w vs) s.2 ∙ stride_is (product_at w.sizes s.0) (members (meaning w vs s.1)) ∙ ap (λ z. array (concat (rows (meaning w vs z)))) (sym s.3))
+      i
+
   pub laid_is : (vs : List Value) (l : Layout A) (x y : Tree) (t u : Ty) (s : Scalars) → IsLayout num w x l y → Reshapes num l t u → HasScalars t (meaning w vs y) s → HasScalars u (meaning w vs x) (λ cs q. s cs (operand_position num l q))
   laid_is vs (Split m) x y (ArrayOf n t) u s i r h =
       let v = meaning w vs y in
       subst (λ z. HasScalars u (meaning w vs z) (λ cs q. s cs (operand_position num (Split m) q))) (sym i.1)
       (subst (λ k. HasScalars u (array_of_rows (pieces (length (members v) / k) k k (members v))) (λ cs q. s cs (operand_position num (Split m) q))) (sym i.2) (split_is num m n t u v s r h))
-  laid_is vs (Join m) x y (ArrayOf n (ArrayOf k t)) u s i r h = subst (λ z. HasScalars u (meaning w vs z) (λ cs q. s cs (operand_position num (Join m) q))) (sym i) (join_is num m n k t u (meaning w vs y) s r h)
+  laid_is vs (Join m) x y (ArrayOf n (ArrayOf k t)) u s i r h = subst (λ z. HasScalars u z (λ cs q. s cs (operand_position num (Join m) q))) (sym (joined vs x y i)) (join_is num m n k t u (meaning w vs y) s r h)
   laid_is vs Transpose x y (ArrayOf n (ArrayOf m t)) u s i r h = subst (λ z. HasScalars u (meaning w vs z) (λ cs q. s cs (operand_position num Transpose q))) (sym i) (transpose_is num n m t u (meaning w vs y) s r h)
+  laid_is vs (Reverse k) x y (ArrayOf n t) u s i r h = subst (λ z. HasScalars u (meaning w vs z) (λ cs q. s cs (operand_position num (Reverse k) q))) (sym i) (reverse_is num k n t u (meaning w vs y) s r h)
   laid_is vs (Slide m k) x y (ArrayOf n t) u s i r h = subst (λ z. HasScalars u (meaning w vs z) (λ cs q. s cs (operand_position num (Slide m k) q))) (sym i) (slide_is num m k n t u (meaning w vs y) s r h)
   laid_is vs (Pad a b k) x y (ArrayOf n t) u s i r h = subst (λ z. HasScalars u (meaning w vs z) (λ cs q. s cs (operand_position num (Pad a b k) q))) (sym i) (pad_is num a b k n t u (meaning w vs y) s r h)
   laid_is vs _ x y t u s i r h = absurd (assumption)

@@ -2,8 +2,11 @@
 use Rattle.std.proofs.Common.{arith, ◌≡◌, ℕ, zero, suc, ◌++◌, Bool, true, false, List, [], ◌∷◌, Some, refl, sym, ap, ◌∙◌, subst, inl, inr}
 use Rattle.std.proofs.lemmas.Bool.Decides.{nat_tests}
 use Rattle.std.specs.Prelude.{slice_get, if◌then◌else◌, nat_eq}
+use Rattle.lift_tree.specs.declared.layout.Layout as layout
+use Rattle.lift_tree.specs.declared.layout.Layout.TheVariants as layouts
 use Rattle.lift_tree.specs.declared.term.UnaryForm.TheVariants as unary
 use Rattle.lift_tree.specs.declared.term.BinaryForm.TheVariants as binary
+use Rattle.size_arith.specs.declared.names.Name.{Name}
 use Rattle.size_arith.specs.declared.poly.Monomial.{Monomial}
 use Rattle.lift_tree.specs.Tree as tree
 use Rattle.lift_tree.specs.Tree.{Tree}
@@ -11,11 +14,12 @@ use Rattle.lift_tree.specs.Types as types
 use Rattle.lift_tree.specs.Types.{PlainTy}
 use Rattle.lift_tree.specs.Typing.{Declared}
 use Rattle.lift_tree.specs.Annotations.{Annotation, Leaf, One, Two, Three, type_in, Annotates}
+use Rattle.lift_tree.proofs.Layouts.{layout_result}
 use Rattle.lift_ir.specs.Types.{Ty, PairOf, IsPosition}
 use Rattle.lift_ir.specs.Terms.{LoadSet, Skip, Take, Each, Term, push}
 use Rattle.lift_ir.specs.AtLaunch.{ty_at}
 use Rattle.lift_ir.specs.Loads.{covers, all, none, held_scalars, IsHeld, AllHeld, AreLetsHeld, LoadsSuffice}
-use Rattle.lift_ir.specs.Lowering.{Place, Written, Argument, Element, element_ty, is_element, element_of, Lowered, all_scalars, reached, merged, named, value_place, lower_let, placed_element, lower}
+use Rattle.lift_ir.specs.Lowering.{Place, Written, Argument, Element, element_ty, is_element, element_of, Lowered, all_scalars, reached, merged, named, value_place, lower_let, lower_unary, placed_element, lower}
 use Rattle.lift_ir.specs.Lowerable.{HoldsNoScalar, IsElementTerm, IsStaged, IsLowerable}
 use Rattle.lift_ir.proofs.Typed.{element_same, told}
 
@@ -92,16 +96,16 @@ named_both h x y a b (false ∷ q) i f k = f q i
 named_both h x y a b (true ∷ q) i f k = k q i
 
 -- an element let as it is lowered
-let_is : (p : Place) (a : PlainTy) (x : Annotation) (v : Tree) (b : Lowered) → is_element (type_in x) ≡ true → lower_let (type_in x) (lower (value_place x) v x) b ≡ Term.LetElement (element_ty (type_in x)) (lower Element v x) b
-let_is p a x v b e = go (is_element (type_in x)) e
+let_is : (names : List Name) (p : Place) (a : PlainTy) (x : Annotation) (v : Tree) (b : Lowered) → is_element (type_in x) ≡ true → lower_let (type_in x) (lower names (value_place x) v x) b ≡ Term.LetElement (element_ty (type_in x)) (lower names Element v x) b
+let_is names p a x v b e = go (is_element (type_in x)) e
   where
-    go : (z : Bool) → z ≡ true → (if z then Term.LetElement (element_ty (type_in x)) (lower (if z then Element else Argument) v x) b else Term.LetArray (lower (if z then Element else Argument) v x) b) ≡ Term.LetElement (element_ty (type_in x)) (lower Element v x) b
+    go : (z : Bool) → z ≡ true → (if z then Term.LetElement (element_ty (type_in x)) (lower names (if z then Element else Argument) v x) b else Term.LetArray (lower names (if z then Element else Argument) v x) b) ≡ Term.LetElement (element_ty (type_in x)) (lower names Element v x) b
     go true e = refl
     go false e = absurd (cc)
 
 module _ (d : Declared) where
   abbrev low : Tree → Annotation → Lowered
-  low t a = lower Element t a
+  low t a = lower d.names Element t a
 
   put_element_is : (a : PlainTy) (h : ℕ → List Bool → Bool) (cs : List Bool) (x y : Lowered) → x ≡ y → IsHeld h y cs → IsHeld h (placed_element Element a x) cs
   put_element_is a h cs x y e n = go (is_element a)
@@ -134,7 +138,7 @@ module _ (d : Declared) where
         is_named w g z h [] [] s.2 o.2 (known_right h g (λ v c. named v c [] u) (λ v c. named v c [] w) r) (subst (λ z. IsPosition (ty z) [] []) (sym s.5) tt),
       )
   is_named (tree.Let v b) g (Two a x y) h p cs s o k i =
-      put_element_is a h (p ++ cs) _ _ (let_is Element a x v (low b y) o.0)
+      put_element_is a h (p ++ cs) _ _ (let_is d.names Element a x v (low b y) o.0)
       (is_named b (type_in x ∷ g) y (push all h) [] (p ++ cs) s.1 o.2 (known_under h g (type_in x) all b (known_right h g (λ u c. named u c [] v) (λ u c. named (suc u) c [] b) k) (λ cs i o. refl)) (subst (λ z. IsPosition (ty z) (p ++ cs) []) s.2 i))
   is_named _ g _ h p cs s o k i = absurd o
 
@@ -164,7 +168,7 @@ module _ (d : Declared) where
       (lets_named t g x h [] s.0 o.0 (known_left h g (λ v c. merged (named v c [] u) (named v c [] w)) t k), lets_named u g y h [] s.1 o.1 (known_left h g (λ v c. named v c [] w) u r), lets_named w g z h [] s.2 o.2 (known_right h g (λ v c. named v c [] u) (λ v c. named v c [] w) r))
   lets_named (tree.Let v b) g (Two a x y) h p s o k =
       let l = known_left h g (λ u c. named (suc u) c [] b) v k in
-      put_element_lets a h _ _ (let_is Element a x v (low b y) o.0) (
+      put_element_lets a h _ _ (let_is d.names Element a x v (low b y) o.0) (
         all_named v g x h s.0 o.1 l (told (type_in x) o.0),
         lets_named v g x h [] s.0 o.1 l,
         lets_named b (type_in x ∷ g) y (push all h) [] s.1 o.2 (known_under h g (type_in x) all b (known_right h g (λ u c. named u c [] v) (λ u c. named (suc u) c [] b) k) (λ cs i o. refl)),
@@ -181,8 +185,8 @@ module _ (d : Declared) where
   -- a let, where its own type and its value's are elements or aren't
   abbrev inner : (p : Place) (x y : Annotation) (v b : Tree) (of_element : Bool) → Lowered
   inner p x y v b n =
-      if n then Term.LetElement (element_ty (type_in x)) (lower (if n then Element else Argument) v x) (lower p b y)
-      else Term.LetArray (lower (if n then Element else Argument) v x) (lower p b y)
+      if n then Term.LetElement (element_ty (type_in x)) (lower d.names (if n then Element else Argument) v x) (lower d.names p b y)
+      else Term.LetArray (lower d.names (if n then Element else Argument) v x) (lower d.names p b y)
 
   abbrev written_let : (a : PlainTy) (x y : Annotation) (v b : Tree) (is_one of_element : Bool) → Lowered
   written_let a x y v b m n = if m then Term.Store (element_ty a) (inner (if m then Element else Written) x y v b n) else inner (if m then Element else Written) x y v b n
@@ -199,24 +203,22 @@ module _ (d : Declared) where
   argued_kept h x y v b false n k cs e z = subst (λ n. held_scalars h (inner Argument x y v b n) cs ≡ true) (sym e) z
 
   -- a scalar of an argument is in a variable, where it is named
-  kept_named : (t : Tree) (g : List PlainTy) (a : Annotation) (h : ℕ → List Bool → Bool) (q cs : List Bool) → Annotates d g t a → IsStaged Argument t a → Known h g q t → IsPosition (ty (type_in a)) (q ++ cs) [] → held_scalars h (lower Argument t a) (q ++ cs) ≡ true
+  kept_named : (t : Tree) (g : List PlainTy) (a : Annotation) (h : ℕ → List Bool → Bool) (q cs : List Bool) → Annotates d g t a → IsStaged Argument t a → Known h g q t → IsPosition (ty (type_in a)) (q ++ cs) [] → held_scalars h (lower d.names Argument t a) (q ++ cs) ≡ true
   kept_named (tree.Variable v) g (Leaf a) h q cs s o k i = k v a s (q ++ cs) i (subst (λ b. covers (if b then reached a q else Skip) (q ++ cs) ≡ true) (sym (same_number v)) (covers_reach a q cs i))
   kept_named (tree.Input v) g (Leaf a) h q cs s o k i = absurd (no_scalar a (q ++ cs) o i)
   kept_named (tree.Unary unary.First t) g (One a x) h q cs s o k i = kept_named t g x h (false ∷ q) cs s.0 o k (subst (λ z. IsPosition (ty z) (false ∷ q ++ cs) []) (sym s.1.1) i)
   kept_named (tree.Unary unary.Second t) g (One a x) h q cs s o k i = kept_named t g x h (true ∷ q) cs s.0 o k (subst (λ z. IsPosition (ty z) (true ∷ q ++ cs) []) (sym s.1.1) i)
   kept_named (tree.Unary unary.ToLocal t) g (One a x) h q cs s o k i = absurd (no_scalar a (q ++ cs) o.0 i)
   kept_named (tree.Unary unary.ToPrivate t) g (One a x) h q cs s o k i = absurd (no_scalar a (q ++ cs) o.0 i)
-  kept_named (tree.Unary unary.Join t) g (One a x) h q cs s o k i = absurd (subst (λ z. IsPosition (ty z) (q ++ cs) []) s.1.4 i)
-  kept_named (tree.Unary unary.Transpose t) g (One a x) h q cs s o k i = absurd (subst (λ z. IsPosition (ty z) (q ++ cs) []) s.1.4 i)
-  kept_named (tree.Unary (unary.Split fs) t) g (One a x) h q cs s o k i = absurd (subst (λ z. IsPosition (ty z) (q ++ cs) []) s.1.4 i)
+  kept_named (tree.Unary (unary.Layout l) t) g (One a x) h q cs s o k i = absurd (subst (λ z. IsPosition (ty z) (q ++ cs) []) (layout_result d.names l (type_in x) a s.1).is i)
   kept_named (tree.Unary (unary.Slide l m) t) g (One a x) h q cs s o k i = absurd (subst (λ z. IsPosition (ty z) (q ++ cs) []) s.1.6 i)
   kept_named (tree.Unary (unary.Pad l m) t) g (One a x) h q cs s o k i = absurd (subst (λ z. IsPosition (ty z) (q ++ cs) []) s.1.3 i)
   kept_named (tree.Binary binary.Zip t u) g (Two a x y) h q cs s o k i = absurd (subst (λ z. IsPosition (ty z) (q ++ cs) []) s.2.5 i)
   kept_named (tree.Let v b) g (Two a x y) h q cs s o k i =
       let left = known_left h g (λ u c. named (suc u) c [] b) v k in
-      let below = known_under h g (type_in x) (held_scalars h (lower Argument v x)) b (known_right h g (λ u c. named u c [] v) (λ u c. named (suc u) c [] b) k) (λ ds j e. kept_named v g x h [] ds s.0 o.1 left j) in
+      let below = known_under h g (type_in x) (held_scalars h (lower d.names Argument v x)) b (known_right h g (λ u c. named u c [] v) (λ u c. named (suc u) c [] b) k) (λ ds j e. kept_named v g x h [] ds s.0 o.1 left j) in
       argued_kept h x y v b (is_element a) (is_element (type_in x)) false (q ++ cs) o.0
-      (kept_named b (type_in x ∷ g) y (push (held_scalars h (lower Argument v x)) h) [] (q ++ cs) s.1 o.2 below (subst (λ z. IsPosition (ty z) (q ++ cs) []) s.2 i))
+      (kept_named b (type_in x ∷ g) y (push (held_scalars h (lower d.names Argument v x)) h) [] (q ++ cs) s.1 o.2 below (subst (λ z. IsPosition (ty z) (q ++ cs) []) s.2 i))
   kept_named _ g _ h q cs s o k i = absurd o
 
   suffices_put : (t : Tree) (g : List PlainTy) (a : Annotation) (h : ℕ → List Bool → Bool) (b : PlainTy) → Annotates d g t a → IsElementTerm t a → Known h g [] t → b ≡ type_in a → types.IsElement b → LoadsSuffice h (Term.Store (element_ty b) (low t a))
@@ -241,7 +243,14 @@ module _ (d : Declared) where
   known_whole : (h : ℕ → List Bool → Bool) (g : List PlainTy) (q : List Bool) (t : Tree) → q ≡ [] → Known h g q t → Known h g [] t
   known_whole h g q t e k = subst (λ z. Known h g z t) e k
 
-  suffices : (ys : List ℕ) (t : Tree) (p : Place) (g : List PlainTy) (a : Annotation) (h : ℕ → List Bool → Bool) (q : List Bool) → Chain p q → Annotates d g t a → IsLowerable ys p t a → IsStaged p t a → Known h g q t → LoadsSuffice h (lower p t a)
+  through : (f : layout.Layout) (p : Place) (a b : PlainTy) (h : ℕ → List Bool → Bool) (t : Lowered) → LoadsSuffice h t → LoadsSuffice h (lower_unary d.names p (unary.Layout f) a b t)
+  through layouts.Join p a b h t s = s
+  through layouts.Transpose p a b h t s = s
+  through (layouts.Split fs) p a b h t s = s
+  through layouts.Reverse p a b h t s = s
+  through (layouts.Stride fs) p a b h t s = s
+
+  suffices : (ys : List ℕ) (t : Tree) (p : Place) (g : List PlainTy) (a : Annotation) (h : ℕ → List Bool → Bool) (q : List Bool) → Chain p q → Annotates d g t a → IsLowerable ys p t a → IsStaged p t a → Known h g q t → LoadsSuffice h (lower d.names p t a)
   suffices ys (tree.Variable v) Written g (Leaf a) h q z s l o k = suffices_put (tree.Variable v) g (Leaf a) h a s o (known_whole h g q (tree.Variable v) z k) refl l
   suffices ys (tree.Variable v) Argument g (Leaf a) h q z s l o k = tt
   suffices ys (tree.Input v) Argument g (Leaf a) h q z s l o k = tt
@@ -252,12 +261,8 @@ module _ (d : Declared) where
   suffices ys (tree.Unary unary.First t) Argument g (One a x) h q z s l o k = suffices ys t Argument g x h (false ∷ q) tt s.0 l.3 o k
   suffices ys (tree.Unary unary.Second t) Written g (One a x) h q z s l o k = suffices_put (tree.Unary unary.Second t) g (One a x) h a s o (known_whole h g q (tree.Unary unary.Second t) z k) refl l.2
   suffices ys (tree.Unary unary.Second t) Argument g (One a x) h q z s l o k = suffices ys t Argument g x h (true ∷ q) tt s.0 l.3 o k
-  suffices ys (tree.Unary unary.Join t) Written g (One a x) h q z s l o k = suffices ys t Written g x h [] refl s.0 l.3 o k
-  suffices ys (tree.Unary unary.Join t) Argument g (One a x) h q z s l o k = suffices ys t Argument g x h [] tt s.0 l.3 o k
-  suffices ys (tree.Unary unary.Transpose t) Written g (One a x) h q z s l o k = suffices ys t Written g x h [] refl s.0 l.3 o k
-  suffices ys (tree.Unary unary.Transpose t) Argument g (One a x) h q z s l o k = suffices ys t Argument g x h [] tt s.0 l.3 o k
-  suffices ys (tree.Unary (unary.Split fs) t) Written g (One a x) h q z s l o k = suffices ys t Written g x h [] refl s.0 l.3 o k
-  suffices ys (tree.Unary (unary.Split fs) t) Argument g (One a x) h q z s l o k = suffices ys t Argument g x h [] tt s.0 l.3 o k
+  suffices ys (tree.Unary (unary.Layout f) t) Written g (One a x) h q z s l o k = through f Written a (type_in x) h (lower d.names Written t x) (suffices ys t Written g x h [] refl s.0 l.3 o k)
+  suffices ys (tree.Unary (unary.Layout f) t) Argument g (One a x) h q z s l o k = through f Argument a (type_in x) h (lower d.names Argument t x) (suffices ys t Argument g x h [] tt s.0 l.3 o k)
   suffices ys (tree.Unary (unary.Slide i j) t) Written g (One a x) h q z s l o k = suffices ys t Written g x h [] refl s.0 l.3 o k
   suffices ys (tree.Unary (unary.Slide i j) t) Argument g (One a x) h q z s l o k = suffices ys t Argument g x h [] tt s.0 l.3 o k
   suffices ys (tree.Unary (unary.Pad i j) t) Written g (One a x) h q z s l o k = suffices ys t Written g x h [] refl s.0 l.3 o k
@@ -285,17 +290,17 @@ module _ (d : Declared) where
       (all_named v g x h s.0 o.2 left (told (type_in x) o.1), lets_named v g x h [] s.0 o.2 left, suffices ys b Written (type_in x ∷ g) y (push all h) [] refl s.1 legal o.3 below))
   suffices ys (tree.Let v b) Written g (Two a x y) h q z s l (inr (inr o)) k =
       let left = known_left h g (λ u c. named (suc u) c [] b) v k in
-      let below = known_under h g (type_in x) (held_scalars h (lower Argument v x)) b (known_right h g (λ u c. named u c [] v) (λ u c. named (suc u) c [] b) k) (λ cs i e. kept_named v g x h [] cs s.0 o.2 left i) in
+      let below = known_under h g (type_in x) (held_scalars h (lower d.names Argument v x)) b (known_right h g (λ u c. named u c [] v) (λ u c. named (suc u) c [] b) k) (λ cs i e. kept_named v g x h [] cs s.0 o.2 left i) in
       let legal = subst (λ m. IsLowerable ys (if m then Element else Written) b y) o.0 l.1 in
       let value = subst (λ n. IsLowerable ys (if n then Element else Argument) v x) o.1 l.0 in
       subst (λ m. LoadsSuffice h (written_let a x y v b m (is_element (type_in x)))) (sym o.0) (subst (λ n. LoadsSuffice h (written_let a x y v b false n)) (sym o.1)
-      (suffices ys v Argument g x h [] tt s.0 value o.2 left, suffices ys b Written (type_in x ∷ g) y (push (held_scalars h (lower Argument v x)) h) [] refl s.1 legal o.3 below))
+      (suffices ys v Argument g x h [] tt s.0 value o.2 left, suffices ys b Written (type_in x ∷ g) y (push (held_scalars h (lower d.names Argument v x)) h) [] refl s.1 legal o.3 below))
   suffices ys (tree.Let v b) Argument g (Two a x y) h q z s l o k =
       let left = known_left h g (λ u c. named (suc u) c [] b) v k in
-      let below = known_under h g (type_in x) (held_scalars h (lower Argument v x)) b (known_right h g (λ u c. named u c [] v) (λ u c. named (suc u) c [] b) k) (λ cs i e. kept_named v g x h [] cs s.0 o.1 left i) in
+      let below = known_under h g (type_in x) (held_scalars h (lower d.names Argument v x)) b (known_right h g (λ u c. named u c [] v) (λ u c. named (suc u) c [] b) k) (λ cs i e. kept_named v g x h [] cs s.0 o.1 left i) in
       let value = subst (λ n. IsLowerable ys (if n then Element else Argument) v x) o.0 l.0 in
       argued h x y v b (is_element a) (is_element (type_in x)) false o.0
-      (suffices ys v Argument g x h [] tt s.0 value o.1 left, suffices ys b Argument (type_in x ∷ g) y (push (held_scalars h (lower Argument v x)) h) [] tt s.1 l.1 o.2 below)
+      (suffices ys v Argument g x h [] tt s.0 value o.1 left, suffices ys b Argument (type_in x ∷ g) y (push (held_scalars h (lower d.names Argument v x)) h) [] tt s.1 l.1 o.2 below)
   suffices ys (tree.Map f xs b) Written g (Two a x y) h q z s l o k = (
     suffices ys xs Argument g x h [] tt s.2 l.1 o.0 (known_left h g (λ v c. named (suc v) c [] b) xs k),
     suffices ys b Written (s.0 ∷ g) y (push (covers (named 0 (element_of (type_in x)) [] b)) h) [] refl s.4 l.2 o.1 (below_map h g (type_in x) s.0 s.1 b s.3 (known_right h g (λ v c. named v c [] xs) (λ v c. named (suc v) c [] b) k)),
@@ -314,5 +319,5 @@ module _ (d : Declared) where
   suffices ys t Element g a h q z s l o k = absurd z
   suffices ys _ p g a h q z s l o k = absurd o
 
-  pub names_suffice : (ys : List ℕ) (t : Tree) (a : Annotation) → Annotates d [] t a → IsLowerable ys Written t a → IsStaged Written t a → LoadsSuffice (λ v. none) (lower Written t a)
+  pub names_suffice : (ys : List ℕ) (t : Tree) (a : Annotation) → Annotates d [] t a → IsLowerable ys Written t a → IsStaged Written t a → LoadsSuffice (λ v. none) (lower d.names Written t a)
   names_suffice ys t a s l o = suffices ys t Written [] a (λ v. none) [] refl s l o (λ v c e. absurd (cc))

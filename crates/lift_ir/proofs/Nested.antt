@@ -1,17 +1,18 @@
 -- Layouts on lists are layouts on positions.
 use Rattle.std.proofs.Common.{◌≡◌, ℕ, zero, suc, ◌+◌, ◌-◌, ◌*◌, ◌/◌, ◌%◌, ◌<◌, ◌≤◌, List, [], ◌∷◌, ◌++◌, length, take, drop, get_or, refl, sym, ap, ◌∙◌, subst, ⊎_elim, arith, length-append}
-use Rattle.std.specs.Prelude.{map, min, max, replicate}
+use Rattle.std.specs.Prelude.{map, min, max, replicate, reverse}
 use Rattle.std.proofs.Math.Nat.{mul-le-mul_right, mod-lt, div-lt_iff_lt-mul, mul-div_cancel}
 use Rattle.std.proofs.lemmas.Bool.{cases_lt}
-use Rattle.std.proofs.lemmas.List.{get_or-take, get_or-drop, length-replicate, get_or-replicate, length-take-le, length-drop}
+use Rattle.std.proofs.lemmas.List.{get_or-take, get_or-drop, length-replicate, get_or-replicate, length-take-le, length-drop, get_or-reverse, length-reverse}
 use Rattle.std.proofs.Math.ListN.{get_or-append}
 use Rattle.std.proofs.Math.Seq.{get_or-append_right}
 use Rattle.lift_tree.specs.Values.{Value, Word, members, array, nth}
-use Rattle.lift_tree.specs.Lists.{concat, pieces, pieces_that_fit, first_of, rest_of, last_of, padded, width, columns}
+use Rattle.lift_tree.specs.Lists.{concat, pieces, pieces_that_fit, first_of, rest_of, last_of, padded, width, columns, strided}
 use Rattle.lift_tree.specs.Meaning.{rows, array_of_rows}
 use Rattle.lift_tree.proofs.Members.{members-array, length-map, length-pieces, length-columns, length-padded}
+use Rattle.lift_tree.proofs.Strides.{rows_array, strided_through}
 use Rattle.lift_ir.specs.Types.{Ty, ArrayOf}
-use Rattle.lift_ir.specs.Layouts.{Split, Join, Transpose, Slide, Pad, operand_position, Reshapes}
+use Rattle.lift_ir.specs.Layouts.{Split, Join, Transpose, Reverse, Slide, Pad, operand_position, Reshapes}
 use Rattle.lift_ir.specs.Scalars.{at_index, Scalars, HasScalars}
 
 pub nth_get : (xs : List Value) (n : ℕ) → nth xs n ≡ get_or xs n (Word 0)
@@ -237,3 +238,25 @@ pad_is num a b k n t u v s r h =
     ) in
     let f2 = subst (λ y. HasScalars (ArrayOf (a + n + b) t) (array (padded a b xs)) (λ cs q. s cs (operand_position {A = ℕ} (λ z. z) (Pad a b y) q))) (sym r.1) f in
     is_as (ArrayOf (a + n + b) t) u _ _ r.2 (subst (λ ys. HasScalars (ArrayOf (a + n + b) t) (array (padded a b ys)) (λ cs q. s cs (operand_position num (Pad a b k) q))) (sym e) f2)
+
+pub reverse_is : {A : Type 0} (num : A → ℕ) (k : A) (n : ℕ) (t u : Ty) (v : Value) (s : Scalars) → Reshapes num (Reverse k) (ArrayOf n t) u → HasScalars (ArrayOf n t) v s → HasScalars u (array (reverse (members v))) (λ cs q. s cs (operand_position num (Reverse k) q))
+reverse_is num k n t u v s r h =
+    let xs = h.0 in
+    let e = members_of v xs h.1 in
+    let f : HasScalars (ArrayOf n t) (array (reverse xs)) (λ cs q. s cs (operand_position num (Reverse k) q)) = (
+      reverse xs,
+      refl,
+      length-reverse xs ∙ h.2,
+      λ i lt.
+          let z = h.2 in
+          let y = r.0 in
+          subst (λ x. HasScalars t x (at_index (num k - 1 - i) s)) (sym (get_or-reverse xs i (Word 0) (omega arith) ∙ ap (λ j. get_or xs j (Word 0)) (let p : length xs - 1 - i ≡ num k - 1 - i = omega arith in p))) (h.3 (num k - 1 - i) (omega arith)),
+    ) in
+    is_as (ArrayOf n t) u _ _ r.1 (subst (λ ys. HasScalars (ArrayOf n t) (array (reverse ys)) (λ cs q. s cs (operand_position num (Reverse k) q))) (sym e) f)
+
+-- a stride is the join of its split's transposition
+pub stride_is : (k : ℕ) (xs : List Value) → let split = array_of_rows (pieces (length xs / k) k k xs) in array (strided k xs) ≡ array (concat (rows (array_of_rows (columns (width (rows split)) (rows split)))))
+stride_is k xs =
+    let rs = pieces (length xs / k) k k xs in
+    let split = rows (array_of_rows rs) in
+    ap array (sym (strided_through k xs) ∙ sym (ap (λ ys. concat (columns (width ys) ys)) (rows_array rs)) ∙ sym (ap concat (rows_array (columns (width split) split))))

@@ -2,7 +2,7 @@
 use Rattle.std.proofs.Common.{◌≡◌, ℕ, suc, ◌+◌, ◌-◌, ◌*◌, ◌/◌, ◌%◌, ◌<◌, ◌≤◌, Bool, true, false, List, [], ◌∷◌, refl, sym, ap, ◌∙◌, subst, arith}
 use Rattle.std.proofs.Math.Nat.{mul-le-mul_right, mod-lt, div-lt_iff_lt-mul, mul-add-div_right, mul-add-mod_self_right, mod-eq_of_lt, div-eq_of_lt}
 use Rattle.lift_ir.specs.Types.{Ty, Scalar, PairOf, ArrayOf, IsPosition, IsElement}
-use Rattle.lift_ir.specs.Layouts.{Layout, Split, Join, Transpose, Slide, Pad, operand_position, Reshapes, result_position, IsInvertible}
+use Rattle.lift_ir.specs.Layouts.{Layout, Split, Join, Transpose, Reverse, Slide, Pad, operand_position, Reshapes, result_position, IsInvertible}
 
 split_in : (i j m n : ℕ) → n / m * m ≡ n → i < n / m → j < m → i * m + j < n
 split_in i j m n e a b = let h = mul-le-mul_right {m = suc i} {n = n / m} m a in omega arith
@@ -31,6 +31,11 @@ operand_in num Transpose (ArrayOf n (ArrayOf m t)) u cs q a w = go q (relaid_in 
     go [] w = absurd w
     go (i ∷ []) w = absurd w.1
     go (i ∷ j ∷ q) w = (w.1.0, (w.0, w.1.1))
+operand_in num (Reverse k) (ArrayOf n t) u cs q a w = go q (relaid_in u _ cs q a.1 w)
+  where
+    go : (q : List ℕ) → IsPosition (ArrayOf n t) cs q → IsPosition (ArrayOf n t) cs (operand_position num (Reverse k) q)
+    go [] w = absurd w
+    go (i ∷ q) w = (let e = a.0 in let h = w.0 in omega arith, w.1)
 operand_in num (Slide s k) (ArrayOf n t) u cs q a w = go q (relaid_in u _ cs q a.3 w)
   where
     go : (q : List ℕ) → IsPosition (ArrayOf ((n - s) / k + 1) (ArrayOf s t)) cs q → IsPosition (ArrayOf n t) cs (operand_position num (Slide s k) q)
@@ -62,6 +67,9 @@ remainder i j m h = mul-add-mod_self_right i m j ∙ mod-eq_of_lt h
 whole : (i m : ℕ) → 0 < m → i / m * m + i % m ≡ i
 whole i m h = omega arith
 
+back_again : (i k n : ℕ) → k ≡ n → i < n → k - 1 - (k - 1 - i) ≡ i
+back_again i k n e h = omega arith
+
 -- the position of the whole, for one of the operand's, in writing
 pub result_in : {A : Type 0} (num : A → ℕ) (l : Layout A) (t u : Ty) (cs : List Bool) (q : List ℕ) → IsInvertible l → Reshapes num l t u → IsPosition t cs q → IsPosition u cs (result_position num l q) × (operand_position num l (result_position num l q) ≡ q)
 result_in num (Split m) (ArrayOf n t) u cs [] z a w = absurd w
@@ -75,6 +83,8 @@ result_in num (Join m) (ArrayOf n (ArrayOf k t)) u cs (i ∷ j ∷ q) z a w =
 result_in num Transpose (ArrayOf n (ArrayOf m t)) u cs [] z a w = absurd w
 result_in num Transpose (ArrayOf n (ArrayOf m t)) u cs (i ∷ []) z a w = absurd w.1
 result_in num Transpose (ArrayOf n (ArrayOf m t)) u cs (i ∷ j ∷ q) z a w = (relaid_in _ u cs _ (sym a.1) (w.1.0, (w.0, w.1.1)), refl)
+result_in num (Reverse k) (ArrayOf n t) u cs [] z a w = absurd w
+result_in num (Reverse k) (ArrayOf n t) u cs (i ∷ q) z a w = (relaid_in _ u cs _ (sym a.1) (let e = a.0 in let h = w.0 in omega arith, w.1), ap (λ x. x ∷ q) (back_again i (num k) n a.0 w.0))
 result_in num (Slide s k) t u cs q z a w = absurd z
 result_in num (Pad x y k) t u cs q z a w = absurd z
 result_in num _ t u cs q z a w = absurd (assumption)
@@ -97,6 +107,11 @@ result_operand num Transpose (ArrayOf n (ArrayOf m t)) u cs q z a w = go q (rela
     go [] w = absurd w
     go (i ∷ []) w = absurd w.1
     go (i ∷ j ∷ q) w = refl
+result_operand num (Reverse k) (ArrayOf n t) u cs q z a w = go q (relaid_in u _ cs q a.1 w)
+  where
+    go : (q : List ℕ) → IsPosition (ArrayOf n t) cs q → result_position num (Reverse k) (operand_position num (Reverse k) q) ≡ q
+    go [] w = absurd w
+    go (i ∷ q) w = ap (λ x. x ∷ q) (back_again i (num k) n a.0 w.0)
 result_operand num (Slide s k) t u cs q z a w = absurd z
 result_operand num (Pad x y k) t u cs q z a w = absurd z
 result_operand num _ t u cs q z a w = absurd (assumption)

@@ -1,12 +1,15 @@
 -- A typed term's lowered term has its type at each admissible launch.
-use Rattle.std.proofs.Common.{◌≡◌, ℕ, zero, suc, Bool, true, false, List, [], ◌∷◌, Some, refl, sym, ap, ◌∙◌, subst, pos, ◌≤ℤ◌}
+use Rattle.std.proofs.Common.{◌≡◌, ℕ, zero, suc, ◌*◌, ◌/◌, ◌<◌, ◌^◌, arith, Bool, true, false, List, [], ◌∷◌, Some, refl, sym, ap, ◌∙◌, subst, pos, ◌≤ℤ◌}
+use Rattle.std.proofs.Math.Nat.{mul-div_cancel_left, mul-le-mul_left, mul-le-mul_right}
 use Rattle.std.specs.Prelude.{slice_get, if◌then◌else◌}
 use Rattle.size_arith.specs.declared.poly.Monomial.{Monomial}
-use Rattle.size_arith.specs.Polynomial.{value_at}
+use Rattle.size_arith.specs.Polynomial.{value_at, of_monomial, quotient}
 use Rattle.size_arith.specs.Shown.{ShownAtLeast}
 use Rattle.scalar_ops.specs.declared.op.Reducer.TheVariants as reducer
 use Rattle.lift_tree.specs.declared.term.Operator.{Operator}
 use Rattle.lift_tree.specs.declared.term.Operator.TheVariants as operator
+use Rattle.lift_tree.specs.declared.layout.Layout.TheVariants as layout
+use Rattle.lift_tree.specs.declared.length.Factor.{Factor}
 use Rattle.lift_tree.specs.declared.term.UnaryForm.TheVariants as unary
 use Rattle.lift_tree.specs.declared.term.BinaryForm.TheVariants as binary
 use Rattle.lift_tree.specs.Lists.{Every}
@@ -16,17 +19,19 @@ use Rattle.lift_tree.specs.Types as types
 use Rattle.lift_tree.specs.Types.{PlainTy, IsFormed}
 use Rattle.lift_tree.specs.Meaning.{scalar_op}
 use Rattle.lift_tree.specs.Typing.{Declared, constant}
+use Rattle.lift_tree.specs.WorkedOut.{product_of}
 use Rattle.lift_tree.specs.Annotations.{Annotation, Leaf, One, Two, Three, type_in, Annotates}
 use Rattle.lift_tree.proofs.Formed.{formed}
 use Rattle.lift_tree.proofs.Annotated.{annotated_is_typed}
 use Rattle.lift_tree.proofs.Sizes.{value-constant}
 use Rattle.kernel_tree.specs.Formula.{divides}
-use Rattle.lift_ir.specs.Types.{Ty, PairOf, ArrayOf, IsElement, IsFlat}
+use Rattle.lift_ir.specs.Types.{Ty, PairOf, ArrayOf, IsElement, IsFlat, IsShort}
+use Rattle.lift_ir.specs.Layouts.{Split, Join, Reshapes}
 use Rattle.lift_ir.specs.Terms.{LoadsScalars, Term, HasType, push}
 use Rattle.lift_ir.specs.AtLaunch.{natural, length_at, ty_at, outer_of, types_at}
-use Rattle.lift_ir.specs.Lowering.{Place, Written, Argument, Element, element_ty, is_element, element_of, Lowered, placed, named, operand_place, value_place, body_place, lower_let, placed_element, lower}
+use Rattle.lift_ir.specs.Lowering.{Place, Written, Argument, Element, element_ty, is_element, element_of, Lowered, placed, named, operand_place, value_place, body_place, lower_let, lower_stride, placed_element, lower}
 use Rattle.lift_ir.specs.Lowerable.{SuitsPlace, IsLowerable}
-use Rattle.lift_ir.proofs.AtLaunch.{split_reshapes, join_reshapes, transpose_reshapes, slide_reshapes, pad_reshapes}
+use Rattle.lift_ir.proofs.AtLaunch.{Strides, split_reshapes, join_reshapes, transpose_reshapes, reverse_reshapes, stride_lengths, slide_reshapes, pad_reshapes}
 use Rattle.lift_ir.proofs.Lowering.{suits_named}
 
 no_division : (o : Operator) → divides (scalar_op o) ≡ false
@@ -117,35 +122,68 @@ module _ (d : Declared) (bases : List ℕ) (shown : (k : ℕ) (p : List Monomial
   length_is : (b x : PlainTy) (l : List Monomial) → b ≡ types.ArrayOf x l → num l ≡ num (outer_of b)
   length_is b x l e = subst (λ z. num l ≡ num (outer_of z)) (sym e) refl
 
-  pub has_is : (t : Tree) (p : Place) (g : List PlainTy) (a : Annotation) → Every (IsFormed d.names) g → Annotates d g t a → IsLowerable bases p t a → Is g (lower p t a) (ty (type_in a))
+  short_rows : (m q : ℕ) → m * q < 2 ^ 31 → 0 < m → 0 < q → (m < 2 ^ 31) × (q < 2 ^ 31)
+  short_rows zero q lt a b = absurd (omega arith)
+  short_rows (suc m) zero lt a b = absurd (omega arith)
+  short_rows (suc m) (suc q) lt a b =
+      let wide = mul-le-mul_left {m = 1} {n = suc q} (suc m) (omega arith) in
+      let deep = mul-le-mul_right {m = 1} {n = suc m} (suc q) (omega arith) in
+      (omega arith, omega arith)
+
+  -- a stride, through its rows and its columns
+  has_stride : (fs : List Factor) (b a : PlainTy) (g : List PlainTy) (t : Lowered) → Strides d bases shown fs b a → Is g t (ty b) → IsShort (ty b) → IsShort (ty a) → Is g (lower_stride d.names fs b t) (ty a)
+  has_stride fs b a g t s h short_b short_a =
+      let m = s.step in
+      let q = s.rest in
+      let x = ty s.element in
+      let whole = subst IsShort s.operand short_b in
+      let sides = short_rows m q whole.0 s.some_step s.some_rest in
+      let rows = ArrayOf q (ArrayOf m x) in
+      let columns = ArrayOf m (ArrayOf q x) in
+      let split : Reshapes num (Split (of_monomial (product_of d.names fs))) (ty b) rows =
+      subst (λ z. Reshapes num (Split (of_monomial (product_of d.names fs))) z rows) (sym s.operand)
+      (rw s.step_is (s.some_step, back m q s.some_step, ap (λ z. ArrayOf z (ArrayOf m x)) (sym (mul-div_cancel_left q s.some_step)))) in
+      let join : Reshapes num (Join (quotient (product_of d.names fs) (outer_of b))) columns (ty a) =
+      rw s.rest_is (s.some_rest, refl, s.result) in
+      (columns, (rows, (ty b, h, split, short_b, (sides.1, (sides.0, whole.1)), tt), (s.some_rest, refl), (sides.1, (sides.0, whole.1)), (sides.0, (sides.1, whole.1)), tt), join, (sides.0, (sides.1, whole.1)), short_a, tt)
+    where
+      back : (m q : ℕ) → 0 < m → m * q / m * m ≡ m * q
+      back m q h = ap (λ z. z * m) (mul-div_cancel_left q h) ∙ (let y : q * m ≡ m * q = grind arith in y)
+
+  pub has_is : (t : Tree) (p : Place) (g : List PlainTy) (a : Annotation) → Every (IsFormed d.names) g → Annotates d g t a → IsLowerable bases p t a → Is g (lower d.names p t a) (ty (type_in a))
   has_is (tree.Variable v) p g (Leaf a) all h l = has_put g p a _ l (typed_at bases g v a h)
   has_is (tree.Number c) p g (Leaf a) all h l = has_put g p a _ (in_place p a (subst types.IsElement (sym h.1) tt)) (ap ty h.1)
   has_is (tree.Input i) p g (Leaf a) all h l = sourced i a h
   has_is (tree.Unary (unary.Div m) t) p g (One a x) all h l =
-      has_put g p a _ (in_place p a (subst types.IsElement (sym h.1.2) tt)) (ap ty h.1.2, h.1.0, subst (λ z. Is g (lower Element t x) (ty z)) h.1.1 (has_is t Element g x all h.0 l.3))
+      has_put g p a _ (in_place p a (subst types.IsElement (sym h.1.2) tt)) (ap ty h.1.2, h.1.0, subst (λ z. Is g (lower d.names Element t x) (ty z)) h.1.1 (has_is t Element g x all h.0 l.3))
   has_is (tree.Unary (unary.Rem m) t) p g (One a x) all h l =
-      has_put g p a _ (in_place p a (subst types.IsElement (sym h.1.2) tt)) (ap ty h.1.2, h.1.0, subst (λ z. Is g (lower Element t x) (ty z)) h.1.1 (has_is t Element g x all h.0 l.3))
+      has_put g p a _ (in_place p a (subst types.IsElement (sym h.1.2) tt)) (ap ty h.1.2, h.1.0, subst (λ z. Is g (lower d.names Element t x) (ty z)) h.1.1 (has_is t Element g x all h.0 l.3))
   has_is (tree.Unary unary.First t) p g (One a x) all h l =
-      has_put g p a _ l.2 (ty h.1.0, subst (λ z. Is g (lower (operand_place unary.First p) t x) (ty z)) h.1.1 (has_is t (operand_place unary.First p) g x all h.0 l.3))
+      has_put g p a _ l.2 (ty h.1.0, subst (λ z. Is g (lower d.names (operand_place unary.First p) t x) (ty z)) h.1.1 (has_is t (operand_place unary.First p) g x all h.0 l.3))
   has_is (tree.Unary unary.Second t) p g (One a x) all h l =
-      has_put g p a _ l.2 (ty h.1.0, subst (λ z. Is g (lower (operand_place unary.Second p) t x) (ty z)) h.1.1 (has_is t (operand_place unary.Second p) g x all h.0 l.3))
-  has_is (tree.Unary unary.Join t) p g (One a x) all h l =
+      has_put g p a _ l.2 (ty h.1.0, subst (λ z. Is g (lower d.names (operand_place unary.Second p) t x) (ty z)) h.1.1 (has_is t (operand_place unary.Second p) g x all h.0 l.3))
+  has_is (tree.Unary (unary.Layout layout.Join) t) p g (One a x) all h l =
       (ty (type_in x), has_is t p g x all h.0 l.3, join_reshapes d bases shown (type_in x) a (formed_in g t x all h.0) h.1, l.1, l.0, tt)
-  has_is (tree.Unary unary.Transpose t) p g (One a x) all h l =
+  has_is (tree.Unary (unary.Layout layout.Transpose) t) p g (One a x) all h l =
       (ty (type_in x), has_is t p g x all h.0 l.3, transpose_reshapes d bases shown (type_in x) a (formed_in g t x all h.0) h.1, l.1, l.0, tt)
-  has_is (tree.Unary (unary.Split fs) t) p g (One a x) all h l =
+  has_is (tree.Unary (unary.Layout (layout.Split fs)) t) p g (One a x) all h l =
       (ty (type_in x), has_is t p g x all h.0 l.3, split_reshapes d bases shown fs (type_in x) a (formed_in g t x all h.0) h.1, l.1, l.0, tt)
+  has_is (tree.Unary (unary.Layout layout.Reverse) t) p g (One a x) all h l =
+      (ty (type_in x), has_is t p g x all h.0 l.3, reverse_reshapes d bases shown (type_in x) a (formed_in g t x all h.0) h.1, l.1, l.0, tt)
+  has_is (tree.Unary (unary.Layout (layout.Stride fs)) t) p g (One a x) all h l =
+      let s = stride_lengths d bases shown fs (type_in x) a (formed_in g t x all h.0) h.1 in
+      has_stride fs (type_in x) a g (lower d.names p t x) s (has_is t p g x all h.0 l.3) l.1 l.0
   has_is (tree.Unary (unary.Slide s k) t) p g (One a x) all h l =
       (ty (type_in x), has_is t p g x all h.0 l.3, slide_reshapes d bases shown s k (type_in x) a (formed_in g t x all h.0) h.1, l.1, l.0, l.2)
   has_is (tree.Unary (unary.Pad s k) t) p g (One a x) all h l =
       (ty (type_in x), has_is t p g x all h.0 l.3, pad_reshapes d bases shown s k (type_in x) a (formed_in g t x all h.0) h.1, l.1, l.0, tt)
   has_is (tree.Unary unary.ToLocal t) p g (One a x) all h l =
-      (l.2.1, l.2.0, subst (λ z. Is g (lower Written t x) (ty z)) h.1 (has_is t Written g x all h.0 l.3))
+      (l.2.1, l.2.0, subst (λ z. Is g (lower d.names Written t x) (ty z)) h.1 (has_is t Written g x all h.0 l.3))
   has_is (tree.Unary unary.ToPrivate t) p g (One a x) all h l =
-      (l.2.1, l.2.0, subst (λ z. Is g (lower Written t x) (ty z)) h.1 (has_is t Written g x all h.0 l.3))
+      (l.2.1, l.2.0, subst (λ z. Is g (lower d.names Written t x) (ty z)) h.1 (has_is t Written g x all h.0 l.3))
   has_is (tree.Binary (binary.Operator o) t u) p g (Two a x y) all h l =
       has_put g p a _ (in_place p a (subst types.IsElement (sym h.2.2) tt))
-      (ap ty h.2.2, no_division o, subst (λ z. Is g (lower Element t x) (ty z)) h.2.0 (has_is t Element g x all h.0 l.1), subst (λ z. Is g (lower Element u y) (ty z)) h.2.1 (has_is u Element g y all h.1 l.2))
+      (ap ty h.2.2, no_division o, subst (λ z. Is g (lower d.names Element t x) (ty z)) h.2.0 (has_is t Element g x all h.0 l.1), subst (λ z. Is g (lower d.names Element u y) (ty z)) h.2.1 (has_is u Element g y all h.1 l.2))
   has_is (tree.Binary binary.Pair t u) p g (Two a x y) all h l =
       let i = h.2.0 in
       let j = h.2.1 in
@@ -156,19 +194,19 @@ module _ (d : Declared) (bases : List ℕ) (shown : (k : ℕ) (p : List Monomial
       at_launch c k = subst IsElement (sym (element_same bases c k)) (element_is c k)
   has_is (tree.Binary binary.Zip t u) p g (Two a x y) all h l =
       let r = h.2 in
-      (num r.2, ty r.0, ty r.1, ap ty r.5, subst (λ z. Is g (lower Argument t x) (ty z)) r.3 (has_is t Argument g x all h.0 l.1), subst (λ z. Is g (lower Argument u y) (ty z)) r.4 (has_is u Argument g y all h.1 l.2))
+      (num r.2, ty r.0, ty r.1, ap ty r.5, subst (λ z. Is g (lower d.names Argument t x) (ty z)) r.3 (has_is t Argument g x all h.0 l.1), subst (λ z. Is g (lower d.names Argument u y) (ty z)) r.4 (has_is u Argument g y all h.1 l.2))
   has_is (tree.Binary (binary.Reduce r) t u) p g (Two a x y) all h l = absurd l.0
   has_is (tree.Select t u v) p g (Three a x y z) all h l =
       has_put g p a _ (in_place p a (subst types.IsElement (sym h.6) tt)) (
         ap ty h.6,
-        subst (λ s. Is g (lower Element t x) (ty s)) h.3 (has_is t Element g x all h.0 l.0),
-        subst (λ s. Is g (lower Element u y) (ty s)) h.4 (has_is u Element g y all h.1 l.1),
-        subst (λ s. Is g (lower Element v z) (ty s)) h.5 (has_is v Element g z all h.2 l.2),
+        subst (λ s. Is g (lower d.names Element t x) (ty s)) h.3 (has_is t Element g x all h.0 l.0),
+        subst (λ s. Is g (lower d.names Element u y) (ty s)) h.4 (has_is u Element g y all h.1 l.1),
+        subst (λ s. Is g (lower d.names Element v z) (ty s)) h.5 (has_is v Element g z all h.2 l.2),
       )
   has_is (tree.Let v b) p g (Two a x y) all h l =
       let f = formed_in g v x all h.0 in
       let body = has_is b (body_place p a) (type_in x ∷ g) y (f, all) h.1 l.1 in
-      has_put_element g p a _ (has_let g (type_in x) _ _ (ty a) (has_is v (value_place x) g x all h.0 l.0) (subst (λ z. Is (type_in x ∷ g) (lower (body_place p a) b y) (ty z)) (sym h.2) body))
+      has_put_element g p a _ (has_let g (type_in x) _ _ (ty a) (has_is v (value_place x) g x all h.0 l.0) (subst (λ z. Is (type_in x ∷ g) (lower d.names (body_place p a) b y) (ty z)) (sym h.2) body))
   has_is (tree.Map k xs b) p g (Two a x y) all h l =
       let e = h.3 in
       let f = subst (IsFormed d.names) e (formed_in g xs x all h.2) in
@@ -177,7 +215,7 @@ module _ (d : Declared) (bases : List ℕ) (shown : (k : ℕ) (p : List Monomial
         ty (type_in y),
         l.0,
         suits_body (type_in x) h.0 h.1 b e,
-        subst (λ z. Is g (lower Argument xs x) z) (outer_is (type_in x) h.0 h.1 e) (has_is xs Argument g x all h.2 l.1),
+        subst (λ z. Is g (lower d.names Argument xs x) z) (outer_is (type_in x) h.0 h.1 e) (has_is xs Argument g x all h.2 l.1),
         body,
         ap ty h.5 ∙ ap (λ z. ArrayOf z (ty (type_in y))) (length_is (type_in x) h.0 h.1 e),
       )
@@ -188,15 +226,15 @@ module _ (d : Declared) (bases : List ℕ) (shown : (k : ℕ) (p : List Monomial
       let f = subst (IsFormed d.names) e (formed_in g xs x all h.2) in
       let start = has_is s Element g y all h.4 l.2 in
       let body = has_is b Element (h.0 ∷ type_in y ∷ g) z (f.1, (formed_in g s y all h.4, all)) h.6 l.3 in
-      let typed = subst (λ t. Is (h.0 ∷ type_in y ∷ g) (lower Element b z) (ty t)) h.7 body in
+      let typed = subst (λ t. Is (h.0 ∷ type_in y ∷ g) (lower d.names Element b z) (ty t)) h.7 body in
       let one : num (constant 1) ≡ 1 = ap natural (value-constant bases 1) in (
         ty h.0,
         l.0,
         suits_body (type_in x) h.0 h.1 b e,
         element_is (type_in y) i,
-        subst (λ t. Is g (lower Argument xs x) t) (outer_is (type_in x) h.0 h.1 e) (has_is xs Argument g x all h.2 l.1),
-        subst (λ t. Is g (lower Element s y) t) same start,
-        subst (λ t. HasType num src (push (ty h.0) (push t (types_at bases g))) (lower Element b z) t) same typed,
+        subst (λ t. Is g (lower d.names Argument xs x) t) (outer_is (type_in x) h.0 h.1 e) (has_is xs Argument g x all h.2 l.1),
+        subst (λ t. Is g (lower d.names Element s y) t) same start,
+        subst (λ t. HasType num src (push (ty h.0) (push t (types_at bases g))) (lower d.names Element b z) t) same typed,
         ap ty h.8 ∙ ap (λ t. ArrayOf t (ty (type_in y))) one ∙ ap (ArrayOf 1) same,
       )
   has_is _ p g _ all h l = absurd h

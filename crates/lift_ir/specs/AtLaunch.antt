@@ -2,12 +2,13 @@
 use Rattle.std.specs.Prelude.{ℕ, List, [], ◌∷◌, ℤ, pos, negsuc, ◌^◌}
 use Rattle.size_arith.specs.declared.poly.Monomial.{Monomial}
 use Rattle.size_arith.specs.Polynomial.{value_at}
+use Rattle.lift_tree.specs.declared.layout.Layout.TheVariants as layout
 use Rattle.lift_tree.specs.declared.term.UnaryForm.{UnaryForm}
 use Rattle.lift_tree.specs.declared.term.UnaryForm.TheVariants as unary
 use Rattle.lift_tree.specs.Types as types
 use Rattle.lift_tree.specs.Types.{PlainTy}
 use Rattle.lift_ir.specs.Types.{Shape, Ty, Scalar, PairOf, ArrayOf}
-use Rattle.lift_ir.specs.Layouts.{Layout, Split, Join, Transpose, Slide, Pad}
+use Rattle.lift_ir.specs.Layouts.{Layout, Split, Join, Transpose, Reverse, Slide, Pad}
 use Rattle.lift_ir.specs.Terms.{push, no_type}
 
 -- a whole number as a length; one below zero is too long to be any
@@ -42,8 +43,9 @@ outer_of _ = []
 
 -- the layout of a form of type a over an operand of type b, its lengths polynomials; a default for forms that are no layouts
 abbrev pub layout_of : UnaryForm → (a b : PlainTy) → Layout (List Monomial)
-layout_of (unary.Split fs) a b = Split (inner_of a)
-layout_of unary.Join a b = Join (inner_of b)
+layout_of (unary.Layout (layout.Split fs)) a b = Split (inner_of a)
+layout_of (unary.Layout layout.Join) a b = Join (inner_of b)
+layout_of (unary.Layout layout.Reverse) a b = Reverse (outer_of b)
 layout_of (unary.Slide s t) a b = Slide s t
 layout_of (unary.Pad l r) a b = Pad l r (outer_of b)
 layout_of _ a b = Transpose

@@ -1,7 +1,11 @@
 -- From typed terms of the source to terms whose lengths are polynomials.
 use Rattle.std.specs.Prelude.{ℕ, suc, Bool, true, false, List, [], ◌∷◌, if◌then◌else◌, nat_eq}
 use Rattle.scalar_ops.specs.declared.op.Op.TheVariants.{Div, Rem}
+use Rattle.size_arith.specs.declared.names.Name.{Name}
 use Rattle.size_arith.specs.declared.poly.Monomial.{Monomial}
+use Rattle.size_arith.specs.Polynomial.{of_monomial, quotient}
+use Rattle.lift_tree.specs.declared.layout.Layout.TheVariants as layout
+use Rattle.lift_tree.specs.declared.length.Factor.{Factor}
 use Rattle.lift_tree.specs.declared.term.UnaryForm.{UnaryForm}
 use Rattle.lift_tree.specs.declared.term.UnaryForm.TheVariants as unary
 use Rattle.lift_tree.specs.declared.term.BinaryForm.{BinaryForm}
@@ -13,8 +17,10 @@ use Rattle.lift_tree.specs.Tree.{Tree}
 use Rattle.lift_tree.specs.Types as types
 use Rattle.lift_tree.specs.Types.{PlainTy}
 use Rattle.lift_tree.specs.Meaning.{scalar_op}
+use Rattle.lift_tree.specs.WorkedOut.{product_of}
 use Rattle.lift_tree.specs.Annotations.{Annotation, One, Two, Three, type_in}
 use Rattle.lift_ir.specs.Types.{Ty, Scalar, PairOf}
+use Rattle.lift_ir.specs.Layouts.{Split, Join, Transpose}
 use Rattle.lift_ir.specs.Terms.{LoadSet, Skip, Take, Each, Kind, Global, WorkGroup, Local, Sequential, LocalMemory, PrivateMemory, Term, Literal, Bound, Source, Apply, ApplyNumber, Select, Both, Project, Reshape, LetArray, LetElement, Map, Fold, Store, Copy}
 use Rattle.lift_ir.specs.AtLaunch.{ty_at, outer_of, layout_of}
 
@@ -92,15 +98,22 @@ operand_place unary.ToPrivate p = Written
 operand_place unary.ToLocal p = Written
 operand_place _ p = p
 
+-- a stride by the factors' product of an array of type b: the rows of that many elements, transposed and one after another
+abbrev pub lower_stride : List Name → List Factor → (b : PlainTy) → Lowered → Lowered
+lower_stride names fs b t =
+    let step = product_of names fs in
+    Reshape (Join (quotient step (outer_of b))) (Reshape Transpose (Reshape (Split (of_monomial step)) t))
+
 -- a form of type a over an operand of type b
-abbrev pub lower_unary : Place → UnaryForm → (a b : PlainTy) → Lowered → Lowered
-lower_unary p (unary.Div n) a b t = placed p a (ApplyNumber Div n t)
-lower_unary p (unary.Rem n) a b t = placed p a (ApplyNumber Rem n t)
-lower_unary p unary.First a b t = placed p a (Project false t)
-lower_unary p unary.Second a b t = placed p a (Project true t)
-lower_unary p unary.ToPrivate a b t = Copy PrivateMemory (ty_at [] a) t
-lower_unary p unary.ToLocal a b t = Copy LocalMemory (ty_at [] a) t
-lower_unary p f a b t = Reshape (layout_of f a b) t
+abbrev pub lower_unary : List Name → Place → UnaryForm → (a b : PlainTy) → Lowered → Lowered
+lower_unary names p (unary.Div n) a b t = placed p a (ApplyNumber Div n t)
+lower_unary names p (unary.Rem n) a b t = placed p a (ApplyNumber Rem n t)
+lower_unary names p unary.First a b t = placed p a (Project false t)
+lower_unary names p unary.Second a b t = placed p a (Project true t)
+lower_unary names p unary.ToPrivate a b t = Copy PrivateMemory (ty_at [] a) t
+lower_unary names p unary.ToLocal a b t = Copy LocalMemory (ty_at [] a) t
+lower_unary names p (unary.Layout (layout.Stride fs)) a b t = lower_stride names fs b t
+lower_unary names p f a b t = Reshape (layout_of f a b) t
 
 abbrev pub binary_place : BinaryForm → Place
 binary_place binary.Zip = Argument
@@ -127,16 +140,16 @@ lower_let c v b = if is_element c then LetElement (element_ty c) v b else LetArr
 abbrev pub placed_element : Place → PlainTy → Lowered → Lowered
 placed_element p a t = if is_element a then placed p a t else t
 
-abbrev pub lower : Place → Tree → Annotation → Lowered
-lower p (tree.Variable v) n = placed p (type_in n) (Bound v)
-lower p (tree.Number c) n = placed p (type_in n) (Literal c)
-lower p (tree.Input i) n = Source i
-lower p (tree.Unary f t) (One a n) = lower_unary p f a (type_in n) (lower (operand_place f p) t n)
-lower p (tree.Binary f t u) (Two a n m) = lower_binary p f a (lower (binary_place f) t n) (lower (binary_place f) u m)
-lower p (tree.Select t u v) (Three a n m k) = placed p a (Select (lower Element t n) (lower Element u m) (lower Element v k))
-lower p (tree.Let v b) (Two a n m) = placed_element p a (lower_let (type_in n) (lower (value_place n) v n) (lower (body_place p a) b m))
-lower p (tree.Map k xs b) (Two a n m) =
-    Map (kind_of k) (outer_of (type_in n)) (named 0 (element_of (type_in n)) [] b) (lower Argument xs n) (lower Written b m)
-lower p (tree.Fold k xs s b) (Three a n m l) =
-    Fold (outer_of (type_in n)) (named 0 (element_of (type_in n)) [] b) (element_ty (type_in m)) (lower Argument xs n) (lower Element s m) (lower Element b l)
-lower p _ n = Literal 0
+abbrev pub lower : List Name → Place → Tree → Annotation → Lowered
+lower names p (tree.Variable v) n = placed p (type_in n) (Bound v)
+lower names p (tree.Number c) n = placed p (type_in n) (Literal c)
+lower names p (tree.Input i) n = Source i
+lower names p (tree.Unary f t) (One a n) = lower_unary names p f a (type_in n) (lower names (operand_place f p) t n)
+lower names p (tree.Binary f t u) (Two a n m) = lower_binary p f a (lower names (binary_place f) t n) (lower names (binary_place f) u m)
+lower names p (tree.Select t u v) (Three a n m k) = placed p a (Select (lower names Element t n) (lower names Element u m) (lower names Element v k))
+lower names p (tree.Let v b) (Two a n m) = placed_element p a (lower_let (type_in n) (lower names (value_place n) v n) (lower names (body_place p a) b m))
+lower names p (tree.Map k xs b) (Two a n m) =
+    Map (kind_of k) (outer_of (type_in n)) (named 0 (element_of (type_in n)) [] b) (lower names Argument xs n) (lower names Written b m)
+lower names p (tree.Fold k xs s b) (Three a n m l) =
+    Fold (outer_of (type_in n)) (named 0 (element_of (type_in n)) [] b) (element_ty (type_in m)) (lower names Argument xs n) (lower names Element s m) (lower names Element b l)
+lower names p _ n = Literal 0

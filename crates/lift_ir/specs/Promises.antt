@@ -52,10 +52,10 @@ pub record ValuesAreByPosition : Type 0 where
 
 -- what a typed term is lowered to is the source's, has its type at each admissible launch, and what it loads is all that its element terms name
 pub record LoweredTermsServe : Type 0 where
-  pub source : (d : Declared) (w : World) (t : Tree) (a : Annotation) → IsDeclared d → IsAdmissible d w → Annotates d [] t a → IsLowerable w.bases Written t a → Lowers (length_at w.bases) w 0 (length d.inputs) t (lower Written t a)
+  pub source : (d : Declared) (w : World) (t : Tree) (a : Annotation) → IsDeclared d → IsAdmissible d w → Annotates d [] t a → IsLowerable w.bases Written t a → Lowers (length_at w.bases) w 0 (length d.inputs) t (lower d.names Written t a)
   pub typed : (d : Declared) (bases : List ℕ) (src : ℕ → Ty) (t : Tree) (a : Annotation) → IsDeclared d → Admissible d.names bases → ((i : ℕ) (b : PlainTy) → slice_get d.inputs i ≡ Some b → ty_at bases b ≡ src i)
-      → Annotates d [] t a → IsLowerable bases Written t a → HasType (length_at bases) src no_type (lower Written t a) (ty_at bases (type_in a))
-  pub loads : (d : Declared) (bases : List ℕ) (t : Tree) (a : Annotation) → Annotates d [] t a → IsLowerable bases Written t a → IsStaged Written t a → LoadsSuffice (λ v. none) (lower Written t a)
+      → Annotates d [] t a → IsLowerable bases Written t a → HasType (length_at bases) src no_type (lower d.names Written t a) (ty_at bases (type_in a))
+  pub loads : (d : Declared) (bases : List ℕ) (t : Tree) (a : Annotation) → Annotates d [] t a → IsLowerable bases Written t a → IsStaged Written t a → LoadsSuffice (λ v. none) (lower d.names Written t a)
 
 -- each scalar's owner is a work-item of the launch
 abbrev pub OwnersAreOfTheLaunch : Type 0

@@ -1,6 +1,7 @@
 -- Which term of the source a term is lowered from.
 use Rattle.std.specs.Prelude.{◌≡◌, ℕ, ◌+◌, ◌<◌, ◌⊎◌, true, false, List}
 use Rattle.scalar_ops.specs.declared.op.Op.TheVariants.{Div, Rem}
+use Rattle.lift_tree.specs.declared.layout.Layout.TheVariants as layout
 use Rattle.lift_tree.specs.declared.length.Factor.{Factor}
 use Rattle.lift_tree.specs.declared.term.Operator.{Operator}
 use Rattle.lift_tree.specs.declared.term.UnaryForm.TheVariants as unary
@@ -10,15 +11,22 @@ use Rattle.lift_tree.specs.declared.term.FoldKind.{FoldKind}
 use Rattle.lift_tree.specs.Tree as tree
 use Rattle.lift_tree.specs.Tree.{Tree}
 use Rattle.lift_tree.specs.Meaning.{World, product_at, scalar_op}
-use Rattle.lift_ir.specs.Layouts.{Layout, Split, Join, Transpose, Slide, Pad}
+use Rattle.lift_ir.specs.Layouts.{Layout, Split, Join, Transpose, Reverse, Slide, Pad}
 use Rattle.lift_ir.specs.Terms.{LocalMemory, PrivateMemory, Term, Literal, Bound, Source, Apply, ApplyNumber, Select, Both, Project, Reshape, LetArray, LetElement, Map, Fold, Store, Copy}
+
+-- a join, or a stride, which is the join of its split's transposition
+abbrev pub IsJoin : Tree → Tree → Type 0
+IsJoin t u =
+    (t ≡ tree.Unary (unary.Layout layout.Join) u)
+    ⊎ ((fs : List Factor) × (x : Tree) × (t ≡ tree.Unary (unary.Layout (layout.Stride fs)) x) × (u ≡ tree.Unary (unary.Layout layout.Transpose) (tree.Unary (unary.Layout (layout.Split fs)) x)))
 
 module _ {A : Type 0} (num : A → ℕ) (w : World) where
   -- what a layout is lowered from; sizes are worked out
   abbrev pub IsLayout : Tree → Layout A → Tree → Type 0
-  IsLayout t (Split m) u = (fs : List Factor) × (t ≡ tree.Unary (unary.Split fs) u) × (product_at w.sizes fs ≡ num m)
-  IsLayout t (Join m) u = t ≡ tree.Unary unary.Join u
-  IsLayout t Transpose u = t ≡ tree.Unary unary.Transpose u
+  IsLayout t (Split m) u = (fs : List Factor) × (t ≡ tree.Unary (unary.Layout (layout.Split fs)) u) × (product_at w.sizes fs ≡ num m)
+  IsLayout t (Join m) u = IsJoin t u
+  IsLayout t Transpose u = t ≡ tree.Unary (unary.Layout layout.Transpose) u
+  IsLayout t (Reverse n) u = t ≡ tree.Unary (unary.Layout layout.Reverse) u
   IsLayout t (Slide a b) u = t ≡ tree.Unary (unary.Slide a b) u
   IsLayout t (Pad a b n) u = t ≡ tree.Unary (unary.Pad a b) u
 

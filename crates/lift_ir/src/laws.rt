@@ -2,7 +2,7 @@
 
 ghost use Rattle.lift_ir.specs.Promises.{LayoutsLeadPositions, LayoutsAreByPosition, TermsHaveTheSourceValue, ValuesAreByPosition, LoweredTermsServe, OwnersAreOfTheLaunch};
 
-/// Layouts are functions on positions: each leads the result's to the operand's, and join, split and transpose back again.
+/// Layouts are functions on positions: each leads the result's to the operand's, and join, split, transpose and reverse back again.
 pub fn layouts_lead_positions()
     ensures { LayoutsLeadPositions }
 {}

@@ -12,7 +12,6 @@ use Rattle.lift_tree.specs.declared.length.Part.{Part}
 use Rattle.lift_tree.specs.declared.length.Sign.{Sign}
 use Rattle.lift_tree.specs.declared.program.Size.{Size}
 use Rattle.lift_tree.specs.declared.term.UnaryForm.{UnaryForm}
-use Rattle.lift_tree.specs.declared.term.UnaryForm.TheVariants as unaries
 use Rattle.lift_tree.specs.declared.term.MapKind.TheVariants as maps
 use Rattle.lift_tree.specs.declared.term.FoldKind.TheVariants as folds
 use Rattle.lift_tree.specs.declared.term.BinaryForm.TheVariants as binaries
@@ -25,7 +24,7 @@ use Rattle.lift_tree.specs.Lists.{Every}
 use Rattle.lift_tree.specs.WorkedOut.{range_of}
 use Rattle.lift_reader.specs.declared.word.Word.{Word}
 use Rattle.lift_reader.specs.declared.word.Word.TheVariants as word
-use Rattle.lift_reader.specs.Meant.{unary_of}
+use Rattle.lift_reader.specs.Meant.{unary_of, split_by, stride_by}
 use Rattle.lift_reader.specs.Tokens.{Lexeme}
 use Rattle.lift_reader.specs.Grammar as grammar
 use Rattle.lift_reader.specs.Grammar.{Nonterminal, Noted, Item, Gives, marked, programs, divides, IsProgram}
@@ -68,7 +67,11 @@ EndsLength n m =
     → AreNamed (length n.sizes) 0 p → PartsAreNamed (length n.sizes) n.parts
     → (parts : List Part) × (m ≡ record n { products = rest; types = written.Array t parts ∷ types; parts = [] }) × PartsAreNamed (length n.sizes) parts
 
--- the split is read to its end
+-- whatever product the form is given, it names what is noted
+abbrev Suits : (List Factor → UnaryForm) → Noted → Type 0
+Suits f n = (p : List Factor) → AreNamed (length n.sizes) 1 p → FormIsNamed (length n.sizes) (f p)
+
+-- the split or stride is read to its end
 abbrev EndsSplit : Noted → Noted → Type 0
 EndsSplit n m = (p : List Factor) (rest : List (List Factor)) → n.products ≡ p ∷ rest → AreNamed (length n.sizes) 1 p → (t : Tree) × (m ≡ record n { products = rest; made = t ∷ n.made }) × Scoped n t
 
@@ -119,7 +122,7 @@ means n (grammar.MapName d) ts m back = Makes n m
 means n (grammar.FoldName d) ts m back = Makes n m
 means n (grammar.FoldSecondName d x) ts m back = Makes n m
 means n (grammar.ReduceOperator d) ts m back = Makes n m
-means n (grammar.SplitRest d) ts m back = EndsSplit n m
+means n (grammar.ProductRest f d) ts m back = Suits f n → EndsSplit n m
 
 -- ---- what is added at the end of a list
 
@@ -221,6 +224,7 @@ of_a_word k word.First = tt
 of_a_word k word.Second = tt
 of_a_word k word.Join = tt
 of_a_word k word.Transpose = tt
+of_a_word k word.Reverse = tt
 of_a_word k _ = tt
 
 unary_fits : (k : ℕ) (w : Word) (f : UnaryForm) → unary_of w ≡ Some f → FormIsNamed k f
@@ -279,23 +283,23 @@ length_ends s n a b m part array e p rest t types products made named parts =
     let done = subst (λ (k : Noted). marked grammar.ArrayOf k ≡ Some b) (sym (same_Some _ _ is)) array in
     (n.parts ++ record { sign = s; product = p } ∷ [], sym e ∙ sym (same_Some _ _ done), parts_more (length n.sizes) n.parts (record { sign = s; product = p }) parts named)
 
-split_times : (n a b m : Noted) → Multiplies 1 n a → EndsSplit a b → b ≡ m → EndsSplit n m
-split_times n a b m multiplied ended e p rest products named =
+product_times : (g : List Factor → UnaryForm) (n a b m : Noted) → Multiplies 1 n a → (Suits g a → EndsSplit a b) → b ≡ m → Suits g n → EndsSplit n m
+product_times g n a b m multiplied ended e suits p rest products named =
     let f = multiplied p rest products in
-    let r = subst (λ (k : Noted). EndsSplit k b) f.1 ended (p ++ f.0 ∷ []) rest refl (factors_more (length n.sizes) 1 p f.0 named f.2) in
+    let r = subst (λ (k : Noted). Suits g k → EndsSplit k b) f.1 ended suits (p ++ f.0 ∷ []) rest refl (factors_more (length n.sizes) 1 p f.0 named f.2) in
     (r.0, sym e ∙ r.1, r.2)
 
-split_ends : (n a b m : Noted) → Makes n a → marked grammar.Split a ≡ Some b → b ≡ m → EndsSplit n m
-split_ends n a b m made h e p rest products named =
+product_ends : (g : List Factor → UnaryForm) (n a b m : Noted) → Makes n a → marked (grammar.MakeByProduct g) a ≡ Some b → b ≡ m → Suits g n → EndsSplit n m
+product_ends g n a b m made h e suits p rest products named =
     let shape : a ≡ record n { products = p ∷ rest; made = made.0 ∷ n.made } =
     made.1 ∙ ap (λ (q : List (List Factor)). record n { products = q; made = made.0 ∷ n.made }) products in
-    let is = subst (λ (k : Noted). marked grammar.Split k ≡ Some b) shape h in
-    (trees.Unary (unaries.Split p) made.0, sym e ∙ sym (same_Some _ _ is), (named, made.2))
+    let is = subst (λ (k : Noted). marked (grammar.MakeByProduct g) k ≡ Some b) shape h in
+    (trees.Unary (g p) made.0, sym e ∙ sym (same_Some _ _ is), (suits p named, made.2))
 
-split_made : (n a b c m : Noted) → marked grammar.BeginProduct n ≡ Some a → Multiplies 1 a b → EndsSplit b c → c ≡ m → Makes n m
-split_made n a b c m begun multiplied ended e =
+product_made : (g : List Factor → UnaryForm) (n a b c m : Noted) → marked grammar.BeginProduct n ≡ Some a → Multiplies 1 a b → (Suits g b → EndsSplit b c) → c ≡ m → Suits g n → Makes n m
+product_made g n a b c m begun multiplied ended e suits =
     let f = subst (λ (k : Noted). Multiplies 1 k b) (sym (same_Some _ _ begun)) multiplied [] n.products refl in
-    let r = subst (λ (k : Noted). EndsSplit k c) f.1 ended (f.0 ∷ []) n.products refl (f.2, tt) in
+    let r = subst (λ (k : Noted). Suits g k → EndsSplit k c) f.1 ended suits (f.0 ∷ []) n.products refl (f.2, tt) in
     (r.0, sym e ∙ r.1, r.2)
 
 -- ---- declarations
@@ -414,9 +418,10 @@ kept n f t alt (grammar.fold_second_name {x = x} {y = y}) ts m back h =
     let b = last.2 in
     three (λ b s xs. trees.Fold folds.Plain xs s b) n _ _ _ _ m body.0 a.0 b.0 body.1 a.1 b.1 last.3.2.1 last.3.2.2.0
     (after n _ _ body.1 b.0 (after q.2.0 _ _ a.1 b.0 b.2), after n _ _ body.1 a.0 a.2, body.2)
-kept n f t alt (grammar.split deep) ts m back h = split_made n _ _ _ m h.2.1 h.2.2.2 h.2.2.3.2 h.2.2.3.3.0
-kept n f t alt grammar.split_times ts m back h = split_times n _ _ m h.2 h.3.2 h.3.3.0
-kept n f t alt grammar.split_end ts m back h = split_ends n _ _ m h.2 h.3.2.1 h.3.2.2.0
+kept n f t alt (grammar.split deep) ts m back h = product_made split_by n _ _ _ m h.2.1 h.2.2.2 h.2.2.3.2 h.2.2.3.3.0 (λ p q. q)
+kept n f t alt (grammar.stride deep) ts m back h = product_made stride_by n _ _ _ m h.2.1 h.2.2.2 h.2.2.3.2 h.2.2.3.3.0 (λ p q. q)
+kept n f t alt (grammar.product_times {f = g}) ts m back h = product_times g n _ _ m h.2 h.3.2 h.3.3.0
+kept n f t alt (grammar.product_end {f = g}) ts m back h = product_ends g n _ _ m h.2 h.3.2.1 h.3.2.2.0
 kept n f t alt (grammar.slide deep) ts m back h = makes_to n _ m (h.2.2 (λ v w p q. (p, q))) h.2.3.0
 kept n f t alt (grammar.pad deep) ts m back h = makes_to n _ m (h.2.2 (λ v w p q. tt)) h.2.3.0
 kept n f t alt (grammar.first_number {v = v} least) ts m back h = λ fits. makes_to n _ m (h.2.2 (λ w q. fits v w least q)) h.2.3.0

@@ -6,6 +6,7 @@ use Rattle.std.proofs.lemmas.Bool.{ltb-true, leb-true, le-leb, and_from, and_par
 use Rattle.std.specs.Cmp.Lexicographic.{same_text}
 use Rattle.readings.specs.Readings.{Form, Mark}
 use Rattle.readings.specs.Running.{Decides}
+use Rattle.lift_tree.specs.declared.length.Factor.{Factor}
 use Rattle.lift_tree.specs.declared.length.Sign.{Sign}
 use Rattle.lift_tree.specs.declared.length.Sign.TheVariants as sign
 use Rattle.lift_tree.specs.declared.term.UnaryForm.{UnaryForm}
@@ -16,8 +17,8 @@ use Rattle.lift_reader.specs.declared.word.Word.TheVariants as word
 use Rattle.lift_reader.specs.Words.{spelling}
 use Rattle.lift_reader.specs.Meant.{reducer_of, binary_of, unary_of}
 use Rattle.lift_reader.specs.Tokens.{Lexeme, AWord, AName, ANumber, ASymbol, Wrong}
-use Rattle.lift_reader.specs.Grammar.{Nonterminal, Sizes, Inputs, SizeName, SizeRange, Multiple, From, To, InputName, ArrayType, ElementType, AnyType, LengthFactor, LengthRest, Term, Divisor, First, Second, LetName, MapName, FoldName, FoldSecondName, ReduceOperator, SplitRest, Leaf, EndPart, ArrayOf, Split, Noted, Item, closes, term, is_new, size_named, input_named, binder_named, divides, array, pair, part, Gives, size, first_input, no_input, input, output, size_name, multiple, no_multiple, multiple_number, from, to, input_name, array_type, element, element_pair, any_element, any_array, any_pair, factor_number, factor_size, length_times, length_plus, length_minus, length_end, number, variable, an_input, binary, unary, div, rem, divisor, select, let_in, let_name, map, map_name, reduce, reduce_operator, fold, fold_name, fold_second_name, split, split_times, split_end, slide, pad, first_number, second_number, programs}
-use Rattle.lift_reader.specs.Rows.{same, or_else, sizes_row, inputs_row, range_row, element_row, array_row, type_row, rest_row, split_row, named, two_terms, one_term, special, compound, term_row, name_row, number_row, operator_row, other_row, row, table}
+use Rattle.lift_reader.specs.Grammar.{Nonterminal, Sizes, Inputs, SizeName, SizeRange, Multiple, From, To, InputName, ArrayType, ElementType, AnyType, LengthFactor, LengthRest, Term, Divisor, First, Second, LetName, MapName, FoldName, FoldSecondName, ReduceOperator, ProductRest, Leaf, EndPart, ArrayOf, MakeByProduct, Noted, Item, closes, term, is_new, size_named, input_named, binder_named, divides, array, pair, part, Gives, size, first_input, no_input, input, output, size_name, multiple, no_multiple, multiple_number, from, to, input_name, array_type, element, element_pair, any_element, any_array, any_pair, factor_number, factor_size, length_times, length_plus, length_minus, length_end, number, variable, an_input, binary, unary, div, rem, divisor, select, let_in, let_name, map, map_name, reduce, reduce_operator, fold, fold_name, fold_second_name, split, stride, product_times, product_end, slide, pad, first_number, second_number, programs}
+use Rattle.lift_reader.specs.Rows.{same, or_else, sizes_row, inputs_row, range_row, element_row, array_row, type_row, rest_row, product_row, named, two_terms, one_term, special, compound, term_row, name_row, number_row, operator_row, other_row, row, table}
 use Rattle.lift_reader.specs.Spelled.{itself, same_word}
 
 same-same : (a b : Lexeme) → same a b ≡ true → a ≡ b
@@ -123,12 +124,12 @@ found_rest n s (ASymbol b) alt e =
     ]
 found_rest n s _ alt e = absurd (cc)
 
-found_split : (n : Noted) (d : ℕ) (t : Lexeme) (alt : List Item) → split_row d t ≡ Some alt → Gives n (SplitRest d) t alt
-found_split n d (ASymbol b) alt e = elim (either (nat_eq b 42) (Some (Form (LengthFactor 1) ∷ Form (SplitRest d) ∷ [])) (cond (nat_eq b 44) (Some (term d ∷ closes ∷ Mark Split ∷ [])) None) (Some alt) e) [
-  | inl k ↦ at_symbol n (SplitRest d) b 42 _ alt k.0 (same_Some _ _ k.1) split_times
-  | inr k ↦ let j = cond_some (nat_eq b 44) _ alt k.1 in at_symbol n (SplitRest d) b 44 _ alt j.0 j.1 split_end
+found_product : (n : Noted) (f : List Factor → UnaryForm) (d : ℕ) (t : Lexeme) (alt : List Item) → product_row f d t ≡ Some alt → Gives n (ProductRest f d) t alt
+found_product n f d (ASymbol b) alt e = elim (either (nat_eq b 42) (Some (Form (LengthFactor 1) ∷ Form (ProductRest f d) ∷ [])) (cond (nat_eq b 44) (Some (term d ∷ closes ∷ Mark (MakeByProduct f) ∷ [])) None) (Some alt) e) [
+  | inl k ↦ at_symbol n (ProductRest f d) b 42 _ alt k.0 (same_Some _ _ k.1) product_times
+  | inr k ↦ let j = cond_some (nat_eq b 44) _ alt k.1 in at_symbol n (ProductRest f d) b 44 _ alt j.0 j.1 product_end
 ]
-found_split n d _ alt e = absurd (cc)
+found_product n f d _ alt e = absurd (cc)
 
 found_special : (n : Noted) (d : ℕ) → d < 256 → (w : Word) (alt : List Item) → special d w ≡ Some alt → Gives n (Term d) (AWord w) alt
 found_special n d less word.Div alt e = subst (Gives n (Term d) (AWord word.Div)) (same_Some _ _ e) (div less)
@@ -139,6 +140,7 @@ found_special n d less word.Map alt e = subst (Gives n (Term d) (AWord word.Map)
 found_special n d less word.Reduce alt e = subst (Gives n (Term d) (AWord word.Reduce)) (same_Some _ _ e) (reduce less)
 found_special n d less word.Fold alt e = subst (Gives n (Term d) (AWord word.Fold)) (same_Some _ _ e) (fold less)
 found_special n d less word.Split alt e = subst (Gives n (Term d) (AWord word.Split)) (same_Some _ _ e) (split less)
+found_special n d less word.Stride alt e = subst (Gives n (Term d) (AWord word.Stride)) (same_Some _ _ e) (stride less)
 found_special n d less word.Slide alt e = subst (Gives n (Term d) (AWord word.Slide)) (same_Some _ _ e) (slide less)
 found_special n d less word.Pad alt e = subst (Gives n (Term d) (AWord word.Pad)) (same_Some _ _ e) (pad less)
 found_special n d less _ alt e = absurd (cc)
@@ -214,7 +216,7 @@ found n (ArrayType d) t alt e = found_array n d t alt e
 found n (ElementType d) t alt e = found_element n d t alt e
 found n (AnyType d) t alt e = found_type n d t alt e
 found n (LengthRest s) t alt e = found_rest n s t alt e
-found n (SplitRest d) t alt e = found_split n d t alt e
+found n (ProductRest f d) t alt e = found_product n f d t alt e
 found n (Term d) t alt e = found_term n d t alt e
 found n (ReduceOperator d) t alt e = found_operator n d t alt e
 found n f t alt e = found_other n f t alt e
@@ -232,6 +234,7 @@ no_binary word.First f e = refl
 no_binary word.Second f e = refl
 no_binary word.Join f e = refl
 no_binary word.Transpose f e = refl
+no_binary word.Reverse f e = refl
 no_binary _ f e = absurd (cc)
 
 only_unary : (d : ℕ) (w : Word) (f : UnaryForm) → unary_of w ≡ Some f → compound d w ≡ Some (one_term d f)
@@ -288,8 +291,9 @@ only n f t alt (fold {d = d} less) = only_word n d word.Fold less
 only n f t alt fold_name = refl
 only n f t alt fold_second_name = refl
 only n f t alt (split {d = d} less) = only_word n d word.Split less
-only n f t alt split_times = refl
-only n f t alt split_end = refl
+only n f t alt (stride {d = d} less) = only_word n d word.Stride less
+only n f t alt product_times = refl
+only n f t alt product_end = refl
 only n f t alt (slide {d = d} less) = only_word n d word.Slide less
 only n f t alt (pad {d = d} less) = only_word n d word.Pad less
 only n f t alt (first_number {least = least} {v = v} h) = guard (nat_le least v) _ None (le-leb least v h)

@@ -2,6 +2,8 @@
 use Rattle.std.specs.Prelude.{ℕ, List}
 use Rattle.readings.specs.declared.owed.Owed.{Owed}
 use Rattle.readings.specs.Views.{items_of}
+use Rattle.lift_tree.specs.declared.layout.Layout.TheVariants as layouts
+use Rattle.lift_tree.specs.declared.length.Factor.{Factor}
 use Rattle.lift_tree.specs.declared.term.UnaryForm.{UnaryForm}
 use Rattle.lift_tree.specs.declared.term.UnaryForm.TheVariants as unaries
 use Rattle.lift_tree.specs.declared.term.BinaryForm.TheVariants as binaries
@@ -22,7 +24,10 @@ use Rattle.lift_reader.specs.declared.grammar.Division.{Division}
 use Rattle.lift_reader.specs.declared.grammar.Division.TheVariants as division
 use Rattle.lift_reader.specs.declared.grammar.Window.{Window}
 use Rattle.lift_reader.specs.declared.grammar.Window.TheVariants as window
+use Rattle.lift_reader.specs.declared.grammar.Grouping.{Grouping}
+use Rattle.lift_reader.specs.declared.grammar.Grouping.TheVariants as grouping
 use Rattle.lift_reader.specs.declared.token.Kind.{Kind}
+use Rattle.lift_reader.specs.Meant.{split_by, stride_by}
 use Rattle.lift_reader.specs.Shown.{lexeme}
 use Rattle.lift_reader.specs.Grammar as grammar
 
@@ -31,8 +36,9 @@ form_of (single.Div n) = unaries.Div n
 form_of (single.Rem n) = unaries.Rem n
 form_of single.First = unaries.First
 form_of single.Second = unaries.Second
-form_of single.Join = unaries.Join
-form_of single.Transpose = unaries.Transpose
+form_of single.Join = unaries.Layout layouts.Join
+form_of single.Transpose = unaries.Layout layouts.Transpose
+form_of single.Reverse = unaries.Layout layouts.Reverse
 form_of (single.Slide s t) = unaries.Slide s t
 form_of (single.Pad l r) = unaries.Pad l r
 
@@ -53,6 +59,10 @@ division_form division.Rem n = unaries.Rem n
 abbrev pub window_form : Window → ℕ → ℕ → UnaryForm
 window_form window.Slide s t = unaries.Slide s t
 window_form window.Pad l r = unaries.Pad l r
+
+abbrev pub grouping_form : Grouping → List Factor → UnaryForm
+grouping_form grouping.Split product = split_by product
+grouping_form grouping.Stride product = stride_by product
 
 abbrev pub window_least : Window → ℕ
 window_least window.Slide = 1
@@ -81,7 +91,7 @@ nonterminal_of (form.MapName d) = grammar.MapName d
 nonterminal_of (form.FoldName d) = grammar.FoldName d
 nonterminal_of (form.FoldSecondName d x) = grammar.FoldSecondName d x.now
 nonterminal_of (form.ReduceOperator d) = grammar.ReduceOperator d
-nonterminal_of (form.SplitRest d) = grammar.SplitRest d
+nonterminal_of (form.ProductRest g d) = grammar.ProductRest (grouping_form g) d
 
 abbrev pub action_of : Action → grammar.Action
 action_of (action.DeclareSize x m a b) = grammar.DeclareSize (record { name = x.now; multiple = m; from = a; to = b })
@@ -100,7 +110,7 @@ action_of action.Unbind = grammar.Unbind
 action_of (action.Make1 f) = grammar.Make1 (trees.Unary (form_of f))
 action_of (action.Make2 f) = grammar.Make2 (double_of f)
 action_of (action.Make3 f) = grammar.Make3 (triple_of f)
-action_of action.Split = grammar.Split
+action_of (action.MakeByProduct g) = grammar.MakeByProduct (grouping_form g)
 action_of action.Finish = grammar.Finish
 
 abbrev pub items : List (Owed Kind Nonterminal Action) → List grammar.Item

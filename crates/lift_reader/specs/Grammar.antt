@@ -19,7 +19,7 @@ use Rattle.lift_tree.specs.Tree as trees
 use Rattle.lift_tree.specs.Programs.{PlainInput, PlainProgram}
 use Rattle.lift_reader.specs.declared.word.Word.{Word}
 use Rattle.lift_reader.specs.declared.word.Word.TheVariants as word
-use Rattle.lift_reader.specs.Meant.{reducer_of, binary_of, unary_of}
+use Rattle.lift_reader.specs.Meant.{reducer_of, binary_of, unary_of, split_by, stride_by}
 use Rattle.lift_reader.specs.Tokens.{Lexeme, AWord, AName, ANumber, ASymbol}
 
 -- ---- what is owed
@@ -49,7 +49,7 @@ pub data Nonterminal : Type 0 where
   FoldName : (depth : ℕ) → Nonterminal
   FoldSecondName : (depth : ℕ) → (first : List ℕ) → Nonterminal
   ReduceOperator : (depth : ℕ) → Nonterminal
-  SplitRest : (depth : ℕ) → Nonterminal
+  ProductRest : (List Factor → UnaryForm) → (depth : ℕ) → Nonterminal
 
 -- What a mark does with the notes.
 pub data Action : Type 0 where
@@ -67,7 +67,7 @@ pub data Action : Type 0 where
   Make1 : (trees.Tree → trees.Tree) → Action
   Make2 : (trees.Tree → trees.Tree → trees.Tree) → Action
   Make3 : (trees.Tree → trees.Tree → trees.Tree → trees.Tree) → Action
-  Split : Action
+  MakeByProduct : (List Factor → UnaryForm) → Action
   Finish : Action
 
 -- The sizes and inputs declared, in order; the binders in scope, the nearest first; the types, the products and the
@@ -177,6 +177,9 @@ behind_fold d x y =
     ∷ comma ∷ term d ∷ comma ∷ term d ∷ closes
     ∷ Mark (Make3 (λ body start array. trees.Fold folds.Plain array start body)) ∷ []
 
+abbrev pub of_product : (List Factor → UnaryForm) → ℕ → List Item
+of_product f d = opens ∷ Mark BeginProduct ∷ Form (LengthFactor 1) ∷ Form (ProductRest f (d + 1)) ∷ []
+
 -- With the notes n, this form has an alternative that is this token and then this.
 pub data Gives : Noted → Nonterminal → Lexeme → List Item → Type 0 where
   -- { size } { input } "output" term
@@ -218,7 +221,7 @@ pub data Gives : Noted → Nonterminal → Lexeme → List Item → Type 0 where
   an_input : {n : Noted} → {d i : ℕ} → {x : List ℕ} → binder_named n x ≡ None → input_named n x ≡ Some i → Gives n (Term d) (AName x) (Mark (Leaf (trees.Input i)) ∷ [])
   -- op2, "pair" or "zip" "(" term "," term ")"
   binary : {n : Noted} → {d : ℕ} → {w : Word} → {f : BinaryForm} → binary_of w ≡ Some f → d < 256 → Gives n (Term d) (AWord w) (opens ∷ term (d + 1) ∷ comma ∷ term (d + 1) ∷ closes ∷ Mark (Make2 (trees.Binary f)) ∷ [])
-  -- "first", "second", "join" or "transpose" "(" term ")"
+  -- "first", "second", "join", "transpose" or "reverse" "(" term ")"
   unary : {n : Noted} → {d : ℕ} → {w : Word} → {f : UnaryForm} → unary_of w ≡ Some f → d < 256 → Gives n (Term d) (AWord w) (opens ∷ term (d + 1) ∷ closes ∷ Mark (Make1 (trees.Unary f)) ∷ [])
   -- ( "div" | "rem" ) "(" term "," NUMBER ")"
   div : {n : Noted} → {d : ℕ} → d < 256 → Gives n (Term d) (AWord word.Div) (opens ∷ term (d + 1) ∷ comma ∷ Form (Divisor unaries.Div) ∷ [])
@@ -239,10 +242,11 @@ pub data Gives : Noted → Nonterminal → Lexeme → List Item → Type 0 where
   fold : {n : Noted} → {d : ℕ} → d < 256 → Gives n (Term d) (AWord word.Fold) (opens ∷ backslash ∷ Form (FoldName (d + 1)) ∷ [])
   fold_name : {n : Noted} → {d : ℕ} → {x : List ℕ} → Gives n (FoldName d) (AName x) (Form (FoldSecondName d x) ∷ [])
   fold_second_name : {n : Noted} → {d : ℕ} → {x y : List ℕ} → Gives n (FoldSecondName d x) (AName y) (behind_fold d x y)
-  -- "split" "(" mono "," term ")"
-  split : {n : Noted} → {d : ℕ} → d < 256 → Gives n (Term d) (AWord word.Split) (opens ∷ Mark BeginProduct ∷ Form (LengthFactor 1) ∷ Form (SplitRest (d + 1)) ∷ [])
-  split_times : {n : Noted} → {d : ℕ} → Gives n (SplitRest d) (ASymbol 42) (Form (LengthFactor 1) ∷ Form (SplitRest d) ∷ [])
-  split_end : {n : Noted} → {d : ℕ} → Gives n (SplitRest d) (ASymbol 44) (term d ∷ closes ∷ Mark Split ∷ [])
+  -- ( "split" | "stride" ) "(" mono "," term ")"
+  split : {n : Noted} → {d : ℕ} → d < 256 → Gives n (Term d) (AWord word.Split) (of_product split_by d)
+  stride : {n : Noted} → {d : ℕ} → d < 256 → Gives n (Term d) (AWord word.Stride) (of_product stride_by d)
+  product_times : {n : Noted} → {d : ℕ} → {f : List Factor → UnaryForm} → Gives n (ProductRest f d) (ASymbol 42) (Form (LengthFactor 1) ∷ Form (ProductRest f d) ∷ [])
+  product_end : {n : Noted} → {d : ℕ} → {f : List Factor → UnaryForm} → Gives n (ProductRest f d) (ASymbol 44) (term d ∷ closes ∷ Mark (MakeByProduct f) ∷ [])
   -- ( "slide" | "pad" ) "(" NUMBER "," NUMBER "," term ")"
   slide : {n : Noted} → {d : ℕ} → d < 256 → Gives n (Term d) (AWord word.Slide) (opens ∷ Form (First 1 unaries.Slide (d + 1)) ∷ [])
   pad : {n : Noted} → {d : ℕ} → d < 256 → Gives n (Term d) (AWord word.Pad) (opens ∷ Form (First 0 unaries.Pad (d + 1)) ∷ [])
@@ -267,9 +271,9 @@ with_three f (c ∷ []) = None
 with_three f (c ∷ b ∷ []) = None
 with_three f (c ∷ b ∷ a ∷ rest) = Some (f a b c rest)
 
-abbrev pub split_by : Noted → List (List Factor) → List trees.Tree → Option Noted
-split_by n (p ∷ products) (t ∷ made) = Some (record n { products = products; made = trees.Unary (unaries.Split p) t ∷ made })
-split_by n _ _ = None
+abbrev pub by_product : (List Factor → UnaryForm) → Noted → List (List Factor) → List trees.Tree → Option Noted
+by_product f n (p ∷ products) (t ∷ made) = Some (record n { products = products; made = trees.Unary (f p) t ∷ made })
+by_product f n _ _ = None
 
 abbrev pub finished : Noted → List trees.Tree → Option Noted
 finished n (t ∷ []) = Some n
@@ -291,7 +295,7 @@ marked Unbind n = with_first (λ x scope. record n { scope = scope }) n.scope
 marked (Make1 f) n = with_first (λ a made. record n { made = f a ∷ made }) n.made
 marked (Make2 f) n = with_two (λ a b made. record n { made = f a b ∷ made }) n.made
 marked (Make3 f) n = with_three (λ a b c made. record n { made = f a b c ∷ made }) n.made
-marked Split n = split_by n n.products n.made
+marked (MakeByProduct f) n = by_product f n n.products n.made
 marked Finish n = finished n n.made
 
 abbrev pub programs : Grammar Lexeme Nonterminal Action Noted

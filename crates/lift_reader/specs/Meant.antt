@@ -1,7 +1,9 @@
 -- What the reserved words stand for in a term.
-use Rattle.std.specs.Prelude.{Option, Some, None}
+use Rattle.std.specs.Prelude.{List, Option, Some, None}
 use Rattle.scalar_ops.specs.declared.op.Reducer.{Reducer}
 use Rattle.scalar_ops.specs.declared.op.Reducer.TheVariants as reducer
+use Rattle.lift_tree.specs.declared.layout.Layout.TheVariants as layouts
+use Rattle.lift_tree.specs.declared.length.Factor.{Factor}
 use Rattle.lift_tree.specs.declared.term.Operator.TheVariants as operator
 use Rattle.lift_tree.specs.declared.term.BinaryForm.{BinaryForm}
 use Rattle.lift_tree.specs.declared.term.BinaryForm.TheVariants as binary
@@ -43,6 +45,14 @@ binary_of _ = None
 abbrev pub unary_of : Word → Option UnaryForm
 unary_of word.First = Some unary.First
 unary_of word.Second = Some unary.Second
-unary_of word.Join = Some unary.Join
-unary_of word.Transpose = Some unary.Transpose
+unary_of word.Join = Some (unary.Layout layouts.Join)
+unary_of word.Transpose = Some (unary.Layout layouts.Transpose)
+unary_of word.Reverse = Some (unary.Layout layouts.Reverse)
 unary_of _ = None
+
+-- what is written before a product and a term
+abbrev pub split_by : List Factor → UnaryForm
+split_by product = unary.Layout (layouts.Split product)
+
+abbrev pub stride_by : List Factor → UnaryForm
+stride_by product = unary.Layout (layouts.Stride product)

@@ -2,6 +2,7 @@
 use Rattle.std.specs.Prelude.{ℕ, ◌+◌, List, [], ◌∷◌, Option, Some, None, Bool, true, false, cond, bytes_eq, nat_le, nat_lt, nat_eq, ◌&&◌, option_map}
 use Rattle.readings.specs.Readings.{Form, Mark}
 use Rattle.readings.specs.Running.{Table}
+use Rattle.lift_tree.specs.declared.length.Factor.{Factor}
 use Rattle.lift_tree.specs.declared.length.Factor.TheVariants as factor
 use Rattle.lift_tree.specs.declared.length.Sign.{Sign}
 use Rattle.lift_tree.specs.declared.length.Sign.TheVariants as sign
@@ -13,9 +14,9 @@ use Rattle.lift_tree.specs.Tree as trees
 use Rattle.lift_reader.specs.declared.word.Word.{Word}
 use Rattle.lift_reader.specs.declared.word.Word.TheVariants as word
 use Rattle.lift_reader.specs.Words.{spelling}
-use Rattle.lift_reader.specs.Meant.{reducer_of, binary_of, unary_of}
+use Rattle.lift_reader.specs.Meant.{reducer_of, binary_of, unary_of, split_by, stride_by}
 use Rattle.lift_reader.specs.Tokens.{Lexeme, AWord, AName, ANumber, ASymbol, Wrong}
-use Rattle.lift_reader.specs.Grammar.{Nonterminal, Sizes, Inputs, SizeName, SizeRange, Multiple, From, To, InputName, ArrayType, ElementType, AnyType, LengthFactor, LengthRest, Term, Divisor, First, Second, LetName, MapName, FoldName, FoldSecondName, ReduceOperator, SplitRest, Action, DeclareSize, NumberType, BeginProduct, Multiply, EndPart, ArrayOf, Leaf, Make1, Make2, Make3, Split, Noted, Item, keyword, opens, closes, comma, semicolon, backslash, term, is_new, size_named, input_named, binder_named, divides, array, pair, part, behind_input, behind_let, behind_map, behind_fold, marked}
+use Rattle.lift_reader.specs.Grammar.{Nonterminal, Sizes, Inputs, SizeName, SizeRange, Multiple, From, To, InputName, ArrayType, ElementType, AnyType, LengthFactor, LengthRest, Term, Divisor, First, Second, LetName, MapName, FoldName, FoldSecondName, ReduceOperator, ProductRest, Action, DeclareSize, NumberType, Multiply, EndPart, ArrayOf, Leaf, Make1, Make2, Make3, MakeByProduct, Noted, Item, keyword, opens, closes, comma, semicolon, backslash, term, is_new, size_named, input_named, binder_named, divides, array, pair, part, behind_input, behind_let, behind_map, behind_fold, of_product, marked}
 
 abbrev pub same : Lexeme → Lexeme → Bool
 same (AWord a) (AWord b) = bytes_eq (spelling a) (spelling b)
@@ -63,11 +64,11 @@ rest_row s (ASymbol b) =
     (cond (nat_eq b 93) (Some (Mark (EndPart s) ∷ Mark ArrayOf ∷ [])) None)))
 rest_row s _ = None
 
-abbrev pub split_row : ℕ → Lexeme → Option (List Item)
-split_row d (ASymbol b) =
-    cond (nat_eq b 42) (Some (Form (LengthFactor 1) ∷ Form (SplitRest d) ∷ []))
-    (cond (nat_eq b 44) (Some (term d ∷ closes ∷ Mark Split ∷ [])) None)
-split_row d _ = None
+abbrev pub product_row : (List Factor → UnaryForm) → ℕ → Lexeme → Option (List Item)
+product_row f d (ASymbol b) =
+    cond (nat_eq b 42) (Some (Form (LengthFactor 1) ∷ Form (ProductRest f d) ∷ []))
+    (cond (nat_eq b 44) (Some (term d ∷ closes ∷ Mark (MakeByProduct f) ∷ [])) None)
+product_row f d _ = None
 
 -- the first of two
 abbrev pub or_else : {A : Type 0} → Option A → Option A → Option A
@@ -97,7 +98,8 @@ special d word.Let = Some (Form (LetName (d + 1)) ∷ [])
 special d word.Map = Some (opens ∷ backslash ∷ Form (MapName (d + 1)) ∷ [])
 special d word.Reduce = Some (opens ∷ Form (ReduceOperator (d + 1)) ∷ [])
 special d word.Fold = Some (opens ∷ backslash ∷ Form (FoldName (d + 1)) ∷ [])
-special d word.Split = Some (opens ∷ Mark BeginProduct ∷ Form (LengthFactor 1) ∷ Form (SplitRest (d + 1)) ∷ [])
+special d word.Split = Some (of_product split_by d)
+special d word.Stride = Some (of_product stride_by d)
 special d word.Slide = Some (opens ∷ Form (First 1 unaries.Slide (d + 1)) ∷ [])
 special d word.Pad = Some (opens ∷ Form (First 0 unaries.Pad (d + 1)) ∷ [])
 special d _ = None
@@ -151,7 +153,7 @@ row n (ArrayType d) t = array_row d t
 row n (ElementType d) t = element_row d t
 row n (AnyType d) t = type_row d t
 row n (LengthRest s) t = rest_row s t
-row n (SplitRest d) t = split_row d t
+row n (ProductRest f d) t = product_row f d t
 row n (Term d) t = term_row n d t
 row n (ReduceOperator d) t = operator_row d t
 row n f t = other_row n f t

@@ -5,7 +5,7 @@ use Rattle.std.specs.Cmp.Lexicographic.{same_text}
 use Rattle.std.proofs.lemmas.Bool.{eq-eqb, and_from}
 use Rattle.std.proofs.lemmas.Option.{same_Some}
 use Rattle.lift_reader.specs.declared.word.Word.{Word}
-use Rattle.lift_reader.specs.declared.word.Word.TheVariants.{Size, Multiple, From, To, Input, Output, U32, Add, Mul, Min, Max, And, Or, Xor, Sub, Shl, Shr, Lt, Eq, Div, Rem, Select, Pair, First, Second, Let, In, Map, Reduce, Fold, Zip, Join, Transpose, Split, Slide, Pad, MapGlb, MapWrg, MapLcl, MapSeq, FoldSeq, ToLocal, ToPrivate}
+use Rattle.lift_reader.specs.declared.word.Word.TheVariants.{Size, Multiple, From, To, Input, Output, U32, Add, Mul, Min, Max, And, Or, Xor, Sub, Shl, Shr, Lt, Eq, Div, Rem, Select, Pair, First, Second, Let, In, Map, Reduce, Fold, Zip, Join, Transpose, Split, Reverse, Stride, Slide, Pad, MapGlb, MapWrg, MapLcl, MapSeq, FoldSeq, ToLocal, ToPrivate}
 use Rattle.lift_reader.specs.Words.{spelling, word_of}
 
 pub itself : (x : List ℕ) → bytes_eq x x ≡ true
@@ -48,6 +48,8 @@ again Zip = refl
 again Join = refl
 again Transpose = refl
 again Split = refl
+again Reverse = refl
+again Stride = refl
 again Slide = refl
 again Pad = refl
 again MapGlb = refl

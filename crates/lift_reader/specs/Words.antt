@@ -1,7 +1,7 @@
 -- The reserved words.
 use Rattle.std.specs.Prelude.{List, [], ◌∷◌, Option, bytes_eq, codes, find, ℕ}
 use Rattle.lift_reader.specs.declared.word.Word.{Word}
-use Rattle.lift_reader.specs.declared.word.Word.TheVariants.{Size, Multiple, From, To, Input, Output, U32, Add, Mul, Min, Max, And, Or, Xor, Sub, Shl, Shr, Lt, Eq, Div, Rem, Select, Pair, First, Second, Let, In, Map, Reduce, Fold, Zip, Join, Transpose, Split, Slide, Pad, MapGlb, MapWrg, MapLcl, MapSeq, FoldSeq, ToLocal, ToPrivate}
+use Rattle.lift_reader.specs.declared.word.Word.TheVariants.{Size, Multiple, From, To, Input, Output, U32, Add, Mul, Min, Max, And, Or, Xor, Sub, Shl, Shr, Lt, Eq, Div, Rem, Select, Pair, First, Second, Let, In, Map, Reduce, Fold, Zip, Join, Transpose, Split, Reverse, Stride, Slide, Pad, MapGlb, MapWrg, MapLcl, MapSeq, FoldSeq, ToLocal, ToPrivate}
 
 -- the bytes by which a text writes a word
 abbrev pub spelling : Word → List ℕ
@@ -39,6 +39,8 @@ spelling Zip = codes "zip"
 spelling Join = codes "join"
 spelling Transpose = codes "transpose"
 spelling Split = codes "split"
+spelling Reverse = codes "reverse"
+spelling Stride = codes "stride"
 spelling Slide = codes "slide"
 spelling Pad = codes "pad"
 spelling MapGlb = codes "mapGlb"
@@ -50,7 +52,7 @@ spelling ToLocal = codes "toLocal"
 spelling ToPrivate = codes "toPrivate"
 
 abbrev pub words : List Word
-words = Size ∷ Multiple ∷ From ∷ To ∷ Input ∷ Output ∷ U32 ∷ Add ∷ Mul ∷ Min ∷ Max ∷ And ∷ Or ∷ Xor ∷ Sub ∷ Shl ∷ Shr ∷ Lt ∷ Eq ∷ Div ∷ Rem ∷ Select ∷ Pair ∷ First ∷ Second ∷ Let ∷ In ∷ Map ∷ Reduce ∷ Fold ∷ Zip ∷ Join ∷ Transpose ∷ Split ∷ Slide ∷ Pad ∷ MapGlb ∷ MapWrg ∷ MapLcl ∷ MapSeq ∷ FoldSeq ∷ ToLocal ∷ ToPrivate ∷ []
+words = Size ∷ Multiple ∷ From ∷ To ∷ Input ∷ Output ∷ U32 ∷ Add ∷ Mul ∷ Min ∷ Max ∷ And ∷ Or ∷ Xor ∷ Sub ∷ Shl ∷ Shr ∷ Lt ∷ Eq ∷ Div ∷ Rem ∷ Select ∷ Pair ∷ First ∷ Second ∷ Let ∷ In ∷ Map ∷ Reduce ∷ Fold ∷ Zip ∷ Join ∷ Transpose ∷ Split ∷ Reverse ∷ Stride ∷ Slide ∷ Pad ∷ MapGlb ∷ MapWrg ∷ MapLcl ∷ MapSeq ∷ FoldSeq ∷ ToLocal ∷ ToPrivate ∷ []
 
 -- the word that a text writes by these bytes
 unfoldable pub word_of : List ℕ → Option Word

@@ -13,7 +13,7 @@ use crate::token::Kind;
 pub use declarations::{give_input, give_inputs, give_number, give_range, give_sizes};
 use readings::{Owed, owe};
 use std::alloc::AllocError;
-pub use terms::{give_compound, give_fold, give_let, give_map, give_operator, give_split_rest};
+pub use terms::{give_compound, give_fold, give_let, give_map, give_operator, give_product_rest};
 pub use types::{give_array, give_element, give_length_rest, give_type};
 
 const OPEN: Debt<'static> = Owed::Token(Kind::Symbol(b'('));

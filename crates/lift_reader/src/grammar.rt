@@ -2,11 +2,12 @@
 
 ghost use Rattle.std.specs.Prelude.{◌≡◌, option_map};
 ghost use Rattle.lift_reader.specs.Meant.{reducer_of, binary_of, unary_of};
-ghost use Rattle.lift_reader.specs.Forms.{form_of, division_form, window_form, window_least};
+ghost use Rattle.lift_reader.specs.Forms.{form_of, division_form, grouping_form, window_form, window_least};
 
 use crate::token::Kind;
 use crate::word::Word;
-use lift_tree::length::{Factor, Sign};
+use lift_tree::layout::Layout;
+use lift_tree::length::{Factor, Product, Sign};
 use lift_tree::term::{BinaryForm, Operator, UnaryForm};
 use readings::Owed;
 use scalar_ops::op::Reducer;
@@ -45,7 +46,7 @@ pub enum Nonterminal<'a> {
     FoldName(u32),
     FoldSecondName(u32, &'a [u8]),
     ReduceOperator(u32),
-    SplitRest(u32),
+    ProductRest(Grouping, u32),
 }
 
 /// What a mark does with the notes.
@@ -68,7 +69,8 @@ pub enum Action<'a> {
     Make1(Single),
     Make2(Double),
     Make3(Triple),
-    Split,
+    /// Of the last product and the last term.
+    MakeByProduct(Grouping),
     Finish,
 }
 
@@ -81,6 +83,7 @@ pub enum Single {
     Second,
     Join,
     Transpose,
+    Reverse,
     Slide(u32, u32),
     Pad(u32, u32),
 }
@@ -111,6 +114,13 @@ pub enum Division {
     Rem,
 }
 
+/// A form with a product and a term.
+#[derive(Clone, Copy)]
+pub enum Grouping {
+    Split,
+    Stride,
+}
+
 /// A form with two numbers and a term.
 #[derive(Clone, Copy)]
 pub enum Window {
@@ -127,8 +137,9 @@ impl Single {
             Single::Rem(n) => UnaryForm::Rem(n),
             Single::First => UnaryForm::First,
             Single::Second => UnaryForm::Second,
-            Single::Join => UnaryForm::Join,
-            Single::Transpose => UnaryForm::Transpose,
+            Single::Join => UnaryForm::Layout(Layout::Join),
+            Single::Transpose => UnaryForm::Layout(Layout::Transpose),
+            Single::Reverse => UnaryForm::Layout(Layout::Reverse),
             Single::Slide(size, step) => UnaryForm::Slide(size, step),
             Single::Pad(before, after) => UnaryForm::Pad(before, after),
         }
@@ -142,6 +153,17 @@ impl Division {
         match self {
             Division::Div => Single::Div(divisor),
             Division::Rem => Single::Rem(divisor),
+        }
+    }
+}
+
+impl Grouping {
+    pub fn by(self, product: Product) -> UnaryForm
+        ensures { result ≡ grouping_form self product }
+    {
+        match self {
+            Grouping::Split => UnaryForm::Layout(Layout::Split(product)),
+            Grouping::Stride => UnaryForm::Layout(Layout::Stride(product)),
         }
     }
 }
@@ -215,6 +237,7 @@ pub fn unary_of(word: Word) -> Option<Single>
         Word::Second => Some(Single::Second),
         Word::Join => Some(Single::Join),
         Word::Transpose => Some(Single::Transpose),
+        Word::Reverse => Some(Single::Reverse),
         _ => None,
     }
 }

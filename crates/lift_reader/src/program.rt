@@ -28,7 +28,8 @@ fn read_tokens(alloc: Global, tokens: &[Kind]) -> Result<Program, ReadError>
     let program = Owed::Form(Nonterminal::Sizes);
     let finish = Owed::Mark(Action::Finish);
     let reader = read(alloc, &[program, finish], Reader::new(alloc), tokens)?;
-    match reader.into_program() {
+    let noted = reader.into_program(alloc)?;
+    match noted {
         Some(program) => Ok(program),
         None => unreachable!(),
     }

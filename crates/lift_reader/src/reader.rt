@@ -1,12 +1,12 @@
 //! What a reading of a program has noted.
 
-ghost use Rattle.std.specs.Prelude.{◌≡◌, option_map};
+ghost use Rattle.std.specs.Prelude.{◌≡◌, IfOk, map, option_map};
 ghost use Rattle.lift_tree.specs.Programs.{program_of};
 ghost use Rattle.lift_reader.specs.Decided.{decided};
 ghost use Rattle.lift_reader.specs.Forms.{nonterminal_of, action_of};
 ghost use Rattle.lift_reader.specs.Grammar as grammar;
 ghost use Rattle.lift_reader.specs.Grammar.{Noted, programs};
-ghost use Rattle.lift_reader.specs.Noted.{noted_by};
+ghost use Rattle.lift_reader.specs.Noted.{noted_by, declared_size, declared_input};
 ghost use Rattle.lift_reader.specs.ProgramText.{program_noted};
 ghost use Rattle.lift_reader.specs.Rows.{same, table};
 ghost use Rattle.lift_reader.specs.Shown.{lexeme};
@@ -17,29 +17,65 @@ mod names;
 
 use crate::alternatives::{
     give_array, give_element, give_inputs, give_length_rest, give_number, give_operator,
-    give_range, give_sizes, give_split_rest, give_type,
+    give_product_rest, give_range, give_sizes, give_type,
 };
 use crate::grammar::{Action, Debts, Nonterminal};
 use crate::token::Kind;
+use indexmap::IndexMap;
 use lift_tree::input_type::InputType;
 use lift_tree::length::{Part, Product};
-use lift_tree::program::{Input, Program, Size};
+use lift_tree::program::{Identifier, Input, Program, Size};
 use lift_tree::term::Term;
 use readings::Notes;
 use std::alloc::{AllocError, Global};
 use std::collections::VecDeque;
 
-/// The sizes and inputs declared so far in order; the binders in scope, the nearest first; the
-/// types, products and terms made so far, the last first; and the parts of a length so far.
+/// What a size ranges over: the multiples of `multiple` from `from` to `to`.
+#[derive(Drop)]
+pub struct Range {
+    pub multiple: u32,
+    pub from: u32,
+    pub to: u32,
+}
+
+/// The sizes and inputs declared so far by their names, in order; the binders in scope, the nearest
+/// first; the types, products and terms made so far, the last first; and the parts of a length so
+/// far.
 #[derive(Drop)]
 pub struct Reader<'a> {
-    sizes: Vec<Size>,
-    inputs: Vec<Input>,
+    sizes: IndexMap<Vec<u8>, Range>,
+    inputs: IndexMap<Vec<u8>, InputType>,
     scope: VecDeque<&'a [u8]>,
     types: VecDeque<InputType>,
     products: VecDeque<Product>,
     parts: Vec<Part>,
     made: VecDeque<Term>,
+}
+
+fn sizes_of(alloc: Global, sizes: IndexMap<Vec<u8>, Range>) -> Result<Vec<Size>, AllocError>
+    ensures { IfOk result (λ v. v.items ≡ map declared_size sizes.entries) }
+{
+    sizes
+        .into_iter()
+        .map(|(name, range)| Size {
+            name: Identifier::new(name),
+            multiple: range.multiple,
+            from: range.from,
+            to: range.to,
+        })
+        .collect(alloc)
+}
+
+fn inputs_of(alloc: Global, inputs: IndexMap<Vec<u8>, InputType>) -> Result<Vec<Input>, AllocError>
+    ensures { IfOk result (λ v. v.items ≡ map declared_input inputs.entries) }
+{
+    inputs
+        .into_iter()
+        .map(|(name, ty)| Input {
+            name: Identifier::new(name),
+            ty,
+        })
+        .collect(alloc)
 }
 
 fn is_same(a: Kind, b: Kind) -> bool
@@ -60,8 +96,8 @@ impl<'a> Reader<'a> {
         ensures { noted_by result ≡ grammar.nothing }
     {
         Reader {
-            sizes: Vec::new(alloc),
-            inputs: Vec::new(alloc),
+            sizes: IndexMap::new(alloc),
+            inputs: IndexMap::new(alloc),
             scope: VecDeque::new(alloc),
             types: VecDeque::new(alloc),
             products: VecDeque::new(alloc),
@@ -71,8 +107,9 @@ impl<'a> Reader<'a> {
     }
 
     /// The program that was noted.
-    pub fn into_program(self) -> Option<Program>
-        ensures { option_map program_of result ≡ program_noted (noted_by self.entry) }
+    pub fn into_program(self, alloc: Global) -> Result<Option<Program>, AllocError>
+        ensures { IfOk result (λ p.
+            option_map program_of p ≡ program_noted (noted_by self.entry)) }
     {
         let Reader {
             sizes,
@@ -84,12 +121,12 @@ impl<'a> Reader<'a> {
             mut made,
         } = self;
         match made.pop_front() {
-            Some(body) => Some(Program {
-                sizes,
-                inputs,
+            Some(body) => Ok(Some(Program {
+                sizes: sizes_of(alloc, sizes)?,
+                inputs: inputs_of(alloc, inputs)?,
                 body,
-            }),
-            None => None,
+            })),
+            None => Ok(None),
         }
     }
 }
@@ -139,7 +176,9 @@ impl<'a> Notes for Reader<'a> {
             Nonterminal::ElementType(depth) => give_element(depth, token, owed),
             Nonterminal::AnyType(depth) => give_type(depth, token, owed),
             Nonterminal::LengthRest(sign) => give_length_rest(sign, token, owed),
-            Nonterminal::SplitRest(depth) => give_split_rest(depth, token, owed),
+            Nonterminal::ProductRest(grouping, depth) => {
+                give_product_rest(grouping, depth, token, owed)
+            },
             Nonterminal::Term(depth) => self.give_term(depth, token, owed),
             Nonterminal::ReduceOperator(depth) => give_operator(depth, token, owed),
             _ => match token {
@@ -170,7 +209,7 @@ impl<'a> Notes for Reader<'a> {
             Action::Make1(form) => self.make1(alloc, form),
             Action::Make2(form) => self.make2(alloc, form),
             Action::Make3(form) => self.make3(alloc, form),
-            Action::Split => self.split(alloc),
+            Action::MakeByProduct(grouping) => self.make_by_product(alloc, grouping),
             Action::Finish => Ok(self.made.len() == 1),
         }
     }

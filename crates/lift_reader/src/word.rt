@@ -40,6 +40,8 @@ pub enum Word {
     Join,
     Transpose,
     Split,
+    Reverse,
+    Stride,
     Slide,
     Pad,
     MapGlb,
@@ -51,7 +53,7 @@ pub enum Word {
     ToPrivate,
 }
 
-const WORDS: [Word; 43] = [
+const WORDS: [Word; 45] = [
     Word::Size,
     Word::Multiple,
     Word::From,
@@ -86,6 +88,8 @@ const WORDS: [Word; 43] = [
     Word::Join,
     Word::Transpose,
     Word::Split,
+    Word::Reverse,
+    Word::Stride,
     Word::Slide,
     Word::Pad,
     Word::MapGlb,
@@ -137,6 +141,8 @@ impl Word {
             Word::Join => b"join",
             Word::Transpose => b"transpose",
             Word::Split => b"split",
+            Word::Reverse => b"reverse",
+            Word::Stride => b"stride",
             Word::Slide => b"slide",
             Word::Pad => b"pad",
             Word::MapGlb => b"mapGlb",

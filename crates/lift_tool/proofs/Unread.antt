@@ -7,6 +7,7 @@ use Rattle.command_line.specs.Requests.{Asks, CommandLine, IsRefused, compile, s
 use Rattle.command_line.specs.declared.request.WordsNo.{WordsNo}
 use Rattle.command_line.specs.declared.request.WordsNo.TheVariants.{Memory, Refused}
 use Rattle.fault_lines.specs.Failure.{Failure, Read, Source, TooLong, status_of}
+use Rattle.fault_lines.specs.Refusal as refusals
 use Rattle.fault_lines.specs.declared.failure.Failure as code
 use Rattle.fault_lines.specs.Shown.{failure_of, words_failed}
 use Rattle.fault_lines.specs.declared.refusal.Refusal.{Refusal}
@@ -81,13 +82,13 @@ files_fail told rose request f (inr h) = inr (inl h)
 
 pub kernel_fails : (told : Told) (rose : List ℕ → Type 0) (p s program script : List ℕ) (why : Refusal) → AreTexts told (sources p s) (program ∷ script ∷ [])
     → stages.StopsFor (stages.OnProgram program (λ q. LegalOf q script)) why → FailsFor told rose (compile p s) (Source why)
-kernel_fails told rose p s program script why are (inl memory) = inl memory
+kernel_fails told rose p s program script why are (inl memory) = inl (ap refusals.status_of memory)
 kernel_fails told rose p s program script why are (inr (inl (e, h, same))) = inr (inr (program ∷ script ∷ [], are, inl (e, h, ap Source same)))
 kernel_fails told rose p s program script why are (inr (inr (q, read, h))) = inr (inr (program ∷ script ∷ [], are, inr (q, read, (why, h, refl))))
 
 pub steps_fail : (told : Told) (rose : List ℕ → Type 0) (p s program script : List ℕ) (why : Refusal) → AreTexts told (sources p s) (program ∷ script ∷ [])
     → stages.StopsFor (stages.OnProgram program (λ q. TermsOf q script)) why → FailsFor told rose (steps p s) (Source why)
-steps_fail told rose p s program script why are (inl memory) = inl memory
+steps_fail told rose p s program script why are (inl memory) = inl (ap refusals.status_of memory)
 steps_fail told rose p s program script why are (inr (inl (e, h, same))) = inr (inr (program ∷ script ∷ [], are, inl (e, h, ap Source same)))
 steps_fail told rose p s program script why are (inr (inr (q, read, h))) = inr (inr (program ∷ script ∷ [], are, inr (q, read, (why, h, refl))))
 

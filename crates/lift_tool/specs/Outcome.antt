@@ -10,6 +10,7 @@ use Rattle.program_source.specs.StepsText.{IsStepsText}
 use Rattle.program_source.specs.Terms.{TermsOf}
 use Rattle.compilation.specs.Compiled.{IsCompiled}
 use Rattle.compilation.specs.Legal.{LegalOf}
+use Rattle.program_runs.specs.Alike.{AreLinesOf}
 use Rattle.program_runs.specs.Demo.{IsDemoLine}
 use Rattle.program_runs.specs.Started.{AreRunLines, EvalOf, IsValueLine, RunOf}
 use Rattle.lift_tool.specs.Files.{AreTexts, StopsAtFile, Told}
@@ -37,6 +38,13 @@ Answers (run p s l traced) texts lines = AreRunLines (text_at texts 0) (text_at 
 Answers (steps p s) texts text = IsStepsText (text_at texts 0) (text_at texts 1) text
 Answers (eval p l) texts line = IsValueLine (text_at texts 0) (text_at texts 1) line
 Answers (demo x) texts line = IsDemoLine x line
+
+-- the lines of a run are those of each text that is written for the same files
+abbrev pub AreLinesOfWritten : CommandLine → List (List ℕ) → (lines : List ℕ) → Type 0
+AreLinesOfWritten (run p s l traced) texts lines =
+    (text : List ℕ) → Answers (compile p s) texts text
+    → AreLinesOf (text_at texts 0) (text_at texts 2) traced text lines
+AreLinesOfWritten _ texts lines = Unit {0}
 
 -- the words ask for this, and its files may have texts that are so
 abbrev pub OnTexts : Told → List (List ℕ) → (CommandLine → List (List ℕ) → Type 0) → Type 0

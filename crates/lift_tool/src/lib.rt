@@ -28,6 +28,7 @@ ghost use Rattle.lift_tool.specs.Files.{AllTold, AreTexts, AsksAll, AsksFirst, N
 ghost use Rattle.lift_tool.specs.Outcome.{
   IsAccepted,
   Answers,
+  AreLinesOfWritten,
   Cause,
   StopsFor,
   OnTexts,
@@ -43,8 +44,8 @@ pub use compilation::{Compiled, compile_text};
 use fault_lines::Failure;
 pub use files::{LAUNCH_LIMIT, SOURCE_LIMIT};
 use lift_io::{Files, Sink, write_whole};
-use program_runs::one_end;
 pub use program_runs::run_launch;
+use program_runs::{one_end, texts_run_alike};
 pub use program_source::{source_terms, steps_text};
 use requests::answer_of;
 use std::alloc::Global;
@@ -105,6 +106,12 @@ pub fn lift_tool<F: Files, O: Sink, E: Sink>(
         × Appends (O.taken out.old) (O.taken out.new) text)
         × (err.new ≡ err.old) }
 
+    // The lines of a run are those of the text that `compile` writes for the same files.
+    ensures alike { result ≡ 0
+        → OnTexts (F.told files.old) (map string_bytes words.now) (λ request texts.
+        (lines : List ℕ) × AreLinesOfWritten request texts lines
+        × Appends (O.taken out.old) (O.taken out.new) lines) }
+
     // Every other status comes for its cause, and `err` took its line.
     ensures refused { result ≢ 0 → (failure : failures.Failure)
         × (result ≡ status_of failure)
@@ -162,6 +169,7 @@ pub fn lift_tool<F: Files, O: Sink, E: Sink>(
         → (result ≡ 0) ⊎ ((result ≡ 4) ⊎ (result ≡ 13)) }
 {
     one_end();
+    texts_run_alike();
     match answer(alloc, words, files) {
         Ok(text) => match write_whole(out, text.as_slice()) {
             Ok(()) => 0,

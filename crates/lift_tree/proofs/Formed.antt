@@ -1,19 +1,21 @@
 -- A typed term's type is formed.
-use Rattle.std.proofs.Common.{◌≡◌, ℕ, zero, suc, List, [], ◌∷◌, sym, subst, arith, Some}
+use Rattle.std.proofs.Common.{◌≡◌, ℕ, zero, suc, List, [], ◌∷◌, sym, ◌∙◌, subst, arith, Some}
 use Rattle.std.specs.Prelude.{slice_get}
 use Rattle.std.proofs.lemmas.Int.{ints}
 use Rattle.size_arith.specs.declared.names.Name.{Name}
 use Rattle.size_arith.specs.Shown.{ShownAtLeast, part}
 use Rattle.size_arith.specs.Polynomial.{no_powers}
 use Rattle.size_arith.specs.Ranges.{leasts}
+use Rattle.lift_tree.specs.declared.layout.Layout as layout
+use Rattle.lift_tree.specs.declared.layout.Layout.TheVariants.{Join, Transpose, Split, Reverse, Stride}
 use Rattle.lift_tree.specs.declared.term.UnaryForm.{UnaryForm}
-use Rattle.lift_tree.specs.declared.term.UnaryForm.TheVariants.{Div, Rem, First, Second, Join, Transpose, Split, Slide, Pad, ToLocal, ToPrivate}
+use Rattle.lift_tree.specs.declared.term.UnaryForm.TheVariants.{Div, Rem, First, Second, Layout, Slide, Pad, ToLocal, ToPrivate}
 use Rattle.lift_tree.specs.declared.term.BinaryForm.{BinaryForm}
 use Rattle.lift_tree.specs.declared.term.BinaryForm.TheVariants as binary
 use Rattle.lift_tree.specs.Tree.{Tree, Variable, Number, Input, Unary, Binary, Select, Let, Map, Fold}
 use Rattle.lift_tree.specs.Lists.{Every}
 use Rattle.lift_tree.specs.Types.{PlainTy, ArrayOf, IsFormed}
-use Rattle.lift_tree.specs.Typing.{Declared, UnaryRow, BinaryRow, Types, constant}
+use Rattle.lift_tree.specs.Typing.{Declared, LayoutRow, UnaryRow, BinaryRow, Types, constant}
 
 one_shown : (names : List Name) → ShownAtLeast 1 names (constant 1)
 one_shown names js h = let n = part (leasts names) no_powers js in omega (arith, ints)
@@ -24,14 +26,19 @@ every_get p (y ∷ xs) zero x a e = let d : y ≡ x = cc in subst p d a.0
 every_get p (y ∷ xs) (suc n) x a e = every_get p xs n x a.1 e
 
 module _ (d : Declared) (inputs : Every (IsFormed d.names) d.inputs) where
+  layout_formed : (l : layout.Layout) (b a : PlainTy) → LayoutRow d.names l b a → IsFormed d.names b → IsFormed d.names a
+  layout_formed Join b a r h = r.5
+  layout_formed Transpose b a r h = r.5
+  layout_formed (Split fs) b a r h = r.5
+  layout_formed Reverse b a r h = subst (IsFormed d.names) (r.2 ∙ sym r.3) h
+  layout_formed (Stride fs) b a r h = subst (IsFormed d.names) (r.2 ∙ sym r.4) h
+
   unary_formed : (f : UnaryForm) (b a : PlainTy) → UnaryRow d.names f b a → IsFormed d.names b → IsFormed d.names a
   unary_formed (Div n) b a r h = subst (IsFormed d.names) (sym r.2) tt
   unary_formed (Rem n) b a r h = subst (IsFormed d.names) (sym r.2) tt
   unary_formed First b a r h = (subst (IsFormed d.names) r.1 h).0
   unary_formed Second b a r h = (subst (IsFormed d.names) r.1 h).1
-  unary_formed Join b a r h = r.5
-  unary_formed Transpose b a r h = r.5
-  unary_formed (Split fs) b a r h = r.5
+  unary_formed (Layout l) b a r h = layout_formed l b a r h
   unary_formed (Slide s t) b a r h = r.7
   unary_formed (Pad l k) b a r h = r.4
   unary_formed ToLocal b a r h = subst (IsFormed d.names) r h

@@ -1,9 +1,11 @@
 pub mod Annotated
 pub mod Formed
+pub mod Layouts
 pub mod Members
 pub mod Numbers
 pub mod Renumbered
 pub mod Rows
 pub mod Sizes
 pub mod Sound
+pub mod Strides
 pub mod Unique

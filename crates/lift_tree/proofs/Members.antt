@@ -1,9 +1,10 @@
 -- What lists keep through the patterns.
-use Rattle.std.proofs.Common.{◌≡◌, ℕ, zero, suc, ◌+◌, ◌*◌, ◌≤◌, ◌<◌, List, [], ◌∷◌, ◌++◌, length, take, drop, refl, ap, subst, arith, length-append, length-drop}
+use Rattle.std.proofs.Common.{◌≡◌, ℕ, zero, suc, ◌+◌, ◌*◌, ◌≤◌, ◌<◌, List, [], ◌∷◌, ◌++◌, length, take, drop, refl, sym, ap, ◌∙◌, subst, arith, length-append, length-drop}
 use Rattle.std.proofs.lemmas.List.{length-take-le}
-use Rattle.std.specs.Prelude.{map, replicate}
+use Rattle.std.proofs.lemmas.Grind.{reverse_onto}
+use Rattle.std.specs.Prelude.{map, replicate, reverse, ◌/◌}
 use Rattle.lift_tree.specs.Values.{Value, members, array}
-use Rattle.lift_tree.specs.Lists.{Every, concat, pieces, first_of, rest_of, last_of, padded, columns}
+use Rattle.lift_tree.specs.Lists.{Every, concat, pieces, first_of, rest_of, last_of, padded, columns, strided}
 
 pub members-array : (xs : List Value) → members (array xs) ≡ xs
 members-array [] = refl
@@ -117,3 +118,35 @@ every-columns p (suc m) rs a = (heads m rs a, every-columns p m (map rest_of rs)
     tails : (m : ℕ) (rs : List (List Value)) → Every (λ r. (length r ≡ suc m) × Every p r) rs → Every (λ r. (length r ≡ m) × Every p r) (map rest_of rs)
     tails m [] a = tt
     tails m (r ∷ rs) a = (rest_of_row m r a.0.0 a.0.1, tails m rs a.1)
+
+-- ---- reversed and strided
+pub every-reverse : {A : Type 0} (p : A → Type 0) (xs : List A) → Every p xs → Every p (reverse xs)
+every-reverse p [] a = tt
+every-reverse p (x ∷ xs) a = subst (Every p) (sym (reverse_onto xs x [])) (every-append p (reverse xs) (x ∷ []) (every-reverse p xs a.1) (a.0, tt))
+
+length-rows : {A : Type 0} (k : ℕ) (rs : List (List A)) → Every (λ r. length r ≡ k) rs → length (concat rs) ≡ length rs * k
+length-rows k [] a = omega arith
+length-rows k (r ∷ rs) a =
+    let e = length-append r (concat rs) in
+    let f = length-rows k rs a.1 in
+    let h = a.0 in
+    let g : suc (length rs) * k ≡ k + length rs * k = omega arith in
+    omega arith
+
+-- the rows that a stride goes through
+pub rows_long : (k : ℕ) (xs : List Value) → 0 < k → length xs / k * k ≡ length xs → Every (λ r. length r ≡ k) (pieces (length xs / k) k k xs)
+rows_long k xs h e = pieces_long (length xs / k) k k xs (omega arith)
+
+pub length-strided : (k : ℕ) (xs : List Value) → 0 < k → length xs / k * k ≡ length xs → length (strided k xs) ≡ length xs
+length-strided k xs h e =
+    let rs = pieces (length xs / k) k k xs in
+    let l = length-rows (length rs) (columns k rs) (columns_long k rs) in
+    let m = length-columns k rs in
+    let n = length-pieces (length xs / k) k k xs in
+    l ∙ ap (λ z. z * length rs) m ∙ ap (λ z. k * z) n ∙ omega arith
+
+pub every-strided : (p : Value → Type 0) (k : ℕ) (xs : List Value) → 0 < k → length xs / k * k ≡ length xs → Every p xs → Every p (strided k xs)
+every-strided p k xs h e a =
+    let rs = pieces (length xs / k) k k xs in
+    every-concat p (columns k rs)
+    (every-columns p k rs (every_and (λ r. length r ≡ k) (Every p) rs (rows_long k xs h e) (every-pieces p (length xs / k) k k xs a)))

@@ -1,6 +1,7 @@
 -- The value of each form has its row's type.
-use Rattle.std.proofs.Common.{◌≡◌, ℕ, suc, ◌+◌, ◌-◌, ◌/◌, ◌^◌, ◌<◌, ◌≤◌, List, [], ◌∷◌, length, refl, sym, ap, ◌∙◌, subst, arith, ℤ, pos, negsuc, ◌+ℤ◌, ◌*ℤ◌, ◌≤ℤ◌, length-append}
-use Rattle.std.specs.Prelude.{map}
+use Rattle.std.proofs.Common.{◌≡◌, ℕ, zero, suc, ◌+◌, ◌-◌, ◌*◌, ◌/◌, ◌^◌, ◌<◌, ◌≤◌, List, [], ◌∷◌, length, refl, sym, ap, ◌∙◌, subst, arith, ℤ, pos, negsuc, ◌+ℤ◌, ◌*ℤ◌, ◌≤ℤ◌, length-append}
+use Rattle.std.specs.Prelude.{map, reverse}
+use Rattle.std.proofs.lemmas.List.{length-reverse}
 use Rattle.std.proofs.lemmas.Int.{ints}
 use Rattle.std.proofs.Math.Nat.{mul-div_cancel_left, add-div_right}
 use Rattle.scalar_ops.specs.declared.op.Op.TheVariants as op
@@ -11,17 +12,19 @@ use Rattle.size_arith.specs.Polynomial.{value_at, monomial_at, number, of_monomi
 use Rattle.size_arith.specs.Shown.{ShownAtLeast}
 use Rattle.size_arith.proofs.Values.{value-plus, value-minus, value-times}
 use Rattle.size_arith.proofs.Integers.{add_mul}
+use Rattle.lift_tree.specs.declared.layout.Layout as layout
+use Rattle.lift_tree.specs.declared.layout.Layout.TheVariants.{Join, Transpose, Split, Reverse, Stride}
 use Rattle.lift_tree.specs.declared.term.UnaryForm.{UnaryForm}
-use Rattle.lift_tree.specs.declared.term.UnaryForm.TheVariants.{Div, Rem, First, Second, Join, Transpose, Split, Slide, Pad, ToLocal, ToPrivate}
+use Rattle.lift_tree.specs.declared.term.UnaryForm.TheVariants.{Div, Rem, First, Second, Layout, Slide, Pad, ToLocal, ToPrivate}
 use Rattle.lift_tree.specs.declared.term.BinaryForm.{BinaryForm}
 use Rattle.lift_tree.specs.declared.term.BinaryForm.TheVariants as binary
 use Rattle.lift_tree.specs.Values.{Value, Word, Both, array, members, word, first, second}
-use Rattle.lift_tree.specs.Lists.{Every, fold_left, concat, zip_with, pieces, pieces_that_fit, padded, width, columns}
-use Rattle.lift_tree.specs.Meaning.{World, rows, array_of_rows, unary_value, binary_value, scalar_op, product_at}
+use Rattle.lift_tree.specs.Lists.{Every, fold_left, concat, zip_with, pieces, pieces_that_fit, padded, width, columns, strided}
+use Rattle.lift_tree.specs.Meaning.{World, rows, array_of_rows, layout_value, unary_value, binary_value, scalar_op, product_at}
 use Rattle.lift_tree.specs.Types.{PlainTy, U32, PairOf, ArrayOf, HasType, IsFormed}
 use Rattle.lift_tree.specs.WorkedOut.{product_of}
-use Rattle.lift_tree.specs.Typing.{Declared, UnaryRow, BinaryRow, constant, IsAdmissible}
-use Rattle.lift_tree.proofs.Members.{members-array, length-map, every_to, every_map, every_and, every-concat, length-pieces, pieces_long, every-pieces, length-padded, every-padded, length-columns, columns_long, every-columns}
+use Rattle.lift_tree.specs.Typing.{Declared, LayoutRow, UnaryRow, BinaryRow, constant, IsAdmissible}
+use Rattle.lift_tree.proofs.Members.{members-array, length-map, every_to, every_map, every_and, every-concat, length-pieces, pieces_long, every-pieces, length-padded, every-padded, length-columns, columns_long, every-columns, every-reverse, length-strided, every-strided}
 use Rattle.lift_tree.proofs.Sizes.{number_at, value-of_monomial, value-constant, value-quotient, product_value}
 
 -- ---- an array by its members
@@ -65,6 +68,14 @@ quotient_is : (k n : ℕ) (z : ℤ) → 0 < k → pos n ≡ pos k *ℤ z → pos
 quotient_is k n (pos v) h e = ap pos (ap (λ y. y / k) (cc) ∙ mul-div_cancel_left v h)
 quotient_is k n (negsuc v) h e = absurd (omega (arith, ints))
 
+-- what divides some number is not 0, and the whole quotient times it is that number
+pub divided_by : (k n : ℕ) (z : ℤ) → 0 < n → pos n ≡ pos k *ℤ z → (0 < k) × (n / k * k ≡ n)
+divided_by zero n z h e = absurd (omega (arith, ints))
+divided_by (suc k) n z h e =
+    let c = quotient_is (suc k) n z (omega arith) e in
+    let g : pos n ≡ pos (suc k) *ℤ pos (n / suc k) = e ∙ ap (λ y. pos (suc k) *ℤ y) (sym c) in
+    (omega arith, omega (arith, ints))
+
 word_fits : (ys : List ℕ) (v : Value) → HasType ys U32 v → word v < 2 ^ 32
 word_fits ys v t = subst (λ z. word z < 2 ^ 32) (sym t.1) t.2
 
@@ -105,6 +116,71 @@ module _ (d : Declared) (w : World) (ok : IsAdmissible d w) (few : length d.name
       more : (n s t : ℕ) → 0 < t → s ≤ n → (n + t - s) / t ≡ (n - s) / t + 1
       more n s t h le = let e : n + t - s ≡ (n - s) + t = omega arith in ap (λ k. k / t) e ∙ add-div_right (n - s) h
 
+  layout_has : (l : layout.Layout) (b a : PlainTy) (v : Value) → IsFormed d.names b → LayoutRow d.names l b a → HasType w.bases b v → HasType w.bases a (layout_value w.sizes l v)
+  layout_has Join b a v fb r t =
+      let x = r.0 in
+      let m = r.1 in
+      let n = r.2 in
+      let u = rows_have w.bases x m n v (subst (λ z. HasType w.bases z v) r.3 t) in
+      let l = concat_long (value_at w.bases m) (rows v) (every_to (λ q h. h.0) (rows v) u.1) in
+      subst
+      (λ z. HasType w.bases z (array (concat (rows v))))
+      (sym r.4)
+      (list_has w.bases x (times n m) (concat (rows v)) (l ∙ ap (λ z. z *ℤ value_at w.bases m) u.0 ∙ sym (value-times w.bases n m)) (every-concat (HasType w.bases x) (rows v) (every_to (λ q h. h.1) (rows v) u.1)))
+  layout_has Transpose b a v fb r t =
+      let x = r.0 in
+      let m = r.1 in
+      let n = r.2 in
+      let u = rows_have w.bases x m n v (subst (λ z. HasType w.bases z v) r.3 t) in
+      let rs = rows v in
+      let formed = subst (IsFormed d.names) r.4 r.5 in
+      let least = shown 1 n formed.1.0 in
+      let some : 0 < length rs = omega (arith, ints) in
+      let wide = width_is (value_at w.bases m) rs some (every_to (λ q h. h.0) rs u.1) in
+      subst
+      (λ z. HasType w.bases z (array_of_rows (columns (width rs) rs)))
+      (sym r.4)
+      (rows_has w.bases x n m (columns (width rs) rs) (ap pos (length-columns (width rs) rs) ∙ wide.0)
+      (every_and _ _ (columns (width rs) rs) (every_to (λ q h. ap pos h ∙ u.0) _ (columns_long (width rs) rs)) (every-columns (HasType w.bases x) (width rs) rs (every_and (λ q. length q ≡ width rs) (Every (HasType w.bases x)) rs wide.1 (every_to (λ q h. h.1) rs u.1)))))
+  layout_has (Split fs) b a v fb r t =
+      let m = product_of d.names fs in
+      let n = r.1 in
+      let k = product_at w.sizes fs in
+      let e : monomial_at w.bases m ≡ pos k = product_value d.names w.bases ok.bases few fs ∙ ap (λ ss. pos (product_at ss fs)) (sym ok.sizes) in
+      let formed = subst (IsFormed d.names) r.4 r.5 in
+      let least = shown 1 (of_monomial m) formed.1.0 in
+      let size = value-of_monomial w.bases m in
+      let some : 0 < k = omega (arith, ints) in
+      subst
+      (λ z. HasType w.bases z (array_of_rows (pieces (length (members v) / k) k k (members v))))
+      (sym r.4)
+      (split_has r.0 n (quotient m n) m k v e (value-quotient w.bases m n r.3) some (subst (λ z. HasType w.bases z v) r.2 t))
+  layout_has Reverse b a v fb r t =
+      let u = list_have w.bases r.0 r.1 v (subst (λ z. HasType w.bases z v) r.2 t) in
+      let xs = members v in
+      subst
+      (λ z. HasType w.bases z (array (reverse xs)))
+      (sym r.3)
+      (list_has w.bases r.0 r.1 (reverse xs) (ap pos (length-reverse xs) ∙ u.0) (every-reverse (HasType w.bases r.0) xs u.1))
+  layout_has (Stride fs) b a v fb r t =
+      let m = product_of d.names fs in
+      let x = r.0 in
+      let n = r.1 in
+      let k = product_at w.sizes fs in
+      let u = list_have w.bases x n v (subst (λ z. HasType w.bases z v) r.2 t) in
+      let xs = members v in
+      let e : monomial_at w.bases m ≡ pos k = product_value d.names w.bases ok.bases few fs ∙ ap (λ ss. pos (product_at ss fs)) (sym ok.sizes) in
+      let long : pos (length xs) ≡ pos k *ℤ value_at w.bases (quotient m n) = u.0 ∙ value-quotient w.bases m n r.3 ∙ ap (λ z. z *ℤ value_at w.bases (quotient m n)) e in
+      let formed = subst (IsFormed d.names) r.2 fb in
+      let least = shown 1 n formed.0 in
+      let here = u.0 in
+      let some : 0 < length xs = omega (arith, ints) in
+      let whole = divided_by k (length xs) (value_at w.bases (quotient m n)) some long in
+      subst
+      (λ z. HasType w.bases z (array (strided k xs)))
+      (sym r.4)
+      (list_has w.bases x n (strided k xs) (ap pos (length-strided k xs whole.0 whole.1) ∙ u.0) (every-strided (HasType w.bases x) k xs whole.0 whole.1 u.1))
+
   pub unary_has : (f : UnaryForm) (b a : PlainTy) (v : Value) → IsFormed d.names b → UnaryRow d.names f b a → HasType w.bases b v → HasType w.bases a (unary_value w f v)
   unary_has (Div n) b a v fb r t =
       let u = word_fits w.bases v (subst (λ z. HasType w.bases z v) r.1 t) in
@@ -121,44 +197,7 @@ module _ (d : Declared) (w : World) (ok : IsAdmissible d w) (few : length d.name
   unary_has Second b a v fb r t =
       let u : HasType w.bases (PairOf r.0 a) v = subst (λ z. HasType w.bases z v) r.1 t in
       subst (λ z. HasType w.bases a (second z)) (sym u.2) u.4
-  unary_has Join b a v fb r t =
-      let x = r.0 in
-      let m = r.1 in
-      let n = r.2 in
-      let u = rows_have w.bases x m n v (subst (λ z. HasType w.bases z v) r.3 t) in
-      let l = concat_long (value_at w.bases m) (rows v) (every_to (λ q h. h.0) (rows v) u.1) in
-      subst
-      (λ z. HasType w.bases z (array (concat (rows v))))
-      (sym r.4)
-      (list_has w.bases x (times n m) (concat (rows v)) (l ∙ ap (λ z. z *ℤ value_at w.bases m) u.0 ∙ sym (value-times w.bases n m)) (every-concat (HasType w.bases x) (rows v) (every_to (λ q h. h.1) (rows v) u.1)))
-  unary_has Transpose b a v fb r t =
-      let x = r.0 in
-      let m = r.1 in
-      let n = r.2 in
-      let u = rows_have w.bases x m n v (subst (λ z. HasType w.bases z v) r.3 t) in
-      let rs = rows v in
-      let formed = subst (IsFormed d.names) r.4 r.5 in
-      let least = shown 1 n formed.1.0 in
-      let some : 0 < length rs = omega (arith, ints) in
-      let wide = width_is (value_at w.bases m) rs some (every_to (λ q h. h.0) rs u.1) in
-      subst
-      (λ z. HasType w.bases z (array_of_rows (columns (width rs) rs)))
-      (sym r.4)
-      (rows_has w.bases x n m (columns (width rs) rs) (ap pos (length-columns (width rs) rs) ∙ wide.0)
-      (every_and _ _ (columns (width rs) rs) (every_to (λ q h. ap pos h ∙ u.0) _ (columns_long (width rs) rs)) (every-columns (HasType w.bases x) (width rs) rs (every_and (λ q. length q ≡ width rs) (Every (HasType w.bases x)) rs wide.1 (every_to (λ q h. h.1) rs u.1)))))
-  unary_has (Split fs) b a v fb r t =
-      let m = product_of d.names fs in
-      let n = r.1 in
-      let k = product_at w.sizes fs in
-      let e : monomial_at w.bases m ≡ pos k = product_value d.names w.bases ok.bases few fs ∙ ap (λ ss. pos (product_at ss fs)) (sym ok.sizes) in
-      let formed = subst (IsFormed d.names) r.4 r.5 in
-      let least = shown 1 (of_monomial m) formed.1.0 in
-      let size = value-of_monomial w.bases m in
-      let some : 0 < k = omega (arith, ints) in
-      subst
-      (λ z. HasType w.bases z (array_of_rows (pieces (length (members v) / k) k k (members v))))
-      (sym r.4)
-      (split_has r.0 n (quotient m n) m k v e (value-quotient w.bases m n r.3) some (subst (λ z. HasType w.bases z v) r.2 t))
+  unary_has (Layout l) b a v fb r t = layout_has l b a v fb r t
   unary_has (Slide s p) b a v fb r t =
       let n = r.1 in
       let rest = minus n (constant s) in

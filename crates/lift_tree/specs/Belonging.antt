@@ -4,8 +4,10 @@ use Rattle.size_arith.specs.Ranges.{AreNames}
 use Rattle.lift_tree.specs.declared.length.Factor.{Factor}
 use Rattle.lift_tree.specs.declared.length.Factor.TheVariants as factor
 use Rattle.lift_tree.specs.declared.length.Part.{Part}
+use Rattle.lift_tree.specs.declared.layout.Layout as layout
+use Rattle.lift_tree.specs.declared.layout.Layout.TheVariants.{Join, Transpose, Split, Reverse, Stride}
 use Rattle.lift_tree.specs.declared.term.UnaryForm.{UnaryForm}
-use Rattle.lift_tree.specs.declared.term.UnaryForm.TheVariants.{Div, Rem, First, Second, Join, Transpose, Split, Slide, Pad, ToLocal, ToPrivate}
+use Rattle.lift_tree.specs.declared.term.UnaryForm.TheVariants.{Div, Rem, First, Second, Layout, Slide, Pad, ToLocal, ToPrivate}
 use Rattle.lift_tree.specs.Tree.{Tree, Variable, Number, Input, Unary, Binary, Select, Let, Map, Fold}
 use Rattle.lift_tree.specs.InputTypes as written
 use Rattle.lift_tree.specs.InputTypes.{Written}
@@ -53,15 +55,21 @@ IsInputType written.Number = ⊥
 IsInputType (written.Pair a b) = ⊥
 IsInputType (written.Array a n) = HoldsElementTypes a
 
--- the numbers of div, rem, split and slide are at least 1
+-- the numbers of split and stride are at least 1
+abbrev pub LayoutIsNamed : (sizes : ℕ) → layout.Layout → Type 0
+LayoutIsNamed s Join = Unit {0}
+LayoutIsNamed s Transpose = Unit {0}
+LayoutIsNamed s (Split fs) = AreNamed s 1 fs
+LayoutIsNamed s Reverse = Unit {0}
+LayoutIsNamed s (Stride fs) = AreNamed s 1 fs
+
+-- the numbers of div, rem, split, stride and slide are at least 1
 abbrev pub FormIsNamed : (sizes : ℕ) → UnaryForm → Type 0
 FormIsNamed s (Div n) = 1 ≤ n
 FormIsNamed s (Rem n) = 1 ≤ n
 FormIsNamed s First = Unit {0}
 FormIsNamed s Second = Unit {0}
-FormIsNamed s Join = Unit {0}
-FormIsNamed s Transpose = Unit {0}
-FormIsNamed s (Split fs) = AreNamed s 1 fs
+FormIsNamed s (Layout l) = LayoutIsNamed s l
 FormIsNamed s (Slide m n) = (1 ≤ m) × (1 ≤ n)
 FormIsNamed s (Pad m n) = Unit {0}
 FormIsNamed s ToLocal = Unit {0}

@@ -6,6 +6,7 @@ pub mod Limits
 pub mod Lists
 pub mod Meaning
 pub mod Places
+pub mod Positions
 pub mod Programs
 pub mod Renumbering
 pub mod Tree

@@ -6,8 +6,10 @@ use Rattle.size_arith.specs.Polynomial.{number, of_monomial, plus, minus, times,
 use Rattle.size_arith.specs.Shown.{largest}
 use Rattle.lift_tree.specs.declared.length.Factor.{Factor}
 use Rattle.lift_tree.specs.declared.length.Part.{Part}
+use Rattle.lift_tree.specs.declared.layout.Layout as layout
+use Rattle.lift_tree.specs.declared.layout.Layout.TheVariants.{Join, Transpose, Split, Reverse, Stride}
 use Rattle.lift_tree.specs.declared.term.UnaryForm.{UnaryForm}
-use Rattle.lift_tree.specs.declared.term.UnaryForm.TheVariants.{Div, Rem, First, Second, Join, Transpose, Split, Slide, Pad, ToLocal, ToPrivate}
+use Rattle.lift_tree.specs.declared.term.UnaryForm.TheVariants.{Div, Rem, First, Second, Layout, Slide, Pad, ToLocal, ToPrivate}
 use Rattle.lift_tree.specs.Tree.{Tree, Variable, Number, Input, Unary, Binary, Select, Let, Map, Fold}
 use Rattle.lift_tree.specs.InputTypes as written
 use Rattle.lift_tree.specs.InputTypes.{Written}
@@ -117,15 +119,21 @@ TransposeFits names (ArrayOf (ArrayOf a m) n) =
     ArrayFits names a n × ArrayFits names (ArrayOf a n) m
 TransposeFits names _ = ⊥
 
+-- what a layout of a child of this type works out and forms: reverse and stride form no array anew
+abbrev pub LayoutFits : List Name → layout.Layout → PlainTy → Type 0
+LayoutFits names Join a = JoinFits names a
+LayoutFits names Transpose a = TransposeFits names a
+LayoutFits names (Split fs) a = SplitFits names fs a
+LayoutFits names Reverse a = Unit {0}
+LayoutFits names (Stride fs) a = ProductFits names (constant 1) fs
+
 -- what a form with one child of this type works out and forms
 abbrev pub UnaryFits : List Name → UnaryForm → PlainTy → Type 0
 UnaryFits names (Div n) a = Unit {0}
 UnaryFits names (Rem n) a = Unit {0}
 UnaryFits names First a = Unit {0}
 UnaryFits names Second a = Unit {0}
-UnaryFits names Join a = JoinFits names a
-UnaryFits names Transpose a = TransposeFits names a
-UnaryFits names (Split fs) a = SplitFits names fs a
+UnaryFits names (Layout l) a = LayoutFits names l a
 UnaryFits names (Slide s t) a = SlideFits names s t a
 UnaryFits names (Pad l r) a = PadFits names l r a
 UnaryFits names ToLocal a = Unit {0}

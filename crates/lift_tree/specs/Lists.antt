@@ -51,6 +51,10 @@ abbrev pub columns : ℕ → List (List Value) → List (List Value)
 columns zero rows = []
 columns (suc m) rows = map first_of rows ∷ columns m (map rest_of rows)
 
+-- the columns one after another, where each row has so many elements
+abbrev pub strided : (step : ℕ) → List Value → List Value
+strided step xs = concat (columns step (pieces (length xs / step) step step xs))
+
 -- each member meets the fact
 abbrev pub Every : {A : Type 0} → (A → Type 0) → List A → Type 0
 Every p [] = Unit {0}

@@ -1,10 +1,12 @@
 -- The source value of a term, on whole nested lists. Where a term has no type the value is some default.
-use Rattle.std.specs.Prelude.{ℕ, zero, suc, ◌≡◌, ◌*◌, ◌/◌, List, [], ◌∷◌, length, map}
+use Rattle.std.specs.Prelude.{ℕ, zero, suc, ◌≡◌, ◌*◌, ◌/◌, List, [], ◌∷◌, length, map, reverse}
 use Rattle.scalar_ops.specs.declared.op.Op.{Op}
 use Rattle.scalar_ops.specs.declared.op.Op.TheVariants.{Sub, Shl, Shr, Lt, Eq, Div, Rem}
 use Rattle.scalar_ops.specs.Operators.{apply_op, op_of, combine, choose}
 use Rattle.lift_tree.specs.declared.length.Factor.{Factor}
 use Rattle.lift_tree.specs.declared.length.Factor.TheVariants as factor
+use Rattle.lift_tree.specs.declared.layout.Layout as layout
+use Rattle.lift_tree.specs.declared.layout.Layout.TheVariants.{Join, Transpose, Split, Reverse, Stride}
 use Rattle.lift_tree.specs.declared.term.Operator.{Operator}
 use Rattle.lift_tree.specs.declared.term.Operator.TheVariants as operator
 use Rattle.lift_tree.specs.declared.term.UnaryForm.{UnaryForm}
@@ -13,7 +15,7 @@ use Rattle.lift_tree.specs.declared.term.BinaryForm.{BinaryForm}
 use Rattle.lift_tree.specs.declared.term.BinaryForm.TheVariants as binary
 use Rattle.lift_tree.specs.Tree.{Tree, Variable, Number, Input, Unary, Binary, Select, Let, Map, Fold}
 use Rattle.lift_tree.specs.Values.{Value, Word, Both, array, members, word, first, second, nth}
-use Rattle.lift_tree.specs.Lists.{fold_left, concat, zip_with, pieces, pieces_that_fit, padded, width, columns}
+use Rattle.lift_tree.specs.Lists.{fold_left, concat, zip_with, pieces, pieces_that_fit, padded, width, columns, strided}
 
 -- the values of the base names, of the declared sizes, and of the inputs
 pub record World : Type 0 where
@@ -49,14 +51,19 @@ rows v = map members (members v)
 abbrev pub array_of_rows : List (List Value) → Value
 array_of_rows rs = array (map array rs)
 
+abbrev pub layout_value : (sizes : List ℕ) → layout.Layout → Value → Value
+layout_value sizes Join v = array (concat (rows v))
+layout_value sizes Transpose v = array_of_rows (columns (width (rows v)) (rows v))
+layout_value sizes (Split m) v = let size = product_at sizes m in array_of_rows (pieces (length (members v) / size) size size (members v))
+layout_value sizes Reverse v = array (reverse (members v))
+layout_value sizes (Stride m) v = array (strided (product_at sizes m) (members v))
+
 abbrev pub unary_value : World → UnaryForm → Value → Value
 unary_value w (unary.Div n) v = Word (apply_op Div (word v) n)
 unary_value w (unary.Rem n) v = Word (apply_op Rem (word v) n)
 unary_value w unary.First v = first v
 unary_value w unary.Second v = second v
-unary_value w unary.Join v = array (concat (rows v))
-unary_value w unary.Transpose v = array_of_rows (columns (width (rows v)) (rows v))
-unary_value w (unary.Split m) v = let size = product_at w.sizes m in array_of_rows (pieces (length (members v) / size) size size (members v))
+unary_value w (unary.Layout l) v = layout_value w.sizes l v
 unary_value w (unary.Slide size step) v = array_of_rows (pieces (pieces_that_fit size step (length (members v))) size step (members v))
 unary_value w (unary.Pad before after) v = array (padded before after (members v))
 unary_value w unary.ToLocal v = v

@@ -5,8 +5,10 @@ use Rattle.size_arith.specs.declared.poly.Monomial.{Monomial}
 use Rattle.size_arith.specs.Ranges.{AreNames, Admissible, sizes_at}
 use Rattle.size_arith.specs.Polynomial.{number, of_monomial, plus, minus, times, AllDivide, quotient}
 use Rattle.size_arith.specs.Shown.{ShownAtLeast}
+use Rattle.lift_tree.specs.declared.layout.Layout as layout
+use Rattle.lift_tree.specs.declared.layout.Layout.TheVariants.{Join, Transpose, Split, Reverse, Stride}
 use Rattle.lift_tree.specs.declared.term.UnaryForm.{UnaryForm}
-use Rattle.lift_tree.specs.declared.term.UnaryForm.TheVariants.{Div, Rem, First, Second, Join, Transpose, Split, Slide, Pad, ToLocal, ToPrivate}
+use Rattle.lift_tree.specs.declared.term.UnaryForm.TheVariants.{Div, Rem, First, Second, Layout, Slide, Pad, ToLocal, ToPrivate}
 use Rattle.lift_tree.specs.declared.term.BinaryForm.{BinaryForm}
 use Rattle.lift_tree.specs.declared.term.BinaryForm.TheVariants as binary
 use Rattle.lift_tree.specs.Tree.{Tree, Variable, Number, Input, Unary, Binary, Select, Let, Map, Fold}
@@ -25,17 +27,23 @@ pub record Declared : Type 0 where
 abbrev pub constant : ℕ → List Monomial
 constant k = of_monomial (number (pos k))
 
+-- a layout of an array of type b has type a; the arrays that it forms have lengths shown at least 1
+abbrev pub LayoutRow : List Name → layout.Layout → (b a : PlainTy) → Type 0
+LayoutRow names Join b a = (x : PlainTy) × (m n : List Monomial) × (b ≡ ArrayOf (ArrayOf x m) n) × (a ≡ ArrayOf x (times n m)) × IsFormed names a
+LayoutRow names Transpose b a = (x : PlainTy) × (m n : List Monomial) × (b ≡ ArrayOf (ArrayOf x m) n) × (a ≡ ArrayOf (ArrayOf x n) m) × IsFormed names a
+LayoutRow names (Split fs) b a =
+    let m = product_of names fs in
+    (x : PlainTy) × (n : List Monomial) × (b ≡ ArrayOf x n) × AllDivide m n × (a ≡ ArrayOf (ArrayOf x (of_monomial m)) (quotient m n)) × IsFormed names a
+LayoutRow names Reverse b a = (x : PlainTy) × (n : List Monomial) × (b ≡ ArrayOf x n) × (a ≡ ArrayOf x n)
+LayoutRow names (Stride fs) b a = (x : PlainTy) × (n : List Monomial) × (b ≡ ArrayOf x n) × AllDivide (product_of names fs) n × (a ≡ ArrayOf x n)
+
 -- a form with one child of type b has type a; its arrays have lengths shown at least 1
 abbrev pub UnaryRow : List Name → UnaryForm → (b a : PlainTy) → Type 0
 UnaryRow names (Div n) b a = (0 < n) × (b ≡ U32) × (a ≡ U32)
 UnaryRow names (Rem n) b a = (0 < n) × (b ≡ U32) × (a ≡ U32)
 UnaryRow names First b a = (c : PlainTy) × (b ≡ PairOf a c)
 UnaryRow names Second b a = (c : PlainTy) × (b ≡ PairOf c a)
-UnaryRow names Join b a = (x : PlainTy) × (m n : List Monomial) × (b ≡ ArrayOf (ArrayOf x m) n) × (a ≡ ArrayOf x (times n m)) × IsFormed names a
-UnaryRow names Transpose b a = (x : PlainTy) × (m n : List Monomial) × (b ≡ ArrayOf (ArrayOf x m) n) × (a ≡ ArrayOf (ArrayOf x n) m) × IsFormed names a
-UnaryRow names (Split fs) b a =
-    let m = product_of names fs in
-    (x : PlainTy) × (n : List Monomial) × (b ≡ ArrayOf x n) × AllDivide m n × (a ≡ ArrayOf (ArrayOf x (of_monomial m)) (quotient m n)) × IsFormed names a
+UnaryRow names (Layout l) b a = LayoutRow names l b a
 UnaryRow names (Slide s t) b a =
     (x : PlainTy) × (n : List Monomial) × (b ≡ ArrayOf x n) × (0 < t) × ShownAtLeast 0 names (minus n (constant s)) × AllDivide (number (pos t)) (minus n (constant s))
     × (a ≡ ArrayOf (ArrayOf x (constant s)) (plus (quotient (number (pos t)) (minus n (constant s))) (constant 1))) × IsFormed names a

@@ -1,6 +1,7 @@
 //! Laws of the definitions.
 
 ghost use Rattle.lift_tree.specs.Annotations.{AnnotatedIsTyped};
+ghost use Rattle.lift_tree.specs.Positions.{ReversesByPosition, StridesByPosition};
 ghost use Rattle.lift_tree.specs.Typing.{OneType, ValuesHaveTypes};
 
 /// A term has at most one type.
@@ -19,4 +20,16 @@ pub fn typed_nodes_type_the_term()
 #[tactic(auto, using(crate::proofs::Sound::values_have_types))]
 pub fn values_have_their_types()
     ensures { ValuesHaveTypes }
+{}
+
+/// Position i of an array of n elements turned round is position n - 1 - i of the array.
+#[tactic(auto, using(crate::proofs::Strides::reverses_by_position))]
+pub fn reverses_have_positions()
+    ensures { ReversesByPosition }
+{}
+
+/// Where m divides n, position i of a stride by m of an array of n elements is position (i mod n/m) * m + i / (n/m) of the array.
+#[tactic(auto, using(crate::proofs::Strides::strides_by_position))]
+pub fn strides_have_positions()
+    ensures { StridesByPosition }
 {}

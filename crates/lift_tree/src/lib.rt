@@ -5,6 +5,7 @@
 
 pub mod input_type;
 pub mod laws;
+pub mod layout;
 pub mod length;
 pub mod place;
 pub mod program;

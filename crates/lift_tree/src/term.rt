@@ -5,7 +5,7 @@ ghost use Rattle.lift_tree.specs.Places.{child_at};
 ghost use Rattle.lift_tree.specs.Tree as tree;
 ghost use Rattle.lift_tree.specs.Tree.{tree_of, nodes, height};
 
-use crate::length::Product;
+use crate::layout::Layout;
 use scalar_ops::op::Reducer;
 use std::alloc::{AllocError, Global};
 
@@ -32,12 +32,8 @@ pub enum UnaryForm {
     First,
     /// A pair's right part.
     Second,
-    /// The rows of an array one after another.
-    Join,
-    /// The columns of an array of rows.
-    Transpose,
-    /// The consecutive pieces of this length, in elements.
-    Split(Product),
+    /// The elements of an array in another order, or in rows of another length.
+    Layout(Layout),
     /// The pieces of the first length that begin at 0 and at each multiple of the second, while they fit, both in elements.
     Slide(u32, u32),
     /// So many copies of the first element before, and so many of the last after.
@@ -113,9 +109,7 @@ impl UnaryForm {
             UnaryForm::Rem(n) => Ok(UnaryForm::Rem(*n)),
             UnaryForm::First => Ok(UnaryForm::First),
             UnaryForm::Second => Ok(UnaryForm::Second),
-            UnaryForm::Join => Ok(UnaryForm::Join),
-            UnaryForm::Transpose => Ok(UnaryForm::Transpose),
-            UnaryForm::Split(length) => Ok(UnaryForm::Split(length.copy(alloc)?)),
+            UnaryForm::Layout(layout) => Ok(UnaryForm::Layout(layout.copy(alloc)?)),
             UnaryForm::Slide(size, step) => Ok(UnaryForm::Slide(*size, *step)),
             UnaryForm::Pad(before, after) => Ok(UnaryForm::Pad(*before, *after)),
             UnaryForm::ToLocal => Ok(UnaryForm::ToLocal),

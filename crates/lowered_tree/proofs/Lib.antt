@@ -1,2 +1,3 @@
 pub mod Legal
 mod InputTypes
+mod Whole

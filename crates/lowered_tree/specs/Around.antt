@@ -1,7 +1,7 @@
 -- What is around a node, from the root on. Each takes what is around the parent, and the parent's type.
 use Rattle.std.specs.Prelude.{Bool, true, false, not, ◌&&◌, ◌||◌}
 use Rattle.lift_tree.specs.declared.term.UnaryForm.{UnaryForm}
-use Rattle.lift_tree.specs.declared.term.UnaryForm.TheVariants.{Div, Rem, First, Second, Join, Transpose, Split, Slide, Pad, ToLocal, ToPrivate}
+use Rattle.lift_tree.specs.declared.term.UnaryForm.TheVariants.{Div, Rem, First, Second, Layout, Slide, Pad, ToLocal, ToPrivate}
 use Rattle.lift_tree.specs.declared.term.MapKind.{MapKind}
 use Rattle.lift_tree.specs.Tree.{Tree}
 use Rattle.lift_tree.specs.Types.{PlainTy}
@@ -30,7 +30,7 @@ at_root t = record {
 abbrev pub operand : Around → PlainTy → Around
 operand s a = record s { is_written = false; in_element = s.in_element || is_element a }
 
--- the operand of join, split and transpose: in writing position where they are
+-- the operand of a layout that is written through: in writing position where the layout is
 abbrev pub passed : Around → PlainTy → Around
 passed s a = record s { is_written = s.is_written && not (is_element a); in_element = s.in_element || is_element a }
 
@@ -43,9 +43,7 @@ under_form s (Div n) a = operand s a
 under_form s (Rem n) a = operand s a
 under_form s First a = operand s a
 under_form s Second a = operand s a
-under_form s Join a = passed s a
-under_form s Transpose a = passed s a
-under_form s (Split fs) a = passed s a
+under_form s (Layout l) a = passed s a
 under_form s (Slide n m) a = operand s a
 under_form s (Pad n m) a = operand s a
 under_form s ToLocal a = copied s Local a

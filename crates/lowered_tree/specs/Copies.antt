@@ -1,7 +1,7 @@
 -- Terms whose copies are of arrays.
 use Rattle.std.specs.Prelude.{◌≡◌, true}
 use Rattle.lift_tree.specs.declared.term.UnaryForm.{UnaryForm}
-use Rattle.lift_tree.specs.declared.term.UnaryForm.TheVariants.{Div, Rem, First, Second, Join, Transpose, Split, Slide, Pad, ToLocal, ToPrivate}
+use Rattle.lift_tree.specs.declared.term.UnaryForm.TheVariants.{Div, Rem, First, Second, Layout, Slide, Pad, ToLocal, ToPrivate}
 use Rattle.lift_tree.specs.Tree.{Tree, Unary, Binary, Select, Let, Map, Fold}
 use Rattle.lift_tree.specs.Types.{PlainTy, is_array}
 use Rattle.lift_tree.specs.Annotations.{Annotation, One, Two, Three}
@@ -12,9 +12,7 @@ FormCopiesArrays (Div n) a = Unit {0}
 FormCopiesArrays (Rem n) a = Unit {0}
 FormCopiesArrays First a = Unit {0}
 FormCopiesArrays Second a = Unit {0}
-FormCopiesArrays Join a = Unit {0}
-FormCopiesArrays Transpose a = Unit {0}
-FormCopiesArrays (Split fs) a = Unit {0}
+FormCopiesArrays (Layout l) a = Unit {0}
 FormCopiesArrays (Slide s t) a = Unit {0}
 FormCopiesArrays (Pad l r) a = Unit {0}
 FormCopiesArrays ToLocal a = is_array a ≡ true

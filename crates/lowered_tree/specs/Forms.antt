@@ -36,11 +36,9 @@ abbrev pub is_private_copy : Tree → Bool
 is_private_copy (Unary unary.ToPrivate t) = true
 is_private_copy _ = false
 
--- seen through join, split, transpose and the bodies of lets, a map over a group's items
+-- seen through layouts that are written through and the bodies of lets, a map over a group's items
 abbrev pub shows_local_map : Tree → Bool
-shows_local_map (Unary unary.Join t) = shows_local_map t
-shows_local_map (Unary unary.Transpose t) = shows_local_map t
-shows_local_map (Unary (unary.Split fs) t) = shows_local_map t
+shows_local_map (Unary (unary.Layout l) t) = shows_local_map t
 shows_local_map (Let v b) = shows_local_map b
 shows_local_map (Map k xs b) = is_local k
 shows_local_map _ = false

@@ -9,3 +9,5 @@ pub mod Copies
 pub mod Inputs
 pub mod Kind
 pub mod Words
+pub mod Whole
+pub mod Named

@@ -1,7 +1,7 @@
 -- Terms whose forms' numbers are words: what code's terms are.
 use Rattle.std.specs.Prelude.{◌<◌, ◌^◌}
 use Rattle.lift_tree.specs.declared.term.UnaryForm.{UnaryForm}
-use Rattle.lift_tree.specs.declared.term.UnaryForm.TheVariants.{Div, Rem, First, Second, Join, Transpose, Split, Slide, Pad, ToLocal, ToPrivate}
+use Rattle.lift_tree.specs.declared.term.UnaryForm.TheVariants.{Div, Rem, First, Second, Layout, Slide, Pad, ToLocal, ToPrivate}
 use Rattle.lift_tree.specs.Tree.{Tree, Variable, Number, Input, Unary, Binary, Select, Let, Map, Fold}
 
 -- a divisor, a slide's step, and the number before a pad
@@ -10,9 +10,7 @@ FormHasWords (Div n) = n < 2 ^ 32
 FormHasWords (Rem n) = n < 2 ^ 32
 FormHasWords First = Unit {0}
 FormHasWords Second = Unit {0}
-FormHasWords Join = Unit {0}
-FormHasWords Transpose = Unit {0}
-FormHasWords (Split fs) = Unit {0}
+FormHasWords (Layout l) = Unit {0}
 FormHasWords (Slide s t) = t < 2 ^ 32
 FormHasWords (Pad l r) = l < 2 ^ 32
 FormHasWords ToLocal = Unit {0}

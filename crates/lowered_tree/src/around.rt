@@ -110,7 +110,7 @@ impl Around {
         }
     }
 
-    /// What is around the operand of join, split and transpose, which is written where they are.
+    /// What is around the operand of a layout that is written through, which is written where the layout is.
     pub fn passed(self, parent: &Ty) -> Around
         ensures { result ≡ passed self (ty_of parent.now) }
     {
@@ -139,7 +139,7 @@ impl Around {
         ensures { result ≡ under_form self form.now (ty_of parent.now) }
     {
         match form {
-            UnaryForm::Join | UnaryForm::Transpose | UnaryForm::Split(_) => self.passed(parent),
+            UnaryForm::Layout(_) => self.passed(parent),
             UnaryForm::ToLocal => self.copied(AddressSpace::Local, parent),
             UnaryForm::ToPrivate => self.copied(AddressSpace::Private, parent),
             UnaryForm::Div(_)

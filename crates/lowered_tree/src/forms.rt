@@ -145,14 +145,12 @@ pub fn is_private_copy(term: &Term) -> bool
     }
 }
 
-// Whether it is a map over a group's items, seen through join, split, transpose and the bodies of lets.
+// Whether it is a map over a group's items, seen through layouts that are written through and the bodies of lets.
 fn shows_local_map(term: &Term) -> bool
     ensures { result ≡ shows_local_map (tree_of term.now) }
 {
     match term {
-        Term::Unary(UnaryForm::Join | UnaryForm::Transpose | UnaryForm::Split(_), a) => {
-            shows_local_map(a)
-        }
+        Term::Unary(UnaryForm::Layout(_), a) => shows_local_map(a),
         Term::Let(_, body) => shows_local_map(body),
         Term::Map(kind, _, _) => *kind == MapKind::Local,
         _ => false,

@@ -17,14 +17,12 @@ pub enum NestKind {
     OverGroups,
 }
 
-/// Who runs the term, which is told by the map on top, seen through join, split, transpose and the bodies of lets.
+/// Who runs the term, which is told by the map on top, seen through layouts that are written through and the bodies of lets.
 pub fn nest_kind(term: &Term) -> NestKind
     ensures { result ≡ nest_kind (tree_of term.now) }
 {
     match term {
-        Term::Unary(UnaryForm::Join | UnaryForm::Transpose | UnaryForm::Split(_), a) => {
-            nest_kind(a)
-        }
+        Term::Unary(UnaryForm::Layout(_), a) => nest_kind(a),
         Term::Let(_, body) => nest_kind(body),
         Term::Map(MapKind::Global, _, _) => NestKind::OverLaunch,
         Term::Map(MapKind::WorkGroup, _, _) => NestKind::OverGroups,

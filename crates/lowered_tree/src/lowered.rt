@@ -1,12 +1,14 @@
 //! Lowered terms, and those whose nest is legal.
 
-ghost use Rattle.std.specs.Prelude.{◌≡◌, None};
+ghost use Rattle.std.specs.Prelude.{◌≡◌, None, map};
 ghost use Rattle.lift_tree.specs.Tree.{tree_of};
 ghost use Rattle.lift_tree.specs.Annotations.{annotation_of};
+ghost use Rattle.lift_tree.specs.Types.{ty_of};
 ghost use Rattle.lowered_tree.specs.Kinds.{is_task};
 ghost use Rattle.lowered_tree.specs.Nest.{nest_fault, root_site};
 ghost use Rattle.lowered_tree.specs.Nodes.{own_site};
 ghost use Rattle.lowered_tree.specs.Spaces.{spaces_of};
+ghost use Rattle.lowered_tree.specs.Whole.{IsOfProgram};
 
 use crate::around::{AddressSpace, Around, is_task};
 use crate::node::Node;
@@ -15,13 +17,17 @@ use lift_tree::ty::Ty;
 use lift_tree::typed::NodeTypes;
 use size_arith::Names;
 
-/// A term with the type of each node, and what it may name: the ranges of the sizes, and the inputs' types in order.
+/// A term with the type of each node, and what it may name: the ranges of the sizes, and the inputs'
+/// types in order. It is typed within the limits, and copies nothing but arrays.
 #[derive(Drop)]
 pub struct Lowered {
     pub names: Names,
     pub inputs: Vec<Ty>,
     pub term: Term,
     pub types: NodeTypes,
+    // The term is typed within the limits, as one of a program that declares this.
+    ghost of_program: { ∥ IsOfProgram (record { names = names; inputs = map ty_of inputs.items })
+        (tree_of term) (annotation_of types) ∥₁ },
 }
 
 impl Lowered {

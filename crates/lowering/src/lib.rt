@@ -4,4 +4,5 @@
 pub mod loads;
 pub mod lower;
 pub mod place;
+mod strides;
 pub mod term;

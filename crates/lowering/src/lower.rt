@@ -4,7 +4,9 @@ ghost use Rattle.std.specs.Prelude.{◌≡◌, [], IfOk};
 ghost use Rattle.lift_tree.specs.Annotations.{annotation_of};
 ghost use Rattle.lift_tree.specs.Meaning.{scalar_op};
 ghost use Rattle.lift_tree.specs.Tree.{tree_of};
+ghost use Rattle.lift_tree.specs.Types as types;
 ghost use Rattle.lift_tree.specs.Types.{ty_of};
+ghost use Rattle.lift_tree.specs.declared.term.UnaryForm.TheVariants as unary;
 ghost use Rattle.lift_ir.specs.AtLaunch as at;
 ghost use Rattle.lift_ir.specs.Terms as terms;
 ghost use Rattle.lift_tree.specs.declared.term.Operator.TheVariants as operator;
@@ -14,12 +16,15 @@ ghost use Rattle.lowering.specs.Terms.{kind_of, term_of};
 
 use crate::loads::loads;
 use crate::place::{Place, is_element};
+use crate::strides::{by_product, product};
 use crate::term::{Kind, Layout, Space, Term};
+use lift_tree::layout as forms;
+use lift_tree::length::Product;
 use lift_tree::term::{BinaryForm, MapKind, Operator, Term as Source, UnaryForm};
 use lift_tree::ty::Ty;
 use lift_tree::typed::NodeTypes;
 use scalar_ops::op::{Op, Reducer};
-use size_arith::Poly;
+use size_arith::{Names, Poly};
 use std::alloc::{AllocError, Global};
 
 fn op_of(reducer: Reducer) -> Op
@@ -98,6 +103,60 @@ fn reshaped(
     Ok(Term::Reshape(layout, operand))
 }
 
+fn array_of(alloc: Global, element: Ty, length: &Poly) -> Result<Ty, AllocError>
+    ensures { IfOk result (λ t. ty_of t ≡ types.ArrayOf (ty_of element) length.now) }
+{
+    let length = length.copy(alloc)?;
+    Ok(Ty::Array(Box::new(alloc, element)?, length))
+}
+
+// An array of arrays, of these lengths.
+fn rows_of(alloc: Global, element: &Ty, row: &Poly, length: &Poly) -> Result<Ty, AllocError>
+    ensures { IfOk result (λ t. ty_of t
+        ≡ types.ArrayOf (types.ArrayOf (ty_of element.now) row.now) length.now) }
+{
+    let row = array_of(alloc, element.copy(alloc)?, row)?;
+    array_of(alloc, row, length)
+}
+
+// A layout of an operand.
+fn laid(
+    alloc: Global,
+    layout: forms::Layout,
+    ty: &Ty,
+    operand_ty: &Ty,
+    operand: Term,
+) -> Result<Term, AllocError>
+    ensures { IfOk result (λ t. term_of t ≡ terms.Reshape
+        (at.layout_of (unary.Layout layout) (ty_of ty.now) (ty_of operand_ty.now))
+        (term_of operand)) }
+{
+    let form = UnaryForm::Layout(layout);
+    reshaped(alloc, &form, ty, operand_ty, Box::new(alloc, operand)?)
+}
+
+// A stride of an array of this type: the rows of as many elements, transposed and one after another.
+fn strided(
+    alloc: Global,
+    names: &Names,
+    step: &Product,
+    operand_ty: &Ty,
+    operand: Box<Term>,
+) -> Result<Term, AllocError>
+    ensures { IfOk result (λ t. term_of t ≡ spec.lower_stride names.now step.now
+        (ty_of operand_ty.now) (term_of operand.value)) }
+{
+    let width = product(alloc, names.as_slice(), step.factors())?;
+    let count = by_product(alloc, &width, operand_ty)?;
+    let rows = rows_of(alloc, elements(operand_ty), &width, &count)?;
+    let columns = rows_of(alloc, elements(operand_ty), &count, &width)?;
+    let split = forms::Layout::Split(step.copy(alloc)?);
+    let operand = Box::into_inner(operand);
+    let split = laid(alloc, split, &rows, operand_ty, operand)?;
+    let transposed = laid(alloc, forms::Layout::Transpose, &columns, &rows, split)?;
+    laid(alloc, forms::Layout::Join, operand_ty, &columns, transposed)
+}
+
 // An element term of this type where it stands: where it is written it is stored.
 fn placed(alloc: Global, place: Place, ty: &Ty, term: Term) -> Result<Term, AllocError>
     ensures { IfOk result
@@ -127,13 +186,14 @@ fn placed_element(alloc: Global, place: Place, ty: &Ty, term: Term) -> Result<Te
 // A form of this type over an operand of that type.
 fn formed(
     alloc: Global,
+    names: &Names,
     place: Place,
     form: &UnaryForm,
     ty: &Ty,
     operand_ty: &Ty,
     operand: Box<Term>,
 ) -> Result<Term, AllocError>
-    ensures { IfOk result (λ t. term_of t ≡ spec.lower_unary (place_of place) form.now
+    ensures { IfOk result (λ t. term_of t ≡ spec.lower_unary names.now (place_of place) form.now
         (ty_of ty.now) (ty_of operand_ty.now) (term_of operand.value)) }
 {
     match form {
@@ -143,11 +203,12 @@ fn formed(
         UnaryForm::Second => placed(alloc, place, ty, Term::Second(operand)),
         UnaryForm::ToPrivate => Ok(Term::Copy(Space::Private, ty.copy(alloc)?, operand)),
         UnaryForm::ToLocal => Ok(Term::Copy(Space::Local, ty.copy(alloc)?, operand)),
-        UnaryForm::Join
-        | UnaryForm::Transpose
-        | UnaryForm::Split(_)
-        | UnaryForm::Slide(_, _)
-        | UnaryForm::Pad(_, _) => reshaped(alloc, form, ty, operand_ty, operand),
+        UnaryForm::Layout(forms::Layout::Stride(step)) => {
+            strided(alloc, names, step, operand_ty, operand)
+        }
+        UnaryForm::Layout(_) | UnaryForm::Slide(_, _) | UnaryForm::Pad(_, _) => {
+            reshaped(alloc, form, ty, operand_ty, operand)
+        }
     }
 }
 
@@ -233,72 +294,79 @@ fn folded(
 #[cycle(lowering)]
 fn boxed(
     alloc: Global,
+    names: &Names,
     place: Place,
     term: &Source,
     types: &NodeTypes,
 ) -> Result<Box<Term>, AllocError>
     ensures { IfOk result (λ t. term_of t.value
-        ≡ spec.lower (place_of place) (tree_of term.now) (annotation_of types.now)) }
+        ≡ spec.lower names.now (place_of place) (tree_of term.now) (annotation_of types.now)) }
 {
-    Ok(Box::new(alloc, lower_at(alloc, place, term, types)?)?)
+    Ok(Box::new(alloc, lower_at(alloc, names, place, term, types)?)?)
 }
 
 // The term that a term of these types is lowered to where it stands.
 #[cycle(lowering)]
 fn lower_at(
     alloc: Global,
+    names: &Names,
     place: Place,
     term: &Source,
     types: &NodeTypes,
 ) -> Result<Term, AllocError>
     ensures { IfOk result (λ t. term_of t
-        ≡ spec.lower (place_of place) (tree_of term.now) (annotation_of types.now)) }
+        ≡ spec.lower names.now (place_of place) (tree_of term.now) (annotation_of types.now)) }
 {
     match (term, types) {
         (Source::Variable(v), _) => placed(alloc, place, types.own_type(), Term::Bound(*v)),
         (Source::Number(n), _) => placed(alloc, place, types.own_type(), Term::Literal(*n)),
         (Source::Input(number), _) => Ok(Term::Source(*number)),
         (Source::Unary(form, a), NodeTypes::One(ty, n)) => {
-            let operand = boxed(alloc, place.of_operand(form), a, n)?;
-            formed(alloc, place, form, ty, n.own_type(), operand)
+            let operand = boxed(alloc, names, place.of_operand(form), a, n)?;
+            formed(alloc, names, place, form, ty, n.own_type(), operand)
         }
         (Source::Binary(form, a, b), NodeTypes::Two(ty, n, m)) => {
             let below = Place::of_operands(*form);
-            let left = boxed(alloc, below, a, n)?;
-            let right = boxed(alloc, below, b, m)?;
+            let left = boxed(alloc, names, below, a, n)?;
+            let right = boxed(alloc, names, below, b, m)?;
             joined(alloc, place, *form, ty, left, right)
         }
         (Source::Select(a, b, c), NodeTypes::Three(ty, n, m, k)) => {
-            let condition = boxed(alloc, Place::Element, a, n)?;
-            let yes = boxed(alloc, Place::Element, b, m)?;
-            let no = boxed(alloc, Place::Element, c, k)?;
+            let condition = boxed(alloc, names, Place::Element, a, n)?;
+            let yes = boxed(alloc, names, Place::Element, b, m)?;
+            let no = boxed(alloc, names, Place::Element, c, k)?;
             placed(alloc, place, ty, Term::Select(condition, yes, no))
         }
         (Source::Let(a, b), NodeTypes::Two(ty, n, m)) => {
-            let value = boxed(alloc, Place::of_value(n.own_type()), a, n)?;
-            let body = boxed(alloc, place.of_body(ty), b, m)?;
+            let value = boxed(alloc, names, Place::of_value(n.own_type()), a, n)?;
+            let body = boxed(alloc, names, place.of_body(ty), b, m)?;
             let whole = bound(alloc, n.own_type(), value, body)?;
             placed_element(alloc, place, ty, whole)
         }
         (Source::Map(map_kind, a, b), NodeTypes::Two(_, n, m)) => {
-            let array = boxed(alloc, Place::Argument, a, n)?;
-            let body = boxed(alloc, Place::Written, b, m)?;
+            let array = boxed(alloc, names, Place::Argument, a, n)?;
+            let body = boxed(alloc, names, Place::Written, b, m)?;
             mapped(alloc, *map_kind, n.own_type(), b, array, body)
         }
         (Source::Fold(_, a, b, c), NodeTypes::Three(_, n, m, k)) => {
-            let array = boxed(alloc, Place::Argument, a, n)?;
-            let start = boxed(alloc, Place::Element, b, m)?;
-            let body = boxed(alloc, Place::Element, c, k)?;
+            let array = boxed(alloc, names, Place::Argument, a, n)?;
+            let start = boxed(alloc, names, Place::Element, b, m)?;
+            let body = boxed(alloc, names, Place::Element, c, k)?;
             folded(alloc, n.own_type(), m.own_type(), c, array, start, body)
         }
         _ => Ok(Term::Literal(0)),
     }
 }
 
-/// The term that a term of these types is lowered to, the whole of which is written.
-pub fn lower(alloc: Global, term: &Source, types: &NodeTypes) -> Result<Term, AllocError>
+/// The term that a term of these types is lowered to, where the declared sizes have these ranges; the whole of it is written.
+pub fn lower(
+    alloc: Global,
+    names: &Names,
+    term: &Source,
+    types: &NodeTypes,
+) -> Result<Term, AllocError>
     ensures { IfOk result (λ t. term_of t
-        ≡ spec.lower spec.Written (tree_of term.now) (annotation_of types.now)) }
+        ≡ spec.lower names.now spec.Written (tree_of term.now) (annotation_of types.now)) }
 {
-    lower_at(alloc, Place::Written, term, types)
+    lower_at(alloc, names, Place::Written, term, types)
 }

@@ -40,11 +40,7 @@ impl Place {
             UnaryForm::Div(_) | UnaryForm::Rem(_) => Place::Element,
             UnaryForm::ToPrivate | UnaryForm::ToLocal => Place::Written,
             UnaryForm::First | UnaryForm::Second => self.of_pair(),
-            UnaryForm::Join
-            | UnaryForm::Transpose
-            | UnaryForm::Split(_)
-            | UnaryForm::Slide(_, _)
-            | UnaryForm::Pad(_, _) => self,
+            UnaryForm::Layout(_) | UnaryForm::Slide(_, _) | UnaryForm::Pad(_, _) => self,
         }
     }
 

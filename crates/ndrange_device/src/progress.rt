@@ -37,6 +37,7 @@ impl Progress {
     }
 
     /// The schedule's number for the next event.
+    #[inline(always)]
     pub fn number(&self, schedule: &Schedule) -> u32
         ensures { (es : List held_event.Event) → HasCome (schedule_of schedule.now) es self.now
             → result ≡ number_at (schedule_of schedule.now) (length es) }
@@ -48,6 +49,7 @@ impl Progress {
     }
 
     /// Counts an event.
+    #[inline(always)]
     pub fn count(&mut self, event: Event)
         ensures { (schedule : order.Schedule) (es : List held_event.Event)
             → HasCome schedule es self.old → HasCome schedule (es ++ event ∷ []) self.new }
@@ -58,6 +60,7 @@ impl Progress {
     }
 }
 
+#[inline(always)]
 fn releases_of(event: Event) -> u64
     ensures { result ≡ (if is_release event then 1 else 0) }
 {
@@ -68,6 +71,7 @@ fn releases_of(event: Event) -> u64
 }
 
 // The generator's next state.
+#[inline(always)]
 fn generate(state: u32) -> u32
     ensures { result ≡ (1664525 * state + 1013904223) % 2 ^ 32 }
 {
@@ -75,6 +79,7 @@ fn generate(state: u32) -> u32
 }
 
 // The number at a place of the list, or 0 past its end.
+#[inline(always)]
 fn word_at(numbers: &[u32], place: u64) -> u32
     ensures { result ≡ slice_index numbers.now place }
 {

@@ -15,3 +15,4 @@ pub mod Standing
 pub mod Stepping
 pub mod Together
 pub mod Waiting
+pub mod Wanting

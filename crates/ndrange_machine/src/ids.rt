@@ -48,6 +48,7 @@ impl Ids {
     }
 
     /// What is asked for.
+    #[inline(always)]
     pub fn get(self, dimension: Dimension, form: IdForm) -> u32
         ensures { (sizes : List ℕ)
             → result ≡ id_value (along (known self sizes) dimension) (id_of form) }
@@ -96,6 +97,7 @@ impl Ids {
 }
 
 // The answer along one dimension, where there are so many items and so many in a group, at this place.
+#[inline(always)]
 fn answer(form: IdForm, global: u32, local: u32, place: u32) -> u32
     ensures { result ≡ id_value (ids_along global local place) (id_of form) }
 {
@@ -110,6 +112,7 @@ fn answer(form: IdForm, global: u32, local: u32, place: u32) -> u32
 }
 
 // The quotient; 0 at a divisor of 0.
+#[inline(always)]
 fn quotient(n: u32, divisor: u32) -> u32
     ensures { result ≡ n / divisor }
 {
@@ -117,6 +120,7 @@ fn quotient(n: u32, divisor: u32) -> u32
 }
 
 // The remainder; the number itself at a divisor of 0.
+#[inline(always)]
 fn remainder(n: u32, divisor: u32) -> u32
     ensures { result ≡ n % divisor }
 {

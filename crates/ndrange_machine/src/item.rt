@@ -3,14 +3,20 @@
 ghost use Rattle.std.specs.Prelude.{◌≡◌, ◌↔◌, IfOk, IsTrue};
 ghost use Rattle.ndrange_machine.specs.Groups.{SamePlace};
 ghost use Rattle.ndrange_machine.specs.Changes.{changed, start_view};
-ghost use Rattle.ndrange_machine.specs.Known.{known};
-ghost use Rattle.ndrange_machine.specs.Wants.{wanted};
+ghost use Rattle.kernel_tree.specs.Formula as formula;
+ghost use Rattle.kernel_tree.specs.Launch.{ids_of};
+ghost use Rattle.kernel_tree.specs.Tree.{formula_of};
+ghost use Rattle.ndrange_machine.specs.Known.{known, variables};
+ghost use Rattle.ndrange_machine.specs.Wants.{wanted, want_tail};
 
 use crate::four::Four;
 use crate::ids::Ids;
 use crate::line::Line;
 use crate::turn::{Turn, same_numbers};
-use crate::want::{Want, want_at};
+use crate::value::{value_of, variable_at, word_at};
+use crate::want::{Want, want_at, want_at_tail};
+use kernel_tree::launches::Launch;
+use kernel_tree::tree::Expr;
 use std::alloc::{AllocError, Global};
 use std::marker::Model;
 
@@ -105,6 +111,42 @@ impl Item {
             &self.words,
             &self.vectors,
         )
+    }
+
+    /// What it wants at the end of the body of the loop whose head is this line.
+    #[inline(always)]
+    pub fn want_back(&self, lines: &[Line], launch: &Launch, number: u32, head: usize) -> Want
+        ensures { result ≡ want_tail lines.now (ids_of launch.now number) head self.now.turns }
+    {
+        want_at_tail(
+            lines,
+            Ids::of_item(launch, number),
+            &launch.sizes,
+            head,
+            &self.turns,
+        )
+    }
+
+    /// An expression's value for it, as the work-item of this number; none where that meets a
+    /// divisor of 0.
+    #[inline(always)]
+    pub fn value(&self, launch: &Launch, number: u32, e: &Expr) -> Option<u32>
+        ensures { result ≡ formula.value (ids_of launch.now number) (variables self.now.turns)
+            self.now.vars (formula_of e.now) }
+    {
+        match e {
+            Expr::Number(n) => Some(*n),
+            Expr::Variable(v) => Some(word_at(&self.words, *v)),
+            Expr::LoopVariable(i) => Some(variable_at(&self.turns, *i)),
+            _ => value_of(
+                &Ids::of_item(launch, number),
+                &launch.sizes,
+                &self.turns,
+                &self.words,
+                &self.vectors,
+                e,
+            ),
+        }
     }
 
     /// Makes the change, and goes to the line. It takes no memory: a loop begins only where there is

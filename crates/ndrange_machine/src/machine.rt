@@ -242,6 +242,7 @@ impl Machine {
     }
 
     // Whether the work-item of this number has neither ended nor stands at a barrier.
+    #[inline(always)]
     fn can_step(&self, item: u32) -> bool
         ensures { IsGoing self.now item result }
     {
@@ -401,6 +402,7 @@ impl Machine {
     }
 
     // Sets which events are enabled after a work-item's step, and says whether its group diverges.
+    #[inline(always)]
     fn settle(&mut self, item: u32) -> bool
         requires { item < seen.item_count self.old.launch }
         ensures core { SameCore self.old self.new }
@@ -434,9 +436,61 @@ impl Machine {
         }
     }
 
-    // Takes the next step of a work-item.
+    // Takes the next step of a work-item. Where its line is one of those that most events are of, no
+    // `Want` is made of it.
     #[inline(always)]
     fn go(&mut self, item: u32) -> Option<Fault>
+        requires { item < seen.item_count self.old.launch }
+        ensures { Advances self.old (event_form.Step item) self.new result }
+    {
+        match self.items.get(item as usize) {
+            Some(it) => {
+                let at = it.line();
+                match self.lines.get(at) {
+                    Some(Line::Assign(v, e)) => match it.value(&self.launch, item, e) {
+                        Some(word) => {
+                            let v = *v;
+                            self.keep(item, Change::Sets(v, word), at + 1)
+                        }
+                        None => self.take(item),
+                    },
+                    Some(Line::Load(v, array, i)) => match it.value(&self.launch, item, i) {
+                        Some(index) => {
+                            let v = *v;
+                            let array = *array;
+                            self.load(item, v, array, index, at + 1)
+                        }
+                        None => self.take(item),
+                    },
+                    Some(Line::Store(array, i, e)) => match it.value(&self.launch, item, i) {
+                        Some(index) => match it.value(&self.launch, item, e) {
+                            Some(word) => {
+                                let array = *array;
+                                self.store(item, array, index, word, at + 1)
+                            }
+                            None => self.take(item),
+                        },
+                        None => self.take(item),
+                    },
+                    Some(Line::Tail(head)) => match it.want_back(
+                        &self.lines,
+                        &self.launch,
+                        item,
+                        *head,
+                    ) {
+                        Want::Changes(change, line) => self.keep(item, change, line),
+                        _ => self.take(item),
+                    },
+                    Some(_) => self.take(item),
+                    None => self.take(item),
+                }
+            }
+            None => self.take(item),
+        }
+    }
+
+    // Takes the next step of a work-item, whatever its line is.
+    fn take(&mut self, item: u32) -> Option<Fault>
         requires { item < seen.item_count self.old.launch }
         ensures { Advances self.old (event_form.Step item) self.new result }
     {
@@ -444,11 +498,7 @@ impl Machine {
         match self.want(item) {
             Want::Ends | Want::Waits { .. } => None,
             Want::Fails(kind) => Some(Fault { kind, cell: None }),
-            Want::Changes(change, line) => {
-                self.change(item, change, line);
-                let diverges = self.settle(item);
-                fault(None, None, diverges)
-            }
+            Want::Changes(change, line) => self.keep(item, change, line),
             Want::Reads(variable, array, index, line) => {
                 self.load(item, variable, array, index, line)
             }
@@ -460,6 +510,19 @@ impl Machine {
                 self.store_four(item, array, offset, four, line)
             }
         }
+    }
+
+    // Changes a work-item, which touches no memory, and goes to the line.
+    #[inline(always)]
+    fn keep(&mut self, item: u32, change: Change, line: usize) -> Option<Fault>
+        requires { item < seen.item_count self.old.launch }
+        ensures { IsWanted self.old item (want_form.Changes change line)
+            → Advances self.old (event_form.Step item) self.new result }
+    {
+        marks_stay();
+        self.change(item, change, line);
+        let diverges = self.settle(item);
+        fault(None, None, diverges)
     }
 
     // Loads a cell's word into a private variable, and goes to the line.
@@ -673,6 +736,7 @@ impl Machine {
     }
 
     // Changes a work-item, which goes to the line.
+    #[inline(always)]
     fn change(&mut self, item: u32, change: Change, line: usize)
         ensures item { Changes self.old self.new item change line }
         ensures memory { self.new.memory ≡ self.old.memory }
@@ -758,6 +822,7 @@ fn items_at_start(
 }
 
 // The cell as it is seen; a private array's isn't.
+#[inline(always)]
 fn shared(array: Array, index: u64) -> Option<Cell>
     ensures { result ≡ shared_cell (array_of array) index }
 {
@@ -795,6 +860,7 @@ fn access_in(want: Want) -> Option<Access>
 }
 
 // The lane of an access of one cell, where it races.
+#[inline(always)]
 fn lane_if(races: bool) -> Option<u32>
     ensures { result ≡ lane_of races }
 {

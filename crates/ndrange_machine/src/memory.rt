@@ -159,6 +159,7 @@ fn rows(alloc: Global, lengths: &[u32], word: u32) -> Result<Vec<Vec<u32>>, Allo
     Ok(rows)
 }
 
+#[inline(always)]
 fn read_at(homes: &[Vec<Vec<u32>>], home: u32, row: u32, index: u64) -> Option<u32>
     ensures { result ≡ cell_in (rows_at homes.now home) row index }
 {
@@ -168,6 +169,7 @@ fn read_at(homes: &[Vec<Vec<u32>>], home: u32, row: u32, index: u64) -> Option<u
     }
 }
 
+#[inline(always)]
 fn write_at(homes: &mut [Vec<Vec<u32>>], home: u32, row: u32, index: u64, word: u32) -> bool
     ensures there { result ≡ is_some (cell_in (rows_at homes.old home) row index) }
     ensures cells { (h a i : ℕ) → cell_in (rows_at homes.new h) a i
@@ -183,12 +185,14 @@ fn write_at(homes: &mut [Vec<Vec<u32>>], home: u32, row: u32, index: u64, word: 
     there
 }
 
+#[inline(always)]
 fn read_in(rows: &[Vec<u32>], row: u32, index: u64) -> Option<u32>
     ensures { result ≡ cell_in rows.now row index }
 {
     rows.get(row as usize)?.get(index as usize).copied()
 }
 
+#[inline(always)]
 fn write_in(rows: &mut [Vec<u32>], row: u32, index: u64, word: u32) -> bool
     ensures there { result ≡ is_some (cell_in rows.old row index) }
     ensures cells { (a i : ℕ) → cell_in rows.new a i

@@ -12,6 +12,7 @@ pub struct Turn {
 
 impl Turn {
     /// The first turn, whose variable has this value.
+    #[inline(always)]
     pub fn first(variable: u32) -> Turn
         ensures { result ≡ record { number = 0; variable = variable } }
     {
@@ -22,6 +23,7 @@ impl Turn {
     }
 
     /// The turn after this one, whose variable has this value.
+    #[inline(always)]
     pub fn next(self, variable: u32) -> Turn
         ensures { result ≡ record { number = (self.number + 1) % 2 ^ 32; variable = variable } }
     {

@@ -1,6 +1,6 @@
 //! The values of expressions.
 
-ghost use Rattle.std.specs.Prelude.{◌≡◌, List, map, option_map, slice_index, slice_index_or};
+ghost use Rattle.std.specs.Prelude.{◌≡◌, ℕ, List, Some, map, option_map, slice_index, slice_index_or};
 ghost use Rattle.kernel_tree.specs.Formula as formula;
 ghost use Rattle.kernel_tree.specs.Tree.{formula_of, lanes_of, comparison_of};
 ghost use Rattle.ndrange_machine.specs.Known.{known, variables, four_of, vars_of};
@@ -14,14 +14,14 @@ use scalar_ops::op::{Op, apply};
 /// The expression's value for a work-item that knows this, in these turns, outermost first, with
 /// these private variables; none where it meets a divisor of 0.
 pub fn value_of(
-    ids: Ids,
+    ids: &Ids,
     sizes: &[u32],
     turns: &[Turn],
     words: &[u32],
     vectors: &[Four],
     e: &Expr,
 ) -> Option<u32>
-    ensures { result ≡ formula.value (known ids sizes.now) (variables turns.now)
+    ensures { result ≡ formula.value (known ids.now sizes.now) (variables turns.now)
         (vars_of words.now vectors.now) (formula_of e.now) }
 {
     match e {
@@ -31,8 +31,14 @@ pub fn value_of(
         Expr::Size(s) => Some(word_at(sizes, *s)),
         Expr::Id(dimension, form) => Some(ids.get(*dimension, *form)),
         Expr::Binary(op, a, b) => {
-            let x = value_of(ids, sizes, turns, words, vectors, a)?;
-            let y = value_of(ids, sizes, turns, words, vectors, b)?;
+            let x = match leaf_of(turns, words, a) {
+                Some(x) => x,
+                None => value_of(ids, sizes, turns, words, vectors, a)?,
+            };
+            let y = match leaf_of(turns, words, b) {
+                Some(y) => y,
+                None => value_of(ids, sizes, turns, words, vectors, b)?,
+            };
             operate(*op, x, y)
         }
         Expr::Choose(comparison, a, b, yes, no) => {
@@ -47,16 +53,31 @@ pub fn value_of(
     }
 }
 
+// The value of a literal or a variable, which needs no call; none of another expression.
+#[inline(always)]
+fn leaf_of(turns: &[Turn], words: &[u32], e: &Expr) -> Option<u32>
+    ensures { (ids : formula.Ids) (vectors : List formula.Four) (x : ℕ) → result ≡ Some x
+        → formula.value ids (variables turns.now) (record { words = words.now; vectors = vectors })
+        (formula_of e.now) ≡ Some x }
+{
+    match e {
+        Expr::Number(n) => Some(*n),
+        Expr::Variable(v) => Some(word_at(words, *v)),
+        Expr::LoopVariable(i) => Some(variable_at(turns, *i)),
+        _ => None,
+    }
+}
+
 /// The value of an expression of four words, lane by lane; none where a lane meets a divisor of 0.
 pub fn lanes_value_of(
-    ids: Ids,
+    ids: &Ids,
     sizes: &[u32],
     turns: &[Turn],
     words: &[u32],
     vectors: &[Four],
     e: &Lanes,
 ) -> Option<Four>
-    ensures { option_map four_of result ≡ formula.lanes_value (known ids sizes.now)
+    ensures { option_map four_of result ≡ formula.lanes_value (known ids.now sizes.now)
         (variables turns.now) (vars_of words.now vectors.now) (lanes_of e.now) }
 {
     match e {
@@ -73,14 +94,27 @@ pub fn lanes_value_of(
     }
 }
 
-/// The value of a loop's bound.
+/// The value of a loop's bound. Most are a literal or a size, which need no call.
+#[inline(always)]
 pub fn bound_of(sizes: &[u32], bound: &Expr) -> Option<u32>
     ensures { result ≡ formula.bound_value sizes.now (formula_of bound.now) }
 {
-    value_of(Ids::unasked(), sizes, &[], &[], &[], bound)
+    match bound {
+        Expr::Number(n) => Some(*n),
+        Expr::Size(s) => Some(word_at(sizes, *s)),
+        _ => any_bound_of(sizes, bound),
+    }
+}
+
+// The value of a loop's bound, whatever it is.
+fn any_bound_of(sizes: &[u32], bound: &Expr) -> Option<u32>
+    ensures { result ≡ formula.bound_value sizes.now (formula_of bound.now) }
+{
+    value_of(&Ids::unasked(), sizes, &[], &[], &[], bound)
 }
 
 // What the operator gives; none at a divisor of 0.
+#[inline(always)]
 fn operate(op: Op, x: u32, y: u32) -> Option<u32>
     ensures { result ≡ formula.operate op x y }
 {
@@ -102,12 +136,14 @@ fn operate_each(op: Op, u: Four, v: Four) -> Option<Four>
     Some(Four { x, y, z, w })
 }
 
+#[inline(always)]
 fn divides(op: Op) -> bool
     ensures { result ≡ formula.divides op }
 {
     matches!(op, Op::Div | Op::Rem)
 }
 
+#[inline(always)]
 fn compare(comparison: Comparison, x: u32, y: u32) -> bool
     ensures { result ≡ formula.compare (comparison_of comparison) x y }
 {
@@ -117,8 +153,9 @@ fn compare(comparison: Comparison, x: u32, y: u32) -> bool
     }
 }
 
-// The word at an index, or 0 where there is none.
-fn word_at(words: &[u32], i: u32) -> u32
+/// The word at an index, or 0 where there is none.
+#[inline(always)]
+pub fn word_at(words: &[u32], i: u32) -> u32
     ensures { result ≡ slice_index words.now i }
 {
     match words.get(i as usize) {
@@ -137,8 +174,9 @@ fn four_at(vectors: &[Four], i: u32) -> Four
     }
 }
 
-// The variable of the loop with this number of loops around it, or 0 where there is none.
-fn variable_at(turns: &[Turn], i: u32) -> u32
+/// The variable of the loop with this number of loops around it, or 0 where there is none.
+#[inline(always)]
+pub fn variable_at(turns: &[Turn], i: u32) -> u32
     ensures { result ≡ slice_index (variables turns.now) i }
 {
     match turns.get(i as usize) {

@@ -56,31 +56,35 @@ pub fn want_at(
 {
     match lines.get(at) {
         None => Want::Ends,
-        Some(Line::Assign(v, e)) => match value_of(ids, sizes, turns, words, vectors, e) {
+        Some(Line::Assign(v, e)) => match value_of(&ids, sizes, turns, words, vectors, e) {
             Some(word) => Want::Changes(Change::Sets(*v, word), at + 1),
             None => Want::Fails(FaultKind::ZeroDivisor),
         },
-        Some(Line::Load(v, array, i)) => match value_of(ids, sizes, turns, words, vectors, i) {
+        Some(Line::Load(v, array, i)) => match value_of(&ids, sizes, turns, words, vectors, i) {
             Some(index) => Want::Reads(*v, *array, index, at + 1),
             None => Want::Fails(FaultKind::ZeroDivisor),
         },
-        Some(Line::Store(array, i, e)) => match value_of(ids, sizes, turns, words, vectors, i) {
-            Some(index) => match value_of(ids, sizes, turns, words, vectors, e) {
+        Some(Line::Store(array, i, e)) => match value_of(&ids, sizes, turns, words, vectors, i) {
+            Some(index) => match value_of(&ids, sizes, turns, words, vectors, e) {
                 Some(word) => Want::Writes(*array, index, word, at + 1),
                 None => Want::Fails(FaultKind::ZeroDivisor),
             },
             None => Want::Fails(FaultKind::ZeroDivisor),
         },
-        Some(Line::AssignFour(v, e)) => match lanes_value_of(ids, sizes, turns, words, vectors, e) {
+        Some(Line::AssignFour(v, e)) => match lanes_value_of(
+            &ids, sizes, turns, words, vectors, e,
+        ) {
             Some(four) => Want::Changes(Change::SetsFour(*v, four), at + 1),
             None => Want::Fails(FaultKind::ZeroDivisor),
         },
-        Some(Line::LoadFour(v, array, i)) => match value_of(ids, sizes, turns, words, vectors, i) {
+        Some(Line::LoadFour(v, array, i)) => match value_of(&ids, sizes, turns, words, vectors, i) {
             Some(offset) => Want::ReadsFour(*v, *array, offset, at + 1),
             None => Want::Fails(FaultKind::ZeroDivisor),
         },
-        Some(Line::StoreFour(array, i, e)) => match value_of(ids, sizes, turns, words, vectors, i) {
-            Some(offset) => match lanes_value_of(ids, sizes, turns, words, vectors, e) {
+        Some(Line::StoreFour(array, i, e)) => match value_of(
+            &ids, sizes, turns, words, vectors, i,
+        ) {
+            Some(offset) => match lanes_value_of(&ids, sizes, turns, words, vectors, e) {
                 Some(four) => Want::WritesFour(*array, offset, four, at + 1),
                 None => Want::Fails(FaultKind::ZeroDivisor),
             },
@@ -143,9 +147,9 @@ fn want_at_head(ids: Ids, sizes: &[u32], start: Start, bound: &Expr, at: usize, 
     }
 }
 
-// What an item wants at the end of the body of the loop whose head is this line.
+/// What an item wants at the end of the body of the loop whose head is this line.
 #[inline(always)]
-fn want_at_tail(lines: &[Line], ids: Ids, sizes: &[u32], head: usize, turns: &[Turn]) -> Want
+pub fn want_at_tail(lines: &[Line], ids: Ids, sizes: &[u32], head: usize, turns: &[Turn]) -> Want
     ensures { result ≡ want_tail lines.now (known ids sizes.now) head turns.now }
 {
     match (lines.get(head), turns.last()) {

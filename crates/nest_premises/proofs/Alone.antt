@@ -54,9 +54,7 @@ module _ (d : Declared) where
   argument_alone s g (tree.Unary (unary.Rem j) t) (One a n) y h w i q = argument_alone _ g t n y.0 h.1 w i q
   argument_alone s g (tree.Unary unary.First t) (One a n) y h w i q = argument_alone _ g t n y.0 h.1 w i q
   argument_alone s g (tree.Unary unary.Second t) (One a n) y h w i q = argument_alone _ g t n y.0 h.1 w i q
-  argument_alone s g (tree.Unary unary.Join t) (One a n) y h w i q = argument_alone _ g t n y.0 h.1 w i q
-  argument_alone s g (tree.Unary unary.Transpose t) (One a n) y h w i q = argument_alone _ g t n y.0 h.1 w i q
-  argument_alone s g (tree.Unary (unary.Split fs) t) (One a n) y h w i q = argument_alone _ g t n y.0 h.1 w i q
+  argument_alone s g (tree.Unary (unary.Layout l) t) (One a n) y h w i q = argument_alone _ g t n y.0 h.1 w i q
   argument_alone s g (tree.Unary (unary.Slide j l) t) (One a n) y h w i q = argument_alone _ g t n y.0 h.1 w i q
   argument_alone s g (tree.Unary (unary.Pad j l) t) (One a n) y h w i q = argument_alone _ g t n y.0 h.1 w i q
   argument_alone s g (tree.Unary unary.ToLocal t) (One a n) y h w i q = true_is_not_false (not s.in_group) (not_from_false s.in_group q) (not_left (not s.in_group) s.in_local (not_left (not s.in_group || s.in_local) (not (shows_local_map t)) (h.0 N5)))
@@ -78,9 +76,7 @@ module _ (d : Declared) where
   body_alone s g (tree.Unary (unary.Rem j) t) (One a n) y h w i = body_alone _ g t n y.0 h.1 w i
   body_alone s g (tree.Unary unary.First t) (One a n) y h w i = body_alone _ g t n y.0 h.1 w i
   body_alone s g (tree.Unary unary.Second t) (One a n) y h w i = body_alone _ g t n y.0 h.1 w i
-  body_alone s g (tree.Unary unary.Join t) (One a n) y h w i = body_alone _ g t n y.0 h.1 w i
-  body_alone s g (tree.Unary unary.Transpose t) (One a n) y h w i = body_alone _ g t n y.0 h.1 w i
-  body_alone s g (tree.Unary (unary.Split fs) t) (One a n) y h w i = body_alone _ g t n y.0 h.1 w i
+  body_alone s g (tree.Unary (unary.Layout l) t) (One a n) y h w i = body_alone _ g t n y.0 h.1 w i
   body_alone s g (tree.Unary (unary.Slide j l) t) (One a n) y h w i = body_alone _ g t n y.0 h.1 w i
   body_alone s g (tree.Unary (unary.Pad j l) t) (One a n) y h w i = body_alone _ g t n y.0 h.1 w i
   body_alone s g (tree.Unary unary.ToLocal t) (One a n) y h w i = body_alone _ g t n y.0 h.1 w i

@@ -16,6 +16,7 @@ use Rattle.lift_tree.specs.Annotations.{Annotation, Leaf, One, Two, Three, type_
 use Rattle.lift_ir.specs.Lowering.{Written, Argument, lower}
 use Rattle.lift_ir.specs.Lowerable.{IsStaged}
 use Rattle.lift_ir.proofs.Lets.{written_let, argument_let, let_parts}
+use Rattle.lift_ir.proofs.Reshaped.{through_layout}
 use Rattle.lowered_tree.specs.declared.around.Around.{Around}
 use Rattle.lowered_tree.specs.declared.rule.NestRule.TheVariants.{N1, N3, N4, N8, N10, N11}
 use Rattle.lowered_tree.specs.Elements.{is_element, hangs_on_sizes}
@@ -24,6 +25,7 @@ use Rattle.lowered_tree.specs.Kinds.{is_sequential}
 use Rattle.nest_premises.specs.Unbroken.{IsUnbrokenAt, AllUnbroken}
 use Rattle.group_form.specs.Forms.{StandsInGroup}
 use Rattle.nest_premises.proofs.Known.{Known}
+use Rattle.nest_premises.proofs.Rules.{of_layout}
 use Rattle.nest_premises.proofs.Inputs.{no_private_copy}
 
 -- in a mapWrg's body, and in no work-item's
@@ -62,34 +64,30 @@ barred s t n c h w e = absurd (both_ways (is_element (type_in n)) (no_element s 
 module _ (known : Known) (d : Declared) where
   mutual
     -- N8: an argument
-    pub argument_in_group : (s : Around) (g : List PlainTy) (t : Tree) (n : Annotation) → Annotates d g t n → AllUnbroken s t n → IsStaged Argument t n → IsInGroup s → StandsInGroup false (lower Argument t n)
+    pub argument_in_group : (s : Around) (g : List PlainTy) (t : Tree) (n : Annotation) → Annotates d g t n → AllUnbroken s t n → IsStaged Argument t n → IsInGroup s → StandsInGroup false (lower d.names Argument t n)
     argument_in_group s g (tree.Variable v) (Leaf a) y h o c = tt
     argument_in_group s g (tree.Input v) (Leaf a) y h o c = tt
     argument_in_group s g (tree.Unary unary.First t) (One a n) y h o c = argument_in_group _ g t n y.0 h.1 o c
     argument_in_group s g (tree.Unary unary.Second t) (One a n) y h o c = argument_in_group _ g t n y.0 h.1 o c
-    argument_in_group s g (tree.Unary unary.Join t) (One a n) y h o c = argument_in_group _ g t n y.0 h.1 o c
-    argument_in_group s g (tree.Unary unary.Transpose t) (One a n) y h o c = argument_in_group _ g t n y.0 h.1 o c
-    argument_in_group s g (tree.Unary (unary.Split fs) t) (One a n) y h o c = argument_in_group _ g t n y.0 h.1 o c
+    argument_in_group s g (tree.Unary (unary.Layout l) t) (One a n) y h o c = through_layout (StandsInGroup false) (λ y u i k. k) d.names Argument l a (type_in n) _ (argument_in_group _ g t n y.0 h.1 o c)
     argument_in_group s g (tree.Unary (unary.Slide j l) t) (One a n) y h o c = argument_in_group _ g t n y.0 h.1 o c
     argument_in_group s g (tree.Unary (unary.Pad j l) t) (One a n) y h o c = argument_in_group _ g t n y.0 h.1 o c
     argument_in_group s g (tree.Unary unary.ToLocal t) (One a n) y h o c = written_in_group _ g t n y.0 h.1 o.3 c refl
     argument_in_group s g (tree.Unary unary.ToPrivate t) (One a n) y h o c = no_private_copy s.in_item (hangs_on_sizes a) (h.0 N8) c.2
     argument_in_group s g (tree.Binary binary.Zip t u) (Two a n m) y h o c = (argument_in_group _ g t n y.0 h.1 o.0 c, argument_in_group _ g u m y.1 h.2 o.1 c)
     argument_in_group s g (tree.Let v b) (Two a n m) y h o c =
-        subst (StandsInGroup false) (sym (argument_let v b a n m o.0)) (argument_in_group _ g v n y.0 h.1 o.1 c, argument_in_group _ (type_in n ∷ g) b m y.1 h.2 o.2 c)
+        subst (StandsInGroup false) (sym (argument_let d.names v b a n m o.0)) (argument_in_group _ g v n y.0 h.1 o.1 c, argument_in_group _ (type_in n ∷ g) b m y.1 h.2 o.2 c)
     argument_in_group s g _ _ y h o c = absurd o
 
     -- N1, N3, N4, N10, N11: what is written
-    pub written_in_group : (s : Around) (g : List PlainTy) (t : Tree) (n : Annotation) → Annotates d g t n → AllUnbroken s t n → IsStaged Written t n → IsInGroup s → s.is_written ≡ true → StandsInGroup true (lower Written t n)
+    pub written_in_group : (s : Around) (g : List PlainTy) (t : Tree) (n : Annotation) → Annotates d g t n → AllUnbroken s t n → IsStaged Written t n → IsInGroup s → s.is_written ≡ true → StandsInGroup true (lower d.names Written t n)
     written_in_group s g (tree.Variable v) (Leaf a) y h o c w = refused s a (h N11) w (no_element s (tree.Variable v) (Leaf a) c h w)
     written_in_group s g (tree.Number v) (Leaf a) y h o c w = barred s (tree.Number v) (Leaf a) c h w (ap is_element y.1)
     written_in_group s g (tree.Unary (unary.Div j) t) (One a n) y h o c w = barred s (tree.Unary (unary.Div j) t) (One a n) c h.0 w (ap is_element y.1.2)
     written_in_group s g (tree.Unary (unary.Rem j) t) (One a n) y h o c w = barred s (tree.Unary (unary.Rem j) t) (One a n) c h.0 w (ap is_element y.1.2)
     written_in_group s g (tree.Unary unary.First t) (One a n) y h o c w = refused s a (h.0 N10) w (no_element s (tree.Unary unary.First t) (One a n) c h.0 w)
     written_in_group s g (tree.Unary unary.Second t) (One a n) y h o c w = refused s a (h.0 N10) w (no_element s (tree.Unary unary.Second t) (One a n) c h.0 w)
-    written_in_group s g (tree.Unary unary.Join t) (One a n) y h o c w = (tt, written_in_group _ g t n y.0 h.1 o c (written_array s a w (ap is_element y.1.4)))
-    written_in_group s g (tree.Unary unary.Transpose t) (One a n) y h o c w = (tt, written_in_group _ g t n y.0 h.1 o c (written_array s a w (ap is_element y.1.4)))
-    written_in_group s g (tree.Unary (unary.Split fs) t) (One a n) y h o c w = (tt, written_in_group _ g t n y.0 h.1 o c (written_array s a w (ap is_element y.1.4)))
+    written_in_group s g (tree.Unary (unary.Layout l) t) (One a n) y h o c w = through_layout (StandsInGroup true) (λ y u i k. (i, k)) d.names Written l a (type_in n) _ (written_in_group _ g t n y.0 h.1 o c (written_array s a w (of_layout d.names l _ a y.1)))
     written_in_group s g (tree.Unary (unary.Slide j l) t) (One a n) y h o c w = refused s a (h.0 N10) w (ap is_element y.1.6)
     written_in_group s g (tree.Unary (unary.Pad j l) t) (One a n) y h o c w = refused s a (h.0 N10) w (ap is_element y.1.3)
     written_in_group s g (tree.Binary (binary.Operator r) t u) (Two a n m) y h o c w = barred s (tree.Binary (binary.Operator r) t u) (Two a n m) c h.0 w (ap is_element y.2.2)
@@ -100,7 +98,7 @@ module _ (known : Known) (d : Declared) where
         let e = no_element s (tree.Let v b) (Two a n m) c h.0 w in
         let i = known.tests (type_in n) ∙ no_let s v b a n m c h.0 in
         let r = let_parts v b a n m o i in
-        subst (StandsInGroup true) (sym (written_let v b a n m r.0 i)) (argument_in_group _ g v n y.0 h.1 r.1 c, written_in_group _ (type_in n ∷ g) b m y.1 h.2 r.2 c (written_array s a w e))
+        subst (StandsInGroup true) (sym (written_let d.names v b a n m r.0 i)) (argument_in_group _ g v n y.0 h.1 r.1 c, written_in_group _ (type_in n ∷ g) b m y.1 h.2 r.2 c (written_array s a w e))
     written_in_group s g (tree.Map map_kind.Plain xs b) (Two a n m) y h o c w = absurd (true≢false (h.0 N1))
     written_in_group s g (tree.Map map_kind.Sequential xs b) (Two a n m) y h o c w = absurd (true≢false (spared_here s (tree.Map map_kind.Sequential xs b) (Two a n m) c h.0))
     written_in_group s g (tree.Map map_kind.Global xs b) (Two a n m) y h o c w = absurd (both_ways s.in_parallel (h.0 N3) c.3)

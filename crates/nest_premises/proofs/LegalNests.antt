@@ -27,13 +27,13 @@ module _ (known : Known) (p : PlainProgram) (t : Tree) (n : Annotation) (r : IsL
       go true z = let k = (known.kinds p t n r copies).1 z in absurd (cc)
       go false z = refl
 
-  groups : nest_kind t ≡ OverGroups → StandsOverGroups (lowered_root t n)
+  groups : nest_kind t ≡ OverGroups → StandsOverGroups (lowered_root (declared_by p).names t n)
   groups e = over_groups known (declared_by p) (at_root t) [] t n r.nodes (known.unbroken t n r.legal) (known.lowerable p t n r copies).staged (no_task e) refl refl e
 
-  stand : StandsAs (nest_kind t) (lowered_root t n)
+  stand : StandsAs (nest_kind t) (lowered_root (declared_by p).names t n)
   stand = go (nest_kind t) refl
     where
-      go : (k : NestKind) → nest_kind t ≡ k → StandsAs k (lowered_root t n)
+      go : (k : NestKind) → nest_kind t ≡ k → StandsAs k (lowered_root (declared_by p).names t n)
       go Task e = known.tasks p t n r copies e
       go OverLaunch e = known.launches p t n r copies e
       go OverGroups e = groups e
@@ -44,7 +44,7 @@ legal_nests_stand known p t n r copies = stand known p t n r copies
 pub legal_groups_stand_over_groups : LegalTermsCanBeLowered → LegalNestsStand → LegalGroupsStandOverGroups
 legal_groups_stand_over_groups lowerable nests p t n r copies e =
     let l = lowerable p t n r copies in
-    let stands : StandsOverGroups (lowered_root t n) = subst (λ k. StandsAs k (lowered_root t n)) e (nests p t n r copies) in
+    let stands : StandsOverGroups (lowered_root (declared_by p).names t n) = subst (λ k. StandsAs k (lowered_root (declared_by p).names t n)) e (nests p t n r copies) in
     record { staged = l.staged; program = λ bases ok. record { lowerable = l.lowerable bases ok; stands = stands }; fits = l.fits }
 
 pub legal_terms_are_printable : UngroupedTermsArePrintable → LegalGroupsStandOverGroups → LegalTermsArePrintable

@@ -1,9 +1,11 @@
 -- Each node of a term within the limits on types has few scalars.
-use Rattle.std.proofs.Common.{◌≡◌, ℕ, zero, suc, ◌*◌, ◌<◌, ◌≤◌, ◌^◌, List, [], ◌∷◌, Some, sym, subst, arith}
+use Rattle.std.proofs.Common.{◌≡◌, ◌∙◌, ℕ, zero, suc, ◌*◌, ◌<◌, ◌≤◌, ◌^◌, List, [], ◌∷◌, Some, sym, subst, arith}
 use Rattle.std.specs.Prelude.{slice_get}
 use Rattle.std.proofs.lemmas.Nat.{mul-le}
 use Rattle.size_arith.specs.declared.poly.Monomial.{Monomial}
 use Rattle.size_arith.specs.Ranges.{Admissible}
+use Rattle.lift_tree.specs.declared.layout.Layout as layout
+use Rattle.lift_tree.specs.declared.layout.Layout.TheVariants as layouts
 use Rattle.lift_tree.specs.declared.term.UnaryForm.{UnaryForm}
 use Rattle.lift_tree.specs.declared.term.UnaryForm.TheVariants as unary
 use Rattle.lift_tree.specs.declared.term.BinaryForm.{BinaryForm}
@@ -13,8 +15,8 @@ use Rattle.lift_tree.specs.Tree as tree
 use Rattle.lift_tree.specs.Tree.{Tree}
 use Rattle.lift_tree.specs.Types as types
 use Rattle.lift_tree.specs.Types.{PlainTy, IsFormed}
-use Rattle.lift_tree.specs.Limits.{ArrayFits, OuterFits, HasFewScalars, UnaryFits, NodesFit}
-use Rattle.lift_tree.specs.Typing.{Declared, IsDeclared, UnaryRow, BinaryRow}
+use Rattle.lift_tree.specs.Limits.{ArrayFits, OuterFits, HasFewScalars, LayoutFits, UnaryFits, NodesFit}
+use Rattle.lift_tree.specs.Typing.{Declared, IsDeclared, LayoutRow, UnaryRow, BinaryRow}
 use Rattle.lift_tree.specs.Annotations.{Annotation, Leaf, One, Two, Three, type_in, Annotates}
 use Rattle.lift_tree.proofs.Formed.{formed}
 use Rattle.lift_tree.proofs.Annotated.{annotated_is_typed}
@@ -62,14 +64,19 @@ module _ (d : Declared) (declared : IsDeclared d) (scalars : Every (HasFewScalar
   outer : (a x : PlainTy) (l : List Monomial) → a ≡ types.ArrayOf x l → IsFormed d.names a → OuterFits d.names a → IsFew a
   outer a x l e f h = formed_few a x l e f (subst (OuterFits d.names) e h)
 
+  layout_few : (l : layout.Layout) (b a : PlainTy) → LayoutRow d.names l b a → LayoutFits d.names l b → IsFormed d.names a → IsFew b → IsFew a
+  layout_few layouts.Join b a r u f h = formed_few a _ _ r.4 f (subst (LayoutFits d.names layouts.Join) r.3 u).1
+  layout_few layouts.Transpose b a r u f h = formed_few a _ _ r.4 f (subst (LayoutFits d.names layouts.Transpose) r.3 u).1
+  layout_few (layouts.Split fs) b a r u f h = formed_few a _ _ r.4 f (subst (LayoutFits d.names (layouts.Split fs)) r.2 u).2
+  layout_few layouts.Reverse b a r u f h = subst IsFew (r.2 ∙ sym r.3) h
+  layout_few (layouts.Stride fs) b a r u f h = subst IsFew (r.2 ∙ sym r.4) h
+
   unary_few : (f : UnaryForm) (b a : PlainTy) → UnaryRow d.names f b a → UnaryFits d.names f b → IsFormed d.names a → IsFew b → IsFew a
   unary_few (unary.Div n) b a r u f h = number a r.2
   unary_few (unary.Rem n) b a r u f h = number a r.2
   unary_few unary.First b a r u f h = (subst IsFew r.1 h).0
   unary_few unary.Second b a r u f h = (subst IsFew r.1 h).1
-  unary_few unary.Join b a r u f h = formed_few a _ _ r.4 f (subst (UnaryFits d.names unary.Join) r.3 u).1
-  unary_few unary.Transpose b a r u f h = formed_few a _ _ r.4 f (subst (UnaryFits d.names unary.Transpose) r.3 u).1
-  unary_few (unary.Split fs) b a r u f h = formed_few a _ _ r.4 f (subst (UnaryFits d.names (unary.Split fs)) r.2 u).2
+  unary_few (unary.Layout l) b a r u f h = layout_few l b a r u f h
   unary_few (unary.Slide s t) b a r u f h = formed_few a _ _ r.6 f (subst (UnaryFits d.names (unary.Slide s t)) r.2 u).3
   unary_few (unary.Pad l k) b a r u f h = formed_few a _ _ r.3 f (subst (UnaryFits d.names (unary.Pad l k)) r.2 u).2
   unary_few unary.ToLocal b a r u f h = subst IsFew r h
@@ -86,9 +93,7 @@ module _ (d : Declared) (declared : IsDeclared d) (scalars : Every (HasFewScalar
   form_fits (unary.Rem n) a s h = tt
   form_fits unary.First a s h = tt
   form_fits unary.Second a s h = tt
-  form_fits unary.Join a s h = tt
-  form_fits unary.Transpose a s h = tt
-  form_fits (unary.Split fs) a s h = tt
+  form_fits (unary.Layout l) a s h = tt
   form_fits (unary.Slide m t) a s h = s
   form_fits (unary.Pad l r) a s h = tt
   form_fits unary.ToLocal a s h = small a h

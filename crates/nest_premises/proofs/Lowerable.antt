@@ -10,6 +10,7 @@ use Rattle.lift_tree.specs.Types as types
 use Rattle.lift_tree.specs.Types.{PlainTy}
 use Rattle.lift_tree.specs.Typing.{Declared}
 use Rattle.lift_tree.specs.Annotations.{Annotation, Leaf, One, Two, Three, type_in, Annotates}
+use Rattle.lift_tree.proofs.Layouts.{layout_holds}
 use Rattle.lift_ir.specs.Types.{IsShort}
 use Rattle.lift_ir.specs.AtLaunch.{length_at, ty_at, outer_of}
 use Rattle.lift_ir.specs.Lowering.{Written, Argument, Element}
@@ -20,7 +21,7 @@ use Rattle.lowered_tree.specs.declared.rule.NestRule.TheVariants.{N6, N8, N10, N
 use Rattle.lowered_tree.specs.Elements.{is_element, hangs_on_sizes}
 use Rattle.nest_premises.specs.Unbroken.{AllUnbroken}
 use Rattle.nest_premises.proofs.Fits.{Fits}
-use Rattle.nest_premises.proofs.Rules.{moved, not_right, told_element, told_ir, from_ir}
+use Rattle.nest_premises.proofs.Rules.{moved, of_layout, not_right, told_element, told_ir, from_ir}
 use Rattle.nest_premises.proofs.Staged.{passes, refused, same_literal}
 
 element_holds : (a : PlainTy) → is_element a ≡ true → types.HoldsElements a
@@ -59,12 +60,8 @@ module _ (d : Declared) (ys : List ℕ) where
   written_holds s g (tree.Unary (unary.Rem j) t) (One a n) y h o w = subst types.HoldsElements (sym y.1.2) tt
   written_holds s g (tree.Unary unary.First t) (One a n) y h o w = element_holds a (is_counted s.is_written (is_element a) (h.0 N10) w)
   written_holds s g (tree.Unary unary.Second t) (One a n) y h o w = element_holds a (is_counted s.is_written (is_element a) (h.0 N10) w)
-  written_holds s g (tree.Unary unary.Join t) (One a n) y h o w =
-      subst types.HoldsElements (sym y.1.4) (subst types.HoldsElements y.1.3 (written_holds _ g t n y.0 h.1 o (passes s.is_written (is_element a) w (moved is_element false a (types.ArrayOf _ _) y.1.4 refl))))
-  written_holds s g (tree.Unary unary.Transpose t) (One a n) y h o w =
-      subst types.HoldsElements (sym y.1.4) (subst types.HoldsElements y.1.3 (written_holds _ g t n y.0 h.1 o (passes s.is_written (is_element a) w (moved is_element false a (types.ArrayOf _ _) y.1.4 refl))))
-  written_holds s g (tree.Unary (unary.Split fs) t) (One a n) y h o w =
-      subst types.HoldsElements (sym y.1.4) (subst types.HoldsElements y.1.2 (written_holds _ g t n y.0 h.1 o (passes s.is_written (is_element a) w (moved is_element false a (types.ArrayOf _ _) y.1.4 refl))))
+  written_holds s g (tree.Unary (unary.Layout l) t) (One a n) y h o w =
+      layout_holds d.names l _ a y.1 (written_holds _ g t n y.0 h.1 o (passes s.is_written (is_element a) w (of_layout d.names l _ a y.1)))
   written_holds s g (tree.Unary (unary.Slide j l) t) (One a n) y h o w = refused s.is_written (is_element a) (h.0 N10) w (moved is_element false a (types.ArrayOf _ _) y.1.6 refl)
   written_holds s g (tree.Unary (unary.Pad j l) t) (One a n) y h o w = refused s.is_written (is_element a) (h.0 N10) w (moved is_element false a (types.ArrayOf _ _) y.1.3 refl)
   written_holds s g (tree.Binary (binary.Operator q) t u) (Two a n m) y h o w = subst types.HoldsElements (sym y.2.2) tt
@@ -97,9 +94,7 @@ module _ (d : Declared) (ys : List ℕ) where
     argument_lowerable s g (tree.Input i) (Leaf a) y h f o = tt
     argument_lowerable s g (tree.Unary unary.First t) (One a n) y h f o = (f.0, short_of g t n y.0 f.2, tt, argument_lowerable _ g t n y.0 h.1 f.2 o)
     argument_lowerable s g (tree.Unary unary.Second t) (One a n) y h f o = (f.0, short_of g t n y.0 f.2, tt, argument_lowerable _ g t n y.0 h.1 f.2 o)
-    argument_lowerable s g (tree.Unary unary.Join t) (One a n) y h f o = (f.0, short_of g t n y.0 f.2, tt, argument_lowerable _ g t n y.0 h.1 f.2 o)
-    argument_lowerable s g (tree.Unary unary.Transpose t) (One a n) y h f o = (f.0, short_of g t n y.0 f.2, tt, argument_lowerable _ g t n y.0 h.1 f.2 o)
-    argument_lowerable s g (tree.Unary (unary.Split fs) t) (One a n) y h f o = (f.0, short_of g t n y.0 f.2, tt, argument_lowerable _ g t n y.0 h.1 f.2 o)
+    argument_lowerable s g (tree.Unary (unary.Layout l) t) (One a n) y h f o = (f.0, short_of g t n y.0 f.2, tt, argument_lowerable _ g t n y.0 h.1 f.2 o)
     argument_lowerable s g (tree.Unary (unary.Slide j l) t) (One a n) y h f o = (f.0, short_of g t n y.0 f.2, f.1, argument_lowerable _ g t n y.0 h.1 f.2 o)
     argument_lowerable s g (tree.Unary (unary.Pad j l) t) (One a n) y h f o = (f.0, short_of g t n y.0 f.2, tt, argument_lowerable _ g t n y.0 h.1 f.2 o)
     argument_lowerable s g (tree.Unary unary.ToLocal t) (One a n) y h f o =
@@ -120,9 +115,7 @@ module _ (d : Declared) (ys : List ℕ) where
     written_lowerable s g (tree.Unary (unary.Rem j) t) (One a n) y h f o w = (f.0, short_of g t n y.0 f.2, tt, element_lowerable g t n y.0 f.2 o)
     written_lowerable s g (tree.Unary unary.First t) (One a n) y h f o w = (f.0, short_of g t n y.0 f.2, told a (told_ir true a (is_counted s.is_written (is_element a) (h.0 N10) w)), element_lowerable g t n y.0 f.2 o)
     written_lowerable s g (tree.Unary unary.Second t) (One a n) y h f o w = (f.0, short_of g t n y.0 f.2, told a (told_ir true a (is_counted s.is_written (is_element a) (h.0 N10) w)), element_lowerable g t n y.0 f.2 o)
-    written_lowerable s g (tree.Unary unary.Join t) (One a n) y h f o w = (f.0, short_of g t n y.0 f.2, tt, written_lowerable _ g t n y.0 h.1 f.2 o (passes s.is_written (is_element a) w (moved is_element false a (types.ArrayOf _ _) y.1.4 refl)))
-    written_lowerable s g (tree.Unary unary.Transpose t) (One a n) y h f o w = (f.0, short_of g t n y.0 f.2, tt, written_lowerable _ g t n y.0 h.1 f.2 o (passes s.is_written (is_element a) w (moved is_element false a (types.ArrayOf _ _) y.1.4 refl)))
-    written_lowerable s g (tree.Unary (unary.Split fs) t) (One a n) y h f o w = (f.0, short_of g t n y.0 f.2, tt, written_lowerable _ g t n y.0 h.1 f.2 o (passes s.is_written (is_element a) w (moved is_element false a (types.ArrayOf _ _) y.1.4 refl)))
+    written_lowerable s g (tree.Unary (unary.Layout l) t) (One a n) y h f o w = (f.0, short_of g t n y.0 f.2, tt, written_lowerable _ g t n y.0 h.1 f.2 o (passes s.is_written (is_element a) w (of_layout d.names l _ a y.1)))
     written_lowerable s g (tree.Unary (unary.Slide j l) t) (One a n) y h f o w = refused s.is_written (is_element a) (h.0 N10) w (moved is_element false a (types.ArrayOf _ _) y.1.6 refl)
     written_lowerable s g (tree.Unary (unary.Pad j l) t) (One a n) y h f o w = refused s.is_written (is_element a) (h.0 N10) w (moved is_element false a (types.ArrayOf _ _) y.1.3 refl)
     written_lowerable s g (tree.Binary (binary.Operator q) t u) (Two a n m) y h f o w = (tt, element_lowerable g t n y.0 f.1 o.0, element_lowerable g u m y.1 f.2 o.1)

@@ -1,6 +1,7 @@
 -- A term has no more phases than nodes.
-use Rattle.std.proofs.Common.{◌+◌, ◌≤◌, Bool, true, false, arith}
+use Rattle.std.proofs.Common.{◌+◌, ◌≤◌, Bool, true, false, List, arith}
 use Rattle.std.specs.Prelude.{if◌then◌else◌}
+use Rattle.size_arith.specs.declared.names.Name.{Name}
 use Rattle.lift_tree.specs.declared.term.UnaryForm.{UnaryForm}
 use Rattle.lift_tree.specs.declared.term.UnaryForm.TheVariants as unary
 use Rattle.lift_tree.specs.declared.term.BinaryForm.{BinaryForm}
@@ -11,6 +12,7 @@ use Rattle.lift_tree.specs.Types.{PlainTy}
 use Rattle.lift_tree.specs.Annotations.{Annotation, One, Two, Three, type_in}
 use Rattle.lift_ir.specs.Terms.{Both, LetArray, LetElement, Bound, Literal, Select}
 use Rattle.lift_ir.specs.Lowering.{Place, Written, Argument, Element, Lowered, is_element, element_ty, placed, placed_element, lower, lower_unary, lower_binary, lower_let, operand_place, binary_place, value_place, body_place}
+use Rattle.lift_ir.proofs.Reshaped.{through_layout}
 use Rattle.group_form.specs.Uses.{phases_in, phase_count}
 use Rattle.nest_premises.specs.Groups.{PhasesAreFew}
 
@@ -20,18 +22,16 @@ placed_in Written a x = omega arith
 placed_in Argument a x = omega arith
 placed_in Element a x = omega arith
 
-unary_in : (p : Place) (f : UnaryForm) (a b : PlainTy) (x : Lowered) → phases_in (lower_unary p f a b x) ≤ phases_in x
-unary_in p (unary.Div k) a b x = let e = placed_in p a (lower_unary Element (unary.Div k) a b x) in omega arith
-unary_in p (unary.Rem k) a b x = let e = placed_in p a (lower_unary Element (unary.Rem k) a b x) in omega arith
-unary_in p unary.First a b x = placed_in p a (lower_unary Element unary.First a b x)
-unary_in p unary.Second a b x = placed_in p a (lower_unary Element unary.Second a b x)
-unary_in p unary.ToPrivate a b x = omega arith
-unary_in p unary.ToLocal a b x = omega arith
-unary_in p unary.Join a b x = omega arith
-unary_in p unary.Transpose a b x = omega arith
-unary_in p (unary.Split fs) a b x = omega arith
-unary_in p (unary.Slide s k) a b x = omega arith
-unary_in p (unary.Pad s k) a b x = omega arith
+unary_in : (names : List Name) (p : Place) (f : UnaryForm) (a b : PlainTy) (x : Lowered) → phases_in (lower_unary names p f a b x) ≤ phases_in x
+unary_in names p (unary.Div k) a b x = let e = placed_in p a (lower_unary names Element (unary.Div k) a b x) in omega arith
+unary_in names p (unary.Rem k) a b x = let e = placed_in p a (lower_unary names Element (unary.Rem k) a b x) in omega arith
+unary_in names p unary.First a b x = placed_in p a (lower_unary names Element unary.First a b x)
+unary_in names p unary.Second a b x = placed_in p a (lower_unary names Element unary.Second a b x)
+unary_in names p unary.ToPrivate a b x = omega arith
+unary_in names p unary.ToLocal a b x = omega arith
+unary_in names p (unary.Layout l) a b x = through_layout (λ u. phases_in u ≤ phases_in x) (λ y u i h. h) names p l a b x (omega arith)
+unary_in names p (unary.Slide s k) a b x = omega arith
+unary_in names p (unary.Pad s k) a b x = omega arith
 
 binary_in : (p : Place) (f : BinaryForm) (a : PlainTy) (x y : Lowered) → phases_in (lower_binary p f a x y) ≤ phases_in x + phases_in y
 binary_in p (binary.Operator o) a x y = let e = placed_in p a (lower_binary Element (binary.Operator o) a x y) in omega arith
@@ -48,25 +48,25 @@ let_in p a c v b = go (is_element a) (is_element c)
     go false true = omega arith
     go false false = omega arith
 
-few_in : (p : Place) (t : Tree) (n : Annotation) → phases_in (lower p t n) ≤ nodes t
-few_in p (tree.Variable v) n = let e = placed_in p (type_in n) (Bound v) in omega arith
-few_in p (tree.Number c) n = let e = placed_in p (type_in n) (Literal c) in omega arith
-few_in p (tree.Input i) n = omega arith
-few_in p (tree.Unary f t) (One a n) = let e = unary_in p f a (type_in n) (lower (operand_place f p) t n) in let r = few_in (operand_place f p) t n in omega arith
-few_in p (tree.Binary f t u) (Two a n m) =
-    let e = binary_in p f a (lower (binary_place f) t n) (lower (binary_place f) u m) in
-    let r = few_in (binary_place f) t n in
-    let s = few_in (binary_place f) u m in
+few_in : (names : List Name) (p : Place) (t : Tree) (n : Annotation) → phases_in (lower names p t n) ≤ nodes t
+few_in names p (tree.Variable v) n = let e = placed_in p (type_in n) (Bound v) in omega arith
+few_in names p (tree.Number c) n = let e = placed_in p (type_in n) (Literal c) in omega arith
+few_in names p (tree.Input i) n = omega arith
+few_in names p (tree.Unary f t) (One a n) = let e = unary_in names p f a (type_in n) (lower names (operand_place f p) t n) in let r = few_in names (operand_place f p) t n in omega arith
+few_in names p (tree.Binary f t u) (Two a n m) =
+    let e = binary_in p f a (lower names (binary_place f) t n) (lower names (binary_place f) u m) in
+    let r = few_in names (binary_place f) t n in
+    let s = few_in names (binary_place f) u m in
     omega arith
-few_in p (tree.Select t u w) (Three a n m k) = let e = placed_in p a (Select (lower Element t n) (lower Element u m) (lower Element w k)) in omega arith
-few_in p (tree.Let v b) (Two a n m) =
-    let e = let_in p a (type_in n) (lower (value_place n) v n) (lower (body_place p a) b m) in
-    let r = few_in (value_place n) v n in
-    let s = few_in (body_place p a) b m in
+few_in names p (tree.Select t u w) (Three a n m k) = let e = placed_in p a (Select (lower names Element t n) (lower names Element u m) (lower names Element w k)) in omega arith
+few_in names p (tree.Let v b) (Two a n m) =
+    let e = let_in p a (type_in n) (lower names (value_place n) v n) (lower names (body_place p a) b m) in
+    let r = few_in names (value_place n) v n in
+    let s = few_in names (body_place p a) b m in
     omega arith
-few_in p (tree.Map j xs b) (Two a n m) = let r = few_in Argument xs n in omega arith
-few_in p (tree.Fold j xs s b) (Three a n m k) = omega arith
-few_in p _ n = omega arith
+few_in names p (tree.Map j xs b) (Two a n m) = let r = few_in names Argument xs n in omega arith
+few_in names p (tree.Fold j xs s b) (Three a n m k) = omega arith
+few_in names p _ n = omega arith
 
 -- ---- of a map over work-groups
 placed_of : (p : Place) (a : PlainTy) (x : Lowered) → phase_count (placed p a x) ≤ phase_count x
@@ -74,18 +74,16 @@ placed_of Written a x = omega arith
 placed_of Argument a x = omega arith
 placed_of Element a x = omega arith
 
-unary_of : (p : Place) (f : UnaryForm) (a b : PlainTy) (x : Lowered) → phase_count (lower_unary p f a b x) ≤ phase_count x
-unary_of p (unary.Div k) a b x = let e = placed_of p a (lower_unary Element (unary.Div k) a b x) in omega arith
-unary_of p (unary.Rem k) a b x = let e = placed_of p a (lower_unary Element (unary.Rem k) a b x) in omega arith
-unary_of p unary.First a b x = let e = placed_of p a (lower_unary Element unary.First a b x) in omega arith
-unary_of p unary.Second a b x = let e = placed_of p a (lower_unary Element unary.Second a b x) in omega arith
-unary_of p unary.ToPrivate a b x = omega arith
-unary_of p unary.ToLocal a b x = omega arith
-unary_of p unary.Join a b x = omega arith
-unary_of p unary.Transpose a b x = omega arith
-unary_of p (unary.Split fs) a b x = omega arith
-unary_of p (unary.Slide s k) a b x = omega arith
-unary_of p (unary.Pad s k) a b x = omega arith
+unary_of : (names : List Name) (p : Place) (f : UnaryForm) (a b : PlainTy) (x : Lowered) → phase_count (lower_unary names p f a b x) ≤ phase_count x
+unary_of names p (unary.Div k) a b x = let e = placed_of p a (lower_unary names Element (unary.Div k) a b x) in omega arith
+unary_of names p (unary.Rem k) a b x = let e = placed_of p a (lower_unary names Element (unary.Rem k) a b x) in omega arith
+unary_of names p unary.First a b x = let e = placed_of p a (lower_unary names Element unary.First a b x) in omega arith
+unary_of names p unary.Second a b x = let e = placed_of p a (lower_unary names Element unary.Second a b x) in omega arith
+unary_of names p unary.ToPrivate a b x = omega arith
+unary_of names p unary.ToLocal a b x = omega arith
+unary_of names p (unary.Layout l) a b x = through_layout (λ u. phase_count u ≤ phase_count x) (λ y u i h. h) names p l a b x (omega arith)
+unary_of names p (unary.Slide s k) a b x = omega arith
+unary_of names p (unary.Pad s k) a b x = omega arith
 
 binary_of : (p : Place) (f : BinaryForm) (a : PlainTy) (x y : Lowered) → phase_count (lower_binary p f a x y) ≤ 0
 binary_of p (binary.Operator o) a x y = placed_of p a (lower_binary Element (binary.Operator o) a x y)
@@ -102,20 +100,20 @@ let_of p a c v b = go (is_element a) (is_element c)
     go false true = omega arith
     go false false = omega arith
 
-few_of : (p : Place) (t : Tree) (n : Annotation) → phase_count (lower p t n) ≤ nodes t
-few_of p (tree.Variable v) n = let e = placed_of p (type_in n) (Bound v) in omega arith
-few_of p (tree.Number c) n = let e = placed_of p (type_in n) (Literal c) in omega arith
-few_of p (tree.Input i) n = omega arith
-few_of p (tree.Unary f t) (One a n) = let e = unary_of p f a (type_in n) (lower (operand_place f p) t n) in let r = few_of (operand_place f p) t n in omega arith
-few_of p (tree.Binary f t u) (Two a n m) = let e = binary_of p f a (lower (binary_place f) t n) (lower (binary_place f) u m) in omega arith
-few_of p (tree.Select t u w) (Three a n m k) = let e = placed_of p a (Select (lower Element t n) (lower Element u m) (lower Element w k)) in omega arith
-few_of p (tree.Let v b) (Two a n m) =
-    let e = let_of p a (type_in n) (lower (value_place n) v n) (lower (body_place p a) b m) in
-    let s = few_of (body_place p a) b m in
+few_of : (names : List Name) (p : Place) (t : Tree) (n : Annotation) → phase_count (lower names p t n) ≤ nodes t
+few_of names p (tree.Variable v) n = let e = placed_of p (type_in n) (Bound v) in omega arith
+few_of names p (tree.Number c) n = let e = placed_of p (type_in n) (Literal c) in omega arith
+few_of names p (tree.Input i) n = omega arith
+few_of names p (tree.Unary f t) (One a n) = let e = unary_of names p f a (type_in n) (lower names (operand_place f p) t n) in let r = few_of names (operand_place f p) t n in omega arith
+few_of names p (tree.Binary f t u) (Two a n m) = let e = binary_of p f a (lower names (binary_place f) t n) (lower names (binary_place f) u m) in omega arith
+few_of names p (tree.Select t u w) (Three a n m k) = let e = placed_of p a (Select (lower names Element t n) (lower names Element u m) (lower names Element w k)) in omega arith
+few_of names p (tree.Let v b) (Two a n m) =
+    let e = let_of p a (type_in n) (lower names (value_place n) v n) (lower names (body_place p a) b m) in
+    let s = few_of names (body_place p a) b m in
     omega arith
-few_of p (tree.Map j xs b) (Two a n m) = let r = few_in Written b m in omega arith
-few_of p (tree.Fold j xs s b) (Three a n m k) = omega arith
-few_of p _ n = omega arith
+few_of names p (tree.Map j xs b) (Two a n m) = let r = few_in names Written b m in omega arith
+few_of names p (tree.Fold j xs s b) (Three a n m k) = omega arith
+few_of names p _ n = omega arith
 
 pub phases_are_few : PhasesAreFew
-phases_are_few t n = few_of Written t n
+phases_are_few names t n = few_of names Written t n

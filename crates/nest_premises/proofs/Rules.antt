@@ -2,12 +2,16 @@
 use Rattle.std.proofs.Common.{◌≡◌, ℕ, Bool, true, false, List, [], ◌∷◌, ◌++◌, refl, sym, subst}
 use Rattle.std.proofs.lemmas.Bool.{and_from}
 use Rattle.std.specs.Prelude.{◌&&◌, ◌||◌, if◌then◌else◌}
+use Rattle.size_arith.specs.declared.names.Name.{Name}
+use Rattle.lift_tree.specs.declared.layout.Layout as layout
 use Rattle.lift_tree.specs.Tree as tree
 use Rattle.lift_tree.specs.Tree.{Tree}
 use Rattle.lift_tree.specs.Types as types
 use Rattle.lift_tree.specs.Types.{PlainTy, is_array}
 use Rattle.lift_tree.specs.Lists.{Every}
+use Rattle.lift_tree.specs.Typing.{LayoutRow}
 use Rattle.lift_tree.specs.Annotations.{Annotation, Leaf, One, Two, Three}
+use Rattle.lift_tree.proofs.Layouts.{layout_operand, layout_result}
 use Rattle.lift_ir.specs.Lowerable.{HoldsNoScalar}
 use Rattle.lift_ir.specs.Lowering as ir
 use Rattle.lowered_tree.specs.declared.around.Around.{Around}
@@ -84,6 +88,13 @@ module _ {A : Type 0} (a b : PlainTy) (e : a ≡ b) where
 
 pub moved : (p : PlainTy → Bool) (v : Bool) (a b : PlainTy) → a ≡ b → p b ≡ v → p a ≡ v
 moved p v a b e h = subst (λ z. p z ≡ v) (sym e) h
+
+-- a layout is an array, of an array
+pub of_layout : (names : List Name) (l : layout.Layout) (b a : PlainTy) → LayoutRow names l b a → is_element a ≡ false
+of_layout names l b a r = moved is_element false a _ (layout_result names l b a r).is refl
+
+pub under_layout : (names : List Name) (l : layout.Layout) (b a : PlainTy) → LayoutRow names l b a → is_element b ≡ false
+under_layout names l b a r = moved is_element false b _ (layout_operand names l b a r).is refl
 
 -- the intermediate representation's test of element types
 pub in_ir : (a : PlainTy) → ir.is_element a ≡ is_element a

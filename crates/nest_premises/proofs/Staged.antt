@@ -18,6 +18,7 @@ use Rattle.lift_tree.specs.Types.{PlainTy, is_array, IsInput}
 use Rattle.lift_tree.specs.Lists.{Every}
 use Rattle.lift_tree.specs.Typing.{Declared}
 use Rattle.lift_tree.specs.Annotations.{Annotation, Leaf, One, Two, Three, type_in, Annotates}
+use Rattle.lift_tree.proofs.Layouts.{layout_result}
 use Rattle.lift_ir.specs.Types.{PairOf, ArrayOf, IsShort, size}
 use Rattle.lift_ir.specs.AtLaunch.{natural, length_at, ty_at}
 use Rattle.lift_ir.specs.Lowering.{Written, Argument}
@@ -30,7 +31,7 @@ use Rattle.lowered_tree.specs.Kinds.{is_plain}
 use Rattle.lowered_tree.specs.Copies.{CopiesArrays}
 use Rattle.nest_premises.specs.Unbroken.{IsUnbrokenAt, AllUnbroken}
 use Rattle.nest_premises.proofs.Fits.{Fits}
-use Rattle.nest_premises.proofs.Rules.{not_left, not_right, spared, true_is_not_false, told_element, no_array, holds_none, left_part, right_part, clash_array, clash_element, moved, told_ir}
+use Rattle.nest_premises.proofs.Rules.{not_left, not_right, spared, true_is_not_false, told_element, no_array, holds_none, left_part, right_part, clash_array, clash_element, moved, under_layout, told_ir}
 
 -- a program's inputs are arrays
 input_is_array : (inputs : List PlainTy) (i : ℕ) (a : PlainTy) → Every IsInput inputs → slice_get inputs i ≡ Some a → is_array a ≡ true
@@ -58,9 +59,7 @@ module _ (d : Declared) (inputs : Every IsInput d.inputs) where
   counted s g (tree.Unary (unary.Rem j) t) (One a n) y h k c w = counted (under_form s (unary.Rem j) a) g t n y.0 h.1 k.1 (or_left (s.in_element || is_element a) (is_element (type_in n)) c) (moved is_array false (type_in n) types.U32 y.1.1 refl)
   counted s g (tree.Unary unary.First t) (One a n) y h k c w = counted (under_form s unary.First a) g t n y.0 h.1 k.1 (or_left (s.in_element || is_element a) (is_element (type_in n)) c) (moved is_array false (type_in n) (types.PairOf a y.1.0) y.1.1 refl)
   counted s g (tree.Unary unary.Second t) (One a n) y h k c w = counted (under_form s unary.Second a) g t n y.0 h.1 k.1 (or_left (s.in_element || is_element a) (is_element (type_in n)) c) (moved is_array false (type_in n) (types.PairOf y.1.0 a) y.1.1 refl)
-  counted s g (tree.Unary unary.Join t) (One a n) y h k c w = clash_array a (types.ArrayOf y.1.0 _) y.1.4 refl w
-  counted s g (tree.Unary unary.Transpose t) (One a n) y h k c w = clash_array a (types.ArrayOf _ y.1.1) y.1.4 refl w
-  counted s g (tree.Unary (unary.Split fs) t) (One a n) y h k c w = clash_array a (types.ArrayOf _ _) y.1.4 refl w
+  counted s g (tree.Unary (unary.Layout l) t) (One a n) y h k c w = clash_array a _ (layout_result d.names l _ a y.1).is refl w
   counted s g (tree.Unary (unary.Slide j l) t) (One a n) y h k c w = clash_array a (types.ArrayOf _ _) y.1.6 refl w
   counted s g (tree.Unary (unary.Pad j l) t) (One a n) y h k c w = clash_array a (types.ArrayOf _ _) y.1.3 refl w
   counted s g (tree.Unary unary.ToLocal t) (One a n) y h k c w = true_is_not_false (is_array a) k.0 w
@@ -163,9 +162,7 @@ module _ (d : Declared) (inputs : Every IsInput d.inputs) (ys : List ℕ) where
     argued s g (tree.Unary (unary.Rem j) t) (One a n) y h k f w e = clash_element a types.U32 y.1.2 refl e
     argued s g (tree.Unary unary.First t) (One a n) y h k f w e = argued _ g t n y.0 h.1 k.1 f.2 w (moved is_element false (type_in n) (types.PairOf a y.1.0) y.1.1 (left_part a y.1.0 e))
     argued s g (tree.Unary unary.Second t) (One a n) y h k f w e = argued _ g t n y.0 h.1 k.1 f.2 w (moved is_element false (type_in n) (types.PairOf y.1.0 a) y.1.1 (right_part y.1.0 a e))
-    argued s g (tree.Unary unary.Join t) (One a n) y h k f w e = argued _ g t n y.0 h.1 k.1 f.2 w (moved is_element false (type_in n) (types.ArrayOf _ _) y.1.3 refl)
-    argued s g (tree.Unary unary.Transpose t) (One a n) y h k f w e = argued _ g t n y.0 h.1 k.1 f.2 w (moved is_element false (type_in n) (types.ArrayOf _ _) y.1.3 refl)
-    argued s g (tree.Unary (unary.Split fs) t) (One a n) y h k f w e = argued _ g t n y.0 h.1 k.1 f.2 w (moved is_element false (type_in n) (types.ArrayOf _ _) y.1.2 refl)
+    argued s g (tree.Unary (unary.Layout l) t) (One a n) y h k f w e = argued _ g t n y.0 h.1 k.1 f.2 w (under_layout d.names l (type_in n) a y.1)
     argued s g (tree.Unary (unary.Slide j l) t) (One a n) y h k f w e = argued _ g t n y.0 h.1 k.1 f.2 w (moved is_element false (type_in n) (types.ArrayOf _ _) y.1.2 refl)
     argued s g (tree.Unary (unary.Pad j l) t) (One a n) y h k f w e = argued _ g t n y.0 h.1 k.1 f.2 w (moved is_element false (type_in n) (types.ArrayOf _ _) y.1.2 refl)
     argued s g (tree.Unary unary.ToLocal t) (One a n) y h k f w e = copied ys t a n k.0 f.0 f.1 (same_literal ys a (h.0 N6)) (written (is_element (type_in n)) _ g t n y.0 h.1 k.1 f.2 refl refl)
@@ -199,9 +196,7 @@ module _ (d : Declared) (inputs : Every IsInput d.inputs) (ys : List ℕ) where
     written false s g (tree.Unary (unary.Rem j) t) (One a n) y h k f w e = clash_element a types.U32 y.1.2 refl e
     written false s g (tree.Unary unary.First t) (One a n) y h k f w e = refused s.is_written (is_element a) (h.0 N10) w e
     written false s g (tree.Unary unary.Second t) (One a n) y h k f w e = refused s.is_written (is_element a) (h.0 N10) w e
-    written false s g (tree.Unary unary.Join t) (One a n) y h k f w e = written (is_element (type_in n)) _ g t n y.0 h.1 k.1 f.2 (passes s.is_written (is_element a) w e) refl
-    written false s g (tree.Unary unary.Transpose t) (One a n) y h k f w e = written (is_element (type_in n)) _ g t n y.0 h.1 k.1 f.2 (passes s.is_written (is_element a) w e) refl
-    written false s g (tree.Unary (unary.Split fs) t) (One a n) y h k f w e = written (is_element (type_in n)) _ g t n y.0 h.1 k.1 f.2 (passes s.is_written (is_element a) w e) refl
+    written false s g (tree.Unary (unary.Layout l) t) (One a n) y h k f w e = written (is_element (type_in n)) _ g t n y.0 h.1 k.1 f.2 (passes s.is_written (is_element a) w e) refl
     written false s g (tree.Unary (unary.Slide j l) t) (One a n) y h k f w e = refused s.is_written (is_element a) (h.0 N10) w e
     written false s g (tree.Unary (unary.Pad j l) t) (One a n) y h k f w e = refused s.is_written (is_element a) (h.0 N10) w e
     written false s g (tree.Unary unary.ToLocal t) (One a n) y h k f w e = refused s.is_written (is_element a) (h.0 N11) w e

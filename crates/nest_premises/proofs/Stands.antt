@@ -18,13 +18,14 @@ use Rattle.lift_ir.specs.Lowering as ir
 use Rattle.lift_ir.specs.Lowering.{Written, Argument, Element, element_ty, lower}
 use Rattle.lift_ir.specs.Lowerable.{IsStaged}
 use Rattle.lift_ir.proofs.Lets.{argument_let}
+use Rattle.lift_ir.proofs.Reshaped.{through_layout}
 use Rattle.lowered_tree.specs.declared.around.Around.{Around}
 use Rattle.lowered_tree.specs.declared.rule.NestRule.TheVariants.{N5, N10}
 use Rattle.lowered_tree.specs.Elements.{is_element}
 use Rattle.lowered_tree.specs.Forms.{shows_local_map}
 use Rattle.lowered_tree.specs.Kinds.{is_task}
 use Rattle.nest_premises.specs.Unbroken.{AllUnbroken}
-use Rattle.nest_premises.proofs.Rules.{moved, and_left, and_right, not_right, from_ir, true_is_not_false}
+use Rattle.nest_premises.proofs.Rules.{moved, of_layout, and_left, and_right, not_right, from_ir, true_is_not_false}
 use Rattle.nest_premises.proofs.Staged.{passes, refused}
 
 body_staged : (v b : Tree) (a : PlainTy) (n m : Annotation) → IsStaged Written (tree.Let v b) (Two a n m) → ir.is_element a ≡ false → IsStaged Written b m
@@ -39,9 +40,7 @@ value_staged v b a n m (inr (inr o)) e i = o.2
 
 -- a map over a group's items is parallel
 shows_no_task : {A : Type 0} (t : Tree) → shows_local_map t ≡ true → is_task t ≡ true → A
-shows_no_task (tree.Unary unary.Join t) e z = shows_no_task t e z
-shows_no_task (tree.Unary unary.Transpose t) e z = shows_no_task t e z
-shows_no_task (tree.Unary (unary.Split fs) t) e z = shows_no_task t e z
+shows_no_task (tree.Unary (unary.Layout l) t) e z = shows_no_task t e z
 shows_no_task (tree.Let v b) e z = shows_no_task b e (and_right (is_task v) (is_task b) z)
 shows_no_task (tree.Map map_kind.Local xs b) e z = absurd (cc)
 shows_no_task (tree.Map map_kind.Plain xs b) e z = absurd (cc)
@@ -64,24 +63,22 @@ shows_no_task (tree.Select t u x) e z = absurd (cc)
 shows_no_task (tree.Fold j t u x) e z = absurd (cc)
 
 module _ (d : Declared) where
-  let_written : (v b : Tree) (a : PlainTy) (n m : Annotation) → (ir.is_element a ≡ false → Stands true (lower Written b m)) → (ir.is_element a ≡ false → ir.is_element (type_in n) ≡ false → Stands false (lower Argument v n)) → Stands true (lower Written (tree.Let v b) (Two a n m))
+  let_written : (v b : Tree) (a : PlainTy) (n m : Annotation) → (ir.is_element a ≡ false → Stands true (lower d.names Written b m)) → (ir.is_element a ≡ false → ir.is_element (type_in n) ≡ false → Stands false (lower d.names Argument v n)) → Stands true (lower d.names Written (tree.Let v b) (Two a n m))
   let_written v b a n m f k = go (ir.is_element a) (ir.is_element (type_in n)) f k
     where
-      go : (x y : Bool) → (x ≡ false → Stands true (lower Written b m)) → (x ≡ false → y ≡ false → Stands false (lower Argument v n))
-          → Stands true (let whole = if y then low.LetElement (element_ty (type_in n)) (lower (if y then Element else Argument) v n) (lower (if x then Element else Written) b m) else low.LetArray (lower (if y then Element else Argument) v n) (lower (if x then Element else Written) b m) in if x then low.Store (element_ty a) whole else whole)
+      go : (x y : Bool) → (x ≡ false → Stands true (lower d.names Written b m)) → (x ≡ false → y ≡ false → Stands false (lower d.names Argument v n))
+          → Stands true (let whole = if y then low.LetElement (element_ty (type_in n)) (lower d.names (if y then Element else Argument) v n) (lower d.names (if x then Element else Written) b m) else low.LetArray (lower d.names (if y then Element else Argument) v n) (lower d.names (if x then Element else Written) b m) in if x then low.Store (element_ty a) whole else whole)
       go true y f k = tt
       go false true f k = f refl
       go false false f k = (k refl refl, f refl)
 
   mutual
-    pub argument_stands : (s : Around) (g : List PlainTy) (t : Tree) (n : Annotation) → Annotates d g t n → AllUnbroken s t n → IsStaged Argument t n → is_task t ≡ true → Stands false (lower Argument t n)
+    pub argument_stands : (s : Around) (g : List PlainTy) (t : Tree) (n : Annotation) → Annotates d g t n → AllUnbroken s t n → IsStaged Argument t n → is_task t ≡ true → Stands false (lower d.names Argument t n)
     argument_stands s g (tree.Variable v) (Leaf a) y h o z = tt
     argument_stands s g (tree.Input i) (Leaf a) y h o z = tt
     argument_stands s g (tree.Unary unary.First t) (One a n) y h o z = argument_stands _ g t n y.0 h.1 o z
     argument_stands s g (tree.Unary unary.Second t) (One a n) y h o z = argument_stands _ g t n y.0 h.1 o z
-    argument_stands s g (tree.Unary unary.Join t) (One a n) y h o z = argument_stands _ g t n y.0 h.1 o z
-    argument_stands s g (tree.Unary unary.Transpose t) (One a n) y h o z = argument_stands _ g t n y.0 h.1 o z
-    argument_stands s g (tree.Unary (unary.Split fs) t) (One a n) y h o z = argument_stands _ g t n y.0 h.1 o z
+    argument_stands s g (tree.Unary (unary.Layout l) t) (One a n) y h o z = through_layout (Stands false) (λ y u i k. k) d.names Argument l a (type_in n) _ (argument_stands _ g t n y.0 h.1 o z)
     argument_stands s g (tree.Unary (unary.Slide j l) t) (One a n) y h o z = argument_stands _ g t n y.0 h.1 o z
     argument_stands s g (tree.Unary (unary.Pad j l) t) (One a n) y h o z = argument_stands _ g t n y.0 h.1 o z
     argument_stands s g (tree.Unary unary.ToLocal t) (One a n) y h o z = shows_no_task t (not-false (shows_local_map t) (not_right (not s.in_group || s.in_local) (not (shows_local_map t)) (h.0 N5))) z
@@ -89,19 +86,17 @@ module _ (d : Declared) where
     argument_stands s g (tree.Binary binary.Zip t u) (Two a n m) y h o z =
         (argument_stands _ g t n y.0 h.1 o.0 (and_left (is_task t) (is_task u) z), argument_stands _ g u m y.1 h.2 o.1 (and_right (is_task t) (is_task u) z))
     argument_stands s g (tree.Let v b) (Two a n m) y h o z =
-        subst (Stands false) (sym (argument_let v b a n m o.0)) (argument_stands _ g v n y.0 h.1 o.1 (and_left (is_task v) (is_task b) z), argument_stands _ (type_in n ∷ g) b m y.1 h.2 o.2 (and_right (is_task v) (is_task b) z))
+        subst (Stands false) (sym (argument_let d.names v b a n m o.0)) (argument_stands _ g v n y.0 h.1 o.1 (and_left (is_task v) (is_task b) z), argument_stands _ (type_in n ∷ g) b m y.1 h.2 o.2 (and_right (is_task v) (is_task b) z))
     argument_stands s g _ _ y h o z = absurd o
 
-    pub written_stands : (s : Around) (g : List PlainTy) (t : Tree) (n : Annotation) → Annotates d g t n → AllUnbroken s t n → IsStaged Written t n → is_task t ≡ true → s.is_written ≡ true → Stands true (lower Written t n)
+    pub written_stands : (s : Around) (g : List PlainTy) (t : Tree) (n : Annotation) → Annotates d g t n → AllUnbroken s t n → IsStaged Written t n → is_task t ≡ true → s.is_written ≡ true → Stands true (lower d.names Written t n)
     written_stands s g (tree.Variable v) (Leaf a) y h o z w = tt
     written_stands s g (tree.Number v) (Leaf a) y h o z w = tt
     written_stands s g (tree.Unary (unary.Div j) t) (One a n) y h o z w = tt
     written_stands s g (tree.Unary (unary.Rem j) t) (One a n) y h o z w = tt
     written_stands s g (tree.Unary unary.First t) (One a n) y h o z w = tt
     written_stands s g (tree.Unary unary.Second t) (One a n) y h o z w = tt
-    written_stands s g (tree.Unary unary.Join t) (One a n) y h o z w = (tt, written_stands _ g t n y.0 h.1 o z (passes s.is_written (is_element a) w (moved is_element false a (types.ArrayOf _ _) y.1.4 refl)))
-    written_stands s g (tree.Unary unary.Transpose t) (One a n) y h o z w = (tt, written_stands _ g t n y.0 h.1 o z (passes s.is_written (is_element a) w (moved is_element false a (types.ArrayOf _ _) y.1.4 refl)))
-    written_stands s g (tree.Unary (unary.Split fs) t) (One a n) y h o z w = (tt, written_stands _ g t n y.0 h.1 o z (passes s.is_written (is_element a) w (moved is_element false a (types.ArrayOf _ _) y.1.4 refl)))
+    written_stands s g (tree.Unary (unary.Layout l) t) (One a n) y h o z w = through_layout (Stands true) (λ y u i k. (i, k)) d.names Written l a (type_in n) _ (written_stands _ g t n y.0 h.1 o z (passes s.is_written (is_element a) w (of_layout d.names l _ a y.1)))
     written_stands s g (tree.Unary (unary.Slide j l) t) (One a n) y h o z w = refused s.is_written (is_element a) (h.0 N10) w (moved is_element false a (types.ArrayOf _ _) y.1.6 refl)
     written_stands s g (tree.Unary (unary.Pad j l) t) (One a n) y h o z w = refused s.is_written (is_element a) (h.0 N10) w (moved is_element false a (types.ArrayOf _ _) y.1.3 refl)
     written_stands s g (tree.Binary (binary.Operator q) t u) (Two a n m) y h o z w = tt

@@ -20,15 +20,13 @@ use Rattle.lowered_tree.specs.Elements.{is_element}
 use Rattle.lowered_tree.specs.Kinds.{is_global, is_over_groups, is_parallel, is_task}
 use Rattle.lowered_tree.specs.Kind.{shows_map}
 use Rattle.nest_premises.specs.Unbroken.{AllUnbroken}
-use Rattle.nest_premises.proofs.Rules.{spared, true_is_not_false, moved, from_ir}
+use Rattle.nest_premises.proofs.Rules.{spared, true_is_not_false, moved, of_layout, from_ir}
 use Rattle.nest_premises.proofs.Staged.{passes, refused}
 use Rattle.nest_premises.proofs.Alone.{two, three, element_alone, argument_alone}
 
 -- a map of such a kind, seen through join, split, transpose and the bodies of lets
 abbrev pub Over : (MapKind → Bool) → Tree → Annotation → Type 0
-Over p (tree.Unary unary.Join t) (One a n) = Over p t n
-Over p (tree.Unary unary.Transpose t) (One a n) = Over p t n
-Over p (tree.Unary (unary.Split fs) t) (One a n) = Over p t n
+Over p (tree.Unary (unary.Layout l) t) (One a n) = Over p t n
 Over p (tree.Let v b) (Two a n m) = Over p b m
 Over p (tree.Map k xs b) (Two a n m) = T (p k)
 Over p _ _ = ⊥
@@ -47,17 +45,13 @@ behind_false false y h = refl
 
 module _ (p : MapKind → Bool) where
   pub over_shows : (t : Tree) (n : Annotation) → Over p t n → shows_map p t ≡ true
-  over_shows (tree.Unary unary.Join t) (One a n) e = over_shows t n e
-  over_shows (tree.Unary unary.Transpose t) (One a n) e = over_shows t n e
-  over_shows (tree.Unary (unary.Split fs) t) (One a n) e = over_shows t n e
+  over_shows (tree.Unary (unary.Layout l) t) (One a n) e = over_shows t n e
   over_shows (tree.Let v b) (Two a n m) e = over_shows b m e
   over_shows (tree.Map k xs b) (Two a n m) e = tells (p k) e
   over_shows _ _ e = absurd e
 
   pub over_of : (d : Declared) (g : List PlainTy) (t : Tree) (n : Annotation) → Annotates d g t n → shows_map p t ≡ true → Over p t n
-  over_of d g (tree.Unary unary.Join t) (One a n) y e = over_of d g t n y.0 e
-  over_of d g (tree.Unary unary.Transpose t) (One a n) y e = over_of d g t n y.0 e
-  over_of d g (tree.Unary (unary.Split fs) t) (One a n) y e = over_of d g t n y.0 e
+  over_of d g (tree.Unary (unary.Layout l) t) (One a n) y e = over_of d g t n y.0 e
   over_of d g (tree.Let v b) (Two a n m) y e = over_of d (type_in n ∷ g) b m y.1 e
   over_of d g (tree.Map k xs b) (Two a n m) y e = told (p k) e
   over_of d g (tree.Variable v) (Leaf a) y e = absurd (cc)
@@ -71,9 +65,7 @@ module _ (p : MapKind → Bool) where
 
 module _ (p : MapKind → Bool) (parallel : (k : MapKind) → T (p k) → is_parallel k ≡ true) where
   pub over_no_task : (t : Tree) (n : Annotation) → Over p t n → is_task t ≡ false
-  over_no_task (tree.Unary unary.Join t) (One a n) e = over_no_task t n e
-  over_no_task (tree.Unary unary.Transpose t) (One a n) e = over_no_task t n e
-  over_no_task (tree.Unary (unary.Split fs) t) (One a n) e = over_no_task t n e
+  over_no_task (tree.Unary (unary.Layout l) t) (One a n) e = over_no_task t n e
   over_no_task (tree.Let v b) (Two a n m) e = behind_false (is_task v) (is_task b) (over_no_task b m e)
   over_no_task (tree.Map k xs b) (Two a n m) e = no_turn (is_parallel k) (is_task xs) (is_task b) (parallel k e)
     where
@@ -92,9 +84,7 @@ module _ (p : MapKind → Bool) (parallel : (k : MapKind) → T (p k) → is_par
   module _ (d : Declared) where
     -- N9: where a parallel map shows, no let of an element is above
     pub not_serial : {A : Type 0} (s : Around) (g : List PlainTy) (t : Tree) (n : Annotation) → Annotates d g t n → AllUnbroken s t n → s.in_serial ≡ true → Over p t n → A
-    not_serial s g (tree.Unary unary.Join t) (One a n) y h w e = not_serial _ g t n y.0 h.1 w e
-    not_serial s g (tree.Unary unary.Transpose t) (One a n) y h w e = not_serial _ g t n y.0 h.1 w e
-    not_serial s g (tree.Unary (unary.Split fs) t) (One a n) y h w e = not_serial _ g t n y.0 h.1 w e
+    not_serial s g (tree.Unary (unary.Layout l) t) (One a n) y h w e = not_serial _ g t n y.0 h.1 w e
     not_serial s g (tree.Let v b) (Two a n m) y h w e = not_serial _ (type_in n ∷ g) b m y.1 h.2 (or_left s.in_serial (is_element (type_in n)) w) e
     not_serial s g (tree.Map k xs b) (Two a n m) y h w e = true_is_not_false s.in_serial w (spared (is_parallel k) s.in_serial (h.0 N9) (parallel k e))
     not_serial s g _ _ y h w e = absurd e
@@ -133,9 +123,7 @@ module _ (d : Declared) where
   of_a_kind s g (tree.Unary (unary.Rem j) t) (One a n) y h o w i q k = inl (element_alone t n o)
   of_a_kind s g (tree.Unary unary.First t) (One a n) y h o w i q k = inl (element_alone t n o)
   of_a_kind s g (tree.Unary unary.Second t) (One a n) y h o w i q k = inl (element_alone t n o)
-  of_a_kind s g (tree.Unary unary.Join t) (One a n) y h o w i q k = of_a_kind _ g t n y.0 h.1 o (passes s.is_written (is_element a) w (moved is_element false a (types.ArrayOf _ _) y.1.4 refl)) i q k
-  of_a_kind s g (tree.Unary unary.Transpose t) (One a n) y h o w i q k = of_a_kind _ g t n y.0 h.1 o (passes s.is_written (is_element a) w (moved is_element false a (types.ArrayOf _ _) y.1.4 refl)) i q k
-  of_a_kind s g (tree.Unary (unary.Split fs) t) (One a n) y h o w i q k = of_a_kind _ g t n y.0 h.1 o (passes s.is_written (is_element a) w (moved is_element false a (types.ArrayOf _ _) y.1.4 refl)) i q k
+  of_a_kind s g (tree.Unary (unary.Layout l) t) (One a n) y h o w i q k = of_a_kind _ g t n y.0 h.1 o (passes s.is_written (is_element a) w (of_layout d.names l _ a y.1)) i q k
   of_a_kind s g (tree.Unary (unary.Slide j l) t) (One a n) y h o w i q k = refused s.is_written (is_element a) (h.0 N10) w (moved is_element false a (types.ArrayOf _ _) y.1.6 refl)
   of_a_kind s g (tree.Unary (unary.Pad j l) t) (One a n) y h o w i q k = refused s.is_written (is_element a) (h.0 N10) w (moved is_element false a (types.ArrayOf _ _) y.1.3 refl)
   of_a_kind s g (tree.Binary (binary.Operator r) t u) (Two a n m) y h o w i q k = inl (two _ _ (element_alone t n o.0) (element_alone u m o.1))

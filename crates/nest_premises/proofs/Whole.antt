@@ -109,13 +109,13 @@ module _ (p : PlainProgram) (t : Tree) (n : Annotation) (r : IsLegalTerm p t n) 
   }
 
   -- what is lowered can be printed, where it has the forms of their places
-  printable : ((bases : List ℕ) (l : Launch) → IsLaunchOf d (is_task t) bases l → StandsAt l (lowered_root t n)) → IsPrintable d t n
+  printable : ((bases : List ℕ) (l : Launch) → IsLaunchOf d (is_task t) bases l → StandsAt l (lowered_root d.names t n)) → IsPrintable d t n
   printable stands = record { staged = lowered.staged; lowerable = lowered.lowerable; fits = lowered.fits; stands = stands }
 
-  one_item : is_task t ≡ true → Stands true (lowered_root t n)
+  one_item : is_task t ≡ true → Stands true (lowered_root d.names t n)
   one_item z = written_stands d (at_root t) [] t n r.nodes unbroken staged z refl
 
-  all_items : Over is_global t n → StandsOverLaunch (lowered_root t n)
+  all_items : Over is_global t n → StandsOverLaunch (lowered_root d.names t n)
   all_items e = over_launch d (at_root t) [] t n r.nodes unbroken staged (over_no_task is_global global_parallel t n e) refl e
 
   task : is_task t ≡ true → IsPrintable d t n

@@ -1,5 +1,6 @@
 -- Each legal nest is for one work-item, over all of them, or over work-groups.
-use Rattle.std.specs.Prelude.{◌≡◌, ◌≤◌}
+use Rattle.std.specs.Prelude.{◌≡◌, ◌≤◌, List}
+use Rattle.size_arith.specs.declared.names.Name.{Name}
 use Rattle.lift_tree.specs.Tree.{Tree, nodes}
 use Rattle.lift_tree.specs.Typing.{declared_by}
 use Rattle.lift_tree.specs.Programs.{PlainProgram}
@@ -16,7 +17,7 @@ use Rattle.nest_premises.specs.Stands.{StandsAs, IsGroupPrintable, IsPrintableAs
 abbrev pub LegalNestsStand : Type 0
 LegalNestsStand =
     (p : PlainProgram) (t : Tree) (n : Annotation) → IsLegalTerm p t n → CopiesArrays t n
-    → StandsAs (nest_kind t) (lowered_root t n)
+    → StandsAs (nest_kind t) (lowered_root (declared_by p).names t n)
 
 -- a legal term with a map over work-groups on top can be printed as such
 abbrev pub LegalGroupsStandOverGroups : Type 0
@@ -32,4 +33,5 @@ LegalTermsArePrintable =
 
 -- a term has no more phases than nodes
 abbrev pub PhasesAreFew : Type 0
-PhasesAreFew = (t : Tree) (n : Annotation) → phase_count (lowered_root t n) ≤ nodes t
+PhasesAreFew =
+    (names : List Name) (t : Tree) (n : Annotation) → phase_count (lowered_root names t n) ≤ nodes t

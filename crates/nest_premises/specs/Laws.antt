@@ -59,14 +59,15 @@ LaunchesArePrintable =
 abbrev pub TasksStand : Type 0
 TasksStand =
     (p : PlainProgram) (t : Tree) (n : Annotation)
-    → IsLegalTerm p t n → CopiesArrays t n → nest_kind t ≡ Task → Stands true (lowered_root t n)
+    → IsLegalTerm p t n → CopiesArrays t n → nest_kind t ≡ Task
+    → Stands true (lowered_root (declared_by p).names t n)
 
 -- and one for all work-items
 abbrev pub LaunchesStand : Type 0
 LaunchesStand =
     (p : PlainProgram) (t : Tree) (n : Annotation)
     → IsLegalTerm p t n → CopiesArrays t n → nest_kind t ≡ OverLaunch
-    → StandsOverLaunch (lowered_root t n)
+    → StandsOverLaunch (lowered_root (declared_by p).names t n)
 
 -- ---- at each node
 
@@ -79,7 +80,7 @@ abbrev pub ItemBodiesStand : Type 0
 ItemBodiesStand =
     (d : Declared) (g : List PlainTy) (s : Around) (xs b : Tree) (a : PlainTy) (n m : Annotation)
     → Annotates d g (Map Local xs b) (Two a n m) → AllUnbroken s (Map Local xs b) (Two a n m)
-    → IsStaged Written (Map Local xs b) (Two a n m) → Stands true (lower Written b m)
+    → IsStaged Written (Map Local xs b) (Two a n m) → Stands true (lower d.names Written b m)
 
 -- and a let with a map over work-groups on top of its body binds no element
 abbrev pub LetsAroundGroupsBindNoElement : Type 0

@@ -22,4 +22,4 @@ pub record IsPrintable (d : Declared) (t : Tree) (n : Annotation) : Type 0 where
   pub lowerable : (bases : List ℕ) → Admissible d.names bases → IsLowerableProgram d bases t n
   pub fits : (bases : List ℕ) → Admissible d.names bases → FitsBuffers d bases n
   pub stands : (bases : List ℕ) (l : Launch) → IsLaunchOf d (is_task t) bases l
-      → StandsAt l (lowered_root t n)
+      → StandsAt l (lowered_root d.names t n)

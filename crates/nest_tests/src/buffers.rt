@@ -140,7 +140,7 @@ fn the_limit_that_is_passed_is_told(rt: HostRuntime) -> Result<(), Fail> {
 }
 
 // The layouts of a term that has pads: the text before them, their number, the term in them, the text behind, a script, and the count where it is above 24.
-const LAYOUTS: [(&str, u32, &str, &str, &str, Option<u64>); 9] = [
+const LAYOUTS: [(&str, u32, &str, &str, &str, Option<u64>); 12] = [
     ("map(\\x. x, ", 24, "xs", ")", "at . to-seq", None),
     ("map(\\x. x, ", 25, "xs", ")", "at . to-seq", Some(25)),
     (
@@ -199,15 +199,45 @@ const LAYOUTS: [(&str, u32, &str, &str, &str, Option<u64>); 9] = [
         "at 0.0 private-copy\nat . to-seq",
         None,
     ),
+    (
+        "map(\\x. x, reverse(",
+        22,
+        "stride(2, xs)",
+        "))",
+        "at . to-seq",
+        None,
+    ),
+    (
+        "map(\\x. x, reverse(",
+        23,
+        "stride(2, xs)",
+        "))",
+        "at . to-seq",
+        Some(25),
+    ),
+    (
+        "map(\\x. x, stride(1, ",
+        24,
+        "xs",
+        "))",
+        "at . to-seq",
+        Some(25),
+    ),
 ];
 
-// Joins and splits, so many of both, around a map.
-fn rearranged(alloc: Global, pairs: u32, outermost: &str, end: &str) -> Result<String, Fail> {
+// So many pairs of layouts around a map.
+fn rearranged(
+    alloc: Global,
+    pair: &str,
+    pairs: u32,
+    outermost: &str,
+    end: &str,
+) -> Result<String, Fail> {
     let mut text = String::new(alloc);
     text.push_str("input xs: [u32; 4]; output ")?;
     text.push_str(outermost)?;
     for _ in 0..pairs {
-        text.push_str("join(split(2, ")?;
+        text.push_str(pair)?;
     }
     text.push_str("map(\\x. x, xs)")?;
     for _ in 0..pairs {
@@ -231,14 +261,25 @@ fn at_most_24_layouts_stand_one_on_another(rt: HostRuntime) -> Result<(), Fail> 
     Ok(())
 }
 
+// Two layouts, and one more.
+const PAIRS: [(&str, &str); 2] = [
+    ("join(split(2, ", "split(2, "),
+    ("reverse(stride(2, ", "reverse("),
+];
+
 #[test]
 fn layouts_are_counted_where_a_term_is_written(rt: HostRuntime) -> Result<(), Fail> {
     let alloc = rt.alloc();
-    let place = "at 0.0.0.0.0.0.0.0.0.0.0.0.0.0.0.0.0.0.0.0.0.0.0.0 to-seq";
-    let within = rearranged(alloc, 12, "", "")?;
-    assert!(rt; has_buffers(alloc, &within, place, &[], &[])?);
-    let above = rearranged(alloc, 12, "split(2, ", ")")?;
-    let place = "at 0.0.0.0.0.0.0.0.0.0.0.0.0.0.0.0.0.0.0.0.0.0.0.0.0 to-seq";
-    assert!(rt; passes(alloc, &above, place, AllocLimit::Layouts, 25)?);
+    for (pair, one) in PAIRS {
+        let place = "at 0.0.0.0.0.0.0.0.0.0.0.0.0.0.0.0.0.0.0.0.0.0.0.0 to-seq";
+        let within = rearranged(alloc, pair, 12, "", "")?;
+        assert!(rt; has_buffers(alloc, &within, place, &[], &[])?, "{pair}");
+        let above = rearranged(alloc, pair, 12, one, ")")?;
+        let place = "at 0.0.0.0.0.0.0.0.0.0.0.0.0.0.0.0.0.0.0.0.0.0.0.0.0 to-seq";
+        assert!(rt;
+            passes(alloc, &above, place, AllocLimit::Layouts, 25)?,
+            "{pair}"
+        );
+    }
     Ok(())
 }

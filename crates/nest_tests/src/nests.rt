@@ -14,6 +14,10 @@ const ADDED: &str = "size N from 1 to 1000; input xs: [u32; N]; output map(\\x. 
 
 const COPIED: &str = "input xs: [u32; 4]; output map(\\x. x, xs)";
 
+const REVERSED: &str = "input xs: [u32; 4]; output reverse(map(\\x. add(x, 1), xs))";
+
+const STRIDED: &str = "input xs: [u32; 4]; output stride(2, map(\\x. add(x, 1), xs))";
+
 const ROWS: &str = "input xs: [[u32; 4]; 4]; output map(\\r. map(\\x. x, r), xs)";
 
 const HALVES: &str =
@@ -31,7 +35,7 @@ const SUMMED: &str =
     "at . split-reduce 2\nat . reduce-fold\nat 0.0.1 reduce-fold\nat 0.0.1 fold-seq\nat 0.0 to-seq\nat 0 private\nat . fold-seq";
 
 // A program, a script, and the first node at which a rule is broken: its place in digits, and the rule.
-const BROKEN: [(&str, &str, &str, NestRule); 11] = [
+const BROKEN: [(&str, &str, &str, NestRule); 19] = [
     (ADDED, "", "", NestRule::N1),
     (ADDED, "at . to-lcl", "", NestRule::N2),
     (ROWS, "at 1 to-glb\nat . to-glb", "1", NestRule::N3),
@@ -58,20 +62,72 @@ const BROKEN: [(&str, &str, &str, NestRule); 11] = [
         NestRule::N10,
     ),
     ("input xs: [u32; 5]; output xs", "", "", NestRule::N11),
+    // writing goes through a reverse or a stride
+    (REVERSED, "", "0", NestRule::N1),
+    (STRIDED, "", "0", NestRule::N1),
+    (
+        "input xs: [u32; 4]; output map(\\r. map(\\x. x, reverse(r)), split(2, xs))",
+        "at 1.0 local\nat 1 to-lcl\nat . to-wrg",
+        "10",
+        NestRule::N5,
+    ),
+    (
+        "input xs: [u32; 8]; output map(\\r. map(\\x. x, stride(2, r)), split(4, xs))",
+        "at 1.0 local\nat 1 to-lcl\nat . to-wrg",
+        "10",
+        NestRule::N5,
+    ),
+    (
+        "input xs: [u32; 5]; output reverse(slide(3, 1, map(\\x. x, xs)))",
+        "at 0.0 to-seq",
+        "0",
+        NestRule::N10,
+    ),
+    (
+        "input xs: [u32; 6]; output stride(2, slide(3, 1, map(\\x. x, xs)))",
+        "at 0.0 to-seq",
+        "0",
+        NestRule::N10,
+    ),
+    (
+        "input xs: [u32; 5]; output reverse(xs)",
+        "",
+        "0",
+        NestRule::N11,
+    ),
+    (
+        "input xs: [u32; 4]; output stride(2, xs)",
+        "",
+        "0",
+        NestRule::N11,
+    ),
 ];
 
 // A program, a script, and the spaces of its last term's computing nodes in preorder: global, local or private.
-const LEGAL: [(&str, &str, &str); 6] = [
+const LEGAL: [(&str, &str, &str); 10] = [
     (ADDED, "at . to-seq", "gg"),
     (ADDED, "at . to-glb", "gg"),
     (COPIED, "at 0 private-copy\nat . to-seq", "gppg"),
     (ROWS, "at 1 to-seq\nat . to-glb", "ggg"),
     (SUM, SUMMED, "gpp"),
     (WINDOWS, TILED, "ggllg"),
+    (REVERSED, "at 0 to-glb", "gg"),
+    (STRIDED, "at 0 to-seq", "gg"),
+    // a copy whose map is seen through a reverse or a stride
+    (
+        "input xs: [u32; 4]; output map(\\r. map(\\x. x, reverse(map(\\y. y, r))), split(2, xs))",
+        "at 1.0.0 to-lcl\nat 1.0 local\nat 1 to-lcl\nat . to-wrg",
+        "ggllg",
+    ),
+    (
+        "input xs: [u32; 8]; output map(\\r. map(\\x. x, stride(2, map(\\y. y, r))), split(4, xs))",
+        "at 1.0.0 to-lcl\nat 1.0 local\nat 1 to-lcl\nat . to-wrg",
+        "ggllg",
+    ),
 ];
 
 // A program, a script, and who runs its last term.
-const KINDS: [(&str, &str, NestKind); 8] = [
+const KINDS: [(&str, &str, NestKind); 10] = [
     (ADDED, "at . to-seq", NestKind::Task),
     (SUM, SUMMED, NestKind::Task),
     (ADDED, "at . to-glb", NestKind::OverLaunch),
@@ -88,6 +144,12 @@ const KINDS: [(&str, &str, NestKind); 8] = [
     ),
     (ROWS, "at 1 to-lcl\nat . to-wrg", NestKind::OverGroups),
     (WINDOWS, TILED, NestKind::OverGroups),
+    (REVERSED, "at 0 to-glb", NestKind::OverLaunch),
+    (
+        "input xs: [u32; 4]; output stride(2, reverse(map(\\x. x, xs)))",
+        "at 0.0 to-glb",
+        NestKind::OverLaunch,
+    ),
 ];
 
 // What is judged of it.

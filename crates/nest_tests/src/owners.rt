@@ -29,7 +29,7 @@ const COPIED: &str = "at . split-map 2\nat 0.1.0 local-copy\nat 0.1 to-lcl\nat 0
 
 const TURNED: &str = "input xs: [[u32; 3]; 2]; output transpose(map(\\r. map(\\x. x, r), xs))";
 
-const ROWS: [Row; 7] = [
+const ROWS: [Row; 12] = [
     // One work-item has all.
     Row {
         program: ADDED,
@@ -91,6 +91,51 @@ const ROWS: [Row; 7] = [
         global: 2,
         local: 1,
         owners: &[0, 1, 0, 1, 0, 1],
+    },
+    // Cell i is written in turn 4 - i.
+    Row {
+        program: "input xs: [u32; 5]; output reverse(map(\\x. add(x, 1), xs))",
+        script: "at 0 to-glb",
+        sizes: &[],
+        global: 4,
+        local: 2,
+        owners: &[0, 3, 2, 1, 0],
+    },
+    // The cells are written in the turns 0, 2, 4, 1, 3, 5.
+    Row {
+        program: "input xs: [u32; 6]; output stride(2, map(\\x. add(x, 1), xs))",
+        script: "at 0 to-glb",
+        sizes: &[],
+        global: 4,
+        local: 2,
+        owners: &[0, 2, 0, 1, 3, 1],
+    },
+    // Cell i is written in turn 2 - i, and the fourth item has no turn.
+    Row {
+        program: "input xs: [u32; 3]; output reverse(map(\\x. add(x, 1), xs))",
+        script: "at 0 to-glb",
+        sizes: &[],
+        global: 4,
+        local: 1,
+        owners: &[2, 1, 0],
+    },
+    // Whole rows are turned round.
+    Row {
+        program: "input xs: [[u32; 3]; 2]; output reverse(map(\\r. map(\\x. x, r), xs))",
+        script: "at 0.1 to-seq\nat 0 to-glb",
+        sizes: &[],
+        global: 2,
+        local: 1,
+        owners: &[1, 1, 1, 0, 0, 0],
+    },
+    // Rows of two cells, by steps of a size that is 3: in the turns 0, 3, 1, 4, 2, 5.
+    Row {
+        program: "size N from 1 to 100; input xs: [[u32; 2]; 2*N]; output stride(N, map(\\r. map(\\x. x, r), xs))",
+        script: "at 0.1 to-seq\nat 0 to-glb",
+        sizes: &[3],
+        global: 4,
+        local: 1,
+        owners: &[0, 0, 3, 3, 1, 1, 0, 0, 2, 2, 1, 1],
     },
 ];
 

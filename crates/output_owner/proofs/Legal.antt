@@ -1,16 +1,17 @@
 -- A written term of a legal nest, and what it is written through.
-use Rattle.std.proofs.Common.{◌≡◌, ℕ, Bool, true, false, List, [], ◌∷◌, ◌++◌, refl, sym, ap, ◌∙◌, subst}
+use Rattle.std.proofs.Common.{◌≡◌, ℕ, Bool, true, false, List, [], ◌∷◌, ◌++◌, refl, ap, subst}
 use Rattle.std.specs.Prelude.{not, ◌&&◌, if◌then◌else◌}
 use Rattle.size_arith.specs.declared.names.Name.{Name}
-use Rattle.lift_tree.specs.declared.length.Factor.{Factor}
+use Rattle.lift_tree.specs.declared.layout.Layout as layout
 use Rattle.lift_tree.specs.declared.term.UnaryForm.{UnaryForm}
-use Rattle.lift_tree.specs.declared.term.UnaryForm.TheVariants.{Join, Transpose, Split, Slide, Pad}
+use Rattle.lift_tree.specs.declared.term.UnaryForm.TheVariants.{Layout, Slide, Pad}
 use Rattle.lift_tree.specs.declared.term.MapKind.{MapKind}
 use Rattle.lift_tree.specs.Annotations.{Annotation, One, Two, type_in, Annotates}
 use Rattle.lift_tree.specs.Lists.{Every}
 use Rattle.lift_tree.specs.Tree.{Tree, Unary, Let, Map}
 use Rattle.lift_tree.specs.Types.{PlainTy, U32, PairOf, ArrayOf, IsFormed}
 use Rattle.lift_tree.specs.Typing.{Declared, IsDeclared}
+use Rattle.lift_tree.proofs.Layouts.{layout_result}
 use Rattle.lift_tree.proofs.Annotated.{annotated_is_typed}
 use Rattle.lift_tree.proofs.Formed.{formed}
 use Rattle.lift_ir.specs.Lowering as ir
@@ -64,14 +65,8 @@ module _ (names : List Name) where
     legal = h;
   }
 
-  pub below_join : (t : Tree) (a : PlainTy) (n : Annotation) → IsWritten names (Unary Join t) (One a n) → IsWritten names t n
-  below_join t a n w = let r = w.nodes.1 in below_form Join t a n w (ap is_element r.4) (unplaced 0 (sites (passed w.around a) t n) w.legal.1)
-
-  pub below_transpose : (t : Tree) (a : PlainTy) (n : Annotation) → IsWritten names (Unary Transpose t) (One a n) → IsWritten names t n
-  below_transpose t a n w = let r = w.nodes.1 in below_form Transpose t a n w (ap is_element r.4) (unplaced 0 (sites (passed w.around a) t n) w.legal.1)
-
-  pub below_split : (fs : List Factor) (t : Tree) (a : PlainTy) (n : Annotation) → IsWritten names (Unary (Split fs) t) (One a n) → IsWritten names t n
-  below_split fs t a n w = let r = w.nodes.1 in below_form (Split fs) t a n w (ap is_element r.4) (unplaced 0 (sites (passed w.around a) t n) w.legal.1)
+  pub below_layout : (l : layout.Layout) (t : Tree) (a : PlainTy) (n : Annotation) → IsWritten names (Unary (Layout l) t) (One a n) → IsWritten names t n
+  below_layout l t a n w = below_form (Layout l) t a n w (ap is_element (layout_result w.declared.names l (type_in n) a w.nodes.1).is) (unplaced 0 (sites (passed w.around a) t n) w.legal.1)
 
   pub no_slide : (j k : ℕ) (t : Tree) (a : PlainTy) (n : Annotation) → IsWritten names (Unary (Slide j k) t) (One a n) → ⊥
   no_slide j k t a n w = let r = w.nodes.1 in both (w.around.is_written && not (is_element a)) true (still_written w.around.is_written (is_element a) w.written (ap is_element r.6)) refl (w.legal.0 N10)

@@ -4,3 +4,4 @@ pub mod Bases
 pub mod Legal
 pub mod Through
 pub mod Roots
+pub mod Factors

@@ -15,7 +15,7 @@ use Rattle.lowered_tree.specs.Around.{at_root}
 use Rattle.lowered_tree.specs.Kinds.{is_task}
 use Rattle.lowered_tree.specs.declared.lowered.Lowered.{Lowered}
 use Rattle.nest_premises.specs.Laws.{LegalTermsCanBeLowered}
-use Rattle.printed_form.specs.Programs.{IsLaunchOf}
+use Rattle.printed_form.specs.Programs.{cell_owner, IsLaunchOf}
 use Rattle.output_owner.specs.Bases.{bases_of}
 use Rattle.output_owner.specs.Outputs.{IsLegalFor, cell_count}
 use Rattle.output_owner.specs.Owners.{IsOfTop, owner_on_top, position, written}
@@ -38,6 +38,7 @@ module _ (lowered : LegalTermsCanBeLowered) (p : PlainProgram) (l : Lowered) (la
   pub of_root : cell < cell_count bases l → IsScalarOf l.names launch.sizes (tree_of l.term) (annotation_of l.types) cell
   of_root below = record {
     admissible = subst (Admissible l.names) (sym same_bases) ok;
+    exact = subst (λ (b : List ℕ). launch.sizes ≡ sizes_at l.names b) (sym same_bases) (here.sizes ∙ ap (λ (ns : List Name). sizes_at ns bases) is.names);
     term = record {
       declared = declared_by p;
       same = is.names;
@@ -53,9 +54,9 @@ module _ (lowered : LegalTermsCanBeLowered) (p : PlainProgram) (l : Lowered) (la
   }
 
   pub at_bases : (item : ℕ)
-      → item ≡ owner (length_at (bases_of l.names launch.sizes)) launch (written (tree_of l.term) (annotation_of l.types)) (position (bases_of l.names launch.sizes) (annotation_of l.types) cell)
-      → item ≡ owner (length_at bases) launch (written (tree_of l.term) (annotation_of l.types)) (position bases (annotation_of l.types) cell)
-  at_bases item h = subst (λ (b : List ℕ). item ≡ owner (length_at b) launch (written (tree_of l.term) (annotation_of l.types)) (position b (annotation_of l.types) cell)) same_bases h
+      → item ≡ owner (length_at (bases_of l.names launch.sizes)) launch (written l.names (tree_of l.term) (annotation_of l.types)) (position (bases_of l.names launch.sizes) (annotation_of l.types) cell)
+      → item ≡ owner (length_at bases) launch (written l.names (tree_of l.term) (annotation_of l.types)) (position bases (annotation_of l.types) cell)
+  at_bases item h = subst (λ (b : List ℕ). item ≡ owner (length_at b) launch (written l.names (tree_of l.term) (annotation_of l.types)) (position b (annotation_of l.types) cell)) same_bases h
 
   abbrev term : Tree
   term = tree_of l.term
@@ -65,18 +66,23 @@ module _ (lowered : LegalTermsCanBeLowered) (p : PlainProgram) (l : Lowered) (la
 
   -- the owner of the scalar on top, where names and sizes are these
   pub on_top_at : (names : List Name) (sizes : List ℕ) → names ≡ l.names → sizes ≡ launch.sizes → (top : OnTop) (item : ℕ)
-      → (IsScalarOf names sizes term types cell → IsOfTop (bases_of names sizes) term types cell top)
+      → (IsScalarOf names sizes term types cell → IsOfTop names (bases_of names sizes) term types cell top)
       → (IsScalarOf names sizes term types cell → IsScalarOf names sizes (tree_of top.body.now) (annotation_of top.types.now) top.number)
-      → (IsScalarOf names launch.sizes (tree_of top.body.now) (annotation_of top.types.now) top.number → item ≡ owner_on_top (bases_of names launch.sizes) launch top)
-      → cell < cell_count bases l → item ≡ owner (length_at bases) launch (written term types) (position bases types cell)
+      → (IsScalarOf names launch.sizes (tree_of top.body.now) (annotation_of top.types.now) top.number → item ≡ owner_on_top names (bases_of names launch.sizes) launch top)
+      → cell < cell_count bases l → item ≡ owner (length_at bases) launch (written l.names term types) (position bases types cell)
   on_top_at names sizes en es top item found body told below =
       let s = of_root below in
       let f =
-      subst (λ (ns : List Name). IsScalarOf ns launch.sizes term types cell → IsOfTop (bases_of ns launch.sizes) term types cell top) en
-      (subst (λ (ss : List ℕ). IsScalarOf names ss term types cell → IsOfTop (bases_of names ss) term types cell top) es found) in
+      subst (λ (ns : List Name). IsScalarOf ns launch.sizes term types cell → IsOfTop ns (bases_of ns launch.sizes) term types cell top) en
+      (subst (λ (ss : List ℕ). IsScalarOf names ss term types cell → IsOfTop names (bases_of names ss) term types cell top) es found) in
       let b =
       subst (λ (ns : List Name). IsScalarOf ns launch.sizes term types cell → IsScalarOf ns launch.sizes (tree_of top.body.now) (annotation_of top.types.now) top.number) en
       (subst (λ (ss : List ℕ). IsScalarOf names ss term types cell → IsScalarOf names ss (tree_of top.body.now) (annotation_of top.types.now) top.number) es body) in
       let t =
-      subst (λ (ns : List Name). IsScalarOf ns launch.sizes (tree_of top.body.now) (annotation_of top.types.now) top.number → item ≡ owner_on_top (bases_of ns launch.sizes) launch top) en told in
+      subst (λ (ns : List Name). IsScalarOf ns launch.sizes (tree_of top.body.now) (annotation_of top.types.now) top.number → item ≡ owner_on_top ns (bases_of ns launch.sizes) launch top) en told in
       at_bases item (t (b s) ∙ sym ((f s).item launch))
+
+-- the program's names are those of its legal term
+pub of_names : (p : PlainProgram) (l : Lowered) (bases : List ℕ) (launch : Launch) (array cell item : ℕ) → IsLegalFor p l
+    → item ≡ cell_owner l.names bases launch (tree_of l.term) (annotation_of l.types) array cell → item ≡ cell_owner (declared_by p).names bases launch (tree_of l.term) (annotation_of l.types) array cell
+of_names p l bases launch array cell item is h = subst (λ (ns : List Name). item ≡ cell_owner ns bases launch (tree_of l.term) (annotation_of l.types) array cell) (sym is.names) h

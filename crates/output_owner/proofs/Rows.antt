@@ -1,11 +1,11 @@
 -- Numbers in row-major order, and what layouts make of their positions.
-use Rattle.std.proofs.Common.{◌≡◌, ℕ, ◌+◌, ◌*◌, ◌/◌, ◌%◌, ◌<◌, ◌≤◌, ◌^◌, List, [], ◌∷◌, refl, sym, ap, ap₂, ◌∙◌, subst, arith}
+use Rattle.std.proofs.Common.{◌≡◌, ℕ, ◌+◌, ◌-◌, ◌*◌, ◌/◌, ◌%◌, ◌<◌, ◌≤◌, ◌^◌, ◌∷◌, sym, ap, ap₂, ◌∙◌, subst, arith}
 use Rattle.std.proofs.Math.Nat.{mod-lt, mod-eq_of_lt, div-lt_iff_lt-mul}
 use Rattle.std.proofs.lemmas.Nat.{mul-le}
 use Rattle.lift_ir.specs.Types.{Ty, ArrayOf, size, unflat}
-use Rattle.lift_ir.specs.Layouts.{Split, Join, Transpose, Reshapes, operand_position}
+use Rattle.lift_ir.specs.Layouts.{Split, Join, Transpose, Reverse, Reshapes, operand_position}
 use Rattle.lift_ir.proofs.Positions.{join_in, quotient, remainder}
-use Rattle.output_owner.specs.Transposed.{moved}
+use Rattle.output_owner.specs.Numbers.{moved, turned}
 use Rattle.output_owner.proofs.Products.{first_below, first_some, second_below, second_some}
 
 whole : (i m : ℕ) → 0 < m → i / m * m + i % m ≡ i
@@ -137,3 +137,88 @@ told n m s k x y z r hx hy hz h few low =
     let ey : y ≡ m = hy (omega arith) in
     let ez : z ≡ s = hz (second_some m s row) (omega arith) in
     (rw (ex, ey, ez) at h) low few
+
+-- ---- from the last element to the first
+pub record Turns (n s k : ℕ) : Type 0 where
+  pub scalar : 0 < s
+  pub place : n - 1 - k / s < n
+  pub below : turned n s k < n * s
+  pub element : turned n s k / s ≡ n - 1 - k / s
+  pub rest : turned n s k % s ≡ k % s
+
+pub turns : (n s k : ℕ) → k < n * s → Turns n s k
+turns n s k h =
+    let hs : 0 < s = second_some n s (omega arith) in
+    let hn : 0 < n = first_some n s (omega arith) in
+    let i = n - 1 - k / s in
+    let li : i < n = omega arith in
+    let lr : k % s < s = mod-lt k hs in
+    record { scalar = hs; place = li; below = join_in i (k % s) s n li lr; element = quotient i (k % s) s lr; rest = remainder i (k % s) s lr }
+
+pub reverse_position : {A : Type 0} (num : A → ℕ) (m : A) (n : ℕ) (e : Ty) (k : ℕ) → num m ≡ n → k < n * size e → operand_position num (Reverse m) (unflat (ArrayOf n e) k) ≡ unflat (ArrayOf n e) (turned n (size e) k)
+reverse_position num m n e k is low =
+    let s = size e in
+    let v = turns n s k low in
+    ap (λ z. (z - 1 - k / s) ∷ unflat e (k % s)) is ∙ ap (λ z. z ∷ unflat e (k % s)) (sym v.element) ∙ ap (λ z. turned n s k / s ∷ unflat e z) (sym v.rest)
+
+-- the same over words of 64 bits
+pub turned_words : (n s k : ℕ) → k < n * s → n * s < 2 ^ 31 → ((n - 1 - k / s) * s % 18446744073709551616 + k % s) % 18446744073709551616 ≡ turned n s k
+turned_words n s k h few =
+    let v = turns n s k h in
+    let below = v.below in
+    let a : (n - 1 - k / s) * s < 18446744073709551616 = omega arith in
+    let b : (n - 1 - k / s) * s + k % s < 18446744073709551616 = omega arith in
+    ap (λ z. (z + k % s) % 18446744073709551616) (mod-eq_of_lt a) ∙ mod-eq_of_lt b
+
+-- elements whose length is told by words
+pub told_turned : (n s k x z r : ℕ) → (n < 2 ^ 32 → x ≡ n) → (0 < s → s < 2 ^ 32 → z ≡ s) → (k < x * z → x * z < 2 ^ 31 → r ≡ turned x z k) → n * s < 2 ^ 31 → k < n * s → r ≡ turned n s k
+told_turned n s k x z r hx hz h few low =
+    let all : 0 < n * s = omega arith in
+    let n_low = first_below n s (2 ^ 31) all few in
+    let s_low = second_below n s (2 ^ 31) all few in
+    let ex : x ≡ n = hx (omega arith) in
+    let ez : z ≡ s = hz (second_some n s all) (omega arith) in
+    (rw (ex, ez) at h) low few
+
+-- ---- elements so far from one another
+-- of whole rows of p elements
+pub rows_of : (n p s : ℕ) → n / p * p ≡ n → n / p * (p * s) ≡ n * s
+rows_of n p s h = (let e : n / p * (p * s) ≡ n / p * p * s = grind arith in e) ∙ ap (λ z. z * s) h
+
+pub told_strided : (n p s k x z r : ℕ) → (n < 2 ^ 32 → x ≡ n) → (0 < s → s < 2 ^ 32 → z ≡ s) → (k < x / p * (p * z) → x / p * (p * z) < 2 ^ 31 → r ≡ moved (x / p) p z k) → n / p * p ≡ n → n * s < 2 ^ 31 → k < n * s → r ≡ moved (n / p) p s k
+told_strided n p s k x z r hx hz h whole few low =
+    let all : 0 < n * s = omega arith in
+    let n_low = first_below n s (2 ^ 31) all few in
+    let s_low = second_below n s (2 ^ 31) all few in
+    let ex : x ≡ n = hx (omega arith) in
+    let ez : z ≡ s = hz (second_some n s all) (omega arith) in
+    let e = rows_of n p s whole in
+    (rw (ex, ez) at h) (omega arith) (omega arith)
+
+-- a step is no longer than what it divides, so it is a word
+pub step_word : (n p s : ℕ) → n / p * p ≡ n → 0 < n * s → n * s < 2 ^ 31 → p < 2 ^ 32
+step_word n p s whole some few =
+    let n_some = first_some n s some in
+    let n_low = first_below n s (2 ^ 31) some few in
+    let low = second_below (n / p) p (2 ^ 31) (omega arith) (omega arith) in
+    omega (arith, low)
+
+-- r rows of p elements
+pub stride_moves : (p r s k : ℕ) → 0 < s → 0 < r → moved r p s k ≡ (k / s % r * p + k / s / r) * s + k % s
+stride_moves p r s k hs hr =
+    let rows = in_rows k s r hs hr in
+    ap (λ z. (z * p + k / (r * s)) * s + k % (r * s) % s) rows.element ∙ ap (λ z. (k / s % r * p + z) * s + k % (r * s) % s) rows.row ∙ ap (λ z. (k / s % r * p + k / s / r) * s + z) rows.scalar
+
+-- the position of such an element in the rows that are joined, of their transposition in those that are split
+pub stride_position : {A : Type 0} (num : A → ℕ) (a c : A) (p r : ℕ) (e : Ty) (k : ℕ) → num a ≡ p → num c ≡ r → 0 < p → 0 < r → k < p * r * size e
+    → operand_position num (Split a) (operand_position {A = A} num Transpose (operand_position num (Join c) (unflat (ArrayOf (p * r) e) k))) ≡ unflat (ArrayOf (p * r) e) (moved r p (size e) k)
+stride_position num a c p r e k ea ec hp hr low =
+    let s = size e in
+    let hs : 0 < s = second_some (p * r) s (omega arith) in
+    let i = k / s % r * p + k / s / r in
+    let lr : k % s < s = mod-lt k hs in
+    let j = stride_moves p r s k hs hr in
+    let q : moved r p s k / s ≡ i = ap (λ z. z / s) j ∙ quotient i (k % s) s lr in
+    let f : moved r p s k % s ≡ k % s = ap (λ z. z % s) j ∙ remainder i (k % s) s lr in
+    ap (λ z. (k / s % z * num a + k / s / z) ∷ unflat e (k % s)) ec ∙ ap (λ z. (k / s % r * z + k / s / r) ∷ unflat e (k % s)) ea
+    ∙ ap (λ z. z ∷ unflat e (k % s)) (sym q) ∙ ap (λ z. moved r p s k / s ∷ unflat e z) (sym f)

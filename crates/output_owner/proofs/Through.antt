@@ -1,25 +1,27 @@
 -- Through layouts and the bodies of lets to the map on top.
-use Rattle.std.proofs.Common.{◌≡◌, ℕ, ◌+◌, ◌*◌, ◌/◌, ◌%◌, ◌<◌, ◌≤◌, ◌^◌, Bool, true, false, List, [], ◌∷◌, refl, sym, ap, ◌∙◌, subst, arith, pos, ◌≤ℤ◌, ◌⊎◌, inl, inr}
+use Rattle.std.proofs.Common.{◌≡◌, ℕ, ◌*◌, ◌/◌, ◌%◌, ◌<◌, ◌^◌, Bool, true, false, List, [], ◌∷◌, refl, sym, ap, ◌∙◌, subst, arith, pos, ◌≤ℤ◌, ◌⊎◌, inl, inr}
 use Rattle.std.specs.Prelude.{if◌then◌else◌, IfSome, MatchOption, Option, Some, None}
-use Rattle.std.proofs.Math.Nat.{mod-lt}
+use Rattle.std.proofs.Math.Nat.{mod-lt, mul-div_cancel_left}
 use Rattle.size_arith.specs.declared.names.Name.{Name}
 use Rattle.size_arith.specs.declared.poly.Monomial.{Monomial}
-use Rattle.size_arith.specs.Polynomial.{value_at}
-use Rattle.size_arith.specs.Ranges.{Admissible, AreNames}
+use Rattle.size_arith.specs.Polynomial.{of_monomial, quotient, value_at}
+use Rattle.size_arith.specs.Ranges.{Admissible, sizes_at}
 use Rattle.size_arith.specs.Shown.{ShownAtLeast}
 use Rattle.size_arith.proofs.Soundness.{shown_at_least}
 use Rattle.lift_tree.specs.declared.length.Factor.{Factor}
-use Rattle.lift_tree.specs.declared.term.UnaryForm.TheVariants.{Div, First, Join, Pad, Rem, Second, Slide, Split, ToLocal, ToPrivate, Transpose}
+use Rattle.lift_tree.specs.declared.layout.Layout as layout
+use Rattle.lift_tree.specs.declared.layout.Layout.TheVariants.{Join, Transpose, Split, Reverse, Stride}
+use Rattle.lift_tree.specs.declared.term.UnaryForm.TheVariants.{Div, First, Layout, Pad, Rem, Second, Slide, ToLocal, ToPrivate}
 use Rattle.lift_tree.specs.declared.term.MapKind.{MapKind}
 use Rattle.lift_tree.specs.declared.term.UnaryForm.{UnaryForm}
-use Rattle.lift_tree.specs.declared.term.MapKind.TheVariants as map_kind
 use Rattle.lift_tree.specs.Annotations.{Annotation, One, Two, type_in}
 use Rattle.lift_tree.specs.Tree.{Tree, Unary, Let, Map}
 use Rattle.lift_tree.specs.Types.{PlainTy, ArrayOf}
-use Rattle.lift_tree.specs.Typing.{IsDeclared}
-use Rattle.kernel_tree.specs.Launch.{Launch}
-use Rattle.lift_ir.specs.AtLaunch.{inner_of, length_at, layout_of, ty_at, outer_of}
-use Rattle.lift_ir.specs.Layouts.{Layout, operand_position, Reshapes}
+use Rattle.lift_tree.specs.Meaning.{product_at}
+use Rattle.lift_tree.specs.WorkedOut.{product_of}
+use Rattle.lift_tree.proofs.Sizes.{product_value, value-of_monomial}
+use Rattle.lift_ir.specs.AtLaunch.{inner_of, length_at, natural, ty_at, outer_of}
+use Rattle.lift_ir.specs.Layouts.{operand_position, Reshapes}
 use Rattle.lift_ir.specs.Layouts as layouts
 use Rattle.lift_ir.specs.Lowering as ir
 use Rattle.lift_ir.specs.Lowering.{Lowered, Written, kind_of, lower, element_ty, value_place}
@@ -28,20 +30,20 @@ use Rattle.lift_ir.specs.Terms.{Kind, Global, WorkGroup, Local, Sequential, Load
 use Rattle.lift_ir.specs.Terms as terms
 use Rattle.lift_ir.specs.Types as shapes
 use Rattle.lift_ir.specs.Types.{Ty, size, unflat}
-use Rattle.lift_ir.proofs.AtLaunch.{join_reshapes, split_reshapes, transpose_reshapes}
+use Rattle.lift_ir.proofs.AtLaunch.{join_reshapes, split_reshapes, stride_lengths, Strides}
 use Rattle.lowered_tree.specs.Elements.{is_element}
 use Rattle.output_owner.specs.Bases.{bases_of}
 use Rattle.output_owner.specs.declared.walk.OnTop.{OnTop}
 use Rattle.output_owner.specs.Owners.{HaveOneOwner, IsOfNone, IsOfTop, map_over, position, written}
-use Rattle.output_owner.specs.Transposed.{IsOfRows, moved, transposed}
-use Rattle.output_owner.specs.Written.{IsNumber, IsScalarOf, IsWritten}
-use Rattle.output_owner.proofs.Legal.{below_join, below_let, below_map, below_split, below_transpose, no_pad, no_slide, one_test, operand_formed}
-use Rattle.output_owner.proofs.Products.{first_some, second_below, second_some}
-use Rattle.output_owner.proofs.Rows.{join_position, moves, split_position, transpose_position}
+use Rattle.output_owner.specs.Numbers.{HasStep, IsOfComponent, IsStepOf, moved, operand_number, reversed, strided, transposed, turned}
+use Rattle.output_owner.specs.Written.{IsScalarOf, IsWritten}
+use Rattle.output_owner.proofs.Legal.{below_layout, below_let, below_map, no_pad, no_slide, one_test, operand_formed}
+use Rattle.output_owner.proofs.Products.{second_below, second_some}
+use Rattle.output_owner.proofs.Rows.{join_position, moves, reverse_position, split_position, stride_position, transpose_position, turns}
 
 -- ---- of one owner
 
-pub through_layout : (bases : List ℕ) (y : Layout (List Monomial)) (t : Lowered) (q p : List ℕ) → operand_position (length_at bases) y q ≡ p → HaveOneOwner bases (Reshape y t) q t p
+pub through_layout : (bases : List ℕ) (y : layouts.Layout (List Monomial)) (t : Lowered) (q p : List ℕ) → operand_position (length_at bases) y q ≡ p → HaveOneOwner bases (Reshape y t) q t p
 through_layout bases y t q p e = record {
   item = λ l. ap (owner (length_at bases) l t) e;
   local = λ l. ap (local_owner (length_at bases) l t) e;
@@ -58,24 +60,24 @@ of_map bases Local n loads xs b i q = record { item = λ l. refl; local = λ l. 
 of_map bases Sequential n loads xs b i q = record { item = λ l. refl; local = λ l. refl }
 
 -- a let, whose whole type and whose value's are tested so
-abbrev let_tested : (v b : Tree) (a : PlainTy) (n m : Annotation) (whole value : Bool) → Lowered
-let_tested v b a n m x y =
-    if x then Store (element_ty a) (if y then LetElement (element_ty (type_in n)) (lower (value_place n) v n) (lower (if x then ir.Element else Written) b m) else LetArray (lower (value_place n) v n) (lower (if x then ir.Element else Written) b m))
-    else (if y then LetElement (element_ty (type_in n)) (lower (value_place n) v n) (lower (if x then ir.Element else Written) b m) else LetArray (lower (value_place n) v n) (lower (if x then ir.Element else Written) b m))
+abbrev let_tested : (names : List Name) (v b : Tree) (a : PlainTy) (n m : Annotation) (whole value : Bool) → Lowered
+let_tested names v b a n m x y =
+    if x then Store (element_ty a) (if y then LetElement (element_ty (type_in n)) (lower names (value_place n) v n) (lower names (if x then ir.Element else Written) b m) else LetArray (lower names (value_place n) v n) (lower names (if x then ir.Element else Written) b m))
+    else (if y then LetElement (element_ty (type_in n)) (lower names (value_place n) v n) (lower names (if x then ir.Element else Written) b m) else LetArray (lower names (value_place n) v n) (lower names (if x then ir.Element else Written) b m))
 
-pub of_let : (bases : List ℕ) (v b : Tree) (a : PlainTy) (n m : Annotation) (q : List ℕ) → is_element a ≡ false → is_element (type_in n) ≡ false → HaveOneOwner bases (written (Let v b) (Two a n m)) q (written b m) q
-of_let bases v b a n m q e f =
-    subst (λ (x : Bool). HaveOneOwner bases (let_tested v b a n m x (ir.is_element (type_in n))) q (written b m) q) (sym (one_test a ∙ e))
-    (subst (λ (y : Bool). HaveOneOwner bases (let_tested v b a n m false y) q (written b m) q) (sym (one_test (type_in n) ∙ f)) (record { item = λ l. refl; local = λ l. refl }))
+pub of_let : (names : List Name) (bases : List ℕ) (v b : Tree) (a : PlainTy) (n m : Annotation) (q : List ℕ) → is_element a ≡ false → is_element (type_in n) ≡ false → HaveOneOwner bases (written names (Let v b) (Two a n m)) q (written names b m) q
+of_let names bases v b a n m q e f =
+    subst (λ (x : Bool). HaveOneOwner bases (let_tested names v b a n m x (ir.is_element (type_in n))) q (written names b m) q) (sym (one_test a ∙ e))
+    (subst (λ (y : Bool). HaveOneOwner bases (let_tested names v b a n m false y) q (written names b m) q) (sym (one_test (type_in n) ∙ f)) (record { item = λ l. refl; local = λ l. refl }))
 
-pub of_element : (bases : List ℕ) (v b : Tree) (a : PlainTy) (n m : Annotation) (q : List ℕ) → is_element a ≡ true → HaveOneOwner bases (written (Let v b) (Two a n m)) q (Literal 0) []
-of_element bases v b a n m q e =
-    subst (λ (x : Bool). HaveOneOwner bases (let_tested v b a n m x (ir.is_element (type_in n))) q (Literal 0) []) (sym (one_test a ∙ e)) (record { item = λ l. refl; local = λ l. refl })
+pub of_element : (names : List Name) (bases : List ℕ) (v b : Tree) (a : PlainTy) (n m : Annotation) (q : List ℕ) → is_element a ≡ true → HaveOneOwner bases (written names (Let v b) (Two a n m)) q (Literal 0) []
+of_element names bases v b a n m q e =
+    subst (λ (x : Bool). HaveOneOwner bases (let_tested names v b a n m x (ir.is_element (type_in n))) q (Literal 0) []) (sym (one_test a ∙ e)) (record { item = λ l. refl; local = λ l. refl })
 
-pub of_bound_element : (bases : List ℕ) (v b : Tree) (a : PlainTy) (n m : Annotation) (q : List ℕ) → is_element a ≡ false → is_element (type_in n) ≡ true → HaveOneOwner bases (written (Let v b) (Two a n m)) q (Literal 0) []
-of_bound_element bases v b a n m q e f =
-    subst (λ (x : Bool). HaveOneOwner bases (let_tested v b a n m x (ir.is_element (type_in n))) q (Literal 0) []) (sym (one_test a ∙ e))
-    (subst (λ (y : Bool). HaveOneOwner bases (let_tested v b a n m false y) q (Literal 0) []) (sym (one_test (type_in n) ∙ f)) (record { item = λ l. refl; local = λ l. refl }))
+pub of_bound_element : (names : List Name) (bases : List ℕ) (v b : Tree) (a : PlainTy) (n m : Annotation) (q : List ℕ) → is_element a ≡ false → is_element (type_in n) ≡ true → HaveOneOwner bases (written names (Let v b) (Two a n m)) q (Literal 0) []
+of_bound_element names bases v b a n m q e f =
+    subst (λ (x : Bool). HaveOneOwner bases (let_tested names v b a n m x (ir.is_element (type_in n))) q (Literal 0) []) (sym (one_test a ∙ e))
+    (subst (λ (y : Bool). HaveOneOwner bases (let_tested names v b a n m false y) q (Literal 0) []) (sym (one_test (type_in n) ∙ f)) (record { item = λ l. refl; local = λ l. refl }))
 
 -- ---- one step
 
@@ -86,7 +88,7 @@ module _ (names : List Name) (sizes : List ℕ) where
   -- a scalar of a whole is one of a part, of one owner
   pub record Steps (t : Tree) (n : Annotation) (number : ℕ) (u : Tree) (m : Annotation) (other : ℕ) : Type 0 where
     pub scalar : IsScalarOf names sizes u m other
-    pub owner : HaveOneOwner bases (written t n) (position bases n number) (written u m) (position bases m other)
+    pub owner : HaveOneOwner bases (written names t n) (position bases n number) (written names u m) (position bases m other)
 
   module _ (t : Tree) (n : Annotation) (k : ℕ) (s : IsScalarOf names sizes t n k) where
     pub shown : (j : ℕ) (p : List Monomial) → ShownAtLeast j s.term.declared.names p → pos j ≤ℤ value_at bases p
@@ -95,13 +97,18 @@ module _ (names : List Name) (sizes : List ℕ) where
     some : 0 < size (ty_at bases (type_in n))
     some = let h = s.scalar.below in omega arith
 
-  -- the number stays, where the part has as many scalars
-  same_number : (t : Tree) (n : Annotation) (k : ℕ) (s : IsScalarOf names sizes t n k) (u : Tree) (m : Annotation) → IsWritten names u m → size (ty_at bases (type_in n)) ≡ size (ty_at bases (type_in m)) → IsScalarOf names sizes u m k
-  same_number t n k s u m w e = record {
+  -- a number in a part that has as many scalars
+  other_number : (t : Tree) (n : Annotation) (k : ℕ) (s : IsScalarOf names sizes t n k) (u : Tree) (m : Annotation) (j : ℕ) → IsWritten names u m → size (ty_at bases (type_in n)) ≡ size (ty_at bases (type_in m)) → j < size (ty_at bases (type_in m)) → IsScalarOf names sizes u m j
+  other_number t n k s u m j w e below = record {
     admissible = s.admissible;
+    exact = s.exact;
     term = w;
-    scalar = record { few = subst (λ (z : ℕ). z < 2 ^ 31) e s.scalar.few; below = subst (λ (z : ℕ). k < z) e s.scalar.below };
+    scalar = record { few = subst (λ (z : ℕ). z < 2 ^ 31) e s.scalar.few; below = below };
   }
+
+  -- the number itself
+  same_number : (t : Tree) (n : Annotation) (k : ℕ) (s : IsScalarOf names sizes t n k) (u : Tree) (m : Annotation) → IsWritten names u m → size (ty_at bases (type_in n)) ≡ size (ty_at bases (type_in m)) → IsScalarOf names sizes u m k
+  same_number t n k s u m w e = other_number t n k s u m k w e (subst (λ (z : ℕ). k < z) e s.scalar.below)
 
   join_size : (m : List Monomial) (t u : Ty) → Reshapes (length_at bases) (layouts.Join m) t u → size u ≡ size t
   join_size m (shapes.ArrayOf n (shapes.ArrayOf c e)) u h =
@@ -113,36 +120,54 @@ module _ (names : List Name) (sizes : List ℕ) where
       ap size h.2 ∙ (let z : n / length_at bases m * (length_at bases m * size e) ≡ n / length_at bases m * length_at bases m * size e = grind arith in z) ∙ ap (λ x. x * size e) h.1
   split_size m _ u h = absurd (assumption)
 
-  pub through_join : (t : Tree) (a : PlainTy) (n : Annotation) (k : ℕ) → IsScalarOf names sizes (Unary Join t) (One a n) k → Steps (Unary Join t) (One a n) k t n k
-  through_join t a n k s =
-      let w = below_join names t a n s.term in
-      let r = join_reshapes s.term.declared bases (shown (Unary Join t) (One a n) k s) (type_in n) a (operand_formed names Join t a n s.term) s.term.nodes.1 in
-      record {
-        scalar = same_number (Unary Join t) (One a n) k s t n w (join_size (inner_of (type_in n)) (ty_at bases (type_in n)) (ty_at bases a) r);
-        owner = through_layout bases (layouts.Join (inner_of (type_in n))) (written t n) (position bases (One a n) k) (position bases n k) (join_position (length_at bases) (inner_of (type_in n)) (ty_at bases (type_in n)) (ty_at bases a) k r (some (Unary Join t) (One a n) k s));
-      }
+  -- ---- layouts
 
-  pub through_split : (fs : List Factor) (t : Tree) (a : PlainTy) (n : Annotation) (k : ℕ) → IsScalarOf names sizes (Unary (Split fs) t) (One a n) k → Steps (Unary (Split fs) t) (One a n) k t n k
-  through_split fs t a n k s =
-      let w = below_split names fs t a n s.term in
-      let r = split_reshapes s.term.declared bases (shown (Unary (Split fs) t) (One a n) k s) fs (type_in n) a (operand_formed names (Split fs) t a n s.term) s.term.nodes.1 in
-      record {
-        scalar = same_number (Unary (Split fs) t) (One a n) k s t n w (split_size (inner_of a) (ty_at bases (type_in n)) (ty_at bases a) r);
-        owner = through_layout bases (layouts.Split (inner_of a)) (written t n) (position bases (One a n) k) (position bases n k) (split_position (length_at bases) (inner_of a) (ty_at bases (type_in n)) (ty_at bases a) k r (some (Unary (Split fs) t) (One a n) k s));
-      }
+  module _ (l : layout.Layout) (t : Tree) (a : PlainTy) (n : Annotation) (k : ℕ) where
+    abbrev IsOf : Type 0
+    IsOf = IsScalarOf names sizes (Unary (Layout l) t) (One a n) k
+
+    below : IsOf → IsWritten names t n
+    below s = below_layout names l t a n s.term
+
+    -- the layout has as many scalars as its operand
+    stays : (s : IsOf) (j : ℕ) → size (ty_at bases a) ≡ size (ty_at bases (type_in n)) → j < size (ty_at bases (type_in n)) → IsScalarOf names sizes t n j
+    stays s j e h = other_number (Unary (Layout l) t) (One a n) k s t n j (below s) e h
+
+  module _ (t : Tree) (a : PlainTy) (n : Annotation) (k : ℕ) (s : IsScalarOf names sizes (Unary (Layout Join) t) (One a n) k) where
+    joined : Reshapes (length_at bases) (layouts.Join (inner_of (type_in n))) (ty_at bases (type_in n)) (ty_at bases a)
+    joined = join_reshapes s.term.declared bases (shown (Unary (Layout Join) t) (One a n) k s) (type_in n) a (operand_formed names (Layout Join) t a n s.term) s.term.nodes.1
+
+    size_of_join : size (ty_at bases a) ≡ size (ty_at bases (type_in n))
+    size_of_join = join_size (inner_of (type_in n)) (ty_at bases (type_in n)) (ty_at bases a) joined
+
+    through_join : Steps (Unary (Layout Join) t) (One a n) k t n k
+    through_join = record {
+      scalar = same_number (Unary (Layout Join) t) (One a n) k s t n (below Join t a n k s) size_of_join;
+      owner = through_layout bases (layouts.Join (inner_of (type_in n))) (written names t n) (position bases (One a n) k) (position bases n k) (join_position (length_at bases) (inner_of (type_in n)) (ty_at bases (type_in n)) (ty_at bases a) k joined (some (Unary (Layout Join) t) (One a n) k s));
+    }
+
+  module _ (fs : List Factor) (t : Tree) (a : PlainTy) (n : Annotation) (k : ℕ) (s : IsScalarOf names sizes (Unary (Layout (Split fs)) t) (One a n) k) where
+    cut : Reshapes (length_at bases) (layouts.Split (inner_of a)) (ty_at bases (type_in n)) (ty_at bases a)
+    cut = split_reshapes s.term.declared bases (shown (Unary (Layout (Split fs)) t) (One a n) k s) fs (type_in n) a (operand_formed names (Layout (Split fs)) t a n s.term) s.term.nodes.1
+
+    size_of_split : size (ty_at bases a) ≡ size (ty_at bases (type_in n))
+    size_of_split = split_size (inner_of a) (ty_at bases (type_in n)) (ty_at bases a) cut
+
+    through_split : Steps (Unary (Layout (Split fs)) t) (One a n) k t n k
+    through_split = record {
+      scalar = same_number (Unary (Layout (Split fs)) t) (One a n) k s t n (below (Split fs) t a n k s) size_of_split;
+      owner = through_layout bases (layouts.Split (inner_of a)) (written names t n) (position bases (One a n) k) (position bases n k) (split_position (length_at bases) (inner_of a) (ty_at bases (type_in n)) (ty_at bases a) k cut (some (Unary (Layout (Split fs)) t) (One a n) k s));
+    }
 
   -- columns of rows
-  module _ (t : Tree) (a : PlainTy) (n : Annotation) (k : ℕ) (s : IsScalarOf names sizes (Unary Transpose t) (One a n) k) where
+  module _ (t : Tree) (a : PlainTy) (n : Annotation) (k : ℕ) (s : IsScalarOf names sizes (Unary (Layout Transpose) t) (One a n) k) where
     rows_size : (x : PlainTy) (m c : List Monomial) → a ≡ ArrayOf (ArrayOf x c) m → size (ty_at bases a) ≡ length_at bases c * (length_at bases m * size (ty_at bases x))
     rows_size x m c e = ap (λ z. size (ty_at bases z)) e ∙ (let z : length_at bases m * (length_at bases c * size (ty_at bases x)) ≡ length_at bases c * (length_at bases m * size (ty_at bases x)) = grind arith in z)
 
-    pub of_rows : IsOfRows bases (type_in n) k
-    of_rows =
-        let r = s.term.nodes.1 in
-        let e : size (ty_at bases a) ≡ size (ty_at bases (type_in n)) = rows_size r.0 r.1 r.2 r.4 ∙ sym (ap (λ z. size (ty_at bases z)) r.3) in
-        record { few = subst (λ (z : ℕ). z < 2 ^ 31) e s.scalar.few; below = subst (λ (z : ℕ). k < z) e s.scalar.below }
+    size_of_transpose : size (ty_at bases a) ≡ size (ty_at bases (type_in n))
+    size_of_transpose = let r = s.term.nodes.1 in rows_size r.0 r.1 r.2 r.4 ∙ sym (ap (λ z. size (ty_at bases z)) r.3)
 
-    pub through_transpose : Steps (Unary Transpose t) (One a n) k t n (transposed bases (type_in n) k)
+    through_transpose : Steps (Unary (Layout Transpose) t) (One a n) k t n (transposed bases (type_in n) k)
     through_transpose =
         let r = s.term.nodes.1 in
         let x = r.0 in
@@ -150,20 +175,122 @@ module _ (names : List Name) (sizes : List ℕ) where
         let c = r.2 in
         let low : k < length_at bases c * (length_at bases m * size (ty_at bases x)) = subst (λ (z : ℕ). k < z) (rows_size x m c r.4) s.scalar.below in
         let v = moves (length_at bases c) (length_at bases m) (size (ty_at bases x)) k low in
-        let few : length_at bases c * (length_at bases m * size (ty_at bases x)) < 2 ^ 31 = subst (λ (z : ℕ). z < 2 ^ 31) (rows_size x m c r.4) s.scalar.few in
         record {
-          scalar = record {
-            admissible = s.admissible;
-            term = below_transpose names t a n s.term;
-            scalar = record {
-              few = subst (λ (b : PlainTy). size (ty_at bases b) < 2 ^ 31) (sym r.3) few;
-              below = subst (λ (b : PlainTy). transposed bases b k < size (ty_at bases b)) (sym r.3) v.below;
-            };
-          };
-          owner = through_layout bases layouts.Transpose (written t n) _ _
+          scalar = stays Transpose t a n k s (transposed bases (type_in n) k) size_of_transpose (subst (λ (b : PlainTy). transposed bases b k < size (ty_at bases b)) (sym r.3) v.below);
+          owner = through_layout bases layouts.Transpose (written names t n) _ _
               (subst (λ (b : PlainTy). operand_position (length_at bases) layouts.Transpose (unflat (ty_at bases a) k) ≡ unflat (ty_at bases b) (transposed bases b k)) (sym r.3)
               (transpose_position (length_at bases) (length_at bases c) (length_at bases m) (ty_at bases x) (ty_at bases a) k (ap (ty_at bases) r.4) low));
         }
+
+  -- from the last element to the first
+  module _ (t : Tree) (a : PlainTy) (n : Annotation) (k : ℕ) (s : IsScalarOf names sizes (Unary (Layout Reverse) t) (One a n) k) where
+    size_of_reverse : size (ty_at bases a) ≡ size (ty_at bases (type_in n))
+    size_of_reverse = let r = s.term.nodes.1 in ap (λ z. size (ty_at bases z)) (r.3 ∙ sym r.2)
+
+    through_reverse : Steps (Unary (Layout Reverse) t) (One a n) k t n (reversed bases (type_in n) k)
+    through_reverse =
+        let r = s.term.nodes.1 in
+        let x = r.0 in
+        let c = r.1 in
+        let low : k < length_at bases c * size (ty_at bases x) = subst (λ (z : PlainTy). k < size (ty_at bases z)) r.3 s.scalar.below in
+        let v = turns (length_at bases c) (size (ty_at bases x)) k low in
+        record {
+          scalar = stays Reverse t a n k s (reversed bases (type_in n) k) size_of_reverse (subst (λ (b : PlainTy). reversed bases b k < size (ty_at bases b)) (sym r.2) v.below);
+          owner = through_layout bases (layouts.Reverse (outer_of (type_in n))) (written names t n) _ _
+              (subst (λ (b : PlainTy). operand_position (length_at bases) (layouts.Reverse (outer_of b)) (unflat (ty_at bases a) k) ≡ unflat (ty_at bases b) (reversed bases b k)) (sym r.2)
+              (subst (λ (b : PlainTy). operand_position (length_at bases) (layouts.Reverse c) (unflat (ty_at bases b) k) ≡ unflat (ty_at bases (ArrayOf x c)) (turned (length_at bases c) (size (ty_at bases x)) k)) (sym r.3)
+              (reverse_position (length_at bases) c (length_at bases c) (ty_at bases x) k refl low)));
+        }
+
+  length_same : (m c : ℕ) (t u : Ty) → shapes.ArrayOf m t ≡ shapes.ArrayOf c u → m ≡ c
+  length_same m c t u e = cc
+
+  element_same : (m c : ℕ) (t u : Ty) → shapes.ArrayOf m t ≡ shapes.ArrayOf c u → t ≡ u
+  element_same m c t u e = cc
+
+  -- elements so far from one another
+  module _ (fs : List Factor) (t : Tree) (a : PlainTy) (n : Annotation) (k : ℕ) (s : IsScalarOf names sizes (Unary (Layout (Stride fs)) t) (One a n) k) where
+    lengths : Strides s.term.declared bases (shown (Unary (Layout (Stride fs)) t) (One a n) k s) fs (type_in n) a
+    lengths = stride_lengths s.term.declared bases (shown (Unary (Layout (Stride fs)) t) (One a n) k s) fs (type_in n) a (operand_formed names (Layout (Stride fs)) t a n s.term) s.term.nodes.1
+
+    -- the step at these sizes is that of the lengths
+    step_is : product_at sizes fs ≡ lengths.step
+    step_is =
+        let ns = s.term.declared.names in
+        let ok = subst (λ (x : List Name). Admissible x bases) (sym s.term.same) s.admissible in
+        let told : product_at sizes fs ≡ product_at (sizes_at ns bases) fs = ap (λ ss. product_at ss fs) (s.exact ∙ ap (λ (x : List Name). sizes_at x bases) (sym s.term.same)) in
+        told ∙ sym (ap natural (value-of_monomial bases (product_of ns fs) ∙ product_value ns bases ok s.term.proper.few fs)) ∙ lengths.step_is
+
+    elements : shapes.ArrayOf (length_at bases s.term.nodes.1.1) (ty_at bases s.term.nodes.1.0) ≡ shapes.ArrayOf (lengths.step * lengths.rest) (ty_at bases lengths.element)
+    elements = ap (ty_at bases) (sym s.term.nodes.1.2) ∙ lengths.operand
+
+    length_is : length_at bases s.term.nodes.1.1 ≡ lengths.step * lengths.rest
+    length_is = length_same _ _ _ _ elements
+
+    divided : length_at bases s.term.nodes.1.1 / lengths.step ≡ lengths.rest
+    divided = ap (λ z. z / lengths.step) length_is ∙ mul-div_cancel_left lengths.rest lengths.some_step
+
+    size_of_stride : size (ty_at bases a) ≡ size (ty_at bases (type_in n))
+    size_of_stride = let r = s.term.nodes.1 in ap (λ z. size (ty_at bases z)) (r.4 ∙ sym r.2)
+
+    has_step : IsStepOf bases (product_at sizes fs) (type_in n)
+    has_step =
+        let back : lengths.rest * lengths.step ≡ lengths.step * lengths.rest = grind arith in
+        subst (λ (b : PlainTy). IsStepOf bases (product_at sizes fs) b) (sym s.term.nodes.1.2)
+        (subst (λ z. (0 < z) × (length_at bases s.term.nodes.1.1 / z * z ≡ length_at bases s.term.nodes.1.1)) (sym step_is) (lengths.some_step, ap (λ z. z * lengths.step) divided ∙ back ∙ sym length_is))
+
+    number_is : strided bases (product_at sizes fs) (type_in n) k ≡ moved lengths.rest lengths.step (size (ty_at bases lengths.element)) k
+    number_is =
+        let c = length_at bases s.term.nodes.1.1 in
+        let x = size (ty_at bases s.term.nodes.1.0) in
+        ap (λ b. strided bases (product_at sizes fs) b k) s.term.nodes.1.2 ∙ ap (λ z. moved (c / z) z x k) step_is ∙ ap (λ z. moved z lengths.step x k) divided
+        ∙ ap (λ e. moved lengths.rest lengths.step (size e) k) (element_same _ _ _ _ elements)
+
+    through_stride : Steps (Unary (Layout (Stride fs)) t) (One a n) k t n (strided bases (product_at sizes fs) (type_in n) k)
+    through_stride =
+        let p = lengths.step in
+        let q = lengths.rest in
+        let e = ty_at bases lengths.element in
+        let j = strided bases (product_at sizes fs) (type_in n) k in
+        let m = product_of names fs in
+        let low : k < p * q * size e = subst (λ (z : Ty). k < size z) lengths.result s.scalar.below in
+        let all : p * q * size e ≡ q * (p * size e) = grind arith in
+        let v = moves q p (size e) k (omega arith) in
+        let split : length_at bases (of_monomial m) ≡ p = subst (λ (x : List Name). length_at bases (of_monomial (product_of x fs)) ≡ p) s.term.same lengths.step_is in
+        let join : length_at bases (quotient m (outer_of (type_in n))) ≡ q = subst (λ (x : List Name). length_at bases (quotient (product_of x fs) (outer_of (type_in n))) ≡ q) s.term.same lengths.rest_is in
+        let last : Ty → List ℕ = λ z. operand_position (length_at bases) (layouts.Split (of_monomial m)) (operand_position {A = List Monomial} (length_at bases) layouts.Transpose (operand_position (length_at bases) (layouts.Join (quotient m (outer_of (type_in n)))) (unflat z k))) in
+        let is : last (ty_at bases a) ≡ unflat (ty_at bases (type_in n)) j =
+        ap last lengths.result ∙ stride_position (length_at bases) (of_monomial m) (quotient m (outer_of (type_in n))) p q e k split join lengths.some_step lengths.some_rest low ∙ ap (λ z. unflat (shapes.ArrayOf (p * q) e) z) (sym number_is) ∙ ap (λ z. unflat z j) (sym lengths.operand) in
+        let within : moved q p (size e) k < size (shapes.ArrayOf (p * q) e) = (let b = v.below in omega arith) in
+        record {
+          scalar = stays (Stride fs) t a n k s j size_of_stride (subst (λ (z : Ty). j < size z) (sym lengths.operand) (subst (λ z. z < size (shapes.ArrayOf (p * q) e)) (sym number_is) within));
+          owner = record { item = λ l. ap (owner (length_at bases) l (written names t n)) is; local = λ l. ap (local_owner (length_at bases) l (written names t n)) is };
+        }
+
+  -- any of them
+  pub through : (l : layout.Layout) (t : Tree) (a : PlainTy) (n : Annotation) (k : ℕ) → IsScalarOf names sizes (Unary (Layout l) t) (One a n) k → Steps (Unary (Layout l) t) (One a n) k t n (operand_number sizes bases l (type_in n) k)
+  through Join t a n k s = through_join t a n k s
+  through Transpose t a n k s = through_transpose t a n k s
+  through (Split fs) t a n k s = through_split fs t a n k s
+  through Reverse t a n k s = through_reverse t a n k s
+  through (Stride fs) t a n k s = through_stride fs t a n k s
+
+  layout_size : (l : layout.Layout) (t : Tree) (a : PlainTy) (n : Annotation) (k : ℕ) → IsScalarOf names sizes (Unary (Layout l) t) (One a n) k → size (ty_at bases a) ≡ size (ty_at bases (type_in n))
+  layout_size Join t a n k s = size_of_join t a n k s
+  layout_size Transpose t a n k s = size_of_transpose t a n k s
+  layout_size (Split fs) t a n k s = size_of_split fs t a n k s
+  layout_size Reverse t a n k s = size_of_reverse t a n k s
+  layout_size (Stride fs) t a n k s = size_of_stride fs t a n k s
+
+  pub of_component : (l : layout.Layout) (t : Tree) (a : PlainTy) (n : Annotation) (k : ℕ) → IsScalarOf names sizes (Unary (Layout l) t) (One a n) k → IsOfComponent bases (type_in n) k
+  of_component l t a n k s = let e = layout_size l t a n k s in record { few = subst (λ (z : ℕ). z < 2 ^ 31) e s.scalar.few; below = subst (λ (z : ℕ). k < z) e s.scalar.below }
+
+  pub step_of : (l : layout.Layout) (t : Tree) (a : PlainTy) (n : Annotation) (k : ℕ) → IsScalarOf names sizes (Unary (Layout l) t) (One a n) k → HasStep sizes bases l (type_in n)
+  step_of Join t a n k s = tt
+  step_of Transpose t a n k s = tt
+  step_of (Split fs) t a n k s = tt
+  step_of Reverse t a n k s = tt
+  step_of (Stride fs) t a n k s = has_step fs t a n k s
 
   pub through_let : (v b : Tree) (a : PlainTy) (n m : Annotation) (k : ℕ) → IsScalarOf names sizes (Let v b) (Two a n m) k → is_element a ≡ false → is_element (type_in n) ≡ false → Steps (Let v b) (Two a n m) k b m k
   through_let v b a n m k s e f =
@@ -171,7 +298,7 @@ module _ (names : List Name) (sizes : List ℕ) where
       let same : a ≡ type_in m = s.term.nodes.2 in
       record {
         scalar = same_number (Let v b) (Two a n m) k s b m w (ap (λ z. size (ty_at bases z)) same);
-        owner = subst (λ (z : PlainTy). HaveOneOwner bases (written (Let v b) (Two a n m)) (unflat (ty_at bases a) k) (written b m) (unflat (ty_at bases z) k)) same (of_let bases v b a n m (unflat (ty_at bases a) k) e f);
+        owner = subst (λ (z : PlainTy). HaveOneOwner bases (written names (Let v b) (Two a n m)) (unflat (ty_at bases a) k) (written names b m) (unflat (ty_at bases z) k)) same (of_let names bases v b a n m (unflat (ty_at bases a) k) e f);
       }
 
   -- the map on top
@@ -198,20 +325,21 @@ module _ (names : List Name) (sizes : List ℕ) where
     pub in_body : IsScalarOf names sizes b m (k % size (ty_at bases (type_in m)))
     in_body = record {
       admissible = s.admissible;
+      exact = s.exact;
       term = below_map names h xs b a n m s.term;
       scalar = record { few = row_few; below = mod-lt k row_some };
     }
 
-    pub on_map : HaveOneOwner bases (written (Map h xs b) (Two a n m)) (position bases (Two a n m) k) (map_over (kind_of h) (written b m)) (k / size (ty_at bases (type_in m)) ∷ position bases m (k % size (ty_at bases (type_in m))))
+    pub on_map : HaveOneOwner bases (written names (Map h xs b) (Two a n m)) (position bases (Two a n m) k) (map_over (kind_of h) (written names b m)) (k / size (ty_at bases (type_in m)) ∷ position bases m (k % size (ty_at bases (type_in m))))
     on_map =
-        subst (λ (z : PlainTy). HaveOneOwner bases (written (Map h xs b) (Two a n m)) (unflat (ty_at bases z) k) (map_over (kind_of h) (written b m)) (k / size (ty_at bases (type_in m)) ∷ position bases m (k % size (ty_at bases (type_in m))))) (sym s.term.nodes.5)
-        (of_map bases (kind_of h) _ _ _ (written b m) _ _)
+        subst (λ (z : PlainTy). HaveOneOwner bases (written names (Map h xs b) (Two a n m)) (unflat (ty_at bases z) k) (map_over (kind_of h) (written names b m)) (k / size (ty_at bases (type_in m)) ∷ position bases m (k % size (ty_at bases (type_in m))))) (sym s.term.nodes.5)
+        (of_map bases (kind_of h) _ _ _ (written names b m) _ _)
 
   -- ---- what is found from the part on
 
   pub found_on : (t : Tree) (n : Annotation) (k : ℕ) (u : Tree) (m : Annotation) (j : ℕ) (found : Option OnTop) → (IsScalarOf names sizes t n k → Steps t n k u m j)
-      → (IsScalarOf names sizes u m j → MatchOption found (IsOfNone bases u m j) (IsOfTop bases u m j))
-      → IsScalarOf names sizes t n k → MatchOption found (IsOfNone bases t n k) (IsOfTop bases t n k)
+      → (IsScalarOf names sizes u m j → MatchOption found (IsOfNone names bases u m j) (IsOfTop names bases u m j))
+      → IsScalarOf names sizes t n k → MatchOption found (IsOfNone names bases t n k) (IsOfTop names bases t n k)
   found_on t n k u m j None step is s =
       let e = step s in
       after bases _ _ _ _ _ _ e.owner (is e.scalar)
@@ -226,10 +354,10 @@ module _ (names : List Name) (sizes : List ℕ) where
   -- ---- what is shown of the part is shown of the whole that it is
 
   abbrev pub NoneOn : ℕ → Tree → Annotation → Type 0
-  NoneOn k t n = IsScalarOf names sizes t n k → IsOfNone bases t n k
+  NoneOn k t n = IsScalarOf names sizes t n k → IsOfNone names bases t n k
 
   abbrev pub FoundOn : Option OnTop → ℕ → Tree → Annotation → Type 0
-  FoundOn found k t n = IsScalarOf names sizes t n k → MatchOption found (IsOfNone bases t n k) (IsOfTop bases t n k)
+  FoundOn found k t n = IsScalarOf names sizes t n k → MatchOption found (IsOfNone names bases t n k) (IsOfTop names bases t n k)
 
   pub of_equal : (P : Tree → Annotation → Type 0) (t u : Tree) (n m : Annotation) → t ≡ u → n ≡ m → P u m → P t n
   of_equal P t u n m e f h = subst (λ (x : Tree). P x n) (sym e) (subst (λ (y : Annotation). P u y) (sym f) h)
@@ -237,9 +365,7 @@ module _ (names : List Name) (sizes : List ℕ) where
   -- ---- forms that are no layout
 
   abbrev pub IsNoLayout : UnaryForm → Type 0
-  IsNoLayout Join = ⊥
-  IsNoLayout Transpose = ⊥
-  IsNoLayout (Split fs) = ⊥
+  IsNoLayout (Layout l) = ⊥
   IsNoLayout _ = Unit {0}
 
   pub is_no_layout : (f : UnaryForm) → ((x : ℕ) × (f ≡ Div x)) ⊎ (((x : ℕ) × (f ≡ Rem x)) ⊎ ((f ≡ First) ⊎ ((f ≡ Second) ⊎ (((x : ℕ) × (y : ℕ) × (f ≡ Slide x y)) ⊎ (((x : ℕ) × (y : ℕ) × (f ≡ Pad x y)) ⊎ ((f ≡ ToLocal) ⊎ (f ≡ ToPrivate))))))) → IsNoLayout f
@@ -257,9 +383,7 @@ module _ (names : List Name) (sizes : List ℕ) where
   of_no_layout (Rem x) t a n k other s = record { item = λ l. refl; local = λ l. refl }
   of_no_layout First t a n k other s = record { item = λ l. refl; local = λ l. refl }
   of_no_layout Second t a n k other s = record { item = λ l. refl; local = λ l. refl }
-  of_no_layout Join t a n k other s = absurd other
-  of_no_layout Transpose t a n k other s = absurd other
-  of_no_layout (Split fs) t a n k other s = absurd other
+  of_no_layout (Layout l) t a n k other s = absurd other
   of_no_layout (Slide x y) t a n k other s = absurd (no_slide names x y t a n s.term)
   of_no_layout (Pad x y) t a n k other s = absurd (no_pad names x y t a n s.term)
   of_no_layout ToLocal t a n k other s = record { item = λ l. refl; local = λ l. refl }
@@ -271,8 +395,8 @@ module _ (names : List Name) (sizes : List ℕ) where
     row_is : IsScalarOf names sizes (Map h xs b) (Two a n m) k → size (ty_at bases (type_in m)) ≡ row
     row_is s = sym (told (row_some h xs b a n m k s) (row_word h xs b a n m k s))
 
-    pub map_found : IsScalarOf names sizes (Map h xs b) (Two a n m) k → HaveOneOwner bases (written (Map h xs b) (Two a n m)) (position bases (Two a n m) k) (map_over (kind_of h) (written b m)) (k / row ∷ position bases m (k % row))
-    map_found s = subst (λ (r : ℕ). HaveOneOwner bases (written (Map h xs b) (Two a n m)) (position bases (Two a n m) k) (map_over (kind_of h) (written b m)) (k / r ∷ position bases m (k % r))) (row_is s) (on_map h xs b a n m k s)
+    pub map_found : IsScalarOf names sizes (Map h xs b) (Two a n m) k → HaveOneOwner bases (written names (Map h xs b) (Two a n m)) (position bases (Two a n m) k) (map_over (kind_of h) (written names b m)) (k / row ∷ position bases m (k % row))
+    map_found s = subst (λ (r : ℕ). HaveOneOwner bases (written names (Map h xs b) (Two a n m)) (position bases (Two a n m) k) (map_over (kind_of h) (written names b m)) (k / r ∷ position bases m (k % r))) (row_is s) (on_map h xs b a n m k s)
 
     pub map_body : IsScalarOf names sizes (Map h xs b) (Two a n m) k → IsScalarOf names sizes b m (k % row)
     map_body s = subst (λ (r : ℕ). IsScalarOf names sizes b m (k % r)) (row_is s) (in_body h xs b a n m k s)

@@ -1,5 +1,5 @@
 pub mod Bases
 pub mod Written
-pub mod Transposed
+pub mod Numbers
 pub mod Owners
 pub mod Outputs

@@ -1,9 +1,9 @@
 -- Scalars of one owner.
 use Rattle.std.specs.Prelude.{◌≡◌, ℕ, List, [], ◌∷◌}
+use Rattle.size_arith.specs.declared.names.Name.{Name}
 use Rattle.kernel_tree.specs.Launch.{Launch}
 use Rattle.lift_tree.specs.Annotations.{Annotation, annotation_of, type_in}
 use Rattle.lift_tree.specs.Tree.{Tree, tree_of}
-use Rattle.lift_tree.specs.declared.term.MapKind.{MapKind}
 use Rattle.lift_ir.specs.AtLaunch.{length_at, ty_at}
 use Rattle.lift_ir.specs.Lowering.{Lowered, Written, kind_of, lower}
 use Rattle.lift_ir.specs.Owner.{local_owner, owner}
@@ -21,27 +21,27 @@ abbrev pub position : (bases : List ℕ) → Annotation → ℕ → List ℕ
 position bases n number = unflat (ty_at bases (type_in n)) number
 
 -- what a term that is written is lowered to
-abbrev pub written : Tree → Annotation → Lowered
-written t n = lower Written t n
+abbrev pub written : List Name → Tree → Annotation → Lowered
+written names t n = lower names Written t n
 
 -- a map of this kind over anything, with this body
 abbrev pub map_over : Kind → Lowered → Lowered
 map_over k b = Map k [] Skip (Literal 0) b
 
 -- the scalar is that of the map on top, at its turn
-abbrev pub IsOfTop : (bases : List ℕ) → Tree → Annotation → ℕ → OnTop → Type 0
-IsOfTop bases t n number top =
-    HaveOneOwner bases (written t n) (position bases n number)
-    (map_over (kind_of top.kind) (written (tree_of top.body.now) (annotation_of top.types.now)))
+abbrev pub IsOfTop : List Name → (bases : List ℕ) → Tree → Annotation → ℕ → OnTop → Type 0
+IsOfTop names bases t n number top =
+    HaveOneOwner bases (written names t n) (position bases n number)
+    (map_over (kind_of top.kind) (written names (tree_of top.body.now) (annotation_of top.types.now)))
     (top.turn ∷ position bases (annotation_of top.types.now) top.number)
 
 -- with no map on top
-abbrev pub IsOfNone : (bases : List ℕ) → Tree → Annotation → ℕ → Type 0
-IsOfNone bases t n number = HaveOneOwner bases (written t n) (position bases n number) (Literal 0) []
+abbrev pub IsOfNone : List Name → (bases : List ℕ) → Tree → Annotation → ℕ → Type 0
+IsOfNone names bases t n number = HaveOneOwner bases (written names t n) (position bases n number) (Literal 0) []
 
 -- the owner of the scalar of the map on top
-abbrev pub owner_on_top : (bases : List ℕ) → Launch → OnTop → ℕ
-owner_on_top bases l top =
+abbrev pub owner_on_top : List Name → (bases : List ℕ) → Launch → OnTop → ℕ
+owner_on_top names bases l top =
     owner (length_at bases) l
-    (map_over (kind_of top.kind) (written (tree_of top.body.now) (annotation_of top.types.now)))
+    (map_over (kind_of top.kind) (written names (tree_of top.body.now) (annotation_of top.types.now)))
     (top.turn ∷ position bases (annotation_of top.types.now) top.number)

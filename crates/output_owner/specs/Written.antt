@@ -1,7 +1,7 @@
 -- Terms of a legal nest in writing position, and the numbers of their scalars.
 use Rattle.std.specs.Prelude.{◌≡◌, ℕ, ◌<◌, ◌^◌, true, List}
 use Rattle.size_arith.specs.declared.names.Name.{Name}
-use Rattle.size_arith.specs.Ranges.{Admissible}
+use Rattle.size_arith.specs.Ranges.{Admissible, sizes_at}
 use Rattle.lift_tree.specs.Annotations.{Annotation, Annotates, type_in}
 use Rattle.lift_tree.specs.Lists.{Every}
 use Rattle.lift_tree.specs.Tree.{Tree}
@@ -33,5 +33,6 @@ pub record IsNumber (bases : List ℕ) (n : Annotation) (number : ℕ) : Type 0 
 -- the number of a scalar of such a term, at these sizes
 pub record IsScalarOf (names : List Name) (sizes : List ℕ) (t : Tree) (n : Annotation) (number : ℕ) : Type 0 where
   pub admissible : Admissible names (bases_of names sizes)
+  pub exact : sizes ≡ sizes_at names (bases_of names sizes)
   pub term : IsWritten names t n
   pub scalar : IsNumber (bases_of names sizes) n number

@@ -30,7 +30,7 @@ fn local_item(top: &OnTop, launch: &Launch, names: &[Name]) -> u32
     ensures item { IsScalarOf names.now launch.now.sizes (tree_of top.now.body.now)
         (annotation_of top.now.types.now) top.now.number
         → result ≡ local_owner (length_at (bases_of names.now launch.now.sizes)) launch.now
-        (written (tree_of top.now.body.now) (annotation_of top.now.types.now))
+        (written names.now (tree_of top.now.body.now) (annotation_of top.now.types.now))
         (position (bases_of names.now launch.now.sizes) (annotation_of top.now.types.now)
         top.now.number) }
     ensures below { result < launch.now.local.0 }
@@ -63,7 +63,7 @@ fn item(top: &OnTop, launch: &Launch, names: &[Name]) -> u32
     requires some { 0 < launch.now.global.0 }
     ensures { IsScalarOf names.now launch.now.sizes (tree_of top.now.body.now)
         (annotation_of top.now.types.now) top.now.number
-        → result ≡ owner_on_top (bases_of names.now launch.now.sizes) launch.now top.now }
+        → result ≡ owner_on_top names.now (bases_of names.now launch.now.sizes) launch.now top.now }
 {
     match top.kind {
         MapKind::Global => (top.turn % launch.global.0 as u64) as u32,
@@ -85,7 +85,7 @@ pub fn owner(lowered: &Lowered, launch: &Launch, cell: u64) -> u32
     ensures { (p : PlainProgram) (bases : List ℕ) → IsLegalFor p lowered.now
         → IsLaunchOf (declared_by p) (is_task (tree_of lowered.now.term)) bases launch.now
         → (array : ℕ) → cell < cell_count bases lowered.now
-        → result ≡ cell_owner bases launch.now (tree_of lowered.now.term)
+        → result ≡ cell_owner (declared_by p).names bases launch.now (tree_of lowered.now.term)
         (annotation_of lowered.now.types) array cell }
 {
     legal_terms_can_be_lowered();

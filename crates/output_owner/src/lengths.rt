@@ -1,13 +1,15 @@
-//! Lengths at a launch, worked out without memory.
+//! Lengths and products of factors at a launch, worked out without memory.
 
-ghost use Rattle.std.specs.Prelude.{◌≡◌, ◌*◌, ◌*ℤ◌, ◌+ℤ◌, pos, ◌<◌, ◌≤◌, ◌^◌, length, unsigned_abs};
+ghost use Rattle.std.specs.Prelude.{◌≡◌, ◌*◌, ◌%◌, ◌*ℤ◌, ◌+ℤ◌, pos, ◌<◌, ◌≤◌, ◌^◌, length, unsigned_abs};
 ghost use Rattle.lift_ir.specs.AtLaunch.{length_at, ty_at};
 ghost use Rattle.lift_ir.specs.Types.{size};
+ghost use Rattle.lift_tree.specs.Meaning.{factor_at, product_at as product_of};
 ghost use Rattle.lift_tree.specs.Types.{ty_of};
 ghost use Rattle.output_owner.specs.Bases.{bases_of};
 ghost use Rattle.size_arith.specs.Polynomial.{AllLow, AllSmall, product, total, value_at};
 ghost use Rattle.size_arith.specs.Ranges.{AreNames};
 
+use lift_tree::length::Factor;
 use lift_tree::ty::Ty;
 use size_arith::{Monomial, Name, Poly};
 
@@ -82,6 +84,27 @@ pub fn length_of(length: &Poly, names: &[Name], sizes: &[u32]) -> u32
         value as u32
     } else {
         0
+    }
+}
+
+// The value of a factor; a size that isn't declared counts as 0.
+#[tactic(auto, using(crate::proofs::Factors::sizes_by_number))]
+fn value(factor: Factor, sizes: &[u32]) -> u32
+    ensures { result ≡ factor_at sizes.now factor }
+{
+    match factor {
+        Factor::Number(number) => number,
+        Factor::Size(number) => sizes.get(number as usize).copied().unwrap_or(0),
+    }
+}
+
+/// The product of the factors at these sizes, in 32 bits.
+pub fn product(factors: &[Factor], sizes: &[u32]) -> u32
+    ensures { result ≡ product_of sizes.now factors.now % 2 ^ 32 }
+{
+    match factors {
+        [] => 1,
+        [factor, rest @ ..] => value(*factor, sizes).wrapping_mul(product(rest, sizes)),
     }
 }
 

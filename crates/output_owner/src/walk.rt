@@ -6,12 +6,21 @@ ghost use Rattle.lift_tree.specs.Tree.{tree_of};
 ghost use Rattle.lift_tree.specs.Types.{ty_of};
 ghost use Rattle.output_owner.specs.Bases.{bases_of};
 ghost use Rattle.output_owner.specs.Owners.{IsOfNone, IsOfTop};
-ghost use Rattle.output_owner.specs.Transposed as rows_of;
-ghost use Rattle.output_owner.specs.Transposed.{IsOfRows, transposed};
+ghost use Rattle.output_owner.specs.Numbers as numbers;
+ghost use Rattle.output_owner.specs.Numbers.{
+  HasStep,
+  IsOfComponent,
+  IsStepOf,
+  operand_number,
+  reversed,
+  strided,
+  transposed,
+};
 ghost use Rattle.output_owner.specs.Written.{IsScalarOf};
 ghost use Rattle.size_arith.specs.Ranges.{AreNames};
 
-use crate::lengths::{length_of, scalars};
+use crate::lengths::{length_of, product, scalars};
+use lift_tree::layout::Layout;
 use lift_tree::term::{MapKind, Term, UnaryForm};
 use lift_tree::ty::Ty;
 use lift_tree::typed::NodeTypes;
@@ -31,7 +40,7 @@ pub struct OnTop<'t> {
 // The number in n rows of m elements, each of so many scalars, of a scalar of the m columns.
 fn moved(n: u32, m: u32, scalar: u32, number: u64) -> u64
     ensures { number < n * (m * scalar) → n * (m * scalar) < 2 ^ 31
-        → result ≡ rows_of.moved n m scalar number }
+        → result ≡ numbers.moved n m scalar number }
 {
     let scalar = scalar as u64;
     let column = n as u64 * scalar;
@@ -47,10 +56,23 @@ fn moved(n: u32, m: u32, scalar: u32, number: u64) -> u64
         .wrapping_add(in_column % scalar)
 }
 
+// The number in n elements, each of so many scalars, of a scalar of them from the last to the first.
+fn turned(n: u32, scalar: u32, number: u64) -> u64
+    ensures { number < n * scalar → n * scalar < 2 ^ 31
+        → result ≡ numbers.turned n scalar number }
+{
+    let scalar = scalar as u64;
+    if scalar == 0 {
+        return number;
+    }
+    let element = (n as u64).saturating_sub(1).saturating_sub(number / scalar);
+    element.wrapping_mul(scalar).wrapping_add(number % scalar)
+}
+
 // The number in the rows of a scalar of the columns.
 fn in_rows(rows: &Ty, number: u64, names: &[Name], sizes: &[u32]) -> u64
     requires names { AreNames names.now }
-    ensures { IsOfRows (bases_of names.now sizes.now) (ty_of rows.now) number
+    ensures { IsOfComponent (bases_of names.now sizes.now) (ty_of rows.now) number
         → result ≡ transposed (bases_of names.now sizes.now) (ty_of rows.now) number }
 {
     match rows {
@@ -66,8 +88,61 @@ fn in_rows(rows: &Ty, number: u64, names: &[Name], sizes: &[u32]) -> u64
     }
 }
 
-/// The map on top of a term that is written, seen through join, split, transpose and the bodies of
-/// lets of arrays, with the turn of the scalar of this number.
+// The number in the elements of a scalar of them from the last to the first.
+fn from_last(elements: &Ty, number: u64, names: &[Name], sizes: &[u32]) -> u64
+    requires names { AreNames names.now }
+    ensures { IsOfComponent (bases_of names.now sizes.now) (ty_of elements.now) number
+        → result ≡ reversed (bases_of names.now sizes.now) (ty_of elements.now) number }
+{
+    match elements {
+        Ty::Array(element, count) => {
+            let count = length_of(count, names, sizes);
+            turned(count, scalars(element, names, sizes), number)
+        }
+        Ty::Number | Ty::Pair(_, _) => number,
+    }
+}
+
+// The number in the elements of a scalar of those this far from one another.
+fn in_steps(elements: &Ty, step: u32, number: u64, names: &[Name], sizes: &[u32]) -> u64
+    requires names { AreNames names.now }
+    ensures { IsOfComponent (bases_of names.now sizes.now) (ty_of elements.now) number
+        → IsStepOf (bases_of names.now sizes.now) step (ty_of elements.now)
+        → result ≡ strided (bases_of names.now sizes.now) step (ty_of elements.now) number }
+{
+    match elements {
+        Ty::Array(element, count) => {
+            if step == 0 {
+                return number;
+            }
+            let count = length_of(count, names, sizes);
+            moved(count / step, step, scalars(element, names, sizes), number)
+        }
+        Ty::Number | Ty::Pair(_, _) => number,
+    }
+}
+
+// The number in a layout's operand of a scalar of the layout.
+fn in_operand(layout: &Layout, operand: &Ty, number: u64, names: &[Name], sizes: &[u32]) -> u64
+    requires names { AreNames names.now }
+    ensures { IsOfComponent (bases_of names.now sizes.now) (ty_of operand.now) number
+        → HasStep sizes.now (bases_of names.now sizes.now) layout.now (ty_of operand.now)
+        → result ≡ operand_number sizes.now (bases_of names.now sizes.now) layout.now
+        (ty_of operand.now) number }
+{
+    match layout {
+        Layout::Join | Layout::Split(_) => number,
+        Layout::Transpose => in_rows(operand, number, names, sizes),
+        Layout::Reverse => from_last(operand, number, names, sizes),
+        Layout::Stride(step) => {
+            let step = product(step.factors(), sizes);
+            in_steps(operand, step, number, names, sizes)
+        }
+    }
+}
+
+/// The map on top of a term that is written, seen through layouts and the bodies of lets of arrays,
+/// with the turn of the scalar of this number.
 pub fn on_top<'t>(
     term: &'t Term,
     types: &'t NodeTypes,
@@ -78,8 +153,8 @@ pub fn on_top<'t>(
     requires names { AreNames names.now }
     ensures scalar { IsScalarOf names.now sizes.now (tree_of term.now) (annotation_of types.now) number
         → MatchOption result
-        (IsOfNone (bases_of names.now sizes.now) (tree_of term.now) (annotation_of types.now) number)
-        (IsOfTop (bases_of names.now sizes.now) (tree_of term.now) (annotation_of types.now) number) }
+        (IsOfNone names.now (bases_of names.now sizes.now) (tree_of term.now) (annotation_of types.now) number)
+        (IsOfTop names.now (bases_of names.now sizes.now) (tree_of term.now) (annotation_of types.now) number) }
     ensures body { IsScalarOf names.now sizes.now (tree_of term.now) (annotation_of types.now) number
         → IfSome result (λ top. IsScalarOf names.now sizes.now (tree_of top.body.now)
         (annotation_of top.types.now) top.number) }
@@ -87,10 +162,8 @@ pub fn on_top<'t>(
     match term {
         Term::Unary(form, a) => match types {
             NodeTypes::One(_, n) => match form {
-                UnaryForm::Join => on_top(a, n, number, names, sizes),
-                UnaryForm::Split(_) => on_top(a, n, number, names, sizes),
-                UnaryForm::Transpose => {
-                    let number = in_rows(n.own_type(), number, names, sizes);
+                UnaryForm::Layout(layout) => {
+                    let number = in_operand(layout, n.own_type(), number, names, sizes);
                     on_top(a, n, number, names, sizes)
                 }
                 UnaryForm::Div(_)

@@ -11,8 +11,10 @@ use Rattle.size_arith.specs.Shown.{ShownAtLeast, largest}
 use Rattle.size_arith.specs.Decisions.{is_shown, is_same}
 use Rattle.size_arith.proofs.Decisions.{decides_shown, decides_same}
 use Rattle.lift_tree.specs.declared.length.Factor.{Factor}
+use Rattle.lift_tree.specs.declared.layout.Layout as layout
+use Rattle.lift_tree.specs.declared.layout.Layout.TheVariants.{Join, Transpose, Split, Reverse, Stride}
 use Rattle.lift_tree.specs.declared.term.UnaryForm.{UnaryForm}
-use Rattle.lift_tree.specs.declared.term.UnaryForm.TheVariants.{Div, Rem, First, Second, Join, Transpose, Split, Slide, Pad, ToLocal, ToPrivate}
+use Rattle.lift_tree.specs.declared.term.UnaryForm.TheVariants.{Div, Rem, First, Second, Layout, Slide, Pad, ToLocal, ToPrivate}
 use Rattle.lift_tree.specs.declared.term.BinaryForm.{BinaryForm}
 use Rattle.lift_tree.specs.declared.term.BinaryForm.TheVariants as binary
 use Rattle.scalar_ops.specs.declared.op.Reducer.{Reducer}
@@ -28,7 +30,7 @@ use Rattle.pattern_types.specs.declared.refusal.TypeLimit.TheVariants as limit
 use Rattle.pattern_types.specs.declared.fault.Fault.{Fault}
 use Rattle.pattern_types.specs.declared.fault.Fault.TheVariants.{Breaks, Passes}
 use Rattle.pattern_types.specs.Judged as judged
-use Rattle.pattern_types.specs.Judged.{and_then, demand, at_most, counted, faulty, within, product_judged, scalars_judged, number_row, unary_row, split_row, pieces_row, windows_row, zip_row, reduce_row, binary_row, select_row, element_in, map_end, fold_start, fold_end}
+use Rattle.pattern_types.specs.Judged.{and_then, demand, at_most, counted, faulty, within, product_judged, scalars_judged, number_row, unary_row, layout_row, split_row, pieces_row, reverse_row, stride_row, strided_row, windows_row, zip_row, reduce_row, binary_row, select_row, element_in, map_end, fold_start, fold_end}
 use Rattle.pattern_types.specs.Refusals.{Any, most, CountsLength, CountsInside, CountsArray, Formed, formed, IsFault, products_along, IsPair, IsArray, IsArrayOfArrays, windows, unary_rule, UnaryDemand, unary_formed, unary_lengths, UnaryFault, binary_rule, BinaryDemand, binary_formed, BinaryFault, RuleFault}
 use Rattle.pattern_types.specs.Tests.{exact_quotient, is_element, is_same_element}
 use Rattle.pattern_types.proofs.Results.{within_ok, demand_ok}
@@ -173,7 +175,7 @@ number_faults (ArrayOf a n) k = one (Breaks rule.Operator) (k (array_no_word a n
 
 pieces_faults : (names : List Name) (fs : List Factor) (x : PlainTy) (n : List Monomial) → IsGood names (ArrayOf x n) → AllLow 4 (of_monomial (product_of names fs))
     → (q : Option (List Monomial)) → exact_quotient (of_monomial (product_of names fs)) n ≡ q
-    → Faults (UnaryFault names (Split fs) (ArrayOf x n)) (pieces_row names x (of_monomial (product_of names fs)) q)
+    → Faults (UnaryFault names (Layout (Split fs)) (ArrayOf x n)) (pieces_row names x (of_monomial (product_of names fs)) q)
 pieces_faults names fs x n g low None f =
     let k = product_of names fs in
     one (Breaks rule.Split) (inl (
@@ -187,14 +189,14 @@ pieces_faults names fs x n g low None f =
 pieces_faults names fs x n g low (Some q) f =
     let k = product_of names fs in
     let m = of_monomial k in
-    let Q = UnaryFault names (Split fs) (ArrayOf x n) in
+    let Q = UnaryFault names (Layout (Split fs)) (ArrayOf x n) in
     let d = table.exact_on k.coefficient k.powers n q f in
-    faults_then _ (unary_array names (Split fs) (ArrayOf x n) x m low (x, n, refl, d.0) (λ P h. inl h)) (λ c e.
+    faults_then _ (unary_array names (Layout (Split fs)) (ArrayOf x n) x m low (x, n, refl, d.0) (λ P h. inl h)) (λ c e.
     subst (λ z. Faults Q (judged.formed names z q)) (sym (formed_right names x c m g.2 low e).0)
     (subst (λ z. Faults Q (judged.formed names (ArrayOf x m) z)) (sym d.1)
-    (unary_array names (Split fs) (ArrayOf x n) (ArrayOf x m) (quotient k n) (quotient_low k n d.0 g.1) (x, n, refl, d.0) (λ P h. inr (inl h)))))
+    (unary_array names (Layout (Split fs)) (ArrayOf x n) (ArrayOf x m) (quotient k n) (quotient_low k n d.0 g.1) (x, n, refl, d.0) (λ P h. inr (inl h)))))
 
-split_faults : (names : List Name) (fs : List Factor) (b : PlainTy) → IsGood names b → AllLow 4 (of_monomial (product_of names fs)) → Faults (UnaryFault names (Split fs) b) (split_row names (of_monomial (product_of names fs)) b)
+split_faults : (names : List Name) (fs : List Factor) (b : PlainTy) → IsGood names b → AllLow 4 (of_monomial (product_of names fs)) → Faults (UnaryFault names (Layout (Split fs)) b) (split_row names (of_monomial (product_of names fs)) b)
 split_faults names fs U32 g low = one (Breaks rule.Split) (inl (refl, λ d. word_no_array (d.0, d.1, d.2)))
 split_faults names fs (PairOf a b) g low = one (Breaks rule.Split) (inl (refl, λ d. pair_no_array a b (d.0, d.1, d.2)))
 split_faults names fs (ArrayOf x n) g low = pieces_faults names fs x n g low (exact_quotient (of_monomial (product_of names fs)) n) refl
@@ -251,27 +253,65 @@ pad_faults names l r x n =
     let w = within_ok k j v in
     subst (λ y. Faults Q (judged.formed names x y)) w.0 (unary_array names (Pad l r) (ArrayOf x n) x k (subst (AllLow 4) (sym w.0) w.1) (x, n, refl) (λ P h. inl h)))))
 
-join_faults : (names : List Name) (b : PlainTy) → Faults (UnaryFault names Join b) (unary_row names Join b)
+join_faults : (names : List Name) (b : PlainTy) → Faults (UnaryFault names (Layout Join) b) (unary_row names (Layout Join) b)
 join_faults names U32 = one (Breaks rule.Join) (inl (refl, word_no_rows))
 join_faults names (PairOf a b) = one (Breaks rule.Join) (inl (refl, pair_no_rows a b))
 join_faults names (ArrayOf U32 n) = one (Breaks rule.Join) (inl (refl, words_no_rows n))
 join_faults names (ArrayOf (PairOf a b) n) = one (Breaks rule.Join) (inl (refl, pairs_no_rows a b n))
 join_faults names (ArrayOf (ArrayOf a m) n) =
     let k = times n m in
-    faults_then _ (unary_length names Join (ArrayOf (ArrayOf a m) n) k (λ P h. inl h)) (λ i u.
+    faults_then _ (unary_length names (Layout Join) (ArrayOf (ArrayOf a m) n) k (λ P h. inl h)) (λ i u.
     let w = within_ok k i u in
-    subst (λ y. Faults (UnaryFault names Join (ArrayOf (ArrayOf a m) n)) (judged.formed names a y)) w.0
-    (unary_array names Join (ArrayOf (ArrayOf a m) n) a k (subst (AllLow 4) (sym w.0) w.1) (a, m, n, refl) (λ P h. inl h)))
+    subst (λ y. Faults (UnaryFault names (Layout Join) (ArrayOf (ArrayOf a m) n)) (judged.formed names a y)) w.0
+    (unary_array names (Layout Join) (ArrayOf (ArrayOf a m) n) a k (subst (AllLow 4) (sym w.0) w.1) (a, m, n, refl) (λ P h. inl h)))
 
-transpose_faults : (names : List Name) (b : PlainTy) → IsGood names b → Faults (UnaryFault names Transpose b) (unary_row names Transpose b)
+transpose_faults : (names : List Name) (b : PlainTy) → IsGood names b → Faults (UnaryFault names (Layout Transpose) b) (unary_row names (Layout Transpose) b)
 transpose_faults names U32 g = one (Breaks rule.Transpose) (inl (refl, word_no_rows))
 transpose_faults names (PairOf a b) g = one (Breaks rule.Transpose) (inl (refl, pair_no_rows a b))
 transpose_faults names (ArrayOf U32 n) g = one (Breaks rule.Transpose) (inl (refl, words_no_rows n))
 transpose_faults names (ArrayOf (PairOf a b) n) g = one (Breaks rule.Transpose) (inl (refl, pairs_no_rows a b n))
 transpose_faults names (ArrayOf (ArrayOf a m) n) g =
-    faults_then _ (unary_array names Transpose (ArrayOf (ArrayOf a m) n) a n g.1 (a, m, n, refl) (λ P h. inl h)) (λ c e.
-    subst (λ y. Faults (UnaryFault names Transpose (ArrayOf (ArrayOf a m) n)) (judged.formed names y m)) (sym (formed_right names a c n g.2.2 g.1 e).0)
-    (unary_array names Transpose (ArrayOf (ArrayOf a m) n) (ArrayOf a n) m g.2.1 (a, m, n, refl) (λ P h. inr (inl h))))
+    faults_then _ (unary_array names (Layout Transpose) (ArrayOf (ArrayOf a m) n) a n g.1 (a, m, n, refl) (λ P h. inl h)) (λ c e.
+    subst (λ y. Faults (UnaryFault names (Layout Transpose) (ArrayOf (ArrayOf a m) n)) (judged.formed names y m)) (sym (formed_right names a c n g.2.2 g.1 e).0)
+    (unary_array names (Layout Transpose) (ArrayOf (ArrayOf a m) n) (ArrayOf a n) m g.2.1 (a, m, n, refl) (λ P h. inr (inl h))))
+
+reverse_faults : (names : List Name) (b : PlainTy) → Faults (UnaryFault names (Layout Reverse) b) (reverse_row b)
+reverse_faults names U32 = one (Breaks rule.Reverse) (inl (refl, word_no_array))
+reverse_faults names (PairOf a b) = one (Breaks rule.Reverse) (inl (refl, pair_no_array a b))
+reverse_faults names (ArrayOf a n) = none (ArrayOf a n)
+
+strided_faults : (names : List Name) (fs : List Factor) (x : PlainTy) (n : List Monomial) → IsGood names (ArrayOf x n)
+    → (q : Option (List Monomial)) → exact_quotient (of_monomial (product_of names fs)) n ≡ q
+    → Faults (UnaryFault names (Layout (Stride fs)) (ArrayOf x n)) (strided_row x n q)
+strided_faults names fs x n g None f =
+    let k = product_of names fs in
+    one (Breaks rule.Stride) (inl (
+      refl,
+      λ d.
+          let s = same_array x d.0 n d.1 d.2 in
+          let a : AllDivide k n = subst (AllDivide k) (sym s.1) d.3 in
+          let z = sym f ∙ forms.exact_on k.coefficient k.powers n (divisor_is names k n g.0 a) a in
+          absurd (cc),
+    ))
+strided_faults names fs x n g (Some q) f = none (ArrayOf x n)
+
+stride_faults : (names : List Name) (fs : List Factor) (b : PlainTy) → IsGood names b → Faults (UnaryFault names (Layout (Stride fs)) b) (stride_row (of_monomial (product_of names fs)) b)
+stride_faults names fs U32 g = one (Breaks rule.Stride) (inl (refl, λ d. word_no_array (d.0, d.1, d.2)))
+stride_faults names fs (PairOf a b) g = one (Breaks rule.Stride) (inl (refl, λ d. pair_no_array a b (d.0, d.1, d.2)))
+stride_faults names fs (ArrayOf x n) g = strided_faults names fs x n g (exact_quotient (of_monomial (product_of names fs)) n) refl
+
+layout_faults : (names : List Name) (l : layout.Layout) (b : PlainTy) → IsGood names b → Faults (UnaryFault names (Layout l) b) (layout_row names l b)
+layout_faults names Join b g = join_faults names b
+layout_faults names Transpose b g = transpose_faults names b g
+layout_faults names (Split fs) b g =
+    faults_then _ (product_faults names (constant 1) fs (λ l c m h. (m, inr h))) (λ m e.
+    let r = product_right names fs m e in
+    subst (λ y. Faults (UnaryFault names (Layout (Split fs)) b) (split_row names y b)) (sym r.0) (split_faults names fs b g (subst (AllLow 4) r.0 r.1)))
+layout_faults names Reverse b g = reverse_faults names b
+layout_faults names (Stride fs) b g =
+    faults_then _ (product_faults names (constant 1) fs (λ l c m h. (m, inr h))) (λ m e.
+    let r = product_right names fs m e in
+    subst (λ y. Faults (UnaryFault names (Layout (Stride fs)) b) (stride_row y b)) (sym r.0) (stride_faults names fs b g))
 
 pub unary_faults : (names : List Name) (size : ℕ) (f : UnaryForm) (b : PlainTy) → FormIsNamed size f → IsGood names b → Faults (UnaryFault names f b) (unary_row names f b)
 unary_faults names z (Div n) b i g = number_faults b (λ h. inl (refl, h))
@@ -282,12 +322,7 @@ unary_faults names z First (ArrayOf a n) i g = one (Breaks rule.Project) (inl (r
 unary_faults names z Second U32 i g = one (Breaks rule.Project) (inl (refl, word_no_pair))
 unary_faults names z Second (PairOf a b) i g = none b
 unary_faults names z Second (ArrayOf a n) i g = one (Breaks rule.Project) (inl (refl, array_no_pair a n))
-unary_faults names z Join b i g = join_faults names b
-unary_faults names z Transpose b i g = transpose_faults names b g
-unary_faults names z (Split fs) b i g =
-    faults_then _ (product_faults names (constant 1) fs (λ l c m h. (m, inr h))) (λ m e.
-    let r = product_right names fs m e in
-    subst (λ y. Faults (UnaryFault names (Split fs) b) (split_row names y b)) (sym r.0) (split_faults names fs b g (subst (AllLow 4) r.0 r.1)))
+unary_faults names z (Layout l) b i g = layout_faults names l b g
 unary_faults names z (Slide s t) U32 i g = one (Breaks rule.Slide) (inl (refl, λ d. word_no_array (d.0, d.1, d.2)))
 unary_faults names z (Slide s t) (PairOf a b) i g = one (Breaks rule.Slide) (inl (refl, λ d. pair_no_array a b (d.0, d.1, d.2)))
 unary_faults names z (Slide s t) (ArrayOf x n) i g = slide_faults names s t x n (let e = i.1 in omega arith) g

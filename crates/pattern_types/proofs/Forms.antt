@@ -9,23 +9,25 @@ use Rattle.size_arith.specs.Shown.{ShownAtLeast}
 use Rattle.size_arith.specs.Decisions.{is_shown, is_same}
 use Rattle.size_arith.proofs.Decisions.{decides_shown, decides_same}
 use Rattle.lift_tree.specs.declared.length.Factor.{Factor}
+use Rattle.lift_tree.specs.declared.layout.Layout as layout
+use Rattle.lift_tree.specs.declared.layout.Layout.TheVariants.{Join, Transpose, Split, Reverse, Stride}
 use Rattle.lift_tree.specs.declared.term.UnaryForm.{UnaryForm}
-use Rattle.lift_tree.specs.declared.term.UnaryForm.TheVariants.{Div, Rem, First, Second, Join, Transpose, Split, Slide, Pad, ToLocal, ToPrivate}
+use Rattle.lift_tree.specs.declared.term.UnaryForm.TheVariants.{Div, Rem, First, Second, Layout, Slide, Pad, ToLocal, ToPrivate}
 use Rattle.lift_tree.specs.declared.term.BinaryForm.{BinaryForm}
 use Rattle.lift_tree.specs.declared.term.BinaryForm.TheVariants as binary
 use Rattle.lift_tree.specs.Types.{PlainTy, U32, PairOf, ArrayOf, IsElement, IsFormed}
 use Rattle.lift_tree.specs.WorkedOut.{product_of}
-use Rattle.lift_tree.specs.Typing.{constant, UnaryRow, BinaryRow}
+use Rattle.lift_tree.specs.Typing.{constant, LayoutRow, UnaryRow, BinaryRow}
 use Rattle.pattern_types.specs.declared.refusal.Rule.TheVariants as rule
 use Rattle.pattern_types.specs.declared.fault.Fault.{Fault}
 use Rattle.pattern_types.specs.Tests.{exact_quotient, all_divide, is_element}
-use Rattle.pattern_types.specs.Judged.{pieces_row, windows_row, unary_row, operator_row, zip_row, reduce_row, binary_row}
+use Rattle.pattern_types.specs.Judged.{pieces_row, reverse_row, strided_row, windows_row, unary_row, operator_row, zip_row, reduce_row, binary_row}
 use Rattle.lift_tree.specs.Limits.{IsSmall, ArrayFits, OuterFits, UnaryFits}
 use Rattle.pattern_types.proofs.Products.{product_right}
 use Rattle.pattern_types.proofs.Table.{IsGood, constant_low, quotient_low}
 use Rattle.pattern_types.proofs.Tried.{decides_all_divide}
 use Rattle.pattern_types.proofs.Typed.{divisor_is}
-use Rattle.pattern_types.proofs.Judging.{Judges, itself, answers, judges_then, judges_three, judges_four, judges_demand, judges_within, low_small}
+use Rattle.pattern_types.proofs.Judging.{Judges, itself, answers, judges_alone, judges_then, judges_three, judges_four, judges_demand, judges_within, low_small}
 use Rattle.pattern_types.proofs.Fitted.{judges_product, judges_formed}
 
 -- ---- quotients
@@ -54,7 +56,7 @@ first_is a b c d e = (cc, cc)
 
 judges_split : (names : List Name) (fs : List Factor) (x : PlainTy) (n : List Monomial) → IsGood names (ArrayOf x n) → AllDivide (product_of names fs) n
     → IsFormed names (ArrayOf (ArrayOf x (of_monomial (product_of names fs))) (quotient (product_of names fs) n))
-    → Judges itself (UnaryFits names (Split fs) (ArrayOf x n)) (ArrayOf (ArrayOf x (of_monomial (product_of names fs))) (quotient (product_of names fs) n)) (unary_row names (Split fs) (ArrayOf x n))
+    → Judges itself (UnaryFits names (Layout (Split fs)) (ArrayOf x n)) (ArrayOf (ArrayOf x (of_monomial (product_of names fs))) (quotient (product_of names fs) n)) (unary_row names (Layout (Split fs)) (ArrayOf x n))
 judges_split names fs x n g d o =
     let k = product_of names fs in
     let m = of_monomial k in
@@ -89,6 +91,32 @@ judges_pad names l r x n o =
 abbrev At : List Name → UnaryForm → PlainTy → PlainTy → Type 0
 At names f b a = IsFormed names a → Judges itself (UnaryFits names f b) a (unary_row names f b)
 
+judges_stride : (names : List Name) (fs : List Factor) (x a : PlainTy) (n : List Monomial) → IsGood names (ArrayOf x n) → AllDivide (product_of names fs) n → ArrayOf x n ≡ a
+    → Judges itself (UnaryFits names (Layout (Stride fs)) (ArrayOf x n)) a (unary_row names (Layout (Stride fs)) (ArrayOf x n))
+judges_stride names fs x a n g d i =
+    let k = product_of names fs in
+    judges_alone
+    (judges_then _ (judges_product names fs) (λ e w.
+    subst (λ z. Judges itself (Unit {0}) a (strided_row x n z)) (sym (exact_on k.coefficient k.powers n (divisor_is names k n g.0 d) d)) (answers i)))
+
+judges_layout : (names : List Name) (l : layout.Layout) (b a : PlainTy) → LayoutRow names l b a → IsGood names b → At names (Layout l) b a
+judges_layout names Join b a r g o =
+    subst (λ z. Judges itself (UnaryFits names (Layout Join) z) a (unary_row names (Layout Join) z)) (sym r.3)
+    (subst (λ z. At names (Layout Join) (ArrayOf (ArrayOf r.0 r.1) r.2) z) (sym r.4) (λ f.
+    judges_then _ (judges_within (times r.2 r.1)) (λ e w. judges_formed names r.0 (times r.2 r.1) (low_small (times r.2 r.1) w) f.0)) o)
+judges_layout names Transpose b a r g o =
+    let h = subst (IsGood names) r.3 g in
+    subst (λ z. Judges itself (UnaryFits names (Layout Transpose) z) a (unary_row names (Layout Transpose) z)) (sym r.3)
+    (subst (λ z. At names (Layout Transpose) (ArrayOf (ArrayOf r.0 r.1) r.2) z) (sym r.4) (λ f.
+    judges_then _ (judges_formed names r.0 r.2 h.1 f.1.0) (λ e w. judges_formed names (ArrayOf r.0 r.2) r.1 h.2.1 f.0)) o)
+judges_layout names (Split fs) b a r g o =
+    subst (λ z. Judges itself (UnaryFits names (Layout (Split fs)) z) a (unary_row names (Layout (Split fs)) z)) (sym r.2)
+    (subst (λ z. At names (Layout (Split fs)) (ArrayOf r.0 r.1) z) (sym r.4) (judges_split names fs r.0 r.1 (subst (IsGood names) r.2 g) r.3) o)
+judges_layout names Reverse b a r g o = subst (λ z. Judges itself (Unit {0}) a (reverse_row z)) (sym r.2) (answers (sym r.3))
+judges_layout names (Stride fs) b a r g o =
+    subst (λ z. Judges itself (UnaryFits names (Layout (Stride fs)) z) a (unary_row names (Layout (Stride fs)) z)) (sym r.2)
+    (judges_stride names fs r.0 a r.1 (subst (IsGood names) r.2 g) r.3 (sym r.4))
+
 pub judges_unary : (names : List Name) (f : UnaryForm) (b a : PlainTy) → UnaryRow names f b a → IsGood names b → At names f b a
 judges_unary names (Div n) U32 a r g o = answers (sym r.2)
 judges_unary names (Div n) (PairOf b c) a r g o = absurd (let e = r.1 in cc)
@@ -102,18 +130,7 @@ judges_unary names First (ArrayOf b m) a r g o = absurd (let e = r.1 in cc)
 judges_unary names Second U32 a r g o = absurd (let e = r.1 in cc)
 judges_unary names Second (PairOf b c) a r g o = answers (first_is b c r.0 a r.1).1
 judges_unary names Second (ArrayOf b m) a r g o = absurd (let e = r.1 in cc)
-judges_unary names Join b a r g o =
-    subst (λ z. Judges itself (UnaryFits names Join z) a (unary_row names Join z)) (sym r.3)
-    (subst (λ z. At names Join (ArrayOf (ArrayOf r.0 r.1) r.2) z) (sym r.4) (λ f.
-    judges_then _ (judges_within (times r.2 r.1)) (λ e w. judges_formed names r.0 (times r.2 r.1) (low_small (times r.2 r.1) w) f.0)) o)
-judges_unary names Transpose b a r g o =
-    let h = subst (IsGood names) r.3 g in
-    subst (λ z. Judges itself (UnaryFits names Transpose z) a (unary_row names Transpose z)) (sym r.3)
-    (subst (λ z. At names Transpose (ArrayOf (ArrayOf r.0 r.1) r.2) z) (sym r.4) (λ f.
-    judges_then _ (judges_formed names r.0 r.2 h.1 f.1.0) (λ e w. judges_formed names (ArrayOf r.0 r.2) r.1 h.2.1 f.0)) o)
-judges_unary names (Split fs) b a r g o =
-    subst (λ z. Judges itself (UnaryFits names (Split fs) z) a (unary_row names (Split fs) z)) (sym r.2)
-    (subst (λ z. At names (Split fs) (ArrayOf r.0 r.1) z) (sym r.4) (judges_split names fs r.0 r.1 (subst (IsGood names) r.2 g) r.3) o)
+judges_unary names (Layout l) b a r g o = judges_layout names l b a r g o
 judges_unary names (Slide s t) b a r g o =
     subst (λ z. Judges itself (UnaryFits names (Slide s t) z) a (unary_row names (Slide s t) z)) (sym r.2)
     (subst (λ z. At names (Slide s t) (ArrayOf r.0 r.1) z) (sym r.6) (judges_slide names s t r.0 r.1 (subst (IsGood names) r.2 g) r.3 r.4 r.5) o)

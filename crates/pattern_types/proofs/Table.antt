@@ -9,8 +9,10 @@ use Rattle.size_arith.specs.Shown.{ShownAtLeast}
 use Rattle.size_arith.specs.Decisions.{is_shown, is_same}
 use Rattle.size_arith.proofs.Decisions.{decides_shown, decides_same}
 use Rattle.lift_tree.specs.declared.length.Factor.{Factor}
+use Rattle.lift_tree.specs.declared.layout.Layout as layout
+use Rattle.lift_tree.specs.declared.layout.Layout.TheVariants.{Join, Transpose, Split, Reverse, Stride}
 use Rattle.lift_tree.specs.declared.term.UnaryForm.{UnaryForm}
-use Rattle.lift_tree.specs.declared.term.UnaryForm.TheVariants.{Div, Rem, First, Second, Join, Transpose, Split, Slide, Pad, ToLocal, ToPrivate}
+use Rattle.lift_tree.specs.declared.term.UnaryForm.TheVariants.{Div, Rem, First, Second, Layout, Slide, Pad, ToLocal, ToPrivate}
 use Rattle.lift_tree.specs.declared.term.BinaryForm.{BinaryForm}
 use Rattle.lift_tree.specs.declared.term.BinaryForm.TheVariants as binary
 use Rattle.lift_tree.specs.Types.{PlainTy, U32, PairOf, ArrayOf, IsElement, IsFormed}
@@ -22,7 +24,7 @@ use Rattle.pattern_types.specs.declared.refusal.TypeLimit.TheVariants as limit
 use Rattle.pattern_types.specs.declared.fault.Fault.{Fault}
 use Rattle.lift_tree.specs.Belonging.{FormIsNamed}
 use Rattle.pattern_types.specs.Tests.{exact_quotient, all_divide, is_element, is_same_element}
-use Rattle.pattern_types.specs.Judged.{demand, at_most, counted, within, product_judged, formed, scalars_judged, unary_row, binary_row, split_row, pieces_row, windows_row, number_row, zip_row, reduce_row}
+use Rattle.pattern_types.specs.Judged.{demand, at_most, counted, within, product_judged, formed, scalars_judged, unary_row, binary_row, layout_row, split_row, pieces_row, stride_row, strided_row, windows_row, number_row, zip_row, reduce_row}
 use Rattle.pattern_types.proofs.Results.{yes, and_ok, within_ok, demand_ok}
 use Rattle.pattern_types.proofs.Products.{product_right}
 use Rattle.pattern_types.proofs.Tried.{decides_all_divide}
@@ -89,7 +91,7 @@ number_right U32 a h = (refl, sym (same_ok U32 a h))
 number_right (PairOf b c) a h = absurd (cc)
 number_right (ArrayOf b n) a h = absurd (cc)
 
-split_right : (names : List Name) (fs : List Factor) (x a : PlainTy) (n m : List Monomial) → IsGood names (ArrayOf x n) → AllLow 4 m → m ≡ of_monomial (product_of names fs) → (q : Option (List Monomial)) → exact_quotient m n ≡ q → pieces_row names x m q ≡ Ok a → Right names (Split fs) (ArrayOf x n) a
+split_right : (names : List Name) (fs : List Factor) (x a : PlainTy) (n m : List Monomial) → IsGood names (ArrayOf x n) → AllLow 4 m → m ≡ of_monomial (product_of names fs) → (q : Option (List Monomial)) → exact_quotient m n ≡ q → pieces_row names x m q ≡ Ok a → Right names (Layout (Split fs)) (ArrayOf x n) a
 split_right names fs x a n m g l e None f h = absurd (cc)
 split_right names fs x a n m g l e (Some q) f h =
     let k = product_of names fs in
@@ -113,6 +115,55 @@ slide_right names s t x a n left j g w z (Some q) f h =
     let i : a ≡ ArrayOf (ArrayOf x (constant s)) (plus (quotient (number (pos t)) (minus n (constant s))) (constant 1)) = k.0 ∙ ap (λ y. ArrayOf y u.0) r.0 ∙ ap (λ y. ArrayOf (ArrayOf x (constant s)) y) (sym v.0 ∙ ap (λ y. plus y (constant 1)) e) in
     ((x, n, refl, j, subst (ShownAtLeast 0 names) (sym w.0) z, subst (AllDivide (number (pos t))) (sym w.0) d.0, i, good_formed names a k.1), k.1)
 
+strided_right : (names : List Name) (fs : List Factor) (x a : PlainTy) (n m : List Monomial) → IsGood names (ArrayOf x n) → m ≡ of_monomial (product_of names fs) → (q : Option (List Monomial)) → exact_quotient m n ≡ q → strided_row x n q ≡ Ok a → Right names (Layout (Stride fs)) (ArrayOf x n) a
+strided_right names fs x a n m g e None f h = absurd (cc)
+strided_right names fs x a n m g e (Some q) f h =
+    let k = product_of names fs in
+    let d = exact_on k.coefficient k.powers n q (subst (λ z. exact_quotient z n ≡ Some q) e f) in
+    let i = same_ok (ArrayOf x n) a h in
+    ((x, n, refl, d.0, sym i), subst (IsGood names) i g)
+
+layout_right : (names : List Name) (l : layout.Layout) (b a : PlainTy) → IsGood names b → layout_row names l b ≡ Ok a → Right names (Layout l) b a
+layout_right names Join U32 a g h = absurd (cc)
+layout_right names Join (PairOf b c) a g h = absurd (cc)
+layout_right names Join (ArrayOf U32 n) a g h = absurd (cc)
+layout_right names Join (ArrayOf (PairOf b c) n) a g h = absurd (cc)
+layout_right names Join (ArrayOf (ArrayOf x m) n) a g h =
+    let p = and_ok (within (times n m)) (λ l. formed names x l) a h in
+    let w = within_ok (times n m) p.0 p.1 in
+    let f = formed_right names x a p.0 g.2.2 w.1 p.2 in
+    ((x, m, n, refl, f.0 ∙ ap (λ y. ArrayOf x y) (sym w.0), good_formed names a f.1), f.1)
+layout_right names Transpose U32 a g h = absurd (cc)
+layout_right names Transpose (PairOf b c) a g h = absurd (cc)
+layout_right names Transpose (ArrayOf U32 n) a g h = absurd (cc)
+layout_right names Transpose (ArrayOf (PairOf b c) n) a g h = absurd (cc)
+layout_right names Transpose (ArrayOf (ArrayOf x m) n) a g h =
+    let p = and_ok (formed names x n) (λ row. formed names row m) a h in
+    let r = formed_right names x p.0 n g.2.2 g.1 p.1 in
+    let s = formed_right names p.0 a m r.1 g.2.1 p.2 in
+    ((x, m, n, refl, s.0 ∙ ap (λ y. ArrayOf y m) r.0, good_formed names a s.1), s.1)
+layout_right names (Split fs) b a g h =
+    let p = and_ok (product_judged names (constant 1) fs) (λ m. split_row names m b) a h in
+    let w = product_right names fs p.0 p.1 in
+    go b p.0 g w.1 w.0 p.2
+  where
+    go : (b : PlainTy) (m : List Monomial) → IsGood names b → AllLow 4 m → m ≡ of_monomial (product_of names fs) → split_row names m b ≡ Ok a → Right names (Layout (Split fs)) b a
+    go U32 m g l e h = absurd (cc)
+    go (PairOf b c) m g l e h = absurd (cc)
+    go (ArrayOf x n) m g l e h = split_right names fs x a n m g l e (exact_quotient m n) refl h
+layout_right names Reverse U32 a g h = absurd (cc)
+layout_right names Reverse (PairOf b c) a g h = absurd (cc)
+layout_right names Reverse (ArrayOf x n) a g h = let e = same_ok (ArrayOf x n) a h in ((x, n, refl, sym e), subst (IsGood names) e g)
+layout_right names (Stride fs) b a g h =
+    let p = and_ok (product_judged names (constant 1) fs) (λ m. stride_row m b) a h in
+    let w = product_right names fs p.0 p.1 in
+    go b p.0 g w.0 p.2
+  where
+    go : (b : PlainTy) (m : List Monomial) → IsGood names b → m ≡ of_monomial (product_of names fs) → stride_row m b ≡ Ok a → Right names (Layout (Stride fs)) b a
+    go U32 m g e h = absurd (cc)
+    go (PairOf b c) m g e h = absurd (cc)
+    go (ArrayOf x n) m g e h = strided_right names fs x a n m g e (exact_quotient m n) refl h
+
 pub unary_right : (names : List Name) (size : ℕ) (f : UnaryForm) (b a : PlainTy) → FormIsNamed size f → IsGood names b → unary_row names f b ≡ Ok a → Right names f b a
 unary_right names z (Div n) b a i g h = let r = number_right b a h in ((i, r.0, r.1), subst (IsGood names) (sym r.1) tt)
 unary_right names z (Rem n) b a i g h = let r = number_right b a h in ((i, r.0, r.1), subst (IsGood names) (sym r.1) tt)
@@ -122,33 +173,7 @@ unary_right names z First (ArrayOf b n) a i g h = absurd (cc)
 unary_right names z Second U32 a i g h = absurd (cc)
 unary_right names z Second (PairOf b c) a i g h = let e = same_ok c a h in ((b, ap (λ x. PairOf b x) e), subst (IsGood names) e g.1)
 unary_right names z Second (ArrayOf b n) a i g h = absurd (cc)
-unary_right names z Join U32 a i g h = absurd (cc)
-unary_right names z Join (PairOf b c) a i g h = absurd (cc)
-unary_right names z Join (ArrayOf U32 n) a i g h = absurd (cc)
-unary_right names z Join (ArrayOf (PairOf b c) n) a i g h = absurd (cc)
-unary_right names z Join (ArrayOf (ArrayOf x m) n) a i g h =
-    let p = and_ok (within (times n m)) (λ l. formed names x l) a h in
-    let w = within_ok (times n m) p.0 p.1 in
-    let f = formed_right names x a p.0 g.2.2 w.1 p.2 in
-    ((x, m, n, refl, f.0 ∙ ap (λ y. ArrayOf x y) (sym w.0), good_formed names a f.1), f.1)
-unary_right names z Transpose U32 a i g h = absurd (cc)
-unary_right names z Transpose (PairOf b c) a i g h = absurd (cc)
-unary_right names z Transpose (ArrayOf U32 n) a i g h = absurd (cc)
-unary_right names z Transpose (ArrayOf (PairOf b c) n) a i g h = absurd (cc)
-unary_right names z Transpose (ArrayOf (ArrayOf x m) n) a i g h =
-    let p = and_ok (formed names x n) (λ row. formed names row m) a h in
-    let r = formed_right names x p.0 n g.2.2 g.1 p.1 in
-    let s = formed_right names p.0 a m r.1 g.2.1 p.2 in
-    ((x, m, n, refl, s.0 ∙ ap (λ y. ArrayOf y m) r.0, good_formed names a s.1), s.1)
-unary_right names z (Split fs) b a i g h =
-    let p = and_ok (product_judged names (constant 1) fs) (λ m. split_row names m b) a h in
-    let w = product_right names fs p.0 p.1 in
-    go b p.0 g w.1 w.0 p.2
-  where
-    go : (b : PlainTy) (m : List Monomial) → IsGood names b → AllLow 4 m → m ≡ of_monomial (product_of names fs) → split_row names m b ≡ Ok a → Right names (Split fs) b a
-    go U32 m g l e h = absurd (cc)
-    go (PairOf b c) m g l e h = absurd (cc)
-    go (ArrayOf x n) m g l e h = split_right names fs x a n m g l e (exact_quotient m n) refl h
+unary_right names z (Layout l) b a i g h = layout_right names l b a g h
 unary_right names z (Slide s t) U32 a i g h = absurd (cc)
 unary_right names z (Slide s t) (PairOf b c) a i g h = absurd (cc)
 unary_right names z (Slide s t) (ArrayOf x n) a i g h =

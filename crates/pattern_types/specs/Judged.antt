@@ -9,8 +9,10 @@ use Rattle.size_arith.specs.Shown.{largest}
 use Rattle.size_arith.specs.Decisions.{is_shown, is_same}
 use Rattle.lift_tree.specs.declared.length.Factor.{Factor}
 use Rattle.lift_tree.specs.declared.length.Part.{Part}
+use Rattle.lift_tree.specs.declared.layout.Layout as layout
+use Rattle.lift_tree.specs.declared.layout.Layout.TheVariants.{Join, Transpose, Split, Reverse, Stride}
 use Rattle.lift_tree.specs.declared.term.UnaryForm.{UnaryForm}
-use Rattle.lift_tree.specs.declared.term.UnaryForm.TheVariants.{Div, Rem, First, Second, Join, Transpose, Split, Slide, Pad, ToLocal, ToPrivate}
+use Rattle.lift_tree.specs.declared.term.UnaryForm.TheVariants.{Div, Rem, First, Second, Layout, Slide, Pad, ToLocal, ToPrivate}
 use Rattle.lift_tree.specs.declared.term.BinaryForm.{BinaryForm}
 use Rattle.lift_tree.specs.declared.term.BinaryForm.TheVariants as binary
 use Rattle.lift_tree.specs.Tree.{Tree, Variable, Number, Input, Unary, Binary, Select, Let, Map, Fold}
@@ -138,6 +140,30 @@ split_row names m U32 = Err (Breaks rule.Split)
 split_row names m (PairOf a b) = Err (Breaks rule.Split)
 split_row names m (ArrayOf a n) = pieces_row names a m (exact_quotient m n)
 
+abbrev pub reverse_row : PlainTy → Result PlainTy Fault
+reverse_row U32 = Err (Breaks rule.Reverse)
+reverse_row (PairOf a b) = Err (Breaks rule.Reverse)
+reverse_row (ArrayOf a n) = Ok (ArrayOf a n)
+
+-- the array itself, where its length has a quotient
+abbrev pub strided_row : PlainTy → List Monomial → Option (List Monomial) → Result PlainTy Fault
+strided_row a n None = Err (Breaks rule.Stride)
+strided_row a n (Some q) = Ok (ArrayOf a n)
+
+abbrev pub stride_row : List Monomial → PlainTy → Result PlainTy Fault
+stride_row m U32 = Err (Breaks rule.Stride)
+stride_row m (PairOf a b) = Err (Breaks rule.Stride)
+stride_row m (ArrayOf a n) = strided_row a n (exact_quotient m n)
+
+abbrev pub layout_row : List Name → layout.Layout → PlainTy → Result PlainTy Fault
+layout_row names Join a = join_row names a
+layout_row names Transpose a = transpose_row names a
+layout_row names (Split fs) a =
+    and_then (product_judged names (constant 1) fs) (λ m. split_row names m a)
+layout_row names Reverse a = reverse_row a
+layout_row names (Stride fs) a =
+    and_then (product_judged names (constant 1) fs) (λ m. stride_row m a)
+
 -- windows of length s, one more than the steps that fit
 abbrev pub windows_row : List Name → PlainTy → ℕ → Option (List Monomial) → Result PlainTy Fault
 windows_row names a s None = Err (Breaks rule.Slide)
@@ -165,10 +191,7 @@ unary_row names (Div n) a = number_row a
 unary_row names (Rem n) a = number_row a
 unary_row names First a = first_row a
 unary_row names Second a = second_row a
-unary_row names Join a = join_row names a
-unary_row names Transpose a = transpose_row names a
-unary_row names (Split fs) a =
-    and_then (product_judged names (constant 1) fs) (λ m. split_row names m a)
+unary_row names (Layout l) a = layout_row names l a
 unary_row names (Slide s t) a = slide_row names s t a
 unary_row names (Pad l r) a = pad_row names l r a
 unary_row names ToLocal a = Ok a

@@ -7,8 +7,10 @@ use Rattle.size_arith.specs.Ranges.{AreNames}
 use Rattle.size_arith.specs.Shown.{ShownAtLeast, largest}
 use Rattle.lift_tree.specs.declared.length.Factor.{Factor}
 use Rattle.lift_tree.specs.declared.length.Part.{Part}
+use Rattle.lift_tree.specs.declared.layout.Layout as layout
+use Rattle.lift_tree.specs.declared.layout.Layout.TheVariants.{Join, Transpose, Split, Reverse, Stride}
 use Rattle.lift_tree.specs.declared.term.UnaryForm.{UnaryForm}
-use Rattle.lift_tree.specs.declared.term.UnaryForm.TheVariants.{Div, Rem, First, Second, Join, Transpose, Split, Slide, Pad, ToLocal, ToPrivate}
+use Rattle.lift_tree.specs.declared.term.UnaryForm.TheVariants.{Div, Rem, First, Second, Layout, Slide, Pad, ToLocal, ToPrivate}
 use Rattle.lift_tree.specs.declared.term.BinaryForm.{BinaryForm}
 use Rattle.lift_tree.specs.declared.term.BinaryForm.TheVariants as binary
 use Rattle.lift_tree.specs.Annotations.{Annotation, Annotates, type_in}
@@ -113,14 +115,19 @@ sums_along names s (p ∷ ps) =
     let next = with_part p.sign s (of_monomial (product_of names p.product)) in
     products_along names (constant 1) p.product ++ next ∷ sums_along names next ps
 
+abbrev pub layout_rule : layout.Layout → Rule
+layout_rule Join = rule.Join
+layout_rule Transpose = rule.Transpose
+layout_rule (Split fs) = rule.Split
+layout_rule Reverse = rule.Reverse
+layout_rule (Stride fs) = rule.Stride
+
 abbrev pub unary_rule : UnaryForm → Option Rule
 unary_rule (Div n) = Some rule.Operator
 unary_rule (Rem n) = Some rule.Operator
 unary_rule First = Some rule.Project
 unary_rule Second = Some rule.Project
-unary_rule Join = Some rule.Join
-unary_rule Transpose = Some rule.Transpose
-unary_rule (Split fs) = Some rule.Split
+unary_rule (Layout l) = Some (layout_rule l)
 unary_rule (Slide s t) = Some rule.Slide
 unary_rule (Pad l r) = Some rule.Pad
 unary_rule ToLocal = None
@@ -135,15 +142,21 @@ IsArray b = (x : PlainTy) × (n : List Monomial) × (b ≡ ArrayOf x n)
 abbrev pub IsArrayOfArrays : PlainTy → Type 0
 IsArrayOfArrays b = (x : PlainTy) × (m n : List Monomial) × (b ≡ ArrayOf (ArrayOf x m) n)
 
+abbrev pub LayoutDemand : List Name → layout.Layout → PlainTy → Type 0
+LayoutDemand names Join b = IsArrayOfArrays b
+LayoutDemand names Transpose b = IsArrayOfArrays b
+LayoutDemand names (Split fs) b =
+    (x : PlainTy) × (n : List Monomial) × (b ≡ ArrayOf x n) × AllDivide (product_of names fs) n
+LayoutDemand names Reverse b = IsArray b
+LayoutDemand names (Stride fs) b =
+    (x : PlainTy) × (n : List Monomial) × (b ≡ ArrayOf x n) × AllDivide (product_of names fs) n
+
 abbrev pub UnaryDemand : List Name → UnaryForm → PlainTy → Type 0
 UnaryDemand names (Div n) b = b ≡ U32
 UnaryDemand names (Rem n) b = b ≡ U32
 UnaryDemand names First b = IsPair b
 UnaryDemand names Second b = IsPair b
-UnaryDemand names Join b = IsArrayOfArrays b
-UnaryDemand names Transpose b = IsArrayOfArrays b
-UnaryDemand names (Split fs) b =
-    (x : PlainTy) × (n : List Monomial) × (b ≡ ArrayOf x n) × AllDivide (product_of names fs) n
+UnaryDemand names (Layout l) b = LayoutDemand names l b
 UnaryDemand names (Slide s t) b =
     (x : PlainTy) × (n : List Monomial) × (b ≡ ArrayOf x n)
     × ShownAtLeast 0 names (minus n (constant s))
@@ -155,20 +168,25 @@ UnaryDemand names ToPrivate b = Unit {0}
 abbrev pub windows : (size step : ℕ) → List Monomial → List Monomial
 windows s t n = plus (quotient (number (pos t)) (minus n (constant s))) (constant 1)
 
--- none where the type isn't such as the form demands
-abbrev pub unary_formed : List Name → UnaryForm → PlainTy → List Formed
-unary_formed names Join (ArrayOf (ArrayOf x m) n) = formed x (times n m) ∷ []
-unary_formed names Transpose (ArrayOf (ArrayOf x m) n) = formed x n ∷ formed (ArrayOf x n) m ∷ []
-unary_formed names (Split fs) (ArrayOf x n) =
+-- none where the type isn't such as the form demands; reverse and stride form no array anew
+abbrev pub layout_formed : List Name → layout.Layout → PlainTy → List Formed
+layout_formed names Join (ArrayOf (ArrayOf x m) n) = formed x (times n m) ∷ []
+layout_formed names Transpose (ArrayOf (ArrayOf x m) n) = formed x n ∷ formed (ArrayOf x n) m ∷ []
+layout_formed names (Split fs) (ArrayOf x n) =
     let m = product_of names fs in
     formed x (of_monomial m) ∷ formed (ArrayOf x (of_monomial m)) (quotient m n) ∷ []
+layout_formed names Join b = []
+layout_formed names Transpose b = []
+layout_formed names (Split fs) b = []
+layout_formed names Reverse b = []
+layout_formed names (Stride fs) b = []
+
+abbrev pub unary_formed : List Name → UnaryForm → PlainTy → List Formed
+unary_formed names (Layout l) b = layout_formed names l b
 unary_formed names (Slide s t) (ArrayOf x n) =
     formed x (constant s) ∷ formed (ArrayOf x (constant s)) (windows s t n) ∷ []
 unary_formed names (Pad l r) (ArrayOf x n) =
     formed x (plus (plus (constant l) n) (constant r)) ∷ []
-unary_formed names Join b = []
-unary_formed names Transpose b = []
-unary_formed names (Split fs) b = []
 unary_formed names (Slide s t) b = []
 unary_formed names (Pad l r) b = []
 unary_formed names (Div n) b = []
@@ -178,16 +196,21 @@ unary_formed names Second b = []
 unary_formed names ToLocal b = []
 unary_formed names ToPrivate b = []
 
+abbrev pub layout_lengths : List Name → layout.Layout → PlainTy → List (List Monomial)
+layout_lengths names Join (ArrayOf (ArrayOf x m) n) = times n m ∷ []
+layout_lengths names Join b = []
+layout_lengths names Transpose b = []
+layout_lengths names (Split fs) b = products_along names (constant 1) fs
+layout_lengths names Reverse b = []
+layout_lengths names (Stride fs) b = products_along names (constant 1) fs
+
 abbrev pub unary_lengths : List Name → UnaryForm → PlainTy → List (List Monomial)
-unary_lengths names Join (ArrayOf (ArrayOf x m) n) = times n m ∷ []
-unary_lengths names (Split fs) b = products_along names (constant 1) fs
+unary_lengths names (Layout l) b = layout_lengths names l b
 unary_lengths names (Slide s t) (ArrayOf x n) = minus n (constant s) ∷ windows s t n ∷ []
 unary_lengths names (Pad l r) (ArrayOf x n) =
     plus (constant l) n ∷ plus (plus (constant l) n) (constant r) ∷ []
-unary_lengths names Join b = []
 unary_lengths names (Slide s t) b = []
 unary_lengths names (Pad l r) b = []
-unary_lengths names Transpose b = []
 unary_lengths names (Div n) b = []
 unary_lengths names (Rem n) b = []
 unary_lengths names First b = []

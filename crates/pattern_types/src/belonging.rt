@@ -6,10 +6,11 @@ ghost use Rattle.lift_tree.specs.InputTypes.{written_of};
 ghost use Rattle.lift_tree.specs.Tree.{tree_of, height};
 ghost use Rattle.lift_tree.specs.WorkedOut.{range_of};
 ghost use Rattle.lift_tree.specs.Programs.{PlainInput, input_of, program_of};
-ghost use Rattle.lift_tree.specs.Belonging.{IsNamed, IsProper, IsTermOf, AreNamed, PartsAreNamed, TypeIsNamed, InputsAreNamed, IsElementType, HoldsElementTypes, IsInputType, FormIsNamed, Belongs};
+ghost use Rattle.lift_tree.specs.Belonging.{IsNamed, IsProper, IsTermOf, AreNamed, PartsAreNamed, TypeIsNamed, InputsAreNamed, IsElementType, HoldsElementTypes, IsInputType, LayoutIsNamed, FormIsNamed, Belongs};
 ghost use Rattle.lift_tree.specs.Lists.{Every};
 
 use lift_tree::input_type::InputType;
+use lift_tree::layout::Layout;
 use lift_tree::length::{Factor, Part};
 use lift_tree::program::{Input, Program, Size};
 use lift_tree::term::{Term, UnaryForm};
@@ -103,17 +104,24 @@ fn inputs_are_named(sizes: usize, inputs: &[Input]) -> bool
     }
 }
 
+fn layout_is_named(sizes: usize, layout: &Layout) -> bool
+    ensures { IsTrue result ↔ LayoutIsNamed sizes layout.now }
+{
+    match layout {
+        Layout::Split(step) | Layout::Stride(step) => are_named(sizes, 1, step.factors()),
+        Layout::Join | Layout::Transpose | Layout::Reverse => true,
+    }
+}
+
 fn form_is_named(sizes: usize, form: &UnaryForm) -> bool
     ensures { IsTrue result ↔ FormIsNamed sizes form.now }
 {
     match form {
         UnaryForm::Div(n) | UnaryForm::Rem(n) => 1 <= *n,
-        UnaryForm::Split(piece) => are_named(sizes, 1, piece.factors()),
+        UnaryForm::Layout(layout) => layout_is_named(sizes, layout),
         UnaryForm::Slide(size, step) => 1 <= *size && 1 <= *step,
         UnaryForm::First
         | UnaryForm::Second
-        | UnaryForm::Join
-        | UnaryForm::Transpose
         | UnaryForm::Pad(_, _)
         | UnaryForm::ToLocal
         | UnaryForm::ToPrivate => true,

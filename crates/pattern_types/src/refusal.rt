@@ -25,6 +25,10 @@ pub enum Rule {
     Join,
     /// The operand of a `transpose` is an array of arrays.
     Transpose,
+    /// The operand of a `reverse` is an array.
+    Reverse,
+    /// The step of a `stride` divides the array's length.
+    Stride,
     /// The windows of a `slide` fit the array, and its steps divide what is left.
     Slide,
     /// The operand of a `pad` is an array.

@@ -3,13 +3,14 @@
 ghost use Rattle.std.specs.Prelude.{◌≡◌, ◌≢◌, IfErr, IfOk, Err, Ok, Some, length};
 ghost use Rattle.lift_tree.specs.Types.{ty_of, PairOf};
 ghost use Rattle.pattern_types.specs.declared.fault.Fault.TheVariants.{Memory};
-ghost use Rattle.lift_tree.specs.Belonging.{FormIsNamed};
-ghost use Rattle.pattern_types.specs.Judged.{number_row, first_row, second_row, join_row, transpose_row, split_row, windows_row, slide_row, pad_row, unary_row, operator_row, pair_row, zip_row, reduce_row, binary_row, select_row};
+ghost use Rattle.lift_tree.specs.Belonging.{FormIsNamed, LayoutIsNamed};
+ghost use Rattle.pattern_types.specs.Judged.{number_row, first_row, second_row, join_row, transpose_row, split_row, reverse_row, stride_row, layout_row, windows_row, slide_row, pad_row, unary_row, operator_row, pair_row, zip_row, reduce_row, binary_row, select_row};
 
 use crate::arrays::{formed, is_element};
 use crate::fault::{Fault, demanded};
 use crate::lengths::{constant, difference, exact_quotient, product, product_of, sum};
 use crate::refusal::Rule;
+use lift_tree::layout::Layout;
 use lift_tree::term::{BinaryForm, UnaryForm};
 use lift_tree::ty::Ty;
 use size_arith::{Names, Poly};
@@ -96,6 +97,53 @@ fn split(alloc: Global, names: &Names, piece: Poly, operand: &Ty) -> Result<Ty, 
     }
 }
 
+fn reverse(alloc: Global, operand: &Ty) -> Result<Ty, Fault>
+    ensures ok { IfOk result (λ t. reverse_row (ty_of operand.now) ≡ Ok (ty_of t)) }
+    ensures refused { IfErr result (λ f. f ≢ Memory → reverse_row (ty_of operand.now) ≡ Err f) }
+{
+    match operand {
+        Ty::Array(_, _) => Ok(operand.copy(alloc)?),
+        Ty::Number | Ty::Pair(_, _) => Err(Fault::Breaks(Rule::Reverse)),
+    }
+}
+
+fn stride(alloc: Global, step: &Poly, operand: &Ty) -> Result<Ty, Fault>
+    ensures ok { IfOk result (λ t. stride_row step.now (ty_of operand.now) ≡ Ok (ty_of t)) }
+    ensures refused { IfErr result (λ f. f ≢ Memory → stride_row step.now (ty_of operand.now)
+        ≡ Err f) }
+{
+    match operand {
+        Ty::Array(_, whole) => match exact_quotient(alloc, step, whole)? {
+            Some(_) => Ok(operand.copy(alloc)?),
+            None => Err(Fault::Breaks(Rule::Stride)),
+        },
+        Ty::Number | Ty::Pair(_, _) => Err(Fault::Breaks(Rule::Stride)),
+    }
+}
+
+/// The type of a layout, the length that it names worked out first.
+fn layout(alloc: Global, names: &Names, layout: &Layout, operand: &Ty) -> Result<Ty, Fault>
+    requires { LayoutIsNamed (length names.now) layout.now }
+    ensures ok { IfOk result (λ t. layout_row names.now layout.now (ty_of operand.now)
+        ≡ Ok (ty_of t)) }
+    ensures refused { IfErr result (λ f. f ≢ Memory
+        → layout_row names.now layout.now (ty_of operand.now) ≡ Err f) }
+{
+    match layout {
+        Layout::Join => join(alloc, names, operand),
+        Layout::Transpose => transpose(alloc, names, operand),
+        Layout::Split(piece) => {
+            let piece = product_of(alloc, names, piece)?;
+            split(alloc, names, piece, operand)
+        }
+        Layout::Reverse => reverse(alloc, operand),
+        Layout::Stride(step) => {
+            let step = product_of(alloc, names, step)?;
+            stride(alloc, &step, operand)
+        }
+    }
+}
+
 // The windows of this size, one more than the steps that fit.
 fn windows(alloc: Global, names: &Names, element: &Ty, size: u32, steps: &Poly) -> Result<Ty, Fault>
     ensures ok { IfOk result (λ t. windows_row names.now (ty_of element.now) size (Some steps.now)
@@ -155,12 +203,7 @@ pub fn unary(alloc: Global, names: &Names, form: &UnaryForm, operand: &Ty) -> Re
         UnaryForm::Div(_) | UnaryForm::Rem(_) => number(operand),
         UnaryForm::First => first(alloc, operand),
         UnaryForm::Second => second(alloc, operand),
-        UnaryForm::Join => join(alloc, names, operand),
-        UnaryForm::Transpose => transpose(alloc, names, operand),
-        UnaryForm::Split(piece) => {
-            let piece = product_of(alloc, names, piece)?;
-            split(alloc, names, piece, operand)
-        }
+        UnaryForm::Layout(by) => layout(alloc, names, by, operand),
         UnaryForm::Slide(size, step) => slide(alloc, names, *size, *step, operand),
         UnaryForm::Pad(before, after) => pad(alloc, names, *before, *after, operand),
         UnaryForm::ToLocal | UnaryForm::ToPrivate => Ok(operand.copy(alloc)?),

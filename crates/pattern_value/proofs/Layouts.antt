@@ -1,10 +1,13 @@
 -- What the loops over members build.
 use Rattle.std.proofs.Common.{◌≡◌, ℕ, zero, suc, ◌+◌, ◌-◌, ◌<◌, ◌≤◌, List, [], ◌∷◌, ◌++◌, refl, ap, ◌∙◌, sym, take, drop, length, arith}
-use Rattle.std.specs.Prelude.{map, replicate, min}
+use Rattle.std.specs.Prelude.{map, replicate, reverse, min, ◌/◌}
+use Rattle.std.proofs.lemmas.Grind.{reverse_onto}
 use Rattle.std.proofs.lemmas.List.{append_assoc, append-nil, take-map, drop-map}
 use Rattle.std.proofs.Math.Nat.{div-zero}
 use Rattle.lift_tree.specs.declared.value.Val.{Val}
-use Rattle.lift_tree.specs.Lists.{concat, zip_with, pieces, first_of, rest_of, last_of, columns}
+use Rattle.lift_tree.specs.Lists.{concat, zip_with, pieces, first_of, rest_of, last_of, width, columns, strided}
+use Rattle.lift_tree.specs.Meaning.{rows, array_of_rows}
+use Rattle.lift_tree.proofs.Strides.{rows_array, strided_through}
 use Rattle.lift_tree.specs.Values.{Value, Both, value_of, array, members, nth}
 use Rattle.pattern_value.specs.Shut.{column}
 use Rattle.pattern_value.proofs.Held.{value_of-List, members-List, push_behind}
@@ -63,6 +66,28 @@ length-values [] = refl
 length-values (x ∷ xs) = ap suc (length-values xs)
 
 pub ruleset transposes = (value_of-List, members-List, push_behind, columns_next, length-values)
+
+-- ---- reverse
+pub reverse_values : (xs : List Val) → map value_of (reverse xs) ≡ reverse (map value_of xs)
+reverse_values [] = refl
+reverse_values (x ∷ xs) =
+    ap (map value_of) (reverse_onto xs x [])
+    ∙ push_behind (reverse xs) x
+    ∙ ap (λ vs. vs ++ value_of x ∷ []) (reverse_values xs)
+    ∙ sym (reverse_onto (map value_of xs) (value_of x) [])
+
+pub ruleset reverses = (value_of-List, members-List, reverse_values)
+
+-- ---- stride
+-- the columns of pieces, one after another, as arrays of arrays have them
+pub stride_is : (k : ℕ) (xs : List Value) (v u w : Value) → v ≡ array_of_rows (pieces (length xs / k) k k xs) → u ≡ array_of_rows (columns (width (rows v)) (rows v)) → w ≡ array (concat (rows u)) → w ≡ array (strided k xs)
+stride_is k xs v u w e f g =
+    let rs = pieces (length xs / k) k k xs in
+    let a : rows v ≡ rs = ap rows e ∙ rows_array rs in
+    let b : rows u ≡ columns (width rs) rs = ap rows f ∙ rows_array (columns (width (rows v)) (rows v)) ∙ ap (λ z. columns (width z) z) a in
+    g ∙ ap (λ z. array (concat z)) b ∙ ap array (strided_through k xs)
+
+pub ruleset strides = (stride_is)
 
 -- ---- pieces
 pub pieces_next : (c s t : ℕ) (xs : List Value) → 0 < c → map array (pieces c s t xs) ≡ array (take s xs) ∷ map array (pieces (c - 1) s t (drop t xs))

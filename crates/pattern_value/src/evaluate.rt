@@ -2,19 +2,20 @@
 
 ghost use Rattle.std.specs.Prelude.{◌≡◌, ◌∷◌, ◌/◌, [], IfOk, map, min, length};
 ghost use Rattle.size_arith.specs.Ranges.{sizes_at};
-ghost use Rattle.lift_tree.specs.Lists.{pieces};
-ghost use Rattle.lift_tree.specs.Meaning.{meaning, unary_value, binary_value, array_of_rows, product_at, factor_at, nth_size};
+ghost use Rattle.lift_tree.specs.Lists.{pieces, strided};
+ghost use Rattle.lift_tree.specs.Meaning.{meaning, layout_value, unary_value, binary_value, array_of_rows, product_at, factor_at, nth_size};
 ghost use Rattle.lift_tree.specs.Tree.{tree_of};
 ghost use Rattle.lift_tree.specs.Values.{value_of, array, members};
 ghost use Rattle.lift_tree.specs.WorkedOut.{range_of};
 ghost use Rattle.pattern_value.specs.Shut.{stack, map_under, fold_under, fold_by};
 ghost use Rattle.pattern_value.specs.World.{world_of};
 
-use crate::layout::{cut, joined, pad, slid, transposed, zipped};
+use crate::layout::{cut, joined, pad, reversed, slid, transposed, zipped};
 use crate::operator::{applied, combined, quotient, remainder};
 use crate::part::{
     copied_at, copied_binder, into_first, into_members, into_second, list, members_of, word_of,
 };
+use lift_tree::layout::Layout;
 use lift_tree::length::Factor;
 use lift_tree::program::Size;
 use lift_tree::term::{BinaryForm, Term, UnaryForm};
@@ -79,6 +80,31 @@ impl World<'_> {
         cut(alloc, xs, count, size, size)
     }
 
+    // The columns of the pieces of this length, one after another.
+    #[tactic(auto, using(crate::proofs::Layouts::strides))]
+    fn stride(&self, alloc: Global, factors: &[Factor], v: &Val) -> Result<Val, AllocError>
+        ensures { IfOk result (λ u. value_of u ≡ array (strided
+            (product_at (world_of self.now).sizes factors.now) (members (value_of v.now)))) }
+    {
+        let pieces = self.split(alloc, factors, v)?;
+        let columns = transposed(alloc, &pieces)?;
+        Ok(joined(alloc, columns)?)
+    }
+
+    // The value of a layout at its child's value.
+    fn layout(&self, alloc: Global, layout: &Layout, v: Val) -> Result<Val, AllocError>
+        ensures { IfOk result (λ u. value_of u
+            ≡ layout_value (world_of self.now).sizes layout.now (value_of v)) }
+    {
+        match layout {
+            Layout::Join => joined(alloc, v),
+            Layout::Transpose => transposed(alloc, &v),
+            Layout::Split(length) => self.split(alloc, length.factors(), &v),
+            Layout::Reverse => Ok(reversed(alloc, v)),
+            Layout::Stride(step) => self.stride(alloc, step.factors(), &v),
+        }
+    }
+
     // The value of a form at its child's value.
     fn unary(&self, alloc: Global, form: &UnaryForm, v: Val) -> Result<Val, AllocError>
         ensures { IfOk result (λ u. value_of u
@@ -89,9 +115,7 @@ impl World<'_> {
             UnaryForm::Rem(n) => Ok(Val::Number(remainder(word_of(&v), *n))),
             UnaryForm::First => Ok(into_first(v)),
             UnaryForm::Second => Ok(into_second(v)),
-            UnaryForm::Join => joined(alloc, v),
-            UnaryForm::Transpose => transposed(alloc, &v),
-            UnaryForm::Split(length) => self.split(alloc, length.factors(), &v),
+            UnaryForm::Layout(layout) => self.layout(alloc, layout, v),
             UnaryForm::Slide(size, step) => slid(alloc, &v, *size, *step),
             UnaryForm::Pad(before, after) => pad(alloc, &v, *before, *after),
             UnaryForm::ToLocal | UnaryForm::ToPrivate => Ok(v),

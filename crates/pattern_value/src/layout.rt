@@ -1,6 +1,6 @@
 //! The patterns that lay out the members of lists anew.
 
-ghost use Rattle.std.specs.Prelude.{◌≡◌, ◌++◌, [], ◌/◌, IfOk, OnOk, map, replicate, length, take, drop};
+ghost use Rattle.std.specs.Prelude.{◌≡◌, ◌++◌, [], ◌/◌, IfOk, OnOk, map, replicate, reverse, length, take, drop};
 ghost use Rattle.lift_tree.specs.Values.{Both, value_of, members, array, nth};
 ghost use Rattle.lift_tree.specs.Lists.{concat, zip_with, pieces, pieces_that_fit, padded, width, columns};
 ghost use Rattle.lift_tree.specs.Meaning.{rows, array_of_rows};
@@ -72,6 +72,16 @@ fn member_at(alloc: Global, row: &Val, index: usize) -> Result<Val, AllocError>
     ensures { IfOk result (λ x. value_of x ≡ nth (members (value_of row.now)) index) }
 {
     copied_at(alloc, members_of(row), index)
+}
+
+/// The members from the last to the first.
+#[tactic(auto, using(crate::proofs::Layouts::reverses))]
+pub fn reversed(alloc: Global, v: Val) -> Val
+    ensures { value_of result ≡ array (reverse (members (value_of v))) }
+{
+    let mut all = into_members(alloc, v);
+    all.reverse();
+    list(all)
 }
 
 /// So many pieces of `size` members, each `step` members further on.

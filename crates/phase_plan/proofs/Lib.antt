@@ -2,3 +2,6 @@ mod Scopes
 mod Loops
 mod Touching
 mod Going
+mod Found
+mod Forms
+mod Standing

@@ -15,7 +15,7 @@ use Rattle.printed_form.proofs.GrammarPieces.{terms_printed}
 pub of_the_grammar : KernelsAreOfTheGrammar
 of_the_grammar spell S M d t a h =
     let k = printed_kernel spell d t a in
-    let r = lowered_root t a in
+    let r = lowered_root d.names t a in
     let ty = shape_of (type_in a) in
     let w = placed_view spell Output 0 ty in
     let terms = terms_printed k spell S M d (record { some = h.some; fits = h.fits; inputs = refl }) in

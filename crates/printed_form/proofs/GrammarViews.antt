@@ -7,7 +7,7 @@ use Rattle.kernel_tree.specs.Code.{Array, Kernel}
 use Rattle.kernel_tree.specs.Grammar.{is_operator, is_readable, is_writable, names_declared}
 use Rattle.std.proofs.lemmas.Bool.{lt-ltb}
 use Rattle.lift_ir.specs.Types.{Shape, Ty, Scalar, PairOf, ArrayOf, width, component}
-use Rattle.lift_ir.specs.Layouts.{Layout, Split, Join, Transpose, Slide, Pad}
+use Rattle.lift_ir.specs.Layouts.{Layout, Split, Join, Transpose, Reverse, Slide, Pad}
 use Rattle.lift_ir.specs.Terms.{LoadSet, Skip, Take, Each}
 use Rattle.lift_ir.specs.Scalars.{by_side}
 use Rattle.printed_form.specs.Counts.{load_count}
@@ -126,6 +126,11 @@ module _ (k : Kernel) (S : ℕ) (one : 1 ≤ S) where
     operand_good Transpose l h (i ∷ []) le s g = all_higher l h (h + 3) (i ∷ []) (omega arith) g
     operand_good Transpose l h (i ∷ j ∷ p) le s g =
         (good_higher k l h (h + 3) j (omega arith) g.1.0, (good_higher k l h (h + 3) i (omega arith) g.0, all_higher l h (h + 3) p (omega arith) g.1.1))
+    operand_good (Reverse n) l h [] le s g = tt
+    operand_good (Reverse n) l h (i ∷ p) le s g =
+        let z = good_binary k l h Sub (spell n) (Number 1) refl (spelled_good n l h le s) (good_number k l h 1 (omega arith) (omega arith)) in
+        let w = good_binary k l (suc h) Sub (Binary Sub (spell n) (Number 1)) i refl z (good_higher k l h (suc h) i (omega arith) g.0) in
+        (good_higher k l (suc (suc h)) (h + 3) (Binary Sub (Binary Sub (spell n) (Number 1)) i) (omega arith) w, all_higher l h (h + 3) p (omega arith) g.1)
     operand_good (Slide a t) l h [] le s g = tt
     operand_good (Slide a t) l h (i ∷ []) le s g = all_higher l h (h + 3) (i ∷ []) (omega arith) g
     operand_good (Slide a t) l h (i ∷ j ∷ p) le s g =
@@ -144,6 +149,7 @@ module _ (k : Kernel) (S : ℕ) (one : 1 ≤ S) where
     result_good (Split m) l h is le s g = operand_good (Join m) l h is le s g
     result_good (Join m) l h is le s g = operand_good (Split m) l h is le s g
     result_good Transpose l h is le s g = operand_good Transpose l h is le s g
+    result_good (Reverse n) l h is le s g = operand_good (Reverse n) l h is le s g
     result_good (Slide a t) l h is le s g = all_higher l h (h + 3) is (omega arith) g
     result_good (Pad a b n) l h is le s g = all_higher l h (h + 3) is (omega arith) g
 

@@ -10,7 +10,7 @@ use Rattle.kernel_tree.specs.Formula.{Formula, Number, LoopVariable, Size, Binar
 use Rattle.kernel_tree.specs.Code.{Array}
 use Rattle.kernel_tree.specs.Launch.{Launch, ids_of}
 use Rattle.lift_ir.specs.Types.{Ty, Scalar, PairOf, ArrayOf, IsPosition, IsFlat, IsShort, width, component, size, flat, Shape, measured}
-use Rattle.lift_ir.specs.Layouts.{HasWordStep, Layout, Split, Join, Transpose, Slide, Pad, operand_position, Reshapes, result_position, IsInvertible}
+use Rattle.lift_ir.specs.Layouts.{HasWordStep, Layout, Split, Join, Transpose, Reverse, Slide, Pad, operand_position, Reshapes, result_position, IsInvertible}
 use Rattle.printed_form.specs.Marks.{laid_in}
 use Rattle.printed_form.specs.Views.{same_operator, same_formula, are_parts, dividend, cell_in_rows, operand_indices, result_indices, laid_view, index_from, index_in, placed_view}
 use Rattle.printed_form.specs.Means.{IsSpelled, Means, AllMean, HasCells}
@@ -115,6 +115,12 @@ module _ (l : Launch) (item : ℕ) {A : Type 0} (num : A → ℕ) (spell : A →
       let z = means_op ts Sub (spell k) (Number 1) n 1 (n - 1) refl (means_spell ts k (omega arith)) (means_number ts 1 (omega arith)) (less n 1 (omega arith) (omega arith)) (omega arith) in
       means_op ts Min (Binary Sub (Binary Max f (Number a)) (Number a)) (Binary Sub (spell k) (Number 1)) (max i a - a) (n - 1) (min (max i a - a) (n - 1)) refl y z refl (omega arith)
 
+  means_reverse : (ts : List ℕ) (f : Formula) (i : ℕ) (k : A) → Means l item ts f i → i < num k → num k < 2 ^ 31 → Means l item ts (Binary Sub (Binary Sub (spell k) (Number 1)) f) (num k - 1 - i)
+  means_reverse ts f i k h lt small =
+      let n = num k in
+      let z = means_op ts Sub (spell k) (Number 1) n 1 (n - 1) refl (means_spell ts k small) (means_number ts 1 (omega arith)) (less n 1 (omega arith) (omega arith)) (omega arith) in
+      means_op ts Sub (Binary Sub (spell k) (Number 1)) f (n - 1) i (n - 1 - i) refl z h (less (n - 1) i (omega arith) (omega arith)) (omega arith)
+
   means_parts : (ts : List ℕ) (f : Formula) (i : ℕ) (z : A) → Means l item ts f i → 0 < num z → num z < 2 ^ 31 → Means l item ts (Binary Div f (spell z)) (i / num z) × Means l item ts (Binary Rem f (spell z)) (i % num z)
   means_parts ts f i z a pos lt =
       let m = num z in
@@ -149,6 +155,12 @@ module _ (l : Launch) (item : ℕ) {A : Type 0} (num : A → ℕ) (spell : A →
       go [] (i ∷ j ∷ q) w g = absurd g
       go (f ∷ []) (i ∷ j ∷ q) w g = absurd g.1
       go (f ∷ h ∷ fs) (i ∷ j ∷ q) w g = (g.1.0, (g.0, g.1.1))
+  operand_means ts (Reverse k) (ArrayOf n t) u cs is q sp a sh su w g = go is q (subst (λ z. IsPosition z cs q) (a.1 ∙ ap (λ z. ArrayOf z t) (sym a.0)) w) g
+    where
+      go : (is : List Formula) (q : List ℕ) → IsPosition (ArrayOf (num k) t) cs q → AllMean l item ts is q → AllMean l item ts (operand_indices spell (Reverse k) is) (operand_position num (Reverse k) q)
+      go is [] w g = absurd w
+      go [] (i ∷ q) w g = absurd g
+      go (f ∷ fs) (i ∷ q) w g = (means_reverse ts f i k g.0 w.0 (let e = a.0 in let z = sh.0 in omega arith), g.1)
   operand_means ts (Slide s k) (ArrayOf n t) u cs is q sp a sh su w g = go is q (subst (λ z. IsPosition z cs q) a.3 w) g
     where
       go : (is : List Formula) (q : List ℕ) → IsPosition (ArrayOf ((n - s) / k + 1) (ArrayOf s t)) cs q → AllMean l item ts is q → AllMean l item ts (operand_indices spell (Slide s k) is) (operand_position num (Slide s k) q)
@@ -190,6 +202,7 @@ module _ (l : Launch) (item : ℕ) {A : Type 0} (num : A → ℕ) (spell : A →
   result_means ts Transpose (ArrayOf n (ArrayOf m t)) u cs [] (i ∷ j ∷ q) z a sh su w g = absurd g
   result_means ts Transpose (ArrayOf n (ArrayOf m t)) u cs (f ∷ []) (i ∷ j ∷ q) z a sh su w g = absurd g.1
   result_means ts Transpose (ArrayOf n (ArrayOf m t)) u cs (f ∷ h ∷ fs) (i ∷ j ∷ q) z a sh su w g = (g.1.0, (g.0, g.1.1))
+  result_means ts (Reverse k) (ArrayOf n t) u cs is q z a sh su w g = operand_means ts (Reverse k) (ArrayOf n t) u cs is q tt a sh su (subst (λ z. IsPosition z cs q) (sym a.1) w) g
   result_means ts (Slide s k) t u cs is q z a sh su w g = absurd z
   result_means ts (Pad x y k) t u cs is q z a sh su w g = absurd z
   result_means ts _ t u cs is q z a sh su w g = absurd (assumption)

@@ -7,7 +7,7 @@ use Rattle.kernel_tree.specs.Formula.{Formula, Number, Variable, LoopVariable, B
 use Rattle.kernel_tree.specs.Code.{Array, Private, Code, End, Assigns, Loads, Stores, Loops}
 use Rattle.kernel_tree.specs.Launch.{Launch}
 use Rattle.lift_ir.specs.Types.{Ty, Scalar, PairOf, ArrayOf, IsPosition, IsElement, IsShort, width}
-use Rattle.lift_ir.specs.Layouts.{HasWordStep, Layout, Split, Join, Transpose, Slide, Pad, operand_position, Reshapes, result_position, IsInvertible}
+use Rattle.lift_ir.specs.Layouts.{HasWordStep, Layout, Split, Join, Transpose, Reverse, Slide, Pad, operand_position, Reshapes, result_position, IsInvertible}
 use Rattle.lift_ir.specs.Terms.{PrivateMemory, LoadSet, Skip, Take, Each, LoadsScalars, Global, Sequential, Term, Literal, Bound, Source, Apply, ApplyNumber, Select, Both, Project, Reshape, LetArray, LetElement, Map, Fold, Store, Copy, push, HasType}
 use Rattle.lift_ir.specs.Scalars.{by_side, at_index}
 use Rattle.printed_form.specs.Marks.{Mark, Nowhere, Register, Spot, Marks, laid_in, held_marks, loaded_marks}
@@ -319,6 +319,7 @@ module _ (l : Launch) (item : ℕ) {A : Type 0} (num : A → ℕ) (spell : A →
   moved_shows ts (Split m) (ArrayOf n t) u x e sp rel st su h = cells_show l item ts u _ _ (moved_cells ts (Split m) (ArrayOf n t) u x e sp rel st su h)
   moved_shows ts (Join m) (ArrayOf n (ArrayOf k t)) u x e sp rel st su h = cells_show l item ts u _ _ (moved_cells ts (Join m) (ArrayOf n (ArrayOf k t)) u x e sp rel st su h)
   moved_shows ts Transpose (ArrayOf n (ArrayOf m t)) u x e sp rel st su h = cells_show l item ts u _ _ (moved_cells ts Transpose (ArrayOf n (ArrayOf m t)) u x e sp rel st su h)
+  moved_shows ts (Reverse k) (ArrayOf n t) u x e sp rel st su h = cells_show l item ts u _ _ (moved_cells ts (Reverse k) (ArrayOf n t) u x e sp rel st su h)
   moved_shows ts (Slide s k) (ArrayOf n t) u x e sp rel st su h = cells_show l item ts u _ _ (moved_cells ts (Slide s k) (ArrayOf n t) u x e sp rel st su h)
   moved_shows ts (Pad a b k) (ArrayOf n t) u x e sp rel st su h = cells_show l item ts u _ _ (moved_cells ts (Pad a b k) (ArrayOf n t) u x e sp rel st su h)
   moved_shows ts _ t u x e sp rel st su h = absurd (assumption)

@@ -219,7 +219,7 @@ module _ (d : Declared) (is_task : Bool) (w : World) (t : Tree) (a : Annotation)
   sources = source d w program.declared ok c buffers.inputs
 
   abbrev low : Lowered
-  low = lowered_root t a
+  low = lowered_root d.names t a
 
   lowers : Lowers num w 0 (length d.inputs) t low
   lowers = lowers_is d w ok program.declared.few t Written [] a 0 refl program.nodes program.lowerable
@@ -252,9 +252,9 @@ module _ (d : Declared) (is_task : Bool) (w : World) (t : Tree) (a : Annotation)
     inputs = input_given d w program.declared ok c buffers.inputs;
   }
 
-  keeps : (k : Kernel) → Prints d w.bases t a l k → EveryRunKeeps k l c (cell_owner w.bases l t a) (launches.lists_of (type_in a) (meaning w [] t))
+  keeps : (k : Kernel) → Prints d w.bases t a l k → EveryRunKeeps k l c (cell_owner d.names w.bases l t a) (launches.lists_of (type_in a) (meaning w [] t))
   keeps k printed =
-      subst (EveryRunKeeps k l c (cell_owner w.bases l t a)) (sym (same_lists w.bases (type_in a) (meaning w [] t)))
+      subst (EveryRunKeeps k l c (cell_owner d.names w.bases l t a)) (sym (same_lists w.bases (type_in a) (meaning w [] t)))
       (printed_kernels_keep (List Monomial) num l w t (length d.inputs) src (input_marks num (first_buffer d.inputs) (input_shape d.inputs)) sources low result k c lowers given (is_printed k printed))
 
   module _ (k m : Kernel) (one : Prints d w.bases t a l k) (two : Prints d w.bases t a l m) (s r : State) (start : IsStart k l c s) (begin : IsStart m l c r) (same : SameContents l s r) where
@@ -302,7 +302,7 @@ printed_programs_start d is_task w t a l k c program ok launch buffers printed =
 pub programs_are_printed : ProgramsArePrinted
 programs_are_printed d is_task bases t a l spell program launch staged stands placed spelled =
     let num = length_at bases in
-    let low = lowered_root t a in
+    let low = lowered_root d.names t a in
     let src = sources_at d bases in
     let same = shape_is bases (type_in a) in
     let has = has_is d bases (shown d is_task bases l program.declared launch) program.declared.inputs src (λ i b e. sym (source_is d bases i b e)) t Written [] a tt program.nodes program.lowerable in

@@ -1,5 +1,6 @@
 -- A kernel printed for a whole program's typed term.
 use Rattle.std.specs.Prelude.{◌≡◌, ℕ, zero, suc, ◌+◌, ◌<◌, ◌^◌, ◌⊎◌, Bool, true, List, [], ◌∷◌, length, map, None}
+use Rattle.size_arith.specs.declared.names.Name.{Name}
 use Rattle.size_arith.specs.declared.poly.Monomial.{Monomial}
 use Rattle.size_arith.specs.Ranges.{sizes_at}
 use Rattle.lift_tree.specs.Lists.{Every}
@@ -45,8 +46,8 @@ buffer_count [] = 0
 buffer_count (a ∷ tys) = width (shape_of a) + buffer_count tys
 
 -- a typed term, whose root is written, in the intermediate representation
-abbrev pub lowered_root : Tree → Annotation → Lowered
-lowered_root t a = lower Written t a
+abbrev pub lowered_root : List Name → Tree → Annotation → Lowered
+lowered_root names t a = lower names Written t a
 
 -- The kernel is printed for the typed term at a launch, where the base names have these values: it
 -- has a parameter for each component of each input, then of the output, then for each size; private
@@ -57,13 +58,13 @@ pub record Prints (d : Declared) (bases : List ℕ) (t : Tree) (a : Annotation) 
   pub inputs : k.inputs ≡ buffer_count d.inputs
   pub outputs : k.outputs ≡ width (shape_of (type_in a))
   pub sizes : k.sizes ≡ length d.names
-  pub locals : k.locals ≡ copy_lengths LocalMemory (lowered_root t a)
-  pub privates : k.privates ≡ copy_lengths PrivateMemory (lowered_root t a)
-  pub variables : k.variables ≡ variable_count (lowered_root t a)
+  pub locals : k.locals ≡ copy_lengths LocalMemory (lowered_root d.names t a)
+  pub privates : k.privates ≡ copy_lengths PrivateMemory (lowered_root d.names t a)
+  pub variables : k.variables ≡ variable_count (lowered_root d.names t a)
   pub vectors : k.vectors ≡ 0
   pub local : k.local ≡ None
   pub code : IsCode l (input_marks (length_at bases) (first_buffer d.inputs) (input_shape d.inputs))
-      (length_at bases) (lowered_root t a) (ty_at bases (type_in a)) k.code
+      (length_at bases) (lowered_root d.names t a) (ty_at bases (type_in a)) k.code
 
 -- the kernel that the printer makes of a typed term, where lengths are spelled so
 abbrev pub printed_kernel : (List Monomial → Formula) → Declared → Tree → Annotation → Kernel
@@ -71,20 +72,21 @@ printed_kernel spell d t a = record {
   inputs = buffer_count d.inputs;
   outputs = width (shape_of (type_in a));
   sizes = length d.names;
-  locals = copy_lengths LocalMemory (lowered_root t a);
-  privates = copy_lengths PrivateMemory (lowered_root t a);
-  variables = variable_count (lowered_root t a);
+  locals = copy_lengths LocalMemory (lowered_root d.names t a);
+  privates = copy_lengths PrivateMemory (lowered_root d.names t a);
+  variables = variable_count (lowered_root d.names t a);
   vectors = 0;
   local = None;
   code =
-      kernel_code spell (first_buffer d.inputs) (input_shape d.inputs) (lowered_root t a)
+      kernel_code spell (first_buffer d.inputs) (input_shape d.inputs) (lowered_root d.names t a)
       (shape_of (type_in a));
 }
 
 -- whose a cell of the output is: the owner of its scalar
-abbrev pub cell_owner : (bases : List ℕ) → Launch → Tree → Annotation → (array index : ℕ) → ℕ
-cell_owner bases l t a array index =
-    owner (length_at bases) l (lowered_root t a) (unflat (ty_at bases (type_in a)) index)
+abbrev pub cell_owner :
+    List Name → (bases : List ℕ) → Launch → Tree → Annotation → (array index : ℕ) → ℕ
+cell_owner names bases l t a array index =
+    owner (length_at bases) l (lowered_root names t a) (unflat (ty_at bases (type_in a)) index)
 
 -- the launch is one row, has these sizes, and one work-item where the term is a task
 pub record IsLaunchOf (d : Declared) (is_task : Bool) (bases : List ℕ) (l : Launch) : Type 0 where
@@ -114,7 +116,7 @@ PrintedProgramsKeep =
     (k : Kernel) (c : Cells)
     → IsLowerableProgram d w.bases t a → IsAdmissible d w → IsLaunchOf d is_task w.bases l
     → AreBuffersOf d w t a c → Prints d w.bases t a l k
-    → EveryRunKeeps k l c (cell_owner w.bases l t a) (lists_of (type_in a) (meaning w [] t))
+    → EveryRunKeeps k l c (cell_owner d.names w.bases l t a) (lists_of (type_in a) (meaning w [] t))
 
 -- and it may be started there
 abbrev pub PrintedProgramsStart : Type 0
@@ -143,7 +145,7 @@ ProgramsArePrinted =
     (d : Declared) (is_task : Bool) (bases : List ℕ) (t : Tree) (a : Annotation) (l : Launch)
     (spell : List Monomial → Formula)
     → IsLowerableProgram d bases t a → IsLaunchOf d is_task bases l → IsStaged Written t a
-    → StandsAt l (lowered_root t a) → FitsBuffers d bases a → IsSpelling spell bases l
+    → StandsAt l (lowered_root d.names t a) → FitsBuffers d bases a → IsSpelling spell bases l
     → Prints d bases t a l (printed_kernel spell d t a)
 
 -- states that hold the same contents: the items' variables, and memory

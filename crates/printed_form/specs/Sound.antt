@@ -5,7 +5,7 @@ use Rattle.kernel_tree.specs.Formula.{Formula}
 use Rattle.kernel_tree.specs.Code.{Kernel}
 use Rattle.kernel_tree.specs.Grammar.{height, is_constant, is_operator, names_declared}
 use Rattle.lift_ir.specs.Types.{Shape, Scalar, PairOf, ArrayOf, IsElement, size}
-use Rattle.lift_ir.specs.Layouts.{IsInvertible, Layout, Split, Join, Transpose, Slide, Pad}
+use Rattle.lift_ir.specs.Layouts.{IsInvertible, Layout, Split, Join, Transpose, Reverse, Slide, Pad}
 use Rattle.lift_ir.specs.Terms.{Term, Literal, Bound, Source, Apply, ApplyNumber, Select, Both, Project, Reshape, LetArray, LetElement, Map, Fold, Store, Copy, push}
 
 -- an expression names what is declared within so many loops, and is at most so high
@@ -34,6 +34,7 @@ abbrev pub IsSoundLayout : {A : Type 0} → (A → Type 0) → Layout A → Type
 IsSoundLayout P (Split m) = P m
 IsSoundLayout P (Join m) = P m
 IsSoundLayout P Transpose = Unit {0}
+IsSoundLayout P (Reverse n) = P n
 IsSoundLayout P (Slide s t) = t < 2 ^ 32
 IsSoundLayout P (Pad l r n) = (l < 2 ^ 32) × P n
 

@@ -5,7 +5,7 @@ use Rattle.scalar_ops.specs.declared.op.Op.TheVariants.{Add, Sub, Mul, Min, Max,
 use Rattle.kernel_tree.specs.Formula.{Formula, Number, Variable, LoopVariable, Size, Binary}
 use Rattle.kernel_tree.specs.Code.{Array}
 use Rattle.lift_ir.specs.Types.{Shape, Ty, Scalar, PairOf, ArrayOf, width, component}
-use Rattle.lift_ir.specs.Layouts.{Layout, Split, Join, Transpose, Slide, Pad}
+use Rattle.lift_ir.specs.Layouts.{Layout, Split, Join, Transpose, Reverse, Slide, Pad}
 use Rattle.lift_ir.specs.Terms.{LoadSet, Skip, Take, Each}
 use Rattle.lift_ir.specs.Scalars.{by_side}
 use Rattle.printed_form.specs.Counts.{load_count}
@@ -85,17 +85,19 @@ module _ {A : Type 0} (spell : A → Formula) where
   operand_indices (Split m) (i ∷ j ∷ p) = cell_in_rows i (spell m) j ∷ p
   operand_indices (Join m) (i ∷ p) = Binary Div i (spell m) ∷ Binary Rem i (spell m) ∷ p
   operand_indices Transpose (i ∷ j ∷ p) = j ∷ i ∷ p
+  operand_indices (Reverse n) (i ∷ p) = Binary Sub (Binary Sub (spell n) (Number 1)) i ∷ p
   operand_indices (Slide s t) (i ∷ j ∷ p) = cell_in_rows i (Number t) j ∷ p
   operand_indices (Pad l r n) (i ∷ p) =
       Binary Min (Binary Sub (Binary Max i (Number l)) (Number l)) (Binary Sub (spell n) (Number 1))
       ∷ p
   operand_indices _ p = p
 
-  -- the indices in the result of indices in the operand, for join, split and transpose
+  -- the indices in the result of indices in the operand, for join, split, transpose and reverse
   abbrev pub result_indices : Layout A → List Formula → List Formula
   result_indices (Split m) p = operand_indices (Join m) p
   result_indices (Join m) p = operand_indices (Split m) p
   result_indices Transpose p = operand_indices Transpose p
+  result_indices (Reverse n) p = operand_indices (Reverse n) p
   result_indices _ p = p
 
   -- the number in row-major order below an index so far

@@ -1,7 +1,9 @@
 pub mod Admitted
 pub mod Buffers
+pub mod Failed
 pub mod LaidOut
 pub mod Once
 pub mod Running
 pub mod Stopped
 pub mod Unrefused
+pub mod Alike

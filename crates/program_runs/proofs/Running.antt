@@ -43,7 +43,7 @@ local_once (Some size) l = Prim.hlevel props
 pub start_once : (k : Kernel) (l : Launch) (c : Cells) → IsProp (MayStart k l c)
 start_once k l c = let x = local_once k.local l in Prim.hlevel (x, props)
 
-start_is : (k : Kernel) (l : Launch) (c : Cells) → IsStart k l c (start_state k c)
+pub start_is : (k : Kernel) (l : Launch) (c : Cells) → IsStart k l c (start_state k c)
 start_is k l c = record {
   vars = λ j. first_vars k c.rest;
   long = λ j lt. length-replicate k.variables c.rest;

@@ -34,7 +34,7 @@ stopped why (inr (p, read, h)) = inr (p, read, (why, h, refl))
 
 -- the demo is refused for want of memory alone
 pub refused_for_memory : StagesEndOnce → LegalWithoutFault → DemoIsAccepted → (why : Refusal) → StopsFor (OnProgram program_text (λ p. LegalOf p script_text)) why → refusals.status_of why ≡ 13
-refused_for_memory ends law d why (inl memory) = memory
+refused_for_memory ends law d why (inl memory) = ap refusals.status_of memory
 refused_for_memory ends law d why (inr h) = absurd ((ends.kernel program_text script_text).none (failures.Source why) (demo_program, d.read, d.within, (d.last, compiles law d)) (stopped why h))
 
 -- the demo's launch is admissible for what is compiled

@@ -1,3 +1,4 @@
+pub mod Alike
 pub mod Demo
 pub mod Runs
 pub mod Started

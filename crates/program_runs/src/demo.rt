@@ -9,7 +9,7 @@ ghost use Rattle.program_runs.specs.Demo.{IsDemoLine, IsLineOfDemo};
 ghost use Rattle.program_runs.specs.Runs.{IsAdmissibleFor};
 
 use crate::laws::one_end;
-use crate::run::run_back;
+use crate::run::{lines_of, run_back};
 use compilation::laws::compilation_ends_once;
 use compilation::{Compiled, compile_text};
 use demo_program::data::demo_launch;
@@ -21,7 +21,8 @@ use fault_lines::Failure;
 use lowered_tree::laws::legal_without_fault;
 use std::alloc::{AllocError, Global};
 
-// The line of the run of what is read back from the text, on the data of the seed.
+// The line of the run of what is read back from the text, on the data of the seed. The run isn't
+// traced: behind its events' lines, of which there are none, stands the demo's.
 fn seeded_line(alloc: Global, compiled: &Compiled, seed: u32) -> Result<Vec<u8>, AllocError>
     requires { IsAdmissibleFor (program_of compiled.now.program) compiled.now.is_task
         (demo_given seed) }
@@ -29,9 +30,10 @@ fn seeded_line(alloc: Global, compiled: &Compiled, seed: u32) -> Result<Vec<u8>,
         (ty_of compiled.now.output) compiled.now.text.items seed line.items) }
 {
     let file = demo_launch(alloc, seed)?;
-    let (outcome, _seen) = run_back(alloc, compiled, &file, false)?;
+    let (outcome, seen) = run_back(alloc, compiled, &file, false)?;
     let sum = wrapped_sum(&outcome.outputs);
-    demo_line(alloc, seed, (outcome.events, outcome.releases), sum)
+    let line = demo_line(alloc, seed, (outcome.events, outcome.releases), sum)?;
+    lines_of(alloc, &seen, &line)
 }
 
 /// The line of the demo at a seed: its program is compiled along its script, and what is read back

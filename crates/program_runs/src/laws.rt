@@ -1,8 +1,14 @@
-//! Laws of the stages.
+//! Laws of the stages, and of runs of the kernels of one program.
+ghost use Rattle.program_runs.specs.Alike.{PrintedKernelsGoAlike, TextsRunAlike};
 ghost use Rattle.program_runs.specs.Started.{StagesEndOnce};
 
 use compilation::laws::compilation_ends_once;
+use group_form::alike::printed_group_programs_go_alike;
+use kernel_spelling::one_kernel;
 use launch_file::laws::{files_are_not_refused, files_give_one_thing};
+use lift_tree::laws::terms_have_one_type;
+use nest_premises::groups::legal_terms_are_printable;
+use printed_form::laws::printed_programs_go_alike;
 use program_source::laws::{sources_end_once, typed_programs_are_proper};
 
 /// The stages come to one end: to what they make, or to one cause for which one of them stops.
@@ -14,4 +20,25 @@ pub fn one_end()
     typed_programs_are_proper();
     files_are_not_refused();
     files_give_one_thing();
+}
+
+/// Any two kernels that are printed for one legal term, as its kind says, have at one launch and
+/// from the same contents the same events with the same accesses, under every schedule.
+pub fn printed_kernels_go_alike()
+    ensures { PrintedKernelsGoAlike }
+{
+    legal_terms_are_printable();
+    printed_programs_go_alike();
+    printed_group_programs_go_alike();
+}
+
+/// The lines of a run are those of every text of the program's kernel, whatever stands in its
+/// indices and bounds, and so of the text that is written for the same files.
+pub fn texts_run_alike()
+    ensures { TextsRunAlike }
+{
+    one_kernel();
+    terms_have_one_type();
+    compilation_ends_once();
+    printed_kernels_go_alike();
 }

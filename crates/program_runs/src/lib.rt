@@ -9,5 +9,5 @@ mod run;
 
 pub use demo::demo_text;
 pub use eval::eval_text;
-pub use laws::one_end;
+pub use laws::{one_end, printed_kernels_go_alike, texts_run_alike};
 pub use run::{run_launch, run_text};

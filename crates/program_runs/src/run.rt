@@ -8,18 +8,18 @@ ghost use Rattle.ndrange_device.specs.Outcomes.{EndsUnder, Refuses, SeesRun};
 ghost use Rattle.lift_tree.specs.Launches.{lists_of};
 ghost use Rattle.lift_tree.specs.Programs.{program_of};
 ghost use Rattle.lift_tree.specs.Types.{ty_of};
-ghost use Rattle.lift_tree.specs.Values.{value_of};
 ghost use Rattle.value_lists.specs.Lists.{value_in};
 ghost use Rattle.launch_file.specs.LaunchFile.{given_by};
 ghost use Rattle.launch_file.specs.ResultLine.{result_line};
 ghost use Rattle.launch_file.specs.TraceLines.{trace_lines};
 ghost use Rattle.fault_lines.specs.Shown.{failure_of};
-ghost use Rattle.program_source.specs.Ends.{FailsFor, OnSource};
+ghost use Rattle.program_source.specs.Ends.{FailsFor, IsFailedFor, OnSource};
 ghost use Rattle.program_source.specs.Program.{source_value};
 ghost use Rattle.program_runs.specs.Runs.{AreLinesOfText, IsAdmissibleFor, RunsText, world_given};
 ghost use Rattle.program_runs.specs.Started.{AreRunLines, RunOf};
 
 use crate::cells::begun;
+use crate::laws::one_end;
 use compilation::{Compiled, compile_text};
 use fault_lines::Failure;
 use kernel_reader::{KernelNo, read_kernel};
@@ -30,15 +30,13 @@ use kernel_tree::launches::{Cells, Schedule};
 use kernel_tree::laws::one_scheduled_run;
 use kernel_tree::tree::Kernel;
 use launch_file::file::{Ask, LaunchFile, read_launch};
-use launch_file::result::result_text;
+use launch_file::result::listed_text;
 use launch_file::trace::trace_text;
 use lift_tree::laws::values_have_their_types;
-use lift_tree::value::Val;
 use ndrange_device::{DeviceNo, Outcome, launch};
 use program_source::laws::typed_programs_are_proper;
 use std::alloc::{AllocError, Global};
 use value_lists::laws::{components_are_counted, lists_have_lengths, lists_hold_one_value};
-use value_lists::value_of_lists;
 
 // The kernel that is read back from the text.
 fn read_back(alloc: Global, compiled: &Compiled) -> Result<Kernel, AllocError>
@@ -120,36 +118,31 @@ pub(crate) fn run_back(
     }
 }
 
-// The value that the output's lists hold.
-fn value_left(
+// The line of the value that the output's lists hold, and of the counts.
+fn line_left(
     alloc: Global,
     compiled: &Compiled,
     file: &LaunchFile,
     outs: &[Vec<u32>],
-) -> Result<Val, AllocError>
+    counts: (u64, u64),
+) -> Result<Vec<u8>, AllocError>
     requires admissible { IsAdmissibleFor (program_of compiled.now.program) compiled.now.is_task
         (given_by file.now) }
     requires left { map (λ l. l.items) outs.now ≡ lists_of (ty_of compiled.now.output)
         (source_value (program_of compiled.now.program) (world_given (given_by file.now))) }
-    ensures { IfOk result (λ v. value_of v ≡ value_in (given_by file.now).bases
-        (ty_of compiled.now.output) (map (λ l. l.items) outs.now) 0 0) }
+    ensures { IfOk result (λ line. line.items ≡ result_line (value_in (given_by file.now).bases
+        (ty_of compiled.now.output) (map (λ l. l.items) outs.now) 0 0) (Some counts)) }
 {
     components_are_counted();
-    value_of_lists(alloc, &compiled.output, &file.sizes, outs)
+    listed_text(alloc, &compiled.output, &file.sizes, outs, Some(counts))
 }
 
-// The lines of what is seen of a run, and then the result line.
-fn lines_of(
-    alloc: Global,
-    seen: &[Seen],
-    value: &Val,
-    counts: (u64, u64),
-) -> Result<Vec<u8>, AllocError>
-    ensures { IfOk result (λ lines. lines.items
-        ≡ trace_lines seen.now ++ result_line (value_of value.now) (Some counts)) }
+// The lines of what is seen of a run, and then its last line.
+pub(crate) fn lines_of(alloc: Global, seen: &[Seen], last: &[u8]) -> Result<Vec<u8>, AllocError>
+    ensures { IfOk result (λ lines. lines.items ≡ trace_lines seen.now ++ last.now) }
 {
     let mut lines = trace_text(alloc, seen)?;
-    lines.extend_from_slice(&result_text(alloc, value, Some(counts))?)?;
+    lines.extend_from_slice(last)?;
     Ok(lines)
 }
 
@@ -170,13 +163,15 @@ pub fn run_launch(
     lists_hold_one_value();
     values_have_their_types();
     let (outcome, seen) = run_back(alloc, compiled, file, trace)?;
-    let value = value_left(alloc, compiled, file, &outcome.outputs)?;
-    lines_of(alloc, &seen, &value, (outcome.events, outcome.releases))
+    let counts = (outcome.events, outcome.releases);
+    let line = line_left(alloc, compiled, file, &outcome.outputs, counts)?;
+    lines_of(alloc, &seen, &line)
 }
 
 /// The run of a program, a script and a launch file: compiles, runs what is read back from the
-/// text at the launch that the file gives, and tells of it as [`run_launch`] does. A refusal is the
-/// first cause in the order of the stages: those of [`compile_text`], then the launch file's.
+/// text at the launch that the file gives, and tells of it as [`run_launch`] does. It fails just
+/// where a stage stops, for the first in their order: those of [`compile_text`], then the launch
+/// file's. Want of memory may come at any point.
 pub fn run_text(
     alloc: Global,
     program: &[u8],
@@ -188,7 +183,9 @@ pub fn run_text(
         (λ lines. AreRunLines program.now script.now launch.now trace lines.items) }
     ensures refused { IfErr result (λ failure. FailsFor
         (OnSource program.now (λ p. RunOf p script.now launch.now)) (failure_of failure)) }
+    ensures exact { IsFailedFor (OnSource program.now (λ p. RunOf p script.now launch.now)) result }
 {
+    one_end();
     typed_programs_are_proper();
     let compiled = compile_text(alloc, program, script)?;
     let ask = Ask::Run {

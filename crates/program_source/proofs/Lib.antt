@@ -4,3 +4,4 @@ pub mod Once
 pub mod Proper
 pub mod Stages
 pub mod TermsMade
+pub mod Within

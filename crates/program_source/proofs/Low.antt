@@ -4,6 +4,8 @@ use Rattle.std.specs.Prelude.{max}
 use Rattle.std.proofs.lemmas.Option.{same_Some}
 use Rattle.readings.specs.Meanings.{AllMean, read_means}
 use Rattle.lift_tree.specs.Programs.{PlainProgram}
+use Rattle.lift_tree.specs.declared.length.Factor.{Factor}
+use Rattle.lift_tree.specs.declared.term.UnaryForm.{UnaryForm}
 use Rattle.lift_tree.specs.declared.term.UnaryForm.TheVariants as unaries
 use Rattle.lift_tree.specs.declared.term.MapKind.TheVariants as maps
 use Rattle.lift_tree.specs.declared.term.FoldKind.TheVariants as folds
@@ -61,7 +63,7 @@ means n (grammar.MapName d) ts m back = d ≤ 256 → Above d n m
 means n (grammar.FoldName d) ts m back = d ≤ 256 → Above d n m
 means n (grammar.FoldSecondName d x) ts m back = d ≤ 256 → Above d n m
 means n (grammar.ReduceOperator d) ts m back = d ≤ 256 → Above d n m
-means n (grammar.SplitRest d) ts m back = d ≤ 256 → Above d n m
+means n (grammar.ProductRest f d) ts m back = d ≤ 256 → Above d n m
 
 -- ---- what an action leaves
 
@@ -174,12 +176,12 @@ wrapped d n a b m h wraps e =
     let u = wraps.around h.term n.made h.is in
     above_to d n b m e (record { term = u.0; is = u.1; high = (let x = u.2 in let y = h.high in omega (arith, x, y)) })
 
-split_made : (n a b : Noted) (t : Tree) (rest : List Tree) → a.made ≡ t ∷ rest → marked grammar.Split a ≡ Some b → (u : Tree) × (b.made ≡ u ∷ rest) × (height u ≤ height t + 1)
-split_made n a b t rest is h = cut a.products (subst (λ (xs : List Tree). grammar.split_by a a.products xs ≡ Some b) is h)
+product_made : (f : List Factor → UnaryForm) (a b : Noted) (t : Tree) (rest : List Tree) → a.made ≡ t ∷ rest → marked (grammar.MakeByProduct f) a ≡ Some b → (u : Tree) × (b.made ≡ u ∷ rest) × (height u ≤ height t + 1)
+product_made f a b t rest is h = cut a.products (subst (λ (xs : List Tree). grammar.by_product f a a.products xs ≡ Some b) is h)
   where
-    cut : (ps : List (List _)) → grammar.split_by a ps (t ∷ rest) ≡ Some b → (u : Tree) × (b.made ≡ u ∷ rest) × (height u ≤ height t + 1)
+    cut : (ps : List (List Factor)) → grammar.by_product f a ps (t ∷ rest) ≡ Some b → (u : Tree) × (b.made ≡ u ∷ rest) × (height u ≤ height t + 1)
     cut [] e = absurd (cc (e))
-    cut (p ∷ ps) e = (trees.Unary (unaries.Split p) t, made_some (record a { products = ps; made = trees.Unary (unaries.Split p) t ∷ rest }) b e, omega arith)
+    cut (p ∷ ps) e = (trees.Unary (f p) t, made_some (record a { products = ps; made = trees.Unary (f p) t ∷ rest }) b e, omega arith)
 
 -- ---- each alternative
 
@@ -250,10 +252,12 @@ kept n f t alt (grammar.fold_second_name {d = d} {x = x} {y = y}) ts m back h = 
     three (λ b s xs. trees.Fold folds.Plain xs s b) d n _ _ _ _ m body (q.2.2.2.2 low) (last.2 low) last.3.2.1 last.3.2.2.0 (λ t u v. omega arith)
 kept n f t alt (grammar.split {d = d} deep) ts m back h = λ low.
     up d n m (above_to (d + 1) n _ m h.2.2.3.3.0 (above_from (d + 1) n _ _ (same_then _ _ _ (begun n _ h.2.1) h.2.2.2) (h.2.2.3.2 (omega (arith, deep)))))
-kept n f t alt (grammar.split_times {d = d}) ts m back h = λ low. above_to d n _ m h.3.3.0 (above_from d n _ _ h.2 (h.3.2 low))
-kept n f t alt (grammar.split_end {d = d}) ts m back h = λ low.
+kept n f t alt (grammar.stride {d = d} deep) ts m back h = λ low.
+    up d n m (above_to (d + 1) n _ m h.2.2.3.3.0 (above_from (d + 1) n _ _ (same_then _ _ _ (begun n _ h.2.1) h.2.2.2) (h.2.2.3.2 (omega (arith, deep)))))
+kept n f t alt (grammar.product_times {d = d}) ts m back h = λ low. above_to d n _ m h.3.3.0 (above_from d n _ _ h.2 (h.3.2 low))
+kept n f t alt (grammar.product_end {d = d} {f = g}) ts m back h = λ low.
     let made = h.2 low in
-    let u = split_made n _ _ made.term n.made made.is h.3.2.1 in
+    let u = product_made g _ _ made.term n.made made.is h.3.2.1 in
     above_to d n _ m h.3.2.2.0 (record { term = u.0; is = u.1; high = (let x = u.2 in let y = made.high in omega (arith, x, y)) })
 kept n f t alt (grammar.slide {d = d} deep) ts m back h = λ low. up d n m (above_to (d + 1) n _ m h.2.3.0 (h.2.2 (omega (arith, deep))))
 kept n f t alt (grammar.pad {d = d} deep) ts m back h = λ low. up d n m (above_to (d + 1) n _ m h.2.3.0 (h.2.2 (omega (arith, deep))))

@@ -13,13 +13,14 @@ use Rattle.lift_reader.specs.Tokens.{AreTokens, Lexeme}
 use Rattle.lift_reader.specs.declared.refusal.ReadRefusal.TheVariants as readings
 use Rattle.pattern_types.specs.Judged.{program_judged}
 use Rattle.strategy_script.specs.Steps.{State, terms_of}
-use Rattle.strategy_script.specs.declared.script.ScriptLimit.TheVariants as limits
-use Rattle.strategy_script.specs.declared.script.ScriptNo.TheVariants as scripts
+use Rattle.strategy_script.specs.Laws.{ScriptsEndOnce}
+use Rattle.strategy_script.specs.ScriptText.{ReadsScript}
 use Rattle.fault_lines.specs.declared.refusal.Refusal.TheVariants as told
-use Rattle.program_source.specs.Program.{ReadsProgram, TypesOf}
+use Rattle.program_source.specs.Laws.{SourcesEndOnce}
+use Rattle.program_source.specs.Program.{OnProgram, ReadsProgram, TypesOf}
 use Rattle.stages.specs.Stages.{IsOne}
 use Rattle.stages.proofs.One.{as_one, equal_one, then_one}
-use Rattle.program_source.specs.Terms.{LastOf, ReadsScript, TermsOf, source_of}
+use Rattle.program_source.specs.Terms.{LastOf, TermsOf, source_of}
 
 -- ---- the program's text
 
@@ -98,26 +99,15 @@ reads_one law text r (Err readings.Memory) h k = absurd k
 pub types_one : (p : PlainProgram) → IsOne (TypesOf p)
 types_one p = as_one told.Typing (λ r. program_judged p p.body ≡ r) (equal_one (program_judged p p.body))
 
-scripts_one : (text : List ℕ) → IsOne (ReadsScript text)
-scripts_one text (Ok m) (Ok n) h k = ap Ok (h.0.found ∙ sym k.0.found)
-scripts_one text (Ok m) (Err (scripts.Syntax line)) h k = let all = h.0.all in let there = k.there in absurd (omega (arith, all, there))
-scripts_one text (Ok m) (Err (scripts.Limit limits.Steps count)) h k =
-    let one = ap length h.0.found in let above = k.above in let counted = k.counted in let few = h.1 in absurd (omega (arith, one, above, counted, few))
-scripts_one text (Err (scripts.Syntax line)) (Ok n) h k = let all = k.0.all in let there = h.there in absurd (omega (arith, all, there))
-scripts_one text (Err (scripts.Syntax a)) (Err (scripts.Syntax b)) h k = ap (λ n. Err (scripts.Syntax n)) (h.counted ∙ sym k.counted)
-scripts_one text (Err (scripts.Syntax a)) (Err (scripts.Limit limits.Steps b)) h k = let there = h.there in let all = k.script.all in absurd (omega (arith, there, all))
-scripts_one text (Err (scripts.Limit limits.Steps count)) (Ok n) h k =
-    let one = ap length k.0.found in let above = h.above in let counted = h.counted in let few = k.1 in absurd (omega (arith, one, above, counted, few))
-scripts_one text (Err (scripts.Limit limits.Steps a)) (Err (scripts.Syntax b)) h k = let there = k.there in let all = h.script.all in absurd (omega (arith, there, all))
-scripts_one text (Err (scripts.Limit limits.Steps a)) (Err (scripts.Limit limits.Steps b)) h k = ap (λ n. Err (scripts.Limit limits.Steps n)) (h.counted ∙ sym k.counted)
-scripts_one text (Err scripts.Memory) r h k = absurd h
-scripts_one text r (Err scripts.Memory) h k = absurd k
-
-pub terms_one : (p : PlainProgram) (script : List ℕ) → IsOne (TermsOf p script)
-terms_one p script =
+pub terms_one : ScriptsEndOnce → (p : PlainProgram) (script : List ℕ) → IsOne (TermsOf p script)
+terms_one scripts p script =
     then_one _ _ (types_one p) (λ types _.
-    then_one _ _ (as_one told.Script (ReadsScript script) (scripts_one script)) (λ steps _.
+    then_one _ _ (as_one told.Script (ReadsScript script) (scripts script)) (λ steps _.
     as_one told.Step (λ r. terms_of p steps (source_of p types) ≡ r) (equal_one (terms_of p steps (source_of p types)))))
+
+-- a program's text and a script come to one end
+pub text_one : SourcesEndOnce → (program script : List ℕ) → IsOne (OnProgram program (λ p. TermsOf p script))
+text_one sources program script = then_one _ (λ p. TermsOf p script) (as_one told.Program (ReadsProgram program) (sources.read program)) (λ p read. sources.terms p script)
 
 -- ---- the last term
 

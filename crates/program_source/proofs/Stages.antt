@@ -1,5 +1,5 @@
 -- What each stage gives, and why it stops.
-use Rattle.std.proofs.Common.{◌≡◌, ◌≢◌, ◌≤◌, ℕ, List, ap, subst, length, refl, inl, inr, Result, Ok, Err}
+use Rattle.std.proofs.Common.{◌≡◌, ◌≢◌, ◌≤◌, ℕ, List, subst, length, refl, inl, inr, Result, Ok, Err}
 use Rattle.lift_tree.specs.Annotations.{Annotation}
 use Rattle.lift_tree.specs.Programs.{PlainProgram}
 use Rattle.lift_tree.specs.Tree.{Tree}
@@ -17,11 +17,9 @@ use Rattle.strategy_script.specs.declared.script.ScriptLimit.TheVariants as limi
 use Rattle.strategy_script.specs.declared.script.ScriptNo.{ScriptNo}
 use Rattle.strategy_script.specs.declared.script.ScriptNo.TheVariants as scripts
 use Rattle.strategy_script.specs.declared.script.Step.{Step}
-use Rattle.fault_lines.specs.Failure as failures
-use Rattle.fault_lines.specs.Failure.{Failure}
+use Rattle.fault_lines.specs.Refusal.{program_refused, script_refused, step_refused, typing_refused}
 use Rattle.fault_lines.specs.declared.refusal.Refusal.{Refusal}
 use Rattle.fault_lines.specs.declared.refusal.Refusal.TheVariants as told
-use Rattle.program_source.specs.Ends.{FailsFor, OnSource}
 use Rattle.program_source.specs.Program.{IsRead, OnProgram, StopsFor, TypesOf}
 use Rattle.stages.specs.Stages.{As, Then}
 use Rattle.program_source.specs.Terms.{TermsOf, source_of}
@@ -29,7 +27,7 @@ use Rattle.program_source.specs.Terms.{TermsOf, source_of}
 -- ---- the program's text
 
 pub program_stops : {A : Type 0} (text : List ℕ) (S : PlainProgram → Result A Refusal → Type 0) (why : ReadRefusal)
-    → Refuses text why → ((p : PlainProgram) → IsProgramText text p → Answers p (Err why)) → StopsFor (OnProgram text S) (told.Program why)
+    → Refuses text why → ((p : PlainProgram) → IsProgramText text p → Answers p (Err why)) → StopsFor (OnProgram text S) (program_refused why)
 program_stops text S (readings.Syntax token offset) h only = inr (inl (readings.Syntax token offset, (h, only), refl))
 program_stops text S (readings.Limit which count) h only = inr (inl (readings.Limit which count, record { program = h.0; is = h.1; passes = only }, refl))
 program_stops text S readings.Memory h only = inl refl
@@ -48,29 +46,20 @@ types_first text S why (inr (inr (p, read, h))) = inr (inr (p, read, inl h))
 
 -- ---- its types
 
-pub types_stop : (p : PlainProgram) (t : Tree) (why : TypeRefusal) → t ≡ p.body → (why ≢ typings.Memory → program_judged p t ≡ Err why) → StopsFor (TypesOf p) (told.Typing why)
+pub types_stop : (p : PlainProgram) (t : Tree) (why : TypeRefusal) → t ≡ p.body → (why ≢ typings.Memory → program_judged p t ≡ Err why) → StopsFor (TypesOf p) (typing_refused why)
 types_stop p t (typings.IllTyped spot rule) whole h = inr (typings.IllTyped spot rule, subst (λ b. program_judged p b ≡ Err (typings.IllTyped spot rule)) whole (h (λ e. cc (e))), refl)
 types_stop p t (typings.Limit which spot count) whole h = inr (typings.Limit which spot count, subst (λ b. program_judged p b ≡ Err (typings.Limit which spot count)) whole (h (λ e. cc (e))), refl)
 types_stop p t typings.Memory whole h = inl refl
 
 -- ---- the script's text and its steps
 
-pub script_stops : (p : PlainProgram) (types : Annotation) (script : List ℕ) (why : ScriptNo) → program_judged p p.body ≡ Ok types → RefusesScript script why → StopsFor (TermsOf p script) (told.Script why)
+pub script_stops : (p : PlainProgram) (types : Annotation) (script : List ℕ) (why : ScriptNo) → program_judged p p.body ≡ Ok types → RefusesScript script why → StopsFor (TermsOf p script) (script_refused why)
 script_stops p types script (scripts.Syntax line) typed h = inr (inr (types, typed, inl (scripts.Syntax line, h, refl)))
 script_stops p types script (scripts.Limit limits.Steps count) typed h = inr (inr (types, typed, inl (scripts.Limit limits.Steps count, h, refl)))
 script_stops p types script scripts.Memory typed h = inl refl
 
 pub step_stops : (p : PlainProgram) (types : Annotation) (script : List ℕ) (steps : List Step) (why : StepNo) → program_judged p p.body ≡ Ok types → IsScript script steps → length steps ≤ 256
-    → (why ≢ stops.Memory → terms_of p steps (source_of p types) ≡ Err why) → StopsFor (TermsOf p script) (told.Step why)
+    → (why ≢ stops.Memory → terms_of p steps (source_of p types) ≡ Err why) → StopsFor (TermsOf p script) (step_refused why)
 step_stops p types script steps (stops.Inapplicable step why) typed is few h = inr (inr (types, typed, inr (steps, (is, few), (stops.Inapplicable step why, h (λ e. cc (e)), refl))))
 step_stops p types script steps (stops.Limit which step count) typed is few h = inr (inr (types, typed, inr (steps, (is, few), (stops.Limit which step count, h (λ e. cc (e)), refl))))
 step_stops p types script steps stops.Memory typed is few h = inl refl
-
--- ---- calls
-
--- what stops a program and a script stops a call for them
-pub source_fails : {A B : Type 0} (text : List ℕ) (S : PlainProgram → Result A Refusal → Type 0) (R : PlainProgram → A → Result B Failure → Type 0) (why : Refusal)
-    → StopsFor (OnProgram text S) why → FailsFor (OnSource text (λ p. Then (As failures.Source (S p)) (R p))) (failures.Source why)
-source_fails text S R why (inl memory) = inl memory
-source_fails text S R why (inr (inl (e, h, is))) = inr (inl (e, h, ap failures.Source is))
-source_fails text S R why (inr (inr (p, read, h))) = inr (inr (p, read, inl (why, h, refl)))

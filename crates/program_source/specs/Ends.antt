@@ -1,9 +1,12 @@
 -- How the stages of a text end.
 use Rattle.std.specs.Prelude.{◌≡◌, ◌⊎◌, ℕ, List, None, Result, Ok, Err}
+use Rattle.std.specs.Result.{IsErrAnd}
 use Rattle.lift_reader.specs.ProgramText.{IsProgramText, first_limit}
 use Rattle.lift_tree.specs.Programs.{PlainProgram}
 use Rattle.fault_lines.specs.Failure as failures
 use Rattle.fault_lines.specs.Failure.{Failure}
+use Rattle.fault_lines.specs.Shown.{failure_of}
+use Rattle.fault_lines.specs.declared.failure.Failure as code
 use Rattle.fault_lines.specs.declared.refusal.Refusal.TheVariants as told
 use Rattle.program_source.specs.Program.{ReadsProgram}
 use Rattle.stages.specs.Stages.{As, Then}
@@ -11,6 +14,13 @@ use Rattle.stages.specs.Stages.{As, Then}
 -- why a call stops: for its cause, or for want of memory, which is free
 abbrev pub FailsFor : {A : Type 0} → (Result A Failure → Type 0) → Failure → Type 0
 FailsFor R failure = (failures.status_of failure ≡ 13) ⊎ R (Err failure)
+
+-- where this stops for a cause the call fails: for that cause, or for want of memory
+abbrev pub IsFailedFor :
+    {A T : Type 0} → (Result A Failure → Type 0) → Result T code.Failure → Type 0
+IsFailedFor R result =
+    (why : Failure) → R (Err why)
+    → IsErrAnd result (λ e. (failure_of e ≡ why) ⊎ (failures.status_of (failure_of e) ≡ 13))
 
 -- what a program's text comes to, where this is what its program does
 abbrev pub OnSource : {A : Type 0} → List ℕ → (PlainProgram → Result A Failure → Type 0) → Result A Failure → Type 0

@@ -1,5 +1,6 @@
 -- A program's text, and its types.
 use Rattle.std.specs.Prelude.{◌≡◌, ◌⊎◌, ◌≤◌, ℕ, List, [], Some, None, Result, Ok, Err}
+use Rattle.std.specs.Result.{IsErrAnd}
 use Rattle.lift_tree.specs.Annotations.{Annotation}
 use Rattle.lift_tree.specs.Meaning.{World, meaning}
 use Rattle.lift_tree.specs.Programs.{PlainProgram}
@@ -10,14 +11,18 @@ use Rattle.lift_reader.specs.declared.refusal.Quantity.{Quantity}
 use Rattle.lift_reader.specs.declared.refusal.ReadRefusal.{ReadRefusal}
 use Rattle.lift_reader.specs.declared.refusal.ReadRefusal.TheVariants as readings
 use Rattle.pattern_types.specs.Judged.{program_judged}
-use Rattle.fault_lines.specs.Refusal.{status_of}
 use Rattle.fault_lines.specs.declared.refusal.Refusal.{Refusal}
 use Rattle.fault_lines.specs.declared.refusal.Refusal.TheVariants as told
 use Rattle.stages.specs.Stages.{As, Then}
 
 -- why a stage stops: for its cause, or for want of memory, which is free
 abbrev pub StopsFor : {A : Type 0} → (Result A Refusal → Type 0) → Refusal → Type 0
-StopsFor R why = (status_of why ≡ 13) ⊎ R (Err why)
+StopsFor R why = (why ≡ told.Memory) ⊎ R (Err why)
+
+-- where this stops for a cause the call is refused: for that cause, or for want of memory
+abbrev pub IsRefusedFor : {A T : Type 0} → (Result A Refusal → Type 0) → Result T Refusal → Type 0
+IsRefusedFor R result =
+    (why : Refusal) → R (Err why) → IsErrAnd result (λ e. (e ≡ why) ⊎ (e ≡ told.Memory))
 
 -- the text is this program, which is within its limits, and no other
 pub record IsRead (text : List ℕ) (p : PlainProgram) : Type 0 where

@@ -1,23 +1,14 @@
 -- The terms that a script makes of a program.
-use Rattle.std.specs.Prelude.{◌≡◌, ◌≤◌, ◌++◌, ◌∷◌, ℕ, List, [], length, Result, Ok, Err}
+use Rattle.std.specs.Prelude.{◌≡◌, ◌++◌, ◌∷◌, ℕ, List, [], Result, Ok, Err}
 use Rattle.lift_tree.specs.Annotations.{Annotation}
 use Rattle.lift_tree.specs.Programs.{PlainProgram}
-use Rattle.strategy_script.specs.ScriptText.{HasTooManySteps, IsScript, StopsAtLine}
+use Rattle.strategy_script.specs.ScriptText.{ReadsScript}
 use Rattle.strategy_script.specs.Steps.{State, terms_of}
-use Rattle.strategy_script.specs.declared.script.ScriptNo.{ScriptNo}
-use Rattle.strategy_script.specs.declared.script.ScriptNo.TheVariants as scripts
 use Rattle.strategy_script.specs.declared.script.Step.{Step}
 use Rattle.fault_lines.specs.declared.refusal.Refusal.{Refusal}
 use Rattle.fault_lines.specs.declared.refusal.Refusal.TheVariants as told
 use Rattle.program_source.specs.Program.{TypesOf}
 use Rattle.stages.specs.Stages.{As, Then}
-
--- the steps of a script's text, at most 256, or why it is none
-abbrev pub ReadsScript : List ℕ → Result (List Step) ScriptNo → Type 0
-ReadsScript text (Ok steps) = IsScript text steps × (length steps ≤ 256)
-ReadsScript text (Err (scripts.Syntax line)) = StopsAtLine text line
-ReadsScript text (Err (scripts.Limit which count)) = HasTooManySteps text count
-ReadsScript text (Err scripts.Memory) = ⊥
 
 -- the source's term, with the types of its nodes
 abbrev pub source_of : PlainProgram → Annotation → State

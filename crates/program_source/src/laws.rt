@@ -5,6 +5,7 @@ ghost use Rattle.program_source.specs.Laws.{SourcesEndOnce, TypedProgramsAreProp
 use lift_reader::program::programs_may_be_typed;
 use lift_reader::token::one_list_of_tokens;
 use pattern_types::laws::judged_inputs_are_proper;
+use strategy_script::laws::scripts_end_once;
 
 /// A text comes to one program or to one refusal, and so do its types, its terms along a script, and
 /// the last of these.
@@ -12,6 +13,7 @@ pub fn sources_end_once()
     ensures { SourcesEndOnce }
 {
     one_list_of_tokens();
+    scripts_end_once();
 }
 
 /// A program that is read and typed has proper inputs.

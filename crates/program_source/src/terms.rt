@@ -1,6 +1,10 @@
 //! The terms that the steps of a script make of a program, and their lines.
 ghost use Rattle.std.specs.Prelude.{◌≡◌, ◌++◌, IfErr, IfOk, OnOk};
-ghost use Rattle.program_source.specs.Program.{OnProgram, StopsFor};
+ghost use Rattle.lift_tree.specs.Annotations.{annotation_of};
+ghost use Rattle.lift_tree.specs.Programs.{program_of};
+ghost use Rattle.lift_tree.specs.Tree.{tree_of};
+ghost use Rattle.lowered_tree.specs.Whole.{IsTypedWithin};
+ghost use Rattle.program_source.specs.Program.{IsRefusedFor, OnProgram, StopsFor};
 ghost use Rattle.program_source.specs.SourceTerms.{
   AreSourceTerms,
   IsBegun,
@@ -11,7 +15,9 @@ ghost use Rattle.program_source.specs.SourceTerms.{
 ghost use Rattle.program_source.specs.StepsText.{IsStepsText};
 ghost use Rattle.program_source.specs.Terms.{TermsOf};
 
+use crate::laws::sources_end_once;
 use crate::source::typed_source;
+use copied_arrays::laws::scripts_copy_arrays;
 use fault_lines::Refusal;
 use lift_tree::laws::typed_nodes_type_the_term;
 use lift_tree::typed::Typed;
@@ -32,23 +38,30 @@ fn begin(alloc: Global, program: &[u8], script: &[u8]) -> Result<(Typed, Script)
 }
 
 /// The terms that the steps of a script make of a program: its own, then the term after each step.
-/// A refusal is the first cause in the order of the stages: the program's text and its limits, its
-/// types, the script's text and its limit, the steps in turn. Want of memory may come at any point.
+/// It is refused just where a stage stops, and for the first in their order: the program's text and
+/// its limits, its types, the script's text and its limit, the steps in turn. Want of memory may
+/// come at any point.
 pub fn source_terms(alloc: Global, program: &[u8], script: &[u8]) -> Result<Vec<Typed>, Refusal>
     ensures terms { IfOk result (λ terms. AreSourceTerms program.now script.now terms.items) }
     ensures refused { IfErr result
         (StopsFor (OnProgram program.now (λ p. TermsOf p script.now))) }
+    ensures exact { IsRefusedFor (OnProgram program.now (λ p. TermsOf p script.now)) result }
 {
+    sources_end_once();
     let (source, script) = begin(alloc, program, script)?;
     Ok(run_script(alloc, source, &script)?)
 }
 
-/// The last of the terms of [`source_terms`], with the same refusals. It holds two terms at a time.
+/// The last of the terms of [`source_terms`], with the same refusals: typed within the limits, and
+/// copying nothing but arrays. It holds two terms at a time.
 pub fn last_term(alloc: Global, program: &[u8], script: &[u8]) -> Result<Typed, Refusal>
     ensures last { IfOk result (IsLastTerm program.now script.now) }
+    ensures within { IfOk result (λ t. IsTypedWithin (program_of t.program) (tree_of t.term)
+        (annotation_of t.types)) }
     ensures refused { IfErr result
         (StopsFor (OnProgram program.now (λ p. TermsOf p script.now))) }
 {
+    scripts_copy_arrays();
     typed_nodes_type_the_term();
     types_are_judged();
     let (source, script) = begin(alloc, program, script)?;
@@ -82,7 +95,9 @@ pub fn steps_text(alloc: Global, program: &[u8], script: &[u8]) -> Result<Vec<u8
     ensures written { IfOk result (λ text. IsStepsText program.now script.now text.items) }
     ensures refused { IfErr result
         (StopsFor (OnProgram program.now (λ p. TermsOf p script.now))) }
+    ensures exact { IsRefusedFor (OnProgram program.now (λ p. TermsOf p script.now)) result }
 {
+    sources_end_once();
     let terms = source_terms(alloc, program, script)?;
     Ok(terms_text(alloc, terms.as_slice())?)
 }

@@ -136,6 +136,7 @@ impl Marks {
 }
 
 // What was done in the epoch, where the last access was in this one.
+#[inline(always)]
 fn lately_now(mark: Mark, now: u16) -> Lately
     ensures { lately_of result mark.item
         ≡ (if mark.epoch == now then lately_of mark.lately mark.item else told.Nothing) }
@@ -148,6 +149,7 @@ fn lately_now(mark: Mark, now: u16) -> Lately
 }
 
 // Whether the touch races with what an item of its group has done in its epoch.
+#[inline(always)]
 fn races_lately(lately: Lately, item: u16, touch: Touch) -> bool
     ensures { result ≡ told.races_lately (lately_of lately item) touch.item touch.writes }
 {
@@ -160,6 +162,7 @@ fn races_lately(lately: Lately, item: u16, touch: Touch) -> bool
 }
 
 // What was done with the touch, which is no race, where this item was the last.
+#[inline(always)]
 fn noted_lately(lately: Lately, item: u16, touch: Touch) -> Lately
     ensures { told.races_lately (lately_of lately item) touch.item touch.writes ≡ false
         → lately_of result touch.item
@@ -196,6 +199,7 @@ fn noted(mark: Mark, now: u16, touch: Touch) -> Option<Mark>
 }
 
 // The mark of a cell that nobody has touched before.
+#[inline(always)]
 fn first_mark(now: u16, touch: Touch) -> Mark
     ensures { result ≡ mark_at now touch touch.writes
         (if touch.writes then lately.WrittenByOne else lately.ReadByOne) }
@@ -255,6 +259,7 @@ fn noted_in_own(mark: Mark, now: u16, touch: Touch, written: bool) -> Option<Mar
     }
 }
 
+#[inline(always)]
 fn touched_in_group(written: bool) -> Touched
     ensures { result ≡ in_group written }
 {

@@ -8,7 +8,8 @@ use Rattle.size_arith.proofs.Soundness.{shown_at_least}
 use Rattle.lift_tree.specs.declared.length.Factor.{Factor}
 use Rattle.lift_tree.specs.declared.term.MapKind.TheVariants.{Plain}
 use Rattle.lift_tree.specs.declared.term.FoldKind.TheVariants as fold
-use Rattle.lift_tree.specs.declared.term.UnaryForm.TheVariants.{Join, Split, Transpose, Pad}
+use Rattle.lift_tree.specs.declared.layout.Layout.TheVariants.{Join, Split, Transpose}
+use Rattle.lift_tree.specs.declared.term.UnaryForm.TheVariants.{Layout, Pad}
 use Rattle.lift_tree.specs.Tree.{Tree, Variable, Unary, Let, Map, Fold}
 use Rattle.lift_tree.specs.Renumbering.{raise, substitute, mentions}
 use Rattle.lift_tree.specs.Values.{Value, array, members}
@@ -72,7 +73,7 @@ module _ (d : Declared) (g : List PlainTy) (declared : IsDeclared d) (fg : Every
   whole_formed : (t : Tree) (a : PlainTy) → Types d g t a → IsFormed d.names a
   whole_formed t a h = formed d declared.inputs g t a fg h
 
-  pub map_join_keeps : (xs f : Tree) → Keeps d g (Map Plain (Unary Join xs) f) (Unary Join (Map Plain xs (Map Plain (Variable 0) (raise 1 f))))
+  pub map_join_keeps : (xs f : Tree) → Keeps d g (Map Plain (Unary (Layout Join) xs) f) (Unary (Layout Join) (Map Plain xs (Map Plain (Variable 0) (raise 1 f))))
   map_join_keeps xs f = record {
     typed = λ a h.
         let o = h.3 in
@@ -83,7 +84,7 @@ module _ (d : Declared) (g : List PlainTy) (declared : IsDeclared d) (fg : Every
         let row = ArrayOf r.0 r.1 in (
           ArrayOf (ArrayOf h.1 r.1) r.2,
           (row, ArrayOf h.1 r.1, r.2, t, (r.0, h.1, r.1, refl, types-raise d r.0 row g f h.1 k, refl), refl),
-          (h.1, r.1, r.2, refl, h.5 ∙ ap (ArrayOf h.1) s.1, whole_formed (Map Plain (Unary Join xs) f) a h),
+          (h.1, r.1, r.2, refl, h.5 ∙ ap (ArrayOf h.1) s.1, whole_formed (Map Plain (Unary (Layout Join) xs) f) a h),
         );
     value = λ w vs ok all.
         let x = members (meaning w vs xs) in
@@ -122,7 +123,7 @@ module _ (d : Declared) (g : List PlainTy) (declared : IsDeclared d) (fg : Every
       refl
 
   pub map_split_keeps : (xs f : Tree) (fs : List Factor) → mentions 1 f ≡ false
-      → Keeps d g (Map Plain (Unary (Split fs) xs) (Map Plain (Variable 0) f)) (Unary (Split fs) (Map Plain xs (without 1 f)))
+      → Keeps d g (Map Plain (Unary (Layout (Split fs)) xs) (Map Plain (Variable 0) f)) (Unary (Layout (Split fs)) (Map Plain xs (without 1 f)))
   map_split_keeps xs f fs unnamed =
       record {
         typed = λ a h.
@@ -136,7 +137,7 @@ module _ (d : Declared) (g : List PlainTy) (declared : IsDeclared d) (fg : Every
             let whole : a ≡ ArrayOf (ArrayOf k.z (of_monomial m)) (quotient m r.1) = let p = h.5 in let q = k.whole in let u = e.1 in let v = s.1 in cc in (
               ArrayOf k.z r.1,
               (r.0, k.z, r.1, t, subst (λ z. Types d (z ∷ g) (without 1 f) k.z) e.0 k.typed, refl),
-              (k.z, r.1, refl, r.3, whole, whole_formed (Map Plain (Unary (Split fs) xs) (Map Plain (Variable 0) f)) a h),
+              (k.z, r.1, refl, r.3, whole, whole_formed (Map Plain (Unary (Layout (Split fs)) xs) (Map Plain (Variable 0) f)) a h),
             );
         value = λ w vs ok all.
             let x = members (meaning w vs xs) in
@@ -151,8 +152,8 @@ module _ (d : Declared) (g : List PlainTy) (declared : IsDeclared d) (fg : Every
       }
 
   pub map_transpose_keeps : (xs f : Tree) (a : PlainTy) → mentions 1 f ≡ false
-      → Types d g (Map Plain (Unary Transpose xs) (Map Plain (Variable 0) f)) a
-      → Keeps d g (Map Plain (Unary Transpose xs) (Map Plain (Variable 0) f)) (Unary Transpose (Map Plain xs (Map Plain (Variable 0) f)))
+      → Types d g (Map Plain (Unary (Layout Transpose) xs) (Map Plain (Variable 0) f)) a
+      → Keeps d g (Map Plain (Unary (Layout Transpose) xs) (Map Plain (Variable 0) f)) (Unary (Layout Transpose) (Map Plain xs (Map Plain (Variable 0) f)))
   map_transpose_keeps xs f b unnamed whole =
       record {
         typed = λ a h.
@@ -168,14 +169,14 @@ module _ (d : Declared) (g : List PlainTy) (declared : IsDeclared d) (fg : Every
             let same : a ≡ ArrayOf (ArrayOf k.z r.2) r.1 = let p = h.5 in let q = k.whole in let u = e.1 in let v = s.1 in cc in (
               ArrayOf (ArrayOf k.z r.1) r.2,
               (row, ArrayOf k.z r.1, r.2, t, (r.0, k.z, r.1, refl, under, refl), refl),
-              (k.z, r.1, r.2, refl, same, whole_formed (Map Plain (Unary Transpose xs) (Map Plain (Variable 0) f)) a h),
+              (k.z, r.1, r.2, refl, same, whole_formed (Map Plain (Unary (Layout Transpose) xs) (Map Plain (Variable 0) f)) a h),
             );
         value = λ w vs ok all.
             let r = whole.3.2 in
             let v = meaning w vs xs in
             let rs = rows v in
             let F : Value → Value = λ y. meaning w (y ∷ vs) (without 1 f) in
-            let shape = whole_formed (Unary Transpose xs) (ArrayOf whole.0 whole.2) whole.3 in
+            let shape = whole_formed (Unary (Layout Transpose) xs) (ArrayOf whole.0 whole.2) whole.3 in
             let shown : IsFormed d.names (ArrayOf (ArrayOf r.0 r.2) r.1) = subst (IsFormed d.names) r.4 shape in
             let t = values_have_types d w g vs xs (ArrayOf (ArrayOf r.0 r.1) r.2) declared ok fg all (subst (λ z. Types d g xs z) r.3 whole.3.1) in
             let wide = rows_long w.bases r.0 r.1 r.2 v t (shown_at_least d.names w.bases declared.names ok.bases 1 r.2 shown.1.0) in
@@ -234,7 +235,7 @@ module _ (d : Declared) (g : List PlainTy) (declared : IsDeclared d) (fg : Every
             ∙ sym (ap (λ z. array (map F z)) (members-array (padded l k x)));
       }
 
-  pub transpose_transpose_keeps : (xs : Tree) (a : PlainTy) → Types d g (Unary Transpose (Unary Transpose xs)) a → Keeps d g (Unary Transpose (Unary Transpose xs)) xs
+  pub transpose_transpose_keeps : (xs : Tree) (a : PlainTy) → Types d g (Unary (Layout Transpose) (Unary (Layout Transpose) xs)) a → Keeps d g (Unary (Layout Transpose) (Unary (Layout Transpose) xs)) xs
   transpose_transpose_keeps xs b whole =
       record {
         typed = λ a h.

@@ -1,9 +1,11 @@
+pub mod Held
 pub mod Kept
 pub mod Lists
 pub mod Polynomials
 pub mod Rest
 pub mod Ruled
 pub mod Split
+pub mod Strided
 pub mod Typed
 pub mod Unnamed
 pub mod Values

@@ -66,7 +66,7 @@ length-none : (ls : List ℕ) → length {A = ℕ} (map (λ l. 0) ls) ≡ length
 length-none [] = refl
 length-none (l ∷ ls) = ap suc (length-none ls)
 
-none_shown : (names : List Name) → ShownAtLeast 1 names [] → ⊥
+pub none_shown : (names : List Name) → ShownAtLeast 1 names [] → ⊥
 none_shown names h =
     let ls = leasts names in
     let a = h (map (λ l. 0) ls) (length-none ls) in
@@ -121,7 +121,7 @@ after_scaled : (m : Monomial) (ms : List ℕ) (q : List Monomial) → length ms 
 after_scaled m ms [] w h a = tt
 after_scaled m ms (x ∷ q) w h a = (place_add m.powers ms x.powers (w ∙ sym h.0) ∙ a.0, after_scaled m ms q w h.1 a.1)
 
-abs_some : (z : ℤ) → is_zero z ≡ false → 1 ≤ unsigned_abs z
+pub abs_some : (z : ℤ) → is_zero z ≡ false → 1 ≤ unsigned_abs z
 abs_some (pos zero) h = cc
 abs_some (pos (suc n)) h = omega arith
 abs_some (negsuc n) h = omega arith
@@ -162,7 +162,7 @@ less_add (m ∷ ms) (n ∷ ns) e = let f : m + n - m ≡ n = omega arith in let 
 quotient_is : (c : ℕ) (d x : ℤ) → d ≡ pos c → 0 < c → (n : ℤ) → n ≡ d *ℤ x → d *ℤ int_div n d ≡ n → int_div n d ≡ x
 quotient_is c d x e some n f h = cancel c (int_div n d) x some (ap (λ z. z *ℤ int_div n d) (sym e) ∙ h ∙ f ∙ ap (λ z. z *ℤ x) e)
 
-coefficient_times : (d m : Monomial) → Divides d m → d.coefficient *ℤ int_div m.coefficient d.coefficient ≡ m.coefficient
+pub coefficient_times : (d m : Monomial) → Divides d m → d.coefficient *ℤ int_div m.coefficient d.coefficient ≡ m.coefficient
 coefficient_times d m h =
     let q = quot-rem m.coefficient d.coefficient in
     let r = h.coefficient in

@@ -6,7 +6,8 @@ use Rattle.size_arith.specs.declared.poly.Monomial.{Monomial}
 use Rattle.size_arith.specs.Polynomial.{IsPoly, AllDivide, monomial_at, value_at, times, quotient, of_monomial}
 use Rattle.size_arith.proofs.Soundness.{shown_at_least}
 use Rattle.lift_tree.specs.declared.length.Factor.{Factor}
-use Rattle.lift_tree.specs.declared.term.UnaryForm.TheVariants.{Join, Split}
+use Rattle.lift_tree.specs.declared.layout.Layout.TheVariants.{Join, Split}
+use Rattle.lift_tree.specs.declared.term.UnaryForm.TheVariants.{Layout}
 use Rattle.lift_tree.specs.Tree.{Tree, Unary}
 use Rattle.lift_tree.specs.Values.{Value, array, members}
 use Rattle.lift_tree.specs.Lists.{Every, concat, pieces}
@@ -31,8 +32,8 @@ module _ (d : Declared) (g : List PlainTy) (declared : IsDeclared d) (fg : Every
   size_is : (w : World) (fs : List Factor) → IsAdmissible d w → monomial_at w.bases (product_of d.names fs) ≡ pos (product_at w.sizes fs)
   size_is w fs ok = product_value d.names w.bases ok.bases declared.few fs ∙ ap (λ ss. pos (product_at ss fs)) (sym ok.sizes)
 
-  pub join_split_keeps : (xs : Tree) (fs : List Factor) (a b : PlainTy) → Types d g (Unary Join (Unary (Split fs) xs)) a → Types d g xs b → HasPolynomial b
-      → Keeps d g (Unary Join (Unary (Split fs) xs)) xs
+  pub join_split_keeps : (xs : Tree) (fs : List Factor) (a b : PlainTy) → Types d g (Unary (Layout Join) (Unary (Layout (Split fs)) xs)) a → Types d g xs b → HasPolynomial b
+      → Keeps d g (Unary (Layout Join) (Unary (Layout (Split fs)) xs)) xs
   join_split_keeps xs fs c b whole typed poly =
       record {
         typed = λ a h.
@@ -72,8 +73,8 @@ module _ (d : Declared) (g : List PlainTy) (declared : IsDeclared d) (fg : Every
             ∙ array_back w.bases r.0 r.1 v t);
       }
 
-  pub split_join_keeps : (xs : Tree) (fs : List Factor) (a x : PlainTy) (m n : List Monomial) → Types d g (Unary (Split fs) (Unary Join xs)) a → Types d g xs (ArrayOf (ArrayOf x m) n) → IsPoly n → m ≡ of_monomial (product_of d.names fs)
-      → Keeps d g (Unary (Split fs) (Unary Join xs)) xs
+  pub split_join_keeps : (xs : Tree) (fs : List Factor) (a x : PlainTy) (m n : List Monomial) → Types d g (Unary (Layout (Split fs)) (Unary (Layout Join) xs)) a → Types d g xs (ArrayOf (ArrayOf x m) n) → IsPoly n → m ≡ of_monomial (product_of d.names fs)
+      → Keeps d g (Unary (Layout (Split fs)) (Unary (Layout Join) xs)) xs
   split_join_keeps xs fs c x m n whole typed poly same =
       record {
         typed = λ a h.

@@ -4,3 +4,5 @@ pub mod Layouts
 pub mod Padding
 pub mod Rows
 pub mod Shapes
+pub mod Steps
+pub mod Strides

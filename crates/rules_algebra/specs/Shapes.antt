@@ -2,7 +2,8 @@
 use Rattle.std.specs.Prelude.{◌≡◌, zero, true, false, Option, MatchOption}
 use Rattle.lift_tree.specs.declared.term.MapKind.TheVariants.{Plain}
 use Rattle.lift_tree.specs.declared.term.FoldKind.TheVariants as fold
-use Rattle.lift_tree.specs.declared.term.UnaryForm.TheVariants.{Join, Split, Transpose, Pad}
+use Rattle.lift_tree.specs.declared.layout.Layout.TheVariants.{Join, Split, Transpose, Reverse, Stride}
+use Rattle.lift_tree.specs.declared.term.UnaryForm.TheVariants.{Layout, Pad}
 use Rattle.lift_tree.specs.declared.term.Term.{Term}
 use Rattle.lift_tree.specs.Renumbering.{mentions}
 use Rattle.size_arith.specs.Polynomial.{IsPoly}
@@ -23,16 +24,24 @@ IsLet (Let v b) = Unit {0}
 IsLet _ = ⊥
 
 abbrev pub IsJoin : Tree → Type 0
-IsJoin (Unary Join t) = Unit {0}
+IsJoin (Unary (Layout Join) t) = Unit {0}
 IsJoin _ = ⊥
 
 abbrev pub IsSplit : Tree → Type 0
-IsSplit (Unary (Split m) t) = Unit {0}
+IsSplit (Unary (Layout (Split m)) t) = Unit {0}
 IsSplit _ = ⊥
 
 abbrev pub IsTranspose : Tree → Type 0
-IsTranspose (Unary Transpose t) = Unit {0}
+IsTranspose (Unary (Layout Transpose) t) = Unit {0}
 IsTranspose _ = ⊥
+
+abbrev pub IsReverse : Tree → Type 0
+IsReverse (Unary (Layout Reverse) t) = Unit {0}
+IsReverse _ = ⊥
+
+abbrev pub IsStride : Tree → Type 0
+IsStride (Unary (Layout (Stride m)) t) = Unit {0}
+IsStride _ = ⊥
 
 abbrev pub IsPad : Tree → Type 0
 IsPad (Unary (Pad l r) t) = Unit {0}

@@ -12,6 +12,7 @@ ghost use Rattle.rules_algebra.specs.Layouts;
 
 use crate::node_types::{child, has_polynomial_below, have_same_rows};
 use crate::parts::{boxed, joined, map_parts, split_parts, transposed};
+use lift_tree::layout::Layout;
 use lift_tree::renumber::{dropped, raised};
 use lift_tree::term::{MapKind, Term, UnaryForm};
 use lift_tree::typed::{Context, NodeTypes};
@@ -34,8 +35,8 @@ fn is_transposed_twice(term: &Term) -> bool
         (Layouts.transpose_transpose (tree_of term.now) ≡ NoShape) }
 {
     match term {
-        Term::Unary(UnaryForm::Transpose, columns) => match &**columns {
-            Term::Unary(UnaryForm::Transpose, _) => true,
+        Term::Unary(UnaryForm::Layout(Layout::Transpose), columns) => match &**columns {
+            Term::Unary(UnaryForm::Layout(Layout::Transpose), _) => true,
             _ => false,
         },
         _ => false,
@@ -56,7 +57,7 @@ pub fn map_join(alloc: Global, term: Term) -> Result<Term, Refused>
     let row = boxed(alloc, Term::Variable(0))?;
     let body = boxed(alloc, Term::Map(MapKind::Plain, row, f))?;
     let mapped = boxed(alloc, Term::Map(MapKind::Plain, rows, body))?;
-    Ok(Term::Unary(UnaryForm::Join, mapped))
+    Ok(Term::Unary(UnaryForm::Layout(Layout::Join), mapped))
 }
 
 fn is_map_of_join(term: &Term) -> bool
@@ -65,7 +66,7 @@ fn is_map_of_join(term: &Term) -> bool
 {
     match term {
         Term::Map(MapKind::Plain, array, _) => match &**array {
-            Term::Unary(UnaryForm::Join, _) => true,
+            Term::Unary(UnaryForm::Layout(Layout::Join), _) => true,
             _ => false,
         },
         _ => false,
@@ -98,8 +99,8 @@ fn is_join_of_split(term: &Term) -> bool
         (Layouts.join_split (tree_of term.now) ≡ NoShape) }
 {
     match term {
-        Term::Unary(UnaryForm::Join, pieces) => match &**pieces {
-            Term::Unary(UnaryForm::Split(_), _) => true,
+        Term::Unary(UnaryForm::Layout(Layout::Join), pieces) => match &**pieces {
+            Term::Unary(UnaryForm::Layout(Layout::Split(_)), _) => true,
             _ => false,
         },
         _ => false,
@@ -149,8 +150,8 @@ fn is_split_of_join(term: &Term) -> bool
         ((a : Around) → Layouts.split_join a (tree_of term.now) ≡ NoShape) }
 {
     match term {
-        Term::Unary(UnaryForm::Split(_), array) => match &**array {
-            Term::Unary(UnaryForm::Join, _) => true,
+        Term::Unary(UnaryForm::Layout(Layout::Split(_)), array) => match &**array {
+            Term::Unary(UnaryForm::Layout(Layout::Join), _) => true,
             _ => false,
         },
         _ => false,
@@ -172,7 +173,7 @@ pub fn map_split(alloc: Global, term: Term) -> Result<Term, Refused>
     let (length, xs) = split_parts(Box::into_inner(array));
     let f = boxed(alloc, f)?;
     let mapped = boxed(alloc, Term::Map(MapKind::Plain, xs, f))?;
-    Ok(Term::Unary(UnaryForm::Split(length), mapped))
+    Ok(Term::Unary(UnaryForm::Layout(Layout::Split(length)), mapped))
 }
 
 fn maps_pieces(term: &Term) -> bool
@@ -181,7 +182,7 @@ fn maps_pieces(term: &Term) -> bool
 {
     match term {
         Term::Map(MapKind::Plain, array, rows) => match &**array {
-            Term::Unary(UnaryForm::Split(_), _) => is_row_map(rows),
+            Term::Unary(UnaryForm::Layout(Layout::Split(_)), _) => is_row_map(rows),
             _ => false,
         },
         _ => false,
@@ -239,7 +240,7 @@ pub fn map_transpose(alloc: Global, term: Term) -> Result<Term, Refused>
     let (array, body) = map_parts(term);
     let rows = transposed(Box::into_inner(array));
     let mapped = boxed(alloc, Term::Map(MapKind::Plain, rows, body))?;
-    Ok(Term::Unary(UnaryForm::Transpose, mapped))
+    Ok(Term::Unary(UnaryForm::Layout(Layout::Transpose), mapped))
 }
 
 fn maps_columns(term: &Term) -> bool
@@ -248,7 +249,7 @@ fn maps_columns(term: &Term) -> bool
 {
     match term {
         Term::Map(MapKind::Plain, array, rows) => match &**array {
-            Term::Unary(UnaryForm::Transpose, _) => is_row_map(rows),
+            Term::Unary(UnaryForm::Layout(Layout::Transpose), _) => is_row_map(rows),
             _ => false,
         },
         _ => false,

@@ -1,4 +1,4 @@
-//! Twelve rewrite rules of Lift (ICFP 2015, CGO 2018): those that rest on the patterns' algebra
+//! Seventeen rewrite rules of Lift (ICFP 2015, CGO 2018): those that rest on the patterns' algebra
 //! alone.
 #![tactic(auto)]
 
@@ -10,5 +10,7 @@ mod node_types;
 mod padding;
 mod parts;
 pub mod rule;
+mod steps;
+mod strides;
 
 pub use rule::{Rule, apply};

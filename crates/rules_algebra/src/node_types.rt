@@ -46,6 +46,15 @@ pub fn have_same_rows(a: &Ty, b: &Ty) -> bool
     }
 }
 
+// Where the type is an array's, its length is a polynomial. That is known once the length is read.
+pub fn has_polynomial(ty: &Ty)
+    ensures { HasPolynomial (ty_of ty.now) }
+{
+    if let Ty::Array(_, length) = ty {
+        let _length = length.as_slice();
+    }
+}
+
 // Where the only child's only child is an array, its length is a polynomial. That is known once the
 // length is read.
 pub fn has_polynomial_below(types: &NodeTypes)

@@ -3,10 +3,12 @@
 ghost use Rattle.std.specs.Prelude.{◌≡◌, IfOk};
 ghost use Rattle.lift_tree.specs.declared.term.MapKind.TheVariants.{Plain};
 ghost use Rattle.lift_tree.specs.declared.term.FoldKind.TheVariants as fold;
-ghost use Rattle.lift_tree.specs.declared.term.UnaryForm.TheVariants.{Join, Split, Transpose, Pad};
+ghost use Rattle.lift_tree.specs.declared.layout.Layout.TheVariants.{Join, Split, Transpose, Reverse, Stride};
+ghost use Rattle.lift_tree.specs.declared.term.UnaryForm.TheVariants as unary;
 ghost use Rattle.lift_tree.specs.Tree.{tree_of, Unary, Let, Map, Fold};
-ghost use Rattle.rules_algebra.specs.Shapes.{IsPlainMap, IsPlainFold, IsLet, IsJoin, IsSplit, IsTranspose, IsPad};
+ghost use Rattle.rules_algebra.specs.Shapes.{IsPlainMap, IsPlainFold, IsLet, IsJoin, IsSplit, IsTranspose, IsReverse, IsStride, IsPad};
 
+use lift_tree::layout::Layout;
 use lift_tree::length::Product;
 use lift_tree::term::{FoldKind, MapKind, Term, UnaryForm};
 use std::alloc::{AllocError, Global};
@@ -53,10 +55,10 @@ pub fn let_parts(term: Term) -> (Box<Term>, Box<Term>)
 
 pub fn joined(term: Term) -> Box<Term>
     requires { IsJoin (tree_of term) }
-    ensures { tree_of term ≡ Unary Join (tree_of result.value) }
+    ensures { tree_of term ≡ Unary (unary.Layout Join) (tree_of result.value) }
 {
     match term {
-        Term::Unary(UnaryForm::Join, rows) => rows,
+        Term::Unary(UnaryForm::Layout(Layout::Join), rows) => rows,
         _ => unreachable!(),
     }
 }
@@ -64,11 +66,11 @@ pub fn joined(term: Term) -> Box<Term>
 // The pieces' length, and the array that is split.
 pub fn split_parts(term: Term) -> (Product, Box<Term>)
     requires { IsSplit (tree_of term) }
-    ensures { tree_of term ≡ Unary (Split result.0) (tree_of result.1.value) }
+    ensures { tree_of term ≡ Unary (unary.Layout (Split result.0)) (tree_of result.1.value) }
 {
     match term {
         Term::Unary(form, array) => match form {
-            UnaryForm::Split(length) => (length, array),
+            UnaryForm::Layout(Layout::Split(length)) => (length, array),
             _ => unreachable!(),
         },
         _ => unreachable!(),
@@ -77,10 +79,34 @@ pub fn split_parts(term: Term) -> (Product, Box<Term>)
 
 pub fn transposed(term: Term) -> Box<Term>
     requires { IsTranspose (tree_of term) }
-    ensures { tree_of term ≡ Unary Transpose (tree_of result.value) }
+    ensures { tree_of term ≡ Unary (unary.Layout Transpose) (tree_of result.value) }
 {
     match term {
-        Term::Unary(UnaryForm::Transpose, rows) => rows,
+        Term::Unary(UnaryForm::Layout(Layout::Transpose), rows) => rows,
+        _ => unreachable!(),
+    }
+}
+
+pub fn reversed(term: Term) -> Box<Term>
+    requires { IsReverse (tree_of term) }
+    ensures { tree_of term ≡ Unary (unary.Layout Reverse) (tree_of result.value) }
+{
+    match term {
+        Term::Unary(UnaryForm::Layout(Layout::Reverse), array) => array,
+        _ => unreachable!(),
+    }
+}
+
+// How far the elements are apart, and the array that they are of.
+pub fn stride_parts(term: Term) -> (Product, Box<Term>)
+    requires { IsStride (tree_of term) }
+    ensures { tree_of term ≡ Unary (unary.Layout (Stride result.0)) (tree_of result.1.value) }
+{
+    match term {
+        Term::Unary(form, array) => match form {
+            UnaryForm::Layout(Layout::Stride(step)) => (step, array),
+            _ => unreachable!(),
+        },
         _ => unreachable!(),
     }
 }
@@ -88,7 +114,7 @@ pub fn transposed(term: Term) -> Box<Term>
 // How many are put before and after, and the array that is padded.
 pub fn pad_parts(term: Term) -> (u32, u32, Box<Term>)
     requires { IsPad (tree_of term) }
-    ensures { tree_of term ≡ Unary (Pad result.0 result.1) (tree_of result.2.value) }
+    ensures { tree_of term ≡ Unary (unary.Pad result.0 result.1) (tree_of result.2.value) }
 {
     match term {
         Term::Unary(UnaryForm::Pad(before, after), array) => (before, after, array),

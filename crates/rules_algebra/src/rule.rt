@@ -14,6 +14,7 @@ use crate::layouts::{
     join_split, map_join, map_split, map_transpose, split_join, transpose_transpose,
 };
 use crate::padding::{map_pad, pad_map};
+use crate::strides::{map_reverse, map_stride, reverse_reverse, stride_layout, stride_stride};
 use lift_tree::term::Term;
 use lift_tree::typed::Context;
 use rewriting::Refused;
@@ -41,6 +42,17 @@ pub enum Rule {
     /// `map(\r. map(\x. f, r), transpose(xs))` becomes `transpose(map(\r. map(\x. f, r), xs))`,
     /// where `f` doesn't name r.
     MapTranspose,
+    /// `reverse(reverse(xs))` becomes `xs`.
+    ReverseReverse,
+    /// `map(\x. f, reverse(xs))` becomes `reverse(map(\x. f, xs))`.
+    MapReverse,
+    /// `map(\x. f, stride(m, xs))` becomes `stride(m, map(\x. f, xs))`.
+    MapStride,
+    /// `stride(k, stride(m, xs))` becomes `xs`, where k times m is the length of `xs`.
+    StrideStride,
+    /// `stride(m, xs)` becomes `join(transpose(split(m, xs)))`, where the length of `xs` by m is
+    /// shown at least 1.
+    StrideLayout,
     /// `pad(l, r, map(\x. f, xs))` becomes `map(\x. f, pad(l, r, xs))`.
     PadMap,
     /// `map(\x. f, pad(l, r, xs))` becomes `pad(l, r, map(\x. f, xs))`.
@@ -69,6 +81,11 @@ pub fn apply(alloc: Global, rule: &Rule, term: Term, context: &Context) -> Resul
         Rule::MapJoin => map_join(alloc, term),
         Rule::MapSplit => map_split(alloc, term),
         Rule::MapTranspose => map_transpose(alloc, term),
+        Rule::ReverseReverse => reverse_reverse(term),
+        Rule::MapReverse => map_reverse(alloc, term),
+        Rule::MapStride => map_stride(alloc, term),
+        Rule::StrideStride => stride_stride(term, context),
+        Rule::StrideLayout => stride_layout(alloc, term, context),
         Rule::PadMap => pad_map(alloc, term),
         Rule::MapPad => map_pad(alloc, term),
         Rule::LetInline => let_inline(alloc, term),

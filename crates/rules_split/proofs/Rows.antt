@@ -9,7 +9,8 @@ use Rattle.size_arith.specs.declared.poly.Monomial.{Monomial}
 use Rattle.size_arith.specs.Polynomial.{number, value_at, times, AllWide, IsPoly, quotient}
 use Rattle.size_arith.specs.Shown.{ShownAtLeast}
 use Rattle.size_arith.proofs.Soundness.{shown_at_least}
-use Rattle.lift_tree.specs.declared.term.UnaryForm.TheVariants.{Transpose}
+use Rattle.lift_tree.specs.declared.layout.Layout.TheVariants.{Transpose}
+use Rattle.lift_tree.specs.declared.term.UnaryForm.TheVariants.{Layout}
 use Rattle.lift_tree.specs.declared.term.BinaryForm.TheVariants.{Reduce}
 use Rattle.lift_tree.specs.Tree.{Tree, Variable, Number, Unary, Binary}
 use Rattle.lift_tree.specs.Lists.{Every, fold_left, concat, pieces, columns, width, first_of, rest_of}
@@ -191,7 +192,7 @@ module _ (o : Reducer) (laws : IsRegroup (combine o) (neutral o)) (a : Around) (
             ∙ sym (plain_value o w vs xs s c.start c.numbers c.start_is c.words);
       }
 
-  pub stride_reduce_keeps : KeepsIn a (Binary (Reduce o) xs s) (reduced_by_rows o (Unary Transpose (in_pieces k xs)) s)
+  pub stride_reduce_keeps : KeepsIn a (Binary (Reduce o) xs s) (reduced_by_rows o (Unary (Layout Transpose) (in_pieces k xs)) s)
   stride_reduce_keeps d around =
       let g = a.binders in
       let n = array_length a.types in
@@ -202,7 +203,7 @@ module _ (o : Reducer) (laws : IsRegroup (combine o) (neutral o)) (a : Around) (
       let shown_k = shown-constant d.names k pieces_of.some in
       record {
         typed = λ b h.
-            rows_typed d g o (Unary Transpose (in_pieces k xs)) s q (constant k) b laws.fits (wide-constant k) shown_k (
+            rows_typed d g o (Unary (Layout Transpose) (in_pieces k xs)) s q (constant k) b laws.fits (wide-constant k) shown_k (
               ArrayOf (ArrayOf U32 (constant k)) q,
               (ArrayOf U32 n, t.0, split_row d.names k U32 n pieces_of.some pieces_of.divide form.0 tt),
               (U32, constant k, q, refl, refl, (shown_k, (shown_q, tt))),
@@ -218,9 +219,9 @@ module _ (o : Reducer) (laws : IsRegroup (combine o) (neutral o)) (a : Around) (
             let long : length (members v) ≡ c.count * k = ap length c.words ∙ length-map Word c.numbers ∙ c.total in
             let rs = rows (meaning w vs (in_pieces k xs)) in
             let wide : width rs ≡ k = ap width c.cut_rows ∙ width_words k ps (some_rows (length (members v)) c.count k (length ps) some long (length-pieces c.count k k c.numbers)) (every_to (λ r h. h.0) ps c.row) in
-            let cols : rows (meaning w vs (Unary Transpose (in_pieces k xs))) ≡ map (map Word) (columns_of k ps) =
+            let cols : rows (meaning w vs (Unary (Layout Transpose) (in_pieces k xs))) ≡ map (map Word) (columns_of k ps) =
             rows-array (columns (width rs) rs) ∙ ap (λ z. columns z rs) wide ∙ ap (columns k) c.cut_rows ∙ columns_words k ps in
-            rows_value o w vs (Unary Transpose (in_pieces k xs)) s c.start (columns_of k ps) laws c.start_fits (columns_fit k ps c.row) c.start_is cols
+            rows_value o w vs (Unary (Layout Transpose) (in_pieces k xs)) s c.start (columns_of k ps) laws c.start_fits (columns_fit k ps c.row) c.start_is cols
             ∙ ap (λ n. array (Word n ∷ [])) (strided (combine o) (neutral o) laws c.start k ps c.start_fits c.row)
             ∙ ap (λ ns. array (Word (fold_left (combine o) c.start ns) ∷ [])) (concat-pieces c.count k c.numbers c.total)
             ∙ sym (plain_value o w vs xs s c.start c.numbers c.start_is c.words);

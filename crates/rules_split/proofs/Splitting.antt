@@ -8,7 +8,8 @@ use Rattle.size_arith.specs.declared.poly.Monomial.{Monomial}
 use Rattle.size_arith.specs.Polynomial.{number, of_monomial, value_at, times, IsPoly, AllDivide, quotient}
 use Rattle.size_arith.specs.Shown.{ShownAtLeast}
 use Rattle.lift_tree.specs.declared.length.Factor.TheVariants as factor
-use Rattle.lift_tree.specs.declared.term.UnaryForm.TheVariants.{Split}
+use Rattle.lift_tree.specs.declared.layout.Layout.TheVariants.{Split}
+use Rattle.lift_tree.specs.declared.term.UnaryForm.TheVariants.{Layout}
 use Rattle.lift_tree.specs.declared.term.MapKind.TheVariants.{Plain}
 use Rattle.lift_tree.specs.Tree.{Tree, Map}
 use Rattle.lift_tree.specs.Lists.{concat, pieces}
@@ -34,7 +35,7 @@ use Rattle.rules_split.proofs.Typed.{same_array, types-raise, map_array}
 
 -- ---- pieces
 pub split_row : (names : List Name) (k : ℕ) (x : PlainTy) (n : List Monomial) → 0 < k → AllDivide (number (pos k)) n → ShownAtLeast 1 names n → IsFormed names x
-    → UnaryRow names (Split (factor.Number k ∷ [])) (ArrayOf x n) (ArrayOf (ArrayOf x (constant k)) (quotient (number (pos k)) n))
+    → UnaryRow names (Layout (Split (factor.Number k ∷ []))) (ArrayOf x n) (ArrayOf (ArrayOf x (constant k)) (quotient (number (pos k)) n))
 split_row names k x n some d shown f = let one : k * 1 ≡ k = omega arith in go (product_of names (factor.Number k ∷ [])) (ap (λ z. number (pos z)) one)
   where
     go : (m : Monomial) → m ≡ number (pos k)
@@ -51,7 +52,7 @@ split_row names k x n some d shown f = let one : k * 1 ≡ k = omega arith in go
 -- a list cut into so many pieces of k
 pub record IsCut (w : World) (k : ℕ) (v : Value) : Type 0 where
   pub count : ℕ
-  pub rows : rows (unary_value w (Split (factor.Number k ∷ [])) v) ≡ pieces count k k (members v)
+  pub rows : rows (unary_value w (Layout (Split (factor.Number k ∷ []))) v) ≡ pieces count k k (members v)
   pub total : length (members v) ≡ count * k
 
 count_is : (k n : ℕ) (z : ℤ) → 0 < k → pos n ≡ pos k *ℤ z → n ≡ (n / k) * k

@@ -6,7 +6,8 @@ use Rattle.size_arith.specs.declared.poly.Monomial.{Monomial}
 use Rattle.size_arith.specs.Polynomial.{minus}
 use Rattle.size_arith.specs.Decisions.{is_shown}
 use Rattle.lift_tree.specs.declared.length.Factor.TheVariants as factor
-use Rattle.lift_tree.specs.declared.term.UnaryForm.TheVariants.{Join, Transpose, Split, Slide}
+use Rattle.lift_tree.specs.declared.layout.Layout.TheVariants.{Join, Transpose, Split}
+use Rattle.lift_tree.specs.declared.term.UnaryForm.TheVariants.{Layout, Slide}
 use Rattle.lift_tree.specs.declared.term.BinaryForm.TheVariants.{Operator, Reduce}
 use Rattle.lift_tree.specs.declared.term.Operator.TheVariants.{Regrouping}
 use Rattle.lift_tree.specs.declared.term.MapKind.TheVariants as map
@@ -58,11 +59,11 @@ array_length (Three a n m k) = length_in (type_in n)
 -- ---- what the rows give
 -- split(k, xs)
 abbrev pub in_pieces : ℕ → Tree → Tree
-in_pieces k xs = Unary (Split (factor.Number k ∷ [])) xs
+in_pieces k xs = Unary (Layout (Split (factor.Number k ∷ []))) xs
 
 -- join(map(\r. body, rows))
 abbrev pub joined : (rows body : Tree) → Tree
-joined rows body = Unary Join (Map map.Plain rows body)
+joined rows body = Unary (Layout Join) (Map map.Plain rows body)
 
 -- join(map(\r. map(\x. f, r), rows))
 abbrev pub mapped_by_rows : (rows f : Tree) → Tree
@@ -116,7 +117,7 @@ split_reduce k a t = NoShape
 abbrev pub stride_reduce : ℕ → Around → Tree → Answer
 stride_reduce k a (Binary (Reduce r) xs s) =
     under (piece_sides k (array_length a.types))
-    (reduced_by_rows r (Unary Transpose (in_pieces k xs)) s)
+    (reduced_by_rows r (Unary (Layout Transpose) (in_pieces k xs)) s)
 stride_reduce k a t = NoShape
 
 abbrev pub reduce_fold : Tree → Answer

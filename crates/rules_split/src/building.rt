@@ -3,11 +3,13 @@
 ghost use Rattle.std.specs.Prelude.{◌≡◌, IfOk};
 ghost use Rattle.scalar_ops.specs.Operators.{neutral};
 ghost use Rattle.lift_tree.specs.declared.term.BinaryForm.TheVariants.{Reduce};
-ghost use Rattle.lift_tree.specs.declared.term.UnaryForm.TheVariants.{Transpose};
+ghost use Rattle.lift_tree.specs.declared.layout.Layout.TheVariants.{Transpose};
+ghost use Rattle.lift_tree.specs.declared.term.UnaryForm.TheVariants as unary;
 ghost use Rattle.lift_tree.specs.Tree.{tree_of, Unary, Binary, Number, Variable};
 ghost use Rattle.lift_tree.specs.Renumbering.{IsRenumberable};
 ghost use Rattle.rules_split.specs.Rules.{in_pieces, mapped_by_rows, reduced_by_rows, joined, folded, tiled};
 
+use lift_tree::layout::Layout;
 use lift_tree::length::{Factor, Product};
 use lift_tree::renumber::raised;
 use lift_tree::term::{BinaryForm, FoldKind, MapKind, Operator, Term, UnaryForm};
@@ -19,7 +21,8 @@ pub fn in_pieces(alloc: Global, k: u32, array: Box<Term>) -> Result<Term, AllocE
     ensures { IfOk result (λ t. tree_of t ≡ in_pieces k (tree_of array.value)) }
 {
     let factors = vec![in alloc; Factor::Number(k)]?;
-    Ok(Term::Unary(UnaryForm::Split(Product::new(factors)), array))
+    let pieces = Layout::Split(Product::new(factors));
+    Ok(Term::Unary(UnaryForm::Layout(pieces), array))
 }
 
 // The rows' images one after another.
@@ -27,7 +30,7 @@ fn joined(alloc: Global, rows: Term, body: Term) -> Result<Term, AllocError>
     ensures { IfOk result (λ t. tree_of t ≡ joined (tree_of rows) (tree_of body)) }
 {
     let mapped = Term::map(alloc, MapKind::Plain, rows, body)?;
-    Term::unary(alloc, UnaryForm::Join, mapped)
+    Term::unary(alloc, UnaryForm::Layout(Layout::Join), mapped)
 }
 
 /// The rows, each mapped, one after another.
@@ -66,9 +69,9 @@ pub fn reduced_by_rows<R: Regroup>(
 
 /// The array's columns.
 pub fn transposed(alloc: Global, array: Term) -> Result<Term, AllocError>
-    ensures { IfOk result (λ t. tree_of t ≡ Unary Transpose (tree_of array)) }
+    ensures { IfOk result (λ t. tree_of t ≡ Unary (unary.Layout Transpose) (tree_of array)) }
 {
-    Term::unary(alloc, UnaryForm::Transpose, array)
+    Term::unary(alloc, UnaryForm::Layout(Layout::Transpose), array)
 }
 
 /// The array folded by the operator, accumulator first.

@@ -7,7 +7,7 @@ use std::test::Fail;
 use strategy_script::{StepNo, Why};
 
 // A term, a script, and the step that isn't made, since the node isn't of the rule's shape.
-const SHAPES: [(&str, &str, u64); 22] = [
+const SHAPES: [(&str, &str, u64); 28] = [
     (
         "map(\\y. y, map(\\x. x, xs))",
         "at 0 to-glb\nat . fuse-map",
@@ -26,6 +26,12 @@ const SHAPES: [(&str, &str, u64); 22] = [
     ("map(\\r. map(\\x. x, r), rows)", "at . map-transpose", 1),
     ("pad(1, 2, xs)", "at . pad-map", 1),
     ("xs", "at . map-pad", 1),
+    ("reverse(xs)", "at . reverse-reverse", 1),
+    ("map(\\x. x, stride(2, xs))", "at . map-reverse", 1),
+    ("map(\\x. x, reverse(xs))", "at . map-stride", 1),
+    ("stride(2, xs)", "at . stride-stride", 1),
+    ("reverse(xs)", "at . stride-layout", 1),
+    ("stride(2, reverse(xs))", "at . stride-stride", 1),
     ("xs", "at . let-inline", 1),
     ("fold(\\a x. a, 7, xs)", "at . split-map 3", 1),
     ("fold(\\a x. add(a, x), 7, eight)", "at . split-reduce 0", 1),
@@ -49,13 +55,35 @@ const SHAPES: [(&str, &str, u64); 22] = [
 ];
 
 // A term, a script, the step that isn't made, and the first condition that is false.
-const SIDES: [(&str, &str, u64, Condition); 21] = [
+const SIDES: [(&str, &str, u64, Condition); 25] = [
     (
         "split(2, join(rows))",
         "at . split-join",
         1,
         Condition::Same,
     ),
+    (
+        "stride(3, stride(3, xs))",
+        "at . stride-stride",
+        1,
+        Condition::Same,
+    ),
+    // the sum of both is the length, and the product isn't
+    (
+        "stride(4, stride(4, eight))",
+        "at . stride-stride",
+        1,
+        Condition::Same,
+    ),
+    // the product is far beyond any length
+    (
+        "stride(2*N*N*M, stride(2*N*N*M, cube))",
+        "at . stride-stride",
+        1,
+        Condition::Same,
+    ),
+    // M*M - 3*M + 3 is at least 1, but that isn't shown
+    ("stride(M, odd)", "at . stride-layout", 1, Condition::Length),
     // map(\x. r, r) names the row r
     (
         "map(\\r. map(\\x. r, r), split(2, xs))",

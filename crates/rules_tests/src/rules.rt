@@ -5,7 +5,7 @@ use std::alloc::Global;
 use std::test::Fail;
 
 // A term, a script, and the last term of the script.
-const ALGEBRA: [(&str, &str, &str); 18] = [
+const ALGEBRA: [(&str, &str, &str); 28] = [
     (
         "map(\\y. add(y, 1), map(\\x. mul(x, 2), xs))",
         "at . fuse-map",
@@ -54,6 +54,39 @@ const ALGEBRA: [(&str, &str, &str); 18] = [
         "map(\\_0. mul(add(_0, 1), add(_0, 1)), xs)",
     ),
     ("join(rows)", "at 0 copy", "join(map(\\_0. _0, rows))"),
+    ("reverse(reverse(rows))", "at . reverse-reverse", "rows"),
+    (
+        "map(\\x. add(x, 1), reverse(xs))",
+        "at . map-reverse",
+        "reverse(map(\\_0. add(_0, 1), xs))",
+    ),
+    (
+        "map(\\x. add(x, 1), stride(2, xs))",
+        "at . map-stride",
+        "stride(2, map(\\_0. add(_0, 1), xs))",
+    ),
+    ("stride(2, stride(4, eight))", "at . stride-stride", "eight"),
+    // the product of both over sizes, whatever the order of the factors
+    (
+        "stride(N*2*M, stride(N, cube))",
+        "at . stride-stride",
+        "cube",
+    ),
+    (
+        "stride(2, xs)",
+        "at . stride-layout",
+        "join(transpose(split(2, xs)))",
+    ),
+    (
+        "stride(M*N, cube)",
+        "at . stride-layout",
+        "join(transpose(split(N*M, cube)))",
+    ),
+    (
+        "stride(1, rows)",
+        "at . stride-layout",
+        "join(transpose(split(1, rows)))",
+    ),
     // under a binder z, the numbers of z's uses change
     (
         "map(\\z. map(\\y. add(y, z), map(\\x. mul(x, z), xs)), xs)",
@@ -79,6 +112,16 @@ const ALGEBRA: [(&str, &str, &str); 18] = [
         "map(\\z. map(\\r. map(\\x. add(x, z), r), transpose(rows)), xs)",
         "at 1 map-transpose",
         "map(\\_0. transpose(map(\\_1. map(\\_2. add(_2, _0), _1), rows)), xs)",
+    ),
+    (
+        "map(\\z. map(\\x. add(x, z), reverse(xs)), xs)",
+        "at 1 map-reverse",
+        "map(\\_0. reverse(map(\\_1. add(_1, _0), xs)), xs)",
+    ),
+    (
+        "map(\\z. map(\\x. add(x, z), stride(3, xs)), xs)",
+        "at 1 map-stride",
+        "map(\\_0. stride(3, map(\\_1. add(_1, _0), xs)), xs)",
     ),
     (
         "map(\\z. let x = first(pair(z, 1)) in add(x, z), xs)",

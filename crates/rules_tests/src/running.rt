@@ -14,7 +14,7 @@ use term_texts::term_text;
 
 // The sizes and inputs of the tests' programs.
 const DECLARATIONS: &str =
-    "size N multiple 6 from 6 to 60; size M from 1 to 9; input xs: [u32; N]; input rows: [[u32; 4]; N]; input four: [u32; 4]; input eight: [u32; 8]; input nine: [u32; 9]; input ten: [u32; 10]; input cube: [u32; 2*N*N*M]; output ";
+    "size N multiple 6 from 6 to 60; size M from 1 to 9; input xs: [u32; N]; input rows: [[u32; 4]; N]; input four: [u32; 4]; input eight: [u32; 8]; input nine: [u32; 9]; input ten: [u32; 10]; input cube: [u32; 2*N*N*M]; input odd: [u32; M*M*M - 3*M*M + 3*M]; output ";
 
 /// The term behind these declarations.
 pub fn declared(alloc: Global, term: &str) -> Result<Vec<u8>, Fail> {

@@ -8,7 +8,7 @@ use std::test::Fail;
 use strategy_script::{Rule, ScriptLimit, ScriptNo, read_script};
 
 // Each rule by its name, at the root or below.
-const STEPS: [(&str, &[u32], Rule); 26] = [
+const STEPS: [(&str, &[u32], Rule); 31] = [
     ("at . fuse-map", &[], Rule::Algebra(Algebra::FuseMap)),
     ("at 0 fuse-fold", &[0], Rule::Algebra(Algebra::FuseFold)),
     (
@@ -28,6 +28,23 @@ const STEPS: [(&str, &[u32], Rule); 26] = [
         "at . map-transpose",
         &[],
         Rule::Algebra(Algebra::MapTranspose),
+    ),
+    (
+        "at . reverse-reverse",
+        &[],
+        Rule::Algebra(Algebra::ReverseReverse),
+    ),
+    ("at . map-reverse", &[], Rule::Algebra(Algebra::MapReverse)),
+    ("at . map-stride", &[], Rule::Algebra(Algebra::MapStride)),
+    (
+        "at . stride-stride",
+        &[],
+        Rule::Algebra(Algebra::StrideStride),
+    ),
+    (
+        "at . stride-layout",
+        &[],
+        Rule::Algebra(Algebra::StrideLayout),
     ),
     ("at . pad-map", &[], Rule::Algebra(Algebra::PadMap)),
     ("at . map-pad", &[], Rule::Algebra(Algebra::MapPad)),

@@ -5,7 +5,7 @@ use std::alloc::Global;
 use std::test::Fail;
 
 // A term as a program has it, and its text.
-const TERMS: [(&str, &str); 13] = [
+const TERMS: [(&str, &str); 15] = [
     ("map(\\x. add(x, 1), xs)", "map(\\_0. add(_0, 1), xs)"),
     (
         "map(\\x. let y = 3 in let z = y in sub(z, x), xs)",
@@ -36,6 +36,8 @@ const TERMS: [(&str, &str); 13] = [
     // the coefficient, then the names in the order of the declarations
     ("split(M*2*N*N, cube)", "split(2*N*N*M, cube)"),
     ("split(M, cube)", "split(M, cube)"),
+    ("stride(M*2*N*N, cube)", "stride(2*N*N*M, cube)"),
+    ("reverse(stride(1*N, cube))", "reverse(stride(N, cube))"),
     ("split(1*N, cube)", "split(N, cube)"),
     ("split(1, xs)", "split(1, xs)"),
 ];

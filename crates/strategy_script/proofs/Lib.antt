@@ -1,6 +1,7 @@
 pub mod Deep
 pub mod Digits
 pub mod Listed
+pub mod Once
 pub mod Parts
 pub mod Rewritten
 pub mod Small

@@ -18,6 +18,11 @@ algebra_name algebra.TransposeTranspose = codes "transpose-transpose"
 algebra_name algebra.MapJoin = codes "map-join"
 algebra_name algebra.MapSplit = codes "map-split"
 algebra_name algebra.MapTranspose = codes "map-transpose"
+algebra_name algebra.ReverseReverse = codes "reverse-reverse"
+algebra_name algebra.MapReverse = codes "map-reverse"
+algebra_name algebra.MapStride = codes "map-stride"
+algebra_name algebra.StrideStride = codes "stride-stride"
+algebra_name algebra.StrideLayout = codes "stride-layout"
 algebra_name algebra.PadMap = codes "pad-map"
 algebra_name algebra.MapPad = codes "map-pad"
 algebra_name algebra.LetInline = codes "let-inline"
@@ -57,6 +62,11 @@ plain_rules =
     Algebra algebra.MapJoin ∷
     Algebra algebra.MapSplit ∷
     Algebra algebra.MapTranspose ∷
+    Algebra algebra.ReverseReverse ∷
+    Algebra algebra.MapReverse ∷
+    Algebra algebra.MapStride ∷
+    Algebra algebra.StrideStride ∷
+    Algebra algebra.StrideLayout ∷
     Algebra algebra.PadMap ∷
     Algebra algebra.MapPad ∷
     Algebra algebra.LetInline ∷

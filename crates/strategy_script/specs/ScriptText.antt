@@ -1,10 +1,9 @@
 -- The text of a script.
-use Rattle.std.specs.Prelude.{◌≡◌, ◌+◌, ◌<◌, ℕ, List, [], Bool, ◌||◌, if◌then◌else◌, length, bytes_eq, codes, Option, Some, None, is_some, option_map, option_and_then}
+use Rattle.std.specs.Prelude.{◌≡◌, ◌+◌, ◌<◌, ◌≤◌, ℕ, List, [], Bool, ◌||◌, if◌then◌else◌, length, bytes_eq, codes, Option, Some, None, Result, Ok, Err, is_some, option_map, option_and_then}
 use Rattle.std.specs.List.{prefix_len, filter_map}
 use Rattle.std.specs.Str.Lines.{lines}
 use Rattle.strategy_script.specs.declared.rule.Rule.{Rule}
 use Rattle.strategy_script.specs.declared.script.Step.{Step}
-use Rattle.strategy_script.specs.declared.script.ScriptLimit.TheVariants.{Steps}
 use Rattle.strategy_script.specs.declared.script.ScriptNo.{ScriptNo}
 use Rattle.strategy_script.specs.declared.script.ScriptNo.TheVariants.{Syntax, Limit, Memory}
 use Rattle.strategy_script.specs.Lines.{first_word, behind_word, is_no_step}
@@ -70,8 +69,15 @@ pub record HasTooManySteps (text : List ℕ) (count : ℕ) : Type 0 where
   pub counted : count ≡ length (steps_in text)
   pub above : 256 < count
 
+-- the steps of a script's text, at most 256, or why it is none
+abbrev pub ReadsScript : List ℕ → Result (List Step) ScriptNo → Type 0
+ReadsScript text (Ok steps) = IsScript text steps × (length steps ≤ 256)
+ReadsScript text (Err (Syntax line)) = StopsAtLine text line
+ReadsScript text (Err (Limit which count)) = HasTooManySteps text count
+ReadsScript text (Err Memory) = ⊥
+
 -- why a text is refused; want of memory is free
 abbrev pub RefusesScript : List ℕ → ScriptNo → Type 0
 RefusesScript text (Syntax line) = StopsAtLine text line
-RefusesScript text (Limit Steps count) = HasTooManySteps text count
+RefusesScript text (Limit which count) = HasTooManySteps text count
 RefusesScript text Memory = Unit {0}

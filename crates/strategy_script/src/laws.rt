@@ -1,6 +1,6 @@
 //! Laws of scripts.
 
-ghost use Rattle.strategy_script.specs.Laws.{FewNodesAreReady};
+ghost use Rattle.strategy_script.specs.Laws.{FewNodesAreReady, ScriptsEndOnce};
 
 use lift_tree::laws::typed_nodes_type_the_term;
 use pattern_types::laws::outputs_belong;
@@ -12,3 +12,8 @@ pub fn few_nodes_are_ready()
     typed_nodes_type_the_term();
     outputs_belong();
 }
+
+/// A text is one script, or refused for one cause.
+pub fn scripts_end_once()
+    ensures { ScriptsEndOnce }
+{}

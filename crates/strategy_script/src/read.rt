@@ -1,7 +1,18 @@
 //! The text of a script.
 
-ghost use Rattle.std.specs.Prelude.{◌≡◌, ◌≤◌, IfOk, IfErr, length};
-ghost use Rattle.strategy_script.specs.ScriptText.{IsScript, RefusesScript, ended, numbered_rule, rule_of, step_behind, step_of};
+ghost use Rattle.std.specs.Prelude.{◌≡◌, ◌⊎◌, ◌<◌, ◌≤◌, Err, IfOk, IfErr, length};
+ghost use Rattle.std.specs.Result.{IsErrAnd};
+ghost use Rattle.strategy_script.specs.ScriptText.{
+  IsScript,
+  ReadsScript,
+  RefusesScript,
+  ended,
+  numbered_rule,
+  rule_of,
+  step_behind,
+  step_of,
+};
+ghost use Rattle.strategy_script.specs.declared.script.ScriptNo.{ScriptNo};
 
 use crate::lines::{is_no_step, split_line, split_word};
 use crate::numbers::{number_of, place_of};
@@ -67,17 +78,9 @@ fn step_of(alloc: Global, line: &[u8]) -> Result<Option<Step>, AllocError>
     }
 }
 
-/// The script that a text is.
-///
-/// Each line is a step, `at PLACE RULE` with the rule's number where it has one, or is empty, of
-/// blanks alone, or a comment. Blanks are spaces and tabs; a line ends with LF, which the last may
-/// lack, and a CR just before it is passed over. A place is `.`, or child numbers joined by `.`. A
-/// number is decimal, without a leading zero, at most 4294967295.
-///
-/// `Syntax` names the first line that is neither a step nor none. `Limit` comes where each line is,
-/// and more than 256 are steps.
-pub fn read_script(alloc: Global, text: &[u8]) -> Result<Script, ScriptNo>
-    ensures script { IfOk result (λ steps. IsScript text.now steps × (length steps ≤ 256)) }
+// The steps of a text's lines, in order.
+fn steps_in(alloc: Global, text: &[u8]) -> Result<Vec<Step>, ScriptNo>
+    ensures script { IfOk result (λ steps. IsScript text.now steps.items) }
     ensures refused { IfErr result (RefusesScript text.now) }
 {
     let mut steps = Vec::new(alloc);
@@ -96,6 +99,15 @@ pub fn read_script(alloc: Global, text: &[u8]) -> Result<Script, ScriptNo>
         }
         rest = behind;
     }
+    Ok(steps)
+}
+
+// The script of a text's steps, where there aren't too many.
+fn script_of(steps: Vec<Step>) -> Result<Script, ScriptNo>
+    ensures script { IfOk result (λ script. (script ≡ steps.items) × (length steps.items ≤ 256)) }
+    ensures refused { IfErr result (λ no. (no
+        ≡ ScriptNo.Limit ScriptLimit.Steps (length steps.items)) × (256 < length steps.items)) }
+{
     let count = steps.len() as u64;
     if count > STEP_LIMIT {
         return Err(ScriptNo::Limit {
@@ -104,4 +116,22 @@ pub fn read_script(alloc: Global, text: &[u8]) -> Result<Script, ScriptNo>
         });
     }
     Ok(Script::new(steps))
+}
+
+/// The script that a text is.
+///
+/// Each line is a step, `at PLACE RULE` with the rule's number where it has one, or is empty, of
+/// blanks alone, or a comment. Blanks are spaces and tabs; a line ends with LF, which the last may
+/// lack, and a CR just before it is passed over. A place is `.`, or child numbers joined by `.`. A
+/// number is decimal, without a leading zero, at most 4294967295.
+///
+/// `Syntax` comes just where a line is neither a step nor none, and names the first. `Limit` comes
+/// just where each line is one or the other, and more than 256 are steps.
+pub fn read_script(alloc: Global, text: &[u8]) -> Result<Script, ScriptNo>
+    ensures script { IfOk result (λ steps. IsScript text.now steps × (length steps ≤ 256)) }
+    ensures refused { IfErr result (RefusesScript text.now) }
+    ensures exact { (no : ScriptNo) → ReadsScript text.now (Err no)
+        → IsErrAnd result (λ e. (e ≡ no) ⊎ (e ≡ ScriptNo.Memory)) }
+{
+    script_of(steps_in(alloc, text)?)
 }

@@ -18,7 +18,7 @@ pub enum Rule {
     Lower(Lower),
 }
 
-const PLAIN: [Rule; 22] = [
+const PLAIN: [Rule; 27] = [
     Rule::Algebra(Algebra::FuseMap),
     Rule::Algebra(Algebra::FuseFold),
     Rule::Algebra(Algebra::JoinSplit),
@@ -27,6 +27,11 @@ const PLAIN: [Rule; 22] = [
     Rule::Algebra(Algebra::MapJoin),
     Rule::Algebra(Algebra::MapSplit),
     Rule::Algebra(Algebra::MapTranspose),
+    Rule::Algebra(Algebra::ReverseReverse),
+    Rule::Algebra(Algebra::MapReverse),
+    Rule::Algebra(Algebra::MapStride),
+    Rule::Algebra(Algebra::StrideStride),
+    Rule::Algebra(Algebra::StrideLayout),
     Rule::Algebra(Algebra::PadMap),
     Rule::Algebra(Algebra::MapPad),
     Rule::Algebra(Algebra::LetInline),
@@ -55,6 +60,11 @@ fn algebra_name(rule: Algebra) -> &'static [u8]
         Algebra::MapJoin => b"map-join",
         Algebra::MapSplit => b"map-split",
         Algebra::MapTranspose => b"map-transpose",
+        Algebra::ReverseReverse => b"reverse-reverse",
+        Algebra::MapReverse => b"map-reverse",
+        Algebra::MapStride => b"map-stride",
+        Algebra::StrideStride => b"stride-stride",
+        Algebra::StrideLayout => b"stride-layout",
         Algebra::PadMap => b"pad-map",
         Algebra::MapPad => b"map-pad",
         Algebra::LetInline => b"let-inline",

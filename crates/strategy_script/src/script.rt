@@ -7,6 +7,7 @@ use crate::rule::Rule;
 use lift_tree::place::Place;
 use std::alloc::{AllocError, AllocFailed};
 use std::marker::Model;
+use thiserror::Error;
 
 /// A step: the rule that rewrites the term at a place.
 #[derive(Drop)]
@@ -47,20 +48,23 @@ impl Script {
 }
 
 /// A limit on scripts.
-#[derive(Clone, Copy, PartialEq, Eq)]
+#[derive(Clone, Copy, Debug, PartialEq, Eq)]
 pub enum ScriptLimit {
     /// At most 256 steps.
     Steps,
 }
 
 /// Why a text gives no script.
-#[derive(Clone, Copy, PartialEq, Eq)]
+#[derive(Clone, Copy, Debug, PartialEq, Eq, Error)]
 pub enum ScriptNo {
     /// This line, counted from 1, is the first that is neither a step nor none.
+    #[error("line {line} is no step")]
     Syntax { line: u64 },
     /// The text is a script, and passes this limit with this count.
+    #[error("limit {which:?}: {count}")]
     Limit { which: ScriptLimit, count: u64 },
     /// Want of memory.
+    #[error("out of memory")]
     Memory,
 }
 

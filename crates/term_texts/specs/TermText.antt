@@ -1,8 +1,10 @@
 -- A term's text.
 use Rattle.std.specs.Prelude.{ℕ, ◌+◌, ◌-◌, ◌++◌, List, if◌then◌else◌, codes, decimal}
 use Rattle.lift_tree.specs.declared.program.Size.{Size}
+use Rattle.lift_tree.specs.declared.layout.Layout as layout
+use Rattle.lift_tree.specs.declared.layout.Layout.TheVariants.{Join, Transpose, Split, Reverse, Stride}
 use Rattle.lift_tree.specs.declared.term.UnaryForm.{UnaryForm}
-use Rattle.lift_tree.specs.declared.term.UnaryForm.TheVariants.{Div, Rem, First, Second, Join, Transpose, Split, Slide, Pad, ToLocal, ToPrivate}
+use Rattle.lift_tree.specs.declared.term.UnaryForm.TheVariants.{Div, Rem, First, Second, Layout, Slide, Pad, ToLocal, ToPrivate}
 use Rattle.lift_tree.specs.declared.term.MapKind.{MapKind}
 use Rattle.lift_tree.specs.declared.term.FoldKind.{FoldKind}
 use Rattle.lift_tree.specs.Tree.{Tree, Variable, Number, Input, Unary, Binary, Select, Let, Map, Fold}
@@ -16,16 +18,23 @@ binder_text k = codes "_" ++ decimal k
 abbrev pub two_numbers : ℕ → ℕ → List ℕ
 two_numbers m n = decimal m ++ codes ", " ++ decimal n ++ codes ", "
 
+-- what stands before the one child of a layout
+abbrev pub layout_start : List Size → layout.Layout → List ℕ
+layout_start sizes Join = codes "join("
+layout_start sizes Transpose = codes "transpose("
+layout_start sizes (Split fs) =
+    codes "split(" ++ product_text (coefficient fs) (starred sizes 0 fs) ++ codes ", "
+layout_start sizes Reverse = codes "reverse("
+layout_start sizes (Stride fs) =
+    codes "stride(" ++ product_text (coefficient fs) (starred sizes 0 fs) ++ codes ", "
+
 -- what stands before the one child
 abbrev pub unary_start : List Size → UnaryForm → List ℕ
 unary_start sizes (Div n) = codes "div("
 unary_start sizes (Rem n) = codes "rem("
 unary_start sizes First = codes "first("
 unary_start sizes Second = codes "second("
-unary_start sizes Join = codes "join("
-unary_start sizes Transpose = codes "transpose("
-unary_start sizes (Split fs) =
-    codes "split(" ++ product_text (coefficient fs) (starred sizes 0 fs) ++ codes ", "
+unary_start sizes (Layout l) = layout_start sizes l
 unary_start sizes (Slide s t) = codes "slide(" ++ two_numbers s t
 unary_start sizes (Pad l r) = codes "pad(" ++ two_numbers l r
 unary_start sizes ToLocal = codes "toLocal("

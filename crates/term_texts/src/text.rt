@@ -3,18 +3,19 @@
 ghost use Rattle.std.specs.Prelude.{◌≡◌, ◌+◌, ◌++◌, IfErr, IfOk, OnOk, codes};
 ghost use Rattle.lift_tree.specs.Tree.{tree_of};
 ghost use Rattle.lift_tree.specs.Programs.{program_of};
-ghost use Rattle.term_texts.specs.TermText.{binder_text, fold_binders, fold_start, let_start, map_start, text_at, text_of, two_numbers, unary_end, unary_start};
+ghost use Rattle.term_texts.specs.TermText.{binder_text, fold_binders, fold_start, layout_start, let_start, map_start, text_at, text_of, two_numbers, unary_end, unary_start};
 
 use crate::names::{
     fold_name, input_name, is_reduce, map_name, push_binary_start, push_number, push_product,
 };
+use lift_tree::layout::Layout;
 use lift_tree::program::Program;
 use lift_tree::term::{FoldKind, MapKind, Term, UnaryForm};
 use std::alloc::{AllocError, Global};
 
 /// A term of the program as a text, in the syntax of programs: the function first, and `_k` for a binder with k binders around it.
 ///
-/// Each variable has its binder in the term, and each input and size that the term names is the program's. The product of each split's numbers is at most 4,294,967,296; the text's stands still at 2^64 - 1.
+/// Each variable has its binder in the term, and each input and size that the term names is the program's. The product of each split's and each stride's numbers is at most 4,294,967,296; the text's stands still at 2^64 - 1.
 pub fn term_text(alloc: Global, term: &Term, program: &Program) -> Result<Vec<u8>, AllocError>
     ensures { IfOk result (λ text. text.items
         ≡ text_of (program_of program.now) (tree_of term.now)) }
@@ -46,13 +47,7 @@ fn push_unary_start(
         UnaryForm::Rem(_) => text.extend_from_slice(b"rem("),
         UnaryForm::First => text.extend_from_slice(b"first("),
         UnaryForm::Second => text.extend_from_slice(b"second("),
-        UnaryForm::Join => text.extend_from_slice(b"join("),
-        UnaryForm::Transpose => text.extend_from_slice(b"transpose("),
-        UnaryForm::Split(product) => {
-            text.extend_from_slice(b"split(")?;
-            push_product(alloc, text, &program.sizes, product.factors())?;
-            text.extend_from_slice(b", ")
-        }
+        UnaryForm::Layout(layout) => push_layout_start(alloc, text, program, layout),
         UnaryForm::Slide(size, step) => {
             text.extend_from_slice(b"slide(")?;
             push_numbers(text, *size, *step)
@@ -63,6 +58,32 @@ fn push_unary_start(
         }
         UnaryForm::ToLocal => text.extend_from_slice(b"toLocal("),
         UnaryForm::ToPrivate => text.extend_from_slice(b"toPrivate("),
+    }
+}
+
+fn push_layout_start(
+    alloc: Global,
+    text: &mut Vec<u8>,
+    program: &Program,
+    layout: &Layout,
+) -> Result<(), AllocError>
+    ensures { OnOk result (text.new.items
+        ≡ text.old.items ++ layout_start (program_of program.now).sizes layout.now) }
+{
+    match layout {
+        Layout::Join => text.extend_from_slice(b"join("),
+        Layout::Transpose => text.extend_from_slice(b"transpose("),
+        Layout::Split(product) => {
+            text.extend_from_slice(b"split(")?;
+            push_product(alloc, text, &program.sizes, product.factors())?;
+            text.extend_from_slice(b", ")
+        }
+        Layout::Reverse => text.extend_from_slice(b"reverse("),
+        Layout::Stride(product) => {
+            text.extend_from_slice(b"stride(")?;
+            push_product(alloc, text, &program.sizes, product.factors())?;
+            text.extend_from_slice(b", ")
+        }
     }
 }
 

@@ -81,7 +81,7 @@ terms_have d t a are kernel =
     let spelled = lengths_are_spelled names are in
     let ins = input_views spell (first_buffer d.inputs) (input_shape d.inputs) in
     kernel_read names (printed_kernel spell d t a) kernel
-    (terms.written_fine names spell spelled ins (λ v. placed_indexed names spell spelled Input (first_buffer d.inputs v) (input_shape d.inputs v)) 0 no_view 0 0 (lowered_root t a) (placed_view spell Output 0 (shape_of (type_in a))) End
+    (terms.written_fine names spell spelled ins (λ v. placed_indexed names spell spelled Input (first_buffer d.inputs v) (input_shape d.inputs v)) 0 no_view 0 0 (lowered_root d.names t a) (placed_view spell Output 0 (shape_of (type_in a))) End
     (λ v. blank_indexed names) (placed_indexed names spell spelled Output 0 (shape_of (type_in a))) tt)
 
 pub groups_have : GroupsHaveIndexFormulas
@@ -91,7 +91,7 @@ groups_have d fence t a are kernel =
     let spelled = lengths_are_spelled names are in
     let ins = input_views spell (first_buffer d.inputs) (input_shape d.inputs) in
     kernel_read names (printed_group_kernel spell fence d t a) kernel
-    (groups.groups_fine names spell spelled ins (λ v. placed_indexed names spell spelled Input (first_buffer d.inputs v) (input_shape d.inputs v)) fence no_view (lowered_root t a) (placed_view spell Output 0 (shape_of (type_in a)))
+    (groups.groups_fine names spell spelled ins (λ v. placed_indexed names spell spelled Input (first_buffer d.inputs v) (input_shape d.inputs v)) fence no_view (lowered_root d.names t a) (placed_view spell Output 0 (shape_of (type_in a)))
     (λ v. blank_indexed names) (placed_indexed names spell spelled Output 0 (shape_of (type_in a))))
 
 one_more : (around : List Formula) (b : Formula) (e : Expression) → EachIsIndexFormula around → reading b ≡ Some e → EachIsIndexFormula (around ++ b ∷ [])

@@ -111,5 +111,5 @@ kernel_is loaded looped d bases t a l tidy k keeps h = record {
   local = h.local;
   fence = h.fence;
   needed = h.needed;
-  code = over_groups loaded looped (length_at bases) l (input_marks (length_at bases) (first_buffer d.inputs) (input_shape d.inputs)) h.fence tidy keeps no_marks (lowered_root t a) (output_marks (ty_at bases (type_in a))) k.code h.code;
+  code = over_groups loaded looped (length_at bases) l (input_marks (length_at bases) (first_buffer d.inputs) (input_shape d.inputs)) h.fence tidy keeps no_marks (lowered_root d.names t a) (output_marks (ty_at bases (type_in a))) k.code h.code;
 }

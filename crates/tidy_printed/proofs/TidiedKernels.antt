@@ -48,5 +48,5 @@ kernel_is d bases t a l tidy k keeps h = record {
   variables = h.variables;
   vectors = h.vectors;
   local = h.local;
-  code = code_is l (input_marks (length_at bases) (first_buffer d.inputs) (input_shape d.inputs)) (length_at bases) tidy (lowered_root t a) (ty_at bases (type_in a)) k.code keeps h.code;
+  code = code_is l (input_marks (length_at bases) (first_buffer d.inputs) (input_shape d.inputs)) (length_at bases) tidy (lowered_root d.names t a) (ty_at bases (type_in a)) k.code keeps h.code;
 }

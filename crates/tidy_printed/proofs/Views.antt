@@ -6,7 +6,7 @@ use Rattle.scalar_ops.specs.declared.op.Op.TheVariants.{Add, Sub, Mul, Div, Max}
 use Rattle.kernel_tree.specs.Formula.{Formula, Number, Binary}
 use Rattle.kernel_tree.specs.Code.{Array}
 use Rattle.lift_ir.specs.Types.{Shape, Ty, Scalar, PairOf, ArrayOf, width}
-use Rattle.lift_ir.specs.Layouts.{Layout, Split, Join, Transpose, Slide, Pad}
+use Rattle.lift_ir.specs.Layouts.{Layout, Split, Join, Transpose, Reverse, Slide, Pad}
 use Rattle.lift_ir.specs.Terms.{LoadSet, Skip, Take, Each}
 use Rattle.lift_ir.specs.Scalars.{by_side}
 use Rattle.printed_form.specs.Counts.{load_count}
@@ -84,6 +84,10 @@ module _ (names : List Name) where
     operand_all Transpose [] g = g
     operand_all Transpose (i ∷ []) g = g
     operand_all Transpose (i ∷ j ∷ p) g = (g.1.0, (g.0, g.1.1))
+    operand_all (Reverse n) [] g = g
+    operand_all (Reverse n) (i ∷ p) g =
+        let last = difference names (spell n) (Number 1) (lengths n) (spelled_number names 1) in
+        ((difference names (Binary Sub (spell n) (Number 1)) i last g.0.0, tt), g.1)
     operand_all (Slide a t) [] g = g
     operand_all (Slide a t) (i ∷ []) g = g
     operand_all (Slide a t) (i ∷ j ∷ p) g = (cell_or_whole i (Number t) j g.0 (spelled_number names t) g.1.0, g.1.1)
@@ -96,6 +100,7 @@ module _ (names : List Name) where
     result_all (Split m) is g = operand_all (Join m) is g
     result_all (Join m) is g = operand_all (Split m) is g
     result_all Transpose is g = operand_all Transpose is g
+    result_all (Reverse n) is g = operand_all (Reverse n) is g
     result_all (Slide a t) is g = g
     result_all (Pad a b n) is g = g
 

@@ -72,13 +72,13 @@ impl Call<'_> {
     pub fn is_accepted(&self, alloc: Global, words: &[&str]) -> Result<bool, AllocError> {
         let words = strings(alloc, words)?;
         let mut files = self.files(alloc)?;
-        let mut output = MemorySink::new(alloc, 65_536, 16, Vec::new(alloc))?;
+        let mut output = MemorySink::new(alloc, 1_048_576, 4_096, Vec::new(alloc))?;
         let mut error = MemorySink::new(alloc, 1_024, 8, Vec::new(alloc))?;
         let ended = lift_tool(alloc, words.as_slice(), &mut files, &mut output, &mut error);
         Ok(ended == 0 && !output.bytes().is_empty() && error.bytes().is_empty())
     }
 
-    /// Whether the words on these files end with this status and leave these bytes.
+    /// Whether the words on these files end with this status and leave these texts.
     pub fn ends(
         &self,
         alloc: Global,
@@ -87,6 +87,18 @@ impl Call<'_> {
         out: &str,
         err: &str,
     ) -> Result<bool, AllocError> {
+        self.leaves(alloc, words, status, out.as_bytes(), err.as_bytes())
+    }
+
+    /// Whether the words on these files end with this status and leave these bytes.
+    pub fn leaves(
+        &self,
+        alloc: Global,
+        words: &[&str],
+        status: u8,
+        out: &[u8],
+        err: &[u8],
+    ) -> Result<bool, AllocError> {
         let words = strings(alloc, words)?;
         let mut files = self.files(alloc)?;
         let failing_out = Vec::from_slice(alloc, self.failing_out)?;
@@ -94,7 +106,7 @@ impl Call<'_> {
         let failing_err = Vec::from_slice(alloc, self.failing_err)?;
         let mut error = MemorySink::new(alloc, 1_024, 8, failing_err)?;
         let ended = lift_tool(alloc, words.as_slice(), &mut files, &mut output, &mut error);
-        Ok(ended == status && output.bytes() == out.as_bytes() && error.bytes() == err.as_bytes())
+        Ok(ended == status && output.bytes() == out && error.bytes() == err)
     }
 }
 

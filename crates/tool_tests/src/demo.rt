@@ -18,38 +18,30 @@ fn tripled_sum(seed: u32) -> u32 {
     sum.wrapping_mul(3)
 }
 
-fn tells_its_sum(alloc: Global, word: &str, seed: u32) -> Result<bool, AllocError> {
-    let sum = tripled_sum(seed);
-    let line = format!(in alloc; "demo {seed}: events 72448, releases 128, sum {sum}\n")?;
-    FIRST.ends(alloc, &["demo", word], 0, line.as_str(), "")
-}
-
-#[test]
-fn a_demo_tells_events_releases_and_sum(rt: HostRuntime) -> Result<(), Fail> {
-    assert!(rt; FIRST.ends(rt.alloc(), &["demo", "7"], 0, SEVENTH, "")?);
-    Ok(())
-}
-
-#[test]
-fn demos_of_one_seed_are_alike(rt: HostRuntime) -> Result<(), Fail> {
-    assert!(rt; tells_its_sum(rt.alloc(), "7", 7)?);
-    Ok(())
-}
-
-#[test]
-fn each_seed_has_the_same_events_and_releases(rt: HostRuntime) -> Result<(), Fail> {
-    assert!(rt; tells_its_sum(rt.alloc(), "0", 0)?);
-    assert!(rt; tells_its_sum(rt.alloc(), "4294967295", 4_294_967_295)?);
-    Ok(())
-}
-
-#[test]
-fn a_demo_reads_no_file(rt: HostRuntime) -> Result<(), Fail> {
+// A demo, whose reads would fail: it makes none.
+fn tells(alloc: Global, word: &str, line: &str) -> Result<bool, AllocError> {
     let call = Call {
         failing_reads: &[1, 2, 3],
         ..FIRST
     };
-    assert!(rt; call.ends(rt.alloc(), &["demo", "7"], 0, SEVENTH, "")?);
+    call.ends(alloc, &["demo", word], 0, line, "")
+}
+
+fn tells_its_sum(alloc: Global, word: &str, seed: u32) -> Result<bool, AllocError> {
+    let sum = tripled_sum(seed);
+    let line = format!(in alloc; "demo {seed}: events 72448, releases 128, sum {sum}\n")?;
+    tells(alloc, word, line.as_str())
+}
+
+// The events and releases are the same for each seed.
+const SEEDS: [(&str, u32); 3] = [("7", 7), ("0", 0), ("4294967295", 4_294_967_295)];
+
+#[test]
+fn a_demo_tells_events_releases_and_sum(rt: HostRuntime) -> Result<(), Fail> {
+    assert!(rt; tells(rt.alloc(), "7", SEVENTH)?);
+    for (word, seed) in SEEDS {
+        assert!(rt; tells_its_sum(rt.alloc(), word, seed)?);
+    }
     Ok(())
 }
 

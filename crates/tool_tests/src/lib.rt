@@ -8,8 +8,6 @@ mod demo;
 #[cfg(test)]
 mod groups;
 #[cfg(test)]
-mod hostile;
-#[cfg(test)]
 mod indices;
 #[cfg(test)]
 mod kernels;

@@ -1,46 +1,229 @@
-//! Limits, each with its count.
-use crate::call::{COMPILE, Call, FIRST, RESULT, RUN, SCRIPT, STEPS, repeated};
+//! Limits: what is just within one is accepted, and what passes it is refused with its count.
+use crate::call::{COMPILE, Call, FIRST, PROGRAM, RESULT, RUN, SCRIPT, STEPS, repeated};
+use crate::kernels::around;
 use std::alloc::{AllocError, Global};
 use std::test::Fail;
 
-fn is_limit(alloc: Global, call: Call<'_>, words: &[&str], line: &str) -> Result<bool, AllocError> {
-    call.ends(alloc, words, 10, "", line)
+// Whether a program along a script is refused with this line, or is accepted where there is none.
+fn is_at_limit<'a>(
+    alloc: Global,
+    words: &[&str],
+    program: &'a str,
+    script: &'a str,
+    line: &str,
+) -> Result<bool, AllocError> {
+    let call = Call {
+        program,
+        script,
+        ..FIRST
+    };
+    if line.is_empty() {
+        call.is_accepted(alloc, words)
+    } else {
+        call.ends(alloc, words, 10, "", line)
+    }
+}
+
+// The sum of two texts' terms.
+fn sum(alloc: Global, a: &str, b: &str) -> Result<String, AllocError> {
+    format!(in alloc; "add({a}, {b})")
+}
+
+// A sum of 2,047 leaves, 12 high.
+fn large_sum(alloc: Global) -> Result<String, AllocError> {
+    let mut full = sum(alloc, "x", "x")?;
+    let mut short = String::from_str(alloc, "x")?;
+    for _ in 0..10 {
+        short = sum(alloc, short.as_str(), full.as_str())?;
+        full = sum(alloc, full.as_str(), full.as_str())?;
+    }
+    Ok(short)
+}
+
+// A map, an input, the sum's 2,047 leaves and 2,046 operators, and each quotient are nodes.
+const QUOTIENTS: [(&str, &str, &str); 2] = [
+    ("div(", ", 1)", ""),
+    ("div(div(", ", 1), 1)", "lift: limit nodes: 4097\n"),
+];
+
+fn quotients_end(alloc: Global) -> Result<bool, AllocError> {
+    let sum = large_sum(alloc)?;
+    let head = "size N from 1 to 1000; input xs: [u32; N]; output map(\\x. ";
+    for (begin, end, line) in QUOTIENTS {
+        let program = format!(in alloc; "{head}{begin}{sum}{end}, xs)")?;
+        if !is_at_limit(alloc, &COMPILE, program.as_str(), SCRIPT, line)? {
+            return Ok(false);
+        }
+    }
+    Ok(true)
+}
+
+// So many layouts on one another around an input: each text opens, and the other closes.
+const LAYOUTS: [(&str, &str, usize, &str); 3] = [
+    ("pad(0, 0, ", ")", 24, ""),
+    ("pad(0, 0, ", ")", 25, "lift: limit layouts: 25\n"),
+    ("join(split(1, ", "))", 13, "lift: limit layouts: 26\n"),
+];
+
+fn layouts_end(alloc: Global) -> Result<bool, AllocError> {
+    for (open, close, times, line) in LAYOUTS {
+        let opened = repeated(alloc, open, times, "xs")?;
+        let closed = repeated(alloc, close, times, ")")?;
+        let program = format!(in alloc; "input xs: [u32; 4]; output map(\\x. x, {opened}{closed}")?;
+        if !is_at_limit(alloc, &COMPILE, program.as_str(), SCRIPT, line)? {
+            return Ok(false);
+        }
+    }
+    Ok(true)
+}
+
+// Programs along scripts, each as it is written.
+const WRITTEN: [(&[&str], &str, &str, &str); 3] = [
+    (
+        &COMPILE,
+        "input xs: [u32; 256]; output map(\\x. x, xs)",
+        "at 0 private-copy\nat . to-seq",
+        "",
+    ),
+    (
+        &COMPILE,
+        "input xs: [u32; 257]; output map(\\x. x, xs)",
+        "at 0 private-copy\nat . to-seq",
+        "lift: limit private: 257\n",
+    ),
+    (
+        &STEPS,
+        "input xs: [[[[u32; 2]; 2]; 2]; 2]; output map(\\x. x, xs)",
+        "at . split-map 2",
+        "lift: limit arrays: 5\n",
+    ),
+];
+
+fn written_end(alloc: Global) -> Result<bool, AllocError> {
+    for (words, program, script, line) in WRITTEN {
+        if !is_at_limit(alloc, words, program, script, line)? {
+            return Ok(false);
+        }
+    }
+    Ok(true)
+}
+
+#[test]
+fn programs_end_at_their_limits(rt: HostRuntime) -> Result<(), Fail> {
+    assert!(rt; quotients_end(rt.alloc())?);
+    assert!(rt; layouts_end(rt.alloc())?);
+    assert!(rt; written_end(rt.alloc())?);
+    Ok(())
+}
+
+const MOVED: &str = "input xs: [u32; 4]; output pad(1, 1, map(\\x. x, xs))";
+
+// Each copy makes the term higher.
+const COPIES: [(&str, usize, &str, &str); 2] = [
+    ("at 0 copy\n", 254, "", ""),
+    ("at 0 copy\n", 255, "", "lift: limit depth: 257\n"),
+];
+
+// A pad and a map change places in each step.
+const MOVES: [(&str, usize, &str, &str); 2] = [
+    ("at . pad-map\nat . map-pad\n", 128, "", ""),
+    (
+        "at . pad-map\nat . map-pad\n",
+        128,
+        "at . pad-map",
+        "lift: limit steps: 257\n",
+    ),
+];
+
+// A script is a text so many times, and then another.
+fn scripts_end(
+    alloc: Global,
+    program: &str,
+    rows: &[(&str, usize, &str, &str)],
+) -> Result<bool, AllocError> {
+    for &(text, times, rest, line) in rows {
+        let script = repeated(alloc, text, times, rest)?;
+        if !is_at_limit(alloc, &STEPS, program, script.as_str(), line)? {
+            return Ok(false);
+        }
+    }
+    Ok(true)
+}
+
+#[test]
+fn a_term_is_at_most_256_high(rt: HostRuntime) -> Result<(), Fail> {
+    assert!(rt; scripts_end(rt.alloc(), PROGRAM, &COPIES)?);
+    Ok(())
+}
+
+#[test]
+fn a_script_has_at_most_256_steps(rt: HostRuntime) -> Result<(), Fail> {
+    assert!(rt; scripts_end(rt.alloc(), MOVED, &MOVES)?);
+    Ok(())
+}
+
+// A program, a script as its beginning, a text so many times and its end, a launch file and the line
+// of the run. One work-item's loop over n numbers is 3n + 1 events: each copy to private memory is
+// one, and so is the map behind the copies. Each of four items has one turn of each phase, of 4
+// events, and one of the loop around them, of 2. Four components are 4 loads and 4 stores.
+const FULL: [(&str, (&str, &str, usize, &str), &str, &str); 3] = [
+    // 16 private arrays
+    (
+        "input xs: [u32; 2]; output map(\\x. x, xs)",
+        ("", "at 0 private-copy\n", 16, "at . to-seq"),
+        "{\"global\":1,\"local\":1,\"sizes\":{},\"inputs\":{\"xs\":[3,4]}}",
+        "{\"value\":[3,4],\"events\":119,\"releases\":0}\n",
+    ),
+    // 19 local arrays, in 20 phases
+    (
+        "input xs: [u32; 4]; output map(\\x. x, xs)",
+        (
+            "at . split-map 2\n",
+            "at 0.1.0 local-copy\n",
+            19,
+            "at 0.1 to-lcl\nat 0 to-wrg",
+        ),
+        "{\"global\":4,\"local\":2,\"sizes\":{},\"inputs\":{\"xs\":[1,2,3,4]}}",
+        "{\"value\":[1,2,3,4],\"events\":328,\"releases\":0}\n",
+    ),
+    // 32 buffers of inputs, and 4 of the output
+    (
+        "input a: [((u32, u32), (u32, u32)); 1]; input b: [((u32, u32), (u32, u32)); 1]; input c: [((u32, u32), (u32, u32)); 1]; input d: [((u32, u32), (u32, u32)); 1]; input e: [((u32, u32), (u32, u32)); 1]; input f: [((u32, u32), (u32, u32)); 1]; input g: [((u32, u32), (u32, u32)); 1]; input h: [((u32, u32), (u32, u32)); 1]; output map(\\x. x, h)",
+        ("", "", 0, "at . to-seq"),
+        "{\"global\":1,\"local\":1,\"sizes\":{},\"inputs\":{\"a\":[[[1,2],[3,4]]],\"b\":[[[1,2],[3,4]]],\"c\":[[[1,2],[3,4]]],\"d\":[[[1,2],[3,4]]],\"e\":[[[1,2],[3,4]]],\"f\":[[[1,2],[3,4]]],\"g\":[[[1,2],[3,4]]],\"h\":[[[5,6],[7,8]]]}}",
+        "{\"value\":[[[5,6],[7,8]]],\"events\":10,\"releases\":0}\n",
+    ),
+];
+
+fn full_runs(alloc: Global) -> Result<bool, AllocError> {
+    for (program, (begin, text, times, end), launch, line) in FULL {
+        let script = around(alloc, begin, text, times, end)?;
+        let call = Call {
+            program,
+            script: script.as_str(),
+            launch,
+            ..FIRST
+        };
+        if !call.ends(alloc, &RUN, 0, line, "")? {
+            return Ok(false);
+        }
+    }
+    Ok(true)
+}
+
+#[test]
+fn kernels_of_many_arrays_and_phases_run(rt: HostRuntime) -> Result<(), Fail> {
+    assert!(rt; full_runs(rt.alloc())?);
+    Ok(())
 }
 
 // The sum of 64 copies of a text, of 63 nodes more.
 fn sum_of(alloc: Global, leaf: &str) -> Result<String, AllocError> {
-    let mut sum = String::from_str(alloc, leaf)?;
+    let mut all = String::from_str(alloc, leaf)?;
     for _ in 0..6 {
-        let mut twice = String::from_str(alloc, "add(")?;
-        twice.push_str(sum.as_str())?;
-        twice.push_str(", ")?;
-        twice.push_str(sum.as_str())?;
-        twice.push_str(")")?;
-        sum = twice;
+        all = sum(alloc, all.as_str(), all.as_str())?;
     }
-    Ok(sum)
-}
-
-#[test]
-fn the_height_after_a_step_is_limited(rt: HostRuntime) -> Result<(), Fail> {
-    let script = repeated(rt.alloc(), "at 0 copy\n", 255, "")?;
-    let call = Call {
-        script: script.as_str(),
-        ..FIRST
-    };
-    assert!(rt; is_limit(rt.alloc(), call, &STEPS, "lift: limit depth: 257\n")?);
-    Ok(())
-}
-
-#[test]
-fn the_arrays_after_a_step_are_limited(rt: HostRuntime) -> Result<(), Fail> {
-    let call = Call {
-        program: "input xs: [[[[u32; 2]; 2]; 2]; 2]; output map(\\x. x, xs)",
-        script: "at . split-map 2",
-        ..FIRST
-    };
-    assert!(rt; is_limit(rt.alloc(), call, &STEPS, "lift: limit arrays: 5\n")?);
-    Ok(())
+    Ok(all)
 }
 
 // map(\x. let v = 127 nodes in 63 nodes and 64 times v, xs) becomes 2 + 63 + 64 * 127 nodes.
@@ -51,131 +234,70 @@ fn the_nodes_after_a_step_are_limited(rt: HostRuntime) -> Result<(), Fail> {
     let program = format!(in rt.alloc();
         "input xs: [u32; 2]; output map(\\x. let v = {ones} in {names}, xs)"
     )?;
-    let call = Call {
-        program: program.as_str(),
-        script: "at 1 let-inline",
-        ..FIRST
-    };
-    assert!(rt; is_limit(rt.alloc(), call, &STEPS, "lift: limit nodes: 8193\n")?);
-    Ok(())
-}
-
-// 178 lets of 23 nodes each, one more for each let, and 1: 178 * 24 + 1.
-#[test]
-fn the_nodes_of_a_program_are_limited(rt: HostRuntime) -> Result<(), Fail> {
-    let opened = repeated(rt.alloc(), "add(", 11, "1")?;
-    let sum = repeated(rt.alloc(), ",1)", 11, " in ")?;
-    let one = format!(in rt.alloc(); "let x = {opened}{sum}")?;
-    let lets = repeated(rt.alloc(), one.as_str(), 178, "1")?;
-    let program = format!(in rt.alloc(); "output {lets}")?;
-    let call = Call {
-        program: program.as_str(),
-        ..FIRST
-    };
-    assert!(rt; is_limit(rt.alloc(), call, &RUN, "lift: limit nodes: 4273\n")?);
-    Ok(())
-}
-
-// Whether the first program along so many steps and then another line ends so.
-fn steps_end(
-    alloc: Global,
-    steps: usize,
-    rest: &str,
-    status: u8,
-    line: &str,
-) -> Result<bool, AllocError> {
-    let script = repeated(alloc, "at . to-seq\n", steps, rest)?;
-    let call = Call {
-        script: script.as_str(),
-        ..FIRST
-    };
-    call.ends(alloc, &RUN, status, "", line)
-}
-
-#[test]
-fn the_steps_are_limited(rt: HostRuntime) -> Result<(), Fail> {
-    assert!(rt; steps_end(rt.alloc(), 256, "", 9, "lift: step 2: shape\n")?);
-    assert!(rt; steps_end(rt.alloc(), 257, "", 10, "lift: limit steps: 257\n")?);
+    let line = "lift: limit nodes: 8193\n";
     assert!(rt;
-        steps_end(
+        is_at_limit(
             rt.alloc(),
-            257,
-            "at . to-sequence",
-            8,
-            "lift: script: line 258\n"
+            &STEPS,
+            program.as_str(),
+            "at 1 let-inline",
+            line
         )?
     );
     Ok(())
 }
 
-// Whether a run of the first program, with so many ends of lines before its script, ends so.
+// Whether a run of the first program along a text so many times and then another ends so.
 fn script_ends(
     alloc: Global,
-    ends: usize,
-    status: u8,
-    out: &str,
-    err: &str,
+    text: &str,
+    times: usize,
+    rest: &str,
+    end: (u8, &str, &str),
 ) -> Result<bool, AllocError> {
-    let script = repeated(alloc, "\n", ends, SCRIPT)?;
+    let script = repeated(alloc, text, times, rest)?;
     let call = Call {
         script: script.as_str(),
         ..FIRST
     };
-    call.ends(alloc, &RUN, status, out, err)
+    call.ends(alloc, &RUN, end.0, end.1, end.2)
+}
+
+// The text of a script is judged before its steps are counted, and these before the first is made.
+const LINES: [(&str, usize, &str, (u8, &str, &str)); 5] = [
+    ("at . to-seq\n", 256, "", (9, "", "lift: step 2: shape\n")),
+    (
+        "at . to-seq\n",
+        257,
+        "",
+        (10, "", "lift: limit steps: 257\n"),
+    ),
+    (
+        "at . to-seq\n",
+        257,
+        "at . to-sequence",
+        (8, "", "lift: script: line 258\n"),
+    ),
+    ("\n", 65_525, SCRIPT, (0, RESULT, "")),
+    ("\n", 65_526, SCRIPT, (10, "", "lift: limit bytes: 65537\n")),
+];
+
+#[test]
+fn lines_and_bytes_of_scripts_are_limited(rt: HostRuntime) -> Result<(), Fail> {
+    for (text, times, rest, end) in LINES {
+        assert!(rt; script_ends(rt.alloc(), text, times, rest, end)?);
+    }
+    Ok(())
 }
 
 #[test]
-fn the_bytes_of_a_file_are_limited(rt: HostRuntime) -> Result<(), Fail> {
-    assert!(rt; script_ends(rt.alloc(), 65_525, 0, RESULT, "")?);
-    assert!(rt; script_ends(rt.alloc(), 65_526, 10, "", "lift: limit bytes: 65537\n")?);
-    let launch = repeated(rt.alloc(), "\n", 16_777_217, "")?;
+fn the_bytes_of_a_launch_file_are_limited(rt: HostRuntime) -> Result<(), Fail> {
+    let lines = repeated(rt.alloc(), "\n", 4_096, "")?;
+    let launch = repeated(rt.alloc(), lines.as_str(), 4_096, "\n")?;
     let call = Call {
         launch: launch.as_str(),
         ..FIRST
     };
-    assert!(rt; is_limit(rt.alloc(), call, &RUN, "lift: limit bytes: 16777217\n")?);
-    Ok(())
-}
-
-// Copies so many numbers to private memory.
-fn copies(alloc: Global, cells: usize, status: u8, line: &str) -> Result<bool, AllocError> {
-    let program = format!(in alloc; "input xs: [u32; {cells}]; output map(\\x. x, xs)")?;
-    let call = Call {
-        program: program.as_str(),
-        script: "at 0 private-copy\nat . to-seq",
-        ..FIRST
-    };
-    call.ends(alloc, &COMPILE, status, "", line)
-}
-
-#[test]
-fn private_cells_are_limited(rt: HostRuntime) -> Result<(), Fail> {
-    assert!(rt; copies(rt.alloc(), 257, 10, "lift: limit private: 257\n")?);
-    Ok(())
-}
-
-// A sum on two numbers, seen through so many pairs of layouts.
-fn layouts(alloc: Global, pairs: usize) -> Result<String, AllocError> {
-    let opened = repeated(alloc, "join(split(1, ", pairs, "xs")?;
-    let closed = repeated(alloc, "))", pairs, ")")?;
-    format!(in alloc; "input xs: [u32; 2]; output map(\\x. add(x, 1), {opened}{closed}")
-}
-
-#[test]
-fn layouts_are_limited(rt: HostRuntime) -> Result<(), Fail> {
-    let few = layouts(rt.alloc(), 2)?;
-    let call = Call {
-        program: few.as_str(),
-        launch: "{\"global\":1,\"local\":1,\"sizes\":{},\"inputs\":{\"xs\":[3,4]}}",
-        ..FIRST
-    };
-    let line = "{\"value\":[4,5],\"events\":7,\"releases\":0}\n";
-    assert!(rt; call.ends(rt.alloc(), &RUN, 0, line, "")?);
-    let many = layouts(rt.alloc(), 13)?;
-    let call = Call {
-        program: many.as_str(),
-        ..FIRST
-    };
-    assert!(rt; is_limit(rt.alloc(), call, &COMPILE, "lift: limit layouts: 26\n")?);
+    assert!(rt; call.ends(rt.alloc(), &RUN, 10, "", "lift: limit bytes: 16777217\n")?);
     Ok(())
 }

@@ -1,5 +1,7 @@
 //! The order of causes, failed reads and writes, and words.
-use crate::call::{COMPILE, Call, EVAL, FIRST, PROGRAM, RUN, SCRIPT, STEPS, repeated};
+use crate::call::{
+    COMPILE, Call, EVAL, FIRST, KERNEL, LAUNCH, PROGRAM, RUN, SCRIPT, STEPS, repeated,
+};
 use std::alloc::{AllocError, Global};
 use std::test::Fail;
 
@@ -82,11 +84,77 @@ fn is_cut(alloc: Global, write: u64, words: &[&str], out: &str) -> Result<bool, 
 
 #[test]
 fn a_failed_write_leaves_a_prefix(rt: HostRuntime) -> Result<(), Fail> {
-    assert!(rt; is_cut(rt.alloc(), 1, &RUN, "")?);
-    assert!(rt; is_cut(rt.alloc(), 2, &RUN, "{\"value\":[2,3,0]")?);
     assert!(rt; is_cut(rt.alloc(), 3, &RUN, "{\"value\":[2,3,0],\"events\":10,\"re")?);
     assert!(rt; is_cut(rt.alloc(), 2, &COMPILE, "__kernel void li")?);
     assert!(rt; is_cut(rt.alloc(), 2, &STEPS, "map(\\_0. add(_0,")?);
+    Ok(())
+}
+
+// The kernel's 180 bytes are taken in 12 calls, of 16 bytes each but for the last. Where one of
+// them fails, those before it were taken; a 13th is never made.
+fn kernel_is_cut(alloc: Global, failing: u64, taken: usize) -> Result<bool, AllocError> {
+    let call = Call {
+        failing_out: &[failing],
+        ..FIRST
+    };
+    match KERNEL.as_bytes().get(..taken) {
+        Some(taken) => call.leaves(alloc, &COMPILE, 4, taken, b"lift: write\n"),
+        None => call.leaves(alloc, &COMPILE, 0, KERNEL.as_bytes(), b""),
+    }
+}
+
+#[test]
+fn a_kernel_is_cut_at_the_call_that_fails(rt: HostRuntime) -> Result<(), Fail> {
+    for before in 0..13u64 {
+        assert!(rt; kernel_is_cut(rt.alloc(), before + 1, 16 * before as usize)?);
+    }
+    Ok(())
+}
+
+// A program, a script, a launch file, the words and the status. Words that go on to write find that
+// the output fails.
+const REFUSED: [(&str, &str, &str, &[&str], u8); 10] = [
+    (PROGRAM, SCRIPT, LAUNCH, &["compile", "p.lift"], 2),
+    (PROGRAM, SCRIPT, LAUNCH, &["compile", "p.lift", "x.lift"], 3),
+    (PROGRAM, SCRIPT, LAUNCH, &RUN, 4),
+    ("", SCRIPT, LAUNCH, &RUN, 6),
+    ("output 1", SCRIPT, LAUNCH, &RUN, 7),
+    (PROGRAM, "at", LAUNCH, &RUN, 8),
+    (PROGRAM, "at 7 copy", LAUNCH, &RUN, 9),
+    (
+        "input xs: [[[[[u32; 1]; 1]; 1]; 1]; 1]; output xs",
+        SCRIPT,
+        LAUNCH,
+        &RUN,
+        10,
+    ),
+    (PROGRAM, "", LAUNCH, &RUN, 11),
+    (PROGRAM, SCRIPT, "", &RUN, 12),
+];
+
+fn are_silent(
+    alloc: Global,
+    rows: &[(&'static str, &'static str, &'static str, &[&str], u8)],
+) -> Result<bool, AllocError> {
+    for &(program, script, launch, words, status) in rows {
+        let call = Call {
+            program,
+            script,
+            launch,
+            failing_reads: &[],
+            failing_out: &[1],
+            failing_err: &[1],
+        };
+        if !call.ends(alloc, words, status, "", "")? {
+            return Ok(false);
+        }
+    }
+    Ok(true)
+}
+
+#[test]
+fn a_line_that_fails_at_once_changes_no_status(rt: HostRuntime) -> Result<(), Fail> {
+    assert!(rt; are_silent(rt.alloc(), &REFUSED)?);
     Ok(())
 }
 

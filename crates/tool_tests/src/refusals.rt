@@ -175,7 +175,33 @@ fn lines_of_scripts_are_told_apart(rt: HostRuntime) -> Result<(), Fail> {
 // The program, the script and the line of the first step that isn't made.
 const FOLD: &str = "input xs: [u32; 8]; output fold(\\a x. add(a, x), 0, xs)";
 
-const STOPPED: [(&str, &str, &str); 7] = [
+const STOPPED: [(&str, &str, &str); 13] = [
+    (
+        "input xs: [[u32; 2]; 6]; output split(3, join(xs))",
+        "at . split-join",
+        "lift: step 1: side same\n",
+    ),
+    (
+        "input xs: [u32; 4]; output map(\\r. map(\\x. reduce(add, x, r), r), split(2, xs))",
+        "at . map-split",
+        "lift: step 1: side mentions\n",
+    ),
+    (PROGRAM, "at 1 copy", "lift: step 1: side array\n"),
+    (
+        "input xs: [u32; 4]; output slide(3, 1, xs)",
+        "at . tile-slide 4",
+        "lift: step 1: side length\n",
+    ),
+    (
+        "input xs: [u32; 9]; output slide(3, 1, xs)",
+        "at . tile-slide 4",
+        "lift: step 1: side divides\n",
+    ),
+    (
+        "input xs: [u32; 9]; output slide(3, 2, xs)",
+        "at . tile-slide 3",
+        "lift: step 1: side divides\n",
+    ),
     (FOLD, "at . stride-reduce 4", "lift: step 1: shape\n"),
     (FOLD, "at 7 copy", "lift: step 1: no place\n"),
     (PROGRAM, "at . split-map 0", "lift: step 1: side positive\n"),

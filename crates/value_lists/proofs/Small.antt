@@ -3,14 +3,10 @@ use Rattle.std.proofs.Common.{◌≡◌, ℕ, zero, suc, ◌+◌, ◌*◌, ◌<�
 use Rattle.std.specs.Prelude.{map}
 use Rattle.lift_tree.specs.Types.{PlainTy, U32, PairOf, ArrayOf}
 use Rattle.lift_tree.specs.Limits.{components}
-use Rattle.lift_tree.specs.Values.{Value}
-use Rattle.value_lists.specs.Lists.{length_at, list_lengths, members_from, scalars, width, IsSmall}
+use Rattle.value_lists.specs.Lists.{length_at, list_lengths, scalars, width, IsSmall}
 use Rattle.value_lists.proofs.Held.{width_is}
 use Rattle.std.specs.Prelude.{replicate}
-use Rattle.value_lists.proofs.Listing.{push_list, value_of-List}
-use Rattle.std.proofs.lemmas.List.{map-append}
-use Rattle.lift_tree.specs.declared.value.Val.{Val}
-use Rattle.lift_tree.specs.Values.{value_of}
+use Rattle.value_lists.proofs.Listing.{push_list}
 
 pub fewer : (ys : List ℕ) (a : PlainTy) (m n : ℕ) → m ≤ n → IsSmall ys n a → IsSmall ys m a
 fewer ys U32 m n le h = omega arith
@@ -30,18 +26,6 @@ next i n = let y : i + 1 ≡ suc i = omega arith in ap (λ t. t * n) y ∙ (let 
 
 pub of_element : (ys : List ℕ) (a : PlainTy) (i j n : ℕ) → j < n → IsSmall ys ((i + 1) * n) a → IsSmall ys (i * n + j + 1) a
 of_element ys a i j n lt h = fewer ys a (i * n + j + 1) ((i + 1) * n) (let z : (i + 1) * n ≡ i * n + n = next i n in omega arith) h
-
-pub members_more : (f : ℕ → Value) (i n : ℕ) → members_from f i (n + 1) ≡ members_from f i n ++ f (i + n) ∷ []
-members_more f i zero = ap (λ k. members_from f i k) (let z : 0 + 1 ≡ 1 = omega arith in z) ∙ ap (λ k. f k ∷ []) (let z : i ≡ i + 0 = omega arith in z)
-members_more f i (suc n) = ap (λ k. members_from f i k) (let z : suc n + 1 ≡ suc (n + 1) = omega arith in z) ∙ ap (λ vs. f i ∷ vs) (members_more f (suc i) n) ∙ ap (λ k. f i ∷ (members_from f (suc i) n ++ f k ∷ [])) (let z : suc i + n ≡ i + suc n = omega arith in z)
-
-pub push_behind : (vs : List Val) (v : Val) → map value_of (vs ++ v ∷ []) ≡ map value_of vs ++ value_of v ∷ []
-push_behind vs v = map-append value_of vs (v ∷ [])
-
-pub members_next : (f : ℕ → Value) (n : ℕ) → members_from f 0 (n + 1) ≡ members_from f 0 n ++ f n ∷ []
-members_next f n = members_more f 0 n ∙ ap (λ k. members_from f 0 n ++ f k ∷ []) (let z : 0 + n ≡ n = omega arith in z)
-
-pub ruleset reading = (value_of-List, push_behind, members_next, of_element)
 
 pub ruleset indexing = (next)
 

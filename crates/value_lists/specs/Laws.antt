@@ -1,5 +1,5 @@
 -- What lists of values are.
-use Rattle.std.specs.Prelude.{◌≡◌, ℕ, List, length, map}
+use Rattle.std.specs.Prelude.{◌≡◌, ◌+◌, ◌*◌, ◌<◌, ℕ, List, length, map}
 use Rattle.size_arith.specs.declared.names.Name.{Name}
 use Rattle.size_arith.specs.Ranges.{AreNames, Admissible}
 use Rattle.lift_tree.specs.InputTypes.{Written}
@@ -41,3 +41,7 @@ abbrev pub TypedOutputsAreSmall : Type 0
 TypedOutputsAreSmall =
     (names : List Name) (ys : List ℕ) (a : PlainTy) → AreNames names → Admissible names ys
     → IsOutput a → IsFormed names a → HasFewScalars names a → IsSmall ys 1 a
+
+-- of few arrays the elements up to one of an array are few
+abbrev pub ElementsAreSmall : Type 0
+ElementsAreSmall = (ys : List ℕ) (a : PlainTy) (i j n : ℕ) → j < n → IsSmall ys ((i + 1) * n) a → IsSmall ys (i * n + j + 1) a

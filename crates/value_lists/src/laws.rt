@@ -1,6 +1,6 @@
 //! Laws of the lists of values, each carried by a function that does nothing.
 
-ghost use Rattle.value_lists.specs.Laws.{ComponentsAreCounted, ListsHaveLengths, ListsHoldOneValue, ListsTellValues, TypedOutputsAreSmall, WaysAreComponents};
+ghost use Rattle.value_lists.specs.Laws.{ComponentsAreCounted, ElementsAreSmall, ListsHaveLengths, ListsHoldOneValue, ListsTellValues, TypedOutputsAreSmall, WaysAreComponents};
 
 /// The lists of a value are as long as its type says.
 #[tactic(auto, using(crate::proofs::Lengths::lists_have_lengths))]
@@ -36,4 +36,10 @@ pub fn components_are_counted()
 #[tactic(auto, using(crate::proofs::Typed::typed_outputs_are_small))]
 pub fn typed_outputs_are_small()
     ensures { TypedOutputsAreSmall }
+{}
+
+/// Where values of a type are few in lists, so are those of its elements up to any of them.
+#[tactic(auto, using(crate::proofs::Small::of_element))]
+pub fn elements_are_small()
+    ensures { ElementsAreSmall }
 {}

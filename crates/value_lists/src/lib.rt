@@ -6,4 +6,4 @@ mod lists;
 mod values;
 
 pub use lists::add_lists;
-pub use values::{blank_lists, value_of_lists};
+pub use values::{blank_lists, element_number, length_at, number_in, width};

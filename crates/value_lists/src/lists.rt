@@ -9,8 +9,26 @@ use lift_tree::input_type::InputType;
 use lift_tree::value::Val;
 use std::alloc::{AllocError, Global};
 
+// Adds the numbers of the component to which this way leads: a number, of which lists have most, is
+// added without a call.
+#[inline(always)]
+#[cycle(numbers)]
+fn add_member(value: &Val, way: &[bool], list: &mut Vec<u32>) -> Result<(), AllocError>
+    ensures { OnOk result (list.new.items
+        ≡ list.old.items ++ list_of (value_of value.now) (map side_of way.now)) }
+{
+    match value {
+        Val::Number(number) => {
+            list.push(*number)?;
+            Ok(())
+        }
+        Val::Pair(_, _) | Val::List(_) => add_numbers(value, way, list),
+    }
+}
+
 // Adds the numbers of the component to which this way through pairs leads: false to the left.
 #[tactic(auto, using(crate::proofs::Listing::added))]
+#[cycle(numbers)]
 fn add_numbers(value: &Val, way: &[bool], list: &mut Vec<u32>) -> Result<(), AllocError>
     ensures { OnOk result (list.new.items
         ≡ list.old.items ++ list_of (value_of value.now) (map side_of way.now)) }
@@ -27,7 +45,7 @@ fn add_numbers(value: &Val, way: &[bool], list: &mut Vec<u32>) -> Result<(), All
         },
         Val::List(members) => {
             for member in members {
-                add_numbers(member, way, list)?;
+                add_member(member, way, list)?;
             }
             Ok(())
         }

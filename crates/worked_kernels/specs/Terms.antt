@@ -28,7 +28,7 @@ scalar = Leaf types.U32
 -- a typed term: what it is lowered to, and that it can be
 pub record IsLoweredTo (d : Declared) (bases : List ℕ) (t : Tree) (a : Annotation)
     (u : Lowered) : Type 0 where
-  pub same : lower Written t a ≡ u
+  pub same : lower d.names Written t a ≡ u
   pub nodes : Annotates d [] t a
   pub lowerable : IsLowerable bases Written t a
   pub staged : IsStaged Written t a

@@ -2,14 +2,15 @@
 
 ghost use Rattle.std.specs.Prelude.{◌<◌, Some};
 ghost use Rattle.readings.specs.Given.{Gave};
-ghost use Rattle.lift_reader.specs.Forms.{items};
-ghost use Rattle.lift_reader.specs.Grammar.{behind_fold, behind_let, behind_map};
-ghost use Rattle.lift_reader.specs.Rows.{compound, operator_row, special, split_row};
+ghost use Rattle.lift_reader.specs.Forms.{items, grouping_form};
+ghost use Rattle.lift_reader.specs.Grammar.{behind_fold, behind_let, behind_map, of_product};
+ghost use Rattle.lift_reader.specs.Rows.{compound, operator_row, product_row, special};
 ghost use Rattle.lift_reader.specs.Shown.{lexeme};
 
 use crate::alternatives::{BACKSLASH, CLOSE, COMMA, DOT, EQUALS, OPEN, UNBIND, give};
 use crate::grammar::{
-    Action, Debts, Division, Double, Nonterminal, Triple, Window, binary_of, reducer_of, unary_of,
+    Action, Debts, Division, Double, Grouping, Nonterminal, Triple, Window, binary_of, reducer_of,
+    unary_of,
 };
 use crate::token::Kind;
 use crate::word::Word;
@@ -59,22 +60,25 @@ pub fn give_fold<'a>(
     )
 }
 
-pub fn give_split_rest<'a>(
+pub fn give_product_rest<'a>(
+    grouping: Grouping,
     depth: u32,
     token: Kind<'a>,
     owed: &mut Debts<'a>,
 ) -> Result<bool, AllocError>
     ensures { Gave items result owed.old.items owed.new.items
-        (split_row depth (lexeme token.entry)) }
+        (product_row (grouping_form grouping) depth (lexeme token.entry)) }
 {
     match token {
         Kind::Symbol(symbol) => {
             if symbol == b'*' {
                 let factor = Owed::Form(Nonterminal::LengthFactor(1));
-                give(owed, &[factor, Owed::Form(Nonterminal::SplitRest(depth))])
+                let rest = Owed::Form(Nonterminal::ProductRest(grouping, depth));
+                give(owed, &[factor, rest])
             } else if symbol == b',' {
                 let array = Owed::Form(Nonterminal::Term(depth));
-                give(owed, &[array, CLOSE, Owed::Mark(Action::Split)])
+                let made = Owed::Mark(Action::MakeByProduct(grouping));
+                give(owed, &[array, CLOSE, made])
             } else {
                 Ok(false)
             }
@@ -116,13 +120,15 @@ fn give_select(depth: u32, owed: &mut Debts<'_>) -> Result<bool, AllocError>
     )
 }
 
-fn give_split(depth: u32, owed: &mut Debts<'_>) -> Result<bool, AllocError>
+/// What follows the word of a form with a product.
+fn give_product(grouping: Grouping, depth: u32, owed: &mut Debts<'_>) -> Result<bool, AllocError>
     requires { depth < 256 }
-    ensures { Gave items result owed.old.items owed.new.items (special depth Word.Split) }
+    ensures { Gave items result owed.old.items owed.new.items
+        (Some (of_product (grouping_form grouping) depth)) }
 {
     let product = Owed::Mark(Action::BeginProduct);
     let factor = Owed::Form(Nonterminal::LengthFactor(1));
-    let rest = Owed::Form(Nonterminal::SplitRest(depth + 1));
+    let rest = Owed::Form(Nonterminal::ProductRest(grouping, depth + 1));
     give(owed, &[OPEN, product, factor, rest])
 }
 
@@ -166,7 +172,8 @@ fn give_special(depth: u32, word: Word, owed: &mut Debts<'_>) -> Result<bool, Al
             owed,
             &[OPEN, BACKSLASH, Owed::Form(Nonterminal::FoldName(below))],
         ),
-        Word::Split => give_split(depth, owed),
+        Word::Split => give_product(Grouping::Split, depth, owed),
+        Word::Stride => give_product(Grouping::Stride, depth, owed),
         Word::Slide => give(
             owed,
             &[OPEN, Owed::Form(Nonterminal::First(Window::Slide, below))],

@@ -1,20 +1,20 @@
 //! What the marks of a reading note.
 
-ghost use Rattle.std.specs.Prelude.{◌≡◌, IfOk};
+ghost use Rattle.std.specs.Prelude.{◌≡◌, ◌++◌, ◌∷◌, [], IfOk, OnOk};
 ghost use Rattle.readings.specs.Given.{Noticed};
 ghost use Rattle.lift_tree.specs.Tree as trees;
 ghost use Rattle.lift_tree.specs.Tree.{tree_of};
-ghost use Rattle.lift_reader.specs.Forms.{form_of, double_of, triple_of};
+ghost use Rattle.lift_reader.specs.Forms.{form_of, double_of, triple_of, grouping_form};
 ghost use Rattle.lift_reader.specs.Grammar as grammar;
 ghost use Rattle.lift_reader.specs.Grammar.{marked};
 ghost use Rattle.lift_reader.specs.Noted.{noted_by};
 
-use crate::grammar::{Double, Single, Triple};
-use crate::reader::Reader;
+use crate::grammar::{Double, Grouping, Single, Triple};
+use crate::reader::{Range, Reader};
+use indexmap::IndexMap;
 use lift_tree::input_type::InputType;
 use lift_tree::length::{Factor, Length, Part, Product, Sign};
-use lift_tree::program::{Identifier, Input, Size};
-use lift_tree::term::{BinaryForm, FoldKind, MapKind, Term, UnaryForm};
+use lift_tree::term::{BinaryForm, FoldKind, MapKind, Term};
 use std::alloc::{AllocError, Global};
 use std::mem;
 
@@ -43,6 +43,22 @@ fn tripled(alloc: Global, form: Triple, a: Term, b: Term, c: Term) -> Result<Ter
     })
 }
 
+/// Declares a name behind the others. A map has no room for a second of a name; none is ever asked
+/// for, since the grammar takes new names alone.
+fn declare<V: Drop>(
+    declared: &mut IndexMap<Vec<u8>, V>,
+    name: Vec<u8>,
+    value: V,
+) -> Result<(), AllocError>
+    ensures { OnOk result
+        (declared.new.entries ≡ declared.old.entries ++ (name, value) ∷ []) }
+{
+    let None = declared.insert(name, value)? else {
+        return Err(AllocError);
+    };
+    Ok(())
+}
+
 impl<'a> Reader<'a> {
     pub fn declare_size(
         &mut self,
@@ -59,13 +75,8 @@ impl<'a> Reader<'a> {
             (noted_by self.old))
             (noted_by self.new) }
     {
-        let name = Identifier::new(name.to_vec(alloc)?);
-        self.sizes.push(Size {
-            name,
-            multiple,
-            from,
-            to,
-        })?;
+        let range = Range { multiple, from, to };
+        declare(&mut self.sizes, name.to_vec(alloc)?, range)?;
         Ok(true)
     }
 
@@ -76,8 +87,7 @@ impl<'a> Reader<'a> {
         let Some(ty) = self.types.pop_front() else {
             return Ok(false);
         };
-        let name = Identifier::new(name.to_vec(alloc)?);
-        self.inputs.push(Input { name, ty })?;
+        declare(&mut self.inputs, name.to_vec(alloc)?, ty)?;
         Ok(true)
     }
 
@@ -211,8 +221,10 @@ impl<'a> Reader<'a> {
         Ok(true)
     }
 
-    pub fn split(&mut self, alloc: Global) -> Result<bool, AllocError>
-        ensures { Noticed result (marked grammar.Split (noted_by self.old)) (noted_by self.new) }
+    pub fn make_by_product(&mut self, alloc: Global, grouping: Grouping) -> Result<bool, AllocError>
+        ensures { Noticed result
+            (marked (grammar.MakeByProduct (grouping_form grouping)) (noted_by self.old))
+            (noted_by self.new) }
     {
         let Some(product) = self.products.pop_front() else {
             return Ok(false);
@@ -222,7 +234,7 @@ impl<'a> Reader<'a> {
         };
         let array = Box::new(alloc, array)?;
         self.made
-            .push_front(Term::Unary(UnaryForm::Split(product), array))?;
+            .push_front(Term::Unary(grouping.by(product), array))?;
         Ok(true)
     }
 }

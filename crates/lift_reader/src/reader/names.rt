@@ -13,7 +13,6 @@ use crate::grammar::{Action, Debts, Nonterminal};
 use crate::reader::Reader;
 use crate::token::Kind;
 use lift_tree::length::Factor;
-use lift_tree::program::Input;
 use readings::Owed;
 use std::alloc::AllocError;
 use std::collections::VecDeque;
@@ -28,12 +27,6 @@ fn counted(index: usize) -> Result<u32, AllocError>
     }
 }
 
-fn place_of_input(inputs: &[Input], name: &[u8]) -> Option<usize>
-    ensures { result ≡ position (λ i. bytes_eq i.name name.now) inputs.now }
-{
-    inputs.iter().position(|input| *input.name.bytes() == *name)
-}
-
 fn place_of_binder(scope: &VecDeque<&[u8]>, name: &[u8]) -> Option<usize>
     ensures { result ≡ position (λ y. bytes_eq y.now name.now) scope.now.items }
 {
@@ -41,19 +34,18 @@ fn place_of_binder(scope: &VecDeque<&[u8]>, name: &[u8]) -> Option<usize>
 }
 
 impl<'a> Reader<'a> {
+    #[tactic(auto, using(crate::proofs::Named::size_is))]
     fn size_named(&self, name: &[u8]) -> Option<usize>
         ensures { result ≡ size_named (noted_by self.now) name.now }
     {
-        self.sizes
-            .iter()
-            .position(|size| *size.name.bytes() == *name)
+        self.sizes.get_index_of(name)
     }
 
     #[tactic(auto, using(crate::proofs::Named::input_is))]
     fn input_named(&self, name: &[u8]) -> Option<usize>
         ensures { result ≡ input_named (noted_by self.now) name.now }
     {
-        place_of_input(&self.inputs, name)
+        self.inputs.get_index_of(name)
     }
 
     #[tactic(auto, using(crate::proofs::Named::binder_is))]

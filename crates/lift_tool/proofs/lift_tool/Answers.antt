@@ -1,10 +1,12 @@
 use Rattle.std.proofs.Common.{◌≡◌, ◌∙◌, Global, List, arith, inl, inr, map, refl, subst, sym, ℕ}
 use Rattle.std.specs.Prelude.{◌≢◌, ◌⊎◌, string_bytes}
+use Rattle.std.specs.Io.KnownBytes.{Appends}
 use Rattle.lift_io.specs.Causes.{Rose}
 use Rattle.fault_lines.specs.Failure.{Write}
 use Rattle.fault_lines.specs.Lines.{TakesLine}
 use Rattle.fault_lines.specs.Shown.{failure_of}
 use Rattle.lift_tool.specs.Files.{Told}
+use Rattle.lift_tool.proofs.Alike.{lines_of_written}
 use Rattle.lift_tool.proofs.Ends.{asked_stands, demo_stands, words_answered, words_cause, words_fail_before, words_refused, words_stand, words_taken}
 use Rattle.lift_tool.proofs.Unread.{rose_between}
 use Rattle.lift_tool.proofs.lift_tool.Goals as goal
@@ -98,3 +100,17 @@ returns-clause-demo g c = λ seed asks.
     let rose : List ℕ → Type 0 = rose_between (g.F.Files.faults c.args.files.now) (g.F.Files.faults c.answer.new.files) in
     let words : List (List ℕ) = map (string_bytes {Z = Global}) c.args.words.now in
     inr (inr (c.fail-in-Err.ensures.status ∙ demo_stands told rose words seed _ asks c.in-Err.ensures.refused))
+
+pub returns-clause-alike : goal.returns-clause-alike
+returns-clause-alike g c = λ done.
+    let told : Told = g.F.Files.told c.args.files.now in
+    let rose : List ℕ → Type 0 = rose_between (g.F.Files.faults c.args.files.now) (g.F.Files.faults c.answer.new.files) in
+    let words : List (List ℕ) = map (string_bytes {Z = Global}) c.args.words.now in
+    absurd ((words_fail_before told rose words _ c.in-Err.ensures.refused).0 (sym c.fail-in-Err.ensures.status ∙ done))
+
+pub returns-in-Ok-write_whole-clause-alike : goal.returns-in-Ok-write_whole-clause-alike
+returns-in-Ok-write_whole-clause-alike g c = λ done.
+    let ok = c.in-Ok.ensures.ok in
+    let taken =
+    subst (λ (bytes : List ℕ). Appends (g.O.Sink.taken c.args.out.now) (g.O.Sink.taken c.write_whole.new.sink) bytes) c.as_slice.ensures.value c.in-Ok-write_whole.ensures.all in
+    (ok.0, ok.1, (ok.2.0, ok.2.1, (_, lines_of_written c.texts_run_alike.ensures ok.0 ok.2.0 _ ok.2.2, taken)))

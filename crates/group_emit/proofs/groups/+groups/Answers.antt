@@ -3,8 +3,8 @@ use Rattle.lift_ir.specs.Terms.{Map}
 use Rattle.group_form.specs.Printer.{print_groups}
 use Rattle.array_views.specs.Views.{view_in}
 use Rattle.lowering.specs.Terms.{kind_of, load_set_of, term_of}
-use Rattle.kernel_emit.specs.Blocks.{code_in}
-use Rattle.kernel_emit.specs.Scopes.{scope_of}
+use Rattle.item_emit.specs.Blocks.{code_in}
+use Rattle.item_emit.specs.Scopes.{scope_of}
 use Rattle.group_emit.specs.Settings.{fence_in, inputs_of, spell_of}
 use Rattle.group_emit.proofs.groups.+groups.Goals as goal
 

@@ -1,5 +1,5 @@
 use Rattle.lowering.specs.Terms.{term_of}
-use Rattle.kernel_emit.specs.Nodes.{nodes}
+use Rattle.item_emit.specs.Nodes.{nodes}
 use Rattle.group_emit.proofs.groups.+groups.Given as goal
 
 abbrev pub decreases-groups : goal.decreases-groups

@@ -3,8 +3,8 @@ use Rattle.size_arith.specs.declared.poly.Monomial.{Monomial}
 use Rattle.group_form.specs.Printer.{print_group_written}
 use Rattle.array_views.specs.Views.{view_in}
 use Rattle.lowering.specs.Terms.{kind_of, load_set_of, term_of}
-use Rattle.kernel_emit.specs.Blocks.{code_in}
-use Rattle.kernel_emit.specs.Scopes.{scope_of}
+use Rattle.item_emit.specs.Blocks.{code_in}
+use Rattle.item_emit.specs.Scopes.{scope_of}
 use Rattle.group_emit.specs.Settings.{fence_in, inputs_of, spell_of}
 use Rattle.group_emit.specs.Used.{used_of}
 use Rattle.group_emit.proofs.Written.{argument_let, written_let, written_map}

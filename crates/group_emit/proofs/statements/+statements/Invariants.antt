@@ -1,6 +1,6 @@
 use Rattle.std.proofs.Common.{◌+◌, ◌*◌}
 use Rattle.lowering.specs.Terms.{term_of}
-use Rattle.kernel_emit.specs.Nodes.{nodes}
+use Rattle.item_emit.specs.Nodes.{nodes}
 use Rattle.group_emit.proofs.statements.+statements.Given as goal
 
 abbrev pub decreases-put_argument : goal.decreases-put_argument

@@ -1,4 +1,4 @@
-use Rattle.std.proofs.Common.{◌≡◌, ℕ, List, [], ◌∷◌, ◌+◌, ◌*◌, ◌^◌, ◌≤◌, length, arith}
+use Rattle.std.proofs.Common.{ℕ, List, [], ◌∷◌, ◌*◌, ◌^◌, ◌≤◌, arith}
 use Rattle.std.specs.Prelude.{slice_index_or}
 use Rattle.std.proofs.lemmas.Grind.{common_steps}
 use Rattle.size_arith.specs.Polynomial.{total}

@@ -1,10 +1,9 @@
-use Rattle.std.proofs.Common.{◌≡◌, ◌∙◌, ◌++◌, ap₂, ℕ, List, Some, Vec}
+use Rattle.std.proofs.Common.{◌≡◌, ◌∙◌, ◌++◌, ap, ap₂, map, ℕ, List, Some, Vec}
 use Rattle.std.specs.Global.{Global}
 use Rattle.kernel_tree.specs.declared.events.Seen.{Seen}
-use Rattle.launch_file.specs.ResultLine.{result_line}
 use Rattle.launch_file.specs.TraceLines.{trace_lines}
-use Rattle.lift_tree.specs.Values.{value_of}
 use Rattle.program_runs.specs.Runs.{AreLinesOfText}
+use Rattle.value_lists.specs.Lists.{value_in}
 use Rattle.std.proofs.Props.{props}
 use Rattle.std.proofs.Math.Logic.{∥∥₁_elim}
 use Rattle.launch_file.specs.LaunchFile.{given_by}
@@ -20,14 +19,14 @@ returns c =
     let g = given_by c.args.file.now in
     let counts : ℕ × ℕ = (c.in_ok-outcome.outcome.events, c.in_ok-outcome.outcome.releases) in
     made_of c.lines_of.result
-    (λ (lines : Vec ℕ Global). lines.items ≡ trace_lines c.deref-2.result.now ++ result_line (value_of c.in_ok-value.value) (Some counts))
+    (λ (lines : Vec ℕ Global). lines.items ≡ trace_lines c.deref-2.result.now ++ c.deref-3.result.now)
     (λ (lines : Vec ℕ Global). AreLinesOfText p (ty_of compiled.output) compiled.text.items g c.args.trace lines.items)
     (λ lines h. record {
       events = c.in_ok-outcome.outcome.events;
       releases = c.in_ok-outcome.outcome.releases;
       seen = c.in_ok-outcome.seen.items;
       run = c.in_ok-outcome.ensures.run;
-      written = h ∙ ap₂ (λ (shown : List Seen) (line : List ℕ). trace_lines shown ++ line) c.deref-2.ensures.value (∥∥₁_elim compiled.text_for (Prim.hlevel props) (λ t.
+      written = h ∙ ap₂ (λ (shown : List Seen) (line : List ℕ). trace_lines shown ++ line) c.deref-2.ensures.value (c.deref-3.ensures.value ∙ c.in_ok-line.ensures ∙ ∥∥₁_elim compiled.text_for (Prim.hlevel props) (λ t.
           value_told p (ty_of compiled.output) compiled.is_task compiled.text.items g c.values_have_their_types.ensures c.requires t
-          c.lists_hold_one_value.ensures _ _ (Some counts) c.in_ok-outcome.ensures.left (cc (c.in_ok-value.ensures, c.deref.ensures.value))));
+          c.lists_hold_one_value.ensures _ _ (Some counts) c.in_ok-outcome.ensures.left (ap (λ ls. value_in g.bases (ty_of compiled.output) (map (λ l. l.items) ls) 0 0) c.deref.ensures.value)));
     }) c.lines_of.ensures

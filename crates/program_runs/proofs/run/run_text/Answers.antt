@@ -1,4 +1,4 @@
-use Rattle.std.proofs.Common.{subst, sym}
+use Rattle.std.proofs.Common.{Ok, inl, refl, subst, sym}
 use Rattle.lift_tree.specs.Programs.{program_of}
 use Rattle.lift_tree.specs.Types.{ty_of}
 use Rattle.launch_file.specs.Judged.{Refuses}
@@ -7,7 +7,11 @@ use Rattle.launch_file.specs.LaunchFile.{given_by}
 use Rattle.lowered_tree.specs.Kinds.{is_task}
 use Rattle.compilation.specs.Legal.{LegalOf}
 use Rattle.program_runs.proofs.Admitted.{given_is_admissible}
+use Rattle.program_runs.proofs.Failed.{failed_for, handed_for, source_fails}
 use Rattle.program_runs.proofs.Stopped.{launch_fails}
+use Rattle.program_runs.specs.Started.{LaunchOf, RunOf}
+use Rattle.fault_lines.specs.Failure as failures
+use Rattle.stages.specs.Stages.{As}
 use Rattle.program_runs.proofs.run.run_text.Goals as goal
 
 pub read_launch-requires : goal.read_launch-requires
@@ -38,3 +42,35 @@ returns-in_ok-run_launch-in-Ok-clause-found c =
       launch_file = c.in-Ok.ensures.ok;
       run = c.in_ok-run_launch-in-Ok.ensures;
     }
+
+pub returns-in_err-compiled-clause-exact : goal.returns-in_err-compiled-clause-exact
+returns-in_err-compiled-clause-exact c =
+    let text = c.args.program.now in
+    let script = c.args.script.now in
+    let launch = c.args.launch.now in
+    handed_for text (λ p. RunOf p script launch) (c.one_end.ensures.run text script launch) _ _ c.from_residual.ensures.1
+    (source_fails text (λ p. LegalOf p script) (λ p last. As (failures.Launch p) (LaunchOf p (asks.Run (is_task last.tree)) launch)) _ c.in_err-compiled.ensures.refused)
+
+pub returns-in_err-run_launch-in-Ok-clause-exact : goal.returns-in_err-run_launch-in-Ok-clause-exact
+returns-in_err-run_launch-in-Ok-clause-exact c =
+    let text = c.args.program.now in
+    let script = c.args.script.now in
+    let launch = c.args.launch.now in
+    handed_for text (λ p. RunOf p script launch) (c.one_end.ensures.run text script launch) _ _ c.from_residual-in_err-run_launch-in-Ok.ensures.1 (inl refl)
+
+pub returns-in-Err-clause-exact : goal.returns-in-Err-clause-exact
+returns-in-Err-clause-exact c =
+    let script = c.args.script.now in
+    let launch = c.args.launch.now in
+    let p = program_of c.in_ok-compiled.compiled.program in
+    let found = c.in_ok-compiled.ensures.found in
+    failed_for c.args.program.now (λ q. RunOf q script launch) (c.one_end.ensures.run c.args.program.now script launch) (failures.Launch p c.in-Err.no)
+    (launch_fails c.args.program.now p (λ last. asks.Run (is_task last.tree)) launch (λ q. LegalOf q script) _ c.in-Err.no found.read found.legal
+    (λ well. subst (λ b. Refuses p (asks.Run b) launch c.in-Err.no) (sym found.alone) (c.in-Err.ensures.refused well)))
+
+pub returns-in_ok-run_launch-in-Ok-clause-exact : goal.returns-in_ok-run_launch-in-Ok-clause-exact
+returns-in_ok-run_launch-in-Ok-clause-exact c = λ why cause.
+    let found = c.in_ok-compiled.ensures.found in
+    let given = given_by c.in-Ok.file in
+    let started = subst (λ b. LaunchOf (program_of c.in_ok-compiled.compiled.program) (asks.Run b) c.args.launch.now (Ok given)) (sym found.alone) c.in-Ok.ensures.ok in
+    (c.one_end.ensures.run c.args.program.now c.args.script.now c.args.launch.now).none why (_, found.read.is, found.read.within, (given, (found.last, found.legal, started))) cause

@@ -3,7 +3,8 @@ use Rattle.lift_tree.specs.Programs.{program_of}
 use Rattle.fault_lines.specs.declared.refusal.Refusal.TheVariants as told
 use Rattle.program_source.specs.Program.{OnProgram, StopsFor}
 use Rattle.stages.specs.Stages.{As, Then}
-use Rattle.program_source.specs.Terms.{ReadsScript, StepsOf, TermsOf}
+use Rattle.program_source.specs.Terms.{StepsOf, TermsOf}
+use Rattle.strategy_script.specs.ScriptText.{ReadsScript}
 use Rattle.stages.proofs.HandedOn.{handed_on}
 use Rattle.program_source.proofs.Stages.{on_program, script_stops, types_first}
 use Rattle.program_source.proofs.terms.begin.Goals as goal

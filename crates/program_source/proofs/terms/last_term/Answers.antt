@@ -6,6 +6,7 @@ use Rattle.stages.proofs.HandedOn.{handed_on}
 use Rattle.program_source.proofs.Stages.{on_program, step_stops}
 use Rattle.program_source.proofs.Low.{programs_are_low}
 use Rattle.program_source.proofs.TermsMade.{last_is, source_made}
+use Rattle.program_source.proofs.Within.{typed_within}
 use Rattle.program_source.proofs.terms.last_term.Goals as goal
 
 pub returns-in_err-last_term-clause-refused : goal.returns-in_err-last_term-clause-refused
@@ -20,3 +21,8 @@ returns-in_err-last_term-clause-refused c =
 pub returns-clause-last : goal.returns-clause-last
 returns-clause-last c =
     last_is c.args.program.now c.args.script.now _ _ _ c.types_are_judged.ensures programs_are_low c.in_ok-source.ensures.begun c.in_ok-last_term.ensures.last c.in_ok-last_term.ensures.after
+
+pub returns-clause-within : goal.returns-clause-within
+returns-clause-within c =
+    typed_within c.scripts_copy_arrays.ensures c.args.program.now c.args.script.now _
+    (last_is c.args.program.now c.args.script.now _ _ _ c.types_are_judged.ensures programs_are_low c.in_ok-source.ensures.begun c.in_ok-last_term.ensures.last c.in_ok-last_term.ensures.after)

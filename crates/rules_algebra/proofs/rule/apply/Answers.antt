@@ -1,5 +1,5 @@
 use Rattle.rewriting.specs.Around.{context_of}
-use Rattle.rules_algebra.proofs.Ruled.{fuse_map_result, fuse_fold_result, transpose_transpose_result, map_join_result, map_split_result, map_transpose_result, pad_map_result, map_pad_result, let_inline_result, copy_result}
+use Rattle.rules_algebra.proofs.Ruled.{fuse_map_result, fuse_fold_result, transpose_transpose_result, map_join_result, map_split_result, map_transpose_result, pad_map_result, map_pad_result, let_inline_result, copy_result, reverse_reverse_result, map_reverse_result, map_stride_result, stride_stride_result, stride_layout_result}
 use Rattle.rules_algebra.proofs.rule.apply.Goals as goal
 
 pub returns-in-FuseMap-clause-keeps : goal.returns-in-FuseMap-clause-keeps
@@ -31,3 +31,18 @@ returns-in-LetInline-clause-keeps c = let_inline_result (context_of c.args.conte
 
 pub returns-in-Copy-clause-keeps : goal.returns-in-Copy-clause-keeps
 returns-in-Copy-clause-keeps c = copy_result (context_of c.args.context.now) c.args.term c.copy.result c.copy.ensures
+
+pub returns-in-ReverseReverse-clause-keeps : goal.returns-in-ReverseReverse-clause-keeps
+returns-in-ReverseReverse-clause-keeps c = reverse_reverse_result (context_of c.args.context.now) c.args.term c.reverse_reverse.result c.reverse_reverse.ensures
+
+pub returns-in-MapReverse-clause-keeps : goal.returns-in-MapReverse-clause-keeps
+returns-in-MapReverse-clause-keeps c = map_reverse_result (context_of c.args.context.now) c.args.term c.map_reverse.result c.map_reverse.ensures
+
+pub returns-in-MapStride-clause-keeps : goal.returns-in-MapStride-clause-keeps
+returns-in-MapStride-clause-keeps c = map_stride_result (context_of c.args.context.now) c.args.term c.map_stride.result c.map_stride.ensures
+
+pub returns-in-StrideStride-clause-keeps : goal.returns-in-StrideStride-clause-keeps
+returns-in-StrideStride-clause-keeps c = stride_stride_result (context_of c.args.context.now) c.args.term c.stride_stride.result c.stride_stride.ensures
+
+pub returns-in-StrideLayout-clause-keeps : goal.returns-in-StrideLayout-clause-keeps
+returns-in-StrideLayout-clause-keeps c = stride_layout_result (context_of c.args.context.now) c.args.term c.stride_layout.result c.stride_layout.ensures.answer c.stride_layout.ensures.polynomial

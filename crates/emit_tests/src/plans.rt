@@ -1,0 +1,145 @@
+//! Plans of terms of each kind, and the kernels that are emitted for them.
+
+use crate::emission::Row;
+use crate::last_terms::lowered_last;
+use crate::sameness::is_same;
+use address_spaces::spaces;
+use buffer_allocation::allocation::buffers;
+use kernel_emit::emit::emit;
+use kernel_reader::read_kernel;
+use kernel_tree::tree::{Kernel, Stmt};
+use phase_plan::kind::Kind;
+use phase_plan::planning::plan;
+use std::alloc::Global;
+use std::test::Fail;
+use thread_mapping::judge;
+
+// A term's kernel, and how many phases and barriers its plan has over work-groups.
+fn emitted(alloc: Global, row: &Row) -> Result<Option<(Kernel, usize, usize)>, Fail> {
+    let Some(lowered) = lowered_last(alloc, row.program, row.script)? else {
+        return Ok(None);
+    };
+    let Ok(mapped) = judge(alloc, lowered) else {
+        return Ok(None);
+    };
+    let spaced = spaces(alloc, mapped)?;
+    let Ok(buffers) = buffers(alloc, &spaced) else {
+        return Ok(None);
+    };
+    let plan = plan(alloc, &spaced, &buffers)?;
+    let (phases, barriers) = match &plan.kind {
+        Kind::Task | Kind::OverLaunch => (0, 0),
+        Kind::OverGroups(phases) => (phases.count as usize, phases.barriers.len()),
+    };
+    Ok(Some((emit(alloc, &plan)?, phases, barriers)))
+}
+
+// Whether the row's kernel is emitted, with so many phases and barriers.
+fn gives(alloc: Global, row: &Row, phases: usize, barriers: usize) -> Result<bool, Fail> {
+    let Ok(asked) = read_kernel(alloc, row.kernel.as_bytes()) else {
+        return Ok(false);
+    };
+    let Some((kernel, has, places)) = emitted(alloc, row)? else {
+        return Ok(false);
+    };
+    Ok(
+        has == phases
+            && places == barriers
+            && kernel.inputs == asked.inputs
+            && kernel.outputs == asked.outputs
+            && kernel.sizes == asked.sizes
+            && kernel.variables == asked.variables
+            && kernel.locals == asked.locals
+            && kernel.privates == asked.privates
+            && is_same(&kernel.body, &asked.body),
+    )
+}
+
+// One work-item alone: the map's turns are a loop from 0.
+const TASK: Row = Row {
+    program: "size N from 1 to 1000; input xs: [u32; N]; output map(\\x. add(x, 1), xs)",
+    script: "at . to-seq",
+    kernel: "__kernel void lift(__global const uint *a0, __global uint *o0, const uint s0)
+{
+  uint v0;
+  for (uint i0 = 0u; i0 < s0; i0 += 1u) {
+    v0 = a0[i0];
+    o0[i0] = (v0 + 1u);
+  }
+}
+",
+};
+
+// All work-items: each takes the turns from its number on.
+const OVER_LAUNCH: Row = Row {
+    program: "size N from 1 to 1000; input xs: [u32; N]; output map(\\x. add(x, 1), xs)",
+    script: "at . to-glb",
+    kernel: "__kernel void lift(__global const uint *a0, __global uint *o0, const uint s0)
+{
+  uint v0;
+  for (uint i0 = (uint)get_global_id(0); i0 < s0; i0 += (uint)get_global_size(0)) {
+    v0 = a0[i0];
+    o0[i0] = (v0 + 1u);
+  }
+}
+",
+};
+
+// Work-groups without local memory: one phase.
+const OVER_GROUPS: Row = Row {
+    program: "input xs: [[u32; 4]; 3]; output map(\\r. map(\\x. x, r), xs)",
+    script: "at 1 to-lcl\nat . to-wrg",
+    kernel: "__kernel void lift(__global const uint *a0, __global uint *o0)
+{
+  uint v0;
+  for (uint i0 = (uint)get_group_id(0); i0 < 3u; i0 += (uint)get_num_groups(0)) {
+    for (uint i1 = (uint)get_local_id(0); i1 < 4u; i1 += (uint)get_local_size(0)) {
+      v0 = a0[((i0 * 4u) + i1)];
+      o0[((i0 * 4u) + i1)] = v0;
+    }
+  }
+}
+",
+};
+
+#[test]
+fn each_kind_has_its_kernel(rt: HostRuntime) -> Result<(), Fail> {
+    assert!(rt; gives(rt.alloc(), &TASK, 0, 0)?);
+    assert!(rt; gives(rt.alloc(), &OVER_LAUNCH, 0, 0)?);
+    assert!(rt; gives(rt.alloc(), &OVER_GROUPS, 1, 0)?);
+    Ok(())
+}
+
+// Windows of a tile that is copied to local memory: what others copied is read, by two phases with
+// a barrier between them and one that closes.
+const WINDOWS: Row = Row {
+    program: "size N multiple 2 from 2 to 4096; input xs: [u32; N]; output join(map(\\w. reduce(add, 0, w), slide(3, 1, pad(1, 1, xs))))",
+    script: "at 0.0 tile-slide 2\nat 0 map-join\nat 0.0 fuse-map\nat 0.0.1 let-inline\nat 0.0.1.0.0 local-copy\nat 0.0.1.1 reduce-fold\nat 0.0.1.1 fold-seq\nat 0.0.1 to-lcl\nat 0.0 to-wrg",
+    kernel: "",
+};
+
+fn has_barriers(kernel: &Kernel, count: usize) -> bool {
+    match kernel.body.as_slice() {
+        [Stmt::Loop(_, _, _, body)] => {
+            let barriers = body
+                .iter()
+                .filter(|statement| matches!(**statement, Stmt::Barrier { .. }));
+            barriers.count() == count
+        }
+        _ => false,
+    }
+}
+
+#[test]
+fn phases_have_their_barriers(rt: HostRuntime) -> Result<(), Fail> {
+    match emitted(rt.alloc(), &WINDOWS)? {
+        Some((kernel, phases, barriers)) => {
+            assert!(rt; phases == 2 && barriers == 2);
+            assert!(rt; kernel.locals.len() == 1 && kernel.locals[0] == 4);
+            assert!(rt; kernel.privates.is_empty());
+            assert!(rt; has_barriers(&kernel, 2));
+        }
+        None => assert!(rt; false),
+    }
+    Ok(())
+}

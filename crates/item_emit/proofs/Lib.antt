@@ -1,0 +1,5 @@
+pub mod Rows
+pub mod Blocks
+pub mod Scopes
+pub mod Copies
+pub mod Written

@@ -1,0 +1,13 @@
+-- Parts of element terms, as functions from pair choices to expressions.
+use Rattle.std.specs.Prelude.{Bool, true, false, List, ◌∷◌, Option}
+use Rattle.kernel_tree.specs.Formula.{Formula}
+use Rattle.printed_form.specs.Printer.{sign_exprs}
+use Rattle.lowering.specs.Terms.{term_of}
+use Rattle.item_emit.specs.Scopes.{scope_of}
+use Rattle.item_emit.specs.declared.expressions.Part.{Part}
+use Rattle.item_emit.specs.declared.expressions.Part as part
+
+abbrev pub parts_of : Part → List Bool → Option Formula
+parts_of (part.Whole scope first term) = sign_exprs (scope_of scope.now) first (term_of term.now)
+parts_of (part.First' p whole) = λ cs. parts_of whole (false ∷ cs)
+parts_of (part.Second' p whole) = λ cs. parts_of whole (true ∷ cs)

@@ -1,0 +1,288 @@
+//! The expressions of element terms.
+
+ghost use Rattle.std.specs.Prelude.{◌≡◌, [], false, IfOk, option_map};
+ghost use Rattle.lift_ir.specs.Lowering.{element_ty};
+ghost use Rattle.lift_ir.specs.Terms as terms;
+ghost use Rattle.lift_tree.specs.Types.{ty_of};
+ghost use Rattle.kernel_tree.specs.Formula as formula;
+ghost use Rattle.kernel_tree.specs.Tree.{formula_of};
+ghost use Rattle.printed_form.specs.Expressions as spec;
+ghost use Rattle.printed_form.specs.Printer as printer;
+ghost use Rattle.printed_form.specs.Views.{held_sign};
+ghost use Rattle.lowering.specs.Terms.{term_of};
+ghost use Rattle.item_emit.specs.Scopes.{scope_of};
+ghost use Rattle.item_emit.specs.Parts.{parts_of};
+
+use crate::counts::{element_width, let_variables, plus};
+use crate::scope::Scope;
+use array_views::{Access, IndexStack, PairStack, View};
+use kernel_tree::tree::{Comparison, Expr};
+use lift_tree::ty::Ty;
+use lowering::term::Term;
+use scalar_ops::op::Op;
+use std::alloc::{AllocError, Global};
+
+fn operation(alloc: Global, op: Op, a: Expr, b: Expr) -> Result<Expr, AllocError>
+    ensures { IfOk result
+        (λ e. formula_of e ≡ spec.operation op (formula_of a) (formula_of b)) }
+{
+    match op {
+        Op::Lt => Expr::choose(
+            alloc,
+            Comparison::Less,
+            a,
+            b,
+            Expr::Number(1),
+            Expr::Number(0),
+        ),
+        Op::Eq => Expr::choose(
+            alloc,
+            Comparison::Equal,
+            a,
+            b,
+            Expr::Number(1),
+            Expr::Number(0),
+        ),
+        Op::Add
+        | Op::Mul
+        | Op::Min
+        | Op::Max
+        | Op::And
+        | Op::Or
+        | Op::Xor
+        | Op::Sub
+        | Op::Shl
+        | Op::Shr
+        | Op::Div
+        | Op::Rem => Expr::binary(alloc, op, a, b),
+    }
+}
+
+fn of_both(
+    alloc: Global,
+    op: Op,
+    a: Option<Expr>,
+    b: Option<Expr>,
+) -> Result<Option<Expr>, AllocError>
+    ensures { IfOk result (λ e. option_map formula_of e
+        ≡ spec.of_both (spec.operation op) (option_map formula_of a) (option_map formula_of b)) }
+{
+    match (a, b) {
+        (Some(a), Some(b)) => Ok(Some(operation(alloc, op, a, b)?)),
+        _ => Ok(None),
+    }
+}
+
+fn with_number(
+    alloc: Global,
+    op: Op,
+    a: Option<Expr>,
+    number: u32,
+) -> Result<Option<Expr>, AllocError>
+    ensures { IfOk result (λ e. option_map formula_of e
+        ≡ spec.of_one (λ x. formula.Binary op x (formula.Number number))
+        (option_map formula_of a)) }
+{
+    match a {
+        Some(a) => Ok(Some(Expr::binary(alloc, op, a, Expr::Number(number))?)),
+        None => Ok(None),
+    }
+}
+
+// The second where the first isn't 0, else the third.
+fn selection(
+    alloc: Global,
+    condition: Option<Expr>,
+    yes: Option<Expr>,
+    no: Option<Expr>,
+) -> Result<Option<Expr>, AllocError>
+    ensures { IfOk result (λ e. option_map formula_of e ≡ spec.of_three spec.selection
+        (option_map formula_of condition) (option_map formula_of yes) (option_map formula_of no)) }
+{
+    match (condition, yes, no) {
+        (Some(condition), Some(yes), Some(no)) => {
+            let zero = Expr::Number(0);
+            Ok(Some(Expr::choose(alloc, Comparison::Equal, condition, zero, no, yes)?))
+        }
+        _ => Ok(None),
+    }
+}
+
+// The variable that holds a component of a bound element.
+fn variable(
+    alloc: Global,
+    scope: &Scope,
+    binder: u32,
+    choices: PairStack,
+) -> Result<Option<Expr>, AllocError>
+    ensures { IfOk result (λ e. option_map formula_of e
+        ≡ held_sign (scope_of scope.now binder choices [])) }
+{
+    let view = scope.view(alloc, binder)?;
+    match view.access(alloc, choices, IndexStack::new(alloc))? {
+        Access::Variable(number) => Ok(Some(Expr::Variable(number))),
+        Access::Nothing | Access::InCell(_) => Ok(None),
+    }
+}
+
+// The component of an operator's value: the one number.
+#[cycle(expressions)]
+fn applied(
+    alloc: Global,
+    op: Op,
+    a: &Term,
+    b: &Term,
+    scope: &Scope,
+    first: u32,
+) -> Result<Option<Expr>, AllocError>
+    ensures { IfOk result (λ e. option_map formula_of e ≡ printer.sign_exprs (scope_of scope.now)
+        first (terms.Apply op (term_of a.now) (term_of b.now)) []) }
+{
+    let second = plus(first, let_variables(a)?)?;
+    let a = component(alloc, a, scope, first, PairStack::new(alloc))?;
+    let b = component(alloc, b, scope, second, PairStack::new(alloc))?;
+    of_both(alloc, op, a, b)
+}
+
+#[cycle(expressions)]
+fn selected(
+    alloc: Global,
+    condition: &Term,
+    yes: &Term,
+    no: &Term,
+    scope: &Scope,
+    first: u32,
+) -> Result<Option<Expr>, AllocError>
+    ensures { IfOk result (λ e. option_map formula_of e ≡ printer.sign_exprs (scope_of scope.now)
+        first (terms.Select (term_of condition.now) (term_of yes.now) (term_of no.now)) []) }
+{
+    let second = plus(first, let_variables(condition)?)?;
+    let third = plus(second, let_variables(yes)?)?;
+    let condition = component(alloc, condition, scope, first, PairStack::new(alloc))?;
+    let yes = component(alloc, yes, scope, second, PairStack::new(alloc))?;
+    let no = component(alloc, no, scope, third, PairStack::new(alloc))?;
+    selection(alloc, condition, yes, no)
+}
+
+// A component of a pair, or of a zip, which has the same.
+#[cycle(expressions)]
+fn side(
+    alloc: Global,
+    a: &Term,
+    b: &Term,
+    scope: &Scope,
+    first: u32,
+    mut choices: PairStack,
+) -> Result<Option<Expr>, AllocError>
+    ensures { IfOk result (λ e. option_map formula_of e ≡ printer.sign_exprs (scope_of scope.now)
+        first (terms.Both false (term_of a.now) (term_of b.now)) choices) }
+{
+    match choices.pop() {
+        None => Ok(None),
+        Some(false) => component(alloc, a, scope, first, choices),
+        Some(true) => component(alloc, b, scope, plus(first, let_variables(a)?)?, choices),
+    }
+}
+
+#[cycle(expressions)]
+fn bound(
+    alloc: Global,
+    ty: &Ty,
+    value: &Term,
+    body: &Term,
+    scope: &Scope,
+    first: u32,
+    choices: PairStack,
+) -> Result<Option<Expr>, AllocError>
+    ensures { IfOk result (λ e. option_map formula_of e ≡ printer.sign_exprs (scope_of scope.now)
+        first (terms.LetElement (element_ty (ty_of ty.now)) (term_of value.now)
+        (term_of body.now)) choices) }
+{
+    let variable = plus(first, let_variables(value)?)?;
+    let next = plus(variable, element_width(ty)?)?;
+    let held = View::held(alloc, ty, variable)?;
+    component(alloc, body, &Scope::Bound(&held, scope), next, choices)
+}
+
+/// The expression of a component of an element term whose first variable has this number.
+#[cycle(expressions)]
+pub fn component(
+    alloc: Global,
+    term: &Term,
+    scope: &Scope,
+    first: u32,
+    mut choices: PairStack,
+) -> Result<Option<Expr>, AllocError>
+    ensures { IfOk result (λ e. option_map formula_of e
+        ≡ printer.sign_exprs (scope_of scope.now) first (term_of term.now) choices) }
+{
+    match term {
+        Term::Literal(number) => Ok(Some(Expr::Number(*number))),
+        Term::Bound(binder) => variable(alloc, scope, *binder, choices),
+        Term::Apply(op, a, b) => applied(alloc, *op, a, b, scope, first),
+        Term::ApplyNumber(op, number, a) => {
+            let a = component(alloc, a, scope, first, PairStack::new(alloc))?;
+            with_number(alloc, *op, a, *number)
+        }
+        Term::Select(condition, yes, no) => selected(alloc, condition, yes, no, scope, first),
+        Term::Pair(a, b) | Term::Zip(a, b) => side(alloc, a, b, scope, first, choices),
+        Term::First(a) => {
+            choices.push(false)?;
+            component(alloc, a, scope, first, choices)
+        }
+        Term::Second(a) => {
+            choices.push(true)?;
+            component(alloc, a, scope, first, choices)
+        }
+        Term::LetElement(ty, value, body) => bound(alloc, ty, value, body, scope, first, choices),
+        Term::Source(_)
+        | Term::Reshape(_, _)
+        | Term::LetArray(_, _)
+        | Term::Map(_, _, _, _, _)
+        | Term::Fold(_, _, _, _, _, _)
+        | Term::Store(_, _)
+        | Term::Copy(_, _, _) => Ok(None),
+    }
+}
+
+/// A part of an element term.
+#[derive(Clone, Copy)]
+pub enum Part<'p> {
+    /// All of a term, whose first variable has this number.
+    Whole(&'p Scope<'p>, u32, &'p Term),
+    /// The first part of that part.
+    First(&'p Part<'p>),
+    /// The second part of that part.
+    Second(&'p Part<'p>),
+}
+
+impl<'p> Part<'p> {
+    // The expression of a component of the part.
+    fn component(&self, alloc: Global, mut choices: PairStack) -> Result<Option<Expr>, AllocError>
+        ensures { IfOk result
+            (λ e. option_map formula_of e ≡ parts_of self.now choices) }
+    {
+        match self {
+            Part::Whole(scope, first, term) => component(alloc, term, scope, *first, choices),
+            Part::First(whole) => {
+                choices.push(false)?;
+                whole.component(alloc, choices)
+            }
+            Part::Second(whole) => {
+                choices.push(true)?;
+                whole.component(alloc, choices)
+            }
+        }
+    }
+
+    /// The expression of a part that is a number.
+    pub fn number(&self, alloc: Global) -> Result<Expr, AllocError>
+        ensures { IfOk result
+            (λ e. formula_of e ≡ printer.or_number (parts_of self.now [])) }
+    {
+        match self.component(alloc, PairStack::new(alloc))? {
+            Some(expression) => Ok(expression),
+            None => Ok(Expr::Number(0)),
+        }
+    }
+}

@@ -1,5 +1,0 @@
-use Rattle.std.proofs.Common.{length}
-use Rattle.kernel_emit.proofs.arguments.+buffer_count.Given as goal
-
-abbrev pub decreases-buffer_count : goal.decreases-buffer_count
-decreases-buffer_count l = length l.inputs.now

@@ -1,0 +1,29 @@
+-- What is known of each lowered term.
+use Rattle.std.specs.Prelude.{◌≡◌, ◌≤◌, [], length}
+use Rattle.lift_tree.specs.Annotations.{Annotation, Annotates, type_in}
+use Rattle.lift_tree.specs.Belonging.{IsProper}
+use Rattle.lift_tree.specs.Limits.{IsWithinLimits}
+use Rattle.lift_tree.specs.Programs.{PlainProgram}
+use Rattle.lift_tree.specs.Tree.{Tree, height}
+use Rattle.lift_tree.specs.Types.{IsOutput}
+use Rattle.lift_tree.specs.Typing.{Declared, IsDeclared, declared_by}
+use Rattle.lowered_tree.specs.Copies.{CopiesArrays}
+use Rattle.lowered_tree.specs.Words.{FormsHaveWords}
+
+-- a typed term of a proper program of few inputs, within the limits, which copies nothing but arrays
+pub record IsTypedWithin (p : PlainProgram) (t : Tree) (n : Annotation) : Type 0 where
+  pub proper : IsProper p
+  pub few : length p.inputs ≤ 8
+  pub declared : IsDeclared (declared_by p)
+  pub nodes : Annotates (declared_by p) [] t n
+  pub output : IsOutput (type_in n)
+  pub within : IsWithinLimits p t n
+  pub low : height t ≤ 256
+  pub copies : CopiesArrays t n
+
+-- it is such a term of some program that declares the same, and its forms have words for numbers
+pub record IsOfProgram (d : Declared) (t : Tree) (n : Annotation) : Type 0 where
+  pub program : PlainProgram
+  pub declares : declared_by program ≡ d
+  pub typed : IsTypedWithin program t n
+  pub words : FormsHaveWords t

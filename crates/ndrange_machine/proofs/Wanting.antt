@@ -1,0 +1,76 @@
+-- What a work-item wants, by its line.
+use Rattle.std.proofs.Common.{◌≡◌, ◌∙◌, ℕ, ◌+◌, Option, Some, None, sym, ap, subst}
+use Rattle.std.specs.Prelude.{slice_get}
+use Rattle.kernel_tree.specs.Formula.{value}
+use Rattle.kernel_tree.specs.Launch.{ids_of}
+use Rattle.kernel_tree.specs.Tree.{formula_of}
+use Rattle.kernel_tree.specs.declared.tree.Array.{Array}
+use Rattle.kernel_tree.specs.declared.tree.Expr.{Expr}
+use Rattle.ndrange_machine.specs.declared.item.Change.TheVariants.{Sets}
+use Rattle.ndrange_machine.specs.declared.line.Line.{Line}
+use Rattle.ndrange_machine.specs.declared.line.Line.TheVariants.{Assign, Load, Store, Tail}
+use Rattle.ndrange_machine.specs.declared.machine.Machine.{Machine}
+use Rattle.ndrange_machine.specs.declared.want.Want.{Want}
+use Rattle.ndrange_machine.specs.declared.want.Want.TheVariants.{Changes, Reads, Writes}
+use Rattle.ndrange_machine.specs.ItemView.{ItemView}
+use Rattle.ndrange_machine.specs.Known.{variables}
+use Rattle.kernel_tree.specs.declared.events.Event.{Event}
+use Rattle.kernel_tree.specs.declared.events.Fault.{Fault}
+use Rattle.enabled_events.specs.Listed.{AreFlags}
+use Rattle.race_marks.specs.Marked.{MarksTell}
+use Rattle.ndrange_machine.specs.Takes.{Advances, IsWanted, SameCore}
+use Rattle.ndrange_machine.proofs.Stepping.{same_holds}
+use Rattle.ndrange_machine.specs.Wants.{want_if, want_in, want_tail, wanted}
+
+-- the j-th work-item, which stands at this line
+pub record IsAtLine (m : Machine) (j : ℕ) (it : ItemView) (at : ℕ) (l : Line) : Type 0 where
+  pub item : slice_get m.items.items j ≡ Some it
+  pub place : at ≡ it.line
+  pub line : slice_get m.lines.items at ≡ Some l
+
+some_is : (x y : ItemView) → Some x ≡ Some y → x ≡ y
+some_is x y e = ap (out x) e
+  where
+    out : ItemView → Option ItemView → ItemView
+    out z (Some a) = a
+    out z None = z
+
+wants : (m : Machine) (j : ℕ) (it : ItemView) (at : ℕ) (l : Line) (w : Want) → IsAtLine m j it at l → w ≡ want_in m.lines.items (ids_of m.launch j) at it.turns it.vars (Some l) → IsWanted m j w
+wants m j it at l w h is = λ other e.
+    is
+    ∙ ap (want_in m.lines.items (ids_of m.launch j) at it.turns it.vars) (sym h.line)
+    ∙ ap (λ n. want_in m.lines.items (ids_of m.launch j) n it.turns it.vars (slice_get m.lines.items n)) h.place
+    ∙ ap (wanted m.lines.items (ids_of m.launch j)) (some_is it other (sym h.item ∙ e))
+
+abbrev pub value_in : Machine → (j : ℕ) → ItemView → Expr → Option ℕ
+value_in m j it e = value (ids_of m.launch j) (variables it.turns) it.vars (formula_of e)
+
+pub wants_to_set : (m : Machine) (j : ℕ) (it : ItemView) (at v : ℕ) (e : Expr) (x : ℕ) → IsAtLine m j it at (Assign v e) → value_in m j it e ≡ Some x → IsWanted m j (Changes (Sets v x) (at + 1))
+wants_to_set m j it at v e x h is = wants m j it at _ _ h (sym (ap (λ o. want_if o (λ z. Changes (Sets v z) (at + 1))) is))
+
+pub wants_to_read : (m : Machine) (j : ℕ) (it : ItemView) (at v : ℕ) (a : Array) (i : Expr) (k : ℕ) → IsAtLine m j it at (Load v a i) → value_in m j it i ≡ Some k → IsWanted m j (Reads v a k (at + 1))
+wants_to_read m j it at v a i k h is = wants m j it at _ _ h (sym (ap (λ o. want_if o (λ z. Reads v a z (at + 1))) is))
+
+pub wants_to_write : (m : Machine) (j : ℕ) (it : ItemView) (at : ℕ) (a : Array) (i e : Expr) (k x : ℕ) → IsAtLine m j it at (Store a i e) → value_in m j it i ≡ Some k → value_in m j it e ≡ Some x → IsWanted m j (Writes a k x (at + 1))
+wants_to_write m j it at a i e k x h index is =
+    wants m j it at _ _ h
+    (sym (ap (λ o. want_if o (λ z. want_if (value_in m j it e) (λ y. Writes a z y (at + 1)))) index
+    ∙ ap (λ o. want_if o (λ y. Writes a k y (at + 1))) is))
+
+pub wants_to_repeat : (m : Machine) (j : ℕ) (it : ItemView) (at head : ℕ) (w : Want) → IsAtLine m j it at (Tail head) → w ≡ want_tail m.lines.items (ids_of m.launch j) head it.turns → IsWanted m j w
+wants_to_repeat m j it at head w h is = wants m j it at _ w h is
+
+-- the same machine, whatever proves what is known of it
+pub advances_same : {n : Machine} (m : Machine) (e : Event) (new : Machine) (fault : Option Fault) → Advances n e new fault → SameCore m n → n.ready ≡ m.ready → n.marks ≡ m.marks → Advances m e new fault
+advances_same m e new fault h core ready marks = λ k l c es st clean en.
+    h k l c es
+    (record {
+      grammar = st.grammar;
+      is_run = st.is_run;
+      holds = same_holds k l c m _ _ core st.holds;
+      flags = subst (AreFlags _ _) (sym ready) st.flags;
+      vars = λ no j it q. st.vars no j it (ap (λ z. slice_get z j) (sym core.items) ∙ q);
+      marks = λ no. subst (MarksTell _ _ es) (sym marks) (st.marks no);
+      steady = st.steady;
+    })
+    clean en

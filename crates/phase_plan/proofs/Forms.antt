@@ -1,0 +1,129 @@
+-- What a term stands as, it stands as in one way.
+use Rattle.std.proofs.Common.{Bool, true, false, List}
+use Rattle.std.specs.Coded.{×_prop, Unit-prop}
+use Rattle.lift_ir.specs.Layouts.{IsInvertible, Layout, Split, Join, Transpose, Reverse, Slide, Pad}
+use Rattle.lift_ir.specs.Forms.{Stands}
+use Rattle.lift_ir.specs.Terms.{Term, Literal, Bound, Source, Apply, ApplyNumber, Select, Both, Project, Reshape, LetArray, LetElement, Map, Fold, Store, Copy, Global, WorkGroup, Local, Sequential, LocalMemory, PrivateMemory}
+use Rattle.group_form.specs.Forms.{IsOfInputs, StandsInGroup, StandsOverGroups}
+
+never : IsProp ⊥
+never a b = absurd a
+
+invertible_once : {A : Type 0} → (y : Layout A) → IsProp (IsInvertible y)
+invertible_once (Split m) = Unit-prop
+invertible_once (Join m) = Unit-prop
+invertible_once Transpose = Unit-prop
+invertible_once (Reverse n) = Unit-prop
+invertible_once (Slide s k) = never
+invertible_once (Pad l r k) = never
+
+stands_once : {A : Type 0} → (w : Bool) (t : Term A) → IsProp (Stands w t)
+stands_once true (Literal c) = never
+stands_once true (Bound v) = never
+stands_once true (Source v) = never
+stands_once true (Apply o a b) = never
+stands_once true (ApplyNumber o n a) = never
+stands_once true (Select c a b) = never
+stands_once true (Both z a b) = never
+stands_once true (Project s a) = never
+stands_once true (Reshape y t) = ×_prop (invertible_once y) (stands_once true t)
+stands_once true (LetArray v b) = ×_prop (stands_once false v) (stands_once true b)
+stands_once true (LetElement ty v b) = stands_once true b
+stands_once true (Map Global n loads xs b) = never
+stands_once true (Map WorkGroup n loads xs b) = never
+stands_once true (Map Local n loads xs b) = never
+stands_once true (Map Sequential n loads xs b) = ×_prop (stands_once false xs) (stands_once true b)
+stands_once true (Fold n loads ty xs s b) = stands_once false xs
+stands_once true (Store ty a) = Unit-prop
+stands_once true (Copy space ty a) = never
+stands_once false (Literal c) = never
+stands_once false (Bound v) = Unit-prop
+stands_once false (Source v) = Unit-prop
+stands_once false (Apply o a b) = never
+stands_once false (ApplyNumber o n a) = never
+stands_once false (Select c a b) = never
+stands_once false (Both z a b) = ×_prop (stands_once false a) (stands_once false b)
+stands_once false (Project s a) = stands_once false a
+stands_once false (Reshape y a) = stands_once false a
+stands_once false (LetArray v b) = ×_prop (stands_once false v) (stands_once false b)
+stands_once false (LetElement ty v b) = never
+stands_once false (Map k n loads xs b) = never
+stands_once false (Fold n loads ty xs s b) = never
+stands_once false (Store ty a) = never
+stands_once false (Copy LocalMemory ty a) = never
+stands_once false (Copy PrivateMemory ty a) = stands_once true a
+
+in_group_once : {A : Type 0} → (w : Bool) (t : Term A) → IsProp (StandsInGroup w t)
+in_group_once true (Literal c) = never
+in_group_once true (Bound v) = never
+in_group_once true (Source v) = never
+in_group_once true (Apply o a b) = never
+in_group_once true (ApplyNumber o n a) = never
+in_group_once true (Select c a b) = never
+in_group_once true (Both z a b) = never
+in_group_once true (Project s a) = never
+in_group_once true (Reshape y t) = ×_prop (invertible_once y) (in_group_once true t)
+in_group_once true (LetArray v b) = ×_prop (in_group_once false v) (in_group_once true b)
+in_group_once true (LetElement ty v b) = never
+in_group_once true (Map Global n loads xs b) = never
+in_group_once true (Map WorkGroup n loads xs b) = never
+in_group_once true (Map Local n loads xs b) = ×_prop (in_group_once false xs) (stands_once true b)
+in_group_once true (Map Sequential n loads xs b) = never
+in_group_once true (Fold n loads ty xs s b) = never
+in_group_once true (Store ty a) = never
+in_group_once true (Copy space ty a) = never
+in_group_once false (Literal c) = never
+in_group_once false (Bound v) = Unit-prop
+in_group_once false (Source v) = Unit-prop
+in_group_once false (Apply o a b) = never
+in_group_once false (ApplyNumber o n a) = never
+in_group_once false (Select c a b) = never
+in_group_once false (Both true a b) = ×_prop (in_group_once false a) (in_group_once false b)
+in_group_once false (Both false a b) = never
+in_group_once false (Project s a) = in_group_once false a
+in_group_once false (Reshape y a) = in_group_once false a
+in_group_once false (LetArray v b) = ×_prop (in_group_once false v) (in_group_once false b)
+in_group_once false (LetElement ty v b) = never
+in_group_once false (Map k n loads xs b) = never
+in_group_once false (Fold n loads ty xs s b) = never
+in_group_once false (Store ty a) = never
+in_group_once false (Copy LocalMemory ty a) = in_group_once true a
+in_group_once false (Copy PrivateMemory ty a) = never
+
+of_inputs_once : {A : Type 0} → (t : Term A) → IsProp (IsOfInputs t)
+of_inputs_once (Literal c) = never
+of_inputs_once (Bound v) = Unit-prop
+of_inputs_once (Source v) = Unit-prop
+of_inputs_once (Apply o a b) = never
+of_inputs_once (ApplyNumber o n a) = never
+of_inputs_once (Select c a b) = never
+of_inputs_once (Both true a b) = ×_prop (of_inputs_once a) (of_inputs_once b)
+of_inputs_once (Both false a b) = never
+of_inputs_once (Project s a) = of_inputs_once a
+of_inputs_once (Reshape y a) = of_inputs_once a
+of_inputs_once (LetArray v b) = ×_prop (of_inputs_once v) (of_inputs_once b)
+of_inputs_once (LetElement ty v b) = never
+of_inputs_once (Map k n loads xs b) = never
+of_inputs_once (Fold n loads ty xs s b) = never
+of_inputs_once (Store ty a) = never
+of_inputs_once (Copy space ty a) = never
+
+pub over_groups_once : {A : Type 0} → (t : Term A) → IsProp (StandsOverGroups t)
+over_groups_once (Literal c) = never
+over_groups_once (Bound v) = never
+over_groups_once (Source v) = never
+over_groups_once (Apply o a b) = never
+over_groups_once (ApplyNumber o n a) = never
+over_groups_once (Select c a b) = never
+over_groups_once (Both z a b) = never
+over_groups_once (Project s a) = never
+over_groups_once (Reshape y t) = ×_prop (invertible_once y) (over_groups_once t)
+over_groups_once (LetArray v b) = ×_prop (of_inputs_once v) (over_groups_once b)
+over_groups_once (LetElement ty v b) = never
+over_groups_once (Map Global n loads xs b) = never
+over_groups_once (Map WorkGroup n loads xs b) = ×_prop (of_inputs_once xs) (in_group_once true b)
+over_groups_once (Map Local n loads xs b) = never
+over_groups_once (Map Sequential n loads xs b) = never
+over_groups_once (Fold n loads ty xs s b) = never
+over_groups_once (Store ty a) = never
+over_groups_once (Copy space ty a) = never

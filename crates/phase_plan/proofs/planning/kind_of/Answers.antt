@@ -1,0 +1,19 @@
+use Rattle.std.proofs.Math.Logic.{∥∥₁_elim}
+use Rattle.std.proofs.Common.{sym}
+use Rattle.lift_tree.specs.Annotations.{annotation_of}
+use Rattle.lift_tree.specs.Tree.{tree_of}
+use Rattle.lowering.specs.Terms.{term_of}
+use Rattle.lowered_tree.specs.Named.{declared_of}
+use Rattle.phase_plan.proofs.Forms.{over_groups_once}
+use Rattle.phase_plan.proofs.Standing.{stands}
+use Rattle.phase_plan.proofs.planning.kind_of.Goals as goal
+
+pub of-requires : goal.of-requires
+of-requires c =
+    let l = c.args.spaced.now.mapped.lowered in
+    let t = tree_of l.term in
+    let n = annotation_of l.types in
+    let root = term_of c.args.root.now in
+    ∥∥₁_elim l.of_program (over_groups_once root) (λ is.
+    stands c.legal_groups_stand_over_groups.ensures c.least_sizes_are_admissible.ensures (declared_of l) t n root is
+    ((c.legal_without_fault.ensures t n).0 c.args.spaced.now.mapped.legal) (sym c.in-OverGroups.ensures) c.requires)

@@ -1,0 +1,67 @@
+//! A plan of a legal term and its buffers.
+
+ghost use Rattle.std.specs.Prelude.{◌≡◌, IfOk};
+ghost use Rattle.lift_tree.specs.Annotations.{annotation_of};
+ghost use Rattle.lift_tree.specs.Tree.{tree_of};
+ghost use Rattle.lowering.specs.Terms.{term_of};
+ghost use Rattle.buffer_allocation.specs.Allocated.{AreAllocated};
+ghost use Rattle.phase_plan.specs.Planned.{IsKindOf};
+ghost use Rattle.phase_plan.specs.Plans.{IsTold};
+ghost use Rattle.printed_form.specs.Programs.{lowered_root};
+
+use crate::kind::Kind;
+use crate::phases::Phases;
+use crate::planned::Plan;
+use buffer_allocation::buffers::Buffers;
+use kernel_premises::soundness::least_sizes_are_admissible;
+use lowered_tree::kind::{NestKind, nest_kind};
+use lowered_tree::laws::legal_without_fault;
+use lowered_tree::lowered::Spaced;
+use lowering::lower::lower;
+use lowering::term::Term;
+use nest_premises::groups::legal_groups_stand_over_groups;
+use std::alloc::{AllocError, Global};
+
+// Who runs the term, with its phases over work-groups.
+fn kind_of(alloc: Global, spaced: &Spaced, root: &Term) -> Result<Kind, AllocError>
+    requires { term_of root.now ≡ lowered_root spaced.now.mapped.lowered.names
+        (tree_of spaced.now.mapped.lowered.term)
+        (annotation_of spaced.now.mapped.lowered.types) }
+    ensures { IfOk result
+        (IsKindOf (tree_of spaced.now.mapped.lowered.term) (term_of root.now)) }
+{
+    least_sizes_are_admissible();
+    legal_groups_stand_over_groups();
+    legal_without_fault();
+    match nest_kind(&spaced.mapped.lowered.term) {
+        NestKind::Task => Ok(Kind::Task),
+        NestKind::OverLaunch => Ok(Kind::OverLaunch),
+        NestKind::OverGroups => Ok(Kind::OverGroups(Phases::of(alloc, root)?)),
+    }
+}
+
+/// Plans a legal term with its buffers, which are those that `buffers` gives for it. It is lowered
+/// here, once. 2^32 phases or local arrays are answered as want of memory.
+pub fn plan<'s>(
+    alloc: Global,
+    spaced: &'s Spaced,
+    buffers: &'s Buffers,
+) -> Result<Plan<'s>, AllocError>
+    requires { AreAllocated buffers.now.local.items buffers.now.private.items
+        (tree_of spaced.now.mapped.lowered.term)
+        (annotation_of spaced.now.mapped.lowered.types) }
+    ensures spaced { IfOk result (λ plan. plan.spaced.now ≡ spaced.now) }
+    ensures buffers { IfOk result (λ plan. plan.buffers.now ≡ buffers.now) }
+    ensures told { IfOk result IsTold }
+{
+    legal_without_fault();
+    let lowered = &spaced.mapped.lowered;
+    let root = lower(alloc, &lowered.names, &lowered.term, &lowered.types)?;
+    let kind = kind_of(alloc, spaced, &root)?;
+    Ok(Plan {
+        spaced,
+        buffers,
+        root,
+        kind,
+    })
+}
