@@ -7,7 +7,8 @@ The demo compiles the tiled stencil of 4,096 numbers and runs it by 256 work-ite
 time of ten calls, and the instructions of one (valgrind --tool=callgrind), each also per event: reading, rewriting, printing
 and reading back are in it.
 
-Taken once, beside other work: 6.3 ms, 11.5 million events a second; 458 instructions an event.
+Counted once: 358 instructions an event. Timed once, beside other work, of an earlier state with 458: 6.3 ms, 11.5 million
+events a second.
 """
 import re
 import tempfile

@@ -8,8 +8,8 @@ along a seed's schedule. Prints the instructions (valgrind --tool=callgrind) of 
 work-item, per event, and the events in a second of the whole call of `lift run`, the fastest of 5. A call reads the launch file
 and writes the result too, so the device alone is faster: its share of the call's instructions is told.
 
-Counted once: in order 276 instructions an event by one work-item, 276 by 64, 282 by 4,096 and 386 by 65,536; from a seed 279,
-344, 411 and 546; of the whole call by one work-item 400. Timed once, beside other work: 20.9, 22.6, 13.6 and 12 million events a
+Counted once: in order 165 instructions an event by one work-item, 165 by 64, 171 by 4,096 and 278 by 65,536; from a seed 168,
+233, 300 and 437. Timed once, beside other work, of an earlier state with 276 to 546: 20.9, 22.6, 13.6 and 12 million events a
 second in order; from a seed 27.9, 11, 5.7 and 3.2.
 """
 import json

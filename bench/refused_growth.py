@@ -10,7 +10,7 @@ output. Another answer is printed, and makes the script end with the status 1.
 
 Seen: in 18 calls 7,589 growths (`run` 289, traced 302, `compile` 213, the tiled stencil's 2,185, `steps` 156, `eval` 121,
 `demo` 2,812, refused calls 45 to 369 each): 13 each time, but for one or two growths a call, where the answer was that
-of the run without.
+of the run without. Later in three calls with a fixed local size 5,060: 13 each time, but for four growths a call.
 """
 import json
 import os
@@ -38,6 +38,7 @@ FILES = {
     "nowhere": "at 7 copy\n",
     "copies": "at 0 copy\n" * 257,
     "empty": "",
+    "kernels": "launch local 2\nat 0 copy\nat 0 to-glb\nat 0 then\nat . to-glb\n",
     "fewer": json.dumps({**LAUNCH, "inputs": {"xs": [1, 2]}}),
 }
 
@@ -50,6 +51,7 @@ CALLS = [
     ("eval", "eval p l", 0),
     ("demo", "demo 7", 0),
     ("the tiled stencil's compile", f"compile {STENCIL}/program.lift {STENCIL}/tiled.txt", 0),
+    ("the fixed stencil's run", f"run {STENCIL}/program.lift {STENCIL}/fixed.txt {STENCIL}/fixed.json", 0),
     ("status 2", "compile p", 2),
     ("status 2, a seed", "demo 07", 2),
     ("status 3", "compile p absent", 3),
@@ -60,7 +62,9 @@ CALLS = [
     ("status 9", "compile p nowhere", 9),
     ("status 10", "compile p copies", 10),
     ("status 11", "compile p empty", 11),
+    ("status 11, two kernels at a fixed size", "compile p kernels", 11),
     ("status 12", "run p s fewer", 12),
+    ("status 12, another size than the fixed one", f"run {STENCIL}/program.lift {STENCIL}/fixed.txt {STENCIL}/tiled.json", 12),
 ]
 OUT_OF_MEMORY = (13, b"", b"lift: memory\n")
 

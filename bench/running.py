@@ -6,7 +6,7 @@ usage: bench/running.py
 Counts the instructions (valgrind --tool=callgrind) of `lift run` at one work-item, which sums N numbers in each of M rows, for
 10^4, 10^5 and 10^6 events: those of the device alone, with its start, in all and per event.
 
-Counted once: 293 an event at each.
+Counted once: 191 an event at each.
 """
 import json
 import tempfile

@@ -1,17 +1,18 @@
 """How many events and releases a kernel's run has, counted from its text alone.
 
 docs/DEVICE.md says what an event is: an assignment, a load, a store, the entry of a loop, the end
-of a turn, and one release for each barrier that a group goes past. Which order they come in doesn't
-matter to their number, so each work-item's steps are counted by themselves.
+of a turn, the test of an `if`, and one release for each barrier that a group goes past. Which order
+they come in doesn't matter to their number, so each work-item's steps are counted by themselves.
 """
 import re
 
 LOOP = re.compile(r"for \(uint (i\d+) = (.*); i\d+ < (.*); i\d+ \+= (.*)\) \{")
+TEST = re.compile(r"if \((.*) < (.*)\) \{")
 DECLARATION = re.compile(r"(__local )?uint \w+(\[\d+\])?;")
 
 
 def statements(kernel):
-    """A kernel's body: its statements, a loop as its head's four parts and its body."""
+    """A kernel's body: its statements, a loop or an `if` as its head's parts and its body."""
     lines = [line.strip() for line in kernel.splitlines()[2:]]
     return block(iter([line for line in lines if not DECLARATION.fullmatch(line)]))
 
@@ -19,10 +20,10 @@ def statements(kernel):
 def block(lines):
     made = []
     for line in lines:
-        loop = LOOP.fullmatch(line)
+        head = LOOP.fullmatch(line) or TEST.fullmatch(line)
         if line == "}":
             break
-        made.append((*loop.groups(), block(lines)) if loop else line)
+        made.append((*head.groups(), block(lines)) if head else line)
     return made
 
 
@@ -40,12 +41,24 @@ def steps(body, names):
             barrier = it.startswith("barrier")
             events, barriers = events + (not barrier), barriers + barrier
             continue
-        variable, start, bound, step, inner = it
-        turns = range(*(number(part, names) for part in (start, bound, step)))
-        events += 1
-        for turn in turns:
-            more, past = steps(inner, {**names, variable: turn})
-            events, barriers = events + more + 1, barriers + past
+        more, past = test(*it, names) if len(it) == 3 else loop(*it, names)
+        events, barriers = events + more, barriers + past
+    return events, barriers
+
+
+def test(item, bound, inner, names):
+    """Those of an `if`: its test, and its body where that holds."""
+    taken = number(item, names) < number(bound, names)
+    events, barriers = steps(inner, names) if taken else (0, 0)
+    return events + 1, barriers
+
+
+def loop(variable, start, bound, step, inner, names):
+    """Those of a loop: its entry, and for each turn its body and its end."""
+    events, barriers = 1, 0
+    for turn in range(*(number(part, names) for part in (start, bound, step))):
+        more, past = steps(inner, {**names, variable: turn})
+        events, barriers = events + more + 1, barriers + past
     return events, barriers
 
 

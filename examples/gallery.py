@@ -41,6 +41,9 @@ schedule. [examples](../examples/README.md) has the files, `lift steps` shows th
 step, and [LESSON.md](LESSON.md) goes through one program step by step. `examples/gallery.py` writes
 this page.
 
+A script `fixed` begins with `launch local K`: its kernel asks for groups of K, and has an `if` or no
+statement at all where the one beside it has a loop over items ([PRINTED.md](PRINTED.md)).
+
 A picture shows a run: a row for each work-item, a column for each event, and below the arrays at
 the run's end, a local one once for each group, with who wrote each cell and who read it. Accesses
 of private memory are among the other steps. `examples/picture.py PROGRAM SCRIPT LAUNCH > run.svg`
@@ -102,8 +105,9 @@ def strategy(program, script):
 
 
 def scripts_of(folder):
-    """The scripts beside a program, that of one work-item first."""
-    return sorted(folder.glob("*.txt"), key=lambda it: (it.stem != "sequential", it.stem))
+    """The scripts beside a program, that of one work-item first, and that of a fixed size last."""
+    places = {"sequential": 0, "fixed": 2}
+    return sorted(folder.glob("*.txt"), key=lambda it: (places.get(it.stem, 1), it.stem))
 
 
 def made(program):

@@ -3,6 +3,8 @@
 A block of STRATEGIES that begins with three back quotes, a word and a file shows that file, and one
 whose word is `nest` the loop nest of that kernel. `FOLDER/NAME`: E events, R releases tells the
 counts of NAME.result. `python3 examples/pages.py KERNEL` prints a kernel's loop nest.
+
+Each rule but those of UNPRINTED has to stand in some script of an example.
 """
 import json
 import re
@@ -12,6 +14,9 @@ from pathlib import Path
 EXAMPLES = Path(__file__).resolve().parent
 TOP = EXAMPLES.parent
 LOOP = re.compile(r"for \(uint (i\d+) = (.*); i\d+ < (.*); i\d+ \+= .*\) \{")
+TEST = re.compile(r"if \((.*) < (.*)\) \{")
+# rules whose form `compile` refuses, so that no example has them
+UNPRINTED = {"then"}
 TAKERS = {
     "(uint)get_global_id(0)": "all items",
     "(uint)get_group_id(0)": "groups",
@@ -41,7 +46,7 @@ def rules_otherwise():
     """The rules that stand in no script, and those of scripts that the page doesn't name."""
     named, used = rules(), rules_used()
     unknown = sorted(used.difference(named))
-    return [it for it in named if it not in used], unknown
+    return [it for it in named if it not in used | UNPRINTED], unknown
 
 
 def accesses(statement):
@@ -50,25 +55,70 @@ def accesses(statement):
     return reads + [f"writes {it}" for it in re.findall(r"^([olp]\d+)\[", statement)]
 
 
-def loop_head(variable, start, bound):
-    return f"{TAKERS[start]} {variable} < " + re.sub(r"\b(\d+)u\b", r"\1", bound)
+def plain(bound):
+    return re.sub(r"\b(\d+)u\b", r"\1", bound)
+
+
+def head_of(statement):
+    """Who takes the turns of a loop or of an `if`, None for another statement."""
+    loop, test = LOOP.fullmatch(statement), TEST.fullmatch(statement)
+    if loop:
+        return f"{TAKERS[loop[2]]} {loop[1]} < {plain(loop[3])}"
+    return f"{TAKERS[test[1]]} below {plain(test[2])}" if test else None
+
+
+class Nest:
+    """A kernel's loops, `if`s and barriers so far, each a line: its words, then its accesses.
+
+    A local map that is neither a loop nor an `if` has the line `each item`: what stands in the body
+    over groups itself, from one barrier, loop or `if` of all items to the next.
+    """
+
+    def __init__(self):
+        # what is around, the innermost last
+        self.lines, self.around = [], []
+
+    def line(self, words):
+        self.lines.append(["  " * len(self.around) + words])
+        return self.lines[-1]
+
+    def go_into(self, words):
+        self.around.append(self.line(words))
+
+    def begin_item(self):
+        if len(self.around) == 1 and self.around[0][0].startswith("groups"):
+            self.go_into("each item")
+
+    def end_item(self):
+        if len(self.around) == 2 and self.around[1][0].strip() == "each item":
+            self.around.pop()
+
+    def take(self, statement):
+        head = head_of(statement)
+        if head and head.startswith("in turn"):
+            self.begin_item()
+            self.go_into(head)
+        elif head:
+            self.end_item()
+            self.go_into(head)
+        elif statement.startswith("barrier"):
+            self.end_item()
+            self.line("barrier")
+        elif statement == "}" and self.around:
+            self.end_item()
+            self.around.pop()
+        elif self.around and accesses(statement):
+            self.begin_item()
+            line = self.around[-1]
+            line += [it for it in accesses(statement) if it not in line]
 
 
 def nest(kernel):
-    """A kernel's loops and barriers: who takes a loop's turns, and what they read and write."""
-    lines, around = [], []
+    """A kernel's loops, `if`s and barriers: who takes turns, and what they read and write."""
+    made = Nest()
     for statement in map(str.strip, kernel.splitlines()):
-        margin, loop = "  " * len(around), LOOP.fullmatch(statement)
-        if loop:
-            lines.append([margin + loop_head(*loop.groups())])
-            around.append(lines[-1])
-        elif statement.startswith("barrier"):
-            lines.append([margin + "barrier"])
-        elif statement == "}" and around:
-            around.pop()
-        elif around:
-            around[-1] += [it for it in accesses(statement) if it not in around[-1]]
-    return "".join(f"{head}{': ' if did else ''}{', '.join(did)}\n" for head, *did in lines)
+        made.take(statement)
+    return "".join(f"{head}{': ' if did else ''}{', '.join(did)}\n" for head, *did in made.lines)
 
 
 def shown():

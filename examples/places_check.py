@@ -41,7 +41,7 @@ COUNTED = [
 def steps_of(script):
     """Each step of a script's text, as its place and its rule."""
     lines = [line.split() for line in script.splitlines()]
-    return [(words[1], words[2]) for words in lines if words and not words[0].startswith("#")]
+    return [(words[1], words[2]) for words in lines if words[:1] == ["at"]]
 
 
 def outside(term, place):

@@ -40,6 +40,8 @@ def tree(levels):
     return "x" if levels == 0 else f"add({tree(levels - 1)}, {tree(levels - 1)})"
 
 
+# a step whose term has two kernels
+CUT = "at 0 copy\nat 0 to-glb\nat 0 then\n"
 # (program, script or None, launch file or None, status, line): without a script it is an evaluation
 ROWS = [
     ("output map(", None, None, 6, "lift: program: token 4, byte 11"),
@@ -70,6 +72,8 @@ ROWS = [
     ("input xs: [u32; 2*4294967295*0]; output xs", None, None, 10, "lift: limit coefficient: 8589934590"),
     ("size M from 1 to 65536; size N from 1 to 32768; input xs: [[u32; M]; N]; output xs", None, None, 10, "lift: limit scalars: 2147483648"),
     (ADDED, "at . to-seq\nat . to-sequence", None, 8, "lift: script: line 2"),
+    (ADDED, "launch local 257\nat . to-glb", None, 8, "lift: script: line 1"),
+    (ADDED, "at . to-glb\nlaunch local 64", None, 8, "lift: script: line 2"),
     (ADDED, "at 0 copy\n" * 257, None, 10, "lift: limit steps: 257"),
     (ADDED, "at 7 copy", None, 9, "lift: step 1: no place"),
     (ADDED, "at . join-split", None, 9, "lift: step 1: shape"),
@@ -80,6 +84,8 @@ ROWS = [
     ("input xs: [[u32; 2]; 6]; output split(3, join(xs))", "at . split-join", None, 9, "lift: step 1: side same"),
     ("input xs: [u32; 6]; output stride(3, stride(3, xs))", "at . stride-stride", None, 9, "lift: step 1: side same"),
     ("input xs: [u32; 4]; output map(\\r. map(\\x. reduce(add, x, r), r), split(2, xs))", "at . map-split", None, 9, "lift: step 1: side mentions"),
+    ("input xs: [[u32; 4]; 2]; output map(\\p. first(p), zip(xs, xs))", "at 0 then", None, 9, "lift: step 1: side whole"),
+    ("input xs: [[u32; 4]; 2]; output map(\\r. map(\\x. x, r), xs)", "at 1 then", None, 9, "lift: step 1: side closed"),
     (ADDED, "at 0 copy\n" * 255, None, 10, "lift: limit depth: 257"),
     (ADDED, "", None, 11, "lift: nest: N1 at ."),
     (ADDED, "at . to-lcl", None, 11, "lift: nest: N2 at ."),
@@ -92,6 +98,9 @@ ROWS = [
     (ROWS_OF + "map(\\r. map(\\x. x, r), xs)", "at 1 to-glb\nat . to-seq", None, 11, "lift: nest: N9 at 1"),
     ("input xs: [u32; 5]; output slide(3, 1, xs)", "", None, 11, "lift: nest: N10 at ."),
     ("input xs: [u32; 5]; output xs", "", None, 11, "lift: nest: N11 at ."),
+    (ADDED, "launch local 2\nat . to-seq", None, 11, "lift: nest: N12 at ."),
+    (ADDED, CUT + "at . to-glb", None, 11, "lift: nest: N13 at 0"),
+    (ADDED, CUT, launch(**{"global": 2}), 11, "lift: nest: N13 at 0"),
     (ARRAY + f"map(\\x. x, {'join(split(1, ' * 13}xs{'))' * 13})", "at . to-seq", None, 10, "lift: limit layouts: 26"),
     ("input xs: [u32; 16386]; output map(\\x. x, xs)", "at . split-map 8193\nat 0.1.0 local-copy\nat 0.1 to-lcl\nat 0 to-wrg", None, 10, "lift: limit local: 32772"),
     ("input xs: [u32; 257]; output map(\\x. x, xs)", "at 0 private-copy\nat . to-seq", None, 10, "lift: limit private: 257"),
@@ -101,6 +110,8 @@ ROWS = [
     (ADDED, "at . to-seq", launch(inputs={}), 12, "lift: launch: missing inputs.xs"),
     (ADDED, "at . to-seq", launch(sizes={"N": 0}), 12, "lift: launch: size N is 0"),
     (ADDED, "at . to-seq", launch(**{"global": 6, "local": 4}), 12, "lift: launch: global 6, local 4"),
+    (ADDED, "launch local 2\nat . to-glb", launch(**{"global": 4}), 12, "lift: launch: global 4, local 1"),
+    (ADDED, "launch local 2\nat . to-glb", launch(**{"global": 4, "inputs": {}}), 12, "lift: launch: global 4, local 1"),
     (ADDED, "at . to-seq", launch(**{"global": 2}), 12, "lift: launch: global 2 for one item"),
     (ADDED, "at . to-seq", launch(inputs={"xs": [1, 2]}), 12, "lift: launch: shape xs"),
     ("#" * 65537, None, None, 10, "lift: limit bytes: 65537"),
@@ -114,8 +125,8 @@ ARRAY_3 = ARRAY.replace("from 1", "from 3")
 DOUBLED = ARRAY + "reduce(add, 0, map(\\x. mul(x, 2), xs))"
 LARGE = "input xs: [u32; 16386]; output map(\\x. x, xs)"
 LOCAL_COPY = "at . split-map {}\nat 0.1.0 local-copy\nat 0.1 to-lcl\nat 0 to-wrg"
-# (what the page says of it, program, script or None): with a script a kernel is made, and without
-# one the program is typed
+# (what the page says of it, program, script or None): with a script a kernel is made, but for one
+# that has a `then`, which is run, and without one the program is typed
 MENDED = [
     ("operator", ARRAY + "map(\\x. add(x, 1), xs)", None),
     ("project", ARRAY + "map(\\p. first(p), zip(xs, xs))", None),
@@ -131,6 +142,10 @@ MENDED = [
     ("slide", ARRAY + "slide(3, 1, pad(1, 1, xs))", None),
     ("length", "size N from 2 to 9; input xs: [u32; N - 1]; output xs", None),
     ("output", ARRAY + "reduce(add, 0, xs)", None),
+    ("side whole", "input xs: [[u32; 4]; 2]; output map(\\p. first(p), zip(xs, xs))", "at 0.0 then"),
+    ("side closed", "input xs: [[u32; 4]; 2]; output map(\\r. map(\\x. x, r), xs)", "at . then"),
+    ("line 1", ADDED, "launch local 64\nat . to-glb"),
+    ("line 2", ADDED, "# first\n\nlaunch local 64\nat . to-glb"),
     ("shape", DOUBLED, "at . reduce-fold\nat . fuse-fold\nat . fold-seq"),
     ("side divides", MULTIPLE, "at . split-map 4\nat 0.1 to-seq\nat 0 to-seq"),
     ("side length", "input xs: [u32; 4]; output map(\\w. reduce(add, 0, w), slide(3, 1, xs))", "at 0 tile-slide 2\nat . map-join\nat 0 fuse-map\nat 0.1 let-inline\nat 0.1.1 reduce-fold\nat 0.1.1 fold-seq\nat 0.1 to-seq\nat 0 to-seq"),
@@ -148,6 +163,9 @@ MENDED = [
     ("N9", NESTED, "at . to-glb\nat 1 to-seq"),
     ("N10", "input xs: [u32; 5]; output slide(3, 1, xs)", "at . copy\nat 1 copy\nat 1 to-seq\nat . to-seq"),
     ("N11", "input xs: [u32; 5]; output xs", "at . copy\nat . to-seq"),
+    ("N12", ADDED, "launch local 2\nat . to-glb"),
+    ("N12", ADDED, "launch local 1\nat . to-seq"),
+    ("N13", ADDED, "at 0 copy\nat . fuse-map\nat . to-glb"),
     ("layouts", LAYERS, "at 0 join-split\nat . to-seq"),
     ("local", LARGE, LOCAL_COPY.format(6)),
     ("private", LARGE.replace("16386", "257"), "at . to-seq"),
@@ -195,7 +213,8 @@ def mended(folder):
         for name, text in {"program.lift": program, "script.txt": script}.items():
             with open(f"{folder}/{name}", "w") as file:
                 file.write(text or "")
-        words = ["steps" if script is None else "compile", "program.lift", "script.txt"]
+        typed = script is None or " then" in script
+        words = ["steps" if typed else "compile", "program.lift", "script.txt"]
         yield what, called(folder, words)[1]
 
 

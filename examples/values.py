@@ -102,6 +102,7 @@ VALUES = {
     "sum_of_parts": lambda parts, one: [total(part) for part in parts],
     "transpose": columns,
     "transpose_tiles": columns,
+    "tree_sums": lambda parts: [total(part) for part in parts],
     "turned_back": lambda xs: [word(2 * x + 1) for x in xs],
     "two_passes": lambda rows: [[word(2 * x + 1) for x in row] for row in rows],
 }

@@ -179,6 +179,12 @@ static size_t work_items(const char *launch, const char *key) {
   return (size_t)strtoull(at, NULL, 10);
 }
 
+/* The local size that the kernel's first line asks for, 0 where it asks for none. */
+static size_t fixed_size(const char *kernel) {
+  const char *word = "reqd_work_group_size(", *at = strstr(kernel, word);
+  return at ? (size_t)strtoull(at + strlen(word), NULL, 10) : 0;
+}
+
 /* ---- buffers ---- */
 
 typedef struct {
@@ -262,6 +268,8 @@ int main(int count, char **words) {
   size_t global = work_items(launch, "global"), local = work_items(launch, "local");
   if (local < 1 || local > 256 || global < 1 || global > 65536 || global % local != 0)
     fail("global %zu, local %zu: local is 1 to 256, global 1 to 65536, and local divides global", global, local);
+  size_t fixed = fixed_size(text);
+  if (fixed && fixed != local) fail("local %zu: this kernel is for groups of %zu", local, fixed);
   if (global != 1 && !strstr(text, "get_")) fail("global %zu: this kernel is for one work-item", global);
 
   cl_int status;

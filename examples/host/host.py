@@ -82,6 +82,12 @@ def value_of(buffers, like):
     return nested(like)
 
 
+def fixed_size(kernel):
+    """The local size that the kernel's first line asks for, where it asks for one."""
+    found = re.search(r"reqd_work_group_size\((\d+), ", kernel)
+    return int(found[1]) if found else None
+
+
 def work_items(launch, kernel):
     """The global and the local size, where they are admissible."""
     for key in ("global", "local"):
@@ -90,6 +96,8 @@ def work_items(launch, kernel):
     total, group = launch["global"], launch["local"]
     if not (1 <= group <= 256 and 1 <= total <= 65536 and total % group == 0):
         fail(f"global {total}, local {group}: local is 1 to 256, global 1 to 65536, and local divides global")
+    if fixed_size(kernel) not in (None, group):
+        fail(f"local {group}: this kernel is for groups of {fixed_size(kernel)}")
     if total != 1 and "get_" not in kernel:
         fail(f"global {total}: this kernel is for one work-item")
     return total, group

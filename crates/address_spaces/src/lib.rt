@@ -5,7 +5,7 @@ ghost use Rattle.std.specs.Prelude.{◌≡◌, ◌++◌, IfOk, OnOk};
 ghost use Rattle.lowered_tree.specs.Nodes.{own_site, sites_of, sites_among};
 ghost use Rattle.lowered_tree.specs.Spaces.{computes_at, spaces_in};
 
-use lowered_tree::around::{AddressSpace, is_element};
+use lowered_tree::around::AddressSpace;
 use lowered_tree::forms::{is_lowered_fold, is_lowered_map};
 use lowered_tree::lowered::{Mapped, Spaced};
 use lowered_tree::node::{Children, Node};
@@ -16,7 +16,7 @@ fn computes(node: Node<'_>) -> bool
     ensures { result ≡ computes_at (own_site node.entry) }
 {
     node.around.is_written
-        && (is_lowered_map(node.term) || is_lowered_fold(node.term) || is_element(node.ty()))
+        && (is_lowered_map(node.term) || is_lowered_fold(node.term) || node.ty().is_element())
 }
 
 // Adds the spaces of the children and of what is below them.

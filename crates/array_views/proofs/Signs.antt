@@ -1,11 +1,13 @@
 -- What a view says is what the printed form's says.
-use Rattle.std.proofs.Common.{◌≡◌, ◌+◌, Bool, true, false, List, [], ◌∷◌, refl, ap, ◌∙◌}
-use Rattle.std.specs.Prelude.{◌&&◌, if◌then◌else◌, map}
+use Rattle.std.proofs.Common.{◌≡◌, ℕ, zero, suc, ◌+◌, Bool, true, false, List, [], ◌∷◌, refl, sym, ap, ◌∙◌, ⊎_elim, arith, eq-eqb}
+use Rattle.std.proofs.lemmas.Bool.{cases_Bool, eqb-true}
+use Rattle.std.specs.Prelude.{◌&&◌, ◌==◌, if◌then◌else◌, map}
 use Rattle.lift_ir.specs.Types.{Shape, Scalar, PairOf, ArrayOf, component}
 use Rattle.lift_ir.specs.Layouts.{Layout, Split, Join, Transpose, Reverse, Slide, Pad}
 use Rattle.kernel_tree.specs.Formula.{Formula}
 use Rattle.kernel_tree.specs.Formula as formula
-use Rattle.scalar_ops.specs.declared.op.Op.TheVariants.{Add, Mul}
+use Rattle.scalar_ops.specs.declared.op.Op.{Op}
+use Rattle.scalar_ops.specs.declared.op.Op.TheVariants.{Add, Mul, Div}
 use Rattle.printed_form.specs.Views as printed
 use Rattle.printed_form.specs.Views.{Read, same_operator, same_formula, index_from, index_in, operand_indices, result_indices}
 use Rattle.index_expr.specs.declared.operation.Operation.{Operation}
@@ -13,6 +15,7 @@ use Rattle.index_expr.specs.declared.operation.Operation.TheVariants.{Sum, Diffe
 use Rattle.index_expr.specs.Expression.{Expression, Variable, Literal, Size, Binary}
 use Rattle.index_simplify.specs.Laws.{first_part}
 use Rattle.index_simplify.specs.Tests.{same_operation, same}
+use Rattle.length_spelling.specs.Turns.{turn_formula}
 use Rattle.length_spelling.specs.Formulas.{operator_of, index_formula}
 use Rattle.array_views.specs.Arrays.{array_with}
 use Rattle.array_views.specs.Layouts.{are_parts, cell_in_rows, to_operand, to_result}
@@ -46,10 +49,68 @@ operation_is _ _ = refl
 all_three : (a b c x y z : Bool) → a ≡ x → b ≡ y → c ≡ z → (a && b && c) ≡ (x && y && z)
 all_three a b c x y z p q r = ap (λ u. u && b && c) p ∙ ap (λ u. x && u && c) q ∙ ap (λ u. x && y && u) r
 
+-- ---- what spells a turn
+differ : (k j : ℕ) → (k ≡ j → ⊥) → (k == j) ≡ false
+differ k j h = ⊎_elim (λ t. absurd (h (eqb-true k j t))) (λ f. f) (cases_Bool (k == j))
+
+next_same : (k j : ℕ) → (suc (suc k) == suc (suc j)) ≡ (k == j)
+next_same k j = go (k == j) refl
+  where
+    go : (b : Bool) → (k == j) ≡ b → (suc (suc k) == suc (suc j)) ≡ b
+    go true e = eq-eqb (suc (suc k)) (suc (suc j)) (ap (λ x. suc (suc x)) (eqb-true k j e))
+    go false e = differ (suc (suc k)) (suc (suc j)) (λ h. let same : k ≡ j = omega arith in let t : (k == j) ≡ true = eq-eqb k j same in absurd (cc (t, e)))
+
+same_turns : (k j : ℕ) → (k == j) ≡ same_formula (turn_formula k) (turn_formula j)
+same_turns zero zero = refl
+same_turns zero (suc zero) = refl
+same_turns zero (suc (suc j)) = differ zero (suc (suc j)) (λ h. absurd (omega arith))
+same_turns (suc zero) zero = refl
+same_turns (suc zero) (suc zero) = refl
+same_turns (suc zero) (suc (suc j)) = differ (suc zero) (suc (suc j)) (λ h. absurd (omega arith))
+same_turns (suc (suc k)) zero = differ (suc (suc k)) zero (λ h. absurd (omega arith))
+same_turns (suc (suc k)) (suc zero) = differ (suc (suc k)) (suc zero) (λ h. absurd (omega arith))
+same_turns (suc (suc k)) (suc (suc j)) = next_same k j
+
+number_is_no_turn : (k n : ℕ) → (false ≡ same_formula (turn_formula k) (formula.Number n)) × (false ≡ same_formula (formula.Number n) (turn_formula k))
+number_is_no_turn zero n = (refl, refl)
+number_is_no_turn (suc zero) n = (refl, refl)
+number_is_no_turn (suc (suc k)) n = (refl, refl)
+
+size_is_no_turn : (k s : ℕ) → (false ≡ same_formula (turn_formula k) (formula.Size s)) × (false ≡ same_formula (formula.Size s) (turn_formula k))
+size_is_no_turn zero s = (refl, refl)
+size_is_no_turn (suc zero) s = (refl, refl)
+size_is_no_turn (suc (suc k)) s = (refl, refl)
+
+operation_is_no_turn : (k : ℕ) (o : Op) (f g : Formula) → (false ≡ same_formula (turn_formula k) (formula.Binary o f g)) × (false ≡ same_formula (formula.Binary o f g) (turn_formula k))
+operation_is_no_turn zero o f g = (refl, refl)
+operation_is_no_turn (suc zero) o f g = (refl, refl)
+operation_is_no_turn (suc (suc k)) o f g = (refl, refl)
+
+no_row : (k : ℕ) (m j : Formula) → false ≡ printed.are_parts (turn_formula k) m j
+no_row zero m j = refl
+no_row (suc zero) m j = refl
+no_row (suc (suc k)) m j = refl
+
+no_column : (e n m : Formula) (k : ℕ) → false ≡ printed.are_parts (formula.Binary Div e n) m (turn_formula k)
+no_column e n m zero = refl
+no_column e n m (suc zero) = refl
+no_column e n m (suc (suc k)) = refl
+
+turn_undivided : (k : ℕ) → turn_formula k ≡ printed.dividend (turn_formula k)
+turn_undivided zero = refl
+turn_undivided (suc zero) = refl
+turn_undivided (suc (suc k)) = refl
+
 same_is : (a b : Expression) → same a b ≡ same_formula (index_formula a) (index_formula b)
-same_is (Variable k l g) (Variable j m h) = refl
+same_is (Variable k l g) (Variable j m h) = same_turns k j
+same_is (Variable k l g) (Literal n) = (number_is_no_turn k n).0
+same_is (Variable k l g) (Size s) = (size_is_no_turn k s).0
+same_is (Variable k l g) (Binary o a b) = (operation_is_no_turn k (operator_of o) (index_formula a) (index_formula b)).0
+same_is (Literal n) (Variable k l g) = (number_is_no_turn k n).1
 same_is (Literal n) (Literal m) = refl
+same_is (Size s) (Variable k l g) = (size_is_no_turn k s).1
 same_is (Size k) (Size j) = refl
+same_is (Binary o a b) (Variable k l g) = (operation_is_no_turn k (operator_of o) (index_formula a) (index_formula b)).1
 same_is (Binary o a b) (Binary p c d) =
     all_three (same_operation o p) (same a c) (same b d) (same_operator (operator_of o) (operator_of p)) (same_formula (index_formula a) (index_formula c)) (same_formula (index_formula b) (index_formula d))
     (operation_is o p) (same_is a c) (same_is b d)
@@ -59,10 +120,12 @@ parts_are : (i m j : Expression) → are_parts i m j ≡ printed.are_parts (inde
 parts_are (Binary Quotient e n) m (Binary Remainder f k) =
     all_three (same e f) (same n m) (same k m) (same_formula (index_formula e) (index_formula f)) (same_formula (index_formula n) (index_formula m)) (same_formula (index_formula k) (index_formula m))
     (same_is e f) (same_is n m) (same_is k m)
+parts_are (Variable k l g) m j = no_row k (index_formula m) (index_formula j)
+parts_are (Binary Quotient e n) m (Variable k l g) = no_column (index_formula e) (index_formula n) (index_formula m) k
 parts_are _ _ _ = refl
 
 dividend_is : (e : Expression) → index_formula (first_part e) ≡ printed.dividend (index_formula e)
-dividend_is (Variable k l g) = refl
+dividend_is (Variable k l g) = turn_undivided k
 dividend_is (Literal n) = refl
 dividend_is (Size k) = refl
 dividend_is (Binary o a b) = refl

@@ -1,6 +1,7 @@
 -- In every run of a kernel for one work-item, or over the launch, barriers serve.
 use Rattle.std.proofs.Common.{◌≡◌, ℕ, ◌<◌, Bool, List, [], refl, sym, ap, ◌∙◌, subst, ⊎_elim, arith}
 use Rattle.std.specs.Prelude.{slice_index}
+use Rattle.lift_tree.specs.Launches.{Asks}
 use Rattle.lift_tree.specs.Tree.{Tree}
 use Rattle.lift_tree.specs.Typing.{Declared, IsAdmissible}
 use Rattle.lift_tree.specs.Annotations.{Annotation, type_in}
@@ -23,10 +24,10 @@ use Rattle.barrier_free.proofs.Accesses.{all_within}
 use Rattle.barrier_free.proofs.Copies as copies
 use Rattle.barrier_free.proofs.Waits.{never_waits}
 
-module _ (keep : PrintedProgramsKeep) (begins : PrintedProgramsStart) (d : Declared) (is_task : Bool) (w : World) (t : Tree) (a : Annotation) (l : Launch) (k : Kernel) (c : Cells)
-    (program : IsLowerableProgram d w.bases t a) (stands : StandsAt l (lowered_root d.names t a)) (ok : IsAdmissible d w) (launch : IsLaunchOf d is_task w.bases l) (buffers : AreBuffersOf d w t a c) (printed : Prints d w.bases t a l k) where
+module _ (keep : PrintedProgramsKeep) (begins : PrintedProgramsStart) (d : Declared) (asks : Asks) (w : World) (t : Tree) (a : Annotation) (l : Launch) (k : Kernel) (c : Cells)
+    (program : IsLowerableProgram d w.bases t a) (stands : StandsAt l (lowered_root d.names t a)) (ok : IsAdmissible d w) (launch : IsLaunchOf d asks w.bases l) (buffers : AreBuffersOf d w t a c) (printed : Prints d asks.local w.bases t a l k) where
   whole : IsWhole l
-  whole = (begins d is_task w t a l k c program ok launch buffers printed).whole
+  whole = (begins d asks w t a l k c program ok launch buffers printed).whole
 
   -- no local array has a cell
   none_long : (n : ℕ) → length_in k c (Local n) ≡ 0
@@ -58,9 +59,9 @@ module _ (keep : PrintedProgramsKeep) (begins : PrintedProgramsStart) (d : Decla
       };
       same_barriers = λ j. group_tells (device_of k l c) whole s es (group_of l j) j refl r;
       apart = λ x y among_x among_y n is is_y e writes.
-          absurd (no_local x n (all_within (device_of k l c) s es (keep d is_task w t a l k c program ok launch buffers printed s es start r).leaves.faultless.no_failure x among_x) is);
+          absurd (no_local x n (all_within (device_of k l c) s es (keep d asks w t a l k c program ok launch buffers printed s es start r).leaves.faultless.no_failure x among_x) is);
     }
 
 pub programs_serve : PrintedProgramsKeep → PrintedProgramsStart → PrintedProgramsServe
-programs_serve keep begins d is_task w t a l k c program stands ok launch buffers printed =
-    (λ x. 0, λ s es start r. serves keep begins d is_task w t a l k c program stands ok launch buffers printed s es start r)
+programs_serve keep begins d asks w t a l k c program stands ok launch buffers printed =
+    (λ x. 0, λ s es start r. serves keep begins d asks w t a l k c program stands ok launch buffers printed s es start r)

@@ -1,5 +1,6 @@
 -- Kernels printed for one work-item, or over the launch.
 use Rattle.std.specs.Prelude.{ℕ, Bool}
+use Rattle.lift_tree.specs.Launches.{Asks}
 use Rattle.lift_tree.specs.Tree.{Tree}
 use Rattle.lift_tree.specs.Typing.{Declared, IsAdmissible}
 use Rattle.lift_tree.specs.Annotations.{Annotation}
@@ -13,6 +14,6 @@ use Rattle.group_phases.specs.Outcome.{BarriersServeAll}
 -- at each admissible launch, on all inputs, barriers serve in every run: there are none, and no local arrays
 abbrev pub PrintedProgramsServe : Type 0
 PrintedProgramsServe =
-    (d : Declared) (is_task : Bool) (w : World) (t : Tree) (a : Annotation) (l : Launch) (k : Kernel) (c : Cells)
-    → IsLowerableProgram d w.bases t a → StandsAt l (lowered_root d.names t a) → IsAdmissible d w → IsLaunchOf d is_task w.bases l → AreBuffersOf d w t a c → Prints d w.bases t a l k
+    (d : Declared) (asks : Asks) (w : World) (t : Tree) (a : Annotation) (l : Launch) (k : Kernel) (c : Cells)
+    → IsLowerableProgram d w.bases t a → StandsAt l (lowered_root d.names t a) → IsAdmissible d w → IsLaunchOf d asks w.bases l → AreBuffersOf d w t a c → Prints d asks.local w.bases t a l k
     → (filler : Cell → ℕ) × BarriersServeAll k l c filler

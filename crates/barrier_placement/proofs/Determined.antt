@@ -26,8 +26,9 @@ needs_before touches f g space p q same need = record {
   conflict = need.conflict;
 }
 
-pub needs_closing : (touches : List Touch) (n : ℕ) (f g : ℕ → Fencing) (space : Space) (p q : ℕ) → ((r : ℕ) → r < n → f r ≡ g r) → NeedsClosing touches n f space p q → NeedsClosing touches n g space p q
-needs_closing touches n f g space p q same need = record {
+pub needs_closing : (touches : List Touch) (once : Bool) (n : ℕ) (f g : ℕ → Fencing) (space : Space) (p q : ℕ) → ((r : ℕ) → r < n → f r ≡ g r) → NeedsClosing touches once n f space p q → NeedsClosing touches once n g space p q
+needs_closing touches once n f g space p q same need = record {
+  again = need.again;
   first_within = need.first_within;
   second_within = need.second_within;
   after_last = λ r low high. ap stands (sym (same r high)) ∙ need.after_last r low high;
@@ -35,7 +36,7 @@ needs_closing touches n f g space p q same need = record {
   conflict = need.conflict;
 }
 
-module _ (touches : List Touch) (n : ℕ) (one other : ℕ → Fencing) (of_one : Needed touches n one) (of_other : Needed touches n other) where
+module _ (touches : List Touch) (once : Bool) (n : ℕ) (one other : ℕ → Fencing) (of_one : Needed touches once n one) (of_other : Needed touches once n other) where
   same_at : (q : ℕ) → q < n → ((r : ℕ) → r < q → one r ≡ other r) → one q ≡ other q
   same_at q lt same =
       same_fencing (one q) (other q)
@@ -65,7 +66,7 @@ module _ (touches : List Touch) (n : ℕ) (one other : ℕ → Fencing) (of_one 
       closing : one n ≡ other n
       closing =
           same_fencing (one n) (other n)
-          (λ s e. let z = (of_one.closing s).0 e in (of_other.closing s).1 (z.0, z.1, needs_closing touches n one other s z.0 z.1 below z.2))
-          (λ s e. let z = (of_other.closing s).0 e in (of_one.closing s).1 (z.0, z.1, needs_closing touches n other one s z.0 z.1 (λ r h. sym (below r h)) z.2))
+          (λ s e. let z = (of_one.closing s).0 e in (of_other.closing s).1 (z.0, z.1, needs_closing touches once n one other s z.0 z.1 below z.2))
+          (λ s e. let z = (of_other.closing s).0 e in (of_one.closing s).1 (z.0, z.1, needs_closing touches once n other one s z.0 z.1 (λ r h. sym (below r h)) z.2))
           (of_one.flagged n (omega arith))
           (of_other.flagged n (omega arith))

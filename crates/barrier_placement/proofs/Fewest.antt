@@ -20,7 +20,7 @@ counted : (places : ℕ → Bool) (x r : ℕ) → x < r → places r ≡ true �
 counted places x zero lt e = absurd (omega arith)
 counted places x (suc r) lt e = let k = count_grows places x r (omega arith) in let w : bit (places (suc r)) ≡ 1 = ap bit e in omega arith
 
-module _ (touches : List Touch) (n : ℕ) (fence : ℕ → Fencing) (places : ℕ → Bool) (need : Needed touches n fence) (apart : SeparatesTurn touches n places) where
+module _ (touches : List Touch) (once : Bool) (n : ℕ) (fence : ℕ → Fencing) (places : ℕ → Bool) (need : Needed touches once n fence) (apart : SeparatesTurn touches n places) where
   -- the last place up to this one with a barrier, and 0 where there is none
   abbrev last : ℕ → ℕ
   last zero = zero

@@ -1,6 +1,7 @@
 -- The barrier that conflicts between two stretches need.
-use Rattle.std.proofs.Common.{◌≡◌, ◌↔◌, ℕ, Bool, true, Option, Some, None, MatchOption, is_some, List, refl, sym, subst, inl, inr}
+use Rattle.std.proofs.Common.{◌≡◌, ◌↔◌, ◌≤◌, ℕ, Bool, true, false, Option, Some, None, MatchOption, is_some, List, refl, sym, subst, inl, inr}
 use Rattle.std.specs.Option.{option_or}
+use Rattle.std.specs.Prelude.{IfSome}
 use Rattle.std.proofs.lemmas.Bool.{true≢false}
 use Rattle.std.proofs.lemmas.Option.{same_Some, none-some}
 use Rattle.barrier_placement.specs.declared.touches.Touch.{Touch}
@@ -8,7 +9,7 @@ use Rattle.barrier_placement.specs.declared.conflicts.Stretch.{Stretch}
 use Rattle.barrier_placement.specs.declared.placing.Barrier.{Barrier}
 use Rattle.barrier_placement.specs.Conflicts.{Space, Local, Global}
 use Rattle.barrier_placement.specs.Fencing.{Fenced, orders}
-use Rattle.barrier_placement.specs.Code.{Across, Parts, Closes}
+use Rattle.barrier_placement.specs.Code.{Across, Parts, Closes, Finds, FindsLast}
 
 module _ (touches : List Touch) (earlier later : Stretch) where
   -- what is known of a search for a conflict
@@ -42,3 +43,12 @@ closes_as_found touches earlier later b parts = record { place = parts.place; fl
 
 pub closes_the_other_way : (touches : List Touch) (earlier later : Stretch) (b : Barrier) → Parts touches None earlier later b → Closes touches earlier later (record b { pair = (b.pair.1, b.pair.0) })
 closes_the_other_way touches earlier later b parts = record { place = parts.place; flags = parts.flags; pair = (parts.pair.0, inr parts.pair.1) }
+
+-- ---- a body of one turn at most, and one of more
+pub no_last : (touches : List Touch) (once : Bool) (earlier later : Stretch) → once ≡ true → FindsLast touches once earlier later None
+no_last touches once earlier later e = λ more. absurd (cc)
+
+pub last_found : (touches : List Touch) (once : Bool) (earlier later : Stretch) (o : Option Barrier) → once ≡ false → Finds touches earlier later (Closes touches earlier later) o → IfSome o (λ b. b.pair.1 ≤ b.pair.0)
+    → FindsLast touches once earlier later o
+last_found touches once earlier later None e found later_first = λ more. found
+last_found touches once earlier later (Some b) e found later_first = (e, found, later_first)

@@ -1,5 +1,5 @@
 -- Where all arrays lie in one space, the needed barriers keep conflicting phases apart.
-use Rattle.std.proofs.Common.{◌≡◌, ℕ, suc, ◌<◌, ◌≤◌, ◌⊎◌, true, List, All, sym, ◌∙◌, subst, ⊎_elim, inl, inr, arith}
+use Rattle.std.proofs.Common.{◌≡◌, ℕ, suc, ◌<◌, ◌≤◌, ◌⊎◌, Bool, true, false, List, All, sym, ◌∙◌, subst, ⊎_elim, inl, inr, arith}
 use Rattle.std.proofs.lemmas.Bool.{cases_lt}
 use Rattle.std.proofs.lemmas.List.Elements.{All-contains}
 use Rattle.barrier_placement.specs.declared.touches.Touch.{Touch}
@@ -9,7 +9,7 @@ use Rattle.barrier_placement.specs.Needed.{Needed}
 use Rattle.barrier_placement.specs.Separates.{Separates}
 use Rattle.barrier_placement.proofs.Standing.{search_among}
 
-module _ (touches : List Touch) (space : Space) (n : ℕ) (fence : ℕ → Fencing) (alone : All (λ x. space_of x.local ≡ space) touches) (need : Needed touches n fence) where
+module _ (touches : List Touch) (space : Space) (once : Bool) (n : ℕ) (fence : ℕ → Fencing) (alone : All (λ x. space_of x.local ≡ space) touches) (need : Needed touches once n fence) where
   only : (s : Space) (p q : ℕ) → Conflict touches s p q → s ≡ space
   only s p q c = sym c.lies_in ∙ All-contains (λ x. space_of x.local ≡ space) touches c.first alone c.first_used
 
@@ -23,7 +23,7 @@ module _ (touches : List Touch) (space : Space) (n : ℕ) (fence : ℕ → Fenci
       subst (λ s. orders s (fence q) ≡ true) (only z.0 w.0 w.1 w.2.conflict) z.1)
       (cases_lt q n)
 
-  pub separates : Separates touches space n fence
+  pub separates : Separates touches space once n fence
   separates = record { within = within; around = around }
     where
       within : (p q : ℕ) → p < q → q < n → Conflict touches space p q → (r : ℕ) × (p < r) × (r ≤ q) × (orders space (fence r) ≡ true)
@@ -33,12 +33,12 @@ module _ (touches : List Touch) (space : Space) (n : ℕ) (fence : ℕ → Fenci
           (λ none. (q, lt, omega arith, (need.before space q below).1 (p, record { earlier = lt; since_barrier = λ r low high. none r (omega arith) high; conflict = c })))
           (search_among (λ r. stands (fence r)) (suc p) q)
 
-      around : (p q : ℕ) → p < n → q < n → Conflict touches space p q → ((r : ℕ) × (p < r) × (r ≤ n) × (orders space (fence r) ≡ true)) ⊎ ((r : ℕ) × (r ≤ q) × (orders space (fence r) ≡ true))
-      around p q pn qn c =
+      around : once ≡ false → (p q : ℕ) → p < n → q < n → Conflict touches space p q → ((r : ℕ) × (p < r) × (r ≤ n) × (orders space (fence r) ≡ true)) ⊎ ((r : ℕ) × (r ≤ q) × (orders space (fence r) ≡ true))
+      around more p q pn qn c =
           ⊎_elim
           (λ z. let a = z.1 in let b = z.2 in inl (z.0, omega arith, omega arith, standing_orders z.0 (omega arith) z.3))
           (λ late. ⊎_elim
           (λ z. let a = z.1 in let b = z.2 in inr (z.0, omega arith, standing_orders z.0 (omega arith) z.3))
-          (λ early. inl (n, pn, omega arith, (need.closing space).1 (p, q, record { first_within = pn; second_within = qn; after_last = λ r low high. late r (omega arith) high; before_first = λ r low. early r (omega arith) (omega arith); conflict = c })))
+          (λ early. inl (n, pn, omega arith, (need.closing space).1 (p, q, record { again = more; first_within = pn; second_within = qn; after_last = λ r low high. late r (omega arith) high; before_first = λ r low. early r (omega arith) (omega arith); conflict = c })))
           (search_among (λ r. stands (fence r)) 0 (suc q)))
           (search_among (λ r. stands (fence r)) (suc p) n)

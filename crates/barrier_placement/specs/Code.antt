@@ -1,5 +1,5 @@
 -- What the code's steps give.
-use Rattle.std.specs.Prelude.{◌≡◌, ◌<◌, ◌≤◌, ◌⊎◌, ◌↔◌, ℕ, true, List, Option, None, MatchOption}
+use Rattle.std.specs.Prelude.{◌≡◌, ◌<◌, ◌≤◌, ◌⊎◌, ◌↔◌, ℕ, Bool, true, false, List, Option, None, MatchOption}
 use Rattle.barrier_placement.specs.declared.touches.Touch.{Touch}
 use Rattle.barrier_placement.specs.declared.conflicts.Stretch.{Stretch}
 use Rattle.barrier_placement.specs.declared.placing.Barrier.{Barrier}
@@ -33,3 +33,9 @@ pub record Closes (touches : List Touch) (earlier later : Stretch) (b : Barrier)
 -- no phases of the stretches conflict, or there is a barrier of this kind
 abbrev pub Finds : List Touch → (earlier later : Stretch) → (Barrier → Type 0) → Option Barrier → Type 0
 Finds touches earlier later IsBarrier found = MatchOption found ((space : Space) (p q : ℕ) → Across touches space earlier later p q → ⊥) IsBarrier
+
+-- the body has one turn at most, or no phases of the stretches conflict; or it has more, and there is a barrier that closes it
+abbrev pub FindsLast : List Touch → (once : Bool) → (earlier later : Stretch) → Option Barrier → Type 0
+FindsLast touches once earlier later found =
+    MatchOption found (once ≡ false → (space : Space) (p q : ℕ) → Across touches space earlier later p q → ⊥)
+    (λ b. (once ≡ false) × Closes touches earlier later b × (b.pair.1 ≤ b.pair.0))

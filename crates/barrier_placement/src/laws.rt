@@ -2,7 +2,7 @@
 
 ghost use Rattle.barrier_placement.specs.Laws.{NeededBarriersSeparate, NeededBarriersAreFewest, NeededBarriersAreDetermined};
 
-/// Where all arrays lie in one space, the needed barriers keep conflicting phases apart, in a turn and from one turn to the next.
+/// Where all arrays lie in one space, the needed barriers keep conflicting phases apart, in a turn and, where there are more, from one turn to the next.
 pub fn needed_barriers_separate()
     ensures { NeededBarriersSeparate }
 {}

@@ -3,7 +3,7 @@
 ghost use Rattle.std.specs.Prelude.{◌+◌, ◌<◌, ◌≤◌, ◌^◌, IfSome, IfOk, All};
 ghost use Rattle.barrier_placement.specs.Fencing.{fence, InOrder};
 ghost use Rattle.barrier_placement.specs.Needed.{Needed, NeededBy};
-ghost use Rattle.barrier_placement.specs.Code.{stretch, Parts, Closes, Finds};
+ghost use Rattle.barrier_placement.specs.Code.{stretch, Parts, Closes, Finds, FindsLast};
 
 use crate::conflicts::{Stretch, conflict};
 use crate::touches::Touch;
@@ -86,17 +86,40 @@ fn closing_barrier(touches: &[Touch], phases: u32, first: u32, last: u32) -> Opt
     }
 }
 
-/// The needed barriers of a body with so many phases, which has these uses of arrays.
+// The barrier that closes the body, which a body of one turn at most doesn't need.
+#[tactic(auto, using(crate::proofs::Parts::no_last, crate::proofs::Parts::last_found))]
+fn last_barrier(
+    touches: &[Touch],
+    phases: u32,
+    once: bool,
+    first: u32,
+    last: u32,
+) -> Option<Barrier>
+    ensures { FindsLast touches.now once (stretch last phases) (stretch 0 first) result }
+{
+    if once {
+        None
+    } else {
+        closing_barrier(touches, phases, first, last)
+    }
+}
+
+/// The needed barriers of a body with so many phases, which has these uses of arrays. `once` says that an item goes through it once at most; else it takes any number of turns.
 ///
-/// Going forward, a barrier stands just before a phase that conflicts with a phase since the last barrier. One more closes the body where a phase after the last barrier conflicts with one before the first; where there is no barrier, where any two phases conflict, or one with itself.
-pub fn place(alloc: Global, touches: &[Touch], phases: u32) -> Result<Barriers, AllocError>
+/// Going forward, a barrier stands just before a phase that conflicts with a phase since the last barrier. One more closes the body, unless it has one turn at most, where a phase after the last barrier conflicts with one before the first; where there is no barrier, where any two phases conflict, or one with itself.
+pub fn place(
+    alloc: Global,
+    touches: &[Touch],
+    phases: u32,
+    once: bool,
+) -> Result<Barriers, AllocError>
     requires some { 1 ≤ phases }
     requires within { All (λ touch. touch.phase < phases) touches.now }
     ensures needed { IfOk result
-        (λ barriers. Needed touches.now phases (fence phases barriers.items)) }
+        (λ barriers. Needed touches.now once phases (fence phases barriers.items)) }
     ensures in_order { IfOk result (λ barriers. InOrder phases barriers.items) }
     ensures pairs { IfOk result (λ barriers.
-        All (λ b. NeededBy touches.now phases (fence phases barriers.items) b.before b.pair)
+        All (λ b. NeededBy touches.now once phases (fence phases barriers.items) b.before b.pair)
         barriers.items) }
 {
     let mut barriers = Vec::new(alloc);
@@ -109,7 +132,7 @@ pub fn place(alloc: Global, touches: &[Touch], phases: u32) -> Result<Barriers, 
             last = phase;
         }
     }
-    if let Some(barrier) = closing_barrier(touches, phases, first, last) {
+    if let Some(barrier) = last_barrier(touches, phases, once, first, last) {
         barriers.push(barrier)?;
     }
     Ok(barriers)

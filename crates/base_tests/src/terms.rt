@@ -450,6 +450,7 @@ fn copies_each_form(rt: HostRuntime) -> Result<(), Fail> {
         UnaryForm::Pad(0, 2),
         UnaryForm::ToLocal,
         UnaryForm::ToPrivate,
+        UnaryForm::Then,
     ] {
         assert!(rt; is_copied(rt.alloc(), &form)?);
     }

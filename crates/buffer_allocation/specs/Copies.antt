@@ -2,7 +2,7 @@
 use Rattle.std.specs.Prelude.{ℕ, ◌*◌, min, Bool, true, false, List, [], ◌++◌, replicate, if◌then◌else◌}
 use Rattle.std.specs.List.{sum}
 use Rattle.lift_tree.specs.declared.term.UnaryForm.{UnaryForm}
-use Rattle.lift_tree.specs.declared.term.UnaryForm.TheVariants.{Div, Rem, First, Second, Layout, Slide, Pad, ToLocal, ToPrivate}
+use Rattle.lift_tree.specs.declared.term.UnaryForm.TheVariants.{Div, Rem, First, Second, Layout, Slide, Pad, ToLocal, ToPrivate, Then}
 use Rattle.lift_tree.specs.Tree.{Tree, Unary, Binary, Select, Let, Map, Fold}
 use Rattle.lift_tree.specs.Types.{PlainTy}
 use Rattle.lift_tree.specs.Annotations.{Annotation, One, Two, Three}
@@ -30,6 +30,7 @@ is_kept Local ToLocal = true
 is_kept Private ToLocal = false
 is_kept Local ToPrivate = false
 is_kept Private ToPrivate = true
+is_kept m Then = false
 
 -- what a form of this type keeps in that memory
 abbrev pub kept : Memory → UnaryForm → PlainTy → List ℕ

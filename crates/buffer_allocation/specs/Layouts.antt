@@ -1,13 +1,12 @@
 -- How many layouts stand one on another over a buffer.
 use Rattle.std.specs.Prelude.{ℕ, ◌+◌, min, max, Bool, true, false, ◌&&◌, ◌||◌, List, [], ◌∷◌, get_or, if◌then◌else◌}
 use Rattle.lift_tree.specs.declared.term.UnaryForm.{UnaryForm}
-use Rattle.lift_tree.specs.declared.term.UnaryForm.TheVariants.{Div, Rem, First, Second, Layout, Slide, Pad, ToLocal, ToPrivate}
+use Rattle.lift_tree.specs.declared.term.UnaryForm.TheVariants.{Div, Rem, First, Second, Layout, Slide, Pad, ToLocal, ToPrivate, Then}
 use Rattle.lift_tree.specs.declared.term.BinaryForm.{BinaryForm}
 use Rattle.lift_tree.specs.declared.term.BinaryForm.TheVariants.{Operator, Pair, Zip, Reduce}
 use Rattle.lift_tree.specs.Tree.{Tree, Variable, Unary, Binary, Select, Let, Map, Fold}
-use Rattle.lift_tree.specs.Types.{PlainTy}
+use Rattle.lift_tree.specs.Types.{PlainTy, is_element}
 use Rattle.lift_tree.specs.Annotations.{Annotation, One, Two, Three}
-use Rattle.lowered_tree.specs.Elements.{is_element}
 use Rattle.buffer_allocation.specs.declared.layouts.Position.{Position}
 use Rattle.buffer_allocation.specs.declared.layouts.Position.TheVariants.{Written, Argument, Element}
 
@@ -26,6 +25,7 @@ on_form (Slide s t) h = raised h
 on_form (Pad l r) h = raised h
 on_form ToLocal h = 0
 on_form ToPrivate h = 0
+on_form Then h = 0
 
 abbrev pub on_both : BinaryForm → ℕ → ℕ → ℕ
 on_both (Operator o) h k = 0
@@ -52,6 +52,7 @@ is_written_through (Slide s t) = false
 is_written_through (Pad l r) = false
 is_written_through ToLocal = false
 is_written_through ToPrivate = false
+is_written_through Then = false
 
 abbrev pub is_copy : UnaryForm → Bool
 is_copy (Div n) = false
@@ -63,6 +64,7 @@ is_copy (Slide s t) = false
 is_copy (Pad l r) = false
 is_copy ToLocal = true
 is_copy ToPrivate = true
+is_copy Then = false
 
 abbrev pub is_projection : UnaryForm → Bool
 is_projection (Div n) = false
@@ -74,6 +76,7 @@ is_projection (Slide s t) = false
 is_projection (Pad l r) = false
 is_projection ToLocal = false
 is_projection ToPrivate = false
+is_projection Then = false
 
 -- how many layouts stand above what is computed here
 abbrev pub above : Position → ℕ

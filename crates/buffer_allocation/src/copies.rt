@@ -73,7 +73,8 @@ fn is_kept(memory: Memory, form: &UnaryForm) -> bool
         | UnaryForm::Second
         | UnaryForm::Layout(_)
         | UnaryForm::Slide(_, _)
-        | UnaryForm::Pad(_, _) => false,
+        | UnaryForm::Pad(_, _)
+        | UnaryForm::Then => false,
     }
 }
 

@@ -14,7 +14,6 @@ ghost use Rattle.buffer_allocation.specs.declared.layouts.Position.TheVariants.{
 use lift_tree::term::{BinaryForm, Term, UnaryForm};
 use lift_tree::ty::Ty;
 use lift_tree::typed::NodeTypes;
-use lowered_tree::around::is_element;
 use std::alloc::{AllocError, Global};
 
 /// Where a term stands.
@@ -52,7 +51,11 @@ fn on_form(form: &UnaryForm, height: u64) -> u64
         | UnaryForm::Layout(_)
         | UnaryForm::Slide(_, _)
         | UnaryForm::Pad(_, _) => raised(height),
-        UnaryForm::Div(_) | UnaryForm::Rem(_) | UnaryForm::ToLocal | UnaryForm::ToPrivate => 0,
+        UnaryForm::Div(_)
+        | UnaryForm::Rem(_)
+        | UnaryForm::ToLocal
+        | UnaryForm::ToPrivate
+        | UnaryForm::Then => 0,
     }
 }
 
@@ -76,7 +79,8 @@ fn is_copy(form: &UnaryForm) -> bool
         | UnaryForm::Second
         | UnaryForm::Layout(_)
         | UnaryForm::Slide(_, _)
-        | UnaryForm::Pad(_, _) => false,
+        | UnaryForm::Pad(_, _)
+        | UnaryForm::Then => false,
     }
 }
 
@@ -92,7 +96,8 @@ fn is_written_through(form: &UnaryForm) -> bool
         | UnaryForm::Slide(_, _)
         | UnaryForm::Pad(_, _)
         | UnaryForm::ToLocal
-        | UnaryForm::ToPrivate => false,
+        | UnaryForm::ToPrivate
+        | UnaryForm::Then => false,
     }
 }
 
@@ -143,7 +148,8 @@ fn is_projection(form: &UnaryForm) -> bool
         | UnaryForm::Slide(_, _)
         | UnaryForm::Pad(_, _)
         | UnaryForm::ToLocal
-        | UnaryForm::ToPrivate => false,
+        | UnaryForm::ToPrivate
+        | UnaryForm::Then => false,
     }
 }
 
@@ -151,7 +157,7 @@ fn is_projection(form: &UnaryForm) -> bool
 fn below(position: Position, form: &UnaryForm, ty: &Ty) -> Position
     ensures { result ≡ spec.below position form.now (ty_of ty.now) }
 {
-    if is_in_element(position) || is_element(ty) {
+    if is_in_element(position) || ty.is_element() {
         return Position::Element;
     }
     match position {
@@ -169,7 +175,7 @@ fn below(position: Position, form: &UnaryForm, ty: &Ty) -> Position
 fn below_both(position: Position, ty: &Ty) -> Position
     ensures { result ≡ spec.below_both position (ty_of ty.now) }
 {
-    if is_in_element(position) || is_element(ty) {
+    if is_in_element(position) || ty.is_element() {
         Position::Element
     } else {
         Position::Argument
@@ -179,7 +185,7 @@ fn below_both(position: Position, ty: &Ty) -> Position
 fn let_below(position: Position, ty: &Ty) -> Position
     ensures { result ≡ spec.let_below position (ty_of ty.now) }
 {
-    if is_element(ty) {
+    if ty.is_element() {
         Position::Element
     } else {
         position
@@ -205,7 +211,7 @@ fn read_height(position: Position, form: &UnaryForm, height: u64) -> u64
 fn at_form(position: Position, form: &UnaryForm, ty: &Ty, height: u64) -> u64
     ensures { result ≡ spec.at_form position form.now (ty_of ty.now) height }
 {
-    if is_copy(form) || (is_projection(form) && (is_in_element(position) || is_element(ty))) {
+    if is_copy(form) || (is_projection(form) && (is_in_element(position) || ty.is_element())) {
         above(position)
     } else {
         read_height(position, form, height)
@@ -236,7 +242,7 @@ fn form_stack(
         below(position, form, ty)
     };
     let inner = stack_of(operand, types, inner_position, binders)?;
-    let height = if is_element(ty) {
+    let height = if ty.is_element() {
         0
     } else {
         on_form(form, inner.height)
@@ -337,7 +343,7 @@ fn stack_of(
             let value = stack_of(value, n, Position::Argument, binders)?;
             let below = let_below(position, ty);
             let body = stack_under(value.height, body, m, below, binders)?;
-            let here = if is_element(ty) { here } else { 0 };
+            let here = if ty.is_element() { here } else { 0 };
             Ok(Stack {
                 height: body.height,
                 most: greater(here, greater(value.most, body.most)),

@@ -1,10 +1,10 @@
 -- What is compiled of the last term of a program and a script.
-use Rattle.std.proofs.Common.{◌≡◌, ◌∙◌, List, ℕ, [], ◌∷◌, ◌++◌, Ok, Bool, ap, length, map, subst, sym, inl, inr}
+use Rattle.std.proofs.Common.{◌≡◌, ◌∙◌, List, ℕ, [], ◌∷◌, ◌++◌, Ok, Err, Option, Some, None, Bool, ap, length, map, subst, sym, inl, inr}
 use Rattle.kernel_tree.specs.Code.{Kernel}
 use Rattle.kernel_tree.specs.KernelText.{IsKernelText, lift}
 use Rattle.kernel_tree.specs.Launch.{Launch, Cells}
 use Rattle.lift_tree.specs.Annotations.{annotation_of, type_in}
-use Rattle.lift_tree.specs.Launches.{lists_of}
+use Rattle.lift_tree.specs.Launches.{Asks, lists_of}
 use Rattle.lift_tree.specs.Meaning.{World, meaning}
 use Rattle.lift_tree.specs.Programs.{PlainProgram, program_of}
 use Rattle.lift_tree.specs.Tree.{tree_of}
@@ -12,10 +12,12 @@ use Rattle.lift_tree.specs.Types.{PlainTy}
 use Rattle.lift_tree.specs.Typing.{IsAdmissible, declared_by}
 use Rattle.lift_tree.specs.Values.{Value}
 use Rattle.lift_tree.specs.declared.typed.Typed.{Typed}
-use Rattle.lowered_tree.specs.Kinds.{is_task}
+use Rattle.lowered_tree.specs.Kinds.{IsLocalSize, asks_of, is_task}
 use Rattle.printed_form.specs.Headline.{EveryRunKeeps}
 use Rattle.printed_form.specs.Programs.{AreBuffersOf, IsLaunchOf, cell_owner}
 use Rattle.rewriting.specs.Keeps.{Keeps}
+use Rattle.strategy_script.specs.LocalSize.{local_fixed}
+use Rattle.strategy_script.specs.Laws.{FixedSizesAreSmall}
 use Rattle.strategy_script.specs.Steps.{State, state_of}
 use Rattle.fault_lines.specs.declared.refusal.Refusal.{Refusal}
 use Rattle.program_source.specs.Program.{OnProgram, StopsFor, source_value}
@@ -24,79 +26,81 @@ use Rattle.program_source.specs.Terms.{TermsOf}
 use Rattle.kernel_emit.specs.Kernels.{IsKernelFor}
 use Rattle.compilation.specs.Compiled.{IsCompiled, ServesAtAll}
 use Rattle.compilation.specs.Legal.{CompilesTerm, IsAccepted, LegalOf}
-use Rattle.compilation.specs.Meets.{Admits, CanBeLaidOut, IsTextFor, LeavesSource, MeetsSource, Starts}
+use Rattle.compilation.specs.Meets.{Admits, asks_with, CanBeLaidOut, IsTextFor, LeavesSource, MeetsSource, Starts}
 
 -- ---- what is printed for a term that keeps the source's value
 
-module _ (p : PlainProgram) (s : State) (k : Kernel) (for : IsKernelFor (declared_by p) s.tree s.types k) (kept : Keeps (declared_by p) [] p.body s.tree) where
+module _ (p : PlainProgram) (local : Option ℕ) (s : State) (k : Kernel) (for : IsKernelFor (declared_by p) local s.tree s.types k) (kept : Keeps (declared_by p) [] p.body s.tree) where
   same_value : (w : World) → IsAdmissible (declared_by p) w → meaning w [] s.tree ≡ source_value p w
   same_value w ok = kept.value w [] ok (λ n a e. absurd (cc (e)))
 
-  module _ (w : World) (l : Launch) (c : Cells) (a : Admits p (type_in s.types) (is_task s.tree) w l c) where
-    launch_of : IsLaunchOf (declared_by p) (is_task s.tree) w.bases l
+  module _ (w : World) (l : Launch) (c : Cells) (a : Admits p (type_in s.types) (asks_of local s.tree) w l c) where
+    launch_of : IsLaunchOf (declared_by p) (asks_of local s.tree) w.bases l
     launch_of = record { flat = a.flat; admissible = a.launch; sizes = a.sizes ∙ a.world.sizes }
 
     cells_of : AreBuffersOf (declared_by p) w s.tree s.types c
     cells_of = record { inputs = a.inputs; outputs = a.outputs ∙ ap (λ (v : Value). map length (lists_of (type_in s.types) v)) (sym (same_value w a.world)) }
 
-  pub starts : Starts p (type_in s.types) (is_task s.tree) k
+  pub starts : Starts p (type_in s.types) (asks_of local s.tree) k
   starts w l c a = for.starts w l c a.world (launch_of w l c a) (cells_of w l c a)
 
-  pub meets : MeetsSource p (type_in s.types) s k
+  pub meets : MeetsSource p (type_in s.types) local s k
   meets w l c a =
       subst (λ (v : Value). EveryRunKeeps k l c (cell_owner (declared_by p).names w.bases l s.tree s.types) (lists_of (type_in s.types) v)) (same_value w a.world)
       (for.keeps w l c a.world (launch_of w l c a) (cells_of w l c a))
 
-  pub serve : ServesAtAll p (type_in s.types) s k
+  pub serve : ServesAtAll p (type_in s.types) local s k
   serve w l c a = for.serve w l c a.world (launch_of w l c a) (cells_of w l c a)
 
 -- a kernel that meets its source leaves its value
-pub leaves : (p : PlainProgram) (output : PlainTy) (s : State) (k : Kernel) → MeetsSource p output s k → LeavesSource p output (is_task s.tree) k
-leaves p output s k meets w l c a start es begins is = (meets w l c a start es begins is).leaves
+pub leaves : (p : PlainProgram) (output : PlainTy) (local : Option ℕ) (s : State) (k : Kernel) → MeetsSource p output local s k → LeavesSource p output (asks_of local s.tree) k
+leaves p output local s k meets w l c a start es begins is = (meets w l c a start es begins is).leaves
 
 -- ---- what is compiled of the last term
 
-pub compiled_found : (program script : List ℕ) (t : Typed) (output : PlainTy) (task : Bool) (text : List ℕ) (k : Kernel) → output ≡ type_in (annotation_of t.types)
-    → is_task (tree_of t.term) ≡ task → IsLastTerm program script t → CompilesTerm (state_of t) (Ok (state_of t)) → IsAccepted (program_of t.program) (tree_of t.term) (annotation_of t.types)
-    → IsKernelFor (declared_by (program_of t.program)) (tree_of t.term) (annotation_of t.types) k → IsKernelText lift text k → IsCompiled program script (program_of t.program) output task text
-compiled_found program script t output task text k same alone last compiles accepted for written =
+pub compiled_found : (program script : List ℕ) (t : Typed) (output : PlainTy) (task : Bool) (local : Option ℕ) (text : List ℕ) (k : Kernel) → output ≡ type_in (annotation_of t.types)
+    → is_task (tree_of t.term) ≡ task → IsLastTerm program script t → local ≡ local_fixed script → CompilesTerm local (state_of t) (Ok (state_of t)) → IsAccepted (program_of t.program) (tree_of t.term) (annotation_of t.types)
+    → IsKernelFor (declared_by (program_of t.program)) local (tree_of t.term) (annotation_of t.types) k → IsKernelText lift text k → IsCompiled program script (program_of t.program) output (asks_with task local) text
+compiled_found program script t output task local text k same alone last fixed compiles accepted for written =
     let p = program_of t.program in
-    subst (λ (a : PlainTy). IsCompiled program script p a task text) (sym same)
+    let own : IsKernelFor (declared_by p) (local_fixed script) (tree_of t.term) (annotation_of t.types) k =
+    subst (λ (o : Option ℕ). IsKernelFor (declared_by p) o (tree_of t.term) (annotation_of t.types) k) fixed for in
+    subst (λ (a : PlainTy). IsCompiled program script p a (asks_with task local) text) (sym same)
     (record {
       read = last.read;
       typed = last.output;
       last = state_of t;
-      legal = (last.terms, last.made, (state_of t, last.is_last, compiles));
+      legal = (last.terms, last.made, (state_of t, last.is_last, subst (λ (o : Option ℕ). CompilesTerm o (state_of t) (Ok (state_of t))) fixed compiles));
       accepted = accepted;
-      alone = alone;
+      asked = (λ i. asks_with (alone i) (sym fixed i));
       keeps = last.term.keeps;
       kernel = k;
       written = written;
-      prints = for.prints;
-      parameters = for.parameters;
-      memory = for.memory;
-      starts = starts p (state_of t) k for last.term.keeps;
-      meets = meets p (state_of t) k for last.term.keeps;
-      serve = serve p (state_of t) k for last.term.keeps;
-      tidy = for.tidy;
+      prints = own.prints;
+      parameters = own.parameters;
+      memory = own.memory;
+      starts = starts p (local_fixed script) (state_of t) k own last.term.keeps;
+      meets = meets p (local_fixed script) (state_of t) k own last.term.keeps;
+      serve = serve p (local_fixed script) (state_of t) k own last.term.keeps;
+      tidy = own.tidy;
     })
 
 -- what a type keeps of it
-pub text_for : (program script : List ℕ) (t : Typed) (output : PlainTy) (task : Bool) (text : List ℕ) (k : Kernel) → output ≡ type_in (annotation_of t.types)
+pub text_for : (program script : List ℕ) (t : Typed) (output : PlainTy) (task : Bool) (local : Option ℕ) (text : List ℕ) (k : Kernel) → output ≡ type_in (annotation_of t.types)
     → is_task (tree_of t.term) ≡ task → IsLastTerm program script t → CanBeLaidOut (program_of t.program) (type_in (annotation_of t.types))
-    → IsKernelFor (declared_by (program_of t.program)) (tree_of t.term) (annotation_of t.types) k → IsKernelText lift text k
-    → IsTextFor (program_of t.program) output task text
-text_for program script t output task text k same told last laid_out for written =
+    → IsKernelFor (declared_by (program_of t.program)) local (tree_of t.term) (annotation_of t.types) k → IsKernelText lift text k
+    → IsTextFor (program_of t.program) output (asks_with task local) text
+text_for program script t output task local text k same told last laid_out for written =
     let p = program_of t.program in
-    subst (λ (b : Bool). IsTextFor p output b text) told
-    (subst (λ (a : PlainTy). IsTextFor p a (is_task (tree_of t.term)) text) (sym same)
+    subst (λ (b : Bool). IsTextFor p output (asks_with b local) text) told
+    (subst (λ (a : PlainTy). IsTextFor p a (asks_of local (tree_of t.term)) text) (sym same)
     (record {
       typed = last.output;
       laid_out = laid_out;
       kernel = k;
       written = written;
-      starts = starts p (state_of t) k for last.term.keeps;
-      leaves = leaves p (type_in (annotation_of t.types)) (state_of t) k (meets p (state_of t) k for last.term.keeps);
+      starts = starts p local (state_of t) k for last.term.keeps;
+      leaves = leaves p (type_in (annotation_of t.types)) local (state_of t) k (meets p local (state_of t) k for last.term.keeps);
     }))
 
 -- what stops the terms stops what is compiled of them
@@ -105,8 +109,14 @@ terms_first text script why (inl memory) = inl memory
 terms_first text script why (inr (inl h)) = inr (inl h)
 terms_first text script why (inr (inr (p, read, h))) = inr (inr (p, read, inl h))
 
-pub last_stops : (program script : List ℕ) (t : Typed) (why : Refusal) → IsLastTerm program script t
-    → StopsFor (CompilesTerm (state_of t)) why → StopsFor (OnProgram program (λ p. LegalOf p script)) why
-last_stops program script t why last (inl memory) = inl memory
-last_stops program script t why last (inr stops) =
-    inr (inr (program_of t.program, last.read, inr (last.terms, last.made, inr (state_of t, last.is_last, stops))))
+pub last_stops : (program script : List ℕ) (t : Typed) (why : Refusal) → IsLastTerm program script t → (local : Option ℕ) → local ≡ local_fixed script
+    → StopsFor (CompilesTerm local (state_of t)) why → StopsFor (OnProgram program (λ p. LegalOf p script)) why
+last_stops program script t why last local fixed (inl memory) = inl memory
+last_stops program script t why last local fixed (inr stops) =
+    let there = subst (λ (o : Option ℕ). CompilesTerm o (state_of t) (Err why)) fixed stops in
+    inr (inr (program_of t.program, last.read, inr (last.terms, last.made, inr (state_of t, last.is_last, there))))
+
+-- a size that a script fixes is one
+pub size_is : FixedSizesAreSmall → (script : List ℕ) (local : Option ℕ) → local ≡ local_fixed script → IsLocalSize local
+size_is law script None fixed = tt
+size_is law script (Some k) fixed = law script k (sym fixed)

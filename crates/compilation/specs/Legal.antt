@@ -1,14 +1,16 @@
 -- Which last terms are compiled.
-use Rattle.std.specs.Prelude.{◌≡◌, ◌≤◌, ℕ, List, Some, None, Result, Ok, Err}
+use Rattle.std.specs.Prelude.{◌≡◌, ◌≤◌, ℕ, List, Option, Some, None, Result, Ok, Err}
 use Rattle.lift_tree.specs.Annotations.{Annotation, annotation_of}
 use Rattle.lift_tree.specs.Programs.{PlainProgram, program_of}
+use Rattle.lift_tree.specs.Typing.{declared_by}
 use Rattle.lift_tree.specs.Tree.{Tree, height, tree_of}
 use Rattle.lift_tree.specs.declared.typed.Typed.{Typed}
 use Rattle.lowered_tree.specs.Copies.{CopiesArrays}
 use Rattle.lowered_tree.specs.Whole.{IsTypedWithin}
 use Rattle.nest_premises.specs.Legal.{IsLegalTerm}
+use Rattle.strategy_script.specs.LocalSize.{local_fixed}
 use Rattle.strategy_script.specs.Steps.{State}
-use Rattle.lowered_tree.specs.Nest.{IsLegalNest, nest_fault}
+use Rattle.lowered_tree.specs.Nest.{IsLegalWith, nest_fault}
 use Rattle.thread_mapping.specs.declared.judging.NestNo.{NestNo}
 use Rattle.thread_mapping.specs.declared.judging.NestNo.TheVariants as nests
 use Rattle.buffer_allocation.specs.Limits.{passed_limit}
@@ -25,16 +27,16 @@ IsTypedLast t = IsTypedWithin (program_of t.program) (tree_of t.term) (annotatio
 
 -- a legal term within the limits, which copies nothing but arrays
 pub record IsAccepted (p : PlainProgram) (t : Tree) (n : Annotation) : Type 0 where
-  pub legal : IsLegalTerm p t n
+  pub legal : IsLegalTerm (declared_by p) t n
   pub copies : CopiesArrays t n
   pub within : passed_limit t n ≡ None
   pub low : height t ≤ 512
 
--- the nest is legal, or this is the first node in preorder at which a rule is broken, and the lowest such rule
-abbrev pub NestOf : State → Result (Unit {0}) NestNo → Type 0
-NestOf s (Ok legal) = IsLegalNest s.tree s.types
-NestOf s (Err (nests.Nest place rule)) = nest_fault s.tree s.types ≡ Some (place, rule)
-NestOf s (Err nests.Memory) = ⊥
+-- the nest is legal with the local size that is fixed, where one is; or this is the first node in preorder at which a rule is broken, and the lowest such rule
+abbrev pub NestOf : Option ℕ → State → Result (Unit {0}) NestNo → Type 0
+NestOf local s (Ok legal) = IsLegalWith local s.tree s.types
+NestOf local s (Err (nests.Nest place rule)) = nest_fault local s.tree s.types ≡ Some (place, rule)
+NestOf local s (Err nests.Memory) = ⊥
 
 -- layouts and memory are within their limits, or this is the first limit that is passed, and the count
 abbrev pub BuffersOf : State → Result (Unit {0}) AllocNo → Type 0
@@ -43,10 +45,10 @@ BuffersOf s (Err (allocations.Limit which count)) = passed_limit s.tree s.types 
 BuffersOf s (Err allocations.Memory) = ⊥
 
 -- the term is compiled, or the first stage that stops: its nest, its buffers
-abbrev pub CompilesTerm : State → Result State Refusal → Type 0
-CompilesTerm last =
-    Then (As told.Nest (NestOf last)) (λ _. Then (As told.Alloc (BuffersOf last)) (λ _. Gives last))
+abbrev pub CompilesTerm : Option ℕ → State → Result State Refusal → Type 0
+CompilesTerm local last =
+    Then (As told.Nest (NestOf local last)) (λ _. Then (As told.Alloc (BuffersOf last)) (λ _. Gives last))
 
 -- the last term of a program along a script, where it is compiled; or the first stage that stops
 abbrev pub LegalOf : PlainProgram → (script : List ℕ) → Result State Refusal → Type 0
-LegalOf p script = Then (TermsOf p script) (λ terms. Then (LastOf terms) CompilesTerm)
+LegalOf p script = Then (TermsOf p script) (λ terms. Then (LastOf terms) (CompilesTerm (local_fixed script)))

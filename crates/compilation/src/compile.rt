@@ -6,7 +6,7 @@ ghost use Rattle.lift_tree.specs.Types.{ty_of};
 ghost use Rattle.program_source.specs.Program.{IsRefusedFor, OnProgram, StopsFor};
 ghost use Rattle.compilation.specs.Compiled.{IsCompiled};
 ghost use Rattle.compilation.specs.Legal.{LegalOf};
-ghost use Rattle.compilation.specs.Meets.{IsTextFor};
+ghost use Rattle.compilation.specs.Meets.{IsTextFor, asks_with};
 
 use crate::kernel::compiled_kernel;
 use crate::laws::compilation_ends_once;
@@ -19,6 +19,7 @@ use lowered_tree::around::is_task;
 use program_source::last_term;
 use program_source::laws::sources_end_once;
 use std::alloc::Global;
+use strategy_script::laws::fixed_sizes_are_small;
 
 /// The text of a kernel, with the program that it is compiled from.
 #[derive(Drop)]
@@ -29,10 +30,13 @@ pub struct Compiled {
     pub output: Ty,
     /// Whether one work-item runs the kernel, with no parallel map.
     pub is_task: bool,
+    /// The local size of all launches, where the script fixes it.
+    pub local: Option<u32>,
     /// The text of the kernel.
     pub text: Vec<u8>,
     // The text is of a kernel that leaves the program's value at each admissible launch.
-    ghost text_for: { ∥ IsTextFor (program_of program) (ty_of output) is_task text.items ∥₁ },
+    ghost text_for: { ∥ IsTextFor (program_of program) (ty_of output) (asks_with is_task local)
+        text.items ∥₁ },
 }
 
 // The type of the whole term.
@@ -54,18 +58,22 @@ fn own_type(types: NodeTypes) -> Ty
 /// of memory may come at any point.
 pub fn compile_text(alloc: Global, program: &[u8], script: &[u8]) -> Result<Compiled, Refusal>
     ensures found { IfOk result (λ c. IsCompiled program.now script.now (program_of c.program)
-        (ty_of c.output) c.is_task c.text.items) }
+        (ty_of c.output) (asks_with c.is_task c.local) c.text.items) }
     ensures refused { IfErr result
         (StopsFor (OnProgram program.now (λ p. LegalOf p script.now))) }
     ensures exact { IsRefusedFor (OnProgram program.now (λ p. LegalOf p script.now)) result }
 {
     compilation_ends_once();
+    fixed_sizes_are_small();
     sources_end_once();
-    let last = last_term(alloc, program, script)?;
-    let kernel = compiled_kernel(alloc, &last)?;
+    let found = last_term(alloc, program, script)?;
+    let kernel = compiled_kernel(alloc, &found.typed, found.local)?;
     let text = print(alloc, &kernel)?;
+    let local = found.local;
+    let last = found.typed;
     Ok(Compiled {
         is_task: is_task(&last.term),
+        local,
         program: last.program,
         output: own_type(last.types),
         text,

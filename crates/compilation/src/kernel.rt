@@ -6,6 +6,7 @@ ghost use Rattle.lift_tree.specs.Tree.{tree_of};
 ghost use Rattle.lift_tree.specs.Typing.{declared_by};
 ghost use Rattle.kernel_tree.specs.Kernels.{kernel_of};
 ghost use Rattle.kernel_emit.specs.Kernels.{IsKernelFor};
+ghost use Rattle.lowered_tree.specs.Kinds.{IsLocalSize};
 ghost use Rattle.strategy_script.specs.Steps.{state_of};
 ghost use Rattle.program_source.specs.Program.{StopsFor};
 ghost use Rattle.compilation.specs.Legal.{CompilesTerm, IsAccepted, IsTypedLast};
@@ -32,25 +33,27 @@ fn has_few_outputs(kernel: &Kernel)
     let _count = kernel.outputs;
 }
 
-/// The kernel of a last term, printed for it at each admissible launch. `Nest` and `Alloc` come in
-/// this order, for the first rule or limit.
-pub fn compiled_kernel(alloc: Global, last: &Typed) -> Result<Kernel, Refusal>
-    requires { IsTypedLast last.now }
-    ensures kernel { IfOk result (λ k. IsKernelFor (declared_by (program_of last.now.program))
+/// The kernel of a last term, printed for it at each admissible launch, which has groups of the local
+/// size that is fixed, where one is. `Nest` and `Alloc` come in this order, for the first rule or
+/// limit.
+pub fn compiled_kernel(alloc: Global, last: &Typed, local: Option<u32>) -> Result<Kernel, Refusal>
+    requires typed { IsTypedLast last.now }
+    requires sized { IsLocalSize local }
+    ensures kernel { IfOk result (λ k. IsKernelFor (declared_by (program_of last.now.program)) local
         (tree_of last.now.term) (annotation_of last.now.types) (kernel_of k)) }
     ensures accepted { IfOk result (λ _. IsAccepted (program_of last.now.program)
         (tree_of last.now.term) (annotation_of last.now.types)) }
-    ensures compiles { IfOk result (λ _. CompilesTerm (state_of last.now)
+    ensures compiles { IfOk result (λ _. CompilesTerm local (state_of last.now)
         (Ok (state_of last.now))) }
     ensures laid_out { IfOk result (λ _. CanBeLaidOut (program_of last.now.program)
         (type_in (annotation_of last.now.types))) }
-    ensures refused { IfErr result (StopsFor (CompilesTerm (state_of last.now))) }
+    ensures refused { IfErr result (StopsFor (CompilesTerm local (state_of last.now))) }
 {
     legal_terms_can_be_lowered();
     legal_without_fault();
     plans_give_kernels();
     let lowered = lowered(alloc, last)?;
-    let mapped = judge(alloc, lowered)?;
+    let mapped = judge(alloc, lowered, local)?;
     let spaced = spaces(alloc, mapped)?;
     let buffers = buffers(alloc, &spaced)?;
     let plan = plan(alloc, &spaced, &buffers)?;

@@ -3,14 +3,14 @@ use Rattle.std.proofs.Common.{◌≡◌, ◌∙◌, List, ◌∷◌, true, refl,
 use Rattle.lift_tree.specs.declared.layout.Layout as layout
 use Rattle.lift_tree.specs.declared.layout.Layout.TheVariants.{Join, Transpose, Split, Reverse, Stride}
 use Rattle.lift_tree.specs.declared.term.UnaryForm.{UnaryForm}
-use Rattle.lift_tree.specs.declared.term.UnaryForm.TheVariants.{Div, Rem, First, Second, Layout, Slide, Pad, ToLocal, ToPrivate}
+use Rattle.lift_tree.specs.declared.term.UnaryForm.TheVariants.{Div, Rem, First, Second, Layout, Slide, Pad, ToLocal, ToPrivate, Then}
 use Rattle.lift_tree.specs.declared.term.BinaryForm.{BinaryForm}
 use Rattle.lift_tree.specs.declared.term.BinaryForm.TheVariants as binary
 use Rattle.lift_tree.specs.Tree.{Tree, Variable, Number, Input, Unary, Binary, Select, Let, Map, Fold}
-use Rattle.lift_tree.specs.Types.{PlainTy, U32, PairOf, ArrayOf, is_array}
+use Rattle.lift_tree.specs.Types.{PlainTy, U32, PairOf, ArrayOf, IsElement, HoldsElements, IsOutput, is_array}
 use Rattle.lift_tree.specs.Annotations.{Annotation, Leaf, One, Two, Three, type_in}
 use Rattle.lowered_tree.specs.Copies.{CopiesArrays, FormCopiesArrays}
-use Rattle.copied_arrays.proofs.Shapes.{Shape, Scalar, Array, shape, nth, LayoutShape, UnaryShape, CopiesArray, BinaryShape, HasShape, element_same}
+use Rattle.copied_arrays.proofs.Shapes.{Shape, Scalar, Array, shape, nth, LayoutShape, UnaryShape, IsElementShape, HoldsElementShapes, IsWhole, CopiesArray, BinaryShape, HasShape, element_same}
 
 abbrev pub shape_in : Annotation → Shape
 shape_in n = shape (type_in n)
@@ -48,6 +48,7 @@ unary_unique (Slide m n) b a c h k = let p = h.1 in let q = h.2 in let r = k.1 i
 unary_unique (Pad m n) b a c h k = let p = h.1 in let q = h.2 in let r = k.1 in let s = k.2 in cc
 unary_unique ToLocal b a c h k = sym h ∙ k
 unary_unique ToPrivate b a c h k = sym h ∙ k
+unary_unique Then b a c h k = sym h ∙ k
 
 binary_unique : (f : BinaryForm) (b e a c : Shape) → BinaryShape f b e a → BinaryShape f b e c → a ≡ c
 binary_unique (binary.Operator o) b e a c h k = h ∙ sym k
@@ -80,6 +81,21 @@ array_is U32 x e = absurd (cc)
 array_is (PairOf a b) x e = absurd (cc)
 array_is (ArrayOf a n) x e = refl
 
+element_is : (a : PlainTy) → IsElementShape (shape a) → IsElement a
+element_is U32 h = tt
+element_is (PairOf a b) h = (element_is a h.0, element_is b h.1)
+element_is (ArrayOf a n) h = h
+
+elements_are_held : (a : PlainTy) → HoldsElementShapes (shape a) → HoldsElements a
+elements_are_held U32 h = tt
+elements_are_held (PairOf a b) h = (element_is a h.0, element_is b h.1)
+elements_are_held (ArrayOf a n) h = elements_are_held a h
+
+output_is : (a : PlainTy) → IsWhole (shape a) → IsOutput a
+output_is U32 h = h
+output_is (PairOf a b) h = h
+output_is (ArrayOf a n) h = elements_are_held a h
+
 form_copies : (f : UnaryForm) (b : Shape) (a : PlainTy) → UnaryShape f b (shape a) → CopiesArray f b → FormCopiesArrays f a
 form_copies (Div n) b a h c = tt
 form_copies (Rem n) b a h c = tt
@@ -90,6 +106,7 @@ form_copies (Slide m n) b a h c = tt
 form_copies (Pad m n) b a h c = tt
 form_copies ToLocal b a h c = array_is a c.0 (sym h ∙ c.1)
 form_copies ToPrivate b a h c = array_is a c.0 (sym h ∙ c.1)
+form_copies Then b a h c = output_is a (subst IsWhole h c)
 
 module _ (i : List Shape) where
   pub copies_arrays : (g : List Shape) (t : Tree) (n : Annotation) (a : Shape) → Fits i g t n → HasShape i g t a → CopiesArrays t n

@@ -9,17 +9,17 @@ use Rattle.size_arith.specs.Decisions.{is_shown, is_same}
 use Rattle.lift_tree.specs.declared.layout.Layout as layout
 use Rattle.lift_tree.specs.declared.layout.Layout.TheVariants.{Join, Transpose, Split, Reverse, Stride}
 use Rattle.lift_tree.specs.declared.term.UnaryForm.{UnaryForm}
-use Rattle.lift_tree.specs.declared.term.UnaryForm.TheVariants.{Div, Rem, First, Second, Layout, Slide, Pad, ToLocal, ToPrivate}
+use Rattle.lift_tree.specs.declared.term.UnaryForm.TheVariants.{Div, Rem, First, Second, Layout, Slide, Pad, ToLocal, ToPrivate, Then}
 use Rattle.lift_tree.specs.declared.term.BinaryForm.{BinaryForm}
 use Rattle.lift_tree.specs.declared.term.BinaryForm.TheVariants as binary
-use Rattle.lift_tree.specs.Types.{PlainTy, U32, PairOf, ArrayOf}
+use Rattle.lift_tree.specs.Types.{PlainTy, U32, PairOf, ArrayOf, is_element}
 use Rattle.lift_tree.specs.Typing.{constant}
 use Rattle.lift_tree.specs.Limits.{arrays, components}
 use Rattle.pattern_types.specs.declared.refusal.Rule.{Rule}
 use Rattle.pattern_types.specs.declared.refusal.Rule.TheVariants as rule
 use Rattle.pattern_types.specs.declared.refusal.TypeLimit.TheVariants as limit
 use Rattle.pattern_types.specs.declared.fault.Fault.{Fault}
-use Rattle.pattern_types.specs.Tests.{exact_quotient, is_element, is_same_element}
+use Rattle.pattern_types.specs.Tests.{exact_quotient, is_same_element}
 use Rattle.pattern_types.specs.Judged.{demand, at_most, counted, within, product_judged, formed, scalars_judged, unary_row, binary_row, layout_row, split_row, pieces_row, stride_row, strided_row, windows_row, number_row, operator_row, zip_row, reduce_row, select_row, element_in, map_end, fold_start, fold_end}
 use Rattle.copied_arrays.proofs.Results.{yes, and_ok, demand_ok}
 use Rattle.copied_arrays.proofs.Shapes.{Scalar, Pair, Array, shape, LayoutShape, UnaryShape, BinaryShape}
@@ -120,6 +120,7 @@ unary_is names (Pad l r) (ArrayOf x n) a h =
     (shape x, refl, formed_is names x a q.0 q.2)
 unary_is names ToLocal b a h = ap shape (same_ok b a h)
 unary_is names ToPrivate b a h = ap shape (same_ok b a h)
+unary_is names Then b a h = ap shape (same_ok b a h)
 
 zip_is : (names : List Name) (b c a : PlainTy) → zip_row names b c ≡ Ok a → BinaryShape binary.Zip (shape b) (shape c) (shape a)
 zip_is names U32 c a h = absurd (cc)

@@ -3,7 +3,7 @@ use Rattle.std.proofs.Common.{◌≡◌, ℕ, zero, suc, List, [], ◌∷◌}
 use Rattle.lift_tree.specs.declared.layout.Layout as layout
 use Rattle.lift_tree.specs.declared.layout.Layout.TheVariants.{Join, Transpose, Split, Reverse, Stride}
 use Rattle.lift_tree.specs.declared.term.UnaryForm.{UnaryForm}
-use Rattle.lift_tree.specs.declared.term.UnaryForm.TheVariants.{Div, Rem, First, Second, Layout, Slide, Pad, ToLocal, ToPrivate}
+use Rattle.lift_tree.specs.declared.term.UnaryForm.TheVariants.{Div, Rem, First, Second, Layout, Slide, Pad, ToLocal, ToPrivate, Then}
 use Rattle.lift_tree.specs.declared.term.BinaryForm.{BinaryForm}
 use Rattle.lift_tree.specs.declared.term.BinaryForm.TheVariants as binary
 use Rattle.lift_tree.specs.Tree.{Tree, Variable, Number, Input, Unary, Binary, Select, Let, Map, Fold}
@@ -44,6 +44,25 @@ UnaryShape (Slide s t) b a = (x : Shape) × (b ≡ Array x) × (a ≡ Array (Arr
 UnaryShape (Pad l r) b a = (x : Shape) × (b ≡ Array x) × (a ≡ Array x)
 UnaryShape ToLocal b a = b ≡ a
 UnaryShape ToPrivate b a = b ≡ a
+UnaryShape Then b a = b ≡ a
+
+-- an element's shape
+abbrev pub IsElementShape : Shape → Type 0
+IsElementShape Scalar = Unit {0}
+IsElementShape (Pair a b) = IsElementShape a × IsElementShape b
+IsElementShape (Array a) = ⊥
+
+-- the shape of a type whose pairs hold elements only
+abbrev pub HoldsElementShapes : Shape → Type 0
+HoldsElementShapes Scalar = Unit {0}
+HoldsElementShapes (Pair a b) = IsElementShape a × IsElementShape b
+HoldsElementShapes (Array a) = HoldsElementShapes a
+
+-- an array's shape, whose pairs hold elements only
+abbrev pub IsWhole : Shape → Type 0
+IsWhole Scalar = ⊥
+IsWhole (Pair a b) = ⊥
+IsWhole (Array a) = HoldsElementShapes a
 
 -- where a form copies, its child's shape is an array's
 abbrev pub CopiesArray : UnaryForm → Shape → Type 0
@@ -56,6 +75,7 @@ CopiesArray (Slide s t) b = Unit {0}
 CopiesArray (Pad l r) b = Unit {0}
 CopiesArray ToLocal b = (x : Shape) × (b ≡ Array x)
 CopiesArray ToPrivate b = (x : Shape) × (b ≡ Array x)
+CopiesArray Then b = IsWhole b
 
 -- a form with children of shapes b and c has shape a
 abbrev pub BinaryShape : BinaryForm → (b c a : Shape) → Type 0

@@ -35,6 +35,7 @@ IsNoCopy (unaries.Slide s t) = Unit {0}
 IsNoCopy (unaries.Pad l r) = Unit {0}
 IsNoCopy unaries.ToLocal = ⊥
 IsNoCopy unaries.ToPrivate = ⊥
+IsNoCopy unaries.Then = ⊥
 
 abbrev pub HasNoCopies : Tree → Type 0
 HasNoCopies (trees.Variable n) = Unit {0}
@@ -57,6 +58,7 @@ no_copy (unaries.Slide s t) b h = tt
 no_copy (unaries.Pad l r) b h = tt
 no_copy unaries.ToLocal b h = absurd h
 no_copy unaries.ToPrivate b h = absurd h
+no_copy unaries.Then b h = absurd h
 
 module _ (i : List Shape) where
   pub has_shape : (g : List Shape) (t : Tree) (n : Annotation) → HasNoCopies t → Fits i g t n → HasShape i g t (shape_in n)

@@ -30,6 +30,7 @@ may_run seed = record {
     global_least = omega arith;
     global_most = omega arith;
     divides = refl;
+    fixed = tt;
     alone = λ task. absurd (cc (task));
   };
 }

@@ -53,7 +53,7 @@ script_steps : List Step
 unfolding numbered_named plain_named
 script_steps = steps_in script_text
 
-script : IsScript script_text script_steps
+script : IsScript script_text (record { local = None; steps = script_steps })
 unfolding numbered_named plain_named script_steps
 script = record { all = refl; found = refl }
 
@@ -94,7 +94,7 @@ made : terms_of demo_program script_steps source ≡ Ok (front ++ last ∷ [])
 unfolding numbered_named plain_named script_steps source judged_as types_of terms_as front last tiled_sums copied_tile sum tiles
 made = refl
 
-legal : nest_fault last.tree last.types ≡ None
+legal : nest_fault None last.tree last.types ≡ None
 unfolding judged_as types_of last tiled_sums copied_tile sum tiles
 legal = refl
 

@@ -34,18 +34,18 @@ demo_program = record {
   body = sums;
 }
 
--- the texts are read, typed and rewritten within their limits, and the last term is a legal nest within its limits, with a parallel map
+-- the texts are read, typed and rewritten within their limits, no local size is fixed, and the last term is a legal nest within its limits, with a parallel map
 pub record DemoIsAccepted : Type 0 where
   pub read : IsProgramText program_text demo_program
   pub within : first_limit demo_program ≡ None
   pub types : Annotation
   pub typed : program_judged demo_program demo_program.body ≡ Ok types
   pub steps : List Step
-  pub script : IsScript script_text steps
+  pub script : IsScript script_text (record { local = None; steps = steps })
   pub few : length steps ≤ 256
   pub front : List State
   pub last : State
   pub made : terms_of demo_program steps (record { tree = demo_program.body; types = types }) ≡ Ok (front ++ last ∷ [])
-  pub legal : nest_fault last.tree last.types ≡ None
+  pub legal : nest_fault None last.tree last.types ≡ None
   pub fits : passed_limit last.tree last.types ≡ None
   pub parallel : is_task last.tree ≡ false

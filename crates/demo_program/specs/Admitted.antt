@@ -1,5 +1,5 @@
 -- The demo's launch is admissible for its program.
-use Rattle.std.specs.Prelude.{ℕ, false}
+use Rattle.std.specs.Prelude.{ℕ, false, None}
 use Rattle.kernel_tree.specs.Launch.{IsFlat}
 use Rattle.lift_tree.specs.Launches.{IsAdmissibleLaunch}
 use Rattle.lift_tree.specs.Typing.{IsAdmissible, declared_by}
@@ -11,7 +11,7 @@ use Rattle.demo_program.specs.Data.{demo_given}
 pub record MayRun (g : Given) : Type 0 where
   pub world : IsAdmissible (declared_by demo_program) (record { bases = g.bases; sizes = g.launch.sizes; inputs = g.inputs })
   pub flat : IsFlat g.launch
-  pub launch : IsAdmissibleLaunch (declared_by demo_program).names false g.bases g.launch.global.0 g.launch.local.0
+  pub launch : IsAdmissibleLaunch (declared_by demo_program).names (record { alone = false; local = None }) g.bases g.launch.global.0 g.launch.local.0
 
 abbrev pub DemosMayRun : Type 0
 DemosMayRun = (seed : ℕ) → MayRun (demo_given seed)

@@ -37,7 +37,7 @@ fn closes(barrier: &Barrier, flags: (bool, bool), pair: (u32, u32)) -> bool {
 // The barriers of uses in phases below the count; none is made where some use isn't.
 fn placed(alloc: Global, touches: &[Touch], phases: u32) -> Result<Barriers, AllocError> {
     if phases > 0 && touches.iter().all(|touch| touch.phase < phases) {
-        return place(alloc, touches, phases);
+        return place(alloc, touches, phases, false);
     }
     Ok(Vec::new(alloc))
 }

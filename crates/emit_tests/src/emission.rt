@@ -4,7 +4,7 @@ ghost use Rattle.lowering.specs.Terms.{term_of};
 ghost use Rattle.item_emit.specs.Copies.{HasShortCopies};
 
 use crate::copies::has_short_copies;
-use crate::last_terms::lowered_last;
+use crate::last_terms::{LoweredLast, lowered_last};
 use crate::sameness::is_same;
 use barrier_placement::Barrier;
 use buffer_allocation::copies::{Memory, copy_lengths};
@@ -51,10 +51,11 @@ fn items_code(alloc: Global, lowered: &Lowered, term: &Term) -> Result<Vec<Stmt>
     Ok(block.into_statements())
 }
 
-// The code of a term that work-groups run, with these barriers.
+// The code of a term that work-groups, of this size where one is fixed, run with these barriers.
 fn groups_code(
     alloc: Global,
     lowered: &Lowered,
+    local: Option<u32>,
     barriers: &[Barrier],
     term: &Term,
 ) -> Result<Vec<Stmt>, AllocError>
@@ -67,6 +68,7 @@ fn groups_code(
         },
         barriers,
         phases: phase_count(term)?,
+        local,
     };
     let target = output(alloc, &lowered.names, lowered.types.own_type())?;
     let block = groups(alloc, &setting, &Scope::Empty, term, &target)?;
@@ -82,11 +84,12 @@ fn are_equal(lengths: &[u64], words: &[u32]) -> bool {
 }
 
 // Whether the kernel declares what is counted for the term, and no variable of four words, and asks
-// for no size of groups.
+// for groups of the size that is fixed.
 fn declares(
     alloc: Global,
     kernel: &Kernel,
     lowered: &Lowered,
+    local: Option<u32>,
     term: &Term,
 ) -> Result<bool, AllocError> {
     let counts = counted(lowered, term)?;
@@ -98,7 +101,7 @@ fn declares(
             && counts.sizes == kernel.sizes
             && counts.variables == kernel.variables
             && kernel.vectors == 0
-            && kernel.local.is_none()
+            && kernel.local == local.map(|size| (size, 1))
             && are_equal(&locals, &kernel.locals)
             && are_equal(&privates, &kernel.privates),
     )
@@ -106,7 +109,7 @@ fn declares(
 
 // Whether what is emitted for the row, with these barriers where work-groups run it, is the kernel of its text.
 fn emits(alloc: Global, row: &Row, barriers: Option<&[Barrier]>) -> Result<bool, Fail> {
-    let Some(lowered) = lowered_last(alloc, row.program, row.script)? else {
+    let Some(LoweredLast { lowered, local }) = lowered_last(alloc, row.program, row.script)? else {
         return Ok(false);
     };
     let Ok(kernel) = read_kernel(alloc, row.kernel.as_bytes()) else {
@@ -118,9 +121,9 @@ fn emits(alloc: Global, row: &Row, barriers: Option<&[Barrier]>) -> Result<bool,
     }
     let code = match barriers {
         None => items_code(alloc, &lowered, &term)?,
-        Some(barriers) => groups_code(alloc, &lowered, barriers, &term)?,
+        Some(barriers) => groups_code(alloc, &lowered, local, barriers, &term)?,
     };
-    Ok(declares(alloc, &kernel, &lowered, &term)? && is_same(&code, &kernel.body))
+    Ok(declares(alloc, &kernel, &lowered, local, &term)? && is_same(&code, &kernel.body))
 }
 
 /// Whether what is emitted for each row is the kernel of its text.

@@ -19,6 +19,8 @@ mod items;
 #[cfg(test)]
 mod last_terms;
 #[cfg(test)]
+mod local_sizes;
+#[cfg(test)]
 mod phases;
 #[cfg(test)]
 mod plans;

@@ -185,7 +185,7 @@ fn copied_tiles(rt: HostRuntime) -> Result<(), Fail> {
     let body = stored(alloc, sum)?;
     let map = local_map(alloc, LoadSet::Take, copy_of(alloc, 0)?, body)?;
     let root = over_groups(alloc, map)?;
-    let phases = Phases::of(alloc, &root)?;
+    let phases = Phases::of(alloc, &root, false)?;
     assert_eq!(rt; phases.count, 2);
     assert!(rt; copies_and_reads(&phases, true, true));
     assert!(rt; phases.barriers.is_empty());
@@ -201,7 +201,7 @@ fn a_stencil_by_tiles(rt: HostRuntime) -> Result<(), Fail> {
     let tile = windows(alloc, copy_of(alloc, 0)?)?;
     let map = local_map(alloc, LoadSet::Skip, tile, body)?;
     let root = over_groups(alloc, map)?;
-    let phases = Phases::of(alloc, &root)?;
+    let phases = Phases::of(alloc, &root, false)?;
     assert_eq!(rt; phases.count, 2);
     assert!(rt; copies_and_reads(&phases, true, false));
     let barriers = phases.barriers;
@@ -229,7 +229,7 @@ fn two_barriers_and_none_that_closes(rt: HostRuntime) -> Result<(), Fail> {
     let loads = LoadSet::Each(take, Box::new(alloc, LoadSet::Skip)?);
     let map = local_map(alloc, loads, both, body)?;
     let root = over_groups(alloc, let_array(alloc, sums, map)?)?;
-    let phases = Phases::of(alloc, &root)?;
+    let phases = Phases::of(alloc, &root, false)?;
     assert_eq!(rt; phases.count, 4);
     assert!(rt; phases.touches.iter().any(|touch| writes(touch, 1, 1, true)));
     assert!(rt; phases.touches.iter().any(|touch| reads(touch, 2, 1, true)));
@@ -257,7 +257,7 @@ fn components_that_are_not_named(rt: HostRuntime) -> Result<(), Fail> {
     let loads = LoadSet::Each(skip, Box::new(alloc, LoadSet::Take)?);
     let map = local_map(alloc, loads, tile, body)?;
     let root = over_groups(alloc, map)?;
-    let phases = Phases::of(alloc, &root)?;
+    let phases = Phases::of(alloc, &root, false)?;
     assert!(rt; phases.touches.iter().any(|touch| writes(touch, 0, 0, true)));
     assert!(rt; phases.touches.iter().any(|touch| writes(touch, 0, 1, true)));
     assert!(rt; phases.touches.iter().any(|touch| reads(touch, 1, 1, true)));
@@ -274,7 +274,7 @@ fn variables_of_the_body(rt: HostRuntime) -> Result<(), Fail> {
     let body = summed(alloc, row, Term::Bound(0))?;
     let map = local_map(alloc, LoadSet::Take, bound(alloc, 1)?, body)?;
     let root = over_groups(alloc, let_array(alloc, copy_of(alloc, 0)?, map)?)?;
-    let phases = Phases::of(alloc, &root)?;
+    let phases = Phases::of(alloc, &root, false)?;
     assert_eq!(rt; phases.count, 2);
     assert!(rt; copies_and_reads(&phases, true, false));
     let barriers = phases.barriers;
@@ -303,7 +303,7 @@ fn writes_through_a_layout(rt: HostRuntime) -> Result<(), Fail> {
         summed(alloc, row, Term::Literal(0))?,
     )?;
     let root = over_groups(alloc, map)?;
-    let phases = Phases::of(alloc, &root)?;
+    let phases = Phases::of(alloc, &root, false)?;
     assert!(rt; copies_and_reads(&phases, false, true));
     let barriers = phases.barriers;
     assert_eq!(rt; barriers.len(), 2);

@@ -1,7 +1,9 @@
 //! Plans of terms of each kind, and the kernels that are emitted for them.
 
+ghost use Rattle.lowered_tree.specs.Kinds.{IsLocalSize};
+
 use crate::emission::Row;
-use crate::last_terms::lowered_last;
+use crate::last_terms::{LoweredLast, lowered_last};
 use crate::sameness::is_same;
 use address_spaces::spaces;
 use buffer_allocation::allocation::buffers;
@@ -14,12 +16,22 @@ use std::alloc::Global;
 use std::test::Fail;
 use thread_mapping::judge;
 
+// The number, where groups may have that size.
+fn size_of_groups(number: Option<u32>) -> Option<u32>
+    ensures { IsLocalSize result }
+{
+    match number {
+        Some(size) if 1 <= size && size <= 256 => Some(size),
+        _ => None,
+    }
+}
+
 // A term's kernel, and how many phases and barriers its plan has over work-groups.
 fn emitted(alloc: Global, row: &Row) -> Result<Option<(Kernel, usize, usize)>, Fail> {
-    let Some(lowered) = lowered_last(alloc, row.program, row.script)? else {
+    let Some(LoweredLast { lowered, local }) = lowered_last(alloc, row.program, row.script)? else {
         return Ok(None);
     };
-    let Ok(mapped) = judge(alloc, lowered) else {
+    let Ok(mapped) = judge(alloc, lowered, size_of_groups(local)) else {
         return Ok(None);
     };
     let spaced = spaces(alloc, mapped)?;
@@ -51,6 +63,7 @@ fn gives(alloc: Global, row: &Row, phases: usize, barriers: usize) -> Result<boo
             && kernel.variables == asked.variables
             && kernel.locals == asked.locals
             && kernel.privates == asked.privates
+            && kernel.local == asked.local
             && is_same(&kernel.body, &asked.body),
     )
 }
@@ -102,11 +115,35 @@ const OVER_GROUPS: Row = Row {
 ",
 };
 
+// Pairs that are columns of two rows, each by a group of four items: two of them take an element, and
+// the `if` tells that their ids are below 2.
+const COLUMNS: Row = Row {
+    program: "input xs: [[u32; 3]; 2]; output join(map(\\r. map(\\x. add(x, 1), r), split(2, join(transpose(xs)))))",
+    script: "launch local 4\nat 0.1 to-lcl\nat 0 to-wrg",
+    kernel: "__kernel __attribute__((reqd_work_group_size(4, 1, 1))) void lift(__global const uint *a0, __global uint *o0)
+{
+  uint v0;
+  for (uint i0 = (uint)get_group_id(0); i0 < 3u; i0 += (uint)get_num_groups(0)) {
+    if ((uint)get_local_id(0) < 2u) {
+      v0 = a0[(((uint)get_local_id(0) * 3u) + i0)];
+      o0[((i0 * 2u) + (uint)get_local_id(0))] = (v0 + 1u);
+    }
+  }
+}
+",
+};
+
 #[test]
 fn each_kind_has_its_kernel(rt: HostRuntime) -> Result<(), Fail> {
     assert!(rt; gives(rt.alloc(), &TASK, 0, 0)?);
     assert!(rt; gives(rt.alloc(), &OVER_LAUNCH, 0, 0)?);
     assert!(rt; gives(rt.alloc(), &OVER_GROUPS, 1, 0)?);
+    Ok(())
+}
+
+#[test]
+fn an_if_tells_of_ids(rt: HostRuntime) -> Result<(), Fail> {
+    assert!(rt; gives(rt.alloc(), &COLUMNS, 1, 0)?);
     Ok(())
 }
 

@@ -1,7 +1,7 @@
 //! Index expressions and lengths as expressions of a kernel.
 
 use index_expr::{Index, Operation};
-use kernel_tree::tree::Expr;
+use kernel_tree::tree::{Dimension, Expr, IdForm};
 use length_spelling::{spell_index, spell_length};
 use scalar_ops::op::Op;
 use size_arith::{Monomial, Name, Names, Poly};
@@ -52,15 +52,25 @@ fn a_base_name_is_spelled_as_its_size_over_its_divisor(rt: HostRuntime) -> Resul
     Ok(())
 }
 
-#[test]
-fn variables_are_those_of_loops(rt: HostRuntime) -> Result<(), Fail> {
-    let alloc = rt.alloc();
-    let variable = Index::Variable {
-        number: 1,
+fn variable(number: u32) -> Index {
+    Index::Variable {
+        number,
         least: 0,
         greatest: 9,
-    };
-    let first = Box::new(alloc, variable)?;
+    }
+}
+
+fn spelled(alloc: Global, number: u32) -> Result<Expr, AllocError> {
+    spell_index(alloc, &variable(number))
+}
+
+#[test]
+fn variables_are_turns(rt: HostRuntime) -> Result<(), Fail> {
+    let alloc = rt.alloc();
+    assert!(rt; matches!(spelled(alloc, 0)?, Expr::Id(Dimension::X, IdForm::GroupId)));
+    assert!(rt; matches!(spelled(alloc, 1)?, Expr::Id(Dimension::X, IdForm::LocalId)));
+    assert!(rt; is_loop_variable(&spelled(alloc, 2)?, 0));
+    let first = Box::new(alloc, variable(3))?;
     let index = Index::Binary(Operation::Least, first, Box::new(alloc, Index::Literal(7))?);
     match spell_index(alloc, &index)? {
         Expr::Binary(Op::Min, a, b) => assert!(rt; is_loop_variable(&a, 1) && is_number(&b, 7)),

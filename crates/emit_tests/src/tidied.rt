@@ -1,4 +1,5 @@
-//! Kernels tidied by hand: indices of loads and stores, offsets of fours, and bounds of loops and ifs.
+//! Kernels tidied by hand: indices of loads and stores, offsets of fours, and bounds of loops and ifs;
+//! indices of loops' variables and of ids.
 
 use crate::sameness::is_same;
 use kernel_reader::read_kernel;
@@ -50,7 +51,7 @@ const IFS: Row = Row {
 };
 
 // The column's loop is no longer than the row at first, and longer then; the if between the two
-// loops is no loop around.
+// loops asks of no id.
 const FOURS: Row = Row {
     plain: "__kernel __attribute__((reqd_work_group_size(2, 1, 1))) void lift(__global const uint *a0, __global uint *o0)
 {
@@ -81,6 +82,91 @@ const FOURS: Row = Row {
       for (uint i1 = 0u; i1 < 4u; i1 += 1u) {
         w0 = vload4((((i0 * 3u) + i1) / 3u), a0);
         vstore4(w0, (((i0 * 3u) + i1) % 3u), o0);
+      }
+    }
+  }
+}
+",
+};
+
+// In groups of 3 an item's id is below 3; in groups of any size it may be more.
+const IDS: Row = Row {
+    plain: "__kernel __attribute__((reqd_work_group_size(3, 1, 1))) void lift(__global const uint *a0, __global uint *o0)
+{
+  uint v0;
+  for (uint i0 = (uint)get_group_id(0); i0 < 2u; i0 += (uint)get_num_groups(0)) {
+    v0 = a0[((((i0 * 3u) + (uint)get_local_id(0)) / 3u) + 0u)];
+    o0[(((i0 * 3u) + (uint)get_local_id(0)) % 3u)] = v0;
+  }
+}
+",
+    tidy: "__kernel __attribute__((reqd_work_group_size(3, 1, 1))) void lift(__global const uint *a0, __global uint *o0)
+{
+  uint v0;
+  for (uint i0 = (uint)get_group_id(0); i0 < 2u; i0 += (uint)get_num_groups(0)) {
+    v0 = a0[i0];
+    o0[(uint)get_local_id(0)] = v0;
+  }
+}
+",
+};
+
+const IDS_OF_ANY_SIZE: Row = Row {
+    plain: "__kernel void lift(__global const uint *a0, __global uint *o0)
+{
+  uint v0;
+  for (uint i0 = (uint)get_group_id(0); i0 < 2u; i0 += (uint)get_num_groups(0)) {
+    v0 = a0[((((i0 * 3u) + (uint)get_local_id(0)) / 3u) + 0u)];
+    o0[(((i0 * 3u) + (uint)get_local_id(0)) % 3u)] = v0;
+  }
+}
+",
+    tidy: "__kernel void lift(__global const uint *a0, __global uint *o0)
+{
+  uint v0;
+  for (uint i0 = (uint)get_group_id(0); i0 < 2u; i0 += (uint)get_num_groups(0)) {
+    v0 = a0[(((i0 * 3u) + (uint)get_local_id(0)) / 3u)];
+    o0[(((i0 * 3u) + (uint)get_local_id(0)) % 3u)] = v0;
+  }
+}
+",
+};
+
+// In the `if` an item's id is below 2, behind it below 4; a group's id is below 1 in the `if` on it.
+const IDS_IN_IFS: Row = Row {
+    plain: "__kernel __attribute__((reqd_work_group_size(4, 1, 1))) void lift(__global const uint *a0, __global uint *o0, const uint s0)
+{
+  uint v0;
+  for (uint i0 = (uint)get_group_id(0); i0 < s0; i0 += (uint)get_num_groups(0)) {
+    if ((uint)get_local_id(0) < 2u) {
+      v0 = a0[(((i0 * 2u) + (uint)get_local_id(0)) / 2u)];
+      o0[(((i0 * 2u) + (uint)get_local_id(0)) % 2u)] = v0;
+    }
+    v0 = a0[(((i0 * 2u) + (uint)get_local_id(0)) / 2u)];
+  }
+  if ((uint)get_group_id(0) < 1u) {
+    for (uint i0 = 0u; i0 < s0; i0 += 1u) {
+      if ((uint)get_local_id(0) < (s0 + 0u)) {
+        o0[((((i0 * s0) + (uint)get_local_id(0)) / s0) + (uint)get_group_id(0))] = v0;
+      }
+    }
+  }
+}
+",
+    tidy: "__kernel __attribute__((reqd_work_group_size(4, 1, 1))) void lift(__global const uint *a0, __global uint *o0, const uint s0)
+{
+  uint v0;
+  for (uint i0 = (uint)get_group_id(0); i0 < s0; i0 += (uint)get_num_groups(0)) {
+    if ((uint)get_local_id(0) < 2u) {
+      v0 = a0[i0];
+      o0[(uint)get_local_id(0)] = v0;
+    }
+    v0 = a0[(((i0 * 2u) + (uint)get_local_id(0)) / 2u)];
+  }
+  if ((uint)get_group_id(0) < 1u) {
+    for (uint i0 = 0u; i0 < s0; i0 += 1u) {
+      if ((uint)get_local_id(0) < s0) {
+        o0[i0] = v0;
       }
     }
   }
@@ -121,5 +207,18 @@ fn bounds_and_bodies_of_ifs_are_tidied(rt: HostRuntime) -> Result<(), Fail> {
 #[test]
 fn offsets_of_fours_are_tidied(rt: HostRuntime) -> Result<(), Fail> {
     assert!(rt; becomes(rt.alloc(), &FOURS)?);
+    Ok(())
+}
+
+#[test]
+fn indices_with_ids_are_tidied_by_the_size_of_groups(rt: HostRuntime) -> Result<(), Fail> {
+    assert!(rt; becomes(rt.alloc(), &IDS)?);
+    assert!(rt; becomes(rt.alloc(), &IDS_OF_ANY_SIZE)?);
+    Ok(())
+}
+
+#[test]
+fn indices_with_ids_are_tidied_by_the_ifs_around(rt: HostRuntime) -> Result<(), Fail> {
+    assert!(rt; becomes(rt.alloc(), &IDS_IN_IFS)?);
     Ok(())
 }

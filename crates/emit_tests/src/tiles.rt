@@ -150,6 +150,7 @@ fn printed(
         },
         barriers,
         phases: 2,
+        local: None,
     };
     code(alloc, &setting)
 }

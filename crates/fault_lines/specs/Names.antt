@@ -61,6 +61,8 @@ nest_rule_name nest.N8 = codes "N8"
 nest_rule_name nest.N9 = codes "N9"
 nest_rule_name nest.N10 = codes "N10"
 nest_rule_name nest.N11 = codes "N11"
+nest_rule_name nest.N12 = codes "N12"
+nest_rule_name nest.N13 = codes "N13"
 
 abbrev pub alloc_limit_name : AllocLimit → List ℕ
 alloc_limit_name allocated.Layouts = codes "layouts"

@@ -3,20 +3,26 @@ ghost use Rattle.std.specs.Prelude.{◌≡◌};
 ghost use Rattle.lift_io.specs.Causes.{Rose};
 ghost use Rattle.lift_tree.specs.Programs.{program_of};
 ghost use Rattle.launch_file.specs.Line as launches;
-ghost use Rattle.fault_lines.specs.Failure.{line_of, status_of};
+ghost use Rattle.fault_lines.specs.Failure.{launch_failed, line_of, status_of};
 ghost use Rattle.fault_lines.specs.Lines.{TakesLine, piece_text};
 ghost use Rattle.fault_lines.specs.Shown.{failure_of};
 
 use crate::lines::{Piece, write_line};
 use crate::refusal::{Refusal, report_limit, report_memory};
+use buffer_allocation::buffers::AllocNo;
 use command_line::WordsNo;
 use launch_file::line::Detail;
 use launch_file::refusal::LaunchNo;
 use lift_io::Sink;
+use lift_reader::refusal::ReadRefusal;
 use lift_tree::program::Program;
+use pattern_types::TypeRefusal;
 use std::alloc::AllocError;
+use strategy_script::{ScriptNo, StepNo};
+use thread_mapping::NestNo;
 
-/// Why a call ends without a result.
+/// Why a call ends without a result. Want of memory is handed on as that, and stands inside no
+/// other variant of what a call answers.
 #[derive(Drop)]
 pub enum Failure {
     /// The words are no command.
@@ -65,6 +71,16 @@ fn report_launch<E: Sink>(err: &mut E, program: &Program, no: LaunchNo)
 }
 
 impl Failure {
+    /// What it fails for whose launch file is none for this program.
+    pub fn for_launch(program: Program, no: LaunchNo) -> Failure
+        ensures { failure_of result ≡ launch_failed (program_of program) no }
+    {
+        match no {
+            LaunchNo::Memory => Failure::Memory,
+            no => Failure::Launch { program, no },
+        }
+    }
+
     /// The status that the program ends with.
     pub fn status(&self) -> u8
         ensures { result ≡ status_of (failure_of self.now) }
@@ -134,11 +150,21 @@ impl From<WordsNo> for Failure {
 
 impl From<Refusal> for Failure {
     ghost use Rattle.std.specs.Prelude.{◌≡◌};
-    ghost use Rattle.fault_lines.specs.declared.failure.Failure.TheVariants.{Source};
+    ghost use Rattle.fault_lines.specs.Failure.{source_failed};
+    ghost use Rattle.fault_lines.specs.Shown.{failure_of};
 
-    ghost from_gives = { λ no e. e ≡ Source no };
+    ghost from_gives = { λ no e. failure_of e ≡ source_failed no };
 
     fn from(no: Refusal) -> Self {
-        Failure::Source(no)
+        match no {
+            Refusal::Program(ReadRefusal::Memory)
+            | Refusal::Typing(TypeRefusal::Memory)
+            | Refusal::Script(ScriptNo::Memory)
+            | Refusal::Step(StepNo::Memory)
+            | Refusal::Nest(NestNo::Memory)
+            | Refusal::Alloc(AllocNo::Memory)
+            | Refusal::Memory => Failure::Memory,
+            no => Failure::Source(no),
+        }
     }
 }

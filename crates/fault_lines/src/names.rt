@@ -94,6 +94,8 @@ pub fn nest_rule_name(rule: NestRule) -> &'static [u8]
         NestRule::N9 => b"N9".as_slice(),
         NestRule::N10 => b"N10".as_slice(),
         NestRule::N11 => b"N11".as_slice(),
+        NestRule::N12 => b"N12".as_slice(),
+        NestRule::N13 => b"N13".as_slice(),
     }
 }
 

@@ -16,16 +16,34 @@ use pattern_types::type_of;
 use std::alloc::{AllocError, Global};
 use std::test::Fail;
 
-const TASK: Ask = Ask::Run { task: true };
+const TASK: Ask = Ask::Run {
+    task: true,
+    local: None,
+};
 
-const GROUPS: Ask = Ask::Run { task: false };
+const GROUPS: Ask = Ask::Run {
+    task: false,
+    local: None,
+};
+
+// A script fixes groups of two.
+const PAIRS: Ask = Ask::Run {
+    task: false,
+    local: Some(2),
+};
+
+// A script fixes groups of one, for one work-item.
+const ALONE: Ask = Ask::Run {
+    task: true,
+    local: Some(1),
+};
 
 const NUMBERS: &str = "size N from 1 to 1000; input xs: [u32; N]; output xs";
 
 const TABLES: &str =
     "size N multiple 2 from 2 to 8; size M from 1 to 3; input xs: [u32; N]; input ps: [[(u32, u32); 2]; N - 1]; output xs";
 
-fn typed(alloc: Global, text: &str) -> Option<Typed>
+pub fn typed(alloc: Global, text: &str) -> Option<Typed>
     ensures { IfSome result (λ t. HasProperInputs (program_of t.program)) }
 {
     let Ok(program) = read_program(alloc, text.as_bytes()) else {
@@ -47,7 +65,7 @@ fn push_detail(alloc: Global, text: &mut Vec<u8>, detail: Detail<'_>) -> Result<
     }
 }
 
-fn line_bytes(alloc: Global, line: &Line<'_>) -> Result<Vec<u8>, AllocError> {
+pub fn line_bytes(alloc: Global, line: &Line<'_>) -> Result<Vec<u8>, AllocError> {
     let mut text = Vec::from_slice(alloc, line.head)?;
     push_detail(alloc, &mut text, line.first)?;
     text.extend_from_slice(line.between)?;
@@ -72,7 +90,7 @@ fn head_text(alloc: Global, file: &LaunchFile) -> Result<String, AllocError> {
 }
 
 // What a launch file gives, the inputs as result lines.
-fn file_bytes(alloc: Global, file: &LaunchFile) -> Result<Vec<u8>, AllocError> {
+pub fn file_bytes(alloc: Global, file: &LaunchFile) -> Result<Vec<u8>, AllocError> {
     let mut text = Vec::from_slice(alloc, head_text(alloc, file)?.as_str().as_bytes())?;
     for input in &file.inputs {
         text.extend_from_slice(&result_text(alloc, input, None)?)?;
@@ -130,6 +148,41 @@ const ANSWERS: &[(Ask, &str, &str)] = &[
         TASK,
         "{\"global\":1,\"local\":1,\"sizes\":{\"N\":3},\"inputs\":{\"xs\":[1,2]}}",
         "lift: launch: shape xs",
+    ),
+    (
+        PAIRS,
+        "{\"global\":4,\"local\":2,\"sizes\":{\"N\":2},\"inputs\":{\"xs\":[3,4]}}",
+        "4x1 2x1 [2] [2] [] {\"value\":[3,4]}\n",
+    ),
+    (
+        PAIRS,
+        "{\"global\":4,\"local\":1,\"sizes\":{\"N\":2},\"inputs\":{\"xs\":[3,4]}}",
+        "lift: launch: global 4, local 1",
+    ),
+    (
+        PAIRS,
+        "{\"global\":4,\"local\":4,\"sizes\":{\"N\":2},\"inputs\":{\"xs\":[3,4]}}",
+        "lift: launch: global 4, local 4",
+    ),
+    (
+        PAIRS,
+        "{\"global\":4,\"local\":4,\"sizes\":{\"N\":0},\"inputs\":{\"xs\":[]}}",
+        "lift: launch: size N is 0",
+    ),
+    (
+        PAIRS,
+        "{\"global\":4,\"local\":4,\"sizes\":{\"N\":2},\"inputs\":{\"xs\":[3]}}",
+        "lift: launch: global 4, local 4",
+    ),
+    (
+        ALONE,
+        "{\"global\":2,\"local\":2,\"sizes\":{\"N\":1},\"inputs\":{\"xs\":[7]}}",
+        "lift: launch: global 2, local 2",
+    ),
+    (
+        ALONE,
+        "{\"global\":2,\"local\":1,\"sizes\":{\"N\":1},\"inputs\":{\"xs\":[7]}}",
+        "lift: launch: global 2 for one item",
     ),
     (
         TASK,

@@ -162,6 +162,8 @@ const TERMS: &[(&str, &str)] = &[
     ),
     ("let N = 1 in split(N, N)", "let _0 = 1 in split(N, _0)"),
     ("slide(3, 1, pad(0, 2, xs))", "slide(3, 1, pad(0, 2, xs))"),
+    // a name, though scripts have a form of it
+    ("let then = xs in join(then)", "let _0 = xs in join(_0)"),
 ];
 
 fn is_read_as(alloc: Global, term: &str, wanted: &str) -> Result<bool, Fail> {
@@ -239,6 +241,7 @@ const STOPS: &[(&str, usize, usize)] = &[
 const CONDITIONS: &[(&str, usize, usize)] = &[
     ("size map from 1 to 2; output 1", 2, 5),
     ("size toLocal from 1 to 2; output 1", 2, 5),
+    ("input then: [u32; 1]; output then(then)", 12, 33),
     ("size N from 1 to 2; size N from 1 to 2; output 1", 9, 25),
     ("size N from 1 to 2; input N: [u32; 1]; output 1", 9, 26),
     ("input x: [u32; 1]; input x: [u32; 1]; output 1", 11, 25),

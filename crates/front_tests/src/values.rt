@@ -310,6 +310,7 @@ fn folds_have_one_value_however_they_are_run(rt: HostRuntime) -> Result<(), Fail
 fn memories_keep_values(rt: HostRuntime) -> Result<(), Fail> {
     assert!(rt; memory_keeps_value(rt.alloc(), UnaryForm::ToLocal)?);
     assert!(rt; memory_keeps_value(rt.alloc(), UnaryForm::ToPrivate)?);
+    assert!(rt; memory_keeps_value(rt.alloc(), UnaryForm::Then)?);
     Ok(())
 }
 

@@ -5,6 +5,8 @@ use Rattle.kernel_tree.specs.Formula.{Formula}
 use Rattle.printed_form.specs.Views.{View}
 use Rattle.barrier_placement.specs.declared.placing.Barrier.{Barrier}
 use Rattle.barrier_placement.specs.Fencing.{Fencing, Open, fence, fencing_of}
+use Rattle.printed_form.specs.MapForms.{MapForms}
+use Rattle.group_form.specs.ChosenForms.{forms_of}
 use Rattle.item_emit.specs.Inputs.{inputs_in, spell_in}
 use Rattle.group_emit.specs.declared.setting.Setting.{Setting}
 
@@ -13,6 +15,10 @@ spell_of s = spell_in s.declared
 
 abbrev pub inputs_of : Setting → ℕ → View
 inputs_of s = inputs_in s.declared
+
+-- the forms of the maps
+abbrev pub forms_in : Setting → MapForms (List Monomial)
+forms_in s = forms_of s.declared.names.now s.local
 
 -- what stands before each phase, and at the end
 abbrev pub fence_in : Setting → ℕ → Fencing

@@ -11,7 +11,7 @@ ghost use Rattle.group_form.specs.Printer as printer;
 ghost use Rattle.lowering.specs.Terms.{term_of};
 ghost use Rattle.item_emit.specs.Copies.{HasShortCopies};
 ghost use Rattle.item_emit.specs.Scopes.{scope_of};
-ghost use Rattle.group_emit.specs.Settings.{fence_in, inputs_of, spell_of};
+ghost use Rattle.group_emit.specs.Settings.{inputs_of, spell_of};
 
 use crate::counts::local_count;
 use crate::setting::Setting;
@@ -43,7 +43,7 @@ pub fn argument(
 ) -> Result<View, AllocError>
     requires { HasShortCopies (term_of term.now) }
     ensures { IfOk result (λ v. view_in v ≡ printer.group_view (spell_of setting.now)
-        (inputs_of setting.now) (fence_in setting.now) (scope_of scope.now) first
+        (inputs_of setting.now) (scope_of scope.now) first
         (term_of term.now)) }
 {
     let declared = setting.declared;

@@ -2,13 +2,18 @@
 
 ghost use Rattle.std.specs.Prelude.{◌≡◌, IfOk};
 ghost use Rattle.group_form.specs.Printer as printer;
+ghost use Rattle.kernel_tree.specs.Tree.{formula_of};
+ghost use Rattle.length_spelling.specs.Turns.{number_of, turn_formula};
 ghost use Rattle.lift_ir.specs.Terms as terms;
+ghost use Rattle.lift_ir.specs.Terms.{WorkGroup};
+ghost use Rattle.printed_form.specs.MapForms as map_forms;
+ghost use Rattle.printed_form.specs.MapForms.{form_over_groups};
 ghost use Rattle.array_views.specs.Views.{view_in};
 ghost use Rattle.lowering.specs.Terms.{kind_of, load_set_of, term_of};
 ghost use Rattle.item_emit.specs.Blocks.{code_in};
 ghost use Rattle.item_emit.specs.Copies.{HasShortCopies};
 ghost use Rattle.item_emit.specs.Scopes.{scope_of};
-ghost use Rattle.group_emit.specs.Settings.{fence_in, inputs_of, spell_of};
+ghost use Rattle.group_emit.specs.Settings.{fence_in, forms_in, inputs_of, spell_of};
 
 use crate::counts::{Used, phases_in};
 use crate::setting::Setting;
@@ -20,16 +25,55 @@ use item_emit::block::Block;
 use item_emit::counts::load_count;
 use item_emit::scope::Scope;
 use item_emit::statements::at_turn;
-use kernel_tree::tree::{Dimension, Start, Stride};
-use length_spelling::spell_length;
+use kernel_tree::tree::{Dimension, Expr, Start, Stride};
+use length_spelling::{Turn, spell_length};
 use lowering::term::{Kind, LoadSet, Term};
 use size_arith::Poly;
 use std::alloc::{AllocError, Global};
 
-// A turn over this element: what is loaded of it, the body's phases, and the barrier that closes it.
+// A turn of a map over work-groups, which stands in no loop: of its `if` where `once`, else of its
+// own.
+fn turn_over_groups(once: bool) -> Turn
+    ensures { turn_formula (number_of result)
+        ≡ printer.turn_formula (form_over_groups once) WorkGroup 0 }
+{
+    if once { Turn::Group } else { Turn::Loop(0) }
+}
+
+// In how many loops such a turn's code stands.
+fn depth_over_groups(once: bool) -> u32
+    ensures { result ≡ printer.depth_in (form_over_groups once) 0 }
+{
+    if once { 0 } else { 1 }
+}
+
+// The statement of a map over so many work-groups, with nothing behind it.
+fn statement_over_groups(
+    alloc: Global,
+    once: bool,
+    length: Expr,
+    turn: Block,
+) -> Result<Block, AllocError>
+    ensures { IfOk result (λ b. code_in b
+        ≡ map_forms.statement_over_groups once (formula_of length) (code_in turn)) }
+{
+    let start = Start::GroupId(Dimension::X);
+    let mut block = Block::new(alloc);
+    if once {
+        block.put_guard(start, length, turn)?;
+        Ok(block)
+    } else {
+        block.put_loop(start, length, Stride::GroupCount(Dimension::X), turn)?;
+        Ok(block)
+    }
+}
+
+// A turn over this element, within so many loops: what is loaded of it, the body's phases, and the
+// barrier that closes it.
 fn group_turn(
     alloc: Global,
     setting: &Setting,
+    depth: u32,
     scope: &Scope,
     loads: &LoadSet,
     element: &View,
@@ -38,11 +82,13 @@ fn group_turn(
 ) -> Result<Block, AllocError>
     requires { HasShortCopies (term_of body.now) }
     ensures { IfOk result (λ b. code_in b ≡ printer.print_group_turn (spell_of setting.now)
-        (inputs_of setting.now) (fence_in setting.now) (scope_of scope.now) (load_set_of loads.now)
-        (view_in element.now) (term_of body.now) (view_in target.now)) }
+        (forms_in setting.now) (inputs_of setting.now) (fence_in setting.now) depth
+        (scope_of scope.now) (load_set_of loads.now) (view_in element.now) (term_of body.now)
+        (view_in target.now)) }
 {
     let bound = loaded(alloc, loads, element, 0)?;
     let site = Site {
+        depth,
         scope: &Scope::Bound(&bound, scope),
         used: Used {
             locals: 0,
@@ -59,7 +105,7 @@ fn group_turn(
 }
 
 // A map over work-groups itself.
-fn group_loop(
+fn group_statement(
     alloc: Global,
     setting: &Setting,
     scope: &Scope,
@@ -73,19 +119,19 @@ fn group_loop(
     requires array { HasShortCopies (term_of array.now) }
     requires body { HasShortCopies (term_of body.now) }
     ensures { IfOk result (λ b. code_in b ≡ printer.print_groups (spell_of setting.now)
-        (inputs_of setting.now) (fence_in setting.now) (scope_of scope.now)
-        (terms.Map (kind_of kind) count.now (load_set_of loads.now) (term_of array.now)
-        (term_of body.now)) (view_in target.now)) }
+        (forms_in setting.now) (inputs_of setting.now) (fence_in setting.now)
+        (scope_of scope.now) (terms.Map (kind_of kind) count.now (load_set_of loads.now)
+        (term_of array.now) (term_of body.now)) (view_in target.now)) }
 {
+    let once = setting.is_over_one(count);
+    let turn = turn_over_groups(once);
     let element = argument(alloc, &setting.declared, scope, 0, array)?;
-    let element = at_turn(alloc, &element, 0)?;
-    let target = at_turn(alloc, target, 0)?;
-    let turn = group_turn(alloc, setting, scope, loads, &element, body, &target)?;
+    let element = at_turn(alloc, &element, turn)?;
+    let target = at_turn(alloc, target, turn)?;
+    let depth = depth_over_groups(once);
+    let turn = group_turn(alloc, setting, depth, scope, loads, &element, body, &target)?;
     let length = spell_length(alloc, count, setting.declared.names)?;
-    let mut block = Block::new(alloc);
-    let start = Start::GroupId(Dimension::X);
-    block.put_loop(start, length, Stride::GroupCount(Dimension::X), turn)?;
-    Ok(block)
+    statement_over_groups(alloc, once, length, turn)
 }
 
 /// The code of a map over work-groups, through layouts and lets of inputs.
@@ -98,8 +144,8 @@ pub fn groups(
 ) -> Result<Block, AllocError>
     requires { HasShortCopies (term_of term.now) }
     ensures { IfOk result (λ b. code_in b ≡ printer.print_groups (spell_of setting.now)
-        (inputs_of setting.now) (fence_in setting.now) (scope_of scope.now) (term_of term.now)
-        (view_in target.now)) }
+        (forms_in setting.now) (inputs_of setting.now) (fence_in setting.now)
+        (scope_of scope.now) (term_of term.now) (view_in target.now)) }
 {
     match term {
         Term::Reshape(layout, a) => {
@@ -111,7 +157,7 @@ pub fn groups(
             let bound = argument(alloc, &setting.declared, scope, 0, value)?;
             groups(alloc, setting, &Scope::Bound(&bound, &*scope), body, target)
         }
-        Term::Map(kind, count, loads, array, body) => group_loop(
+        Term::Map(kind, count, loads, array, body) => group_statement(
             alloc, setting, scope, *kind, count, loads, array, body, target,
         ),
         Term::Literal(_)

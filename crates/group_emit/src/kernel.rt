@@ -9,7 +9,7 @@ ghost use Rattle.lift_ir.specs.AtLaunch.{shape_of};
 ghost use Rattle.printed_form.specs.Programs as programs;
 ghost use Rattle.lowering.specs.Terms.{term_of};
 ghost use Rattle.item_emit.specs.Copies.{HasShortCopies};
-ghost use Rattle.group_emit.specs.Settings.{fence_in, spell_of};
+ghost use Rattle.group_emit.specs.Settings.{fence_in, forms_in, spell_of};
 
 use crate::groups::groups;
 use crate::setting::Setting;
@@ -31,7 +31,7 @@ pub fn statements(
 ) -> Result<Vec<Stmt>, AllocError>
     requires { HasShortCopies (term_of term.now) }
     ensures { IfOk result (λ ss. code_then ss.items End ≡ printer.group_kernel_code
-        (spell_of setting.now)
+        (spell_of setting.now) (forms_in setting.now)
         (programs.first_buffer (map ty_of setting.now.declared.inputs.now))
         (programs.input_shape (map ty_of setting.now.declared.inputs.now))
         (fence_in setting.now) (term_of term.now) (shape_of (ty_of ty.now))) }

@@ -4,20 +4,26 @@ ghost use Rattle.std.specs.Prelude.{◌≡◌, OnOk};
 ghost use Rattle.barrier_placement.specs.Fencing.{fence};
 ghost use Rattle.group_form.specs.Printer as printer;
 ghost use Rattle.item_emit.specs.Blocks.{code_in};
-ghost use Rattle.group_emit.specs.Settings.{fence_in, fencing_in};
+ghost use Rattle.group_emit.specs.Settings.{fence_in, fencing_in, forms_in};
+ghost use Rattle.group_form.specs.ChosenForms.{form_of};
 
 use barrier_placement::Barrier;
+use group_form::chosen::{MapForm, is_over_one, local_form};
 use item_emit::arguments::Declared;
 use item_emit::block::Block;
 use kernel_tree::tree::Stmt;
+use size_arith::Poly;
 use std::alloc::AllocError;
 
-/// What a program's terms name, and the barriers of a work-group's body with so many phases.
+/// What a program's terms name, the barriers of a work-group's body with so many phases, and the size
+/// that groups have.
 #[derive(Clone, Copy)]
 pub struct Setting<'p> {
     pub declared: Declared<'p>,
     pub barriers: &'p [Barrier],
     pub phases: u32,
+    /// The local size, where the script fixes it.
+    pub local: Option<u32>,
 }
 
 // The barrier just before a phase, or the one that closes a body of so many.
@@ -37,6 +43,20 @@ fn barrier_before(barriers: &[Barrier], phases: u32, phase: u32) -> Option<Barri
 }
 
 impl<'p> Setting<'p> {
+    /// The form of a local map of this length.
+    pub fn local_form(&self, length: &Poly) -> MapForm
+        ensures { form_of result ≡ (forms_in self.now).local length.now }
+    {
+        local_form(self.declared.names, self.local, length)
+    }
+
+    /// Whether a map over so many work-groups is an `if`.
+    pub fn is_over_one(&self, length: &Poly) -> bool
+        ensures { result ≡ (forms_in self.now).once length.now }
+    {
+        is_over_one(self.declared.names, self.local, length)
+    }
+
     /// Puts the barrier, if any, that stands just before a phase or, where there is none of that number, that closes the body.
     pub fn put_barrier(&self, phase: u32, block: &mut Block) -> Result<(), AllocError>
         ensures { OnOk result (code_in block.new

@@ -1,40 +1,67 @@
 //! The code of the items of a group together: local maps, and the copies to local memory that they fill.
 
-ghost use Rattle.std.specs.Prelude.{◌≡◌, OnOk};
+ghost use Rattle.std.specs.Prelude.{◌≡◌, IfOk, OnOk};
+ghost use Rattle.group_form.specs.ChosenForms.{form_of};
 ghost use Rattle.group_form.specs.Printer as printer;
+ghost use Rattle.kernel_tree.specs.Code.{End};
+ghost use Rattle.length_spelling.specs.Turns.{number_of, turn_formula};
 ghost use Rattle.lift_ir.specs.Terms as terms;
+ghost use Rattle.lift_ir.specs.Terms.{Local};
 ghost use Rattle.array_views.specs.Views.{view_in};
 ghost use Rattle.lowering.specs.Terms.{kind_of, load_set_of, term_of};
 ghost use Rattle.item_emit.specs.Blocks.{code_in};
 ghost use Rattle.item_emit.specs.Copies.{HasShortCopies};
 ghost use Rattle.item_emit.specs.Scopes.{scope_of};
-ghost use Rattle.group_emit.specs.Settings.{fence_in, inputs_of, spell_of};
+ghost use Rattle.group_emit.specs.Settings.{fence_in, forms_in, inputs_of, spell_of};
 ghost use Rattle.group_emit.specs.Used.{used_of};
 
 use crate::arguments::{argument, local};
 use crate::counts::{Used, local_count};
 use crate::setting::Setting;
 use array_views::View;
+use group_form::chosen::MapForm;
 use item_emit::accesses::{loaded, put_loaded};
 use item_emit::block::Block;
 use item_emit::counts::{load_count, plus};
 use item_emit::scope::Scope;
 use item_emit::statements as item;
 use kernel_tree::tree::{Dimension, Start, Stride};
-use length_spelling::spell_length;
+use length_spelling::{Turn, spell_length};
 use lowering::term::{Kind, LoadSet, Term};
 use size_arith::Poly;
 use std::alloc::{AllocError, Global};
 
-/// Where code stands: with these binders in scope, and behind code that uses so much.
+/// Where code stands: within so many loops, with these binders in scope, and behind code that uses so
+/// much.
 #[derive(Clone, Copy)]
 pub struct Site<'s> {
+    pub depth: u32,
     pub scope: &'s Scope<'s>,
     pub used: Used,
 }
 
-// The loop of a local map over this array.
-fn put_local_loop(
+// A turn of a local map in this form.
+fn local_turn(form: MapForm, depth: u32) -> Turn
+    ensures { turn_formula (number_of result) ≡ printer.turn_formula (form_of form) Local depth }
+{
+    match form {
+        MapForm::Looped => Turn::Loop(depth),
+        MapForm::Guarded | MapForm::Alone => Turn::Local,
+    }
+}
+
+// In how many loops a turn of a map in this form stands, where the map stands in so many.
+fn depth_in(form: MapForm, depth: u32) -> Result<u32, AllocError>
+    ensures { IfOk result (λ n. n ≡ printer.depth_in (form_of form) depth) }
+{
+    match form {
+        MapForm::Looped => plus(depth, 1),
+        MapForm::Guarded | MapForm::Alone => Ok(depth),
+    }
+}
+
+// A turn of a local map over this array.
+fn put_local_turn(
     alloc: Global,
     setting: &Setting,
     site: &Site,
@@ -46,27 +73,85 @@ fn put_local_loop(
     block: &mut Block,
 ) -> Result<(), AllocError>
     requires { HasShortCopies (term_of body.now) }
-    ensures { OnOk result (code_in block.new ≡ printer.print_local_loop (spell_of setting.now)
-        (inputs_of setting.now) (fence_in setting.now) (scope_of site.now.scope.now)
-        (used_of site.now.used) count.now (load_set_of loads.now) (view_in array.now)
-        (term_of body.now) (view_in target.now) (code_in block.old)) }
+    ensures { OnOk result (code_in block.new ≡ printer.print_local_turn (spell_of setting.now)
+        (forms_in setting.now) (inputs_of setting.now) (fence_in setting.now) site.now.depth
+        (scope_of site.now.scope.now) (used_of site.now.used) count.now (load_set_of loads.now)
+        (view_in array.now) (term_of body.now) (view_in target.now) (code_in block.old)) }
 {
-    let element = item::at_turn(alloc, array, 1)?;
+    let form = setting.local_form(count);
+    let turn = local_turn(form, site.depth);
+    let element = item::at_turn(alloc, array, turn)?;
     let first_load = site.used.variables;
     let bound = loaded(alloc, loads, &element, first_load)?;
     let inner = item::Site {
-        depth: 2,
+        depth: depth_in(form, site.depth)?,
         scope: &Scope::Bound(&bound, site.scope),
         array: site.used.privates,
         variable: plus(first_load, load_count(loads)?)?,
     };
+    let target = item::at_turn(alloc, target, turn)?;
+    item::put_written(alloc, &setting.declared, &inner, body, &target, block)?;
+    put_loaded(alloc, loads, &element, first_load, block)
+}
+
+// A turn of a local map over this array, with nothing behind it.
+fn local_block(
+    alloc: Global,
+    setting: &Setting,
+    site: &Site,
+    count: &Poly,
+    loads: &LoadSet,
+    array: &View,
+    body: &Term,
+    target: &View,
+) -> Result<Block, AllocError>
+    requires { HasShortCopies (term_of body.now) }
+    ensures { IfOk result (λ b. code_in b ≡ printer.print_local_turn (spell_of setting.now)
+        (forms_in setting.now) (inputs_of setting.now) (fence_in setting.now) site.now.depth
+        (scope_of site.now.scope.now) (used_of site.now.used) count.now (load_set_of loads.now)
+        (view_in array.now) (term_of body.now) (view_in target.now) End) }
+{
     let mut turn = Block::new(alloc);
-    let target = item::at_turn(alloc, target, 1)?;
-    item::put_written(alloc, &setting.declared, &inner, body, &target, &mut turn)?;
-    put_loaded(alloc, loads, &element, first_load, &mut turn)?;
-    let length = spell_length(alloc, count, setting.declared.names)?;
-    let start = Start::LocalId(Dimension::X);
-    block.put_loop(start, length, Stride::LocalSize(Dimension::X), turn)
+    put_local_turn(
+        alloc, setting, site, count, loads, array, body, target, &mut turn,
+    )?;
+    Ok(turn)
+}
+
+// The statement of a local map over this array, or its turn alone, as its length's form is.
+fn put_local_map(
+    alloc: Global,
+    setting: &Setting,
+    site: &Site,
+    count: &Poly,
+    loads: &LoadSet,
+    array: &View,
+    body: &Term,
+    target: &View,
+    block: &mut Block,
+) -> Result<(), AllocError>
+    requires { HasShortCopies (term_of body.now) }
+    ensures { OnOk result (code_in block.new ≡ printer.print_local_map (spell_of setting.now)
+        (forms_in setting.now) (inputs_of setting.now) (fence_in setting.now) site.now.depth
+        (scope_of site.now.scope.now) (used_of site.now.used) count.now (load_set_of loads.now)
+        (view_in array.now) (term_of body.now) (view_in target.now) (code_in block.old)) }
+{
+    match setting.local_form(count) {
+        MapForm::Alone => put_local_turn(
+            alloc, setting, site, count, loads, array, body, target, block,
+        ),
+        MapForm::Guarded => {
+            let turn = local_block(alloc, setting, site, count, loads, array, body, target)?;
+            let length = spell_length(alloc, count, setting.declared.names)?;
+            block.put_guard(Start::LocalId(Dimension::X), length, turn)
+        }
+        MapForm::Looped => {
+            let turn = local_block(alloc, setting, site, count, loads, array, body, target)?;
+            let length = spell_length(alloc, count, setting.declared.names)?;
+            let stride = Stride::LocalSize(Dimension::X);
+            block.put_loop(Start::LocalId(Dimension::X), length, stride, turn)
+        }
+    }
 }
 
 // The code of a local map, with the barrier before it.
@@ -86,16 +171,18 @@ fn put_map(
     requires array { HasShortCopies (term_of array.now) }
     requires body { HasShortCopies (term_of body.now) }
     ensures { OnOk result (code_in block.new ≡ printer.print_group_written (spell_of setting.now)
-        (inputs_of setting.now) (fence_in setting.now) (scope_of site.now.scope.now)
+        (forms_in setting.now) (inputs_of setting.now) (fence_in setting.now) site.now.depth
+        (scope_of site.now.scope.now)
         (used_of site.now.used) (terms.Map (kind_of kind) count.now (load_set_of loads.now)
         (term_of array.now) (term_of body.now)) (view_in target.now) (code_in block.old)) }
 {
     let view = argument(alloc, setting, site.scope, site.used.locals, array)?;
     let after = Site {
+        depth: site.depth,
         scope: site.scope,
         used: site.used.after(array)?,
     };
-    put_local_loop(
+    put_local_map(
         alloc, setting, &after, count, loads, &view, body, target, block,
     )?;
     setting.put_barrier(after.used.phases, block)?;
@@ -116,12 +203,14 @@ fn put_let(
     requires value { HasShortCopies (term_of value.now) }
     requires body { HasShortCopies (term_of body.now) }
     ensures { OnOk result (code_in block.new ≡ printer.print_group_written (spell_of setting.now)
-        (inputs_of setting.now) (fence_in setting.now) (scope_of site.now.scope.now)
+        (forms_in setting.now) (inputs_of setting.now) (fence_in setting.now) site.now.depth
+        (scope_of site.now.scope.now)
         (used_of site.now.used) (terms.LetArray (term_of value.now) (term_of body.now))
         (view_in target.now) (code_in block.old)) }
 {
     let bound = argument(alloc, setting, site.scope, site.used.locals, value)?;
     let inner = Site {
+        depth: site.depth,
         scope: &Scope::Bound(&bound, site.scope),
         used: site.used.after(value)?,
     };
@@ -142,12 +231,14 @@ fn put_argument_let(
     requires value { HasShortCopies (term_of value.now) }
     requires body { HasShortCopies (term_of body.now) }
     ensures { OnOk result (code_in block.new ≡ printer.print_group_argument (spell_of setting.now)
-        (inputs_of setting.now) (fence_in setting.now) (scope_of site.now.scope.now)
+        (forms_in setting.now) (inputs_of setting.now) (fence_in setting.now) site.now.depth
+        (scope_of site.now.scope.now)
         (used_of site.now.used) (terms.LetArray (term_of value.now) (term_of body.now))
         (code_in block.old)) }
 {
     let bound = argument(alloc, setting, site.scope, site.used.locals, value)?;
     let inner = Site {
+        depth: site.depth,
         scope: &Scope::Bound(&bound, site.scope),
         used: site.used.after(value)?,
     };
@@ -166,12 +257,14 @@ pub fn put_argument(
 ) -> Result<(), AllocError>
     requires { HasShortCopies (term_of term.now) }
     ensures { OnOk result (code_in block.new ≡ printer.print_group_argument (spell_of setting.now)
-        (inputs_of setting.now) (fence_in setting.now) (scope_of site.now.scope.now)
+        (forms_in setting.now) (inputs_of setting.now) (fence_in setting.now) site.now.depth
+        (scope_of site.now.scope.now)
         (used_of site.now.used) (term_of term.now) (code_in block.old)) }
 {
     match term {
         Term::Pair(a, b) | Term::Zip(a, b) => {
             let next = Site {
+                depth: site.depth,
                 scope: site.scope,
                 used: site.used.after(a)?,
             };
@@ -211,7 +304,8 @@ pub fn put_written(
 ) -> Result<(), AllocError>
     requires { HasShortCopies (term_of term.now) }
     ensures { OnOk result (code_in block.new ≡ printer.print_group_written (spell_of setting.now)
-        (inputs_of setting.now) (fence_in setting.now) (scope_of site.now.scope.now)
+        (forms_in setting.now) (inputs_of setting.now) (fence_in setting.now) site.now.depth
+        (scope_of site.now.scope.now)
         (used_of site.now.used) (term_of term.now) (view_in target.now) (code_in block.old)) }
 {
     match term {

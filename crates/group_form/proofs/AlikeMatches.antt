@@ -1,8 +1,8 @@
 -- Codes with barriers that differ in the spelling of indices and bounds alone.
 use Rattle.std.specs.Prelude.{◌≡◌, ℕ, ◌<◌, List, [], ◌∷◌, ◌++◌, Some}
 use Rattle.kernel_tree.specs.Formula.{bound_value}
-use Rattle.kernel_tree.specs.Code.{Code, End, Assigns, Loads, Stores, Loops, Syncs}
-use Rattle.kernel_tree.specs.Launch.{Launch, item_count}
+use Rattle.kernel_tree.specs.Code.{Code, End, Assigns, Loads, Stores, Loops, Guards, Syncs, start_value}
+use Rattle.kernel_tree.specs.Launch.{Launch, item_count, ids_of}
 use Rattle.kernel_tree.specs.Item.{Frame, Item, loop_variables, Wants, Ends, Waits, Moves, Reads, Writes, Fails}
 use Rattle.kernel_tree.specs.Device.{State}
 use Rattle.printed_form.specs.Alike.{SameIndex, IsAhead}
@@ -18,6 +18,8 @@ module _ (l : Launch) (item : ℕ) where
   Matches ts (Stores a i e r) (Stores b j f q) = (a ≡ b) × SameIndex l item ts i j × (e ≡ f) × Matches ts r q
   Matches ts (Loops s b c body r) (Loops t d e other q) =
       (s ≡ t) × (c ≡ e) × (n : ℕ) × (bound_value l.sizes b ≡ Some n) × (bound_value l.sizes d ≡ Some n) × ((i : ℕ) → i < n → IsTurn l item s c i → Matches (ts ++ i ∷ []) body other) × Matches ts r q
+  Matches ts (Guards s b body r) (Guards t d other q) =
+      (s ≡ t) × (n : ℕ) × (bound_value l.sizes b ≡ Some n) × (bound_value l.sizes d ≡ Some n) × (start_value (ids_of l item) s < n → Matches ts body other) × Matches ts r q
   Matches ts (Syncs a b r) (Syncs c d q) = (a ≡ c) × (b ≡ d) × Matches ts r q
   Matches ts _ _ = ⊥
 

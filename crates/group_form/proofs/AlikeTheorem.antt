@@ -4,7 +4,7 @@ use Rattle.std.proofs.Math.Path.{fun_ext}
 use Rattle.lift_tree.specs.Tree.{Tree}
 use Rattle.lift_tree.specs.Typing.{Declared, IsAdmissible}
 use Rattle.lift_tree.specs.Annotations.{Annotation, type_in}
-use Rattle.lift_tree.specs.Launches.{lists_of}
+use Rattle.lift_tree.specs.Launches.{Asks, lists_of}
 use Rattle.lift_tree.specs.Meaning.{World, meaning}
 use Rattle.barrier_placement.specs.declared.touches.Touch.{Touch}
 use Rattle.barrier_placement.specs.Fencing.{Fencing}
@@ -27,6 +27,9 @@ use Rattle.printed_form.specs.Whole.{no_marks, output_marks}
 use Rattle.group_form.specs.Programs.{PrintsGroups, IsGroupProgram, PrintedGroupProgramsKeep, PrintedGroupProgramsServe, PrintedGroupProgramsStart}
 use Rattle.group_form.specs.Uses.{group_touches, phase_count}
 use Rattle.group_form.specs.Alike.{PrintedGroupProgramsGoAlike}
+use Rattle.group_form.specs.ChosenForms.{forms_of}
+use Rattle.group_form.specs.Form.{is_once}
+use Rattle.group_form.proofs.ChosenForms.{alone_is}
 use Rattle.group_form.proofs.AlikeCodes.{over_groups}
 use Rattle.group_form.proofs.AlikeEnds.{runs_out}
 use Rattle.group_form.proofs.AlikeMatches.{Matches, MatchingItems, MatchingStates}
@@ -34,7 +37,7 @@ use Rattle.group_form.proofs.AlikeRuns.{IsRunToo, is_run_too}
 
 -- the uses tell the needed barriers
 abbrev pub BarriersAreDetermined : Type 0
-BarriersAreDetermined = (touches : List Touch) (n : ℕ) (one other : ℕ → Fencing) → Needed touches n one → Needed touches n other → (q : ℕ) → q ≤ n → one q ≡ other q
+BarriersAreDetermined = (touches : List Touch) (once : Bool) (n : ℕ) (one other : ℕ → Fencing) → Needed touches once n one → Needed touches once n other → (q : ℕ) → q ≤ n → one q ≡ other q
 
 -- kernels of one history go alike
 abbrev pub OneHistoryGoesAlike : Type 0
@@ -43,26 +46,26 @@ OneHistoryGoesAlike =
     → GoesAlike (record { launch = l; lengths = m }) s (record { launch = l; lengths = n }) t
 
 module _ (determined : BarriersAreDetermined) (alike : OneHistoryGoesAlike) (keep : PrintedGroupProgramsKeep) (serve : PrintedGroupProgramsServe) (begins : PrintedGroupProgramsStart)
-    (d : Declared) (is_task : Bool) (w : World) (t : Tree) (a : Annotation) (l : Launch) (c : Cells) (program : IsGroupProgram d w.bases t a) (ok : IsAdmissible d w) (launch : IsLaunchOf d is_task w.bases l) (buffers : AreBuffersOf d w t a c) where
-  module _ (k : Kernel) (s : State) (printed : PrintsGroups d w.bases t a l k) (start : IsStart k l c s) where
+    (d : Declared) (asks : Asks) (w : World) (t : Tree) (a : Annotation) (l : Launch) (c : Cells) (program : IsGroupProgram d w.bases t a) (ok : IsAdmissible d w) (launch : IsLaunchOf d asks w.bases l) (buffers : AreBuffersOf d w t a c) where
+  module _ (k : Kernel) (s : State) (printed : PrintsGroups d asks.local w.bases t a l k) (start : IsStart k l c s) where
     keeps : EveryRunKeeps k l c (cell_owner d.names w.bases l t a) (lists_of (type_in a) (meaning w [] t))
-    keeps = keep d is_task w t a l k c program ok launch buffers printed
+    keeps = keep d asks w t a l k c program ok launch buffers printed
 
     meet : (es : List Event) → IsRun (device_of k l c) s es → MeetTogether (device_of k l c) (run (device_of k l c) s es)
-    meet es r = ((serve d is_task w t a l k c program ok launch buffers printed).1 s es start r).meet
+    meet es r = ((serve d asks w t a l k c program ok launch buffers printed).1 s es start r).meet
 
     whole : IsWhole l
-    whole = (begins d is_task w t a l k c program ok launch buffers printed).whole
+    whole = (begins d asks w t a l k c program ok launch buffers printed).whole
 
     -- some run goes on to the end
     full : (es : List Event) × IsRun (device_of k l c) s es × IsStuck (device_of k l c) (run (device_of k l c) s es)
     full = runs_out (device_of k l c) whole s (bound k l) (λ es r. (keeps s es start r).leaves.bounded) meet
 
-  module _ (k m : Kernel) (s r : State) (one : PrintsGroups d w.bases t a l k) (two : PrintsGroups d w.bases t a l m) (start : IsStart k l c s) (begin : IsStart m l c r) (same : SameContents l s r) where
+  module _ (k m : Kernel) (s r : State) (one : PrintsGroups d asks.local w.bases t a l k) (two : PrintsGroups d asks.local w.bases t a l m) (start : IsStart k l c s) (begin : IsStart m l c r) (same : SameContents l s r) where
     codes : (j : ℕ) → j < item_count l → Matches l j [] k.code m.code
     codes j lt =
-        over_groups l j (input_marks (length_at w.bases) (first_buffer d.inputs) (input_shape d.inputs)) (length_at w.bases) one.fence two.fence lt (lowered_root d.names t a) no_marks (output_marks (ty_at w.bases (type_in a))) k.code m.code
-        (determined (group_touches (lowered_root d.names t a)) (phase_count (lowered_root d.names t a)) one.fence two.fence one.needed two.needed) one.code two.code
+        over_groups l j (input_marks (length_at w.bases) (first_buffer d.inputs) (input_shape d.inputs)) (length_at w.bases) (forms_of d.names asks.local) (alone_is d.names w.bases l asks.local launch.admissible.fixed) (whole k s one start) one.fence two.fence lt (lowered_root d.names t a) no_marks (output_marks (ty_at w.bases (type_in a))) k.code m.code
+        (determined (group_touches (lowered_root d.names t a)) (is_once (forms_of d.names asks.local) (lowered_root d.names t a)) (phase_count (lowered_root d.names t a)) one.fence two.fence one.needed two.needed) one.code two.code
 
     states : MatchingStates l s r
     states = record {
@@ -95,5 +98,5 @@ module _ (determined : BarriersAreDetermined) (alike : OneHistoryGoesAlike) (kee
         (record { events = events; completes = completes_too; acts = too.histories })
 
 pub group_programs_go_alike : BarriersAreDetermined → OneHistoryGoesAlike → PrintedGroupProgramsKeep → PrintedGroupProgramsServe → PrintedGroupProgramsStart → PrintedGroupProgramsGoAlike
-group_programs_go_alike determined alike keep serve begins d is_task w t a l k m c s r program ok launch buffers one two start begin same =
-    go_alike determined alike keep serve begins d is_task w t a l c program ok launch buffers k m s r one two start begin same
+group_programs_go_alike determined alike keep serve begins d asks w t a l k m c s r program ok launch buffers one two start begin same =
+    go_alike determined alike keep serve begins d asks w t a l c program ok launch buffers k m s r one two start begin same

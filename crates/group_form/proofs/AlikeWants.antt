@@ -5,9 +5,9 @@ use Rattle.std.proofs.lemmas.Bool.{ltb-true}
 use Rattle.kernel_tree.specs.declared.events.FaultKind.{FaultKind}
 use Rattle.kernel_tree.specs.declared.events.FaultKind.TheVariants.{LoopWrap}
 use Rattle.kernel_tree.specs.Formula.{Vars, set_word, value, bound_value}
-use Rattle.kernel_tree.specs.Code.{Code, End, Assigns, Loads, Stores, Loops, Syncs, start_value, stride_value}
+use Rattle.kernel_tree.specs.Code.{Start, Code, End, Assigns, Loads, Stores, Loops, Guards, Syncs, start_value, stride_value, then_rest}
 use Rattle.kernel_tree.specs.Launch.{Launch, ids_of}
-use Rattle.kernel_tree.specs.Item.{Frame, Item, item, loop_variables, Wants, Fails, with_value, tested, next_turn, next_at, next}
+use Rattle.kernel_tree.specs.Item.{Frame, Item, item, loop_variables, Wants, Moves, Fails, with_value, tested, next_turn, next_at, next}
 use Rattle.group_form.proofs.AlikeMatches.{Matches, MatchingFrames, MatchingItems, MatchingWants}
 
 module _ (l : Launch) (k : ℕ) where
@@ -26,6 +26,26 @@ module _ (l : Launch) (k : ℕ) where
 
   on_at : (c d : Code) (fs hs : List Frame) (vars : Vars) → Matches l k (loop_variables fs) c d → MatchingFrames l k fs hs → MatchingItems l k (item c fs vars) (item d hs vars)
   on_at c d fs hs vars a b = record { code = a; frames = b; vars = refl }
+
+  -- code before whatever follows
+  before_rest : (ts : List ℕ) (a b r q : Code) → Matches l k ts a b → Matches l k ts r q → Matches l k ts (then_rest a r) (then_rest b q)
+  before_rest ts End End r q a h = h
+  before_rest ts (Assigns v e x) (Assigns u f y) r q a h = (a.0, a.1, before_rest ts x y r q a.2 h)
+  before_rest ts (Loads v m i x) (Loads u n j y) r q a h = (a.0, a.1, a.2, before_rest ts x y r q a.3 h)
+  before_rest ts (Stores m i e x) (Stores n j f y) r q a h = (a.0, a.1, a.2, before_rest ts x y r q a.3 h)
+  before_rest ts (Loops s b c body x) (Loops t d e other y) r q a h = (a.0, a.1, a.2, a.3, a.4, a.5, before_rest ts x y r q a.6 h)
+  before_rest ts (Guards s b body x) (Guards t d other y) r q a h = (a.0, a.1, a.2, a.3, a.4, before_rest ts x y r q a.5 h)
+  before_rest ts (Syncs m n x) (Syncs i j y) r q a h = (a.0, a.1, before_rest ts x y r q a.2 h)
+  before_rest ts _ _ r q a h = absurd a
+
+  -- an `if` is entered in both, or in neither
+  guarded_matches : (n : ℕ) (s : Start) (body r other q : Code) (fs hs : List Frame) (vars : Vars) → (start_value (ids_of l k) s < n → Matches l k (loop_variables fs) body other) → Matches l k (loop_variables fs) r q → MatchingFrames l k fs hs
+      → MatchingItems l k (if nat_lt (start_value (ids_of l k) s) n then item (then_rest body r) fs vars else item r fs vars) (if nat_lt (start_value (ids_of l k) s) n then item (then_rest other q) hs vars else item q hs vars)
+  guarded_matches n s body r other q fs hs vars within after b = go (nat_lt (start_value (ids_of l k) s) n) refl
+    where
+      go : (t : Bool) → nat_lt (start_value (ids_of l k) s) n ≡ t → MatchingItems l k (if t then item (then_rest body r) fs vars else item r fs vars) (if t then item (then_rest other q) hs vars else item q hs vars)
+      go true e = on_at (then_rest body r) (then_rest other q) fs hs vars (before_rest (loop_variables fs) body other r q (within (ltb-true (start_value (ids_of l k) s) n e)) after) b
+      go false e = on_at r q fs hs vars after b
 
   -- a loop goes on in both, or ends in both
   tested_matches : (n : ℕ) (f h : Frame) (fs hs : List Frame) (vars : Vars) → bound_value l.sizes f.bound ≡ Some n → MatchingFrames l k (f ∷ fs) (h ∷ hs) → MatchingWants l k (tested n f fs vars) (tested n h hs vars)
@@ -88,6 +108,12 @@ module _ (l : Launch) (k : ℕ) where
       let go = λ (g : Frame) (gs : List Frame) (n : ℕ). tested n g gs vars in
       subst (λ o. MatchingWants l k (with_value o (go f fs)) (with_value (bound_value l.sizes c2) (go h hs))) (sym a.3)
       (subst (λ o. MatchingWants l k (go f fs a.2) (with_value o (go h hs))) (sym a.4) (tested_matches a.2 f h fs hs vars a.3 frames))
+  next_at_matches (Guards s c body r) (Guards t c2 other q) fs hs vars a b =
+      let ids = ids_of l k in
+      let go = λ (u : Start) (x y : Code) (gs : List Frame) (n : ℕ). Moves (if nat_lt (start_value ids u) n then item (then_rest x y) gs vars else item y gs vars) in
+      subst (λ o. MatchingWants l k (with_value o (go s body r fs)) (with_value (bound_value l.sizes c2) (go t other q hs))) (sym a.2)
+      (subst (λ o. MatchingWants l k (go s body r fs a.1) (with_value o (go t other q hs))) (sym a.3)
+      (subst (λ u. MatchingWants l k (go s body r fs a.1) (go u other q hs a.1)) a.0 (guarded_matches a.1 s body r other q fs hs vars a.4 a.5 b)))
   next_at_matches (Syncs x y r) (Syncs z w q) fs hs vars a b = (a.0, a.1, on_at r q fs hs vars a.2 b)
   next_at_matches _ _ fs hs vars a b = absurd a
 

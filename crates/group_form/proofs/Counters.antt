@@ -5,6 +5,7 @@ use Rattle.lift_ir.specs.Types.{Ty, PairOf, ArrayOf, width}
 use Rattle.lift_ir.specs.Layouts.{operand_position, result_position}
 use Rattle.lift_ir.specs.Terms.{Local, LocalMemory, Term, Bound, Source, Both, Project, Reshape, LetArray, Map, Copy, HasType}
 use Rattle.lift_ir.specs.Scalars.{Scalars}
+use Rattle.printed_form.specs.MapForms.{MapForms}
 use Rattle.printed_form.specs.Marks.{Marks}
 use Rattle.group_form.specs.Origins.{local_count}
 use Rattle.group_form.specs.Forms.{StandsInGroup}
@@ -78,12 +79,12 @@ module _ {A : Type 0} where
   join_chains : (k m e : ℕ) (xs ys : List (Stage A)) → Chained k xs → chain_end k xs ≡ m → Chained m ys → chain_end m ys ≡ e → Chained k (xs ++ ys) × (chain_end k (xs ++ ys) ≡ e)
   join_chains k m e xs ys a b c d = (chain_append k xs ys a (subst (λ z. Chained z ys) (sym b) c), chain_end_append k xs ys ∙ ap (λ z. chain_end z ys) b ∙ d)
 
-module _ {A : Type 0} (num : A → ℕ) (ins : ℕ → Marks) (src : ℕ → Ty) (sources : ℕ → Scalars) where
+module _ {A : Type 0} (num : A → ℕ) (forms : MapForms A) (ins : ℕ → Marks) (src : ℕ → Ty) (sources : ℕ → Scalars) where
   abbrev argument_stages : (s : Scope) (t : Term A) (ty : Ty) → HasType num src s.types t ty → List (Stage A)
-  argument_stages = stages.argument_stages num ins src sources
+  argument_stages = stages.argument_stages num forms ins src sources
 
   abbrev written_stages : (s : Scope) (t : Term A) (ty : Ty) → HasType num src s.types t ty → Destination → (outer path : List ℕ → List ℕ) → Bool → List (Stage A)
-  written_stages = stages.written_stages num ins src sources
+  written_stages = stages.written_stages num forms ins src sources
 
   abbrev bind : Scope → Term A → Ty → Scope
   bind = stages.bind num ins src sources
@@ -116,5 +117,5 @@ module _ {A : Type 0} (num : A → ℕ) (ins : ℕ → Marks) (src : ℕ → Ty)
         join_chains s.locals (s.locals + local_count v) (next (s.locals + (local_count v + local_count b)) d) (argument_stages s v h.0 h.1) (written_stages (bind s v h.0) b ty h.2 d outer path direct) one.0 one.1 two.0 (two.1 ∙ ap (λ z. next z d) (sym sum))
     written_chain (Map Local n loads xs b) s ty h d outer path direct f first =
         let one = argument_chain xs s (ArrayOf (num n) h.0) h.4 f.0 in
-        join_chains s.locals (s.locals + local_count xs) (next (s.locals + local_count xs) d) (argument_stages s xs (ArrayOf (num n) h.0) h.4) (stages.stage_of num ins src sources s (num n) loads xs b h.0 h.1 d outer path direct ∷ []) one.0 one.1 (refl, first, tt) refl
+        join_chains s.locals (s.locals + local_count xs) (next (s.locals + local_count xs) d) (argument_stages s xs (ArrayOf (num n) h.0) h.4) (stages.stage_of num forms ins src sources s n loads xs b h.0 h.1 d outer path direct ∷ []) one.0 one.1 (refl, first, tt) refl
     written_chain _ s ty h d outer path direct f first = absurd (assumption)

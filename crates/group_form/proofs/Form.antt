@@ -11,10 +11,11 @@ use Rattle.lift_ir.specs.Terms.{WorkGroup, Local, LocalMemory, Term, Bound, Sour
 use Rattle.lift_ir.specs.Scalars.{at_index}
 use Rattle.printed_form.specs.Counts.{load_count}
 use Rattle.printed_form.specs.Marks.{Marks, loaded_marks}
-use Rattle.printed_form.specs.Form.{IsTurnOf, IsLoaded, IsLoop, IsWritten}
+use Rattle.printed_form.specs.Form.{IsTurnOf, IsLoaded, IsWritten}
+use Rattle.printed_form.specs.MapForms.{form_over_groups, variables_in, AreTurns}
 use Rattle.group_phases.specs.Epochs.{IsPast}
 use Rattle.group_phases.specs.Phased.{ArePhases}
-use Rattle.group_phases.specs.Phases.{PhaseList, IsPhaseLoop, IsPhase}
+use Rattle.group_phases.specs.Phases.{PhaseList, IsPhaseMap, IsPhase}
 use Rattle.group_form.specs.Forms.{StandsInGroup}
 use Rattle.group_form.specs.Origins.{local_count}
 use Rattle.group_form.specs.Uses.{Destination, Locals, phases_in}
@@ -26,8 +27,8 @@ use Rattle.group_form.specs.Form.{Used}
 use Rattle.group_form.proofs.Lists.{Each, long_append, each_left, each_right}
 
 -- nothing stands before the first phase
-pub open_first : (touches : List Touch) (n : ℕ) (fence : ℕ → Fencing) → 0 < n → Needed touches n fence → fence 0 ≡ Open
-open_first touches n fence some h = is_open (fence 0) (λ e. let z = h.flagged 0 (omega arith) e in let w = (h.before z.0 0 some).0 z.1 in let lt = w.1.earlier in omega arith)
+pub open_first : (touches : List Touch) (once : Bool) (n : ℕ) (fence : ℕ → Fencing) → 0 < n → Needed touches once n fence → fence 0 ≡ Open
+open_first touches once n fence some h = is_open (fence 0) (λ e. let z = h.flagged 0 (omega arith) e in let w = (h.before z.0 0 some).0 z.1 in let lt = w.1.earlier in omega arith)
   where
     is_open : (f : Fencing) → (stands f ≡ true → ⊥) → f ≡ Open
     is_open Open n = refl
@@ -40,7 +41,7 @@ module _ {A : Type 0} (num : A → ℕ) (l : Launch) (c : Cells) (wanted : List 
   -- m phases from phase q on, each after what stands before it
   abbrev pub Between : (q m : ℕ) → (code rest : Code) → Type 0
   Between q zero code rest = code ≡ rest
-  Between q (suc m) code rest = (mid mid2 : Code) × IsPast (fence q) code mid × IsPhaseLoop num l p q mid mid2 × Between (suc q) m mid2 rest
+  Between q (suc m) code rest = (mid mid2 : Code) × IsPast (fence q) code mid × IsPhaseMap num l p q mid mid2 × Between (suc q) m mid2 rest
 
   between_append : (q m n : ℕ) (code mid rest : Code) → Between q m code mid → Between (q + m) n mid rest → Between q (m + n) code rest
   between_append q zero n code mid rest x y =
@@ -57,10 +58,10 @@ module _ {A : Type 0} (num : A → ℕ) (l : Launch) (c : Cells) (wanted : List 
   Stand = Each (λ q s. stage_at b.stages q ≡ s)
 
   abbrev argument_stages : (s : Scope) (t : Term A) (ty : Ty) → HasType num b.src s.types t ty → List (Stage A)
-  argument_stages = stages.argument_stages num b.ins b.src b.sources
+  argument_stages = stages.argument_stages num b.forms b.ins b.src b.sources
 
   abbrev written_stages : (s : Scope) (t : Term A) (ty : Ty) → HasType num b.src s.types t ty → Destination → (outer path : List ℕ → List ℕ) → Bool → List (Stage A)
-  written_stages = stages.written_stages num b.ins b.src b.sources
+  written_stages = stages.written_stages num b.forms b.ins b.src b.sources
 
   abbrev bind : Scope → Term A → Ty → Scope
   bind = stages.bind num b.ins b.src b.sources
@@ -69,21 +70,21 @@ module _ {A : Type 0} (num : A → ℕ) (l : Launch) (c : Cells) (wanted : List 
   used s n = record { locals = s.locals; privates = s.privates; variables = s.variables; phases = n }
 
   abbrev IsArgument : Scope → (n : ℕ) → Term A → (code rest : Code) → Type 0
-  IsArgument s n t code rest = form.IsGroupArgument num l b.ins fence b.turns s.env (used s n) t code rest
+  IsArgument s n t code rest = form.IsGroupArgument num b.forms l b.ins fence (form_over_groups b.once) b.turns s.env (used s n) t code rest
 
   abbrev goes : Destination → (outer : List ℕ → List ℕ) → (turn : ℕ) → Marks
   goes d outer i = λ cs r. destination_marks b.out i d cs (outer r)
 
   abbrev IsWrittenAt : Scope → (n : ℕ) → Term A → Destination → (outer : List ℕ → List ℕ) → (code rest : Code) → Type 0
-  IsWrittenAt s n t d outer code rest = form.IsGroupWritten num l b.ins fence b.turns s.env (used s n) t (goes d outer) code rest
+  IsWrittenAt s n t d outer code rest = form.IsGroupWritten num b.forms l b.ins fence (form_over_groups b.once) b.turns s.env (used s n) t (goes d outer) code rest
 
-  -- the loop of a stage, at every turn
-  abbrev LoopOf : Stage A → Code → Code → Type 0
-  LoopOf s code rest =
+  -- the map of a stage, at every turn
+  abbrev MapOf : Stage A → Code → Code → Type 0
+  MapOf s code rest =
       (item i : ℕ) → item < item_count l → i < b.turns → IsTurnOf l item WorkGroup i
-      → IsLoop l item b.ins Local s.phase.len
-      (λ j body. (inner : Code) × IsLoaded l item b.ins (i ∷ j ∷ []) s.phase.loads (at_index j (s.marks i)) s.phase.variables body inner
-      × IsWritten l item b.ins num (i ∷ j ∷ []) (push (loaded_marks s.phase.loads (at_index j (s.marks i)) s.phase.variables) (s.env i)) s.phase.privates (s.phase.variables + load_count s.phase.loads) s.phase.body (at_index j (goes_to b.out i s)) inner End)
+      → AreTurns l item b.ins s.phase.form Local (variables_in (form_over_groups b.once) [] i) s.phase.len
+      (λ ts j body last. (inner : Code) × IsLoaded l item b.ins ts s.phase.loads (at_index j (s.marks i)) s.phase.variables body inner
+      × IsWritten l item b.ins num ts (push (loaded_marks s.phase.loads (at_index j (s.marks i)) s.phase.variables) (s.env i)) s.phase.privates (s.phase.variables + load_count s.phase.loads) s.phase.body (at_index j (goes_to b.out i s)) inner last)
       code rest
 
   mutual
@@ -115,7 +116,7 @@ module _ {A : Type 0} (num : A → ℕ) (l : Launch) (c : Cells) (wanted : List 
         omega arith
     written_count (Map Local n loads xs body) s ty h d outer path direct f =
         let one = argument_count xs s (ArrayOf (num n) h.0) h.4 f.0 in
-        let sum = long_append (argument_stages s xs (ArrayOf (num n) h.0) h.4) (stages.stage_of num b.ins b.src b.sources s (num n) loads xs body h.0 h.1 d outer path direct ∷ []) in
+        let sum = long_append (argument_stages s xs (ArrayOf (num n) h.0) h.4) (stages.stage_of num b.forms b.ins b.src b.sources s n loads xs body h.0 h.1 d outer path direct ∷ []) in
         omega arith
     written_count _ s ty h d outer path direct f = absurd (assumption)
 
@@ -157,13 +158,13 @@ module _ {A : Type 0} (num : A → ℕ) (l : Launch) (c : Cells) (wanted : List 
         subst (λ z. Between q z code rest) (sym (long_append xs ys)) (between_append q (length xs) (length ys) code x.0 rest one two)
     written_phases (Map Local m loads xs body) s ty h d outer path direct q n code rest e f is x =
         let ss = argument_stages s xs (ArrayOf (num m) h.0) h.4 in
-        let t = stages.stage_of num b.ins b.src b.sources s (num m) loads xs body h.0 h.1 d outer path direct in
+        let t = stages.stage_of num b.forms b.ins b.src b.sources s m loads xs body h.0 h.1 d outer path direct in
         let r = q + length ss in
         let count = argument_count xs s (ArrayOf (num m) h.0) h.4 f.0 in
         let at : n + phases_in xs ≡ r = omega arith in
         let here : stage_at b.stages r ≡ t = (each_right (λ r t. stage_at b.stages r ≡ t) q ss (t ∷ []) is).0 in
         let one = argument_phases xs s (ArrayOf (num m) h.0) h.4 q n code x.0 e f.0 (each_left (λ r t. stage_at b.stages r ≡ t) q ss (t ∷ []) is) x.2 in
-        let this : Between r 1 x.0 rest = (x.1, rest, subst (λ z. IsPast (fence z) x.0 x.1) at x.3, subst (λ z. LoopOf z x.1 rest) (sym here) x.4, refl) in
+        let this : Between r 1 x.0 rest = (x.1, rest, subst (λ z. IsPast (fence z) x.0 x.1) at x.3, subst (λ z. MapOf z x.1 rest) (sym here) x.4, refl) in
         subst (λ z. Between q z code rest) (sym (long_append ss (t ∷ []))) (between_append q (length ss) 1 code x.0 rest one this)
     written_phases _ s ty h d outer path direct q n code rest e f is x = absurd (assumption)
 
@@ -172,8 +173,8 @@ module _ {A : Type 0} (num : A → ℕ) (l : Launch) (c : Cells) (wanted : List 
   from_between q (suc m) code last x y = let e : suc q + suc m ≡ suc (suc q) + m = omega arith in (x.0, x.1, x.2, x.3, from_between (suc q) m x.1 last x.4 (subst (λ z. IsPast (fence z) last End) e y))
 
   -- with the loads of the turn's scalars
-  pub are_phases : (m : ℕ) (body first last : Code) → fence 0 ≡ Open → 0 < m → ((item i : ℕ) → item < item_count l → i < b.turns → IsTurnOf l item WorkGroup i → IsLoaded l item b.ins (i ∷ []) b.top.loads (b.top.marks i) 0 body first) → Between 0 m first last → IsPast (fence m) last End → ArePhases fence (IsPhase num l p) 0 m body
+  pub are_phases : (m : ℕ) (body first last : Code) → fence 0 ≡ Open → 0 < m → ((item i : ℕ) → item < item_count l → i < b.turns → IsTurnOf l item WorkGroup i → IsLoaded l item b.ins (variables_in (form_over_groups b.once) [] i) b.top.loads (b.top.marks i) 0 body first) → Between 0 m first last → IsPast (fence m) last End → ArePhases fence (IsPhase num l p) 0 m body
   are_phases zero body first last none some loads x y = absurd (omega arith)
   are_phases (suc m) body first last none some loads x y =
       let same : first ≡ x.0 = subst (λ z. IsPast z first x.0) none x.2 in
-      (body, x.1, subst (λ z. IsPast z body body) (sym none) refl, (x.0, (λ item i jl il own. subst (λ z. IsLoaded l item b.ins (i ∷ []) b.top.loads (b.top.marks i) 0 body z) same (loads item i jl il own)), x.3), from_between 0 m x.1 last x.4 (let e : suc m ≡ 1 + m = omega arith in subst (λ z. IsPast (fence z) last End) e y))
+      (body, x.1, subst (λ z. IsPast z body body) (sym none) refl, (x.0, (λ item i jl il own. subst (λ z. IsLoaded l item b.ins (variables_in (form_over_groups b.once) [] i) b.top.loads (b.top.marks i) 0 body z) same (loads item i jl il own)), x.3), from_between 0 m x.1 last x.4 (let e : suc m ≡ 1 + m = omega arith in subst (λ z. IsPast (fence z) last End) e y))

@@ -14,6 +14,7 @@ use Rattle.lift_ir.specs.Types.{Ty, Scalar, PairOf, ArrayOf, IsPosition, IsFlat,
 use Rattle.lift_ir.specs.Terms.{LoadsScalars}
 use Rattle.lift_ir.specs.Scalars.{Scalars, at_index}
 use Rattle.lift_ir.proofs.Numbers.{component_below, flat_below, component_same, flat_same, unflat_flat}
+use Rattle.printed_form.specs.MapForms.{MakeTurns}
 use Rattle.printed_form.specs.Marks.{Mark, Nowhere, Register, Spot, Marks}
 use Rattle.printed_form.specs.Whole.{IsGiven}
 use Rattle.group_phases.specs.Cells.{output_cell, local_cell, IsOwnOutput}
@@ -84,14 +85,15 @@ pub record GoesOut (k : Kernel) (l : Launch) (c : Cells) (owner : (array index :
 
 module _ {A : Type 0} (num : A → ℕ) (k : Kernel) (l : Launch) (c : Cells) (owner : (array index : ℕ) → ℕ) (wanted : List (List ℕ)) (b : GroupBody A) where
   -- what stages need
-  pub record AreStages (few : l.local.0 ≤ 2 ^ 31) (given : (v : ℕ) (cs : List Bool) (p : List ℕ) → IsPosition (b.src v) cs p → IsGiven c (b.ins v cs p) (b.sources v cs p)) : Type 0 where
+  pub record AreStages (few : l.local.0 ≤ 2 ^ 31) (makes : MakeTurns b.forms num l) (given : (v : ℕ) (cs : List Bool) (p : List ℕ) → IsPosition (b.src v) cs p → IsGiven c (b.ins v cs p) (b.sources v cs p)) : Type 0 where
     pub whole : IsWhole l
     pub flat : launch.IsFlat l
     pub turns : b.turns + groups_across l ≤ 2 ^ 32
+    pub once : b.once ≡ true → b.turns ≤ 1
     pub room : b.variables ≤ k.variables
     pub top_loads : LoadsScalars b.top.loads b.top.type
     pub top_given : (i : ℕ) → i < b.turns → (cs : List Bool) (p : List ℕ) → IsPosition b.top.type cs p → IsGiven c (b.top.marks i cs p) (b.top.scalars i cs p)
-    pub stages : (q : ℕ) → q < length b.stages → sight.IsStage num (length_in k c) l.local.0 few c b given q (stage_at b.stages q)
+    pub stages : (q : ℕ) → q < length b.stages → sight.IsStage num (length_in k c) l few c b makes given q (stage_at b.stages q)
     pub chained : Chained 0 b.stages
     pub last : ℕ
     pub last_is : suc last ≡ length b.stages
@@ -125,7 +127,7 @@ module _ {A : Type 0} (num : A → ℕ) (k : Kernel) (l : Launch) (c : Cells) (o
   abbrev CanRead : (t q j : ℕ) → Mark → ℕ → Type 0
   CanRead = IsRead num k l c p
 
-  module _ (few : l.local.0 ≤ 2 ^ 31) (given : (v : ℕ) (cs : List Bool) (p : List ℕ) → IsPosition (b.src v) cs p → IsGiven c (b.ins v cs p) (b.sources v cs p)) (h : AreStages few given) where
+  module _ (few : l.local.0 ≤ 2 ^ 31) (makes : MakeTurns b.forms num l) (given : (v : ℕ) (cs : List Bool) (p : List ℕ) → IsPosition (b.src v) cs p → IsGiven c (b.ins v cs p) (b.sources v cs p)) (h : AreStages few makes given) where
     group_is : (g r : ℕ) → r < l.local.0 → group_of l (g * l.local.0 + r) ≡ g
     group_is g r lt = flat_group l h.flat h.whole (g * l.local.0 + r) ∙ mul-add-div_right h.whole.x.positive g r ∙ (let e : r / l.local.0 ≡ 0 = div-eq_of_lt lt in let q : g + r / l.local.0 ≡ g = omega arith in q)
 
@@ -441,6 +443,8 @@ module _ {A : Type 0} (num : A → ℕ) (k : Kernel) (l : Launch) (c : Cells) (o
         flat = h.flat;
         some = let e = h.last_is in omega arith;
         turns = h.turns;
+        once = h.once;
+        forms = λ q ql. (h.stages q ql).turns;
         rows = λ q ql. (h.stages q ql).short;
         variables = h.room;
         fits = λ q ql. (h.stages q ql).fits;

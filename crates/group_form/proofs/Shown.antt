@@ -4,23 +4,25 @@ use Rattle.std.specs.Prelude.{slice_index}
 use Rattle.std.proofs.Math.ListN.{get_or-append}
 use Rattle.std.proofs.Math.Seq.{get_or-append_right}
 use Rattle.kernel_tree.specs.Formula.{Formula, Variable, LoopVariable}
-use Rattle.kernel_tree.specs.Code.{Array, Code, Loads}
-use Rattle.kernel_tree.specs.Launch.{Launch}
+use Rattle.kernel_tree.specs.Code.{Array, Code, Loads, start_value}
+use Rattle.kernel_tree.specs.Launch.{Launch, ids_of}
 use Rattle.lift_ir.specs.Types.{Ty, Scalar, PairOf, ArrayOf, IsPosition, IsShort}
 use Rattle.lift_ir.specs.Layouts.{HasWordStep, Layout, Split, Join, Transpose, Reverse, Slide, Pad, operand_position, Reshapes, result_position, IsInvertible}
 use Rattle.lift_ir.specs.Loads.{covers}
-use Rattle.lift_ir.specs.Terms.{LoadSet, Skip, Take, Each, LoadsScalars, push}
+use Rattle.lift_ir.specs.Terms.{Kind, Global, WorkGroup, Local, Sequential, LoadSet, Skip, Take, Each, LoadsScalars, push}
 use Rattle.lift_ir.specs.Scalars.{by_side, at_index}
 use Rattle.lift_ir.proofs.Positions.{operand_in, result_in}
 use Rattle.printed_form.specs.Counts.{load_count}
 use Rattle.printed_form.specs.Expressions.{held}
-use Rattle.printed_form.specs.Form.{IsSpot, IsLoaded}
+use Rattle.printed_form.specs.Form.{start_of, IsSpot, IsLoaded}
+use Rattle.printed_form.specs.MapForms.{MapForm, Looped, Guarded, Alone, variables_in}
 use Rattle.printed_form.specs.Marks.{Mark, Nowhere, Register, Spot, Marks, loaded_marks}
 use Rattle.printed_form.specs.Means.{IsSpelled, Means, AllMean, IsCell, IsScalar, HasCells, Shows, AllShow}
 use Rattle.printed_form.specs.Printer.{print_load, print_loaded}
 use Rattle.printed_form.specs.Views.{Sign, Blank, Held, Read, View, loaded_view, view_at, operand_indices, result_indices}
 use Rattle.printed_form.proofs.Indices.{operand_means, result_means}
 use Rattle.printed_form.proofs.Printer.{cells_show, HeldIn}
+use Rattle.group_form.specs.Printer.{id_of}
 
 module _ (l : Launch) (item : ℕ) where
   cells_side : (ts : List ℕ) (b : Bool) (t u : Ty) (x : View) (y : Marks) → ((cs : List Bool) (q : List ℕ) → IsPosition t cs q → IsPosition u (b ∷ cs) q) → HasCells l item ts u x y → HasCells l item ts t (λ cs. x (b ∷ cs)) (λ cs. y (b ∷ cs))
@@ -54,6 +56,22 @@ module _ (l : Launch) (item : ℕ) where
 
   pub turned_cells : (ts : List ℕ) (d i n : ℕ) (t : Ty) (x : View) (y : Marks) → length ts ≡ d → i < n → n < 2 ^ 31 → HasCells l item ts (ArrayOf n t) x y → HasCells l item (ts ++ i ∷ []) t (view_at (LoopVariable d) x) (at_index i y)
   turned_cells ts d i n t x y e lt small h us cs is q w g = cells_within ts i (ArrayOf n t) x y h us cs (LoopVariable d ∷ is) (i ∷ q) (lt, w) (loop_means ts us d i e (omega arith), g)
+
+  -- an id that is the turn
+  id_means : (k : Kind) (i : ℕ) (ts : List ℕ) → i ≡ start_value (ids_of l item) (start_of k) → i < 2 ^ 31 → Means l item ts (id_of k) i
+  id_means Global i ts own lt = record { fits = omega arith; always = λ vs. ap Some (sym own) }
+  id_means WorkGroup i ts own lt = record { fits = omega arith; always = λ vs. ap Some (sym own) }
+  id_means Local i ts own lt = record { fits = omega arith; always = λ vs. ap Some (sym own) }
+  id_means Sequential i ts own lt = record { fits = omega arith; always = λ vs. ap Some (sym own) }
+
+  pub own_cells : (ts : List ℕ) (k : Kind) (i n : ℕ) (t : Ty) (x : View) (y : Marks) → i ≡ start_value (ids_of l item) (start_of k) → i < n → n < 2 ^ 31 → HasCells l item ts (ArrayOf n t) x y → HasCells l item ts t (view_at (id_of k) x) (at_index i y)
+  own_cells ts k i n t x y own lt small h us cs is q w g = h us cs (id_of k ∷ is) (i ∷ q) (lt, w) (id_means k i (ts ++ us) own (omega arith), g)
+
+  -- within the loops that a map's form adds
+  pub all_around : (form : MapForm) (ts : List ℕ) (i : ℕ) (g : ℕ → Ty) (views : ℕ → View) (env : ℕ → Marks) → AllShow l item ts g views env → AllShow l item (variables_in form ts i) g views env
+  all_around Looped ts i g views env h = all_within ts i g views env h
+  all_around Guarded ts i g views env h = h
+  all_around Alone ts i g views env h = h
 
   pub held_push : (t : Ty) (y : Marks) (k : List Bool → Bool) (g : ℕ → Ty) (env : ℕ → Marks) (h : ℕ → List Bool → Bool) → ((cs : List Bool) → IsPosition t cs [] → k cs ≡ true → (e : Formula) × (held (y cs []) ≡ Some e)) → HeldIn l item g env h → HeldIn l item (push t g) (push y env) (push k h)
   held_push t y k g env h a r zero = a

@@ -1,13 +1,14 @@
 -- The phases of a term see what they read, by induction on it.
 use Rattle.std.proofs.Common.{◌≡◌, ℕ, zero, suc, ◌+◌, ◌<◌, ◌≤◌, ◌^◌, List, [], ◌∷◌, ◌++◌, length, Bool, true, false, true≢false, refl, sym, ap, ◌∙◌, subst, arith}
 use Rattle.kernel_tree.specs.Code.{Array, Local as LocalArray}
-use Rattle.kernel_tree.specs.Launch.{Cells}
+use Rattle.kernel_tree.specs.Launch.{Launch, Cells}
 use Rattle.lift_ir.specs.Types.{Ty, PairOf, ArrayOf, IsPosition, IsFlat, width, size}
 use Rattle.lift_ir.specs.Layouts.{Layout, operand_position, result_position, Reshapes, IsInvertible}
 use Rattle.lift_ir.specs.Terms.{LoadSet, Local, LocalMemory, Term, Bound, Source, Both, Project, Reshape, LetArray, Map, Copy, LoadsScalars, push, HasType}
 use Rattle.lift_ir.specs.Scalars.{Scalars, scalars_of}
 use Rattle.lift_ir.proofs.Positions.{operand_in, result_in, result_operand}
 use Rattle.printed_form.specs.Counts.{load_count, variable_count, private_count}
+use Rattle.printed_form.specs.MapForms.{MakesTurns, MakeTurns}
 use Rattle.printed_form.specs.Marks.{Mark, Marks, laid_in}
 use Rattle.printed_form.specs.Form.{Declares}
 use Rattle.printed_form.specs.Whole.{IsGiven}
@@ -24,7 +25,7 @@ use Rattle.group_form.proofs.Lists.{Each, long_append, each_append, each_left, e
 use Rattle.group_form.proofs.Named.{IsUnder, cut_position, body_typed, element_loads}
 use Rattle.group_form.proofs.Seen.{way_bent, laid_at, SeenAt, Sees, seen_later, seen_bent, seen_input}
 
-module _ {A : Type 0} (num : A → ℕ) (long : Array → ℕ) (items : ℕ) (few : items ≤ 2 ^ 31) (c : Cells) (b : GroupBody A) (given : (v : ℕ) (cs : List Bool) (p : List ℕ) → IsPosition (b.src v) cs p → IsGiven c (b.ins v cs p) (b.sources v cs p)) where
+module _ {A : Type 0} (num : A → ℕ) (long : Array → ℕ) (l : Launch) (few : l.local.0 ≤ 2 ^ 31) (c : Cells) (b : GroupBody A) (makes : MakeTurns b.forms num l) (given : (v : ℕ) (cs : List Bool) (p : List ℕ) → IsPosition (b.src v) cs p → IsGiven c (b.ins v cs p) (b.sources v cs p)) where
   abbrev At : Origin → (q i : ℕ) → List ℕ → Mark → ℕ → Type 0
   At = SeenAt num c b
 
@@ -33,7 +34,8 @@ module _ {A : Type 0} (num : A → ℕ) (long : Array → ℕ) (items : ℕ) (fe
 
   -- what a phase with this number has
   pub record IsStage (q : ℕ) (s : Stage A) : Type 0 where
-    pub short : s.phase.len + items ≤ 2 ^ 32
+    pub turns : MakesTurns s.phase.form s.phase.len l
+    pub short : s.phase.len + l.local.0 ≤ 2 ^ 32
     pub loads : LoadsScalars s.phase.loads s.phase.element
     pub typed : HasType num b.src (push s.phase.element s.phase.types) s.phase.body s.phase.result
     pub declares : Declares long s.phase.privates s.phase.body
@@ -58,10 +60,10 @@ module _ {A : Type 0} (num : A → ℕ) (long : Array → ℕ) (items : ℕ) (fe
   Scoped q s = (v : ℕ) → Seen (s.origins v) q (s.types v) (λ i. s.env i v) (λ i. s.sems i v)
 
   abbrev argument_stages : (s : Scope) (t : Term A) (ty : Ty) → HasType num b.src s.types t ty → List (Stage A)
-  argument_stages = stages.argument_stages num b.ins b.src b.sources
+  argument_stages = stages.argument_stages num b.forms b.ins b.src b.sources
 
   abbrev written_stages : (s : Scope) (t : Term A) (ty : Ty) → HasType num b.src s.types t ty → Destination → (outer path : List ℕ → List ℕ) → Bool → List (Stage A)
-  written_stages = stages.written_stages num b.ins b.src b.sources
+  written_stages = stages.written_stages num b.forms b.ins b.src b.sources
 
   abbrev marks_of : ((turn var : ℕ) → Marks) → ℕ → Term A → (turn : ℕ) → Marks
   marks_of = stages.marks_of num b.ins
@@ -159,8 +161,9 @@ module _ {A : Type 0} (num : A → ℕ) (long : Array → ℕ) (items : ℕ) (fe
   this_stage : (q r : ℕ) (n : A) (s : Scope) (loads : LoadSet) (xs body : Term A) (x y : Ty) (d : Destination) (outer path : List ℕ → List ℕ) (direct : Bool) → num n < 2 ^ 31 → LoadsScalars loads x → HasType num b.src (push x s.types) body y → q ≤ r → Scoped q s
       → SeenArgument r s xs (ArrayOf (num n) x) → IsAimed (destination_type b.result d) (ArrayOf (num n) y) outer path direct → Fits d → (d ≡ Outputs → suc r ≡ length b.stages)
       → Declares long (s.privates + private_count xs) body → s.variables + (variable_count xs + (load_count loads + variable_count body)) ≤ b.variables → load_count b.top.loads ≤ s.variables
-      → IsStage r (stages.stage_of num b.ins b.src b.sources s (num n) loads xs body x y d outer path direct)
+      → IsStage r (stages.stage_of num b.forms b.ins b.src b.sources s n loads xs body x y d outer path direct)
   this_stage q r n s loads xs body x y d outer path direct small scalars typed le scoped seen aimed fit ends declared room low = record {
+    turns = makes.local n small;
     short = omega arith;
     loads = element_loads loads x (ways 0 (named.named body named.whole)) scalars;
     typed = body_typed num b.src s.types loads body x y typed;
@@ -260,7 +263,7 @@ module _ {A : Type 0} (num : A → ℕ) (long : Array → ℕ) (items : ℕ) (fe
         (each_append IsStage q xs ys one.0 two.0, record { at = two.1.at; ends = omega arith; goes = two.1.goes; stage = two.1.stage; value = λ i cs p. two.1.value i cs p; rows = λ p. two.1.rows p })
     works (Map Local n loads xs body) s ty h q d outer path direct f scoped is aimed fit ends private local room low =
         let ss = argument_stages s xs (ArrayOf (num n) h.0) h.4 in
-        let t = stages.stage_of num b.ins b.src b.sources s (num n) loads xs body h.0 h.1 d outer path direct in
+        let t = stages.stage_of num b.forms b.ins b.src b.sources s n loads xs body h.0 h.1 d outer path direct in
         let r = q + length ss in
         let one = sees xs s (ArrayOf (num n) h.0) h.4 q f.0 scoped (each_left (λ r t. stage_at b.stages r ≡ t) q ss (t ∷ []) is) private.0 local (omega arith) low in
         let sum = long_append ss (t ∷ []) in

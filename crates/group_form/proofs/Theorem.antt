@@ -9,6 +9,7 @@ use Rattle.lift_ir.proofs.Meaning.{means}
 use Rattle.lift_ir.proofs.Lists.{are_lists, lists_long}
 use Rattle.group_phases.specs.Printed.{PhasesKeep, PhasesServe}
 use Rattle.group_form.specs.Forms.{StandsInGroup, StandsOverGroups}
+use Rattle.group_form.specs.Form.{is_once}
 use Rattle.group_form.specs.Uses.{phases_in, phase_count, group_uses, group_touches}
 use Rattle.group_form.specs.Theorem.{SeparatedGroupsKeep, SeparatedGroupsServe, NeededGroupsKeep, NeededKeepApart}
 use Rattle.group_form.proofs.Uses.{all_local}
@@ -29,19 +30,19 @@ some_phase (Map WorkGroup n loads xs b) f = some_phases b f.1
 some_phase _ f = absurd (assumption)
 
 pub needed_keep_apart : NeededBarriersSeparate → (A : Type 0) → NeededKeepApart A
-needed_keep_apart separate A t fence stands needed = record {
-  separates = separate (group_touches t) placed.Local (phase_count t) fence (all_local 0 (group_uses t)) needed;
-  opens = open_first (group_touches t) (phase_count t) fence (some_phase t stands) needed;
+needed_keep_apart separate A forms t fence stands needed = record {
+  separates = separate (group_touches t) placed.Local (is_once forms t) (phase_count t) fence (all_local 0 (group_uses t)) needed;
+  opens = open_first (group_touches t) (is_once forms t) (phase_count t) fence (some_phase t stands) needed;
 }
 
 pub separated_groups_keep : (A : Type 0) → PhasesKeep A → SeparatedGroupsKeep A
-separated_groups_keep A keep num l src ins sources fence t ty k c lists printed apart shape listed = separated_keep num l src ins sources fence t ty k c lists printed shape listed keep apart
+separated_groups_keep A keep num forms l src ins sources fence t ty k c lists printed apart shape listed = separated_keep num forms l src ins sources fence t ty k c lists printed shape listed keep apart
 
 pub separated_groups_serve : (A : Type 0) → PhasesServe A → SeparatedGroupsServe A
-separated_groups_serve A serve num l src ins sources fence t ty k c lists printed apart shape listed = separated_serve num l src ins sources fence t ty k c lists printed shape listed serve apart
+separated_groups_serve A serve num forms l src ins sources fence t ty k c lists printed apart shape listed = separated_serve num forms l src ins sources fence t ty k c lists printed shape listed serve apart
 
 pub needed_groups_keep : (A : Type 0) → SeparatedGroupsKeep A → NeededKeepApart A → NeededGroupsKeep A
-needed_groups_keep A keep apart num l w source inputs src ins sources fence t ty k c lowers given printed needed =
+needed_groups_keep A keep apart num forms l w source inputs src ins sources fence t ty k c lowers given printed needed =
     let v = meaning w [] source in
     let h = means num w src sources inputs given t 0 source no_type [] no_scalars ty lowers printed.typed (λ i lt. absurd (omega arith)) in
-    keep num l src ins sources fence t ty k c (lists_of ty v) printed (apart t fence printed.stands needed) (lists_long ty v (scalars_of num sources no_scalars t) printed.flat_type h ∙ sym printed.outputs) (are_lists ty v (scalars_of num sources no_scalars t) printed.flat_type h)
+    keep num forms l src ins sources fence t ty k c (lists_of ty v) printed (apart forms t fence printed.stands needed) (lists_long ty v (scalars_of num sources no_scalars t) printed.flat_type h ∙ sym printed.outputs) (are_lists ty v (scalars_of num sources no_scalars t) printed.flat_type h)

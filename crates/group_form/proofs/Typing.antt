@@ -5,6 +5,7 @@ use Rattle.size_arith.specs.declared.poly.Monomial.{Monomial}
 use Rattle.size_arith.specs.Polynomial.{value_at}
 use Rattle.size_arith.specs.Shown.{ShownAtLeast}
 use Rattle.size_arith.proofs.Soundness.{shown_at_least}
+use Rattle.lift_tree.specs.Launches.{Asks}
 use Rattle.lift_tree.specs.Tree.{Tree}
 use Rattle.lift_tree.specs.Types.{PlainTy}
 use Rattle.lift_tree.specs.Typing.{Declared, IsDeclared}
@@ -27,10 +28,10 @@ shape_at (b ∷ tys) zero a e = ap shape_of (same b a e)
     same b a e = cc
 shape_at (b ∷ tys) (suc i) a e = shape_at tys i a e
 
-shown : (d : Declared) (is_task : Bool) (bases : List ℕ) (l : Launch) → IsDeclared d → IsLaunchOf d is_task bases l → (j : ℕ) (p : List Monomial) → ShownAtLeast j d.names p → pos j ≤ℤ value_at bases p
-shown d is_task bases l declared launch j p s = shown_at_least d.names bases declared.names launch.admissible.sizes j p s
+shown : (d : Declared) (asks : Asks) (bases : List ℕ) (l : Launch) → IsDeclared d → IsLaunchOf d asks bases l → (j : ℕ) (p : List Monomial) → ShownAtLeast j d.names p → pos j ≤ℤ value_at bases p
+shown d asks bases l declared launch j p s = shown_at_least d.names bases declared.names launch.admissible.sizes j p s
 
-pub lowered_has : (d : Declared) (is_task : Bool) (bases : List ℕ) (t : Tree) (a : Annotation) (l : Launch) → IsGroupProgram d bases t a → IsLaunchOf d is_task bases l → HasType (length_at bases) (λ v. measured (length_at bases) (input_shape d.inputs v)) no_type (lowered_root d.names t a) (ty_at bases (type_in a))
-lowered_has d is_task bases t a l program launch =
-    has_is d bases (shown d is_task bases l program.lowerable.declared launch) program.lowerable.declared.inputs (λ v. measured (length_at bases) (input_shape d.inputs v))
+pub lowered_has : (d : Declared) (asks : Asks) (bases : List ℕ) (t : Tree) (a : Annotation) (l : Launch) → IsGroupProgram d bases t a → IsLaunchOf d asks bases l → HasType (length_at bases) (λ v. measured (length_at bases) (input_shape d.inputs v)) no_type (lowered_root d.names t a) (ty_at bases (type_in a))
+lowered_has d asks bases t a l program launch =
+    has_is d bases (shown d asks bases l program.lowerable.declared launch) program.lowerable.declared.inputs (λ v. measured (length_at bases) (input_shape d.inputs v))
     (λ i b e. sym (ap (measured (length_at bases)) (shape_at d.inputs i b e) ∙ shape_is bases b)) t Written [] a tt program.lowerable.nodes program.lowerable.lowerable

@@ -10,6 +10,7 @@ use Rattle.lift_ir.specs.Types.{Ty, PairOf, ArrayOf, width}
 use Rattle.lift_ir.specs.Layouts.{operand_position, result_position}
 use Rattle.lift_ir.specs.Terms.{Local, LocalMemory, Term, Bound, Source, Both, Project, Reshape, LetArray, Map, Copy, HasType}
 use Rattle.lift_ir.specs.Scalars.{Scalars}
+use Rattle.printed_form.specs.MapForms.{MapForms}
 use Rattle.printed_form.specs.Marks.{Marks}
 use Rattle.group_form.specs.Named.{Component, ways}
 use Rattle.group_form.specs.Origins.{Origin, Elsewhere, Within, BySide, at_way, bent, local_count}
@@ -133,12 +134,12 @@ all_local q (us ∷ uss) k d lt = local_before q us (numbered (suc q) uss) (all_
 
 -- as functions of the term
 
-module _ {A : Type 0} (num : A → ℕ) (ins : ℕ → Marks) (src : ℕ → Ty) (sources : ℕ → Scalars) where
+module _ {A : Type 0} (num : A → ℕ) (forms : MapForms A) (ins : ℕ → Marks) (src : ℕ → Ty) (sources : ℕ → Scalars) where
   abbrev argument_stages : (s : Scope) (t : Term A) (ty : Ty) → HasType num src s.types t ty → List (Stage A)
-  argument_stages = stages.argument_stages num ins src sources
+  argument_stages = stages.argument_stages num forms ins src sources
 
   abbrev written_stages : (s : Scope) (t : Term A) (ty : Ty) → HasType num src s.types t ty → Destination → (outer path : List ℕ → List ℕ) → Bool → List (Stage A)
-  written_stages = stages.written_stages num ins src sources
+  written_stages = stages.written_stages num forms ins src sources
 
   abbrev bind : Scope → Term A → Ty → Scope
   bind = stages.bind num ins src sources
@@ -165,6 +166,6 @@ module _ {A : Type 0} (num : A → ℕ) (ins : ℕ → Marks) (src : ℕ → Ty)
     written_uses_are (LetArray v b) s ty h d outer path direct f =
         both (argument_stages s v h.0 h.1) (written_stages (bind s v h.0) b ty h.2 d outer path direct) (argument_uses s.origins s.locals v) (written_uses (bind s v h.0).origins (s.locals + local_count v) b d direct) (argument_uses_are v s h.0 h.1 f.0) (written_uses_are b (bind s v h.0) ty h.2 d outer path direct f.1)
     written_uses_are (Map Local n loads xs b) s ty h d outer path direct f =
-        let t = stages.stage_of num ins src sources s (num n) loads xs b h.0 h.1 d outer path direct in
+        let t = stages.stage_of num forms ins src sources s n loads xs b h.0 h.1 d outer path direct in
         both (argument_stages s xs (ArrayOf (num n) h.0) h.4) (t ∷ []) (argument_uses s.origins s.locals xs) (uses_in t ∷ []) (argument_uses_are xs s (ArrayOf (num n) h.0) h.4 f.0) refl
     written_uses_are _ s ty h d outer path direct f = absurd (assumption)

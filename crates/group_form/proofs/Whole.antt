@@ -19,6 +19,7 @@ use Rattle.lift_ir.proofs.Owner.{owner_below}
 use Rattle.lift_ir.proofs.Positions.{operand_in, result_in}
 use Rattle.printed_form.specs.Counts.{load_count, variable_count, private_count, copy_lengths}
 use Rattle.printed_form.specs.Headline.{EveryRunKeeps}
+use Rattle.printed_form.specs.MapForms.{MapForms, MakeTurns}
 use Rattle.printed_form.specs.Marks.{Nowhere, Register, Marks, laid_in, loaded_marks}
 use Rattle.printed_form.specs.Form.{Declares, argument_marks}
 use Rattle.printed_form.specs.Whole.{no_marks, IsGiven}
@@ -34,7 +35,7 @@ use Rattle.group_form.specs.Uses.{Locals, Outputs, numbered, phase_count, group_
 use Rattle.group_form.specs.Stages as stages
 use Rattle.group_form.specs.Stages.{Stage, Scope, stage_at, uses_of, value_in}
 use Rattle.group_form.specs.Body.{GroupBody, first_index, phase_list}
-use Rattle.group_form.specs.Form.{IsOverGroups}
+use Rattle.group_form.specs.Form.{is_once, IsOverGroups}
 use Rattle.group_form.specs.Whole.{DeclaresLocals, row_of}
 use Rattle.group_form.specs.Theorem.{IsPrintedOverGroups, IsKeptApart}
 use Rattle.group_form.proofs.Lists.{Each as EachStage, each_at, each_from}
@@ -74,17 +75,18 @@ groups_below : (g n m : ℕ) → g ≡ m * n → 0 < n → m ≤ g
 groups_below g zero m e h = absurd (omega arith)
 groups_below g (suc n) m e h = omega arith
 
-module _ {A : Type 0} (num : A → ℕ) (k : Kernel) (l : Launch) (c : Cells) (lists : List (List ℕ)) (fence : ℕ → Fencing) where
+module _ {A : Type 0} (num : A → ℕ) (forms : MapForms A) (k : Kernel) (l : Launch) (c : Cells) (lists : List (List ℕ)) (fence : ℕ → Fencing) where
   -- the kernel is printed for phases of a map over groups, with the term's uses
   pub record AreItsPhases (owned : (array index : ℕ) → ℕ) (t : Term A) : Type 0 where
     pub body : GroupBody A
+    pub once : body.once ≡ is_once forms t
     pub is : IsPhased (phase_list num l c lists body) num k l c owned lists
     pub touches : numbered 0 (uses_of body.stages) ≡ group_touches t
     pub count : length body.stages ≡ phase_count t
     pub some_phase : 0 < length body.stages
-    pub printed : fence 0 ≡ Open → IsGroupKernel k l body.turns (length body.stages) fence (IsPhase num l (phase_list num l c lists body))
+    pub printed : fence 0 ≡ Open → IsGroupKernel k l body.once body.turns (length body.stages) fence (IsPhase num l (phase_list num l c lists body))
 
-module _ {A : Type 0} (num : A → ℕ) (k : Kernel) (l : Launch) (c : Cells) (lists : List (List ℕ)) (ins : ℕ → Marks) (src : ℕ → Ty) (sources : ℕ → Scalars) (whole : Ty) (value : Scalars) (fence : ℕ → Fencing) where
+module _ {A : Type 0} (num : A → ℕ) (forms : MapForms A) (k : Kernel) (l : Launch) (c : Cells) (lists : List (List ℕ)) (ins : ℕ → Marks) (src : ℕ → Ty) (sources : ℕ → Scalars) (whole : Ty) (value : Scalars) (fence : ℕ → Fencing) where
   abbrev Given : Ty → Marks → Scalars → Type 0
   Given ty e s = (cs : List Bool) (p : List ℕ) → IsPosition ty cs p → IsGiven c (e cs p) (s cs p)
 
@@ -94,6 +96,7 @@ module _ {A : Type 0} (num : A → ℕ) (k : Kernel) (l : Launch) (c : Cells) (l
     pub flat : launches.IsFlat l
     pub some : 0 < item_count l
     pub few : item_count l < 2 ^ 31
+    pub makes : MakeTurns forms num l
     pub inputs : (v : ℕ) → Given (src v) (ins v) (sources v)
     pub flat_type : IsFlat whole
     pub outputs : map length c.outs ≡ replicate (width whole) (size whole)
@@ -164,12 +167,14 @@ module _ {A : Type 0} (num : A → ℕ) (k : Kernel) (l : Launch) (c : Cells) (l
       }
 
       abbrev its_stages : List (Stage A)
-      its_stages = stages.written_stages num ins src sources scope b y typed Outputs (λ p. p) (λ p. p) false
+      its_stages = stages.written_stages num forms ins src sources scope b y typed Outputs (λ p. p) (λ p. p) false
 
       abbrev body : GroupBody A
       body = record {
+        once = forms.once n;
         turns = num n;
         variables = load_count loads + variable_count b;
+        forms = forms;
         ins = ins;
         src = src;
         sources = sources;
@@ -183,15 +188,15 @@ module _ {A : Type 0} (num : A → ℕ) (k : Kernel) (l : Launch) (c : Cells) (l
       owned a m = owner num l term (path (unflat whole m))
 
       abbrev IsIts : ℕ → Stage A → Type 0
-      IsIts = sight.IsStage num long l.local.0 few_items c body h.inputs
+      IsIts = sight.IsStage num long l few_items c body h.makes h.inputs
 
       abbrev AllSeen : Type 0
-      AllSeen = EachStage IsIts 0 its_stages × sight.IsLast num long l.local.0 few_items c body h.inputs (0 + length its_stages) scope b Outputs (λ p. p)
+      AllSeen = EachStage IsIts 0 its_stages × sight.IsLast num long l few_items c body h.makes h.inputs (0 + length its_stages) scope b Outputs (λ p. p)
 
       not_locals : {P : Type 0} → (f : ℕ) (u : Ty) → Outputs ≡ Locals f u → P
       not_locals f u e = absurd (cc)
 
-      scoped : LoadsScalars loads x → AllGiven g env sems → ((i : ℕ) → i < num n → Given x (at_index i marks) (at_index i scalars)) → sight.Scoped num long l.local.0 few_items c body h.inputs 0 scope
+      scoped : LoadsScalars loads x → AllGiven g env sems → ((i : ℕ) → i < num n → Given x (at_index i marks) (at_index i scalars)) → sight.Scoped num long l few_items c body h.makes h.inputs 0 scope
       scoped ok given at zero i il cs p z =
           ⊎_elim
           (λ r. subst (λ m. SeenAt num c body (at_way Elsewhere cs) 0 i p m (at_index i scalars cs p)) (sym r.1) (cs, p, z, r.1, refl))
@@ -204,13 +209,13 @@ module _ {A : Type 0} (num : A → ℕ) (k : Kernel) (l : Launch) (c : Cells) (l
 
       all_seen : StandsInGroup true b → LoadsScalars loads x → AllGiven g env sems → ((i : ℕ) → i < num n → Given x (at_index i marks) (at_index i scalars)) → Declares long 0 b → DeclaresLocals long 0 b → AllSeen
       all_seen stands ok given at private local =
-          sight.works num long l.local.0 few_items c body h.inputs b scope y typed 0 Outputs (λ p. p) (λ p. p) false stands (scoped ok given at) stand
+          sight.works num long l few_items c body h.makes h.inputs b scope y typed 0 Outputs (λ p. p) (λ p. p) false stands (scoped ok given at) stand
           (record { inside = λ cs p z. z; returns = λ cs p z. refl; covers = λ cs p z. (z, refl); straight = λ a. absurd (true≢false (sym a)) })
           (λ f u e. not_locals f u e) (λ e. omega arith) private local (omega arith) (omega arith)
 
       map_phases : IsOfInputs xs → StandsInGroup true b → num n < 2 ^ 31 → LoadsScalars loads x → HasType num src g xs (ArrayOf (num n) x) → AllGiven g env sems → IsLaid whole (ArrayOf (num n) y) outer path
           → ((cs : List Bool) (i : ℕ) (p : List ℕ) → IsPosition (ArrayOf (num n) y) cs (i ∷ p) → value cs (outer (i ∷ p)) ≡ scalars_of num sources (push (at_index i scalars) sems) b cs p)
-          → load_count loads + variable_count b ≤ k.variables → Declares long 0 b → DeclaresLocals long 0 b → IsOverGroups num l ins fence env term (λ cs p. laid_in Output 0 whole cs (outer p)) k.code → AreItsPhases num k l c lists fence owned term
+          → load_count loads + variable_count b ≤ k.variables → Declares long 0 b → DeclaresLocals long 0 b → IsOverGroups num forms l ins fence env term (λ cs p. laid_in Output 0 whole cs (outer p)) k.code → AreItsPhases num forms k l c lists fence owned term
       map_phases inputs stands small ok typed_array given laid values room private local code =
           let given_array = input_given xs g env sems (ArrayOf (num n) x) 0 inputs typed_array given in
           let at = λ (i : ℕ) (il : i < num n) (cs : List Bool) (p : List ℕ) (z : IsPosition x cs p). given_array cs (i ∷ p) (il, z) in
@@ -221,15 +226,17 @@ module _ {A : Type 0} (num : A → ℕ) (k : Kernel) (l : Launch) (c : Cells) (l
           let turn = code.4 in
           record {
             body = body;
-            is = phased.phased num k l c owned lists body few_items h.inputs (record {
+            once = refl;
+            is = phased.phased num k l c owned lists body few_items h.makes h.inputs (record {
               whole = h.launch;
               flat = h.flat;
               turns = omega arith;
+              once = λ e. let one = h.makes.once n e in omega arith;
               room = room;
               top_loads = ok;
               top_given = at;
               stages = λ q ql. let e : 0 + q ≡ q = omega arith in subst (λ z. IsIts z (stage_at its_stages q)) e (each_at IsIts 0 q its_stages all.0 ql);
-              chained = (written_chain num ins src sources b scope y typed Outputs (λ p. p) (λ p. p) false stands tt).0;
+              chained = (written_chain num forms ins src sources b scope y typed Outputs (λ p. p) (λ p. p) false stands tt).0;
               last = last.at;
               last_is = let e = last.ends in omega arith;
               gives = last.goes;
@@ -245,7 +252,7 @@ module _ {A : Type 0} (num : A → ℕ) (k : Kernel) (l : Launch) (c : Cells) (l
                     within = λ p. owner_below num l term p h.launch h.some;
                   });
             });
-            touches = ap (numbered 0) (written_uses_are num ins src sources b scope y typed Outputs (λ p. p) (λ p. p) false stands);
+            touches = ap (numbered 0) (written_uses_are num forms ins src sources b scope y typed Outputs (λ p. p) (λ p. p) false stands);
             count = counted;
             some_phase = let e = last.ends in omega arith;
             printed = λ none. record {
@@ -261,18 +268,18 @@ module _ {A : Type 0} (num : A → ℕ) (k : Kernel) (l : Launch) (c : Cells) (l
     -- and through layouts and lets of inputs
     pub term_phases : (t : Term A) (g : ℕ → Ty) (env : ℕ → Marks) (sems : ℕ → Scalars) (outer path : List ℕ → List ℕ) (ty : Ty) → StandsOverGroups t → HasType num src g t ty → AllGiven g env sems → IsLaid whole ty outer path
         → ((cs : List Bool) (p : List ℕ) → IsPosition ty cs p → value cs (outer p) ≡ scalars_of num sources sems t cs p) → variable_count t ≤ k.variables → Declares long 0 t → AreLong long 0 (copy_lengths LocalMemory t)
-        → IsOverGroups num l ins fence env t (λ cs p. laid_in Output 0 whole cs (outer p)) k.code → AreItsPhases num k l c lists fence (λ a m. owner num l t (path (unflat whole m))) t
+        → IsOverGroups num forms l ins fence env t (λ cs p. laid_in Output 0 whole cs (outer p)) k.code → AreItsPhases num forms k l c lists fence (λ a m. owner num l t (path (unflat whole m))) t
     term_phases (Reshape y a) g env sems outer path ty f x given laid values room private local code =
         let r = term_phases a g env sems (λ p. outer (result_position num y p)) (λ p. operand_position num y (path p)) x.0 f.1 x.1 given (laid_under num y x.0 ty whole outer path f.0 x.2 laid)
         (λ cs p z. let e = result_in num y x.0 ty cs p f.0 x.2 z in values cs (result_position num y p) e.0 ∙ ap (scalars_of num sources sems a cs) e.1) room private local code.1 in
-        record { body = r.body; is = r.is; touches = r.touches; count = r.count; some_phase = r.some_phase; printed = r.printed }
+        record { body = r.body; once = r.once; is = r.is; touches = r.touches; count = r.count; some_phase = r.some_phase; printed = r.printed }
     term_phases (LetArray v b) g env sems outer path ty f x given laid values room private local code =
         let none = inputs_no_privates v f.0 in
         let e : 0 + private_count v ≡ 0 = omega arith in
         let r = term_phases b (push x.0 g) (push (argument_marks l ins num env 0 v) env) (push (scalars_of num sources sems v) sems) outer path ty f.1 x.2
         (given_push g env sems x.0 (argument_marks l ins num env 0 v) (scalars_of num sources sems v) (input_given v g env sems x.0 0 f.0 x.1 given) given) laid values (omega arith)
         (subst (λ z. Declares long z b) e private.1) (subst (λ z. AreLong long 0 (z ++ copy_lengths LocalMemory b)) (inputs_no_copies LocalMemory v f.0) local) code in
-        record { body = r.body; is = r.is; touches = r.touches; count = r.count; some_phase = r.some_phase; printed = r.printed }
+        record { body = r.body; once = r.once; is = r.is; touches = r.touches; count = r.count; some_phase = r.some_phase; printed = r.printed }
     term_phases (Map WorkGroup n loads xs b) g env sems outer path ty f x given laid values room private local code =
         let none = inputs_no_privates xs f.0 in
         let e : 0 + private_count xs ≡ 0 = omega arith in
@@ -281,14 +288,14 @@ module _ {A : Type 0} (num : A → ℕ) (k : Kernel) (l : Launch) (c : Cells) (l
     term_phases _ g env sems outer path ty f x given laid values room private local code = absurd (assumption)
 
 -- a kernel that is printed for a term
-module _ {A : Type 0} (num : A → ℕ) (l : Launch) (src : ℕ → Ty) (ins : ℕ → Marks) (sources : ℕ → Scalars) (fence : ℕ → Fencing) (t : Term A) (ty : Ty) (k : Kernel) (c : Cells) (lists : List (List ℕ)) (h : IsPrintedOverGroups l num src ins sources fence t ty k c)
+module _ {A : Type 0} (num : A → ℕ) (forms : MapForms A) (l : Launch) (src : ℕ → Ty) (ins : ℕ → Marks) (sources : ℕ → Scalars) (fence : ℕ → Fencing) (t : Term A) (ty : Ty) (k : Kernel) (c : Cells) (lists : List (List ℕ)) (h : IsPrintedOverGroups l num forms src ins sources fence t ty k c)
     (shape : map length lists ≡ map length c.outs) (listed : AreLists ty (scalars_of num sources no_scalars t) lists) where
   abbrev of_owner : (array index : ℕ) → ℕ
   of_owner a m = owner num l t (unflat ty m)
 
-  its_phases : AreItsPhases num k l c lists fence of_owner t
+  its_phases : AreItsPhases num forms k l c lists fence of_owner t
   its_phases =
-      term_phases num k l c lists ins src sources ty (scalars_of num sources no_scalars t) fence (record { launch = h.whole; flat = h.flat; some = h.some; few = h.few; inputs = h.inputs; flat_type = h.flat_type; outputs = h.outputs; shape = shape; listed = listed })
+      term_phases num forms k l c lists ins src sources ty (scalars_of num sources no_scalars t) fence (record { launch = h.whole; flat = h.flat; some = h.some; few = h.few; makes = h.makes; inputs = h.inputs; flat_type = h.flat_type; outputs = h.outputs; shape = shape; listed = listed })
       t no_type no_marks no_scalars (λ p. p) (λ p. p) ty h.stands h.typed (λ v cs p x. nothing cs p x) (laid_itself ty) (λ cs p x. refl) (let e = h.variables in omega arith)
       (declares (length_in k c) 0 t (λ i lt. let z : 0 + i ≡ i = omega arith in ap (λ j. slice_index k.privates j) z ∙ ap (λ ns. slice_index ns i) h.privates))
       (λ i lt. let z : 0 + i ≡ i = omega arith in ap (λ j. slice_index k.locals j) z ∙ ap (λ ns. slice_index ns i) h.locals) h.code
@@ -297,11 +304,14 @@ module _ {A : Type 0} (num : A → ℕ) (l : Launch) (src : ℕ → Ty) (ins : �
       nothing cs [] x = absurd x
       nothing cs (i ∷ p) x = absurd (let lt = x.0 in omega arith)
 
-  apart : (r : AreItsPhases num k l c lists fence of_owner t) → IsKeptApart t fence → Separates (numbered 0 (uses_of r.body.stages)) placed.Local (length r.body.stages) fence
-  apart r s = subst (λ z. Separates (numbered 0 (uses_of r.body.stages)) placed.Local z fence) (sym r.count) (subst (λ z. Separates z placed.Local (phase_count t) fence) (sym r.touches) s.separates)
+  apart : (r : AreItsPhases num forms k l c lists fence of_owner t) → IsKeptApart forms t fence → Separates (numbered 0 (uses_of r.body.stages)) placed.Local r.body.once (length r.body.stages) fence
+  apart r s =
+      subst (λ z. Separates (numbered 0 (uses_of r.body.stages)) placed.Local z (length r.body.stages) fence) (sym r.once)
+      (subst (λ z. Separates (numbered 0 (uses_of r.body.stages)) placed.Local (is_once forms t) z fence) (sym r.count)
+      (subst (λ z. Separates z placed.Local (is_once forms t) (phase_count t) fence) (sym r.touches) s.separates))
 
-  pub separated_keep : PhasesKeep A → IsKeptApart t fence → EveryRunKeeps k l c of_owner lists
+  pub separated_keep : PhasesKeep A → IsKeptApart forms t fence → EveryRunKeeps k l c of_owner lists
   separated_keep keep s = let r = its_phases in keep num k l c of_owner lists (phase_list num l c lists r.body) fence r.is (apart r s) (r.printed s.opens)
 
-  pub separated_serve : PhasesServe A → IsKeptApart t fence → (filler : Cell → ℕ) × BarriersServeAll k l c filler
+  pub separated_serve : PhasesServe A → IsKeptApart forms t fence → (filler : Cell → ℕ) × BarriersServeAll k l c filler
   separated_serve serve s = let r = its_phases in ((phase_list num l c lists r.body).filler, serve num k l c of_owner lists (phase_list num l c lists r.body) fence r.is (apart r s) (r.printed s.opens))

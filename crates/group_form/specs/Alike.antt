@@ -1,5 +1,6 @@
 -- Kernels printed for one program's typed term that is a map over work-groups.
 use Rattle.std.specs.Prelude.{Bool}
+use Rattle.lift_tree.specs.Launches.{Asks}
 use Rattle.lift_tree.specs.Tree.{Tree}
 use Rattle.lift_tree.specs.Typing.{Declared, IsAdmissible}
 use Rattle.lift_tree.specs.Annotations.{Annotation}
@@ -16,6 +17,6 @@ use Rattle.group_form.specs.Programs.{PrintsGroups, IsGroupProgram}
 -- of both
 abbrev pub PrintedGroupProgramsGoAlike : Type 0
 PrintedGroupProgramsGoAlike =
-    (d : Declared) (is_task : Bool) (w : World) (t : Tree) (a : Annotation) (l : Launch) (k m : Kernel) (c : Cells) (s r : State)
-    → IsGroupProgram d w.bases t a → IsAdmissible d w → IsLaunchOf d is_task w.bases l → AreBuffersOf d w t a c → PrintsGroups d w.bases t a l k → PrintsGroups d w.bases t a l m
+    (d : Declared) (asks : Asks) (w : World) (t : Tree) (a : Annotation) (l : Launch) (k m : Kernel) (c : Cells) (s r : State)
+    → IsGroupProgram d w.bases t a → IsAdmissible d w → IsLaunchOf d asks w.bases l → AreBuffersOf d w t a c → PrintsGroups d asks.local w.bases t a l k → PrintsGroups d asks.local w.bases t a l m
     → IsStart k l c s → IsStart m l c r → SameContents l s r → GoesAlike (device_of k l c) s (device_of m l c) r

@@ -6,16 +6,19 @@ use Rattle.kernel_tree.specs.Launch.{Launch, Cells, groups_across}
 use Rattle.kernel_tree.specs.Device.{Cell, row}
 use Rattle.lift_ir.specs.Types.{Ty, Scalar, PairOf, ArrayOf, width, unflat}
 use Rattle.lift_ir.specs.Scalars.{Scalars, at_index}
+use Rattle.printed_form.specs.MapForms.{MapForms}
 use Rattle.printed_form.specs.Marks.{Marks, laid_in}
 use Rattle.group_phases.specs.Phases.{Place, TurnElement, PhaseList}
 use Rattle.group_form.specs.Uses.{Destination, Locals, Outputs, numbered}
 use Rattle.group_form.specs.Stages.{Stage, stage_at, uses_of, value_in}
 
--- a map over groups, of so many turns: its bound element, where its value goes, the type of a
--- turn's value, and its stages
+-- a map over groups, an `if` or a loop of so many turns: the forms of the maps in it, its bound
+-- element, where its value goes, the type of a turn's value, and its stages
 pub record GroupBody (A : Type 0) : Type 0 where
+  pub once : Bool
   pub turns : ℕ
   pub variables : ℕ
+  pub forms : MapForms A
   pub ins : ℕ → Marks
   pub src : ℕ → Ty
   pub sources : ℕ → Scalars
@@ -98,6 +101,7 @@ module _ {A : Type 0} (num : A → ℕ) (l : Launch) (c : Cells) (wanted : List 
 
   abbrev pub phase_list : PhaseList A
   phase_list = record {
+    once = b.once;
     turns = b.turns;
     count = length b.stages;
     variables = b.variables;

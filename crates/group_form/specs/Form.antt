@@ -1,8 +1,8 @@
--- Which code is printed for a map over work-groups: local maps are phases, with whatever stands
--- between them, and the code is one for all turns.
-use Rattle.std.specs.Prelude.{◌≡◌, ℕ, ◌+◌, ◌<◌, true, [], ◌∷◌}
+-- Which code is printed for a map over work-groups, whose maps have given forms: local maps are
+-- phases, with whatever stands between them, and the code is one for all turns.
+use Rattle.std.specs.Prelude.{◌≡◌, ℕ, ◌+◌, ◌<◌, Bool, true, false, []}
 use Rattle.kernel_tree.specs.Formula.{Formula}
-use Rattle.kernel_tree.specs.Code.{Local as LocalArray, Code, End, Loops}
+use Rattle.kernel_tree.specs.Code.{Local as LocalArray, Code, End}
 use Rattle.kernel_tree.specs.Launch.{Launch, item_count}
 use Rattle.barrier_placement.specs.Fencing.{Fencing}
 use Rattle.lift_ir.specs.Layouts.{result_position, IsInvertible}
@@ -10,7 +10,8 @@ use Rattle.lift_ir.specs.Terms.{LoadSet, WorkGroup, Local, LocalMemory, Term, Bo
 use Rattle.lift_ir.specs.Scalars.{at_index}
 use Rattle.printed_form.specs.Counts.{load_count, variable_count, private_count}
 use Rattle.printed_form.specs.Marks.{Marks, laid_in, loaded_marks}
-use Rattle.printed_form.specs.Form.{start_of, stride_of, IsTurnOf, IsLength, IsLoaded, IsLoop, argument_marks, IsWritten}
+use Rattle.printed_form.specs.Form.{IsTurnOf, IsLength, IsLoaded, argument_marks, IsWritten}
+use Rattle.printed_form.specs.MapForms.{MapForm, MapForms, form_over_groups, statement_over_groups, variables_in, AreTurns}
 use Rattle.group_phases.specs.Epochs.{IsPast}
 use Rattle.group_form.specs.Origins.{local_count}
 use Rattle.group_form.specs.Stages.{marks_of}
@@ -33,21 +34,28 @@ used_after u t = record {
   phases = u.phases + phases_in t;
 }
 
-module _ {A : Type 0} (num : A → ℕ) (l : Launch) (ins : ℕ → Marks) where
-  -- what stands before each phase, and so many turns
-  module _ (fence : ℕ → Fencing) (turns : ℕ) where
-    -- the loop of a local map over what stands for its argument at each turn, as each item runs
-    -- it at its group's turns
-    abbrev pub IsLocalLoop : ((turn var : ℕ) → Marks) → Used → (len : ℕ) → LoadSet
+-- whether the map over groups is an `if`
+abbrev pub is_once : {A : Type 0} → MapForms A → Term A → Bool
+is_once forms (Reshape y t) = is_once forms t
+is_once forms (LetArray v b) = is_once forms b
+is_once forms (Map kind n loads xs b) = forms.once n
+is_once forms _ = false
+
+module _ {A : Type 0} (num : A → ℕ) (forms : MapForms A) (l : Launch) (ins : ℕ → Marks) where
+  -- what stands before each phase, how the map over groups is printed, and so many turns
+  module _ (fence : ℕ → Fencing) (outer : MapForm) (turns : ℕ) where
+    -- a local map over what stands for its argument at each turn, as each item runs it at its
+    -- group's turns
+    abbrev pub IsLocalMap : ((turn var : ℕ) → Marks) → Used → (len : A) → LoadSet
         → (marks : ℕ → Marks) → (body : Term A) → (to : ℕ → Marks) → (code rest : Code) → Type 0
-    IsLocalLoop env u len loads marks b w code rest =
+    IsLocalMap env u len loads marks b w code rest =
         (item i : ℕ) → item < item_count l → i < turns → IsTurnOf l item WorkGroup i
-        → IsLoop l item ins Local len
-        (λ j body. (inner : Code)
-        × IsLoaded l item ins (i ∷ j ∷ []) loads (at_index j (marks i)) u.variables body inner
-        × IsWritten l item ins num (i ∷ j ∷ [])
+        → AreTurns l item ins (forms.local len) Local (variables_in outer [] i) (num len)
+        (λ ts j body last. (inner : Code)
+        × IsLoaded l item ins ts loads (at_index j (marks i)) u.variables body inner
+        × IsWritten l item ins num ts
         (push (loaded_marks loads (at_index j (marks i)) u.variables) (env i)) u.privates
-        (u.variables + load_count loads) b (at_index j (w i)) inner End)
+        (u.variables + load_count loads) b (at_index j (w i)) inner last)
         code rest
 
     abbrev mutual
@@ -81,17 +89,16 @@ module _ {A : Type 0} (num : A → ℕ) (l : Launch) (ins : ℕ → Marks) where
       IsGroupWritten env u (Map Local n loads xs b) w code rest =
           (mid mid2 : Code) × IsGroupArgument env u xs code mid
           × IsPast (fence (u.phases + phases_in xs)) mid mid2
-          × IsLocalLoop env (used_after u xs) (num n) loads
-          (marks_of num ins env u.locals xs) b w mid2 rest
+          × IsLocalMap env (used_after u xs) n loads (marks_of num ins env u.locals xs) b w mid2 rest
       IsGroupWritten env u _ w code rest = ⊥
 
     -- a turn: the loads of its element, the body's phases, and what closes
-    abbrev pub IsGroupTurn : (ℕ → Marks) → LoadSet → (marks : Marks) → (body : Term A)
-        → (to : Marks) → Code → Type 0
+    abbrev pub IsGroupTurn : (ℕ → Marks) → LoadSet → (marks : Marks) → (body : Term A) → (to : Marks)
+        → Code → Type 0
     IsGroupTurn env loads marks b w code =
         (first last : Code)
         × ((item i : ℕ) → item < item_count l → i < turns → IsTurnOf l item WorkGroup i
-        → IsLoaded l item ins (i ∷ []) loads (at_index i marks) 0 code first)
+        → IsLoaded l item ins (variables_in outer [] i) loads (at_index i marks) 0 code first)
         × IsGroupWritten (λ i. push (loaded_marks loads (at_index i marks) 0) env)
         (record { locals = 0; privates = 0; variables = load_count loads; phases = 0 }) b
         (λ i. at_index i w) first last × IsPast (fence (phases_in b)) last End
@@ -105,7 +112,8 @@ module _ {A : Type 0} (num : A → ℕ) (l : Launch) (ins : ℕ → Marks) where
       IsOverGroups fence (push (argument_marks l ins num env 0 v) env) b w code
   IsOverGroups fence env (Map WorkGroup n loads xs b) w code =
       (bound : Formula) × (body : Code)
-      × (code ≡ Loops (start_of WorkGroup) bound (stride_of WorkGroup) body End)
+      × (code ≡ statement_over_groups (forms.once n) bound body)
       × IsLength l ins bound (num n)
-      × IsGroupTurn fence (num n) env loads (argument_marks l ins num env 0 xs) b w body
+      × IsGroupTurn fence (form_over_groups (forms.once n)) (num n) env loads
+      (argument_marks l ins num env 0 xs) b w body
   IsOverGroups fence env _ w code = ⊥

@@ -5,6 +5,7 @@ pub mod Uses
 pub mod Stages
 pub mod Body
 pub mod Form
+pub mod ChosenForms
 pub mod Whole
 pub mod Theorem
 pub mod Programs

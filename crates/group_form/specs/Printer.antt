@@ -1,16 +1,18 @@
--- A printer of maps over work-groups: its code is one for all launches.
-use Rattle.std.specs.Prelude.{ℕ, ◌+◌, ◌<◌, ◌^◌, Bool, List, ◌∷◌, length, None}
+-- A printer of maps over work-groups, each map in its form: its code is one for all launches.
+use Rattle.std.specs.Prelude.{ℕ, suc, ◌+◌, ◌<◌, ◌^◌, Bool, List, ◌∷◌, length, Option}
 use Rattle.size_arith.specs.declared.poly.Monomial.{Monomial}
+use Rattle.lift_tree.specs.Launches.{Asks}
 use Rattle.lift_tree.specs.Tree.{Tree}
 use Rattle.lift_tree.specs.Typing.{Declared}
 use Rattle.lift_tree.specs.Annotations.{Annotation, type_in}
-use Rattle.kernel_tree.specs.Formula.{Formula, LoopVariable}
-use Rattle.kernel_tree.specs.Code.{Output, Local as LocalArray, Code, End, Loops, Syncs, Kernel}
+use Rattle.kernel_tree.specs.declared.tree.Dimension.TheVariants.{X}
+use Rattle.kernel_tree.specs.Formula.{Formula, LoopVariable, Number, Id, GlobalId, GroupId, LocalId}
+use Rattle.kernel_tree.specs.Code.{Output, Local as LocalArray, Code, End, Loops, Guards, Syncs, Kernel}
 use Rattle.kernel_tree.specs.Launch.{Launch}
 use Rattle.barrier_placement.specs.Fencing.{Fencing, Open, Fenced}
 use Rattle.barrier_placement.specs.Needed.{Needed}
 use Rattle.lift_ir.specs.Types.{Shape, measured, width, IsPlaced}
-use Rattle.lift_ir.specs.Terms.{LoadSet, WorkGroup, Local, LocalMemory, PrivateMemory, Term, Bound, Source, Both, Project, Reshape, LetArray, Map, Copy, push, HasType, no_type}
+use Rattle.lift_ir.specs.Terms.{Kind, Global, WorkGroup, Local, Sequential, LoadSet, LocalMemory, PrivateMemory, Term, Bound, Source, Both, Project, Reshape, LetArray, Map, Copy, push, HasType, no_type}
 use Rattle.lift_ir.specs.Scalars.{by_side}
 use Rattle.lift_ir.specs.AtLaunch.{shape_of}
 use Rattle.lift_ir.specs.Lowering.{Written}
@@ -18,12 +20,14 @@ use Rattle.lift_ir.specs.Lowerable.{IsStaged}
 use Rattle.lift_ir.specs.Loads.{none, LoadsSuffice}
 use Rattle.printed_form.specs.Counts.{load_count, variable_count, copy_lengths}
 use Rattle.printed_form.specs.Form.{start_of, stride_of}
+use Rattle.printed_form.specs.MapForms.{MapForm, Looped, Guarded, Alone, MapForms, MakeTurns, form_over_groups, statement_over_groups}
 use Rattle.printed_form.specs.Means.{IsSpelled}
-use Rattle.printed_form.specs.Programs.{input_shape, first_buffer, buffer_count, lowered_root, IsLaunchOf, IsSpelling, FitsBuffers}
+use Rattle.printed_form.specs.Programs.{input_shape, first_buffer, buffer_count, lowered_root, row_of, IsLaunchOf, IsSpelling, FitsBuffers}
 use Rattle.printed_form.specs.Printer.{print_loaded, print_written, argument_view, no_view, input_views, input_marks}
 use Rattle.printed_form.specs.Views.{View, Blank, loaded_view, view_at, operand_indices, result_indices, placed_view, laid_view}
 use Rattle.printed_form.specs.Whole.{no_marks, output_marks}
-use Rattle.group_form.specs.Form.{Used, used_after, IsOverGroups}
+use Rattle.group_form.specs.ChosenForms.{forms_of}
+use Rattle.group_form.specs.Form.{Used, used_after, is_once, IsOverGroups}
 use Rattle.group_form.specs.Forms.{StandsOverGroups}
 use Rattle.group_form.specs.Origins.{local_count}
 use Rattle.group_form.specs.Programs.{PrintsGroups, IsGroupProgram}
@@ -33,8 +37,34 @@ abbrev pub print_fence : Fencing → (rest : Code) → Code
 print_fence Open rest = rest
 print_fence (Fenced on_local on_global) rest = Syncs on_local on_global rest
 
--- lengths are spelled so, the inputs stand so, and this stands before each phase
-module _ {A : Type 0} (spell : A → Formula) (ins : ℕ → View) (fence : ℕ → Fencing) where
+-- the id that an item's turn of a map of a kind is, where it takes no loop
+abbrev pub id_of : Kind → Formula
+id_of Global = Id X GlobalId
+id_of WorkGroup = Id X GroupId
+id_of Local = Id X LocalId
+id_of Sequential = Number 0
+
+-- what stands for the turn of a map within so many loops
+abbrev pub turn_formula : MapForm → Kind → (depth : ℕ) → Formula
+turn_formula Looped k depth = LoopVariable depth
+turn_formula Guarded k depth = id_of k
+turn_formula Alone k depth = id_of k
+
+-- and in how many loops its body stands
+abbrev pub depth_in : MapForm → ℕ → ℕ
+depth_in Looped depth = suc depth
+depth_in Guarded depth = depth
+depth_in Alone depth = depth
+
+-- a map's statement in a form, where this prints a turn up to what follows it
+abbrev pub print_turns : MapForm → Kind → (bound : Formula) → (turn : Code → Code) → (rest : Code)
+    → Code
+print_turns Looped k b turn rest = Loops (start_of k) b (stride_of k) (turn End) rest
+print_turns Guarded k b turn rest = Guards (start_of k) b (turn End) rest
+print_turns Alone k b turn rest = turn rest
+
+-- lengths are spelled so and the inputs stand so
+module _ {A : Type 0} (spell : A → Formula) (ins : ℕ → View) where
   -- what stands for an argument, whose first local array is this
   abbrev pub group_view : (ℕ → View) → ℕ → Term A → View
   group_view env k (Bound v) = env v
@@ -47,75 +77,101 @@ module _ {A : Type 0} (spell : A → Formula) (ins : ℕ → View) (fence : ℕ 
   group_view env k (Copy space ty a) = laid_view LocalArray (k + local_count a) ty
   group_view env k _ = λ cs is. Blank
 
-  -- the loop of a local map over such an argument
-  abbrev pub print_local_loop : (ℕ → View) → Used → A → LoadSet → (array : View) → (body : Term A)
-      → (to : View) → (rest : Code) → Code
-  print_local_loop env u n loads x b w rest =
-      Loops (start_of Local) (spell n) (stride_of Local)
-      (print_loaded loads (view_at (LoopVariable 1) x) u.variables
-      (print_written spell ins 2
-      (push (loaded_view loads (view_at (LoopVariable 1) x) u.variables) env) u.privates
-      (u.variables + load_count loads) b (view_at (LoopVariable 1) w) End))
-      rest
+-- the maps have these forms, and this stands before each phase
+module _ {A : Type 0} (spell : A → Formula) (forms : MapForms A) (ins : ℕ → View)
+    (fence : ℕ → Fencing) where
+  -- a turn of a local map over such an argument, within so many loops, up to what follows it
+  abbrev pub print_local_turn : (depth : ℕ) → (ℕ → View) → Used → A → LoadSet → (array : View)
+      → (body : Term A) → (to : View) → (rest : Code) → Code
+  print_local_turn depth env u n loads x b w rest =
+      let turn = turn_formula (forms.local n) Local depth in
+      print_loaded loads (view_at turn x) u.variables
+      (print_written spell ins (depth_in (forms.local n) depth)
+      (push (loaded_view loads (view_at turn x) u.variables) env) u.privates
+      (u.variables + load_count loads) b (view_at turn w) rest)
+
+  abbrev pub print_local_map : (depth : ℕ) → (ℕ → View) → Used → A → LoadSet → (array : View)
+      → (body : Term A) → (to : View) → (rest : Code) → Code
+  print_local_map depth env u n loads x b w rest =
+      print_turns (forms.local n) Local (spell n)
+      (print_local_turn depth env u n loads x b w) rest
 
   abbrev mutual
-    pub print_group_argument : (ℕ → View) → Used → Term A → (rest : Code) → Code
-    print_group_argument env u (Both zips a b) rest =
-        print_group_argument env u a (print_group_argument env (used_after u a) b rest)
-    print_group_argument env u (Project s a) rest = print_group_argument env u a rest
-    print_group_argument env u (Reshape l a) rest = print_group_argument env u a rest
-    print_group_argument env u (LetArray v b) rest =
-        print_group_argument env u v
-        (print_group_argument (push (group_view env u.locals v) env) (used_after u v) b rest)
-    print_group_argument env u (Copy space ty a) rest =
-        print_group_written env u a (laid_view LocalArray (u.locals + local_count a) ty) rest
-    print_group_argument env u _ rest = rest
+    pub print_group_argument : (depth : ℕ) → (ℕ → View) → Used → Term A → (rest : Code) → Code
+    print_group_argument depth env u (Both zips a b) rest =
+        print_group_argument depth env u a
+        (print_group_argument depth env (used_after u a) b rest)
+    print_group_argument depth env u (Project s a) rest = print_group_argument depth env u a rest
+    print_group_argument depth env u (Reshape l a) rest = print_group_argument depth env u a rest
+    print_group_argument depth env u (LetArray v b) rest =
+        print_group_argument depth env u v
+        (print_group_argument depth (push (group_view spell ins env u.locals v) env)
+        (used_after u v) b rest)
+    print_group_argument depth env u (Copy space ty a) rest =
+        print_group_written depth env u a (laid_view LocalArray (u.locals + local_count a) ty) rest
+    print_group_argument depth env u _ rest = rest
 
     -- a term in writing position, which goes to w
-    pub print_group_written : (ℕ → View) → Used → Term A → (to : View) → (rest : Code) → Code
-    print_group_written env u (Reshape l t) w rest =
-        print_group_written env u t (λ cs is. w cs (result_indices spell l is)) rest
-    print_group_written env u (LetArray v b) w rest =
-        print_group_argument env u v
-        (print_group_written (push (group_view env u.locals v) env) (used_after u v) b w rest)
-    print_group_written env u (Map kind n loads xs b) w rest =
-        print_group_argument env u xs (print_fence (fence (u.phases + phases_in xs)) (print_local_loop env (used_after u xs) n loads (group_view env u.locals xs) b w rest))
-    print_group_written env u _ w rest = rest
+    pub print_group_written : (depth : ℕ) → (ℕ → View) → Used → Term A → (to : View)
+        → (rest : Code) → Code
+    print_group_written depth env u (Reshape l t) w rest =
+        print_group_written depth env u t (λ cs is. w cs (result_indices spell l is)) rest
+    print_group_written depth env u (LetArray v b) w rest =
+        print_group_argument depth env u v
+        (print_group_written depth (push (group_view spell ins env u.locals v) env)
+        (used_after u v) b w rest)
+    print_group_written depth env u (Map kind n loads xs b) w rest =
+        print_group_argument depth env u xs
+        (print_fence (fence (u.phases + phases_in xs))
+        (print_local_map depth env (used_after u xs) n loads
+        (group_view spell ins env u.locals xs) b w rest))
+    print_group_written depth env u _ w rest = rest
 
   -- a turn of the map over groups, whose element stands so
-  abbrev pub print_group_turn : (ℕ → View) → LoadSet → (element : View) → (body : Term A)
-      → (to : View) → Code
-  print_group_turn env loads x b w =
-      print_loaded loads x 0 (print_group_written (push (loaded_view loads x 0) env) (record { locals = 0; privates = 0; variables = load_count loads; phases = 0 }) b w (print_fence (fence (phases_in b)) End))
+  abbrev pub print_group_turn : (depth : ℕ) → (ℕ → View) → LoadSet → (element : View)
+      → (body : Term A) → (to : View) → Code
+  print_group_turn depth env loads x b w =
+      print_loaded loads x 0
+      (print_group_written depth (push (loaded_view loads x 0) env)
+      (record { locals = 0; privates = 0; variables = load_count loads; phases = 0 }) b w
+      (print_fence (fence (phases_in b)) End))
 
   abbrev pub print_groups : (ℕ → View) → Term A → (to : View) → Code
-  print_groups env (Reshape l t) w = print_groups env t (λ cs is. w cs (result_indices spell l is))
-  print_groups env (LetArray v b) w = print_groups (push (argument_view spell ins env 0 v) env) b w
+  print_groups env (Reshape l t) w =
+      print_groups env t (λ cs is. w cs (result_indices spell l is))
+  print_groups env (LetArray v b) w =
+      print_groups (push (argument_view spell ins env 0 v) env) b w
   print_groups env (Map kind n loads xs b) w =
-      Loops (start_of WorkGroup) (spell n) (stride_of WorkGroup) (print_group_turn env loads (view_at (LoopVariable 0) (argument_view spell ins env 0 xs)) b (view_at (LoopVariable 0) w)) End
+      let form = form_over_groups (forms.once n) in
+      let turn = turn_formula form WorkGroup 0 in
+      statement_over_groups (forms.once n) (spell n)
+      (print_group_turn (depth_in form 0) env loads
+      (view_at turn (argument_view spell ins env 0 xs)) b (view_at turn w))
   print_groups env _ w = End
 
 -- the code of a map over work-groups, where input v's arrays begin with the number `first v`
-abbrev pub group_kernel_code : {A : Type 0} → (A → Formula) → (first : ℕ → ℕ) → (ℕ → Shape A)
-    → (fence : ℕ → Fencing) → Term A → Shape A → Code
-group_kernel_code spell first src fence t ty =
-    print_groups spell (input_views spell first src) fence no_view t (placed_view spell Output 0 ty)
+abbrev pub group_kernel_code : {A : Type 0} → (A → Formula) → MapForms A → (first : ℕ → ℕ)
+    → (ℕ → Shape A) → (fence : ℕ → Fencing) → Term A → Shape A → Code
+group_kernel_code spell forms first src fence t ty =
+    print_groups spell forms (input_views spell first src) fence no_view t
+    (placed_view spell Output 0 ty)
 
--- at each launch where the lengths' spellings have their values, the code is printed for the term
+-- at each launch where the forms make the maps' turns and the lengths' spellings have their values,
+-- the code is printed for the term
 abbrev pub GroupPrinterPrints : Type 0 → Type 0
 GroupPrinterPrints A =
-    (l : Launch) (num : A → ℕ) (spell : A → Formula)
-    → ((n : A) → num n < 2 ^ 31 → IsSpelled l (spell n) (num n)) → (first : ℕ → ℕ)
-    (src : ℕ → Shape A) (fence : ℕ → Fencing) (t : Term A) (ty : Shape A) → StandsOverGroups t
+    (l : Launch) (num : A → ℕ) (forms : MapForms A) → MakeTurns forms num l
+    → (spell : A → Formula) → ((n : A) → num n < 2 ^ 31 → IsSpelled l (spell n) (num n))
+    → (first : ℕ → ℕ) (src : ℕ → Shape A) (fence : ℕ → Fencing) (t : Term A) (ty : Shape A) → StandsOverGroups t
     → HasType num (λ v. measured num (src v)) no_type t (measured num ty)
     → LoadsSuffice (λ v. none) t → IsPlaced num ty → ((v : ℕ) → IsPlaced num (src v))
-    → IsOverGroups num l (input_marks num first src) fence no_marks t
-    (output_marks (measured num ty)) (group_kernel_code spell first src fence t ty)
+    → IsOverGroups num forms l (input_marks num first src) fence no_marks t
+    (output_marks (measured num ty)) (group_kernel_code spell forms first src fence t ty)
 
 -- the kernel that the printer makes of a program's typed term
 abbrev pub printed_group_kernel : (List Monomial → Formula) → (fence : ℕ → Fencing) → Declared
-    → Tree → Annotation → Kernel
-printed_group_kernel spell fence d t a = record {
+    → (size : Option ℕ) → Tree → Annotation → Kernel
+printed_group_kernel spell fence d size t a = record {
   inputs = buffer_count d.inputs;
   outputs = width (shape_of (type_in a));
   sizes = length d.names;
@@ -123,18 +179,20 @@ printed_group_kernel spell fence d t a = record {
   privates = copy_lengths PrivateMemory (lowered_root d.names t a);
   variables = variable_count (lowered_root d.names t a);
   vectors = 0;
-  local = None;
+  local = row_of size;
   code =
-      group_kernel_code spell (first_buffer d.inputs) (input_shape d.inputs) fence
-      (lowered_root d.names t a) (shape_of (type_in a));
+      group_kernel_code spell (forms_of d.names size) (first_buffer d.inputs)
+      (input_shape d.inputs) fence (lowered_root d.names t a) (shape_of (type_in a));
 }
 
 -- with the needed barriers it is printed for the term, at each admissible launch
 abbrev pub GroupProgramsArePrinted : Type 0
 GroupProgramsArePrinted =
-    (d : Declared) (is_task : Bool) (bases : List ℕ) (t : Tree) (a : Annotation) (l : Launch)
+    (d : Declared) (asks : Asks) (bases : List ℕ) (t : Tree) (a : Annotation) (l : Launch)
     (spell : List Monomial → Formula) (fence : ℕ → Fencing)
-    → IsGroupProgram d bases t a → IsLaunchOf d is_task bases l → IsStaged Written t a
+    → IsGroupProgram d bases t a → IsLaunchOf d asks bases l → IsStaged Written t a
     → FitsBuffers d bases a → IsSpelling spell bases l
-    → Needed (group_touches (lowered_root d.names t a)) (phase_count (lowered_root d.names t a)) fence
-    → PrintsGroups d bases t a l (printed_group_kernel spell fence d t a)
+    → Needed (group_touches (lowered_root d.names t a))
+    (is_once (forms_of d.names asks.local) (lowered_root d.names t a))
+    (phase_count (lowered_root d.names t a)) fence
+    → PrintsGroups d asks.local bases t a l (printed_group_kernel spell fence d asks.local t a)

@@ -7,6 +7,7 @@ use Rattle.lift_ir.specs.Layouts.{operand_position, result_position}
 use Rattle.lift_ir.specs.Terms.{LoadSet, Skip, Term, Literal, Bound, Source, Both, Project, Reshape, LetArray, Map, Copy, push, HasType, no_type}
 use Rattle.lift_ir.specs.Scalars.{Scalars, by_side, mapped, scalars_of}
 use Rattle.printed_form.specs.Counts.{variable_count, private_count}
+use Rattle.printed_form.specs.MapForms.{Looped, MapForms}
 use Rattle.printed_form.specs.Marks.{Nowhere, Marks, laid_in}
 use Rattle.group_phases.specs.Phases.{Phase}
 use Rattle.group_form.specs.Named.{cut, ways, element_ways, named_outside}
@@ -78,12 +79,15 @@ module _ {A : Type 0} (num : A → ℕ) (ins : ℕ → Marks) (src : ℕ → Ty)
     locals = s.locals + local_count v;
   }
 
+module _ {A : Type 0} (num : A → ℕ) (forms : MapForms A) (ins : ℕ → Marks) (src : ℕ → Ty)
+    (sources : ℕ → Scalars) where
   -- the phase of a local map over elements of type x, whose body is of type y
-  abbrev pub stage_of : Scope → (n : ℕ) → LoadSet → (xs b : Term A) → (x y : Ty) → Destination
+  abbrev pub stage_of : Scope → (n : A) → LoadSet → (xs b : Term A) → (x y : Ty) → Destination
       → (outer path : List ℕ → List ℕ) → (direct : Bool) → Stage A
   stage_of s n loads xs b x y d outer path direct = record {
     phase = record {
-      len = n;
+      form = forms.local n;
+      len = num n;
       loads = loads;
       body = b;
       element = cut x (element_ways loads b);
@@ -116,7 +120,8 @@ module _ {A : Type 0} (num : A → ℕ) (ins : ℕ → Marks) (src : ℕ → Ty)
     argument_stages s (Project true a) ty h = argument_stages s a (PairOf h.0 ty) h.1
     argument_stages s (Reshape l a) ty h = argument_stages s a h.0 h.1
     argument_stages s (LetArray v b) ty h =
-        argument_stages s v h.0 h.1 ++ argument_stages (bind s v h.0) b ty h.2
+        argument_stages s v h.0 h.1
+        ++ argument_stages (bind num ins src sources s v h.0) b ty h.2
     argument_stages s (Copy space u a) ty h =
         written_stages s a ty h.2 (Locals (s.locals + local_count a) u) (λ p. p) (λ p. p) true
     argument_stages s _ ty h = []
@@ -128,10 +133,11 @@ module _ {A : Type 0} (num : A → ℕ) (ins : ℕ → Marks) (src : ℕ → Ty)
         written_stages s a h.0 h.1 d (λ p. outer (result_position num y p))
         (λ p. operand_position num y (path p)) false
     written_stages s (LetArray v b) ty h d outer path direct =
-        argument_stages s v h.0 h.1 ++ written_stages (bind s v h.0) b ty h.2 d outer path direct
+        argument_stages s v h.0 h.1
+        ++ written_stages (bind num ins src sources s v h.0) b ty h.2 d outer path direct
     written_stages s (Map kind n loads xs b) ty h d outer path direct =
         argument_stages s xs (ArrayOf (num n) h.0) h.4
-        ++ stage_of s (num n) loads xs b h.0 h.1 d outer path direct ∷ []
+        ++ stage_of s n loads xs b h.0 h.1 d outer path direct ∷ []
     written_stages s _ ty h d outer path direct = []
 
 -- a list of phases
@@ -141,7 +147,7 @@ uses_in s = loop_uses s.origins s.origin s.phase.loads s.phase.body s.destinatio
 
 abbrev pub no_stage : {A : Type 0} → Stage A
 no_stage = record {
-  phase = record { len = 0; loads = Skip; body = Literal 0; element = Scalar; result = Scalar; types = no_type; variables = 0; privates = 0; locals = 0 };
+  phase = record { form = Looped; len = 0; loads = Skip; body = Literal 0; element = Scalar; result = Scalar; types = no_type; variables = 0; privates = 0; locals = 0 };
   env = λ i v cs p. Nowhere;
   sems = λ i v cs p. 0;
   marks = λ i cs p. Nowhere;

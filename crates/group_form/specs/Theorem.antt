@@ -20,27 +20,30 @@ use Rattle.lift_ir.specs.Sources.{Lowers}
 use Rattle.lift_ir.specs.Owner.{owner}
 use Rattle.printed_form.specs.Counts.{variable_count, copy_lengths}
 use Rattle.printed_form.specs.Headline.{EveryRunKeeps}
+use Rattle.printed_form.specs.MapForms.{MapForms, MakeTurns}
 use Rattle.printed_form.specs.Marks.{Marks}
 use Rattle.printed_form.specs.Whole.{no_marks, output_marks, IsGiven}
 use Rattle.group_phases.specs.Outcome.{BarriersServeAll}
 use Rattle.group_form.specs.Forms.{StandsInGroup, StandsOverGroups}
 use Rattle.group_form.specs.Origins.{local_count}
 use Rattle.group_form.specs.Uses.{phase_count, group_touches}
-use Rattle.group_form.specs.Form.{IsOverGroups}
+use Rattle.group_form.specs.Form.{is_once, IsOverGroups}
 
 -- the kernel is printed for the term of this type, which is a map over work-groups, at this launch
--- of one row and with these cells. What stands before each phase, and closes the body, is `fence`
-pub record IsPrintedOverGroups {A : Type 0} (l : Launch) (num : A → ℕ) (src : ℕ → Ty)
-    (ins : ℕ → Marks) (sources : ℕ → Scalars) (fence : ℕ → Fencing) (t : Term A) (ty : Ty)
+-- of one row and with these cells, each map in a form that makes its turns there. What stands before
+-- each phase, and closes the body, is `fence`
+pub record IsPrintedOverGroups {A : Type 0} (l : Launch) (num : A → ℕ) (forms : MapForms A)
+    (src : ℕ → Ty) (ins : ℕ → Marks) (sources : ℕ → Scalars) (fence : ℕ → Fencing) (t : Term A) (ty : Ty)
     (k : Kernel) (c : Cells) : Type 0 where
   pub whole : IsWhole l
   pub flat : launch.IsFlat l
   pub some : 0 < item_count l
   pub few : item_count l < 2 ^ 31
+  pub makes : MakeTurns forms num l
   pub stands : StandsOverGroups t
   pub typed : HasType num src no_type t ty
   pub flat_type : IsFlat ty
-  pub code : IsOverGroups num l ins fence no_marks t (output_marks ty) k.code
+  pub code : IsOverGroups num forms l ins fence no_marks t (output_marks ty) k.code
   pub variables : k.variables ≡ variable_count t
   pub locals : k.locals ≡ copy_lengths LocalMemory t
   pub privates : k.privates ≡ copy_lengths PrivateMemory t
@@ -49,8 +52,9 @@ pub record IsPrintedOverGroups {A : Type 0} (l : Launch) (num : A → ℕ) (src 
       → IsGiven c (ins v cs p) (sources v cs p)
 
 -- the barriers keep conflicting phases apart, and none stands before the first
-pub record IsKeptApart {A : Type 0} (t : Term A) (fence : ℕ → Fencing) : Type 0 where
-  pub separates : Separates (group_touches t) placed.Local (phase_count t) fence
+pub record IsKeptApart {A : Type 0} (forms : MapForms A) (t : Term A) (fence : ℕ → Fencing)
+    : Type 0 where
+  pub separates : Separates (group_touches t) placed.Local (is_once forms t) (phase_count t) fence
   pub opens : fence 0 ≡ Open
 
 -- there is a phase, and each use is one of a phase and of a local array
@@ -66,9 +70,10 @@ GroupUsesCanBePlaced A = (t : Term A) → StandsOverGroups t → CanBePlaced t
 -- owner
 abbrev pub SeparatedGroupsKeep : Type 0 → Type 0
 SeparatedGroupsKeep A =
-    (num : A → ℕ) (l : Launch) (src : ℕ → Ty) (ins : ℕ → Marks) (sources : ℕ → Scalars)
-    (fence : ℕ → Fencing) (t : Term A) (ty : Ty) (k : Kernel) (c : Cells) (lists : List (List ℕ))
-    → IsPrintedOverGroups l num src ins sources fence t ty k c → IsKeptApart t fence
+    (num : A → ℕ) (forms : MapForms A) (l : Launch) (src : ℕ → Ty) (ins : ℕ → Marks)
+    (sources : ℕ → Scalars) (fence : ℕ → Fencing) (t : Term A) (ty : Ty) (k : Kernel) (c : Cells)
+    (lists : List (List ℕ))
+    → IsPrintedOverGroups l num forms src ins sources fence t ty k c → IsKeptApart forms t fence
     → map length lists ≡ map length c.outs → AreLists ty (scalars_of num sources no_scalars t) lists
     → EveryRunKeeps k l c (λ a i. owner num l t (unflat ty i)) lists
 
@@ -76,29 +81,30 @@ SeparatedGroupsKeep A =
 -- local array that is written is one item's
 abbrev pub SeparatedGroupsServe : Type 0 → Type 0
 SeparatedGroupsServe A =
-    (num : A → ℕ) (l : Launch) (src : ℕ → Ty) (ins : ℕ → Marks) (sources : ℕ → Scalars)
-    (fence : ℕ → Fencing) (t : Term A) (ty : Ty) (k : Kernel) (c : Cells) (lists : List (List ℕ))
-    → IsPrintedOverGroups l num src ins sources fence t ty k c → IsKeptApart t fence
+    (num : A → ℕ) (forms : MapForms A) (l : Launch) (src : ℕ → Ty) (ins : ℕ → Marks)
+    (sources : ℕ → Scalars) (fence : ℕ → Fencing) (t : Term A) (ty : Ty) (k : Kernel) (c : Cells)
+    (lists : List (List ℕ))
+    → IsPrintedOverGroups l num forms src ins sources fence t ty k c → IsKeptApart forms t fence
     → map length lists ≡ map length c.outs → AreLists ty (scalars_of num sources no_scalars t) lists
     → (filler : Cell → ℕ) × BarriersServeAll k l c filler
 
 -- with the needed barriers, every run leaves the source value's lists
 abbrev pub NeededGroupsKeep : Type 0 → Type 0
 NeededGroupsKeep A =
-    (num : A → ℕ) (l : Launch) (w : World) (source : Tree) (inputs : ℕ) (src : ℕ → Ty)
-    (ins : ℕ → Marks) (sources : ℕ → Scalars) (fence : ℕ → Fencing) (t : Term A) (ty : Ty)
+    (num : A → ℕ) (forms : MapForms A) (l : Launch) (w : World) (source : Tree) (inputs : ℕ)
+    (src : ℕ → Ty) (ins : ℕ → Marks) (sources : ℕ → Scalars) (fence : ℕ → Fencing) (t : Term A) (ty : Ty)
     (k : Kernel) (c : Cells)
     → Lowers num w 0 inputs source t
     → ((a : ℕ) → a < inputs → HasScalars (src a) (nth w.inputs a) (sources a))
-    → IsPrintedOverGroups l num src ins sources fence t ty k c
-    → Needed (group_touches t) (phase_count t) fence
+    → IsPrintedOverGroups l num forms src ins sources fence t ty k c
+    → Needed (group_touches t) (is_once forms t) (phase_count t) fence
     → EveryRunKeeps k l c (λ a i. owner num l t (unflat ty i)) (lists_of ty (meaning w [] source))
 
 -- so these barriers keep conflicting phases apart
 abbrev pub NeededKeepApart : Type 0 → Type 0
 NeededKeepApart A =
-    (t : Term A) (fence : ℕ → Fencing) → StandsOverGroups t
-    → Needed (group_touches t) (phase_count t) fence → IsKeptApart t fence
+    (forms : MapForms A) (t : Term A) (fence : ℕ → Fencing) → StandsOverGroups t
+    → Needed (group_touches t) (is_once forms t) (phase_count t) fence → IsKeptApart forms t fence
 
 -- in a group's turn as many local arrays are declared as are counted
 abbrev pub LocalArraysAreCounted : Type 0 → Type 0
@@ -109,12 +115,12 @@ LocalArraysAreCounted A =
 -- told
 abbrev pub UsesTellBarriers : Type 0
 UsesTellBarriers =
-    (xs ys : List Touch) (n : ℕ) (fence : ℕ → Fencing)
+    (xs ys : List Touch) (once : Bool) (n : ℕ) (fence : ℕ → Fencing)
     → ((x : Touch) → Contains xs x → Contains ys x) → ((x : Touch) → Contains ys x → Contains xs x)
-    → Needed xs n fence → Needed ys n fence
+    → Needed xs once n fence → Needed ys once n fence
 
 -- and where all are aligned none is needed
 abbrev pub AlignedNeedNone : Type 0
 AlignedNeedNone =
-    (touches : List Touch) (n : ℕ) → All (λ x. x.aligned ≡ true) touches
-    → Needed touches n (λ q. Open)
+    (touches : List Touch) (once : Bool) (n : ℕ) → All (λ x. x.aligned ≡ true) touches
+    → Needed touches once n (λ q. Open)

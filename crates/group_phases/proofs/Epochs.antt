@@ -7,7 +7,7 @@ use Rattle.barrier_placement.specs.declared.touches.Touch.{Touch}
 use Rattle.barrier_placement.specs.Conflicts.{Space, Local, space_of, Clash, Conflict}
 use Rattle.barrier_placement.specs.Fencing.{Fencing, orders}
 use Rattle.barrier_placement.specs.Separates.{Separates, bit}
-use Rattle.group_phases.specs.Epochs.{passed, each_turn, epoch_in, KeepsApart, runs_by_turns, runs_once, SeparatesOnce}
+use Rattle.group_phases.specs.Epochs.{passed, each_turn, epoch_in, KeepsApart, runs_by_turns, runs_once}
 
 and_turned : (a b : Bool) → (a && b) ≡ false → (b && a) ≡ false
 and_turned true true h = h
@@ -71,28 +71,28 @@ module _ (fence : ℕ → Fencing) where
       (cases_lt b each)
 
   -- two phases in conflict are in no epoch together, whatever the turns
-  apart : (touches : List Touch) (n : ℕ) → Separates touches Local n fence → (w q : ℕ) → w < q → q < n → Conflict touches Local w q → passed fence (suc w) % each_turn fence n ≡ passed fence (suc q) % each_turn fence n → ⊥
+  apart : (touches : List Touch) (n : ℕ) → Separates touches Local false n fence → (w q : ℕ) → w < q → q < n → Conflict touches Local w q → passed fence (suc w) % each_turn fence n ≡ passed fence (suc q) % each_turn fence n → ⊥
   apart touches n sep w q lt below c same =
       let in_turn = sep.within w q lt below c in
       let more = passed_more w in_turn.0 q in_turn.1 in_turn.2 in_turn.3 in
       let most = passed_grows (suc q) (suc n) (omega arith) in
       differ (passed fence (suc w)) (passed fence (suc q)) (each_turn fence n) more most
-      (⊎_elim (λ h. inl (passed_more q h.0 n h.1 h.2 h.3)) (λ h. inr (some_passed h.0 w h.1 h.2)) (sep.around q w below (omega arith) (conflict_turned touches Local w q c)))
+      (⊎_elim (λ h. inl (passed_more q h.0 n h.1 h.2 h.3)) (λ h. inr (some_passed h.0 w h.1 h.2)) (sep.around refl q w below (omega arith) (conflict_turned touches Local w q c)))
       same
 
 -- over many turns
-pub apart_by_turns : (touches : List Touch) (n : ℕ) (fence : ℕ → Fencing) (turns : ℕ → ℕ) → Separates touches Local n fence → KeepsApart touches n fence turns (runs_by_turns fence n)
+pub apart_by_turns : (touches : List Touch) (n : ℕ) (fence : ℕ → Fencing) (turns : ℕ → ℕ) → Separates touches Local false n fence → KeepsApart touches n fence turns (runs_by_turns fence n)
 apart_by_turns touches n fence turns sep = record {
   runs = λ g t q tl ql. eq-eqb _ _ (epoch_mod fence n t q);
   apart = λ g t w q tl lt ql c. ne_eqb _ _ (λ e. apart fence touches n sep w q lt ql c (sym e ∙ epoch_mod fence n t q));
 }
 
 -- in one turn no barrier need close
-pub apart_once : (touches : List Touch) (n : ℕ) (fence : ℕ → Fencing) (turns : ℕ → ℕ) → ((g : ℕ) → turns g ≤ 1) → SeparatesOnce touches n fence → KeepsApart touches n fence turns (runs_once fence)
+pub apart_once : (touches : List Touch) (n : ℕ) (fence : ℕ → Fencing) (turns : ℕ → ℕ) → ((g : ℕ) → turns g ≤ 1) → Separates touches Local true n fence → KeepsApart touches n fence turns (runs_once fence)
 apart_once touches n fence turns one sep = record {
   runs = λ g t q tl ql. eq-eqb _ _ (at g t q tl);
   apart = λ g t w q tl lt ql c. ne_eqb _ _ (λ e.
-      let s = sep w q lt ql c in
+      let s = sep.within w q lt ql c in
       let more = passed_more fence w s.0 q s.1 s.2 s.3 in
       let a = at g t q tl in
       absurd (omega arith));
@@ -103,3 +103,8 @@ apart_once touches n fence turns one sep = record {
         let o = one g in
         let z : t ≡ 0 = omega arith in
         ap (λ x. x * each_turn fence n + passed fence (suc q)) z ∙ (let p = passed fence (suc q) in let e : 0 * each_turn fence n + p ≡ p = omega arith in e)
+
+-- either way
+pub some_apart : (touches : List Touch) (once : Bool) (n : ℕ) (fence : ℕ → Fencing) (turns : ℕ → ℕ) → (once ≡ true → (g : ℕ) → turns g ≤ 1) → Separates touches Local once n fence → (runs_in : ℕ → ℕ → Bool) × KeepsApart touches n fence turns runs_in
+some_apart touches false n fence turns few sep = (runs_by_turns fence n, apart_by_turns touches n fence turns sep)
+some_apart touches true n fence turns few sep = (runs_once fence, apart_once touches n fence turns (few refl) sep)

@@ -4,7 +4,7 @@ use Rattle.std.proofs.lemmas.Bool.{cases_lt}
 use Rattle.std.proofs.lemmas.Nat.{div-mul-add}
 use Rattle.std.proofs.Math.Nat.{mod-lt, mul-div_cancel}
 use Rattle.kernel_tree.specs.declared.tree.Dimension.TheVariants.{X}
-use Rattle.kernel_tree.specs.Code.{Private, FromLocalId, ByLocalSize, Code, End}
+use Rattle.kernel_tree.specs.Code.{Private, FromLocalId, ByLocalSize, Code, End, then_rest}
 use Rattle.kernel_tree.specs.Launch.{ids_of}
 use Rattle.kernel_tree.specs.Item.{Frame, loop_variables}
 use Rattle.kernel_tree.specs.Rounds.{Loop, Counts}
@@ -15,14 +15,16 @@ use Rattle.lift_ir.specs.Scalars.{Scalars, at_index, mapped, scalars_of}
 use Rattle.printed_form.specs.Marks.{Marks, loaded_marks}
 use Rattle.printed_form.specs.Counts.{load_count, variable_count, private_count}
 use Rattle.printed_form.specs.Form.{IsLoop, IsLoaded, IsWritten, Declares}
+use Rattle.printed_form.specs.MapForms.{MapForm, Looped, Guarded, Alone, MakesTurns, AreTurns}
 use Rattle.printed_form.specs.Runs.{Setting, Known, Scratch, spot_cell, Holds, AllHold, Due, known_after, Ran}
 use Rattle.printed_form.proofs.Runs.{later_on, holds_later, all_hold_later, ran_on, after_silence}
 use Rattle.printed_form.proofs.Elements.{all_hold_push}
 use Rattle.printed_form.proofs.Cells.{loads_run}
 use Rattle.printed_form.proofs.Loops.{at, Rows, Row, PlacesDiffer, rows_apart, no_rows}
+use Rattle.printed_form.proofs.Rest.{loaded_on, written_on}
 use Rattle.printed_form.proofs.Writes.{writes}
 use Rattle.group_phases.specs.TurnForms.{Form, TakesTurns, Tests, loop_form, test_form}
-use Rattle.group_phases.proofs.TurnForms.{leads_here, loop_takes, test_takes}
+use Rattle.group_phases.proofs.TurnForms.{leads_here, loop_takes, test_takes, guard_tests}
 use Rattle.group_phases.proofs.TurnRuns.{EachTurnRuns, turned}
 
 -- any form of turns, whose turn u fills the row `row u` of len
@@ -160,3 +162,32 @@ module _ (st : Setting) {A : Type 0} (num : A → ℕ) (ins : ℕ → Marks) (sr
 
         pub alone_run : RunsRows
         alone_run = test_run code (record { at_most_one = let z = one_turn in omega arith; enters = λ vars some. leads_here st.device st.item _ _ refl; passes = λ vars none. absurd (let z = one_turn in omega arith) }) (λ some. h)
+
+      -- in a form that makes its turns
+      abbrev pub IsRowCode : (variables : List ℕ) → (turn : ℕ) → (code rest : Code) → Type 0
+      IsRowCode us i before after =
+          (inner : Code) × IsLoaded st.device.launch st.item ins us loads (at_index i e) x.count before inner
+          × IsWritten st.device.launch st.item ins num us (push (loaded_marks loads (at_index i e) x.count) env) x.arrays (x.count + load_count loads) b (at_index i w) inner after
+
+      module _ (begins : (ids_of st.device.launch st.item).x.local_id ≡ id) (small : len + st.device.launch.local.0 ≤ 2 ^ 32) where
+        guard_run : len ≤ st.device.launch.local.0 → AreTurns st.device.launch st.item ins Guarded Local ts len IsRowCode code rest → RunsRows
+        guard_run short h =
+            let few = few_turns short in
+            let at_most_one : count < 2 = omega arith in
+            let past = turn_past len st.device.launch.local.0 id (mod-lt st.item positive) in
+            let tests = guard_tests st.device st.item fs (FromLocalId X) h.0 h.1 rest len count h.3 at_most_one
+            (λ some. let z = below 0 some in omega arith)
+            (λ none. let z = subst (λ m. len ≤ id + m * st.device.launch.local.0) none past in omega arith)
+            in
+            test_run (then_rest h.1 rest) (subst (λ z. Tests st.device st.item fs z (then_rest h.1 rest) rest count) (sym h.2) tests)
+            (λ some.
+            let k = h.4 id (let z = below 0 some in omega arith) (sym begins) in (
+              then_rest k.0 rest,
+              loaded_on rest st.device.launch st.item ins ts loads (at_index id e) x.count h.1 k.0 k.1,
+              written_on rest st.device.launch st.item ins num ts (push (loaded_marks loads (at_index id e) x.count) env) x.arrays (x.count + load_count loads) b (at_index id w) k.0 End k.2,
+            ))
+
+        pub form_run : (form : MapForm) → MakesTurns form len st.device.launch → AreTurns st.device.launch st.item ins form Local ts len IsRowCode code rest → RunsRows
+        form_run Looped fits h = local_run begins small h
+        form_run Guarded fits h = guard_run fits h
+        form_run Alone fits h = alone_run fits (h id (let lt = mod-lt st.item positive in omega arith) (sym begins))

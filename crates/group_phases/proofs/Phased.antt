@@ -1,25 +1,28 @@
 -- Kernels with such phases, in any form of turns, with any barriers that separate what conflicts.
-use Rattle.std.proofs.Common.{◌≡◌, ℕ, zero, suc, ◌+◌, ◌*◌, ◌<◌, ◌≤◌, ◌^◌, Bool, List, [], ◌∷◌, refl, sym, ap, ◌∙◌, subst, arith}
+use Rattle.std.proofs.Common.{◌≡◌, ℕ, zero, suc, ◌+◌, ◌*◌, ◌<◌, ◌≤◌, ◌^◌, Bool, true, false, List, [], ◌∷◌, refl, sym, ap, ◌∙◌, subst, ⊎_elim, arith}
+use Rattle.std.proofs.lemmas.Bool.{cases_lt}
 use Rattle.kernel_tree.specs.declared.tree.Dimension.TheVariants.{X}
-use Rattle.kernel_tree.specs.Code.{FromGroupId, ByGroupCount, Code, End, Kernel}
+use Rattle.kernel_tree.specs.Code.{FromGroupId, ByGroupCount, Code, End, Guards, Kernel}
 use Rattle.kernel_tree.specs.Launch.{Launch, Cells, IsWhole, IsFlat, item_count, groups_across, group_of, ids_of}
 use Rattle.kernel_tree.specs.Device.{Device, device_of}
 use Rattle.kernel_tree.specs.Rounds.{Loop, Counts}
 use Rattle.kernel_tree.proofs.Grouping.{group_in_launch, flat_items, flat_groups, flat_group, flat_group_id}
+use Rattle.kernel_tree.proofs.Rows.{then-end}
 use Rattle.kernel_tree.proofs.Stride.{turn_below, turn_past}
 use Rattle.barrier_placement.specs.Conflicts.{Local}
 use Rattle.barrier_placement.specs.Fencing.{Fencing}
 use Rattle.barrier_placement.specs.Separates.{Separates}
-use Rattle.group_phases.specs.Epochs.{IsPast, KeepsApart, SeparatesOnce, runs_by_turns, runs_once}
+use Rattle.printed_form.specs.MapForms.{form_over_groups, variables_in}
+use Rattle.group_phases.specs.Epochs.{IsPast, KeepsApart}
 use Rattle.group_phases.specs.Work.{Work}
 use Rattle.group_phases.specs.Groups.{Body, GroupPhases, GroupTurns, GroupForm, loop_turns}
 use Rattle.group_phases.specs.Phased.{ArePhases, IsGroupKernel, IsFormKernel, IsTestKernel, PhasedMap}
 use Rattle.group_phases.specs.Outcome.{SomeRunLeaves, BarriersServeAll}
-use Rattle.group_phases.specs.TurnForms.{TakesTurns, loop_form, test_form}
-use Rattle.group_phases.proofs.Epochs.{apart_by_turns, apart_once}
+use Rattle.group_phases.specs.TurnForms.{TakesTurns, Tests, loop_form, test_form}
+use Rattle.group_phases.proofs.Epochs.{some_apart}
 use Rattle.group_phases.proofs.GroupForms.{form_turns}
 use Rattle.group_phases.proofs.Groups.{group_map_leaves, group_map_serves}
-use Rattle.group_phases.proofs.TurnForms.{leads_here, loop_takes, test_takes}
+use Rattle.group_phases.proofs.TurnForms.{leads_here, loop_takes, test_takes, guard_tests}
 
 module _ (fence : ℕ → Fencing) (IsPhase : ℕ → Code → Code → Type 0) where
   -- the code before what stands before the i-th phase from q on, and after it
@@ -103,47 +106,6 @@ module _ (k : Kernel) (l : Launch) (c : Cells) (owner : (array index : ℕ) → 
     pub form_serves : BarriersServeAll k l c work.filler
     form_serves = group_map_serves k l c owner wanted the_body work as_phases as_turns h.outputs
 
--- a loop over groups, of `len` turns in all
-module _ (k : Kernel) (l : Launch) (c : Cells) (len n : ℕ) (fence : ℕ → Fencing) (IsPhase : ℕ → Code → Code → Type 0) (whole : IsWhole l) (flat : IsFlat l) (small : len + groups_across l ≤ 2 ^ 32) (printed : IsGroupKernel k l len n fence IsPhase) where
-  abbrev d : Device
-  d = device_of k l c
-
-  abbrev the_loop : Loop
-  the_loop = record { start = FromGroupId X; bound = printed.bound; stride = ByGroupCount X; body = printed.body; after = End }
-
-  -- in one row an item's group is its group's column
-  begins : (j : ℕ) → j < item_count l → (ids_of l j).x.group_id ≡ group_of l j
-  begins j lt = flat_group_id l flat j (subst (λ z. j < z) (flat_items l flat) lt) ∙ sym (flat_group l flat whole j)
-
-  across : (j : ℕ) → j < item_count l → group_of l j < groups_across l
-  across j lt = subst (λ z. group_of l j < z) (flat_groups l flat) (group_in_launch l whole j lt)
-
-  counts : (j : ℕ) → j < item_count l → Counts d j the_loop (loop_turns l len (group_of l j))
-  counts j lt =
-      let here = across j lt in
-      let same = begins j lt in
-      let low = λ (t : ℕ) (tl : t < loop_turns l len (group_of l j)). turn_below len (groups_across l) (group_of l j) t here tl in
-      record {
-        bound = len;
-        bound_is = printed.bound_is;
-        below = λ t tl. subst (λ z. z + t * groups_across l < len) (sym same) (low t tl);
-        past = subst (λ z. len ≤ z + loop_turns l len (group_of l j) * groups_across l) (sym same) (turn_past len (groups_across l) (group_of l j) here);
-        fits = λ t tl. subst (λ z. z + suc t * groups_across l < 2 ^ 32) (sym same) (let z = low t tl in let e : suc t * groups_across l ≡ t * groups_across l + groups_across l = omega arith in omega arith);
-      }
-
-  pub loop_kernel : IsFormKernel k l c (loop_turns l len) (λ t j. (group_of l j + t * groups_across l) ∷ []) n fence IsPhase
-  loop_kernel = record {
-    form = λ j. loop_form d j [] the_loop (loop_turns l len (group_of l j));
-    body = printed.body;
-    takes = λ j lt. subst (λ z. TakesTurns d j [] z End (loop_form d j [] the_loop (loop_turns l len (group_of l j)))) (sym printed.code) (loop_takes d j [] the_loop (loop_turns l len (group_of l j)) (counts j lt));
-    count = λ j. refl;
-    first = λ j. refl;
-    last = λ j. refl;
-    same_turns = λ t i j e. refl;
-    around = λ t j lt. ap (λ z. (z + t * groups_across l) ∷ []) (begins j lt);
-    phases = printed.phases;
-  }
-
 -- a statement that tests, or none at all: at most one turn
 module _ (k : Kernel) (l : Launch) (c : Cells) (turns : ℕ → ℕ) (n : ℕ) (fence : ℕ → Fencing) (IsPhase : ℕ → Code → Code → Type 0) where
   pub test_kernel : IsTestKernel k l c turns n fence IsPhase → IsFormKernel k l c turns (λ t j. []) n fence IsPhase
@@ -167,16 +129,79 @@ module _ (k : Kernel) (l : Launch) (c : Cells) (turns : ℕ → ℕ) (n : ℕ) (
     phases = phases;
   })
 
--- of any form: by turns where barriers separate, and of one turn with no closing barrier
-module _ (k : Kernel) (l : Launch) (c : Cells) (owner : (array index : ℕ) → ℕ) (wanted : List (List ℕ)) (turns : ℕ → ℕ) (variables : (turn item : ℕ) → List ℕ) (n : ℕ) (IsPhase : ℕ → Code → Code → Type 0) (work : Work) (h : PhasedMap k l c owner wanted turns variables n IsPhase work) (fence : ℕ → Fencing) (printed : IsFormKernel k l c turns variables n fence IsPhase) where
-  pub phased_leaves : Separates work.touches Local n fence → SomeRunLeaves k l c owner wanted
-  phased_leaves sep = form_leaves k l c owner wanted turns variables n IsPhase work h fence (runs_by_turns fence n) (apart_by_turns work.touches n fence turns sep) printed
+-- a statement over groups, of `len` turns in all
+module _ (k : Kernel) (l : Launch) (c : Cells) (len n : ℕ) (fence : ℕ → Fencing) (IsPhase : ℕ → Code → Code → Type 0) (whole : IsWhole l) (flat : IsFlat l) where
+  abbrev d : Device
+  d = device_of k l c
 
-  pub phased_serves : Separates work.touches Local n fence → BarriersServeAll k l c work.filler
-  phased_serves sep = form_serves k l c owner wanted turns variables n IsPhase work h fence (runs_by_turns fence n) (apart_by_turns work.touches n fence turns sep) printed
+  -- in one row an item's group is its group's column
+  begins : (j : ℕ) → j < item_count l → (ids_of l j).x.group_id ≡ group_of l j
+  begins j lt = flat_group_id l flat j (subst (λ z. j < z) (flat_items l flat) lt) ∙ sym (flat_group l flat whole j)
 
-  pub once_leaves : ((g : ℕ) → turns g ≤ 1) → SeparatesOnce work.touches n fence → SomeRunLeaves k l c owner wanted
-  once_leaves few sep = form_leaves k l c owner wanted turns variables n IsPhase work h fence (runs_once fence) (apart_once work.touches n fence turns few sep) printed
+  across : (j : ℕ) → j < item_count l → group_of l j < groups_across l
+  across j lt = subst (λ z. group_of l j < z) (flat_groups l flat) (group_in_launch l whole j lt)
 
-  pub once_serves : ((g : ℕ) → turns g ≤ 1) → SeparatesOnce work.touches n fence → BarriersServeAll k l c work.filler
-  once_serves few sep = form_serves k l c owner wanted turns variables n IsPhase work h fence (runs_once fence) (apart_once work.touches n fence turns few sep) printed
+  -- the turns of an item's group are turns of the whole map
+  low : (t j : ℕ) → j < item_count l → t < loop_turns l len (group_of l j) → (ids_of l j).x.group_id + t * groups_across l < len
+  low t j lt tl = subst (λ z. z + t * groups_across l < len) (sym (begins j lt)) (turn_below len (groups_across l) (group_of l j) t (across j lt) tl)
+
+  high : (j : ℕ) → j < item_count l → len ≤ (ids_of l j).x.group_id + loop_turns l len (group_of l j) * groups_across l
+  high j lt = subst (λ z. len ≤ z + loop_turns l len (group_of l j) * groups_across l) (sym (begins j lt)) (turn_past len (groups_across l) (group_of l j) (across j lt))
+
+  -- a loop
+  module _ (small : len + groups_across l ≤ 2 ^ 32) (printed : IsGroupKernel k l false len n fence IsPhase) where
+    abbrev the_loop : Loop
+    the_loop = record { start = FromGroupId X; bound = printed.bound; stride = ByGroupCount X; body = printed.body; after = End }
+
+    counts : (j : ℕ) → j < item_count l → Counts d j the_loop (loop_turns l len (group_of l j))
+    counts j lt = record {
+      bound = len;
+      bound_is = printed.bound_is;
+      below = λ t tl. low t j lt tl;
+      past = high j lt;
+      fits = λ t tl. let z = low t j lt tl in let e : suc t * groups_across l ≡ t * groups_across l + groups_across l = omega arith in omega arith;
+    }
+
+    loop_kernel : IsFormKernel k l c (loop_turns l len) (λ t j. (group_of l j + t * groups_across l) ∷ []) n fence IsPhase
+    loop_kernel = record {
+      form = λ j. loop_form d j [] the_loop (loop_turns l len (group_of l j));
+      body = printed.body;
+      takes = λ j lt. subst (λ z. TakesTurns d j [] z End (loop_form d j [] the_loop (loop_turns l len (group_of l j)))) (sym printed.code) (loop_takes d j [] the_loop (loop_turns l len (group_of l j)) (counts j lt));
+      count = λ j. refl;
+      first = λ j. refl;
+      last = λ j. refl;
+      same_turns = λ t i j e. refl;
+      around = λ t j lt. ap (λ z. (z + t * groups_across l) ∷ []) (begins j lt);
+      phases = printed.phases;
+    }
+
+  -- an `if`, of one turn at most
+  module _ (few : len ≤ 1) (printed : IsGroupKernel k l true len n fence IsPhase) where
+    one_turn : (j : ℕ) → j < item_count l → loop_turns l len (group_of l j) < 2
+    one_turn j lt = ⊎_elim (λ more. absurd (let z = low 1 j lt more in let y = across j lt in omega arith)) (λ few. omega arith) (cases_lt 1 (loop_turns l len (group_of l j)))
+
+    tests : (j : ℕ) → j < item_count l → Tests d j [] k.code printed.body End (loop_turns l len (group_of l j))
+    tests j lt =
+        let count = loop_turns l len (group_of l j) in
+        subst (λ z. Tests d j [] z printed.body End count) (sym printed.code)
+        (subst (λ z. Tests d j [] (Guards (FromGroupId X) printed.bound printed.body End) z End count) (then-end printed.body)
+        (guard_tests d j [] (FromGroupId X) printed.bound printed.body End len count printed.bound_is (one_turn j lt)
+        (λ some. let z = low 0 j lt some in omega arith)
+        (λ none. let z = subst (λ m. len ≤ (ids_of l j).x.group_id + m * groups_across l) none (high j lt) in omega arith)))
+
+    guard_kernel : IsFormKernel k l c (loop_turns l len) (λ t j. []) n fence IsPhase
+    guard_kernel = test_kernel k l c (loop_turns l len) n fence IsPhase (record { body = printed.body; tests = tests; phases = printed.phases })
+
+  pub group_kernel : (once : Bool) → (once ≡ true → len ≤ 1) → len + groups_across l ≤ 2 ^ 32 → IsGroupKernel k l once len n fence IsPhase
+      → IsFormKernel k l c (loop_turns l len) (λ t j. variables_in (form_over_groups once) [] (group_of l j + t * groups_across l)) n fence IsPhase
+  group_kernel false few small printed = loop_kernel small printed
+  group_kernel true few small printed = guard_kernel (few refl) printed
+
+-- of any form, where barriers separate
+module _ (k : Kernel) (l : Launch) (c : Cells) (owner : (array index : ℕ) → ℕ) (wanted : List (List ℕ)) (turns : ℕ → ℕ) (variables : (turn item : ℕ) → List ℕ) (n : ℕ) (IsPhase : ℕ → Code → Code → Type 0) (work : Work) (h : PhasedMap k l c owner wanted turns variables n IsPhase work) (fence : ℕ → Fencing) (printed : IsFormKernel k l c turns variables n fence IsPhase)
+    (once : Bool) (few : once ≡ true → (g : ℕ) → turns g ≤ 1) (sep : Separates work.touches Local once n fence) where
+  pub phased_leaves : SomeRunLeaves k l c owner wanted
+  phased_leaves = let a = some_apart work.touches once n fence turns few sep in form_leaves k l c owner wanted turns variables n IsPhase work h fence a.0 a.1 printed
+
+  pub phased_serves : BarriersServeAll k l c work.filler
+  phased_serves = let a = some_apart work.touches once n fence turns few sep in form_serves k l c owner wanted turns variables n IsPhase work h fence a.0 a.1 printed

@@ -1,6 +1,7 @@
 -- Phases that are printed terms do the work of their turns, and so every kernel that is printed for them keeps the headline.
-use Rattle.std.proofs.Common.{◌≡◌, ℕ, zero, suc, ◌+◌, ◌*◌, ◌%◌, ◌<◌, ◌≤◌, List, [], ◌∷◌, length, All, refl, sym, ap, ◌∙◌, subst, inl, ⊎_elim, arith}
-use Rattle.std.proofs.Math.Nat.{mod-lt}
+use Rattle.std.proofs.Common.{◌≡◌, ℕ, zero, suc, ◌+◌, ◌*◌, ◌%◌, ◌<◌, ◌≤◌, true, List, [], ◌∷◌, length, All, refl, sym, ap, ◌∙◌, subst, inl, ⊎_elim, arith}
+use Rattle.std.proofs.lemmas.Bool.{cases_lt}
+use Rattle.std.proofs.Math.Nat.{mod-lt, mul-le-mul_right}
 use Rattle.kernel_tree.specs.Formula.{Vars}
 use Rattle.kernel_tree.specs.Code.{Input, Output, Local, Private, Code, Kernel}
 use Rattle.kernel_tree.specs.Launch.{Launch, Cells, group_of, groups_across, item_count}
@@ -30,11 +31,11 @@ use Rattle.group_phases.specs.Groups.{loop_turns}
 use Rattle.group_phases.specs.Phased.{IsGroupKernel, IsFormKernel, PhasedMap}
 use Rattle.group_phases.specs.Outcome.{BarriersServeAll}
 use Rattle.group_phases.proofs.Bodies.{silent_then}
-use Rattle.group_phases.proofs.Phased.{loop_kernel, phased_leaves, phased_serves}
-use Rattle.group_phases.specs.Phases.{PhaseList, turn_of, row_of, cell_of, phase_scalars, targets, HoldsTurn, knows, work_of, IsPhaseLoop, IsPhase, IsRead, IsFillable}
+use Rattle.group_phases.proofs.Phased.{group_kernel, phased_leaves, phased_serves}
+use Rattle.group_phases.specs.Phases.{PhaseList, turn_of, row_of, cell_of, phase_scalars, targets, HoldsTurn, knows, work_of, variables_at, IsPhaseMap, IsPhase, IsRead, IsFillable}
 use Rattle.group_phases.specs.Printed.{IsPhased}
 use Rattle.group_phases.proofs.Keeps.{keeps_from_chunks}
-use Rattle.group_phases.proofs.LocalLoop.{local_run}
+use Rattle.group_phases.proofs.LocalLoop.{form_run}
 use Rattle.group_phases.proofs.Parts.{part_of_run, scratch_private}
 
 rest_is : (i j : ℕ) (p r : List ℕ) → i ∷ p ≡ j ∷ r → p ≡ r
@@ -43,6 +44,11 @@ rest_is i j p r e = ap tail e
     tail : List ℕ → List ℕ
     tail [] = []
     tail (x ∷ xs) = xs
+
+-- of a map of one turn at most a group has one at most
+turns_few : (n g i : ℕ) → n ≤ 1 → turns_of n g i ≤ 1
+turns_few n zero i le = omega arith
+turns_few n (suc g) i le = ⊎_elim (λ more. absurd (let two = mul-le-mul_right {m = 2} {n = turns_of n (suc g) i} (suc g) more in omega arith)) (λ few. few) (cases_lt 1 (turns_of n (suc g) i))
 
 module _ {A : Type 0} (num : A → ℕ) (k : Kernel) (l : Launch) (c : Cells) (owner : (array index : ℕ) → ℕ) (wanted : List (List ℕ)) (p : PhaseList A) (h : IsPhased p num k l c owner wanted) where
   abbrev d : Device
@@ -94,7 +100,7 @@ module _ {A : Type 0} (num : A → ℕ) (k : Kernel) (l : Launch) (c : Cells) (o
       (subst (λ z. p.variables ≤ z) (sym kept.long) u.0, λ r v b. let x = u.1 r v b in let y = h.room.after_top q ql in (x.0, kept.same r (let lt = x.0 in omega arith) ∙ x.1))
 
   -- an item's rows of a phase
-  rows_do : (t q j : ℕ) → t < loop_turns l p.turns (group_of l j) → q < p.count → j < item_count l → (fs : List Frame) → loop_variables fs ≡ turn_of l t j ∷ [] → (code rest : Code) → IsPhaseLoop num l p q code rest → (vars : Vars) → knows num l p t (suc q) j vars → Does t q j (mine t q j) fs code vars rest
+  rows_do : (t q j : ℕ) → t < loop_turns l p.turns (group_of l j) → q < p.count → j < item_count l → (fs : List Frame) → loop_variables fs ≡ variables_at num l p (turn_of l t j) → (code rest : Code) → IsPhaseMap num l p q code rest → (vars : Vars) → knows num l p t (suc q) j vars → Does t q j (mine t q j) fs code vars rest
   rows_do t q j tl ql jl fs ts code rest is vars u o m ready =
       let i = turn_of l t j in
       let il = in_turns t j jl tl in
@@ -105,7 +111,7 @@ module _ {A : Type 0} (num : A → ℕ) (k : Kernel) (l : Launch) (c : Cells) (o
       let fits = h.room.fits q ql in
       let enough = u.0 in
       let below = λ (z : ℕ) (lt : z < turns_of f.len l.local.0 (j % l.local.0)). turn_below f.len l.local.0 (j % l.local.0) z (mod-lt j h.room.whole.x.positive) lt in
-      let r = local_run st num p.ins p.src p.sources (λ a n. ready.own (spot_cell st (Private a) n) (refl, refl)) h.room.whole.x.positive f.len f.loads f.body (i ∷ []) fs ts f.types at.env at.sems f.element f.result at.marks at.to at.scalars x code rest
+      let r = form_run st num p.ins p.src p.sources (λ a n. ready.own (spot_cell st (Private a) n) (refl, refl)) h.room.whole.x.positive f.len f.loads f.body (variables_at num l p i) fs ts f.types at.env at.sems f.element f.result at.marks at.to at.scalars x code rest
       (h.types.loads q ql) (h.types.typed q ql) (h.types.declares q ql) (h.fills.places i q j il ql)
       (λ z lt. record {
         at = λ cs s inside. due_at t q j o m (at.to cs (row_of l j z ∷ s)) ready (h.fills.fillable i q il ql cs (row_of l j z ∷ s) (below z lt, inside)) (il, z, lt, cs, s, inside, refl);
@@ -116,7 +122,7 @@ module _ {A : Type 0} (num : A → ℕ) (k : Kernel) (l : Launch) (c : Cells) (o
       (λ z lt cs s a. holds_at t q j o m vars (at.marks cs (row_of l j z ∷ s)) (at.scalars cs (row_of l j z ∷ s)) ql u.1 ready (h.reads.elements t q j z il ql jl lt cs s a))
       (λ v cs s a. holds_at t q j o m vars (at.env v cs s) (at.sems v cs s) ql u.1 ready (h.reads.envs t q j v il ql jl cs s a))
       (λ v cs s a. holds_at t q j o m vars (p.ins v cs s) (p.sources v cs s) ql u.1 ready (h.reads.inputs t q j v il ql jl cs s a))
-      (flat_local l h.room.flat h.room.whole j) (h.room.rows q ql) (is j i jl il (own_turn t j jl))
+      (flat_local l h.room.flat h.room.whole j) (h.room.rows q ql) f.form (h.room.forms q ql) (is j i jl il (own_turn t j jl))
       in
       part_of_run d j f.locals o m vars f.variables f.privates fs code rest (f.variables + load_count f.loads + variable_count f.body) (f.privates + private_count f.body) (Scratch f.privates (f.privates + private_count f.body))
       (Rows st (row_of l j) f.result at.to (phase_scalars num l p i q) (turns_of f.len l.local.0 (j % l.local.0))) (λ z. Unit {0}) (mine t q j) (p.value (group_of l j) t) (knows num l p t (suc q) j)
@@ -137,7 +143,7 @@ module _ {A : Type 0} (num : A → ℕ) (k : Kernel) (l : Launch) (c : Cells) (o
   given_at t j o m vars Nowhere v target ready g = absurd g
 
   -- the loads of the turn's scalars
-  loads_do : (t j : ℕ) → t < loop_turns l p.turns (group_of l j) → j < item_count l → (fs : List Frame) → loop_variables fs ≡ turn_of l t j ∷ [] → (code mid : Code) → ((item i : ℕ) → item < item_count l → i < p.turns → IsTurnOf l item WorkGroup i → IsLoaded l item p.ins (i ∷ []) p.top.loads (p.top.marks i) 0 code mid) → (vars : Vars) → p.variables ≤ length vars.words
+  loads_do : (t j : ℕ) → t < loop_turns l p.turns (group_of l j) → j < item_count l → (fs : List Frame) → loop_variables fs ≡ variables_at num l p (turn_of l t j) → (code mid : Code) → ((item i : ℕ) → item < item_count l → i < p.turns → IsTurnOf l item WorkGroup i → IsLoaded l item p.ins (variables_at num l p i) p.top.loads (p.top.marks i) 0 code mid) → (vars : Vars) → p.variables ≤ length vars.words
       → Does t 0 j (λ b. ⊥) fs code vars mid
   loads_do t j tl jl fs ts code mid is vars long o m ready =
       let i = turn_of l t j in
@@ -146,7 +152,7 @@ module _ {A : Type 0} (num : A → ℕ) (k : Kernel) (l : Launch) (c : Cells) (o
       let x = before_loads m vars in
       let room = h.room.fits 0 h.room.some in
       let base = h.room.after_top 0 h.room.some in
-      let r = loads_run st (i ∷ []) fs ts p.ins p.top.loads p.top.type (p.top.marks i) (p.top.scalars i) x code mid h.types.top_loads (is j i jl il (own_turn t j jl)) (omega arith)
+      let r = loads_run st (variables_at num l p i) fs ts p.ins p.top.loads p.top.type (p.top.marks i) (p.top.scalars i) x code mid h.types.top_loads (is j i jl il (own_turn t j jl)) (omega arith)
       (λ cs s z. given_at t j o m vars (p.top.marks i cs s) (p.top.scalars i cs s) (λ b. ⊥) ready (h.reads.top i il cs s z)) in
       part_of_run d j (p.phase 0).locals o m vars 0 (p.phase 0).privates fs code mid (0 + load_count p.top.loads) (p.phase 0).privates nothing no_target (λ y. Holds st y p.top.type (loaded_marks p.top.loads (p.top.marks i) 0) (p.top.scalars i)) (λ b. ⊥) (p.value (group_of l j) t) (knows num l p t 1 j)
       (λ b z. absurd z) (λ b v z. z) (λ b z s. z) r (
@@ -162,7 +168,7 @@ module _ {A : Type 0} (num : A → ℕ) (k : Kernel) (l : Launch) (c : Cells) (o
   target_shared : (t q j : ℕ) (b : Cell) → q < p.count → j < item_count l → mine t q j b → IsShared b
   target_shared t q j b ql jl x = ⊎_elim (λ y. ap (λ z. is_private z.array) y.is) (λ y. ap (λ z. is_private z.array) y.is) (h.writes.due t q j b ql jl x)
 
-  does : (t q j : ℕ) → t < loop_turns l p.turns (group_of l j) → q < p.count → j < item_count l → (fs : List Frame) → loop_variables fs ≡ turn_of l t j ∷ [] → (code rest : Code) → IsPhase num l p q code rest → (vars : Vars) → knows num l p t q j vars → Does t q j (mine t q j) fs code vars rest
+  does : (t q j : ℕ) → t < loop_turns l p.turns (group_of l j) → q < p.count → j < item_count l → (fs : List Frame) → loop_variables fs ≡ variables_at num l p (turn_of l t j) → (code rest : Code) → IsPhase num l p q code rest → (vars : Vars) → knows num l p t q j vars → Does t q j (mine t q j) fs code vars rest
   does t zero j tl ql jl fs ts code rest is vars v =
       silent_then d j (known t 0 j) (mine t 0 j) (p.value (group_of l j) t) fs code is.0 rest vars (knows num l p t 1 j) (knows num l p t 1 j) (known_shared t 0 j) (λ b x. target_shared t 0 j b ql jl x)
       (loads_do t j tl jl fs ts code is.0 is.1 vars v) (λ vs u. rows_do t 0 j tl ql jl fs ts is.0 rest is.2 vs u)
@@ -172,7 +178,7 @@ module _ {A : Type 0} (num : A → ℕ) (k : Kernel) (l : Launch) (c : Cells) (o
   long_of t zero j vars v = v
   long_of t (suc q) j vars v = v.0
 
-  pub phased : PhasedMap k l c owner wanted (loop_turns l p.turns) (λ t j. turn_of l t j ∷ []) p.count (IsPhase num l p) (work_of num l p)
+  pub phased : PhasedMap k l c owner wanted (loop_turns l p.turns) (λ t j. variables_at num l p (turn_of l t j)) p.count (IsPhase num l p) (work_of num l p)
   phased = record {
     whole = h.room.whole;
     begins = λ j vars jl e. let r = h.room.variables in omega arith;
@@ -183,16 +189,19 @@ module _ {A : Type 0} (num : A → ℕ) (k : Kernel) (l : Launch) (c : Cells) (o
     outputs = h.outputs;
   }
 
-  as_form : (fence : ℕ → Fencing) → IsGroupKernel k l p.turns p.count fence (IsPhase num l p) → IsFormKernel k l c (loop_turns l p.turns) (λ t j. turn_of l t j ∷ []) p.count fence (IsPhase num l p)
-  as_form fence printed = loop_kernel k l c p.turns p.count fence (IsPhase num l p) h.room.whole h.room.flat h.room.turns printed
+  as_form : (fence : ℕ → Fencing) → IsGroupKernel k l p.once p.turns p.count fence (IsPhase num l p) → IsFormKernel k l c (loop_turns l p.turns) (λ t j. variables_at num l p (turn_of l t j)) p.count fence (IsPhase num l p)
+  as_form fence printed = group_kernel k l c p.turns p.count fence (IsPhase num l p) h.room.whole h.room.flat p.once h.room.once h.room.turns printed
+
+  few : p.once ≡ true → (g : ℕ) → loop_turns l p.turns g ≤ 1
+  few once g = turns_few p.turns (groups_across l) g (h.room.once once)
 
   -- with any barriers that separate the conflicting phases
-  pub phased_keeps : (fence : ℕ → Fencing) → Separates p.touches placed.Local p.count fence → IsGroupKernel k l p.turns p.count fence (IsPhase num l p) → EveryRunKeeps k l c owner wanted
-  phased_keeps fence sep printed = keeps_from_chunks k l c owner wanted h.room.whole h.shape (phased_leaves k l c owner wanted (loop_turns l p.turns) (λ t j. turn_of l t j ∷ []) p.count (IsPhase num l p) (work_of num l p) phased fence (as_form fence printed) sep)
+  pub phased_keeps : (fence : ℕ → Fencing) → Separates p.touches placed.Local p.once p.count fence → IsGroupKernel k l p.once p.turns p.count fence (IsPhase num l p) → EveryRunKeeps k l c owner wanted
+  phased_keeps fence sep printed = keeps_from_chunks k l c owner wanted h.room.whole h.shape (phased_leaves k l c owner wanted (loop_turns l p.turns) (λ t j. variables_at num l p (turn_of l t j)) p.count (IsPhase num l p) (work_of num l p) phased fence (as_form fence printed) p.once few sep)
 
-  pub phases_serve : (fence : ℕ → Fencing) → Separates p.touches placed.Local p.count fence → IsGroupKernel k l p.turns p.count fence (IsPhase num l p) → BarriersServeAll k l c p.filler
-  phases_serve fence sep printed = phased_serves k l c owner wanted (loop_turns l p.turns) (λ t j. turn_of l t j ∷ []) p.count (IsPhase num l p) (work_of num l p) phased fence (as_form fence printed) sep
+  pub phases_serve : (fence : ℕ → Fencing) → Separates p.touches placed.Local p.once p.count fence → IsGroupKernel k l p.once p.turns p.count fence (IsPhase num l p) → BarriersServeAll k l c p.filler
+  phases_serve fence sep printed = phased_serves k l c owner wanted (loop_turns l p.turns) (λ t j. variables_at num l p (turn_of l t j)) p.count (IsPhase num l p) (work_of num l p) phased fence (as_form fence printed) p.once few sep
 
   -- with the needed barriers, where all uses are of local arrays
-  pub needed_keep : NeededBarriersSeparate → (fence : ℕ → Fencing) → All (λ x. space_of x.local ≡ placed.Local) p.touches → Needed p.touches p.count fence → IsGroupKernel k l p.turns p.count fence (IsPhase num l p) → EveryRunKeeps k l c owner wanted
-  needed_keep separate fence local needed printed = phased_keeps fence (separate p.touches placed.Local p.count fence local needed) printed
+  pub needed_keep : NeededBarriersSeparate → (fence : ℕ → Fencing) → All (λ x. space_of x.local ≡ placed.Local) p.touches → Needed p.touches p.once p.count fence → IsGroupKernel k l p.once p.turns p.count fence (IsPhase num l p) → EveryRunKeeps k l c owner wanted
+  needed_keep separate fence local needed printed = phased_keeps fence (separate p.touches placed.Local p.once p.count fence local needed) printed

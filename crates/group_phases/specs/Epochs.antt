@@ -1,5 +1,5 @@
 -- In which of a group's epochs each phase of a body runs, by what stands before each phase; `fence n` closes a body of n phases.
-use Rattle.std.specs.Prelude.{◌≡◌, ℕ, zero, suc, ◌+◌, ◌*◌, ◌%◌, ◌==◌, ◌<◌, ◌≤◌, Bool, true, false, List}
+use Rattle.std.specs.Prelude.{◌≡◌, ℕ, zero, suc, ◌+◌, ◌*◌, ◌%◌, ◌==◌, ◌<◌, Bool, true, false, List}
 use Rattle.kernel_tree.specs.Code.{Code, Syncs}
 use Rattle.barrier_placement.specs.declared.touches.Touch.{Touch}
 use Rattle.barrier_placement.specs.Conflicts.{Local, Conflict}
@@ -36,7 +36,3 @@ runs_by_turns fence n e q = (e % each_turn fence n) == (passed fence (suc q) % e
 -- of one turn
 abbrev pub runs_once : (ℕ → Fencing) → (epoch phase : ℕ) → Bool
 runs_once fence e q = e == passed fence (suc q)
-
--- each two phases in conflict on local memory have a barrier for it between them, in a turn
-abbrev pub SeparatesOnce : List Touch → (n : ℕ) → (ℕ → Fencing) → Type 0
-SeparatesOnce touches n fence = (p q : ℕ) → p < q → q < n → Conflict touches Local p q → (r : ℕ) × (p < r) × (r ≤ q) × (orders Local (fence r) ≡ true)

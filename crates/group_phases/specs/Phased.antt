@@ -1,12 +1,12 @@
 -- The body of a map over work-groups as it is printed: phases one after another, whatever stands between them.
-use Rattle.std.specs.Prelude.{◌≡◌, ℕ, ◌<◌, zero, suc, List, [], Some, length, map, ◌⊎◌}
-use Rattle.kernel_tree.specs.declared.tree.Dimension.TheVariants.{X}
+use Rattle.std.specs.Prelude.{◌≡◌, ℕ, ◌<◌, Bool, zero, suc, List, [], Some, length, map, ◌⊎◌}
 use Rattle.kernel_tree.specs.Formula.{Formula, bound_value, Vars}
-use Rattle.kernel_tree.specs.Code.{FromGroupId, ByGroupCount, Code, End, Loops, Kernel}
+use Rattle.kernel_tree.specs.Code.{Code, End, Kernel}
 use Rattle.kernel_tree.specs.Launch.{Launch, Cells, IsWhole, group_of, item_count}
 use Rattle.kernel_tree.specs.Item.{Frame, loop_variables}
 use Rattle.kernel_tree.specs.Device.{Cell, device_of, still}
 use Rattle.barrier_placement.specs.Fencing.{Fencing}
+use Rattle.printed_form.specs.MapForms.{statement_over_groups}
 use Rattle.group_phases.specs.Bodies.{CanDo}
 use Rattle.group_phases.specs.Cells.{output_cell, IsOwnOutput}
 use Rattle.group_phases.specs.Epochs.{IsPast}
@@ -19,11 +19,11 @@ abbrev pub ArePhases : (fence : ℕ → Fencing) (IsPhase : ℕ → Code → Cod
 ArePhases fence IsPhase q zero code = IsPast (fence q) code End
 ArePhases fence IsPhase q (suc m) code = (mid rest : Code) × IsPast (fence q) code mid × IsPhase q mid rest × ArePhases fence IsPhase (suc q) m rest
 
--- a kernel that is one loop over the groups of a row, of `len` turns in all, around n phases
-pub record IsGroupKernel (k : Kernel) (l : Launch) (len n : ℕ) (fence : ℕ → Fencing) (IsPhase : ℕ → Code → Code → Type 0) : Type 0 where
+-- a kernel that is one statement over the groups of a row, an `if` where `once` and else a loop, of `len` turns in all, around n phases
+pub record IsGroupKernel (k : Kernel) (l : Launch) (once : Bool) (len n : ℕ) (fence : ℕ → Fencing) (IsPhase : ℕ → Code → Code → Type 0) : Type 0 where
   pub bound : Formula
   pub body : Code
-  pub code : k.code ≡ Loops (FromGroupId X) bound (ByGroupCount X) body End
+  pub code : k.code ≡ statement_over_groups once bound body
   pub bound_is : bound_value l.sizes bound ≡ Some len
   pub phases : ArePhases fence IsPhase 0 n body
 

@@ -1,7 +1,7 @@
 -- The phases of a map over work-groups, each a map over the items of a group, with what stands for its values at every turn.
 use Rattle.std.specs.Prelude.{◌≡◌, ℕ, zero, suc, ◌+◌, ◌*◌, ◌%◌, ◌<◌, ◌≤◌, Bool, List, [], ◌∷◌, None, length}
 use Rattle.kernel_tree.specs.Formula.{Vars, word}
-use Rattle.kernel_tree.specs.Code.{Code, End, Kernel}
+use Rattle.kernel_tree.specs.Code.{Code, Kernel}
 use Rattle.kernel_tree.specs.Launch.{Launch, Cells, item_count, group_of, groups_across}
 use Rattle.kernel_tree.specs.Device.{Cell, cell_at, length_in}
 use Rattle.kernel_tree.proofs.Stride.{turns_of}
@@ -11,12 +11,14 @@ use Rattle.lift_ir.specs.Terms.{LoadSet, WorkGroup, Local, Term, push}
 use Rattle.lift_ir.specs.Scalars.{Scalars, at_index, mapped, scalars_of}
 use Rattle.printed_form.specs.Marks.{Mark, Nowhere, Register, Spot, Marks, loaded_marks}
 use Rattle.printed_form.specs.Counts.{load_count, private_count}
-use Rattle.printed_form.specs.Form.{IsTurnOf, IsLoaded, IsLoop, IsWritten}
+use Rattle.printed_form.specs.Form.{IsTurnOf, IsLoaded, IsWritten}
+use Rattle.printed_form.specs.MapForms.{MapForm, form_over_groups, variables_in, AreTurns}
 use Rattle.printed_form.specs.Runs.{IsFilled, IsOpen, mark_cell}
 use Rattle.group_phases.specs.Work.{Work, IsKnown}
 
--- a phase: a map over the items of a group, whatever the turn, at a launch
+-- a phase: a map over the items of a group in a form, whatever the turn, at a launch
 pub record Phase (A : Type 0) : Type 0 where
+  pub form : MapForm
   pub len : ℕ
   pub loads : LoadSet
   pub body : Term A
@@ -42,8 +44,9 @@ pub record TurnElement : Type 0 where
   pub marks : (turn : ℕ) → Marks
   pub scalars : (turn : ℕ) → Scalars
 
--- a map over groups, of so many turns and phases; with the phases' uses of local arrays, and what each cell is to hold in each turn of a group
+-- a map over groups, of so many turns and phases; an `if` where `once`, else a loop; with the phases' uses of local arrays, and what each cell is to hold in each turn of a group
 pub record PhaseList (A : Type 0) : Type 0 where
+  pub once : Bool
   pub turns : ℕ
   pub count : ℕ
   pub variables : ℕ
@@ -96,19 +99,23 @@ module _ {A : Type 0} (num : A → ℕ) (l : Launch) (p : PhaseList A) where
   abbrev pub work_of : Work
   work_of = record { touches = p.touches; filled_in = p.filled_in; filler = p.filler; targets = targets; value = p.value; knows = knows }
 
-  -- the loop of phase q, as each item runs it at its group's turns
-  abbrev pub IsPhaseLoop : (q : ℕ) → Code → Code → Type 0
-  IsPhaseLoop q code rest =
+  -- the variables of the loops around the phases at turn i of the whole map
+  abbrev pub variables_at : (i : ℕ) → List ℕ
+  variables_at i = variables_in (form_over_groups p.once) [] i
+
+  -- the map of phase q in its form, as each item runs it at its group's turns
+  abbrev pub IsPhaseMap : (q : ℕ) → Code → Code → Type 0
+  IsPhaseMap q code rest =
       (item i : ℕ) → item < item_count l → i < p.turns → IsTurnOf l item WorkGroup i
-      → IsLoop l item p.ins Local (p.phase q).len
-      (λ j body. (inner : Code) × IsLoaded l item p.ins (i ∷ j ∷ []) (p.phase q).loads (at_index j (p.place i q).marks) (p.phase q).variables body inner
-      × IsWritten l item p.ins num (i ∷ j ∷ []) (push (loaded_marks (p.phase q).loads (at_index j (p.place i q).marks) (p.phase q).variables) (p.place i q).env) (p.phase q).privates ((p.phase q).variables + load_count (p.phase q).loads) (p.phase q).body (at_index j (p.place i q).to) inner End)
+      → AreTurns l item p.ins (p.phase q).form Local (variables_at i) (p.phase q).len
+      (λ ts j body last. (inner : Code) × IsLoaded l item p.ins ts (p.phase q).loads (at_index j (p.place i q).marks) (p.phase q).variables body inner
+      × IsWritten l item p.ins num ts (push (loaded_marks (p.phase q).loads (at_index j (p.place i q).marks) (p.phase q).variables) (p.place i q).env) (p.phase q).privates ((p.phase q).variables + load_count (p.phase q).loads) (p.phase q).body (at_index j (p.place i q).to) inner last)
       code rest
 
   -- code that is phase q; the turn's scalars are loaded before the first
   abbrev pub IsPhase : (q : ℕ) → Code → Code → Type 0
-  IsPhase zero code rest = (mid : Code) × ((item i : ℕ) → item < item_count l → i < p.turns → IsTurnOf l item WorkGroup i → IsLoaded l item p.ins (i ∷ []) p.top.loads (p.top.marks i) 0 code mid) × IsPhaseLoop 0 mid rest
-  IsPhase (suc q) code rest = IsPhaseLoop (suc q) code rest
+  IsPhase zero code rest = (mid : Code) × ((item i : ℕ) → item < item_count l → i < p.turns → IsTurnOf l item WorkGroup i → IsLoaded l item p.ins (variables_at i) p.top.loads (p.top.marks i) 0 code mid) × IsPhaseMap 0 mid rest
+  IsPhase (suc q) code rest = IsPhaseMap (suc q) code rest
 
 -- a scalar that the j-th item may read in phase q of its t-th turn
 abbrev pub IsRead : {A : Type 0} → (num : A → ℕ) (k : Kernel) (l : Launch) (c : Cells) (p : PhaseList A) (t q j : ℕ) → Mark → ℕ → Type 0

@@ -1,5 +1,5 @@
 -- What phases need so that every kernel that is printed for them keeps the headline.
-use Rattle.std.specs.Prelude.{◌≡◌, ℕ, ◌+◌, ◌%◌, ◌<◌, ◌≤◌, ◌^◌, ◌⊎◌, Bool, List, All, length, map, slice_index}
+use Rattle.std.specs.Prelude.{◌≡◌, ℕ, ◌+◌, ◌%◌, ◌<◌, ◌≤◌, ◌^◌, ◌⊎◌, Bool, true, List, All, length, map, slice_index}
 use Rattle.kernel_tree.specs.Code.{Kernel}
 use Rattle.kernel_tree.specs.Launch.{Launch, Cells, IsWhole, IsFlat, group_of, groups_across, item_count}
 use Rattle.kernel_tree.specs.Device.{Cell, length_in, row}
@@ -15,6 +15,7 @@ use Rattle.lift_ir.specs.Scalars.{at_index}
 use Rattle.printed_form.specs.Headline.{EveryRunKeeps}
 use Rattle.printed_form.specs.Counts.{load_count, variable_count}
 use Rattle.printed_form.specs.Form.{Declares}
+use Rattle.printed_form.specs.MapForms.{MakesTurns}
 use Rattle.printed_form.specs.Whole.{IsGiven}
 use Rattle.group_phases.specs.Cells.{input_cell, output_cell, IsOwnOutput}
 use Rattle.group_phases.specs.Work.{IsOwnLocal}
@@ -34,7 +35,9 @@ module _ {A : Type 0} (p : PhaseList A) where
     pub flat : IsFlat l
     pub some : 0 < p.count
     pub turns : p.turns + groups_across l ≤ 2 ^ 32
+    pub once : p.once ≡ true → p.turns ≤ 1
     pub rows : (q : ℕ) → q < p.count → (p.phase q).len + l.local.0 ≤ 2 ^ 32
+    pub forms : (q : ℕ) → q < p.count → MakesTurns (p.phase q).form (p.phase q).len l
     pub variables : p.variables ≤ k.variables
     pub fits : (q : ℕ) → q < p.count → (p.phase q).variables + load_count (p.phase q).loads + variable_count (p.phase q).body ≤ p.variables
     pub after_top : (q : ℕ) → q < p.count → load_count p.top.loads ≤ (p.phase q).variables
@@ -82,16 +85,16 @@ module _ {A : Type 0} (p : PhaseList A) where
 abbrev pub PhasesKeep : Type 0 → Type 0
 PhasesKeep A =
     (num : A → ℕ) (k : Kernel) (l : Launch) (c : Cells) (owner : (array index : ℕ) → ℕ) (wanted : List (List ℕ)) (p : PhaseList A) (fence : ℕ → Fencing)
-    → IsPhased p num k l c owner wanted → Separates p.touches placed.Local p.count fence → IsGroupKernel k l p.turns p.count fence (IsPhase num l p) → EveryRunKeeps k l c owner wanted
+    → IsPhased p num k l c owner wanted → Separates p.touches placed.Local p.once p.count fence → IsGroupKernel k l p.once p.turns p.count fence (IsPhase num l p) → EveryRunKeeps k l c owner wanted
 
 -- and its barriers serve
 abbrev pub PhasesServe : Type 0 → Type 0
 PhasesServe A =
     (num : A → ℕ) (k : Kernel) (l : Launch) (c : Cells) (owner : (array index : ℕ) → ℕ) (wanted : List (List ℕ)) (p : PhaseList A) (fence : ℕ → Fencing)
-    → IsPhased p num k l c owner wanted → Separates p.touches placed.Local p.count fence → IsGroupKernel k l p.turns p.count fence (IsPhase num l p) → BarriersServeAll k l c p.filler
+    → IsPhased p num k l c owner wanted → Separates p.touches placed.Local p.once p.count fence → IsGroupKernel k l p.once p.turns p.count fence (IsPhase num l p) → BarriersServeAll k l c p.filler
 
 -- so it is with the needed barriers, where all uses are of local arrays
 abbrev pub NeededBarriersKeep : Type 0 → Type 0
 NeededBarriersKeep A =
     (num : A → ℕ) (k : Kernel) (l : Launch) (c : Cells) (owner : (array index : ℕ) → ℕ) (wanted : List (List ℕ)) (p : PhaseList A) (fence : ℕ → Fencing)
-    → IsPhased p num k l c owner wanted → All (λ x. space_of x.local ≡ placed.Local) p.touches → Needed p.touches p.count fence → IsGroupKernel k l p.turns p.count fence (IsPhase num l p) → EveryRunKeeps k l c owner wanted
+    → IsPhased p num k l c owner wanted → All (λ x. space_of x.local ≡ placed.Local) p.touches → Needed p.touches p.once p.count fence → IsGroupKernel k l p.once p.turns p.count fence (IsPhase num l p) → EveryRunKeeps k l c owner wanted

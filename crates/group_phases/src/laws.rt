@@ -1,6 +1,6 @@
 //! Laws of barriers between phases, each carried by a function that does nothing.
 
-ghost use Rattle.std.specs.Prelude.{◌≡◌, ℕ, ◌≤◌, List, length, map};
+ghost use Rattle.std.specs.Prelude.{◌≡◌, ℕ, ◌≤◌, true, false, List, length, map};
 ghost use Rattle.size_arith.specs.declared.poly.Monomial.{Monomial};
 ghost use Rattle.kernel_tree.specs.Code.{Kernel};
 ghost use Rattle.kernel_tree.specs.Launch.{Launch, Cells, IsWhole};
@@ -9,7 +9,7 @@ ghost use Rattle.barrier_placement.specs.Conflicts.{Local};
 ghost use Rattle.barrier_placement.specs.Fencing.{Fencing};
 ghost use Rattle.barrier_placement.specs.Separates.{Separates};
 ghost use Rattle.printed_form.specs.Headline.{EveryRunKeeps};
-ghost use Rattle.group_phases.specs.Epochs.{KeepsApart, SeparatesOnce, runs_by_turns, runs_once};
+ghost use Rattle.group_phases.specs.Epochs.{KeepsApart, runs_by_turns, runs_once};
 ghost use Rattle.group_phases.specs.Outcome.{SomeRunLeaves};
 ghost use Rattle.group_phases.specs.TurnForms.{LoopsAreForms, TestsAreForms, GuardsTest, NestsAreForms};
 ghost use Rattle.group_phases.specs.Printed.{PhasesKeep, PhasesServe, NeededBarriersKeep};
@@ -20,10 +20,10 @@ use barrier_placement::laws::needed_barriers_separate;
 /// turns; of a group that has one turn no barrier need close the body.
 pub fn conflicting_phases_are_apart()
     ensures by_turns { (touches : List Touch) (n : ℕ) (fence : ℕ → Fencing) (turns : ℕ → ℕ) →
-        Separates touches Local n fence →
+        Separates touches Local false n fence →
         KeepsApart touches n fence turns (runs_by_turns fence n) }
     ensures once { (touches : List Touch) (n : ℕ) (fence : ℕ → Fencing) (turns : ℕ → ℕ) →
-        ((g : ℕ) → turns g ≤ 1) → SeparatesOnce touches n fence →
+        ((g : ℕ) → turns g ≤ 1) → Separates touches Local true n fence →
         KeepsApart touches n fence turns (runs_once fence) }
 {}
 

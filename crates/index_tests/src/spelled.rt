@@ -10,7 +10,8 @@ use std::alloc::Global;
 use std::test::Fail;
 use tidy_indices::spell_simplified;
 
-const I: Tree = Tree::Variable(0, 4294967295);
+// The variable of the outermost loop.
+const I: Tree = Tree::Variable(2, 4294967295);
 
 const THREE: Tree = Tree::Number(3);
 

@@ -1,19 +1,24 @@
 // What indices and bounds of a kernel become, worked by hand, each beside a neighbour that stays.
 
-use crate::trees::{Tree, index_of, text};
+use crate::trees::{Tree, index_of};
 use index_expr::Operation::{Difference, Greatest, Least, Product, Quotient, Remainder, Sum};
-use kernel_tree::tree::Expr;
-use length_spelling::spell_index;
+use kernel_tree::tree::{Dimension, Expr, IdForm, Start};
+use length_spelling::{Turn, spell_index};
 use scalar_ops::op::Op;
 use size_arith::{Name, Names};
 use std::alloc::{AllocError, Global};
 use std::test::Fail;
 use tidy_indices::Place;
-use tidy_indices::reading::reading;
 
-const I: Tree = Tree::Variable(0, 4294967295);
+// The item's id in its group, and its group's.
+const OWN: Tree = Tree::Variable(1, 4294967295);
 
-const J: Tree = Tree::Variable(1, 4294967295);
+const GROUP: Tree = Tree::Variable(0, 4294967295);
+
+// The variables of the outermost loop, and of the one in it.
+const I: Tree = Tree::Variable(2, 4294967295);
+
+const J: Tree = Tree::Variable(3, 4294967295);
 
 // The bounds of the loops around, an index, and what it becomes.
 type Row = (&'static [Tree], Tree, &'static str);
@@ -530,6 +535,273 @@ const WRAPPING: [Row; 12] = [
     ),
 ];
 
+// Among groups of a size, or of any: the bounds of the loops around, an index, and what it becomes.
+struct InGroups {
+    size: Option<(u32, u32)>,
+    bounds: &'static [Tree],
+    index: Tree,
+    tidied: &'static str,
+}
+
+// The number of the item's cell in rows of four, of which its group has one.
+const CELL: Tree = Tree::Binary(Sum, &Tree::Binary(Product, &GROUP, &Tree::Number(4)), &OWN);
+
+// An item's id in its group is below the group's size, where the kernel asks for one, and a group's id
+// is below 65,536.
+const IDS: [InGroups; 12] = [
+    InGroups {
+        size: Some((3, 1)),
+        bounds: &[Tree::Size(2)],
+        index: Tree::Binary(
+            Quotient,
+            &Tree::Binary(Sum, &Tree::Binary(Product, &I, &Tree::Number(3)), &OWN),
+            &Tree::Number(3),
+        ),
+        tidied: "i0",
+    },
+    InGroups {
+        size: Some((4, 1)),
+        bounds: &[Tree::Size(2)],
+        index: Tree::Binary(
+            Quotient,
+            &Tree::Binary(Sum, &Tree::Binary(Product, &I, &Tree::Number(3)), &OWN),
+            &Tree::Number(3),
+        ),
+        tidied: "(((i0 * 3) + own) / 3)",
+    },
+    InGroups {
+        size: None,
+        bounds: &[Tree::Size(2)],
+        index: Tree::Binary(
+            Quotient,
+            &Tree::Binary(Sum, &Tree::Binary(Product, &I, &Tree::Number(3)), &OWN),
+            &Tree::Number(3),
+        ),
+        tidied: "(((i0 * 3) + own) / 3)",
+    },
+    InGroups {
+        size: Some((3, 1)),
+        bounds: &[Tree::Size(2)],
+        index: Tree::Binary(
+            Remainder,
+            &Tree::Binary(Sum, &Tree::Binary(Product, &I, &Tree::Number(3)), &OWN),
+            &Tree::Number(3),
+        ),
+        tidied: "own",
+    },
+    InGroups {
+        size: Some((4, 1)),
+        bounds: &[],
+        index: Tree::Binary(Quotient, &CELL, &Tree::Number(4)),
+        tidied: "group",
+    },
+    InGroups {
+        size: Some((4, 1)),
+        bounds: &[],
+        index: Tree::Binary(Remainder, &CELL, &Tree::Number(4)),
+        tidied: "own",
+    },
+    InGroups {
+        size: Some((5, 1)),
+        bounds: &[],
+        index: Tree::Binary(Remainder, &CELL, &Tree::Number(4)),
+        tidied: "(((group * 4) + own) % 4)",
+    },
+    InGroups {
+        size: Some((1, 1)),
+        bounds: &[Tree::Number(6)],
+        index: Tree::Binary(Sum, &I, &OWN),
+        tidied: "i0",
+    },
+    InGroups {
+        size: Some((2, 1)),
+        bounds: &[Tree::Number(6)],
+        index: Tree::Binary(Sum, &I, &OWN),
+        tidied: "(i0 + own)",
+    },
+    InGroups {
+        size: None,
+        bounds: &[],
+        index: Tree::Binary(
+            Sum,
+            &Tree::Binary(
+                Product,
+                &Tree::Binary(Quotient, &OWN, &Tree::Number(3)),
+                &Tree::Number(3),
+            ),
+            &Tree::Binary(Remainder, &OWN, &Tree::Number(3)),
+        ),
+        tidied: "own",
+    },
+    InGroups {
+        size: None,
+        bounds: &[],
+        index: Tree::Binary(
+            Sum,
+            &Tree::Binary(
+                Product,
+                &Tree::Binary(Quotient, &GROUP, &Tree::Number(3)),
+                &Tree::Number(3),
+            ),
+            &Tree::Binary(Remainder, &GROUP, &Tree::Number(3)),
+        ),
+        tidied: "group",
+    },
+    InGroups {
+        size: None,
+        bounds: &[],
+        index: Tree::Binary(
+            Sum,
+            &Tree::Binary(
+                Product,
+                &Tree::Binary(Quotient, &OWN, &Tree::Number(3)),
+                &Tree::Number(3),
+            ),
+            &Tree::Binary(Remainder, &GROUP, &Tree::Number(3)),
+        ),
+        tidied: "(((own / 3) * 3) + (group % 3))",
+    },
+];
+
+// Within the loops of a row, an `if` that asks whether this start is below this bound.
+struct InIf {
+    start: Start,
+    bound: Tree,
+    row: InGroups,
+}
+
+// The row of the item's cell in rows of two, of which each turn of the loop has one.
+const ROW_OF_TWO: Tree = Tree::Binary(
+    Quotient,
+    &Tree::Binary(Sum, &Tree::Binary(Product, &I, &Tree::Number(2)), &OWN),
+    &Tree::Number(2),
+);
+
+// At s2 = 2^20 its value is 2^40.
+const WRAPPING_BOUND: Tree = Tree::Binary(Product, &Tree::Size(2), &Tree::Size(2));
+
+// An id is below the bound of the `if` that asks of it, besides what is known of it in the kernel.
+const IFS: [InIf; 11] = [
+    InIf {
+        start: Start::LocalId(Dimension::X),
+        bound: Tree::Number(2),
+        row: InGroups {
+            size: Some((4, 1)),
+            bounds: &[Tree::Size(2)],
+            index: ROW_OF_TWO,
+            tidied: "i0",
+        },
+    },
+    InIf {
+        start: Start::LocalId(Dimension::X),
+        bound: Tree::Number(3),
+        row: InGroups {
+            size: Some((4, 1)),
+            bounds: &[Tree::Size(2)],
+            index: ROW_OF_TWO,
+            tidied: "(((i0 * 2) + own) / 2)",
+        },
+    },
+    InIf {
+        start: Start::LocalId(Dimension::X),
+        bound: Tree::Number(2),
+        row: InGroups {
+            size: None,
+            bounds: &[Tree::Size(2)],
+            index: ROW_OF_TWO,
+            tidied: "i0",
+        },
+    },
+    InIf {
+        start: Start::LocalId(Dimension::X),
+        bound: Tree::Number(3),
+        row: InGroups {
+            size: Some((2, 1)),
+            bounds: &[Tree::Size(2)],
+            index: ROW_OF_TWO,
+            tidied: "i0",
+        },
+    },
+    InIf {
+        start: Start::LocalId(Dimension::X),
+        bound: WRAPPING_BOUND,
+        row: InGroups {
+            size: Some((2, 1)),
+            bounds: &[Tree::Size(2)],
+            index: ROW_OF_TWO,
+            tidied: "i0",
+        },
+    },
+    InIf {
+        start: Start::GlobalId(Dimension::X),
+        bound: Tree::Number(2),
+        row: InGroups {
+            size: Some((4, 1)),
+            bounds: &[Tree::Size(2)],
+            index: ROW_OF_TWO,
+            tidied: "(((i0 * 2) + own) / 2)",
+        },
+    },
+    InIf {
+        start: Start::LocalId(Dimension::Y),
+        bound: Tree::Number(2),
+        row: InGroups {
+            size: Some((4, 1)),
+            bounds: &[Tree::Size(2)],
+            index: ROW_OF_TWO,
+            tidied: "(((i0 * 2) + own) / 2)",
+        },
+    },
+    InIf {
+        start: Start::LocalId(Dimension::X),
+        bound: Tree::Size(0),
+        row: InGroups {
+            size: Some((8, 1)),
+            bounds: &[Tree::Size(2)],
+            index: Tree::Binary(
+                Remainder,
+                &Tree::Binary(Sum, &Tree::Binary(Product, &I, &Tree::Size(0)), &OWN),
+                &Tree::Size(0),
+            ),
+            tidied: "own",
+        },
+    },
+    InIf {
+        start: Start::LocalId(Dimension::X),
+        bound: Tree::Size(1),
+        row: InGroups {
+            size: Some((8, 1)),
+            bounds: &[Tree::Size(2)],
+            index: Tree::Binary(
+                Remainder,
+                &Tree::Binary(Sum, &Tree::Binary(Product, &I, &Tree::Size(0)), &OWN),
+                &Tree::Size(0),
+            ),
+            tidied: "(((i0 * s0) + own) % s0)",
+        },
+    },
+    InIf {
+        start: Start::GroupId(Dimension::X),
+        bound: Tree::Number(1),
+        row: InGroups {
+            size: Some((4, 1)),
+            bounds: &[Tree::Number(6)],
+            index: Tree::Binary(Sum, &I, &GROUP),
+            tidied: "i0",
+        },
+    },
+    InIf {
+        start: Start::GroupId(Dimension::X),
+        bound: Tree::Number(2),
+        row: InGroups {
+            size: Some((4, 1)),
+            bounds: &[Tree::Number(6)],
+            index: Tree::Binary(Sum, &I, &GROUP),
+            tidied: "(i0 + group)",
+        },
+    },
+];
+
 // s0 is from 1 to 8, s1 an even number from 2 to 8, s2 from 1 to 2^20.
 fn names(alloc: Global) -> Result<Names, AllocError> {
     let mut names = Names::new(alloc);
@@ -551,8 +823,8 @@ fn names(alloc: Global) -> Result<Names, AllocError> {
     Ok(names)
 }
 
-fn place(alloc: Global, bounds: &[Tree]) -> Result<Place, AllocError> {
-    let mut place = Place::outside(alloc, &names(alloc)?)?;
+fn place(alloc: Global, size: Option<(u32, u32)>, bounds: &[Tree]) -> Result<Place, AllocError> {
+    let mut place = Place::outside(alloc, &names(alloc)?, size)?;
     for bound in bounds {
         let bound = spell_index(alloc, &index_of(alloc, bound)?)?;
         place = place.inside(alloc, &bound)?;
@@ -560,23 +832,89 @@ fn place(alloc: Global, bounds: &[Tree]) -> Result<Place, AllocError> {
     Ok(place)
 }
 
-fn tidied_text(alloc: Global, bounds: &[Tree], tree: &Tree) -> Result<String, AllocError> {
-    let index = spell_index(alloc, &index_of(alloc, tree)?)?;
-    let tidied = place(alloc, bounds)?.tidied(alloc, &index)?;
-    match reading(alloc, &tidied)? {
-        Some(index) => text(alloc, &index),
-        None => Ok(String::new(alloc)),
+// The text of an index; nothing where a part is of another form.
+fn text(alloc: Global, index: &Expr) -> Result<String, AllocError> {
+    match index {
+        Expr::Number(n) => format!(in alloc; "{n}"),
+        Expr::LoopVariable(depth) => format!(in alloc; "i{depth}"),
+        Expr::Size(number) => format!(in alloc; "s{number}"),
+        Expr::Id(Dimension::X, IdForm::GroupId) => format!(in alloc; "group"),
+        Expr::Id(Dimension::X, IdForm::LocalId) => format!(in alloc; "own"),
+        Expr::Binary(op, a, b) => {
+            let a = text(alloc, a)?;
+            let b = text(alloc, b)?;
+            match op {
+                Op::Add => format!(in alloc; "({a} + {b})"),
+                Op::Sub => format!(in alloc; "({a} - {b})"),
+                Op::Mul => format!(in alloc; "({a} * {b})"),
+                Op::Div => format!(in alloc; "({a} / {b})"),
+                Op::Rem => format!(in alloc; "({a} % {b})"),
+                Op::Min => format!(in alloc; "min({a}, {b})"),
+                Op::Max => format!(in alloc; "max({a}, {b})"),
+                _ => Ok(String::new(alloc)),
+            }
+        }
+        _ => Ok(String::new(alloc)),
     }
+}
+
+fn tidied_text(
+    alloc: Global,
+    size: Option<(u32, u32)>,
+    bounds: &[Tree],
+    tree: &Tree,
+) -> Result<String, AllocError> {
+    let index = spell_index(alloc, &index_of(alloc, tree)?)?;
+    text(alloc, &place(alloc, size, bounds)?.tidied(alloc, &index)?)
 }
 
 // The first row that becomes something else.
 fn first_wrong(alloc: Global, rows: &[Row]) -> Result<Option<usize>, AllocError> {
     for (row, (bounds, tree, expected)) in rows.iter().enumerate() {
-        if tidied_text(alloc, bounds, tree)?.as_str() != *expected {
+        if tidied_text(alloc, None, bounds, tree)?.as_str() != *expected {
             return Ok(Some(row));
         }
     }
     Ok(None)
+}
+
+fn first_wrong_in_groups(alloc: Global) -> Result<Option<usize>, AllocError> {
+    for (number, row) in IDS.iter().enumerate() {
+        let made = tidied_text(alloc, row.size, row.bounds, &row.index)?;
+        if made.as_str() != row.tidied {
+            return Ok(Some(number));
+        }
+    }
+    Ok(None)
+}
+
+fn tidied_text_in_if(alloc: Global, around: &InIf) -> Result<String, AllocError> {
+    let bound = spell_index(alloc, &index_of(alloc, &around.bound)?)?;
+    let index = spell_index(alloc, &index_of(alloc, &around.row.index)?)?;
+    let place = place(alloc, around.row.size, around.row.bounds)?;
+    let place = place.guarded(alloc, around.start, &bound)?;
+    text(alloc, &place.tidied(alloc, &index)?)
+}
+
+fn first_wrong_in_ifs(alloc: Global) -> Result<Option<usize>, AllocError> {
+    for (number, around) in IFS.iter().enumerate() {
+        if tidied_text_in_if(alloc, around)?.as_str() != around.row.tidied {
+            return Ok(Some(number));
+        }
+    }
+    Ok(None)
+}
+
+#[test]
+fn indices_in_ifs_are_tidied(rt: HostRuntime) -> Result<(), Fail> {
+    assert_eq!(rt; first_wrong_in_ifs(rt.alloc())?, None);
+    Ok(())
+}
+
+#[test]
+fn indices_with_ids_are_tidied(rt: HostRuntime) -> Result<(), Fail> {
+    assert_eq!(rt; first_wrong_in_groups(rt.alloc())?, None);
+    Ok(())
 }
 
 #[test]
@@ -592,7 +930,7 @@ fn rows_are_tidied(rt: HostRuntime) -> Result<(), Fail> {
 
 // i0 + 0 in a loop of this bound, and whether it becomes i0.
 fn is_tidied_in(alloc: Global, bound: &Expr) -> Result<bool, AllocError> {
-    let place = place(alloc, &[])?.inside(alloc, bound)?;
+    let place = place(alloc, None, &[])?.inside(alloc, bound)?;
     let index = Expr::binary(alloc, Op::Add, Expr::LoopVariable(0), Expr::Number(0))?;
     Ok(matches!(place.tidied(alloc, &index)?, Expr::LoopVariable(0)))
 }
@@ -605,7 +943,27 @@ fn what_is_not_read_stays(rt: HostRuntime) -> Result<(), Fail> {
     let unread = Expr::binary(alloc, Op::And, Expr::Size(0), Expr::Number(4))?;
     assert!(rt; !is_tidied_in(alloc, &unread)?);
     let variable = Expr::binary(alloc, Op::Add, Expr::Variable(0), Expr::Number(0))?;
-    let tidied = place(alloc, &[])?.tidied(alloc, &variable)?;
+    let tidied = place(alloc, None, &[])?.tidied(alloc, &variable)?;
     assert!(rt; matches!(tidied, Expr::Binary(Op::Add, _, _)));
+    let row = Expr::Id(Dimension::Y, IdForm::LocalId);
+    let sum = Expr::binary(alloc, Op::Add, row, Expr::Number(0))?;
+    let tidied = place(alloc, None, &[])?.tidied(alloc, &sum)?;
+    assert!(rt; matches!(tidied, Expr::Binary(Op::Add, _, _)));
+    Ok(())
+}
+
+// The last loop whose turn has a number, and the next.
+#[test]
+fn turns_have_numbers(rt: HostRuntime) -> Result<(), Fail> {
+    let alloc = rt.alloc();
+    assert_eq!(rt; Turn::Loop(4294967293).number(), Some(4294967295));
+    assert_eq!(rt; Turn::Loop(4294967294).number(), None);
+    let place = place(alloc, None, &[])?;
+    for (depth, becomes_plain) in [(4294967293, true), (4294967294, false)] {
+        let variable = Expr::LoopVariable(depth);
+        let sum = Expr::binary(alloc, Op::Add, variable, Expr::Number(0))?;
+        let tidied = place.tidied(alloc, &sum)?;
+        assert_eq!(rt; matches!(tidied, Expr::LoopVariable(_)), becomes_plain);
+    }
     Ok(())
 }

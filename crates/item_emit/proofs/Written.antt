@@ -1,13 +1,23 @@
 -- The printed code of a term, of that of its parts.
-use Rattle.std.proofs.Common.{◌≡◌, ℕ, ◌+◌, [], refl, ap}
+use Rattle.std.proofs.Common.{◌≡◌, ℕ, ◌+◌, ◌^◌, Bool, true, false, Some, None, [], refl, ap}
+use Rattle.std.specs.Prelude.{nat_lt, if◌then◌else◌}
 use Rattle.kernel_tree.specs.Formula.{Formula, LoopVariable, Number}
 use Rattle.kernel_tree.specs.Code.{Code, End, Loops, FromZero, ByOne}
+use Rattle.length_spelling.specs.Turns.{as_number}
 use Rattle.lift_ir.specs.Layouts.{Layout}
 use Rattle.lift_ir.specs.Types.{Ty, width}
 use Rattle.lift_ir.specs.Terms.{LoadSet, Term, Reshape, LetArray, LetElement, Fold, push}
 use Rattle.printed_form.specs.Counts.{let_variables, load_count, private_count, variable_count}
 use Rattle.printed_form.specs.Printer.{argument_view, print_argument, print_assigned, print_element, print_fold_turn, print_loaded, print_reassigned, print_stored, print_written, sign_exprs}
 use Rattle.printed_form.specs.Views.{View, held_sign, held_view, loaded_view, result_indices, view_at}
+
+-- a number is a turn's own
+pub numbered : (n number : ℕ) → as_number n ≡ Some number → number ≡ n
+numbered n number h = go (nat_lt n (2 ^ 32)) h
+  where
+    go : (b : Bool) → (if b then Some n else None) ≡ Some number → number ≡ n
+    go true h = cc h
+    go false h = absurd (cc h)
 
 pub let_element : {A : Type 0} (env : ℕ → View) (n : ℕ) (ty : Ty) (v b counted set first last : Term A) (rest inner code : Code) (bound : View) (f m g k : ℕ) → counted ≡ v → last ≡ b → set ≡ v → first ≡ v → f ≡ let_variables counted → m ≡ n + f → g ≡ width ty → k ≡ m + g → bound ≡ held_view ty m
     → inner ≡ print_element (push bound env) k last rest → code ≡ print_assigned ty (sign_exprs env n set) m inner → print_element env n first code ≡ print_element env n (LetElement ty v b) rest

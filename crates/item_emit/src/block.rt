@@ -1,7 +1,7 @@
 //! Code that is put together from its end.
 
 ghost use Rattle.std.specs.Prelude.{◌≡◌, OnOk};
-ghost use Rattle.kernel_tree.specs.Code.{End, Loops};
+ghost use Rattle.kernel_tree.specs.Code.{End, Guards, Loops};
 ghost use Rattle.kernel_tree.specs.Tree.{before, code_then, formula_of, start_of, stride_of};
 ghost use Rattle.item_emit.specs.Blocks.{code_in};
 
@@ -46,6 +46,15 @@ impl Block {
             (stride_of stride) (code_in body) (code_in self.old)) }
     {
         self.put(Stmt::Loop(start, bound, stride, body.into_statements()))
+    }
+
+    /// Puts this block, where the start is below the bound, before all others.
+    #[tactic(auto, using(crate::proofs::Blocks::guarded))]
+    pub fn put_guard(&mut self, start: Start, bound: Expr, body: Block) -> Result<(), AllocError>
+        ensures { OnOk result (code_in self.new ≡ Guards (start_of start) (formula_of bound)
+            (code_in body) (code_in self.old)) }
+    {
+        self.put(Stmt::If(start, bound, body.into_statements()))
     }
 
     /// The statements, from the first to the last.

@@ -4,6 +4,7 @@ ghost use Rattle.std.specs.Prelude.{◌≡◌, ◌+◌, [], IfOk, OnOk};
 ghost use Rattle.kernel_tree.specs.Code.{End, FromZero, ByOne, Loops};
 ghost use Rattle.kernel_tree.specs.Formula as formula;
 ghost use Rattle.kernel_tree.specs.Tree as tree;
+ghost use Rattle.length_spelling.specs.Turns.{number_of, turn_formula};
 ghost use Rattle.lift_ir.specs.Lowering.{element_ty};
 ghost use Rattle.lift_ir.specs.Terms as terms;
 ghost use Rattle.lift_tree.specs.Types.{ty_of};
@@ -30,7 +31,7 @@ use crate::scope::Scope;
 use array_views::View;
 use index_expr::Index;
 use kernel_tree::tree::{Dimension, Expr, Start, Stride};
-use length_spelling::spell_length;
+use length_spelling::{Turn, spell_length};
 use lift_tree::ty::Ty;
 use lowering::term::{Kind, LoadSet, Space, Term};
 use size_arith::Poly;
@@ -67,17 +68,24 @@ fn stride_of(kind: Kind) -> Stride
     }
 }
 
-/// The element at the turn of the loop that stands within so many others.
-pub fn at_turn(alloc: Global, array: &View, depth: u32) -> Result<View, AllocError>
+/// The element at a turn. Where the turn has no number, the answer is want of memory: so many loops
+/// take more.
+#[tactic(auto, using(crate::proofs::Written::numbered))]
+pub fn at_turn(alloc: Global, array: &View, turn: Turn) -> Result<View, AllocError>
     ensures { IfOk result
-        (λ v. view_in v ≡ view_at (formula.LoopVariable depth) (view_in array.now)) }
+        (λ v. view_in v ≡ view_at (turn_formula (number_of turn)) (view_in array.now)) }
 {
-    let turn = Index::Variable {
-        number: depth,
-        least: 0,
-        greatest: u32::MAX,
-    };
-    array.at(alloc, turn)
+    match turn.number() {
+        Some(number) => {
+            let index = Index::Variable {
+                number,
+                least: 0,
+                greatest: u32::MAX,
+            };
+            array.at(alloc, index)
+        }
+        None => Err(AllocError),
+    }
 }
 
 // The first element.
@@ -284,7 +292,7 @@ fn put_map(
         (term_of array.now) (term_of body.now)) (view_in target.now) (code_in block.old)) }
 {
     let element = argument(alloc, declared, site.scope, site.array, array)?;
-    let element = at_turn(alloc, &element, site.depth)?;
+    let element = at_turn(alloc, &element, Turn::Loop(site.depth))?;
     let first_load = plus(site.variable, variable_count(array)?)?;
     let bound = loaded(alloc, loads, &element, first_load)?;
     let inner = Site {
@@ -294,7 +302,7 @@ fn put_map(
         variable: plus(first_load, load_count(loads)?)?,
     };
     let mut turn = Block::new(alloc);
-    let target = at_turn(alloc, target, site.depth)?;
+    let target = at_turn(alloc, target, Turn::Loop(site.depth))?;
     put_written(alloc, declared, &inner, body, &target, &mut turn)?;
     put_loaded(alloc, loads, &element, first_load, &mut turn)?;
     let bound = spell_length(alloc, count, declared.names)?;
@@ -384,7 +392,7 @@ fn put_fold(
         (view_in target.now) (code_in block.old)) }
 {
     let element = argument(alloc, declared, site.scope, site.array, array)?;
-    let element = at_turn(alloc, &element, site.depth)?;
+    let element = at_turn(alloc, &element, Turn::Loop(site.depth))?;
     let after = Site {
         variable: plus(site.variable, variable_count(array)?)?,
         ..*site

@@ -1,5 +1,5 @@
 -- A kernel of these counts, lengths and statements.
-use Rattle.std.proofs.Common.{◌≡◌, ◌∙◌, ℕ, List, refl, ap, inl, inr, sym, true, None, ◌⊎◌}
+use Rattle.std.proofs.Common.{◌≡◌, ◌∙◌, ℕ, List, refl, ap, inl, inr, sym, Option, ◌⊎◌}
 use Rattle.lift_tree.specs.Types.{PlainTy}
 use Rattle.lift_tree.specs.Typing.{Declared}
 use Rattle.lift_ir.specs.AtLaunch.{shape_of}
@@ -11,6 +11,7 @@ use Rattle.printed_form.specs.Printer.{kernel_code}
 use Rattle.printed_form.specs.Programs.{first_buffer, input_shape}
 use Rattle.barrier_placement.specs.Fencing.{fence}
 use Rattle.barrier_placement.specs.declared.placing.Barrier.{Barrier}
+use Rattle.group_form.specs.ChosenForms.{forms_of}
 use Rattle.group_form.specs.Printer.{group_kernel_code}
 use Rattle.phase_plan.specs.Plans.{declared_in}
 use Rattle.phase_plan.specs.declared.kind.Kind.{Kind}
@@ -22,28 +23,28 @@ use Rattle.kernel_tree.specs.declared.tree.Stmt.{Stmt}
 use Rattle.kernel_tree.specs.Code.{Code, End, Kernel}
 use Rattle.kernel_tree.specs.Tree.{code_then, kernel_with}
 
-pub kernel_is : (k : Kernel) (inputs outputs sizes variables : ℕ) (locals privates : List ℕ) (body : List Stmt) → inputs ≡ k.inputs → outputs ≡ k.outputs → sizes ≡ k.sizes → locals ≡ k.locals → privates ≡ k.privates → variables ≡ k.variables → code_then body End ≡ k.code
-    → 0 ≡ k.vectors → None ≡ k.local → kernel_with inputs outputs sizes locals privates variables 0 None body ≡ k
-kernel_is k i o s v ls ps body ei eo es el ep ev ec ef eg = rw (ei, eo, es, el, ep, ev, ec, ef, eg) refl
+pub kernel_is : (k : Kernel) (inputs outputs sizes variables : ℕ) (locals privates : List ℕ) (body : List Stmt) (local : Option (ℕ × ℕ)) → inputs ≡ k.inputs → outputs ≡ k.outputs → sizes ≡ k.sizes → locals ≡ k.locals → privates ≡ k.privates → variables ≡ k.variables → code_then body End ≡ k.code
+    → 0 ≡ k.vectors → local ≡ k.local → kernel_with inputs outputs sizes locals privates variables 0 local body ≡ k
+kernel_is k i o s v ls ps body local ei eo es el ep ev ec ef eg = rw (ei, eo, es, el, ep, ev, ec, ef, eg) refl
 
 -- the code of a term that items run, and of one that work-groups run, as the plan's kind says
-pub task_code : (d : Declared) (root : Lowered) (a b : PlainTy) (kind : Kind) (inputs : List PlainTy) (code : Code) → kind ≡ Task → inputs ≡ d.inputs → b ≡ a
-    → code ≡ kernel_code (length_formula d.names) (first_buffer inputs) (input_shape inputs) root (shape_of b) → code ≡ code_for d root a kind
-task_code d root a b kind inputs code k i t h = h ∙ (λ j. kernel_code (length_formula d.names) (first_buffer (i j)) (input_shape (i j)) root (shape_of (t j))) ∙ sym (ap (code_for d root a) k)
+pub task_code : (d : Declared) (local : Option ℕ) (root : Lowered) (a b : PlainTy) (kind : Kind) (inputs : List PlainTy) (code : Code) → kind ≡ Task → inputs ≡ d.inputs → b ≡ a
+    → code ≡ kernel_code (length_formula d.names) (first_buffer inputs) (input_shape inputs) root (shape_of b) → code ≡ code_for d local root a kind
+task_code d local root a b kind inputs code k i t h = h ∙ (λ j. kernel_code (length_formula d.names) (first_buffer (i j)) (input_shape (i j)) root (shape_of (t j))) ∙ sym (ap (code_for d local root a) k)
 
-pub launch_code : (d : Declared) (root : Lowered) (a b : PlainTy) (kind : Kind) (inputs : List PlainTy) (code : Code) → kind ≡ OverLaunch → inputs ≡ d.inputs → b ≡ a
-    → code ≡ kernel_code (length_formula d.names) (first_buffer inputs) (input_shape inputs) root (shape_of b) → code ≡ code_for d root a kind
-launch_code d root a b kind inputs code k i t h = h ∙ (λ j. kernel_code (length_formula d.names) (first_buffer (i j)) (input_shape (i j)) root (shape_of (t j))) ∙ sym (ap (code_for d root a) k)
+pub launch_code : (d : Declared) (local : Option ℕ) (root : Lowered) (a b : PlainTy) (kind : Kind) (inputs : List PlainTy) (code : Code) → kind ≡ OverLaunch → inputs ≡ d.inputs → b ≡ a
+    → code ≡ kernel_code (length_formula d.names) (first_buffer inputs) (input_shape inputs) root (shape_of b) → code ≡ code_for d local root a kind
+launch_code d local root a b kind inputs code k i t h = h ∙ (λ j. kernel_code (length_formula d.names) (first_buffer (i j)) (input_shape (i j)) root (shape_of (t j))) ∙ sym (ap (code_for d local root a) k)
 
-pub items_code : (d : Declared) (root : Lowered) (a b : PlainTy) (kind : Kind) (inputs : List PlainTy) (code : Code) → (kind ≡ Task) ⊎ (kind ≡ OverLaunch) → inputs ≡ d.inputs → b ≡ a
-    → code ≡ kernel_code (length_formula d.names) (first_buffer inputs) (input_shape inputs) root (shape_of b) → code ≡ code_for d root a kind
-items_code d root a b kind inputs code (inl k) = task_code d root a b kind inputs code k
-items_code d root a b kind inputs code (inr k) = launch_code d root a b kind inputs code k
+pub items_code : (d : Declared) (local : Option ℕ) (root : Lowered) (a b : PlainTy) (kind : Kind) (inputs : List PlainTy) (code : Code) → (kind ≡ Task) ⊎ (kind ≡ OverLaunch) → inputs ≡ d.inputs → b ≡ a
+    → code ≡ kernel_code (length_formula d.names) (first_buffer inputs) (input_shape inputs) root (shape_of b) → code ≡ code_for d local root a kind
+items_code d local root a b kind inputs code (inl k) = task_code d local root a b kind inputs code k
+items_code d local root a b kind inputs code (inr k) = launch_code d local root a b kind inputs code k
 
-pub groups_code : (d : Declared) (root : Lowered) (a b : PlainTy) (phases : Phases) (kind : Kind) (inputs : List PlainTy) (barriers : List Barrier) (code : Code) → kind ≡ OverGroups phases → inputs ≡ d.inputs → barriers ≡ phases.barriers.items → b ≡ a
-    → code ≡ group_kernel_code (length_formula d.names) (first_buffer inputs) (input_shape inputs) (fence phases.count barriers) root (shape_of b) → code ≡ code_for d root a kind
-groups_code d root a b phases kind inputs barriers code k i bs t h = h ∙ (λ j. group_kernel_code (length_formula d.names) (first_buffer (i j)) (input_shape (i j)) (fence phases.count (bs j)) root (shape_of (t j))) ∙ sym (ap (code_for d root a) k)
+pub groups_code : (d : Declared) (local : Option ℕ) (root : Lowered) (a b : PlainTy) (phases : Phases) (kind : Kind) (inputs : List PlainTy) (barriers : List Barrier) (code : Code) → kind ≡ OverGroups phases → inputs ≡ d.inputs → barriers ≡ phases.barriers.items → b ≡ a
+    → code ≡ group_kernel_code (length_formula d.names) (forms_of d.names local) (first_buffer inputs) (input_shape inputs) (fence phases.count barriers) root (shape_of b) → code ≡ code_for d local root a kind
+groups_code d local root a b phases kind inputs barriers code k i bs t h = h ∙ (λ j. group_kernel_code (length_formula d.names) (forms_of d.names local) (first_buffer (i j)) (input_shape (i j)) (fence phases.count (bs j)) root (shape_of (t j))) ∙ sym (ap (code_for d local root a) k)
 
 -- what is printed for a plan, simplified, is its kernel
-pub emitted_is : (plan : Plan) (k made : Kernel) → k ≡ tidied_kernel (tidy_formula (declared_in plan).names) made → made ≡ printed_for plan → k ≡ kernel_for plan
-emitted_is plan k made h is = h ∙ ap (tidied_kernel (tidy_formula (declared_in plan).names)) is
+pub emitted_is : (plan : Plan) (k made : Kernel) → k ≡ tidied_kernel (tidy_formula (declared_in plan).names made.local) made → made ≡ printed_for plan → k ≡ kernel_for plan
+emitted_is plan k made h is = h ∙ ap (λ (x : Kernel). tidied_kernel (tidy_formula (declared_in plan).names x.local) x) is

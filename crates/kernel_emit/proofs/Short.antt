@@ -4,7 +4,7 @@ use Rattle.std.proofs.Common.{◌≡◌, ◌<◌, ℕ, true}
 use Rattle.std.proofs.Math.Bool.{Bool-set}
 use Rattle.kernel_tree.specs.Code.{Kernel}
 use Rattle.kernel_tree.specs.Grammar.{is_kernel}
-use Rattle.lift_ir.specs.Types.{IsShort, Ty, Scalar, PairOf, ArrayOf, size}
+use Rattle.lift_ir.specs.Types.{IsShort, Ty, Scalar, PairOf, ArrayOf}
 use Rattle.lift_ir.specs.Terms.{Term, Literal, Bound, Source, Apply, ApplyNumber, Select, Both, Project, Reshape, LetArray, LetElement, Map, Fold, Store, Copy}
 use Rattle.item_emit.specs.Copies.{HasShortCopies, IsShortCopy}
 

@@ -1,11 +1,11 @@
 -- What is printed for a plan, told of the plan.
-use Rattle.std.proofs.Common.{◌≡◌, subst, sym}
-use Rattle.lift_tree.specs.Typing.{Declared}
+use Rattle.std.proofs.Common.{◌≡◌, ℕ, Option, None, Some, subst, sym}
 use Rattle.lowering.specs.Terms.{term_of}
-use Rattle.lowered_tree.specs.Whole.{IsOfProgram}
-use Rattle.printed_form.specs.Programs.{lowered_root}
+use Rattle.lowered_tree.specs.Kinds.{IsLocalSize}
+use Rattle.lowered_tree.specs.Whole.{IsSoundTerm}
+use Rattle.printed_form.specs.Programs.{IsGroupSize}
 use Rattle.phase_plan.specs.declared.planned.Plan.{Plan}
-use Rattle.phase_plan.specs.Plans.{IsTold, declared_in, tree_in, types_in}
+use Rattle.phase_plan.specs.Plans.{IsTold, declared_in, local_in, tree_in, types_in}
 use Rattle.std.proofs.Math.Logic.{∥∥₁_elim, ∥∥₁_prop}
 use Rattle.kernel_tree.specs.Code.{Kernel}
 use Rattle.kernel_emit.specs.Kernels.{IsKernelFor}
@@ -13,19 +13,23 @@ use Rattle.kernel_emit.specs.Laws.{PlansCanBeEmitted, PlansGiveKernels}
 use Rattle.kernel_emit.specs.Plans.{kernel_for}
 use Rattle.kernel_emit.proofs.Printing.{IsPrintedWell, Known, printed_well}
 
-told_well : Known → (plan : Plan) → IsOfProgram (declared_in plan) (tree_in plan) (types_in plan) → IsTold plan
-    → IsPrintedWell (declared_in plan) (tree_in plan) (types_in plan) plan.buffers.now.local.items plan.buffers.now.private.items (term_of plan.root) plan.kind
+-- a size that is fixed is one that the kernel grammar has
+is_group_size : (local : Option ℕ) → IsLocalSize local → IsGroupSize local
+is_group_size None h = tt
+is_group_size (Some size) h = h
+
+told_well : Known → (plan : Plan) → IsSoundTerm (declared_in plan) (tree_in plan) (types_in plan) → IsTold plan
+    → IsPrintedWell (declared_in plan) (local_in plan) (tree_in plan) (types_in plan) plan.buffers.now.local.items plan.buffers.now.private.items (term_of plan.root) plan.kind
 told_well known plan is told =
-    subst (λ (d : Declared). IsPrintedWell d (tree_in plan) (types_in plan) plan.buffers.now.local.items plan.buffers.now.private.items (term_of plan.root) plan.kind) is.declares
-    (printed_well known is.program (tree_in plan) (types_in plan) is.typed is.words told.legal told.arrays.within plan.buffers.now.local.items plan.buffers.now.private.items (term_of plan.root) told.arrays (subst (λ (d : Declared). term_of plan.root ≡ lowered_root d.names (tree_in plan) (types_in plan)) (sym is.declares) told.lowered) plan.kind told.kind)
+    printed_well known (declared_in plan) (local_in plan) (tree_in plan) (types_in plan) is (is_group_size (local_in plan) plan.spaced.now.mapped.sized) told.legal told.arrays.within plan.buffers.now.local.items plan.buffers.now.private.items (term_of plan.root) told.arrays told.lowered plan.kind told.kind
 
 pub can_be_emitted : Known → PlansCanBeEmitted
 can_be_emitted known plan is told =
     let well = told_well known plan is told in
     (record { grammar = well.grammar; copies = well.copies; locals = well.locals; privates = well.privates }, well.plain)
 
--- a plan keeps what is told, and a lowered term that it is one of a program
-pub kept : (plan : Plan) → PlansGiveKernels → (k : Kernel) → k ≡ kernel_for plan → ∥ IsKernelFor (declared_in plan) (tree_in plan) (types_in plan) k ∥₁
+-- a plan keeps what is told, and a lowered term that it is sound
+pub kept : (plan : Plan) → PlansGiveKernels → (k : Kernel) → k ≡ kernel_for plan → ∥ IsKernelFor (declared_in plan) (local_in plan) (tree_in plan) (types_in plan) k ∥₁
 kept plan law k is =
-    ∥∥₁_elim plan.planned ∥∥₁_prop (λ told. ∥∥₁_elim plan.spaced.now.mapped.lowered.of_program ∥∥₁_prop (λ of.
-    ∣ subst (IsKernelFor (declared_in plan) (tree_in plan) (types_in plan)) (sym is) (law plan of told) ∣₁))
+    ∥∥₁_elim plan.planned ∥∥₁_prop (λ told. ∥∥₁_elim plan.spaced.now.mapped.lowered.sound ∥∥₁_prop (λ of.
+    ∣ subst (IsKernelFor (declared_in plan) (local_in plan) (tree_in plan) (types_in plan)) (sym is) (law plan of told) ∣₁))

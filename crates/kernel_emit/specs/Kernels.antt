@@ -1,5 +1,5 @@
 -- What the kernel of a term owes.
-use Rattle.std.specs.Prelude.{◌≡◌, ◌*◌, ◌≤◌, ℕ, List, [], length}
+use Rattle.std.specs.Prelude.{◌≡◌, ◌*◌, ◌≤◌, ℕ, List, [], length, Option}
 use Rattle.std.specs.List.{sum}
 use Rattle.kernel_tree.specs.Code.{Kernel}
 use Rattle.kernel_tree.specs.Device.{Cell}
@@ -12,7 +12,7 @@ use Rattle.lift_tree.specs.Types.{PlainTy}
 use Rattle.lift_tree.specs.Typing.{Declared, IsAdmissible}
 use Rattle.lift_ir.specs.AtLaunch.{shape_of}
 use Rattle.lift_ir.specs.Types.{width}
-use Rattle.lowered_tree.specs.Kinds.{is_task}
+use Rattle.lowered_tree.specs.Kinds.{asks_of}
 use Rattle.lowered_tree.specs.Kind.{nest_kind}
 use Rattle.lowered_tree.specs.declared.kind.NestKind.{NestKind}
 use Rattle.lowered_tree.specs.declared.kind.NestKind.TheVariants.{Task, OverLaunch, OverGroups}
@@ -26,41 +26,41 @@ use Rattle.kernel_premises.specs.Groups.{AreNeeded, kernel_of_groups}
 use Rattle.tidy_printed.specs.Tidy.{IsTidyFor}
 
 -- the kernel is printed for a term of this kind at a launch
-abbrev pub PrintsAs : NestKind → Declared → List ℕ → Tree → Annotation → Launch → Kernel → Type 0
+abbrev pub PrintsAs : NestKind → Declared → (local : Option ℕ) → List ℕ → Tree → Annotation → Launch → Kernel → Type 0
 PrintsAs Task = Prints
 PrintsAs OverLaunch = Prints
 PrintsAs OverGroups = PrintsGroups
 
--- at each admissible launch the kernel is printed for the term, as its kind says
-abbrev pub PrintsAtAll : Declared → Tree → Annotation → Kernel → Type 0
-PrintsAtAll d t n k = (bases : List ℕ) (l : Launch) → IsLaunchOf d (is_task t) bases l → PrintsAs (nest_kind t) d bases t n l k
+-- at each admissible launch, of groups of the local size that is fixed, the kernel is printed for the term, as its kind says
+abbrev pub PrintsAtAll : Declared → (local : Option ℕ) → Tree → Annotation → Kernel → Type 0
+PrintsAtAll d local t n k = (bases : List ℕ) (l : Launch) → IsLaunchOf d (asks_of local t) bases l → PrintsAs (nest_kind t) d local bases t n l k
 
 -- it may be started there
-abbrev pub StartsTerm : Declared → Tree → Annotation → Kernel → Type 0
-StartsTerm d t n k = (w : World) (l : Launch) (c : Cells) → IsAdmissible d w → IsLaunchOf d (is_task t) w.bases l → AreBuffersOf d w t n c → MayStart k l c
+abbrev pub StartsTerm : Declared → (local : Option ℕ) → Tree → Annotation → Kernel → Type 0
+StartsTerm d local t n k = (w : World) (l : Launch) (c : Cells) → IsAdmissible d w → IsLaunchOf d (asks_of local t) w.bases l → AreBuffersOf d w t n c → MayStart k l c
 
 -- and every run there keeps what a kernel owes, with the term's value
-abbrev pub KeepsTerm : Declared → Tree → Annotation → Kernel → Type 0
-KeepsTerm d t n k = (w : World) (l : Launch) (c : Cells) → IsAdmissible d w → IsLaunchOf d (is_task t) w.bases l → AreBuffersOf d w t n c
+abbrev pub KeepsTerm : Declared → (local : Option ℕ) → Tree → Annotation → Kernel → Type 0
+KeepsTerm d local t n k = (w : World) (l : Launch) (c : Cells) → IsAdmissible d w → IsLaunchOf d (asks_of local t) w.bases l → AreBuffersOf d w t n c
     → EveryRunKeeps k l c (cell_owner d.names w.bases l t n) (lists_of (type_in n) (meaning w [] t))
 
 -- and its barriers serve in every run there: the items of a group meet the same barriers with the same turn numbers, and between two releases with the local flag each cell of a local array that is written is one item's
-abbrev pub ServesTerm : Declared → Tree → Annotation → Kernel → Type 0
-ServesTerm d t n k = (w : World) (l : Launch) (c : Cells) → IsAdmissible d w → IsLaunchOf d (is_task t) w.bases l → AreBuffersOf d w t n c
+abbrev pub ServesTerm : Declared → (local : Option ℕ) → Tree → Annotation → Kernel → Type 0
+ServesTerm d local t n k = (w : World) (l : Launch) (c : Cells) → IsAdmissible d w → IsLaunchOf d (asks_of local t) w.bases l → AreBuffersOf d w t n c
     → (filler : Cell → ℕ) × BarriersServeAll k l c filler
 
 -- the kernel is what the printers make of a term of this kind, with needed barriers
-abbrev pub IsPlainAs : NestKind → Declared → Tree → Annotation → Kernel → Type 0
-IsPlainAs Task d t n k = k ≡ kernel_of_term d t n
-IsPlainAs OverLaunch d t n k = k ≡ kernel_of_term d t n
-IsPlainAs OverGroups d t n k = (fence : ℕ → Fencing) × AreNeeded d fence t n × (k ≡ kernel_of_groups d fence t n)
+abbrev pub IsPlainAs : NestKind → Declared → (local : Option ℕ) → Tree → Annotation → Kernel → Type 0
+IsPlainAs Task d local t n k = k ≡ kernel_of_term d local t n
+IsPlainAs OverLaunch d local t n k = k ≡ kernel_of_term d local t n
+IsPlainAs OverGroups d local t n k = (fence : ℕ → Fencing) × AreNeeded d local fence t n × (k ≡ kernel_of_groups d local fence t n)
 
-abbrev pub IsPlainFor : Declared → Tree → Annotation → Kernel → Type 0
-IsPlainFor d t n k = IsPlainAs (nest_kind t) d t n k
+abbrev pub IsPlainFor : Declared → (local : Option ℕ) → Tree → Annotation → Kernel → Type 0
+IsPlainFor d local t n k = IsPlainAs (nest_kind t) d local t n k
 
 -- it differs from that in its indices and bounds alone, of which no part is redundant, and which have no more nodes than those of the printers have with lengths counted in short
-abbrev pub IsTidy : Declared → Tree → Annotation → Kernel → Type 0
-IsTidy d t n k = (plain : Kernel) × IsPlainFor d t n plain × IsTidyFor plain.code k.code
+abbrev pub IsTidy : Declared → (local : Option ℕ) → Tree → Annotation → Kernel → Type 0
+IsTidy d local t n k = (plain : Kernel) × IsPlainFor d local t n plain × IsTidyFor plain.code k.code
 
 -- the parameters: a buffer for each component of the inputs, one for each component of the output, and each size
 pub record HasParameters (d : Declared) (output : PlainTy) (k : Kernel) : Type 0 where
@@ -74,11 +74,11 @@ pub record IsWithinMemory (k : Kernel) : Type 0 where
   pub private_cells : sum k.privates ≤ 256
 
 -- the kernel is the term's: printed for it, with its value, barriers that serve and its parameters, and tidy
-pub record IsKernelFor (d : Declared) (t : Tree) (n : Annotation) (k : Kernel) : Type 0 where
-  pub prints : PrintsAtAll d t n k
-  pub starts : StartsTerm d t n k
-  pub keeps : KeepsTerm d t n k
-  pub serve : ServesTerm d t n k
-  pub tidy : IsTidy d t n k
+pub record IsKernelFor (d : Declared) (local : Option ℕ) (t : Tree) (n : Annotation) (k : Kernel) : Type 0 where
+  pub prints : PrintsAtAll d local t n k
+  pub starts : StartsTerm d local t n k
+  pub keeps : KeepsTerm d local t n k
+  pub serve : ServesTerm d local t n k
+  pub tidy : IsTidy d local t n k
   pub parameters : HasParameters d (type_in n) k
   pub memory : IsWithinMemory k

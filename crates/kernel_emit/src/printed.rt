@@ -9,7 +9,8 @@ ghost use Rattle.lowering.specs.Terms.{term_of};
 ghost use Rattle.item_emit.specs.Copies.{HasShortCopies};
 ghost use Rattle.kernel_emit.specs.Emittable.{IsEmittable};
 ghost use Rattle.kernel_emit.specs.Plans.{code_for, printed_for};
-ghost use Rattle.phase_plan.specs.Plans.{declared_in, types_in};
+ghost use Rattle.phase_plan.specs.Plans.{declared_in, local_in, types_in};
+ghost use Rattle.printed_form.specs.Programs.{row_of};
 
 use group_emit::kernel as groups;
 use group_emit::setting::Setting;
@@ -25,7 +26,7 @@ use std::alloc::{AllocError, Global};
 fn statements(alloc: Global, plan: &Plan<'_>) -> Result<Vec<Stmt>, AllocError>
     requires { HasShortCopies (term_of plan.now.root) }
     ensures { IfOk result (λ ss. code_then ss.items End ≡ code_for (declared_in plan.now)
-        (term_of plan.now.root) (type_in (types_in plan.now)) plan.now.kind) }
+        (local_in plan.now) (term_of plan.now.root) (type_in (types_in plan.now)) plan.now.kind) }
 {
     let lowered = &plan.spaced.mapped.lowered;
     let declared = Declared {
@@ -41,6 +42,7 @@ fn statements(alloc: Global, plan: &Plan<'_>) -> Result<Vec<Stmt>, AllocError>
                 declared,
                 barriers: &phases.barriers,
                 phases: phases.count,
+                local: plan.spaced.mapped.local,
             };
             groups::statements(alloc, &setting, &plan.root, lowered.types.own_type())
         }
@@ -60,9 +62,19 @@ fn words(alloc: Global, lengths: &[u64]) -> Result<Vec<u32>, AllocError>
     Ok(words)
 }
 
+// Groups of a fixed size, along the row.
+fn row(local: Option<u32>) -> Option<(u32, u32)>
+    ensures { result ≡ row_of local }
+{
+    match local {
+        Some(size) => Some((size, 1)),
+        None => None,
+    }
+}
+
 /// The kernel that is printed for a plan: for each component of each input a parameter, then for each
-/// of the output and for each size; private variables as the term needs them, the plan's arrays, and
-/// the code as its kind says.
+/// of the output and for each size; private variables as the term needs them, the plan's arrays, the
+/// local size that is fixed, and the code as its kind says.
 pub fn printed(alloc: Global, plan: &Plan<'_>) -> Result<Kernel, AllocError>
     requires { IsEmittable plan.now }
     ensures { IfOk result (λ k. kernel_of k ≡ printed_for plan.now) }
@@ -79,7 +91,7 @@ pub fn printed(alloc: Global, plan: &Plan<'_>) -> Result<Kernel, AllocError>
         privates,
         variables: counts.variables,
         vectors: 0,
-        local: None,
+        local: row(plan.spaced.mapped.local),
         body,
     })
 }

@@ -40,7 +40,7 @@ not_held n k few le = omega arith
 
 pub declared_are_few : ArraysCanBeDeclared → SoundPartsAreSpelled → DeclaredAreFew
 declared_are_few declared spelled d t n o sound e =
-    let k = kernel_of_term d t n in
+    let k = kernel_of_term d None t n in
     let parts = (spelled k d t n refl sound).parts in
     let lay = within limit.Layouts t n _ e in
     let loc = within limit.Local t n _ lay.1 in

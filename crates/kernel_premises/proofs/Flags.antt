@@ -15,4 +15,4 @@ flagged Open h = tt
 flagged (Fenced x y) h = let r = h refl in one_of x y r.0 r.1
 
 pub needed_are_flagged : NeededAreFlagged
-needed_are_flagged touches n fence needed q le = flagged (fence q) (needed.flagged q le)
+needed_are_flagged touches once n fence needed q le = flagged (fence q) (needed.flagged q le)

@@ -11,7 +11,9 @@ use Rattle.printed_form.specs.Views.{placed_view}
 use Rattle.printed_form.specs.Printer.{no_view}
 use Rattle.printed_form.specs.Programs.{lowered_root}
 use Rattle.printed_form.proofs.Lengths as privates
-use Rattle.printed_form.specs.GrammarPieces.{ViewsStayWithin, LoopsAreOfTheGrammar, HasRoomFor, TermsArePrintedWithin}
+use Rattle.printed_form.proofs.GrammarKernels.{is_size}
+use Rattle.printed_form.specs.GrammarPieces.{ViewsStayWithin, MapsAreOfTheGrammar, HasRoomFor, TermsArePrintedWithin}
+use Rattle.group_form.specs.ChosenForms.{forms_of}
 use Rattle.group_form.specs.Forms.{StandsOverGroups}
 use Rattle.group_form.specs.Theorem.{LocalArraysAreCounted}
 use Rattle.group_form.specs.Uses.{phase_count}
@@ -26,15 +28,16 @@ enough_locals counted (LetArray v b) st = let e = length-append (copy_lengths Lo
 enough_locals counted (Map WorkGroup n loads xs b) st = let e = length-append (copy_lengths LocalMemory xs) (copy_lengths LocalMemory b) in let c = counted b st.1 in omega arith
 enough_locals counted _ st = absurd st
 
-pub group_kernels_are_of_the_grammar : ViewsStayWithin → LoopsAreOfTheGrammar → TermsArePrintedWithin → LocalArraysAreCounted (List Monomial) → GroupKernelsAreOfTheGrammar
-group_kernels_are_of_the_grammar stay loops printed counted spell fence S M d t a h =
-    let k = printed_group_kernel spell fence d t a in
+pub group_kernels_are_of_the_grammar : ViewsStayWithin → MapsAreOfTheGrammar → TermsArePrintedWithin → LocalArraysAreCounted (List Monomial) → GroupKernelsAreOfTheGrammar
+group_kernels_are_of_the_grammar stay maps printed counted spell fence S M d local t a h =
+    let k = printed_group_kernel spell fence d local t a in
+    let forms = forms_of d.names local in
     let r = lowered_root d.names t a in
     let ty = shape_of (type_in a) in
     let w = placed_view spell Output 0 ty in
     let room : HasRoomFor k S M d = record { some = h.some; fits = h.fits; inputs = refl } in
-    let known : Pieces k spell S M d = record { room = room; views = stay k S h.some; loops = loops; terms = printed k spell S M d room } in
+    let known : Pieces k spell S M d = record { room = room; views = stay k S h.some; maps = maps k S h.some (let f = h.fits in omega arith); terms = printed k spell S M d room } in
     let private = privates.counted r in
-    known.terms.kernel ty r refl refl refl h.sound refl (groups_come k spell S M d known fence (phase_count r) h.flagged no_view r w h.stands)
-    (groups_fine k spell S M d known fence (phase_count r) h.flagged (λ v. 0) no_view r w 0 (λ v. known.views.blank 0 0) (known.terms.output ty refl h.lengths h.few) h.stands h.written h.sound h.layouts h.low h.loops
+    known.terms.kernel ty r refl refl refl h.sound (is_size local h.size) (groups_come k spell forms S M d known fence (phase_count r) h.flagged no_view r w h.stands)
+    (groups_fine k spell forms S M d known fence (phase_count r) h.flagged (λ v. 0) no_view r w 0 (λ v. known.views.blank 0 0) (known.terms.output ty refl h.lengths h.few) h.stands h.written h.sound h.layouts h.low h.loops
     (omega arith) (omega arith) (enough_locals counted r h.stands) (omega arith))

@@ -56,6 +56,7 @@ unary_low names p unary.First a b h t l = let m = low_more h (h + 1) t (omega ar
 unary_low names p unary.Second a b h t l = let m = low_more h (h + 1) t (omega arith) l in placed_low p a (h + 1) (Project true t) m.elements m.expressions m.loops (omega arith)
 unary_low names p unary.ToPrivate a b h t l = let m = low_more h (h + 1) t (omega arith) l in record { elements = m.elements; expressions = omega arith; loops = m.loops }
 unary_low names p unary.ToLocal a b h t l = let m = low_more h (h + 1) t (omega arith) l in record { elements = m.elements; expressions = omega arith; loops = m.loops }
+unary_low names p unary.Then a b h t l = literal_low (h + 1) (omega arith)
 unary_low names p (unary.Layout y) a b h t l =
     through_layout (Low (h + 1)) (λ z u i k. record { elements = k.elements; expressions = omega arith; loops = k.loops }) names p y a b t (low_more h (h + 1) t (omega arith) l)
 unary_low names p (unary.Slide s k) a b h t l = let m = low_more h (h + 1) t (omega arith) l in record { elements = m.elements; expressions = omega arith; loops = m.loops }

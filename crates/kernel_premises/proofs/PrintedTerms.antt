@@ -23,8 +23,8 @@ formulas_spell spelled names bases l are ok sizes n short =
     )
 
 pub terms_are_printed : FormulasSpellLengths → ProgramsArePrinted → TermsArePrinted
-terms_are_printed spelled printed d bases t n l printable launch =
+terms_are_printed spelled printed d local bases t n l printable launch =
     let ok = launch.admissible.sizes in
     let lowerable = printable.lowerable bases ok in
-    printed d _ bases t n l (length_formula d.names) lowerable launch printable.staged (printable.stands bases l launch) (printable.fits bases ok)
+    printed d _ bases t n l (length_formula d.names) lowerable launch printable.staged (printable.stands local bases l launch) (printable.fits bases ok)
     (spelled d.names bases l lowerable.declared.names ok launch.sizes)

@@ -83,10 +83,11 @@ parts_are_spelled bounds k d t n sizes sound = record {
 }
 
 pub in_the_grammar : KernelsAreOfTheGrammar → SoundPartsAreSpelled → TermsNestWithin → KernelsAreInTheGrammar
-in_the_grammar grammar spelled nests d t n typed output staged written few low sound =
+in_the_grammar grammar spelled nests d local t n size typed output staged written few low sound =
     let within = nests d 24 t n typed output staged written (omega arith) few low in
-    let has = spelled (kernel_of_term d t n) d t n refl sound in
-    grammar (length_formula d.names) length_height 72 d t n (record {
+    let has = spelled (kernel_of_term d local t n) d t n refl sound in
+    grammar (length_formula d.names) length_height 72 d local t n (record {
+      size = size;
       some = omega arith;
       fits = omega arith;
       written = written;

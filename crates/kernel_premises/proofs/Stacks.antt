@@ -13,7 +13,6 @@ use Rattle.lift_tree.specs.Types.{PlainTy}
 use Rattle.lift_tree.specs.Annotations.{Annotation, Annotates, Leaf, One, Two, Three, type_in}
 use Rattle.lift_tree.specs.Typing.{Declared, LayoutRow}
 use Rattle.lift_tree.proofs.Layouts.{layout_operand, layout_result}
-use Rattle.lowered_tree.specs.Elements as own
 use Rattle.lift_ir.specs.Layouts.{Layout}
 use Rattle.lift_ir.specs.Terms.{Project, Reshape, LetArray, LetElement, Store, push}
 use Rattle.lift_ir.specs.Lowering.{Place, Written, Argument, Element, Lowered, is_element, element_ty, lower, lower_unary}
@@ -24,9 +23,9 @@ use Rattle.buffer_allocation.specs.declared.layouts.Position.TheVariants as posi
 use Rattle.printed_form.specs.Sound.{stacked, IsReadWithin, IsWrittenWithin, CanBeWritten, CanBeRead}
 
 -- the two tests of element types agree
-pub same_test : (a : PlainTy) → own.is_element a ≡ is_element a
+pub same_test : (a : PlainTy) → types.is_element a ≡ is_element a
 same_test types.U32 = refl
-same_test (types.PairOf a b) = ap (λ e. e && own.is_element b) (same_test a) ∙ ap (λ e. is_element a && e) (same_test b) ∙ by_test (is_element a)
+same_test (types.PairOf a b) = ap (λ e. e && types.is_element b) (same_test a) ∙ ap (λ e. is_element a && e) (same_test b) ∙ by_test (is_element a)
   where
     by_test : (e : Bool) → (e && is_element b) ≡ (if e then is_element b else false)
     by_test true = refl
@@ -34,11 +33,11 @@ same_test (types.PairOf a b) = ap (λ e. e && own.is_element b) (same_test a) �
 same_test (types.ArrayOf a n) = refl
 
 -- a pair with a part that is no element is none
-left_none : (a c : PlainTy) → own.is_element a ≡ false → own.is_element (types.PairOf a c) ≡ false
-left_none a c e = ap (λ x. x && own.is_element c) e
+left_none : (a c : PlainTy) → types.is_element a ≡ false → types.is_element (types.PairOf a c) ≡ false
+left_none a c e = ap (λ x. x && types.is_element c) e
 
-right_none : (a c : PlainTy) → own.is_element a ≡ false → own.is_element (types.PairOf c a) ≡ false
-right_none a c e = ap (λ x. own.is_element c && x) e ∙ by_test (own.is_element c)
+right_none : (a c : PlainTy) → types.is_element a ≡ false → types.is_element (types.PairOf c a) ≡ false
+right_none a c e = ap (λ x. types.is_element c && x) e ∙ by_test (types.is_element c)
   where
     by_test : (x : Bool) → (x && false) ≡ false
     by_test true = refl
@@ -88,17 +87,17 @@ module _ (d : Declared) (M : ℕ) (few : M ≤ 256) where
   right : (a b : ℕ) → max a b ≤ M → b ≤ M
   right a b h = omega arith
 
-  layout_read : (j : ℕ → ℕ) (g : List ℕ) (a : PlainTy) (t : Tree) (n : Annotation) (l u : Lowered) → (raised (height_of g t n) ≤ M → Reads M j (height_of g t n) l → Reads M j (raised (height_of g t n)) u) → own.is_element a ≡ false
-      → max (if own.is_element a then 0 else raised (height_of g t n)) (most (if own.is_element a then position.Element else position.Argument) g t n) ≤ M
-      → (most position.Argument g t n ≤ M → Reads M j (height_of g t n) l) → Reads M j (if own.is_element a then 0 else raised (height_of g t n)) u
+  layout_read : (j : ℕ → ℕ) (g : List ℕ) (a : PlainTy) (t : Tree) (n : Annotation) (l u : Lowered) → (raised (height_of g t n) ≤ M → Reads M j (height_of g t n) l → Reads M j (raised (height_of g t n)) u) → types.is_element a ≡ false
+      → max (if types.is_element a then 0 else raised (height_of g t n)) (most (if types.is_element a then position.Element else position.Argument) g t n) ≤ M
+      → (most position.Argument g t n ≤ M → Reads M j (height_of g t n) l) → Reads M j (if types.is_element a then 0 else raised (height_of g t n)) u
   layout_read j g a t n l u more e h inner =
       let q = subst (λ x. max (if x then 0 else raised (height_of g t n)) (most (if x then position.Element else position.Argument) g t n) ≤ M) e h in
       let r = inner (right (raised (height_of g t n)) (most position.Argument g t n) q) in
       subst (λ x. Reads M j (if x then 0 else raised (height_of g t n)) u) (sym e) (more (left (raised (height_of g t n)) (most position.Argument g t n) q) r)
 
-  part_read : (j : ℕ → ℕ) (g : List ℕ) (a : PlainTy) (t : Tree) (n : Annotation) (s : Bool) (l : Lowered) → own.is_element a ≡ false
-      → max (if own.is_element a then 0 else (if own.is_element a then 0 else raised (height_of g t n))) (most (if own.is_element a then position.Element else position.Argument) g t n) ≤ M
-      → (most position.Argument g t n ≤ M → Reads M j (height_of g t n) l) → Reads M j (if own.is_element a then 0 else raised (height_of g t n)) (Project s l)
+  part_read : (j : ℕ → ℕ) (g : List ℕ) (a : PlainTy) (t : Tree) (n : Annotation) (s : Bool) (l : Lowered) → types.is_element a ≡ false
+      → max (if types.is_element a then 0 else (if types.is_element a then 0 else raised (height_of g t n))) (most (if types.is_element a then position.Element else position.Argument) g t n) ≤ M
+      → (most position.Argument g t n ≤ M → Reads M j (height_of g t n) l) → Reads M j (if types.is_element a then 0 else raised (height_of g t n)) (Project s l)
   part_read j g a t n s l e h inner =
       let q = subst (λ x. max (if x then 0 else (if x then 0 else raised (height_of g t n))) (most (if x then position.Element else position.Argument) g t n) ≤ M) e h in
       let r = inner (right (raised (height_of g t n)) (most position.Argument g t n) q) in
@@ -127,8 +126,8 @@ module _ (d : Declared) (M : ℕ) (few : M ≤ 256) where
   projected false W X Y h = omega arith
 
   -- writing through a layout
-  through : (W : ℕ) (g : List ℕ) (a : PlainTy) (t : Tree) (n : Annotation) → W ≤ 10000 → own.is_element a ≡ false
-      → max 0 (most (if own.is_element a then position.Element else position.Written (raised W)) g t n) ≤ M → most (position.Written (suc W)) g t n ≤ M
+  through : (W : ℕ) (g : List ℕ) (a : PlainTy) (t : Tree) (n : Annotation) → W ≤ 10000 → types.is_element a ≡ false
+      → max 0 (most (if types.is_element a then position.Element else position.Written (raised W)) g t n) ≤ M → most (position.Written (suc W)) g t n ≤ M
   through W g a t n le e h =
       let q = subst (λ z. max 0 (most (if z then position.Element else position.Written (raised W)) g t n) ≤ M) e h in
       let r : raised W ≡ suc W = omega arith in
@@ -143,11 +142,11 @@ module _ (d : Declared) (M : ℕ) (few : M ≤ 256) where
   layout_written j W w le (Stride fs) a b t below = below (suc (suc (suc w))) (omega arith)
 
   -- ---- layouts are arrays, of arrays
-  of_layout : (l : layout.Layout) (b a : PlainTy) → LayoutRow d.names l b a → own.is_element a ≡ false
-  of_layout l b a r = ap own.is_element (layout_result d.names l b a r).is
+  of_layout : (l : layout.Layout) (b a : PlainTy) → LayoutRow d.names l b a → types.is_element a ≡ false
+  of_layout l b a r = ap types.is_element (layout_result d.names l b a r).is
 
-  under_layout : (l : layout.Layout) (b a : PlainTy) → LayoutRow d.names l b a → own.is_element b ≡ false
-  under_layout l b a r = ap own.is_element (layout_operand d.names l b a r).is
+  under_layout : (l : layout.Layout) (b a : PlainTy) → LayoutRow d.names l b a → types.is_element b ≡ false
+  under_layout l b a r = ap types.is_element (layout_operand d.names l b a r).is
 
   -- ---- what a let is lowered to
   same_if : (b : Bool) (x : Lowered) → (if b then x else x) ≡ x
@@ -176,32 +175,33 @@ module _ (d : Declared) (M : ℕ) (few : M ≤ 256) where
   let_array a c v b e f = ap (λ z. stored a c v b z (is_element c)) e ∙ ap (λ y. stored a c v b false y) f
 
   mutual
-    read : (G : List PlainTy) (j : ℕ → ℕ) (g : List ℕ) (t : Tree) (n : Annotation) → Annotates d G t n → own.is_element (type_in n) ≡ false → IsStaged Argument t n → CanBeRead (lower d.names Argument t n) → Under j g → height t ≤ 512
+    read : (G : List PlainTy) (j : ℕ → ℕ) (g : List ℕ) (t : Tree) (n : Annotation) → Annotates d G t n → types.is_element (type_in n) ≡ false → IsStaged Argument t n → CanBeRead (lower d.names Argument t n) → Under j g → height t ≤ 512
         → most position.Argument g t n ≤ M → Reads M j (height_of g t n) (lower d.names Argument t n)
     read G j g (tree.Variable v) (Leaf a) ty e st can u high h = record { low = right 0 (get_or g v 0) h; stack = u v; within = tt }
     read G j g (tree.Input i) (Leaf a) ty e st can u high h = record { low = omega arith; stack = omega arith; within = tt }
     read G j g (tree.Unary unary.First t) (One a n) ty e st can u high h =
-        part_read j g a t n false (lower d.names Argument t n) e h (read G j g t n ty.0 (ap own.is_element ty.1.1 ∙ left_none a ty.1.0 e) st can u (omega arith))
+        part_read j g a t n false (lower d.names Argument t n) e h (read G j g t n ty.0 (ap types.is_element ty.1.1 ∙ left_none a ty.1.0 e) st can u (omega arith))
     read G j g (tree.Unary unary.Second t) (One a n) ty e st can u high h =
-        part_read j g a t n true (lower d.names Argument t n) e h (read G j g t n ty.0 (ap own.is_element ty.1.1 ∙ right_none a ty.1.0 e) st can u (omega arith))
+        part_read j g a t n true (lower d.names Argument t n) e h (read G j g t n ty.0 (ap types.is_element ty.1.1 ∙ right_none a ty.1.0 e) st can u (omega arith))
     read G j g (tree.Unary (unary.Layout l) t) (One a n) ty e st can u high h =
         layout_read j g a t n (lower d.names Argument t n) _ (layout_more j (height_of g t n) Argument l a (type_in n) (lower d.names Argument t n)) e h
         (read G j g t n ty.0 (under_layout l (type_in n) a ty.1) st (below_layout CanBeRead (λ y z c. c) d.names Argument l a (type_in n) _ can) u (omega arith))
     read G j g (tree.Unary (unary.Slide s k) t) (One a n) ty e st can u high h =
-        layout_read j g a t n (lower d.names Argument t n) _ (one_more j (height_of g t n) _ (lower d.names Argument t n)) e h (read G j g t n ty.0 (ap own.is_element ty.1.2) st can u (omega arith))
+        layout_read j g a t n (lower d.names Argument t n) _ (one_more j (height_of g t n) _ (lower d.names Argument t n)) e h (read G j g t n ty.0 (ap types.is_element ty.1.2) st can u (omega arith))
     read G j g (tree.Unary (unary.Pad s k) t) (One a n) ty e st can u high h =
-        layout_read j g a t n (lower d.names Argument t n) _ (one_more j (height_of g t n) _ (lower d.names Argument t n)) e h (read G j g t n ty.0 (ap own.is_element ty.1.2) st can u (omega arith))
+        layout_read j g a t n (lower d.names Argument t n) _ (one_more j (height_of g t n) _ (lower d.names Argument t n)) e h (read G j g t n ty.0 (ap types.is_element ty.1.2) st can u (omega arith))
     read G j g (tree.Unary unary.ToPrivate t) (One a n) ty e st can u high h =
-        copy_read j _ _ (none_zero (own.is_element a)) refl (write G j g 0 0 (omega arith) t n ty.0 st.3 can u (omega arith) (omega arith) (right _ (most (position.Written 0) g t n) h))
+        copy_read j _ _ (none_zero (types.is_element a)) refl (write G j g 0 0 (omega arith) t n ty.0 st.3 can u (omega arith) (omega arith) (right _ (most (position.Written 0) g t n) h))
     read G j g (tree.Unary unary.ToLocal t) (One a n) ty e st can u high h =
-        copy_read j _ _ (none_zero (own.is_element a)) refl (write G j g 0 0 (omega arith) t n ty.0 st.3 can u (omega arith) (omega arith) (right _ (most (position.Written 0) g t n) h))
+        copy_read j _ _ (none_zero (types.is_element a)) refl (write G j g 0 0 (omega arith) t n ty.0 st.3 can u (omega arith) (omega arith) (right _ (most (position.Written 0) g t n) h))
+    read G j g (tree.Unary unary.Then t) (One a n) ty e st can u high h = absurd st
     read G j g (tree.Unary (unary.Div m) t) (One a n) ty e st can u high h = absurd st
     read G j g (tree.Unary (unary.Rem m) t) (One a n) ty e st can u high h = absurd st
     read G j g (tree.Binary binary.Zip t w) (Two a n m) ty e st can u high h =
         let q = subst (λ x. max (max 0 (raised (max (height_of g t n) (height_of g w m)))) (max (most (if x then position.Element else position.Argument) g t n) (most (if x then position.Element else position.Argument) g w m)) ≤ M) e h in
         let b = right (max 0 (raised (max (height_of g t n) (height_of g w m)))) (max (most position.Argument g t n) (most position.Argument g w m)) q in
-        let x = read G j g t n ty.0 (ap own.is_element ty.2.3) st.0 can.0 u (omega arith) (left (most position.Argument g t n) (most position.Argument g w m) b) in
-        let y = read G j g w m ty.1 (ap own.is_element ty.2.4) st.1 can.1 u (omega arith) (right (most position.Argument g t n) (most position.Argument g w m) b) in
+        let x = read G j g t n ty.0 (ap types.is_element ty.2.3) st.0 can.0 u (omega arith) (left (most position.Argument g t n) (most position.Argument g w m) b) in
+        let y = read G j g w m ty.1 (ap types.is_element ty.2.4) st.1 can.1 u (omega arith) (right (most position.Argument g t n) (most position.Argument g w m) b) in
         let p = left (max 0 (raised (max (height_of g t n) (height_of g w m)))) (max (most position.Argument g t n) (most position.Argument g w m)) q in
         let xs = x.stack in let ys = y.stack in
         record { low = omega arith; stack = (let z : raised (max (height_of g t n) (height_of g w m)) ≤ M = omega arith in omega arith); within = (x.within, y.within) }
@@ -211,7 +211,7 @@ module _ (d : Declared) (M : ℕ) (few : M ≤ 256) where
         let q = subst (λ z. max (if z then 0 else 0) (max (most position.Argument g v n) (most (if z then position.Element else position.Argument) (height_of g v n ∷ g) b m)) ≤ M) e h in
         let k = right 0 (max (most position.Argument g v n) (most position.Argument (height_of g v n ∷ g) b m)) q in
         let x = read G j g v n ty.0 (same_test (type_in n) ∙ st.0) st.1 c.0 u (omega arith) (left (most position.Argument g v n) (most position.Argument (height_of g v n ∷ g) b m) k) in
-        let y = read (type_in n ∷ G) (push (stacked j (lower d.names Argument v n)) j) (height_of g v n ∷ g) b m ty.1 (ap own.is_element (sym ty.2) ∙ e) st.2 c.1 (pushed_under j g (stacked j (lower d.names Argument v n)) (height_of g v n) x.stack u) (omega arith) (right (most position.Argument g v n) (most position.Argument (height_of g v n ∷ g) b m) k) in
+        let y = read (type_in n ∷ G) (push (stacked j (lower d.names Argument v n)) j) (height_of g v n ∷ g) b m ty.1 (ap types.is_element (sym ty.2) ∙ e) st.2 c.1 (pushed_under j g (stacked j (lower d.names Argument v n)) (height_of g v n) x.stack u) (omega arith) (right (most position.Argument g v n) (most position.Argument (height_of g v n ∷ g) b m) k) in
         subst (λ z. Reads M j (height_of (height_of g v n ∷ g) b m) z) (sym shape) (record { low = y.low; stack = y.stack; within = (x.within, y.within) })
     read G j g (tree.Number c) (Leaf a) ty e st can u high h = absurd st
     read G j g (tree.Select t w x) (Three a n m k) ty e st can u high h = absurd st
@@ -255,8 +255,8 @@ module _ (d : Declared) (M : ℕ) (few : M ≤ 256) where
     write G j g W w le (tree.Input i) (Leaf a) ty st can u high deep h = absurd st
     write G j g W w le (tree.Unary (unary.Div k) t) (One a n) ty st can u high deep h = thrice (upper W _ _ h) le
     write G j g W w le (tree.Unary (unary.Rem k) t) (One a n) ty st can u high deep h = thrice (upper W _ _ h) le
-    write G j g W w le (tree.Unary unary.First t) (One a n) ty st can u high deep h = thrice (projected (own.is_element a) W _ _ h) le
-    write G j g W w le (tree.Unary unary.Second t) (One a n) ty st can u high deep h = thrice (projected (own.is_element a) W _ _ h) le
+    write G j g W w le (tree.Unary unary.First t) (One a n) ty st can u high deep h = thrice (projected (types.is_element a) W _ _ h) le
+    write G j g W w le (tree.Unary unary.Second t) (One a n) ty st can u high deep h = thrice (projected (types.is_element a) W _ _ h) le
     write G j g W w le (tree.Unary (unary.Layout l) t) (One a n) ty st can u high deep h =
         layout_written j W w le l a (type_in n) (lower d.names Written t n)
         (λ x more. write G j g (suc W) x more t n ty.0 st (below_layout CanBeWritten (λ y z c. c.1) d.names Written l a (type_in n) _ can) u (omega arith) (omega arith) (through W g a t n (omega arith) (of_layout l (type_in n) a ty.1) h))
@@ -264,6 +264,7 @@ module _ (d : Declared) (M : ℕ) (few : M ≤ 256) where
     write G j g W w le (tree.Unary (unary.Pad s k) t) (One a n) ty st can u high deep h = absurd can.0
     write G j g W w le (tree.Unary unary.ToLocal t) (One a n) ty st can u high deep h = absurd st
     write G j g W w le (tree.Unary unary.ToPrivate t) (One a n) ty st can u high deep h = absurd st
+    write G j g W w le (tree.Unary unary.Then t) (One a n) ty st can u high deep h = absurd st
     write G j g W w le (tree.Binary (binary.Operator o) t x) (Two a n m) ty st can u high deep h = thrice (upper W _ _ h) le
     write G j g W w le (tree.Binary binary.Pair t x) (Two a n m) ty st can u high deep h = thrice (upper W _ _ h) le
     write G j g W w le (tree.Binary binary.Zip t x) (Two a n m) ty st can u high deep h = absurd st
@@ -293,7 +294,7 @@ module _ (d : Declared) (M : ℕ) (few : M ≤ 256) where
         )
     write G j g W w le (tree.Map f xs b) (Two a n m) ty st can u high deep h =
         let k = right W (max (most position.Argument g xs n) (most (position.Written W) (height_of g xs n ∷ g) b m)) h in
-        let x = read G j g xs n ty.2 (ap own.is_element ty.3) st.0 can.0 u (omega arith) (left (most position.Argument g xs n) (most (position.Written W) (height_of g xs n ∷ g) b m) k) in (
+        let x = read G j g xs n ty.2 (ap types.is_element ty.3) st.0 can.0 u (omega arith) (left (most position.Argument g xs n) (most (position.Written W) (height_of g xs n ∷ g) b m) k) in (
           (let p = x.stack in let q = x.low in omega arith),
           x.within,
           write (ty.0 ∷ G) (push (stacked j (lower d.names Argument xs n)) j) (height_of g xs n ∷ g) W w le b m ty.4 st.1 can.1 (pushed_under j g (stacked j (lower d.names Argument xs n)) (height_of g xs n) x.stack u) (omega arith) (omega arith)
@@ -301,7 +302,7 @@ module _ (d : Declared) (M : ℕ) (few : M ≤ 256) where
         )
     write G j g W w le (tree.Fold f xs s b) (Three a n m l) ty st can u high deep h =
         let k = right W (max (most position.Argument g xs n) (max (most position.Element g s m) (most position.Element (height_of g xs n ∷ 0 ∷ g) b l))) h in
-        let x = read G j g xs n ty.2 (ap own.is_element ty.3) st.0 can u (omega arith) (left (most position.Argument g xs n) (max (most position.Element g s m) (most position.Element (height_of g xs n ∷ 0 ∷ g) b l)) k) in
+        let x = read G j g xs n ty.2 (ap types.is_element ty.3) st.0 can u (omega arith) (left (most position.Argument g xs n) (max (most position.Element g s m) (most position.Element (height_of g xs n ∷ 0 ∷ g) b l)) k) in
         (thrice (left W (max (most position.Argument g xs n) (max (most position.Element g s m) (most position.Element (height_of g xs n ∷ 0 ∷ g) b l))) h) le, (let p = x.stack in let q = x.low in omega arith), x.within)
     write G j g W w le (tree.Variable v) (One a n) ty st can u high deep h = absurd ty
     write G j g W w le (tree.Variable v) (Two a n m) ty st can u high deep h = absurd ty

@@ -1,5 +1,5 @@
 -- Types within the limits: their lengths are within those of polynomials, and at least 1.
-use Rattle.std.proofs.Common.{◌≡◌, ◌∙◌, ℕ, zero, suc, pos, ◌≤◌, List, [], ◌∷◌, Some, map, refl, sym, ap, subst, arith}
+use Rattle.std.proofs.Common.{◌≡◌, ◌∙◌, ℕ, zero, suc, pos, ◌≤◌, List, [], ◌∷◌, Some, refl, sym, ap, subst, arith}
 use Rattle.std.specs.Prelude.{slice_get, max}
 use Rattle.std.proofs.lemmas.Int.{ints}
 use Rattle.size_arith.specs.declared.names.Name.{Name}
@@ -7,7 +7,6 @@ use Rattle.size_arith.specs.declared.poly.Monomial.{Monomial}
 use Rattle.size_arith.specs.Polynomial.{minus, no_powers, number, of_monomial, plus, quotient, times}
 use Rattle.size_arith.specs.Ranges.{leasts}
 use Rattle.size_arith.specs.Shown.{part, ShownAtLeast}
-use Rattle.lift_tree.specs.declared.length.Part.{Part}
 use Rattle.lift_tree.specs.declared.layout.Layout as layout
 use Rattle.lift_tree.specs.declared.layout.Layout.TheVariants.{Join, Transpose, Split, Reverse, Stride}
 use Rattle.lift_tree.specs.declared.term.UnaryForm.{UnaryForm}
@@ -15,19 +14,16 @@ use Rattle.lift_tree.specs.declared.term.UnaryForm.TheVariants as unary
 use Rattle.lift_tree.specs.declared.term.BinaryForm.{BinaryForm}
 use Rattle.lift_tree.specs.declared.term.BinaryForm.TheVariants as binary
 use Rattle.lift_tree.specs.Lists.{Every}
-use Rattle.lift_tree.specs.InputTypes as written
-use Rattle.lift_tree.specs.InputTypes.{Written}
-use Rattle.lift_tree.specs.Programs.{PlainInput}
 use Rattle.lift_tree.specs.Tree as tree
 use Rattle.lift_tree.specs.Tree.{Tree}
 use Rattle.lift_tree.specs.Types as types
 use Rattle.lift_tree.specs.Types.{PlainTy, IsFormed}
-use Rattle.lift_tree.specs.WorkedOut.{length_of, product_of, sum_of, with_part, worked_out}
-use Rattle.lift_tree.specs.Limits.{arrays, InputFits, LayoutFits, NodesFit, OuterFits, SumFits, UnaryFits}
+use Rattle.lift_tree.specs.WorkedOut.{product_of}
+use Rattle.lift_tree.specs.Limits.{arrays, LayoutFits, LengthsFit, NodesFit, OuterFits, TypeFits, UnaryFits}
 use Rattle.lift_tree.specs.Typing.{BinaryRow, constant, Declared, LayoutRow, UnaryRow}
 use Rattle.lift_tree.specs.Annotations.{Annotates, Annotation, Leaf, One, Three, Two, type_in}
 use Rattle.lift_ir.specs.AtLaunch.{inner_of, outer_of, shape_of}
-use Rattle.printed_form.specs.Sound.{dimensions}
+use Rattle.printed_form.specs.Sound.{AllLengths, dimensions}
 use Rattle.kernel_premises.specs.Sound.{IsHeld, IsHeldType}
 use Rattle.kernel_premises.proofs.Lengths.{held_constant, held_divisor, held_none, held_quotient, held_small}
 
@@ -72,20 +68,17 @@ shown_one : (names : List Name) → ShownAtLeast 1 names (constant 1)
 shown_one names js e = let k = part (leasts names) no_powers js in omega (arith, ints)
 
 -- ---- inputs
-sum_held : (names : List Name) (s : List Monomial) (ps : List Part) → SumFits names s ps → IsHeld s → IsHeld (sum_of names s ps)
-sum_held names s [] h k = k
-sum_held names s (p ∷ ps) h k =
-    let next = with_part p.sign s (of_monomial (product_of names p.product)) in
-    sum_held names next ps h.2 (held_small next h.1)
+lengths_held : (a : PlainTy) → LengthsFit a → AllLengths IsHeld (shape_of a)
+lengths_held types.U32 h = tt
+lengths_held (types.PairOf a b) h = (lengths_held a h.0, lengths_held b h.1)
+lengths_held (types.ArrayOf a n) h = (record { terms = h.0; degree = h.1 }, lengths_held a h.2)
 
-input_held : (names : List Name) (w : Written) → InputFits names w → IsHeldType (worked_out names w)
-input_held names written.Number h = number_held
-input_held names (written.Pair a b) h = pair_held (worked_out names a) (worked_out names b) (input_held names a h.0) (input_held names b h.1)
-input_held names (written.Array a n) h = array_held (worked_out names a) (length_of names n) (sum_held names [] n h.1 held_none) (input_held names a h.0) h.2.arrays
+type_held : (names : List Name) (a : PlainTy) → TypeFits names a → IsHeldType a
+type_held names a h = let e = dimensions_are a in let f = h.arrays in record { lengths = lengths_held a h.lengths; few = omega (arith, e, f) }
 
-pub inputs_held : (names : List Name) (is : List PlainInput) → Every (λ (i : PlainInput). InputFits names i.ty) is → Every IsHeldType (map (λ (i : PlainInput). worked_out names i.ty) is)
-inputs_held names [] h = tt
-inputs_held names (i ∷ is) h = (input_held names i.ty h.0, inputs_held names is h.1)
+pub types_held : (names : List Name) (tys : List PlainTy) → Every (TypeFits names) tys → Every IsHeldType tys
+types_held names [] h = tt
+types_held names (a ∷ tys) h = (type_held names a h.0, types_held names tys h.1)
 
 -- ---- the types of nodes
 -- lengths are held, and shown at least 1
@@ -159,6 +152,7 @@ module _ (d : Declared) (inputs : Every (IsGood d.names) d.inputs) where
       good_array a r.0 count r.3 (subst (IsFormed d.names) r.3 r.4) (held_small count fits.1) (element_held r.0 r.1 g.held) fits.2.arrays
   good_unary unary.ToLocal b a r u h = subst Good r h
   good_unary unary.ToPrivate b a r u h = subst Good r h
+  good_unary unary.Then b a r u h = subst Good r h
 
   good_binary : (f : BinaryForm) (b c a : PlainTy) → BinaryRow f b c a → OuterFits d.names a → Good b → Good c → Good a
   good_binary (binary.Operator o) b c a r u h k = good_number a r.2

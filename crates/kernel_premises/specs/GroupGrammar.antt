@@ -1,5 +1,5 @@
 -- The kernel that the printer of maps over work-groups makes is of the kernel grammar.
-use Rattle.std.specs.Prelude.{◌≡◌, ℕ, ◌+◌, ◌*◌, ◌≤◌, true, ◌||◌, List}
+use Rattle.std.specs.Prelude.{◌≡◌, ℕ, ◌+◌, ◌*◌, ◌≤◌, Bool, true, ◌||◌, List, Option}
 use Rattle.size_arith.specs.declared.poly.Monomial.{Monomial}
 use Rattle.lift_tree.specs.Tree.{Tree}
 use Rattle.lift_tree.specs.Annotations.{Annotation, type_in}
@@ -10,7 +10,7 @@ use Rattle.barrier_placement.specs.declared.touches.Touch.{Touch}
 use Rattle.barrier_placement.specs.Fencing.{Fencing, Open, Fenced}
 use Rattle.barrier_placement.specs.Needed.{Needed}
 use Rattle.lift_ir.specs.AtLaunch.{shape_of}
-use Rattle.printed_form.specs.Programs.{lowered_root}
+use Rattle.printed_form.specs.Programs.{IsGroupSize, lowered_root}
 use Rattle.printed_form.specs.Sound.{IsSpelledIn, AllLengths, IsWrittenWithin, dimensions, loop_depth, AreLow, CanBeWritten}
 use Rattle.printed_form.specs.KernelGrammar.{IsSoundIn}
 use Rattle.group_form.specs.Forms.{StandsOverGroups}
@@ -25,32 +25,34 @@ IsFlagged (Fenced on_local on_global) = (on_local || on_global) ≡ true
 -- A typed term that is a map over work-groups is printed within the grammar: barriers have flags;
 -- something is stored wherever it is written; its numbers are words, its lengths and inputs are
 -- spelled in the grammar, at most so high; at most so many layouts stand one on another; element
--- terms and loops don't nest too deep.
+-- terms and loops don't nest too deep; groups may have the size that is fixed.
 pub record IsGroupPrintedWithin (spell : List Monomial → Formula) (fence : ℕ → Fencing)
-    (high most : ℕ) (d : Declared) (t : Tree) (a : Annotation) : Type 0 where
+    (high most : ℕ) (d : Declared) (local : Option ℕ) (t : Tree) (a : Annotation) : Type 0 where
+  pub size : IsGroupSize local
   pub some : 1 ≤ high
   pub fits : high + (8 + 3 * most) ≤ 1024
   pub stands : StandsOverGroups (lowered_root d.names t a)
   pub flagged : (q : ℕ) → q ≤ phase_count (lowered_root d.names t a) → IsFlagged (fence q)
   pub written : CanBeWritten (lowered_root d.names t a)
-  pub sound : IsSoundIn (printed_group_kernel spell fence d t a) spell high d (lowered_root d.names t a)
+  pub sound : IsSoundIn (printed_group_kernel spell fence d local t a) spell high d
+      (lowered_root d.names t a)
   pub layouts : IsWrittenWithin most (λ v. 0) 0 (lowered_root d.names t a)
   pub low : AreLow 1024 (lowered_root d.names t a)
   pub loops : loop_depth (lowered_root d.names t a) ≤ 1024
   pub lengths : AllLengths
-      (λ n. IsSpelledIn (printed_group_kernel spell fence d t a) high (spell n))
+      (λ n. IsSpelledIn (printed_group_kernel spell fence d local t a) high (spell n))
       (shape_of (type_in a))
   pub few : dimensions (shape_of (type_in a)) ≤ 4
 
 abbrev pub GroupKernelsAreOfTheGrammar : Type 0
 GroupKernelsAreOfTheGrammar =
     (spell : List Monomial → Formula) (fence : ℕ → Fencing) (high most : ℕ) (d : Declared)
-    (t : Tree) (a : Annotation)
-    → IsGroupPrintedWithin spell fence high most d t a
-    → is_kernel (printed_group_kernel spell fence d t a) ≡ true
+    (local : Option ℕ) (t : Tree) (a : Annotation)
+    → IsGroupPrintedWithin spell fence high most d local t a
+    → is_kernel (printed_group_kernel spell fence d local t a) ≡ true
 
 -- needed barriers have flags
 abbrev pub NeededAreFlagged : Type 0
 NeededAreFlagged =
-    (touches : List Touch) (n : ℕ) (fence : ℕ → Fencing) → Needed touches n fence → (q : ℕ) → q ≤ n
-    → IsFlagged (fence q)
+    (touches : List Touch) (once : Bool) (n : ℕ) (fence : ℕ → Fencing)
+    → Needed touches once n fence → (q : ℕ) → q ≤ n → IsFlagged (fence q)

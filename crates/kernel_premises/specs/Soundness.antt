@@ -3,8 +3,7 @@ use Rattle.std.specs.Prelude.{List}
 use Rattle.size_arith.specs.declared.names.Name.{Name}
 use Rattle.size_arith.specs.Ranges.{Admissible, AreNames, leasts}
 use Rattle.lift_tree.specs.Tree.{Tree}
-use Rattle.lift_tree.specs.Programs.{PlainProgram}
-use Rattle.lift_tree.specs.Typing.{declared_by}
+use Rattle.lift_tree.specs.Typing.{Declared}
 use Rattle.lift_tree.specs.Annotations.{Annotation}
 use Rattle.nest_premises.specs.Legal.{IsLegalTerm}
 use Rattle.nest_premises.specs.Printable.{CanBeLowered, IsPrintable}
@@ -13,16 +12,16 @@ use Rattle.kernel_premises.specs.Sound.{HasSoundParts}
 -- a typed term of a program, within the limits on types, that can be lowered
 abbrev pub LoweredTermsHaveSoundParts : Type 0
 LoweredTermsHaveSoundParts =
-    (p : PlainProgram) (t : Tree) (n : Annotation)
-    → IsLegalTerm p t n → CanBeLowered (declared_by p) t n
-    → HasSoundParts (declared_by p) t n
+    (d : Declared) (t : Tree) (n : Annotation)
+    → IsLegalTerm d t n → CanBeLowered d t n
+    → HasSoundParts d t n
 
 -- or printed
 abbrev pub TermsHaveSoundParts : Type 0
 TermsHaveSoundParts =
-    (p : PlainProgram) (t : Tree) (n : Annotation)
-    → IsLegalTerm p t n → IsPrintable (declared_by p) t n
-    → HasSoundParts (declared_by p) t n
+    (d : Declared) (t : Tree) (n : Annotation)
+    → IsLegalTerm d t n → IsPrintable d t n
+    → HasSoundParts d t n
 
 -- the least size of each name is admissible
 abbrev pub LeastSizesAreAdmissible : Type 0

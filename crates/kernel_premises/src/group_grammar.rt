@@ -3,18 +3,17 @@
 ghost use Rattle.kernel_premises.specs.GroupGrammar.{GroupKernelsAreOfTheGrammar, NeededAreFlagged};
 
 use group_form::laws::local_arrays_are_counted;
-use printed_form::grammar::{
-    loops_are_of_the_grammar, terms_are_printed_within, views_stay_within,
-};
+use printed_form::grammar::{maps_are_of_the_grammar, terms_are_printed_within, views_stay_within};
 
 /// What the printer makes of a typed term that is a map over work-groups is a kernel of the kernel
 /// grammar, where the term's numbers are words, its lengths are spelled in the grammar, barriers
-/// have flags, and layouts, elements and loops don't nest too deep.
+/// have flags, layouts, elements and loops don't nest too deep, and groups may have the size that is
+/// fixed.
 pub fn group_kernels_are_of_the_grammar()
     ensures { GroupKernelsAreOfTheGrammar }
 {
     local_arrays_are_counted();
-    loops_are_of_the_grammar();
+    maps_are_of_the_grammar();
     terms_are_printed_within();
     views_stay_within();
 }

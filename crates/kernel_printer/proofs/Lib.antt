@@ -1,3 +1,4 @@
 pub mod Blocks
 pub mod Written
 pub mod Related
+pub mod InOrder

@@ -4,4 +4,4 @@
 mod place;
 mod text;
 
-pub use text::print;
+pub use text::{print, print_sequence};

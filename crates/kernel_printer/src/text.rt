@@ -1,17 +1,18 @@
 //! The one text of a kernel.
 
-ghost use Rattle.std.specs.Prelude.{◌≡◌, ◌++◌, ◌+◌, ◌<◌, ◌^◌, ◌-◌, IfOk, OnOk, List, ℕ, decimal, length};
+ghost use Rattle.std.specs.Prelude.{◌≡◌, ◌++◌, ◌+◌, ◌<◌, ◌^◌, ◌-◌, IfOk, OnOk, List, ℕ, decimal, length, map};
 ghost use Rattle.kernel_tree.specs.Code.{Code, End, Assigns, Loads, Stores, AssignsFour, LoadsFour, StoresFour, Syncs};
 ghost use Rattle.kernel_tree.specs.Kernels.{kernel_of};
 ghost use Rattle.kernel_tree.specs.KernelText.{IsKernelText, lift, indent, named, array_name};
 ghost use Rattle.kernel_tree.specs.Tree.{id_of, comparison_of, formula_of, lanes_of, array_of, start_of, stride_of, before, code_then};
 ghost use Rattle.kernel_printer.specs.Bytes.{id_begins, id_ends, id_text, opening, between, comparing, write_expression, write_lanes, write_end, start_text, stride_text, write_loop, write_guard, flags_text, write_inputs, write_outputs, write_sizes, write_arrays, write_variables, write_vectors, write_launching, write_head, write_kernel, IsPut};
+ghost use Rattle.kernel_spelling.specs.SequenceText.{AreTexts};
 ghost use Rattle.kernel_spelling.specs.Spelling.{IsName};
 ghost use Rattle.kernel_printer.specs.Depths.{StandWithin};
 
 use crate::place::Place;
 use itoa::Buffer;
-use kernel_spelling::one_text;
+use kernel_spelling::{one_text, sequence_name, sequences_have_one_text};
 use kernel_tree::laws::blocks;
 use kernel_tree::tree::{
     Array, Comparison, Dimension, Expr, IdForm, Kernel, Lanes, Start, Stmt, Stride,
@@ -631,4 +632,22 @@ pub fn print(alloc: Global, kernel: &Kernel) -> Result<Vec<u8>, AllocError>
         (bytes : List ℕ) → IsKernelText lift bytes (kernel_of kernel.now) → bytes ≡ text.items) }
 {
     print_named(alloc, b"lift", kernel)
+}
+
+/// The text of kernels in order: each one's text by the name `lift` and its number, from 0.
+pub fn print_sequence(alloc: Global, kernels: &[Kernel]) -> Result<Vec<u8>, AllocError>
+    // The kernel grammar relates the text to the kernels, one after another.
+    ensures text { IfOk result (λ text. AreTexts 0 text.items (map kernel_of kernels.now)) }
+    // It relates no other bytes to them.
+    ensures only { IfOk result (λ text.
+        (bytes : List ℕ) → AreTexts 0 bytes (map kernel_of kernels.now) → bytes ≡ text.items) }
+{
+    sequences_have_one_text();
+    let mut text = Vec::new(alloc);
+    for (number, kernel) in kernels.iter().enumerate() {
+        let name = sequence_name(alloc, number as u64)?;
+        let own = print_named(alloc, &name, kernel)?;
+        text.extend_from_slice(&own)?;
+    }
+    Ok(text)
 }

@@ -3,15 +3,12 @@ use Rattle.std.proofs.Common.{◌≡◌, ℕ, ◌+◌, List, [], ◌∷◌, refl
 use Rattle.std.specs.List.{sum_by}
 use Rattle.std.proofs.lemmas.List.Sums.{sum_by-cons}
 use Rattle.std.proofs.lemmas.List.{length-append}
-use Rattle.readings.specs.Readings.{Reads}
 use Rattle.readings.specs.Exactly.{StopsAt, Answers, Refuses}
 use Rattle.readings.specs.declared.error.ReadError.{ReadError}
 use Rattle.readings.specs.declared.error.ReadError.TheVariants.{Refused}
-use Rattle.kernel_tree.specs.Code.{Kernel}
-use Rattle.kernel_tree.specs.Pieces.{ArePieces, joined}
-use Rattle.kernel_tree.specs.KernelText.{Piece, Notes, all_of, kernels, start, nothing, IsKernelText}
+use Rattle.kernel_tree.specs.Pieces.{joined}
+use Rattle.kernel_tree.specs.KernelText.{Piece, Notes, kernels, start, nothing}
 use Rattle.kernel_reader.specs.Views.{bytes_of}
-use Rattle.kernel_reader.specs.Noted.{notes_of}
 
 pub no_rest : {A : Type 0} (xs : List A) → xs ≡ drop 1 xs → xs ≡ []
 no_rest [] e = refl
@@ -30,24 +27,11 @@ pub whole_length : (bytes : List ℕ) (ps : List (Bor (List ℕ))) → bytes ≡
 whole_length bytes ps h = lengths ps ∙ sym (ap length h)
 
 -- ---- readings
-
-abbrev OneCut : Type 0
-OneCut = (bytes : List ℕ) (ps qs : List Piece) → ArePieces bytes ps → ArePieces bytes qs → ps ≡ qs
-
-pub from_nothing : (name : Piece) (n m : Notes) (ps qs : List (Bor (List ℕ))) → n ≡ nothing → ps ≡ qs → Reads kernels (start name) n (map bytes_of ps) [] m → Reads kernels (start name) nothing (map bytes_of qs) [] m
-from_nothing name n m ps qs e f r = subst (λ z. Reads kernels (start name) nothing (map bytes_of z) [] m) f (subst (λ z. Reads kernels (start name) z (map bytes_of ps) [] m) e r)
-
 stops_from_nothing : (name : Piece) (n : Notes) (ps qs : List (Bor (List ℕ))) (i : ℕ) → n ≡ nothing → ps ≡ qs → StopsAt kernels (start name) n (map bytes_of ps) i → StopsAt kernels (start name) nothing (map bytes_of qs) i
 stops_from_nothing name n ps qs i e f r = subst (λ z. StopsAt kernels (start name) nothing (map bytes_of z) i) f (subst (λ z. StopsAt kernels (start name) z (map bytes_of ps) i) e r)
 
-pub not_read : (m : Notes) (e : ReadError) (i : ℕ) → e ≡ Refused i → Answers notes_of m (Err e) → ⊥
-not_read m e i w a = subst (λ z. Answers notes_of m (Err z)) w a
+pub not_answered : {A N : Type 0} (noted : A → N) (n : N) (e : ReadError) (i : ℕ) → e ≡ Refused i → Answers noted n (Err e) → ⊥
+not_answered noted n e i w a = subst (λ z. Answers noted n (Err z)) w a
 
 pub stops_at : (name : Piece) (n : Notes) (ps qs : List (Bor (List ℕ))) (e : ReadError) (i : ℕ) → e ≡ Refused i → n ≡ nothing → ps ≡ qs → Refuses kernels (start name) n (map bytes_of ps) e → StopsAt kernels (start name) nothing (map bytes_of qs) i
 stops_at name n ps qs e i w a f r = stops_from_nothing name n ps qs i a f (subst (λ z. Refuses kernels (start name) n (map bytes_of ps) z) w r)
-
--- the reading of a kernel's text, by these pieces
-pub reading_of : (name : Piece) → OneCut → (bytes : List ℕ) (k : Kernel) (n : Notes) (ps qs : List (Bor (List ℕ))) → n ≡ nothing → ps ≡ qs → ArePieces bytes (map bytes_of qs) → (h : IsKernelText name bytes k) → Reads kernels (start name) n (map bytes_of ps) [] (all_of k)
-reading_of name one bytes k n ps qs e f cut h =
-    let pieces : h.0 ≡ map bytes_of ps = one bytes h.0 (map bytes_of qs) h.1 cut ∙ ap (λ z. map bytes_of z) (sym f) in
-    subst (λ z. Reads kernels (start name) z (map bytes_of ps) [] (all_of k)) (sym e) (subst (λ z. Reads kernels (start name) nothing z [] (all_of k)) pieces h.2)

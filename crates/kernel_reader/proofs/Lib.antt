@@ -1,3 +1,5 @@
 pub mod Found
 pub mod Whole
 pub mod Deep
+pub mod Fronts
+pub mod InOrder

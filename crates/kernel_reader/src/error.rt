@@ -3,7 +3,7 @@
 ghost use Rattle.std.specs.Prelude.{◌≡◌};
 ghost use Rattle.kernel_reader.specs.declared.error.KernelNo.TheVariants.{Memory};
 
-use std::alloc::AllocError;
+use std::alloc::{AllocError, AllocFailed};
 
 /// Why no kernel was read.
 #[derive(Drop)]
@@ -19,6 +19,14 @@ impl From<AllocError> for KernelNo {
     ghost from_gives = { λ _ e. e ≡ Memory };
 
     fn from(_e: AllocError) -> KernelNo {
+        KernelNo::Memory
+    }
+}
+
+impl<T: Drop> From<AllocFailed<T>> for KernelNo {
+    ghost from_gives = { λ _ e. e ≡ Memory };
+
+    fn from(_e: AllocFailed<T>) -> KernelNo {
         KernelNo::Memory
     }
 }

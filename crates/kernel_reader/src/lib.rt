@@ -11,7 +11,9 @@ mod made;
 mod parameters;
 mod pieces;
 mod read;
+mod sequence;
 mod statements;
 
 pub use error::KernelNo;
 pub use read::read_kernel;
+pub use sequence::read_sequence;

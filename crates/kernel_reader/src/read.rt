@@ -1,19 +1,21 @@
 //! Kernel text, read back.
 
-ghost use Rattle.std.specs.Prelude.{◌≡◌, List, IfOk, IfErr, []};
+ghost use Rattle.std.specs.Prelude.{◌≡◌, List, IfOk, IfErr, [], map};
 ghost use Rattle.readings.specs.Readings.{Reads};
 ghost use Rattle.kernel_tree.specs.Code as code;
 ghost use Rattle.kernel_tree.specs.Kernels.{kernel_of};
 ghost use Rattle.kernel_tree.specs.KernelText.{IsKernelText, Piece, all_of, kernels, lift, start, nothing};
 ghost use Rattle.kernel_spelling.specs.Spelling.{HasText, IsName, text_of};
+ghost use Rattle.readings.specs.Exactly as exactly;
 ghost use Rattle.kernel_reader.specs.Noted.{notes_of};
+ghost use Rattle.kernel_reader.specs.Views.{bytes_of};
 ghost use Rattle.kernel_reader.specs.Exactly.{Answers, Refuses};
 
 use crate::error::KernelNo;
 use crate::form::{Debt, Form, LINE, OPEN_BLOCK, OPENS, SPACE};
 use crate::made::{Made, statements_of};
 use crate::pieces::{offset_of, pieces};
-use kernel_spelling::{one_cut, one_kernel, one_text, whole_readings};
+use kernel_spelling::{fronts_are_of_one_kernel, one_cut, one_kernel, one_text, whole_readings};
 use kernel_tree::tree::Kernel;
 use readings::{Owed, ReadError, read};
 use std::alloc::{AllocError, Global};
@@ -39,7 +41,7 @@ fn first<'a>(alloc: Global) -> Made<'a>
     }
 }
 
-/// The kernel that a whole reading made.
+// The kernel that a whole reading made.
 fn kernel_from(alloc: Global, made: Made) -> Result<Kernel, AllocError>
     requires { (name : Piece) × (ps : List Piece)
         × Reads kernels (start name) nothing ps [] (notes_of made) }
@@ -83,6 +85,44 @@ fn read_named(alloc: Global, name: &[u8], bytes: &[u8]) -> Result<Kernel, Kernel
     one_kernel();
     one_cut();
     let pieces = pieces(alloc, bytes)?;
+    match read_whole(alloc, name, &pieces) {
+        Ok(kernel) => Ok(kernel),
+        Err(ReadError::Memory) => Err(KernelNo::Memory),
+        Err(ReadError::Refused { taken }) => Err(KernelNo::Syntax {
+            offset: offset_of(&pieces, taken),
+        }),
+    }
+}
+
+// The kernel of this name whose pieces these are, all of them.
+pub fn read_whole(alloc: Global, name: &[u8], pieces: &[&[u8]]) -> Result<Kernel, ReadError>
+    ensures found { IfOk result (λ k. Reads kernels (start name.now) nothing
+        (map bytes_of pieces.now) [] (all_of (kernel_of k))) }
+    ensures only { (k : code.Kernel) →
+        Reads kernels (start name.now) nothing (map bytes_of pieces.now) [] (all_of k)
+        → exactly.Answers kernel_of k result }
+    ensures refused { IfErr result
+        (exactly.Refuses kernels (start name.now) nothing (map bytes_of pieces.now)) }
+{
+    fronts_are_of_one_kernel();
+    let made = read_pieces(alloc, name, pieces)?;
+    Ok(kernel_from(alloc, made)?)
+}
+
+// What is noted of these pieces, where they are all of a kernel of this name.
+fn read_pieces<'a>(
+    alloc: Global,
+    name: &'a [u8],
+    pieces: &[&'a [u8]],
+) -> Result<Made<'a>, ReadError>
+    ensures found { IfOk result (λ made. Reads kernels (start name.entry.now) nothing
+        (map bytes_of pieces.entry.now) [] (notes_of made)) }
+    ensures only { (k : code.Kernel) →
+        Reads kernels (start name.entry.now) nothing (map bytes_of pieces.entry.now) [] (all_of k)
+        → exactly.Answers notes_of (all_of k) result }
+    ensures refused { IfErr result
+        (exactly.Refuses kernels (start name.entry.now) nothing (map bytes_of pieces.entry.now)) }
+{
     let owed: [Debt<'_>; 12] = [
         Owed::Token(b"__kernel"),
         SPACE,
@@ -97,16 +137,7 @@ fn read_named(alloc: Global, name: &[u8], bytes: &[u8]) -> Result<Kernel, Kernel
         Owed::Form(Form::Indent(1)),
         Owed::Form(Form::Locals),
     ];
-    let made = match read(alloc, &owed, first(alloc), &pieces) {
-        Ok(made) => made,
-        Err(ReadError::Memory) => return Err(KernelNo::Memory),
-        Err(ReadError::Refused { taken }) => {
-            return Err(KernelNo::Syntax {
-                offset: offset_of(&pieces, taken),
-            });
-        }
-    };
-    Ok(kernel_from(alloc, made)?)
+    read(alloc, &owed, first(alloc), pieces)
 }
 
 /// The kernel whose text these bytes are, where it stands alone.

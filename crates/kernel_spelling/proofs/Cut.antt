@@ -48,7 +48,7 @@ prefix_over p (b ∷ bs) back h e =
     ap (λ v. cond v (1 + prefix_len p (bs ++ back)) 0) q.0 ∙ (let w : prefix_len p (bs ++ back) ≡ length bs = prefix_over p bs back q.1 e in let v : 1 + prefix_len p (bs ++ back) ≡ suc (length bs) = omega (arith, w) in v)
 
 -- a piece of this length at the front
-front : (p : Piece) (ps : List Piece) → 0 < length p → piece_len (p ++ joined ps) ≡ length p → Stand ps → Stand (p ∷ ps)
+pub front : (p : Piece) (ps : List Piece) → 0 < length p → piece_len (p ++ joined ps) ≡ length p → Stand ps → Stand (p ∷ ps)
 front p ps some len stood = record {
   are_pieces = (
     (let e = length-append p (joined ps) in omega (arith, e, some)),
@@ -102,7 +102,7 @@ digit_no_blank b low = at_test (b == 32) refl where
   at_test true e = absurd (let w = eqb-true b 32 e in omega (arith, w, low))
   at_test false e = e
 
-digits_word : (ds : List ℕ) → AllDigits 10 ds → all_of is_word ds ≡ true
+pub digits_word : (ds : List ℕ) → AllDigits 10 ds → all_of is_word ds ≡ true
 digits_word [] h = refl
 digits_word (d ∷ ds) h =
     let q = IsDigitsTest.parts tells_digits d ds h in

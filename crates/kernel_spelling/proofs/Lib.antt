@@ -4,3 +4,5 @@ pub mod Cut
 pub mod Whole
 pub mod One
 pub mod Stands
+pub mod Ended
+pub mod Sequences

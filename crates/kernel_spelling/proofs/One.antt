@@ -9,11 +9,11 @@ use Rattle.kernel_spelling.specs.Decided.{decided}
 use Rattle.kernel_spelling.proofs.Cut.{one_cut}
 use Rattle.kernel_spelling.proofs.Whole.{whole}
 
-abbrev first_block : List Code → Code
+abbrev pub first_block : List Code → Code
 first_block [] = End
 first_block (c ∷ cs) = c
 
-abbrev kernel_at : Notes → Kernel
+abbrev pub kernel_at : Notes → Kernel
 kernel_at n = record { inputs = n.inputs; outputs = n.outputs; sizes = n.sizes; locals = n.locals; privates = n.privates; variables = n.variables; vectors = n.vectors; local = n.local; code = first_block n.blocks }
 
 pub one_kernel : (name : Piece) (bytes : List ℕ) (k l : Kernel) → IsKernelText name bytes k → IsKernelText name bytes l → k ≡ l

@@ -4,3 +4,4 @@ pub mod Rows
 pub mod Numbers
 pub mod Decided
 pub mod Meaning
+pub mod SequenceText

@@ -6,6 +6,7 @@ ghost use Rattle.kernel_tree.specs.Code.{Kernel};
 ghost use Rattle.kernel_tree.specs.KernelText.{Piece, Notes, IsKernelText, all_of, kernels, start, nothing};
 ghost use Rattle.kernel_tree.specs.Pieces.{ArePieces, joined};
 ghost use Rattle.kernel_spelling.specs.Spelling.{HasText, IsName, text_of};
+ghost use Rattle.kernel_spelling.specs.SequenceText.{FrontsAreOfOneKernel, FrontsAreRefusedBehind, SequencesHaveOneText, TextsAreOfOneSequence, TextsAreWhole};
 
 /// A kernel has one text by its name.
 pub fn one_text()
@@ -36,4 +37,34 @@ pub fn whole_readings()
         Reads kernels (start name) nothing ps [] n → (k : Kernel) × (n ≡ all_of k) }
     ensures has_text { (name : Piece) (ps : List Piece) (k : Kernel) →
         Reads kernels (start name) nothing ps [] (all_of k) → HasText k }
+{}
+
+/// Kernels in order have one text.
+#[tactic(auto, using(crate::proofs::Sequences::sequences_have_one_text))]
+pub fn sequences_have_one_text()
+    ensures { SequencesHaveOneText }
+{}
+
+/// A text is of one list of kernels in order.
+#[tactic(auto, using(crate::proofs::Sequences::texts_are_of_one_sequence))]
+pub fn texts_are_of_one_sequence()
+    ensures { TextsAreOfOneSequence }
+{}
+
+/// A text is of kernels exactly where its pieces are theirs, one kernel after another.
+#[tactic(auto, using(crate::proofs::Sequences::texts_are_whole))]
+pub fn texts_are_whole()
+    ensures { TextsAreWhole }
+{}
+
+/// Where more pieces follow all those of a kernel, they are refused right behind it.
+#[tactic(auto, using(crate::proofs::Sequences::fronts_are_refused_behind))]
+pub fn fronts_are_refused_behind()
+    ensures { FrontsAreRefusedBehind }
+{}
+
+/// Pieces begin with those of one kernel of a name at most.
+#[tactic(auto, using(crate::proofs::Sequences::fronts_are_of_one_kernel))]
+pub fn fronts_are_of_one_kernel()
+    ensures { FrontsAreOfOneKernel }
 {}

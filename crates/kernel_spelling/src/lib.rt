@@ -4,6 +4,11 @@
 
 mod kinds;
 mod laws;
+mod names;
 
 pub use kinds::{Kind, called, named_dimension, named_id, signed};
-pub use laws::{one_cut, one_kernel, one_text, whole_readings};
+pub use laws::{
+    fronts_are_of_one_kernel, fronts_are_refused_behind, one_cut, one_kernel, one_text,
+    sequences_have_one_text, texts_are_of_one_sequence, texts_are_whole, whole_readings,
+};
+pub use names::sequence_name;

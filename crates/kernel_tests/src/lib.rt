@@ -11,3 +11,5 @@ mod nests;
 mod printing;
 #[cfg(test)]
 mod reading;
+#[cfg(test)]
+mod sequences;

@@ -9,7 +9,8 @@ use std::alloc::{AllocError, Global};
 use std::test::Fail;
 
 /// One is added to each element.
-const TEXT: &[u8] = b"__kernel void lift(__global const uint *a0, __global uint *o0, const uint s0)
+pub const TEXT: &[u8] =
+    b"__kernel void lift(__global const uint *a0, __global uint *o0, const uint s0)
 {
   uint v0;
   for (uint i0 = 0u; i0 < s0; i0 += 1u) {
@@ -20,7 +21,7 @@ const TEXT: &[u8] = b"__kernel void lift(__global const uint *a0, __global uint 
 ";
 
 /// Where the pieces of the text end, without the last.
-const ENDS: [usize; 101] = [
+pub const ENDS: [usize; 101] = [
     8, 9, 13, 14, 18, 19, 27, 28, 33, 34, 38, 39, 40, 42, 43, 44, 52, 53, 57, 58, 59, 61, 62, 63,
     68, 69, 73, 74, 76, 77, 78, 79, 80, 82, 86, 87, 89, 90, 91, 93, 96, 97, 98, 102, 103, 105, 106,
     107, 108, 110, 111, 112, 114, 115, 116, 117, 119, 120, 121, 123, 124, 125, 126, 127, 129, 130,

@@ -132,6 +132,7 @@ given_is p ask d g proper h =
         global_least = grouped.global_least;
         global_most = grouped.global_most;
         divides = grouped.divides;
+        fixed = grouped.fixed;
         alone = grouped.alone;
       };
       typed = w.1;
@@ -155,6 +156,7 @@ given_gives p ask d g proper h =
       global_least = h.admissible.global_least;
       global_most = h.admissible.global_most;
       divides = h.admissible.divides;
+      fixed = h.admissible.fixed;
       alone = h.admissible.alone;
     } in
     let end : yes (record { launch = in_a_row g.launch.global.0 g.launch.local.0 g.launch.sizes; bases = bases_of p.sizes g.launch.sizes; inputs = g.inputs; schedule = g.schedule }) ≡ Ok g =

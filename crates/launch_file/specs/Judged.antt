@@ -39,12 +39,12 @@ schedule_at None = Ok in_order
 schedule_at (Some d) = ok_or (schedule_in d) (no.Missing key.Schedule)
 
 abbrev pub schedule_judged : Ask → Data → Result Schedule LaunchNo
-schedule_judged (Run task) d = schedule_at (get (codes "schedule") d)
+schedule_judged (Run task local) d = schedule_at (get (codes "schedule") d)
 schedule_judged Eval d = Ok in_order
 
 -- how many work-items there are in all, or in a group; an evaluation has one
 abbrev pub count_judged : Ask → List ℕ → LaunchNo → Data → Result ℕ LaunchNo
-count_judged (Run task) name missing d = ok_or (whole_at name d) missing
+count_judged (Run task local) name missing d = ok_or (whole_at name d) missing
 count_judged Eval name missing d = Ok 1
 
 -- what stands at the keys
@@ -98,14 +98,22 @@ pub record AllInRange (sizes : List Size) (given : List ℕ) : Type 0 where
 abbrev pub is_grouped : (global local : ℕ) → Bool
 is_grouped global local = nat_le 1 local && (nat_le local 256 && (nat_le 1 global && (nat_le global 65536 && (global % local == 0))))
 
+-- a group has the size that is asked for, where one is
+abbrev pub is_asked_size : Ask → (local : ℕ) → Bool
+is_asked_size (Run task (Some size)) local = local == size
+is_asked_size (Run task None) local = true
+is_asked_size Eval local = true
+
 -- a term without a parallel map is run by one work-item
 abbrev pub is_enough : Ask → (global : ℕ) → Bool
-is_enough (Run true) global = global == 1
-is_enough (Run false) global = true
+is_enough (Run true asked) global = global == 1
+is_enough (Run false asked) global = true
 is_enough Eval global = true
 
 abbrev pub items_judged : Ask → (global local : ℕ) → Result (Unit {0}) LaunchNo
-items_judged ask global local = and_then (demand (is_grouped global local) (no.Local global local)) (λ _. demand (is_enough ask global) (no.NotTask global))
+items_judged ask global local =
+    and_then (demand (is_grouped global local && is_asked_size ask local) (no.Local global local))
+    (λ _. demand (is_enough ask global) (no.NotTask global))
 
 -- ---- the inputs
 abbrev pub input_judged : List ℕ → ℕ → PlainInput → Data → Result Value LaunchNo

@@ -7,7 +7,7 @@ use Rattle.kernel_tree.specs.Launch.{Launch, IsFlat}
 use Rattle.kernel_tree.specs.Schedule.{Schedule, Numbers, Seed, in_order, schedule_of}
 use Rattle.size_arith.specs.Ranges.{sizes_at}
 use Rattle.lift_tree.specs.declared.program.Size.{Size}
-use Rattle.lift_tree.specs.Launches.{IsAdmissibleLaunch}
+use Rattle.lift_tree.specs.Launches.{Asks, IsAdmissibleLaunch}
 use Rattle.lift_tree.specs.Programs.{PlainInput, PlainProgram}
 use Rattle.lift_tree.specs.Types.{HaveTypes}
 use Rattle.lift_tree.specs.Typing.{declared_by}
@@ -27,9 +27,10 @@ pub record Given : Type 0 where
 abbrev pub given_by : held.LaunchFile → Given
 given_by f = record { launch = f.launch; bases = f.sizes; inputs = map value_of f.inputs.items; schedule = schedule_of f.schedule }
 
-abbrev pub is_task : Ask → Bool
-is_task (Run task) = task
-is_task Eval = false
+-- what is asked of the launch; of an evaluation's nothing
+abbrev pub asks_in : Ask → Asks
+asks_in (Run task local) = record { alone = task; local = local }
+asks_in Eval = record { alone = false; local = None }
 
 -- the whole number stands at the key
 abbrev pub StandsAt : List ℕ → Data → ℕ → Type 0
@@ -37,7 +38,7 @@ StandsAt key d n = get key d ≡ Some (number_data n)
 
 -- the work-items in all and in a group, along the row; an evaluation has one
 abbrev pub GivesItems : Ask → Data → Launch → Type 0
-GivesItems (Run task) d l = StandsAt (codes "global") d l.global.0 × StandsAt (codes "local") d l.local.0
+GivesItems (Run task asked) d l = StandsAt (codes "global") d l.global.0 × StandsAt (codes "local") d l.local.0
 GivesItems Eval d l = (l.global.0 ≡ 1) × (l.local.0 ≡ 1)
 
 -- each declared size stands at its name
@@ -64,7 +65,7 @@ IsSchedule (Some d) s = IsScheduleData d s
 
 -- an evaluation has the empty list
 abbrev pub GivesSchedule : Ask → Data → Schedule → Type 0
-GivesSchedule (Run task) d s = IsSchedule (get (codes "schedule") d) s
+GivesSchedule (Run task local) d s = IsSchedule (get (codes "schedule") d) s
 GivesSchedule Eval d s = s ≡ in_order
 
 -- A value is a launch file of the program, and this is what it gives: an admissible launch, and inputs of their types.
@@ -76,7 +77,7 @@ pub record Gives (p : PlainProgram) (ask : Ask) (d : Data) (g : Given) : Type 0 
   pub inputs : (e : Data) × (get (codes "inputs") d ≡ Some e) × IsTrue (is_object e) × GivesInputs p.inputs e g.inputs
   pub schedule : GivesSchedule ask d g.schedule
   pub bases : g.launch.sizes ≡ sizes_at (declared_by p).names g.bases
-  pub admissible : IsAdmissibleLaunch (declared_by p).names (is_task ask) g.bases g.launch.global.0 g.launch.local.0
+  pub admissible : IsAdmissibleLaunch (declared_by p).names (asks_in ask) g.bases g.launch.global.0 g.launch.local.0
   pub typed : HaveTypes g.bases (declared_by p).inputs g.inputs
 
 -- the bytes are a launch file of the program

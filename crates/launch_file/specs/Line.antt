@@ -28,6 +28,9 @@ key_text p key.Inputs = codes "inputs"
 key_text p key.Schedule = codes "schedule"
 key_text p (key.SizeAt i) = codes "sizes." ++ size_name p i
 key_text p (key.InputAt i) = codes "inputs." ++ input_name p i
+key_text p key.Launches = codes "launches"
+key_text p (key.GlobalOf k) = codes "launches." ++ decimal k ++ codes ".global"
+key_text p (key.LocalOf k) = codes "launches." ++ decimal k ++ codes ".local"
 
 abbrev pub line_of : PlainProgram → LaunchNo → List ℕ
 line_of p no.NotJson = codes "lift: launch: not json\n"

@@ -4,7 +4,7 @@ ghost use Rattle.std.specs.Prelude.{◌≡◌, ◌≢◌, Err, IfErr, IfOk, Ok};
 ghost use Rattle.serde_json.specs.View.{view};
 ghost use Rattle.lift_tree.specs.Programs.{program_of};
 ghost use Rattle.lift_tree.specs.Limits.{HasProperInputs};
-ghost use Rattle.launch_file.specs.Judged.{Refuses, and_then, items_judged, judged};
+ghost use Rattle.launch_file.specs.Judged.{Refuses, and_then, is_asked_size, is_enough, items_judged, judged};
 ghost use Rattle.launch_file.specs.LaunchFile.{IsLaunchFile, given_by};
 ghost use Rattle.launch_file.specs.declared.refusal.LaunchNo.TheVariants.{Memory};
 
@@ -23,8 +23,8 @@ use std::alloc::Global;
 #[derive(Clone, Copy, PartialEq, Eq)]
 pub enum Ask {
     /// To run a kernel; `task` says that its term has no parallel map, so that one work-item runs
-    /// it.
-    Run { task: bool },
+    /// it, and `local` is the local size that its script fixes.
+    Run { task: bool, local: Option<u32> },
     /// To evaluate the program: how many work-items there are, and in which order they run, is
     /// passed over.
     Eval,
@@ -44,8 +44,31 @@ pub struct LaunchFile {
     pub schedule: Schedule,
 }
 
-// The work-items in all and in a group.
-fn work_items(ask: Ask, global: u64, local: u64) -> Result<(u32, u32), LaunchNo>
+// Whether this is the local size that is asked for, where one is.
+fn is_asked_size(ask: Ask, local: u64) -> bool
+    ensures { result ≡ is_asked_size ask local }
+{
+    match ask {
+        Ask::Run {
+            local: Some(size),
+            ..
+        } => local == u64::from(size),
+        Ask::Run { local: None, .. } | Ask::Eval => true,
+    }
+}
+
+// Whether so many work-items may run it: one alone, where it is a task.
+fn is_enough(ask: Ask, global: u64) -> bool
+    ensures { result ≡ is_enough ask global }
+{
+    match ask {
+        Ask::Run { task: true, .. } => global == 1,
+        Ask::Run { task: false, .. } | Ask::Eval => true,
+    }
+}
+
+/// The work-items in all and in a group, or the first check that they fail.
+pub fn work_items(ask: Ask, global: u64, local: u64) -> Result<(u32, u32), LaunchNo>
     ensures { result ≡ and_then (items_judged ask global local) (λ _. Ok (global, local)) }
 {
     let is_grouped = 1 <= local
@@ -53,10 +76,14 @@ fn work_items(ask: Ask, global: u64, local: u64) -> Result<(u32, u32), LaunchNo>
         && 1 <= global
         && global <= 65_536
         && global % local == 0;
+    let refused = LaunchNo::Local { global, local };
     if !is_grouped {
-        return Err(LaunchNo::Local { global, local });
+        return Err(refused);
     }
-    if ask == (Ask::Run { task: true }) && global != 1 {
+    if !is_asked_size(ask, local) {
+        return Err(refused);
+    }
+    if !is_enough(ask, global) {
         return Err(LaunchNo::NotTask { global });
     }
     Ok((global as u32, local as u32))
@@ -111,7 +138,8 @@ fn launch_in(
 /// no object. `Missing`, for `global`, `local`, `sizes`, `inputs` and `schedule` in turn: the key
 /// isn't there (`schedule` alone needn't be), or its value isn't of its kind. For each declared
 /// size in turn `Missing`, where it isn't there or is no whole number, and at once `Size`.
-/// `Local`. `NotTask`. For each input in turn `Missing`, where its key isn't there, and at once
+/// `Local`: the work-items are too few or too many, or make up no whole groups, or a group isn't of
+/// the size that is asked for. `NotTask`. For each input in turn `Missing`, where its key isn't there, and at once
 /// `Shape`. For an evaluation `global`, `local` and `schedule` are passed over. Of two values at
 /// one key the last counts. Want of memory may come at any point.
 ///

@@ -4,6 +4,8 @@ ghost use Rattle.std.specs.Prelude.{◌≡◌, ◌≢◌, Err, IfErr, IfOk, Ok, 
 ghost use Rattle.serde_json.specs.View.{view};
 ghost use Rattle.kernel_tree.specs.Schedule.{schedule_of};
 ghost use Rattle.launch_file.specs.Judged as checks;
+ghost use Rattle.std.specs.Prelude.{codes};
+ghost use Rattle.serde_json.specs.Find.{get};
 ghost use Rattle.launch_file.specs.Judged.{count_judged, keys_judged, schedule_judged};
 ghost use Rattle.launch_file.specs.Shown.{keyed_of};
 ghost use Rattle.launch_file.specs.declared.refusal.LaunchNo.TheVariants.{Memory};
@@ -45,16 +47,26 @@ fn schedule_in(alloc: Global, value: &Value) -> Result<Option<Schedule>, AllocEr
     }
 }
 
+/// The schedule at its key; one that isn't there is the empty list.
+pub fn schedule_at(alloc: Global, value: &Value) -> Result<Schedule, LaunchNo>
+    ensures ok { let judged = checks.schedule_at (get (codes "schedule") (view value.now)) in
+        IfOk result (λ s. judged ≡ Ok (schedule_of s)) }
+    ensures refused { let judged = checks.schedule_at (get (codes "schedule") (view value.now)) in
+        IfErr result (λ e. e ≢ Memory → judged ≡ Err e) }
+{
+    match value.get("schedule") {
+        Some(found) => schedule_in(alloc, found)?.ok_or(LaunchNo::Missing(Key::Schedule)),
+        None => Ok(Schedule::Numbers(Vec::new(alloc))),
+    }
+}
+
 fn schedule(alloc: Global, ask: Ask, value: &Value) -> Result<Schedule, LaunchNo>
     ensures ok { IfOk result (λ s. schedule_judged ask (view value.now) ≡ Ok (schedule_of s)) }
     ensures refused { IfErr result (λ e. e ≢ Memory
         → schedule_judged ask (view value.now) ≡ Err e) }
 {
     match ask {
-        Ask::Run { .. } => match value.get("schedule") {
-            Some(found) => schedule_in(alloc, found)?.ok_or(LaunchNo::Missing(Key::Schedule)),
-            None => Ok(Schedule::Numbers(Vec::new(alloc))),
-        },
+        Ask::Run { .. } => schedule_at(alloc, value),
         Ask::Eval => Ok(Schedule::Numbers(Vec::new(alloc))),
     }
 }

@@ -1,6 +1,6 @@
 //! The line that tells why bytes are no launch file.
 
-ghost use Rattle.std.specs.Prelude.{◌≡◌, ◌++◌, codes};
+ghost use Rattle.std.specs.Prelude.{◌≡◌, ◌++◌, codes, decimal};
 ghost use Rattle.lift_tree.specs.Programs.{program_of};
 ghost use Rattle.launch_file.specs.Line.{input_name, line_of, line_text, size_name};
 
@@ -35,6 +35,19 @@ impl<'a> Line<'a> {
             head,
             first: Detail::Nothing,
             between: b"",
+            second: Detail::Nothing,
+        }
+    }
+
+    // The line that a kernel's launch lacks this key.
+    fn numbered(kernel: usize, key: &'a [u8]) -> Self
+        ensures { line_text result ≡ codes "lift: launch: missing launches."
+            ++ decimal kernel ++ key.entry.now }
+    {
+        Line {
+            head: b"lift: launch: missing launches.",
+            first: Detail::Number(kernel as u64),
+            between: key,
             second: Detail::Nothing,
         }
     }
@@ -91,6 +104,9 @@ fn missing(key: Key, program: &Program) -> Line<'_>
         Key::InputAt(input) => {
             Line::named(b"lift: launch: missing inputs.", input_name(program, input))
         }
+        Key::Launches => Line::words(b"lift: launch: missing launches"),
+        Key::GlobalOf(kernel) => Line::numbered(kernel, b".global"),
+        Key::LocalOf(kernel) => Line::numbered(kernel, b".local"),
     }
 }
 

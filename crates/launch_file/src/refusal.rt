@@ -17,6 +17,12 @@ pub enum Key {
     SizeAt(usize),
     /// The input of this number.
     InputAt(usize),
+    /// The list with an object for each kernel.
+    Launches,
+    /// The work-items in all of the kernel of this number.
+    GlobalOf(usize),
+    /// The work-items in a group of the kernel of this number.
+    LocalOf(usize),
 }
 
 /// Why bytes are no launch file of a program, or that memory ran out. Sizes and inputs go by their
@@ -32,8 +38,8 @@ pub enum LaunchNo {
     /// The number given for a declared size is out of its range, or no multiple of its divisor.
     #[error("size {size} is {given}")]
     Size { size: usize, given: u64 },
-    /// The local size isn't 1 to 256, the global size isn't 1 to 65,536, or the local size doesn't
-    /// divide the global size.
+    /// The local size isn't 1 to 256, the global size isn't 1 to 65,536, the local size doesn't
+    /// divide the global size, or it isn't the one that the script fixes.
     #[error("global {global}, local {local}")]
     Local { global: u64, local: u64 },
     /// The program is for one work-item alone.

@@ -9,7 +9,8 @@ use Rattle.index_expr.specs.declared.operation.Operation.TheVariants.{Sum, Diffe
 use Rattle.index_expr.specs.Expression as index
 use Rattle.index_expr.specs.Expression.{Expression}
 use Rattle.index_expr.specs.Lengths.{length_expression}
-use Rattle.kernel_tree.specs.Formula.{Formula, Number, LoopVariable, Size, Binary}
+use Rattle.kernel_tree.specs.Formula.{Formula, Number, Size, Binary}
+use Rattle.length_spelling.specs.Turns.{turn_formula}
 
 abbrev pub operator_of : Operation → Op
 operator_of Sum = Add
@@ -20,9 +21,9 @@ operator_of Remainder = Rem
 operator_of Least = Min
 operator_of Greatest = Max
 
--- its variables are those of the enclosing loops
+-- its variables are the turns that an item is in
 abbrev pub index_formula : Expression → Formula
-index_formula (index.Variable k l g) = LoopVariable k
+index_formula (index.Variable k l g) = turn_formula k
 index_formula (index.Literal n) = Number n
 index_formula (index.Size k) = Size k
 index_formula (index.Binary o a b) = Binary (operator_of o) (index_formula a) (index_formula b)

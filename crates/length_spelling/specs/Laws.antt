@@ -10,6 +10,7 @@ use Rattle.index_expr.specs.Lengths.{length_expression}
 use Rattle.kernel_tree.specs.Formula.{Formula, Ids, Vars, value}
 use Rattle.kernel_tree.specs.Code.{Kernel}
 use Rattle.kernel_tree.specs.Grammar.{height, is_constant, names_declared}
+use Rattle.length_spelling.specs.Turns.{turns_of}
 use Rattle.length_spelling.specs.Formulas.{in_words, index_formula, length_formula, spelled_length}
 
 abbrev pub AreWords : List ℕ → Type 0
@@ -19,8 +20,10 @@ AreWords xs = (k : ℕ) → slice_index xs k < 2 ^ 32
 abbrev pub IndicesAreSpelled : Type 0
 IndicesAreSpelled =
     (ids : Ids) (loops : List ℕ) (variables : Vars) (e : Expression)
-    → AreWords ids.sizes → AreWords loops → HasNoZeroDivisorInWordsAt ids.sizes loops e
-    → value ids loops variables (index_formula (in_words e)) ≡ Some (wrapped ids.sizes loops e)
+    → AreWords ids.sizes → AreWords (turns_of ids loops)
+    → HasNoZeroDivisorInWordsAt ids.sizes (turns_of ids loops) e
+    → value ids loops variables (index_formula (in_words e))
+    ≡ Some (wrapped ids.sizes (turns_of ids loops) e)
 
 -- at admissible sizes a length is spelled with its value, in whatever loops
 abbrev pub LengthsAreSpelled : Type 0

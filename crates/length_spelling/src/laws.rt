@@ -4,7 +4,8 @@ ghost use Rattle.length_spelling.specs.Laws.{IndicesAreSpelled, LengthsAreBounds
 
 use index_expr::laws::{lengths_are_exact, ranged_values_are_exact};
 
-/// An index expression of words is spelled with its value on words of 32 bits.
+/// An index expression of words is spelled with its value on words of 32 bits, at the turns that a
+/// work-item is in.
 pub fn indices_are_spelled()
     ensures { IndicesAreSpelled }
 {}

@@ -3,5 +3,7 @@
 
 pub mod laws;
 pub mod spelling;
+pub mod turn;
 
 pub use spelling::{operator_of, spell_index, spell_length, spelled_length};
+pub use turn::Turn;

@@ -5,6 +5,7 @@ ghost use Rattle.index_expr.specs.Expression.{expression_of};
 ghost use Rattle.kernel_tree.specs.Tree.{formula_of};
 ghost use Rattle.length_spelling.specs.Formulas.{index_formula, length_formula, operator_of, spelled_length};
 
+use crate::turn::Turn;
 use index_expr::{Index, Operation, length_index};
 use kernel_tree::tree::Expr;
 use scalar_ops::op::Op;
@@ -26,12 +27,12 @@ pub fn operator_of(operation: Operation) -> Op
     }
 }
 
-/// An index expression: its variables are those of the enclosing loops.
+/// An index expression: its variables are the turns that a work-item is in.
 pub fn spell_index(alloc: Global, index: &Index) -> Result<Expr, AllocError>
     ensures { IfOk result (λ e. formula_of e ≡ index_formula (expression_of index.now)) }
 {
     match index {
-        Index::Variable { number, .. } => Ok(Expr::LoopVariable(*number)),
+        Index::Variable { number, .. } => Ok(Turn::of_number(*number).expr()),
         Index::Literal(n) => Ok(Expr::Number(*n)),
         Index::Size(number) => Ok(Expr::Size(*number)),
         Index::Binary(operation, a, b) => {

@@ -72,6 +72,7 @@ module _ (d : Declared) (w : World) (ok : IsAdmissible d w) (few : length d.name
   lowers_is (tree.Unary (unary.Pad s k) t) p g (One a x) n e h l = (t, refl, lowers_is t p g x n e h.0 l.3)
   lowers_is (tree.Unary unary.ToLocal t) p g (One a x) n e h l = (t, refl, lowers_is t Written g x n e h.0 l.3)
   lowers_is (tree.Unary unary.ToPrivate t) p g (One a x) n e h l = (t, refl, lowers_is t Written g x n e h.0 l.3)
+  lowers_is (tree.Unary unary.Then t) p g (One a x) n e h l = absurd l.2
   lowers_is (tree.Binary (binary.Operator o) t u) p g (Two a x y) n e h l = lowers_put p a n _ _ (o, t, u, refl, refl, lowers_is t Element g x n e h.0 l.1, lowers_is u Element g y n e h.1 l.2)
   lowers_is (tree.Binary binary.Pair t u) p g (Two a x y) n e h l = lowers_put p a n _ _ (t, u, refl, lowers_is t Element g x n e h.0 l.1, lowers_is u Element g y n e h.1 l.2)
   lowers_is (tree.Binary binary.Zip t u) p g (Two a x y) n e h l = (t, u, refl, lowers_is t Argument g x n e h.0 l.1, lowers_is u Argument g y n e h.1 l.2)

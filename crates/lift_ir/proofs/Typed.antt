@@ -181,6 +181,7 @@ module _ (d : Declared) (bases : List ℕ) (shown : (k : ℕ) (p : List Monomial
       (l.2.1, l.2.0, subst (λ z. Is g (lower d.names Written t x) (ty z)) h.1 (has_is t Written g x all h.0 l.3))
   has_is (tree.Unary unary.ToPrivate t) p g (One a x) all h l =
       (l.2.1, l.2.0, subst (λ z. Is g (lower d.names Written t x) (ty z)) h.1 (has_is t Written g x all h.0 l.3))
+  has_is (tree.Unary unary.Then t) p g (One a x) all h l = absurd l.2
   has_is (tree.Binary (binary.Operator o) t u) p g (Two a x y) all h l =
       has_put g p a _ (in_place p a (subst types.IsElement (sym h.2.2) tt))
       (ap ty h.2.2, no_division o, subst (λ z. Is g (lower d.names Element t x) (ty z)) h.2.0 (has_is t Element g x all h.0 l.1), subst (λ z. Is g (lower d.names Element u y) (ty z)) h.2.1 (has_is u Element g y all h.1 l.2))

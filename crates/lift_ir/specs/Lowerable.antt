@@ -23,6 +23,7 @@ IsLowerableForm bases p unary.First a = SuitsPlace p a
 IsLowerableForm bases p unary.Second a = SuitsPlace p a
 IsLowerableForm bases p unary.ToPrivate a = IsFlat (ty_at [] a) × (ty_at bases a ≡ ty_at [] a)
 IsLowerableForm bases p unary.ToLocal a = IsFlat (ty_at [] a) × (ty_at bases a ≡ ty_at [] a)
+IsLowerableForm bases p unary.Then a = ⊥
 IsLowerableForm bases p (unary.Slide s t) a = t < 2 ^ 32
 IsLowerableForm bases p _ a = Unit {0}
 

@@ -112,6 +112,7 @@ lower_unary names p unary.First a b t = placed p a (Project false t)
 lower_unary names p unary.Second a b t = placed p a (Project true t)
 lower_unary names p unary.ToPrivate a b t = Copy PrivateMemory (ty_at [] a) t
 lower_unary names p unary.ToLocal a b t = Copy LocalMemory (ty_at [] a) t
+lower_unary names p unary.Then a b t = Literal 0
 lower_unary names p (unary.Layout (layout.Stride fs)) a b t = lower_stride names fs b t
 lower_unary names p f a b t = Reshape (layout_of f a b) t
 

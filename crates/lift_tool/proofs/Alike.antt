@@ -8,7 +8,7 @@ pub lines_of_written : TextsRunAlike → (request : CommandLine) (texts : List (
     → Answers request texts lines → AreLinesOfWritten request texts lines
 lines_of_written alike (run p s l traced) texts lines ran = λ text other.
     alike (text_at texts 0) (text_at texts 1) (text_at texts 2) traced lines ran
-    other.source other.output other.task text other.compiled
+    other.source other.output other.asks text other.compiled
 lines_of_written alike (compile p s) texts lines h = tt
 lines_of_written alike (steps p s) texts lines h = tt
 lines_of_written alike (eval p l) texts lines h = tt

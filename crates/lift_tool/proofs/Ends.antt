@@ -3,6 +3,7 @@ use Rattle.std.proofs.Common.{Bool, ◌≡◌, ◌≢◌, ◌⊎◌, ◌∙◌, 
 use Rattle.std.specs.Prelude.{IfSome, option_map}
 use Rattle.std.proofs.lemmas.Option.{same_Some}
 use Rattle.command_line.specs.Requests.{Asks, CommandLine, IsRefused, compile, demo, eval, line_entered, run, steps}
+use Rattle.lift_tree.specs.Launches as launches
 use Rattle.lift_tree.specs.Programs.{PlainProgram}
 use Rattle.lift_reader.specs.declared.refusal.ReadRefusal.TheVariants as readings
 use Rattle.pattern_types.specs.declared.refusal.TypeRefusal.TheVariants as typings
@@ -14,8 +15,7 @@ use Rattle.launch_file.specs.LaunchFile.{Given, IsLaunchFile}
 use Rattle.launch_file.specs.declared.file.Ask.TheVariants.{Run}
 use Rattle.launch_file.specs.declared.refusal.LaunchNo.{LaunchNo}
 use Rattle.launch_file.specs.declared.refusal.LaunchNo.TheVariants as no
-use Rattle.fault_lines.specs.Failure.{Failure, Launch, Read, Source, TooLong, launch_status, line_of, status_of}
-use Rattle.fault_lines.specs.Refusal as sources
+use Rattle.fault_lines.specs.Failure.{Failure, Memory, Read, TooLong, launch_failed, line_of, source_failed, status_of}
 use Rattle.fault_lines.specs.declared.refusal.Refusal.{Refusal}
 use Rattle.fault_lines.specs.declared.refusal.Refusal.TheVariants as told_of
 use Rattle.program_runs.specs.Started.{StagesEndOnce}
@@ -39,14 +39,16 @@ texts_accepted law (steps p s) texts f ok h = (law.steps _ _).none f ok h
 texts_accepted law (eval p l) texts f ok h = (law.value _ _).none f ok h
 texts_accepted law (demo x) texts f ok h = h
 
--- the launch file of a task
-at_task : (p : PlainProgram) (a b : Bool) (launch : List ℕ) (g : Given) → a ≡ b → IsLaunchFile p (Run b) launch g → IsLaunchFile p (Run a) launch g
-at_task p a b launch g same is = subst (λ c. IsLaunchFile p (Run c) launch g) (sym same) is
+-- the launch file of what is asked
+as_asked :
+    (p : PlainProgram) (a b : Bool) (o q : Option ℕ) (launch : List ℕ) (g : Given) → a ≡ b → o ≡ q → IsLaunchFile p (Run b q) launch g
+    → IsLaunchFile p (Run a o) launch g
+as_asked p a b o q launch g alone local is = subst (λ x. IsLaunchFile p (Run a x) launch g) (sym local) (subst (λ x. IsLaunchFile p (Run x q) launch g) (sym alone) is)
 
 -- what was written was accepted
 answer_accepted : (request : CommandLine) (texts : List (List ℕ)) (text : List ℕ) → Answers request texts text → IsAccepted request texts
 answer_accepted (compile p s) texts text h = let c = h.compiled in (h.source, c.read.is, c.read.within, (c.last, c.legal))
-answer_accepted (run p s l traced) texts text h = let c = h.compiled in (h.source, c.read.is, c.read.within, (h.given, (c.last, c.legal, at_task h.source _ _ _ h.given c.alone h.launch_file)))
+answer_accepted (run p s l traced) texts text h = let c = h.compiled in (h.source, c.read.is, c.read.within, (h.given, (c.last, c.legal, as_asked h.source _ _ _ _ _ h.given (ap (λ (x : launches.Asks). x.alone) c.asked) (ap (λ (x : launches.Asks). x.local) c.asked) h.launch_file)))
 answer_accepted (steps p s) texts text h = (h.source, h.read.is, h.read.within, (h.terms, h.made))
 answer_accepted (eval p l) texts text h = (h.source, h.read.is, h.read.within, (h.given, h.started))
 answer_accepted (demo x) texts text h = tt
@@ -124,19 +126,19 @@ asked_stands words line asks (inr h) = let e : None ≡ Some line = sym (ap line
 
 -- why words that ask for a request have no result is why the request has none
 cause_of : (told : Told) (rose : List ℕ → Type 0) (words : List (List ℕ)) (request : CommandLine) (f : Failure) → Asks words request → WordsCause told rose words f
-    → (status_of f ≡ 13) ⊎ StopsFor told rose request f
+    → (f ≡ Memory) ⊎ StopsFor told rose request f
 cause_of told rose words request f asks (inl memory) = inl memory
 cause_of told rose words request f asks (inr (inl (is, refused))) = absurd (asked_stands words request asks refused)
 cause_of told rose words request f asks (inr (inr (other, too, h))) = inr (subst (λ q. StopsFor told rose q f) (one_request words request other asks too) h)
 
 -- words that the command refuses have their status, or that of want of memory
 pub words_refused : (told : Told) (rose : List ℕ → Type 0) (words : List (List ℕ)) (f : Failure) → WordsCause told rose words f → IsRefused words → (status_of f ≡ 2) ⊎ (status_of f ≡ 13)
-words_refused told rose words f (inl memory) refused = inr memory
+words_refused told rose words f (inl memory) refused = inr (ap status_of memory)
 words_refused told rose words f (inr (inl (is, none))) refused = inl (ap status_of is)
 words_refused told rose words f (inr (inr (request, asks, h))) refused = absurd (asked_stands words request asks refused)
 
 -- the causes of a program, a script and a launch file have statuses of their own
-source_status : (r : Refusal) → 6 ≤ sources.status_of r
+source_status : (r : Refusal) → 6 ≤ status_of (source_failed r)
 source_status (told_of.Program (readings.Syntax token offset)) = omega arith
 source_status (told_of.Program (readings.Limit which count)) = omega arith
 source_status (told_of.Program readings.Memory) = omega arith
@@ -155,34 +157,34 @@ source_status (told_of.Alloc (allocations.Limit which count)) = omega arith
 source_status (told_of.Alloc allocations.Memory) = omega arith
 source_status told_of.Memory = omega arith
 
-launch_refused : (why : LaunchNo) → 6 ≤ launch_status why
-launch_refused no.NotJson = omega arith
-launch_refused (no.Missing key) = omega arith
-launch_refused (no.Size size given) = omega arith
-launch_refused (no.Local global local) = omega arith
-launch_refused (no.NotTask global) = omega arith
-launch_refused (no.Shape input) = omega arith
-launch_refused no.Memory = omega arith
+launch_refused : (p : PlainProgram) (why : LaunchNo) → 6 ≤ status_of (launch_failed p why)
+launch_refused p no.NotJson = omega arith
+launch_refused p (no.Missing key) = omega arith
+launch_refused p (no.Size size given) = omega arith
+launch_refused p (no.Local global local) = omega arith
+launch_refused p (no.NotTask global) = omega arith
+launch_refused p (no.Shape input) = omega arith
+launch_refused p no.Memory = omega arith
 
 -- a failed read has the status 3, and the causes behind the reads have 6 and above
 abbrev IsOfRequest : Failure → Type 0
 IsOfRequest f = (status_of f ≡ 3) ⊎ (6 ≤ status_of f)
 
-source_is : (f : Failure) (r : Refusal) → f ≡ Source r → IsOfRequest f
+source_is : (f : Failure) (r : Refusal) → f ≡ source_failed r → IsOfRequest f
 source_is f r e = inr (subst (λ (x : Failure). 6 ≤ status_of x) (sym e) (source_status r))
 
-launch_is : (f : Failure) (p : PlainProgram) (why : LaunchNo) → f ≡ Launch p why → IsOfRequest f
-launch_is f p why e = inr (subst (λ (x : Failure). 6 ≤ status_of x) (sym e) (launch_refused why))
+launch_is : (f : Failure) (p : PlainProgram) (why : LaunchNo) → f ≡ launch_failed p why → IsOfRequest f
+launch_is f p why e = inr (subst (λ (x : Failure). 6 ≤ status_of x) (sym e) (launch_refused p why))
 
 text_status : (request : CommandLine) (texts : List (List ℕ)) (f : Failure) → StopsAtText request texts f → IsOfRequest f
-text_status (compile p s) texts f (inl (why, h, e)) = source_is f _ e
+text_status (compile p s) texts f (inl (why, h, e)) = source_is f (told_of.Program why) e
 text_status (compile p s) texts f (inr (q, read, (why, h, e))) = source_is f why e
-text_status (steps p s) texts f (inl (why, h, e)) = source_is f _ e
+text_status (steps p s) texts f (inl (why, h, e)) = source_is f (told_of.Program why) e
 text_status (steps p s) texts f (inr (q, read, (why, h, e))) = source_is f why e
-text_status (run p s l traced) texts f (inl (why, h, e)) = source_is f _ e
+text_status (run p s l traced) texts f (inl (why, h, e)) = source_is f (told_of.Program why) e
 text_status (run p s l traced) texts f (inr (q, read, inl (why, h, e))) = source_is f why e
 text_status (run p s l traced) texts f (inr (q, read, inr (form, is, (why, h, e)))) = launch_is f q why e
-text_status (eval p l) texts f (inl (why, h, e)) = source_is f _ e
+text_status (eval p l) texts f (inl (why, h, e)) = source_is f (told_of.Program why) e
 text_status (eval p l) texts f (inr (q, read, inl (why, h, e))) = source_is f why e
 text_status (eval p l) texts f (inr (q, read, inr (types, is, (why, h, e)))) = launch_is f q why e
 text_status (demo x) texts f h = absurd h
@@ -198,7 +200,7 @@ file_status told rose (file ∷ files) f (inl h) = unread_status told rose file 
 file_status told rose (file ∷ files) f (inr h) = file_status told rose files f h.2
 
 words_status : (told : Told) (rose : List ℕ → Type 0) (words : List (List ℕ)) (f : Failure) → WordsCause told rose words f → (status_of f ≡ 2) ⊎ IsOfRequest f
-words_status told rose words f (inl memory) = inr (inr (omega (arith, memory)))
+words_status told rose words f (inl memory) = let s : status_of f ≡ 13 = ap status_of memory in inr (inr (omega (arith, s)))
 words_status told rose words f (inr (inl (is, none))) = inl (ap status_of is)
 words_status told rose words f (inr (inr (request, asks, inl h))) = inr (file_status told rose (files_of request) f h)
 words_status told rose words f (inr (inr (request, asks, inr (texts, are, h)))) = inr (text_status request texts f h)
@@ -209,7 +211,7 @@ not_2 n (inr more) e = omega (arith, more, e)
 
 -- the status of words that ask for a request isn't that of those that are refused
 pub words_taken : (told : Told) (rose : List ℕ → Type 0) (words : List (List ℕ)) (asked : CommandLine) (f : Failure) → WordsCause told rose words f → Asks words asked → status_of f ≢ 2
-words_taken told rose words asked f (inl memory) taken e = omega (arith, memory, e)
+words_taken told rose words asked f (inl memory) taken e = let s : status_of f ≡ 13 = ap status_of memory in omega (arith, s, e)
 words_taken told rose words asked f (inr (inl (is, refused))) taken e = asked_stands words asked taken refused
 words_taken told rose words asked f (inr (inr (request, asks, inl h))) taken e = not_2 (status_of f) (file_status told rose (files_of request) f h) e
 words_taken told rose words asked f (inr (inr (request, asks, inr (texts, are, h)))) taken e = not_2 (status_of f) (text_status request texts f h) e
@@ -228,7 +230,7 @@ pub words_stand : StagesEndOnce → (told : Told) (rose : List ℕ → Type 0) (
     → Asks words request → AllTold told (files_of request) → AreTexts told (files_of request) texts → IsAccepted request texts → NoneRose rose (files_of request)
     → WordsCause told rose words f → status_of f ≡ 13
 words_stand law told rose words request texts f asks is are ok well h = elim (cause_of told rose words request f asks h) as (λ _. status_of f ≡ 13) [
-  | inl memory ↦ memory
+  | inl memory ↦ ap status_of memory
   | inr stops ↦ absurd (request_accepted law told rose request texts f is well are ok stops)
 ]
 
@@ -238,7 +240,7 @@ pub words_cause : StagesEndOnce → (told : Told) (rose : List ℕ → Type 0) (
     → status ≡ status_of f → Line (line_of f) → (status ≡ 13) ⊎ ((status ≡ status_of g) × Line (line_of g))
 words_cause law told rose words request f g status Line asks is well h k e line =
     elim (cause_of told rose words request f asks h) as (λ _. (status ≡ 13) ⊎ ((status ≡ status_of g) × Line (line_of g))) [
-      | inl memory ↦ inl (e ∙ memory)
+      | inl memory ↦ inl (e ∙ ap status_of memory)
       | inr stops ↦ (let same = request_cause law told rose request f g is well stops k in inr (e ∙ ap status_of same, subst (λ x. Line (line_of x)) same line))
     ]
 
@@ -253,7 +255,7 @@ words_answered law told rose words request text g asks is well (other, too, (tex
 -- a demo has no result for want of memory alone
 pub demo_stands : (told : Told) (rose : List ℕ → Type 0) (words : List (List ℕ)) (seed : ℕ) (f : Failure) → Asks words (demo seed) → WordsCause told rose words f → status_of f ≡ 13
 demo_stands told rose words seed f asks h = elim (cause_of told rose words (demo seed) f asks h) as (λ _. status_of f ≡ 13) [
-  | inl memory ↦ memory
+  | inl memory ↦ ap status_of memory
   | inr (inl unread) ↦ absurd unread
   | inr (inr (texts, are, stops)) ↦ absurd stops
 ]

@@ -6,8 +6,8 @@ use Rattle.lift_io.specs.Causes.{Rose}
 use Rattle.command_line.specs.Requests.{Asks, CommandLine, IsRefused, compile, steps}
 use Rattle.command_line.specs.declared.request.WordsNo.{WordsNo}
 use Rattle.command_line.specs.declared.request.WordsNo.TheVariants.{Memory, Refused}
-use Rattle.fault_lines.specs.Failure.{Failure, Read, Source, TooLong, status_of}
-use Rattle.fault_lines.specs.Refusal as refusals
+use Rattle.fault_lines.specs.Failure as failures
+use Rattle.fault_lines.specs.Failure.{Failure, Read, TooLong, source_failed}
 use Rattle.fault_lines.specs.declared.failure.Failure as code
 use Rattle.fault_lines.specs.Shown.{failure_of, words_failed}
 use Rattle.fault_lines.specs.declared.refusal.Refusal.{Refusal}
@@ -81,25 +81,25 @@ files_fail told rose request f (inl memory) = inl memory
 files_fail told rose request f (inr h) = inr (inl h)
 
 pub kernel_fails : (told : Told) (rose : List ℕ → Type 0) (p s program script : List ℕ) (why : Refusal) → AreTexts told (sources p s) (program ∷ script ∷ [])
-    → stages.StopsFor (stages.OnProgram program (λ q. LegalOf q script)) why → FailsFor told rose (compile p s) (Source why)
-kernel_fails told rose p s program script why are (inl memory) = inl (ap refusals.status_of memory)
-kernel_fails told rose p s program script why are (inr (inl (e, h, same))) = inr (inr (program ∷ script ∷ [], are, inl (e, h, ap Source same)))
+    → stages.StopsFor (stages.OnProgram program (λ q. LegalOf q script)) why → FailsFor told rose (compile p s) (source_failed why)
+kernel_fails told rose p s program script why are (inl memory) = inl (ap source_failed memory)
+kernel_fails told rose p s program script why are (inr (inl (e, h, same))) = inr (inr (program ∷ script ∷ [], are, inl (e, h, ap source_failed same)))
 kernel_fails told rose p s program script why are (inr (inr (q, read, h))) = inr (inr (program ∷ script ∷ [], are, inr (q, read, (why, h, refl))))
 
 pub steps_fail : (told : Told) (rose : List ℕ → Type 0) (p s program script : List ℕ) (why : Refusal) → AreTexts told (sources p s) (program ∷ script ∷ [])
-    → stages.StopsFor (stages.OnProgram program (λ q. TermsOf q script)) why → FailsFor told rose (steps p s) (Source why)
-steps_fail told rose p s program script why are (inl memory) = inl (ap refusals.status_of memory)
-steps_fail told rose p s program script why are (inr (inl (e, h, same))) = inr (inr (program ∷ script ∷ [], are, inl (e, h, ap Source same)))
+    → stages.StopsFor (stages.OnProgram program (λ q. TermsOf q script)) why → FailsFor told rose (steps p s) (source_failed why)
+steps_fail told rose p s program script why are (inl memory) = inl (ap source_failed memory)
+steps_fail told rose p s program script why are (inr (inl (e, h, same))) = inr (inr (program ∷ script ∷ [], are, inl (e, h, ap source_failed same)))
 steps_fail told rose p s program script why are (inr (inr (q, read, h))) = inr (inr (program ∷ script ∷ [], are, inr (q, read, (why, h, refl))))
 
 -- what stops for the texts of a request stops it
 pub texts_fail : (told : Told) (rose : List ℕ → Type 0) (request : CommandLine) (texts : List (List ℕ)) (f : Failure) → AreTexts told (files_of request) texts
-    → (status_of f ≡ 13) ⊎ StopsAtText request texts f → FailsFor told rose request f
+    → (f ≡ failures.Memory) ⊎ StopsAtText request texts f → FailsFor told rose request f
 texts_fail told rose request texts f are (inl memory) = inl memory
 texts_fail told rose request texts f are (inr h) = inr (inr (texts, are, h))
 
 pub texts_fail_all : {V : Type 0} (told : Told) (rose : List ℕ → Type 0) (request : CommandLine) (texts : List (List ℕ)) (r : Result V code.Failure) → AreTexts told (files_of request) texts
-    → IfErr r (λ e. (status_of (failure_of e) ≡ 13) ⊎ StopsAtText request texts (failure_of e)) → IfErr r (λ e. FailsFor told rose request (failure_of e))
+    → IfErr r (λ e. (failure_of e ≡ failures.Memory) ⊎ StopsAtText request texts (failure_of e)) → IfErr r (λ e. FailsFor told rose request (failure_of e))
 texts_fail_all told rose request texts (Ok v) are h = tt
 texts_fail_all told rose request texts (Err e) are h = texts_fail told rose request texts (failure_of e) are h
 
@@ -128,7 +128,7 @@ pub words_fail : {V : Type 0} (told : Told) (rose : List ℕ → Type 0) (words 
     → IsErrAnd r (λ e. failure_of e ≡ words_failed why) → IfErr r (λ e. WordsCause told rose words (failure_of e))
 words_fail told rose words why (Ok v) none is = tt
 words_fail told rose words Refused (Err e) none is = inr (inl (is, none refl))
-words_fail told rose words Memory (Err e) none is = inl (ap status_of is)
+words_fail told rose words Memory (Err e) none is = inl is
 
 -- what fails for the request of words fails for them
 pub request_fails : (told : Told) (rose : List ℕ → Type 0) (words : List (List ℕ)) (request : CommandLine) (f : Failure) → Asks words request → FailsFor told rose request f → WordsCause told rose words f

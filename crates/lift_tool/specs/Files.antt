@@ -1,7 +1,7 @@
 -- What files hold, and why one isn't read.
 use Rattle.std.specs.Prelude.{◌≡◌, ◌⊎◌, ◌+◌, ◌<◌, ◌≤◌, ℕ, List, [], ◌∷◌, length, take, Option, Some, IfSome}
 use Rattle.lift_io.specs.Asked.{Asks}
-use Rattle.fault_lines.specs.Failure.{Failure, Read, TooLong, status_of}
+use Rattle.fault_lines.specs.Failure.{Failure, Memory, Read, TooLong}
 
 -- the text of a name, where it is told
 abbrev pub Told : Type 0
@@ -35,7 +35,7 @@ StopsAtFile told rose (file ∷ files) failure =
 
 -- or for want of memory
 abbrev pub AreUnreadFor : Told → (List ℕ → Type 0) → List File → Failure → Type 0
-AreUnreadFor told rose files failure = (status_of failure ≡ 13) ⊎ StopsAtFile told rose files failure
+AreUnreadFor told rose files failure = (failure ≡ Memory) ⊎ StopsAtFile told rose files failure
 
 -- these files are told
 abbrev pub AllTold : Told → List File → Type 0

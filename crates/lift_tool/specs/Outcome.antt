@@ -1,9 +1,10 @@
 -- How a call ends, and why.
 use Rattle.std.specs.Prelude.{◌≡◌, ◌⊎◌, ℕ, zero, suc, List, [], ◌∷◌, Bool, Err}
 use Rattle.command_line.specs.Requests.{Asks, CommandLine, IsRefused, compile, demo, eval, run, steps}
+use Rattle.lift_tree.specs.Launches as launches
 use Rattle.lift_tree.specs.Programs.{PlainProgram}
 use Rattle.lift_tree.specs.Types.{PlainTy}
-use Rattle.fault_lines.specs.Failure.{Failure, Source, Words, Write, status_of}
+use Rattle.fault_lines.specs.Failure.{Failure, Memory, Words, Write, source_failed}
 use Rattle.program_source.specs.Ends.{Accepts, OnSource}
 use Rattle.stages.specs.Stages.{As}
 use Rattle.program_source.specs.StepsText.{IsStepsText}
@@ -28,8 +29,8 @@ text_at (text ∷ texts) (suc i) = text_at texts i
 pub record IsKernelOf (program script text : List ℕ) : Type 0 where
   pub source : PlainProgram
   pub output : PlainTy
-  pub task : Bool
-  pub compiled : IsCompiled program script source output task text
+  pub asks : launches.Asks
+  pub compiled : IsCompiled program script source output asks text
 
 -- what a request writes for the texts of its files
 abbrev pub Answers : CommandLine → List (List ℕ) → List ℕ → Type 0
@@ -59,17 +60,17 @@ IsAnswer told request text = (texts : List (List ℕ)) × AreTexts told (files_o
 
 -- the texts of a request are well formed: the last term is legal and within its limits, or there are terms for steps, or types for an evaluation, and the launch file is for it; a demo has none
 abbrev pub IsAccepted : CommandLine → List (List ℕ) → Type 0
-IsAccepted (compile p s) texts = Accepts (text_at texts 0) (λ q. As Source (LegalOf q (text_at texts 1)))
+IsAccepted (compile p s) texts = Accepts (text_at texts 0) (λ q. As source_failed (LegalOf q (text_at texts 1)))
 IsAccepted (run p s l traced) texts = Accepts (text_at texts 0) (λ q. RunOf q (text_at texts 1) (text_at texts 2))
-IsAccepted (steps p s) texts = Accepts (text_at texts 0) (λ q. As Source (TermsOf q (text_at texts 1)))
+IsAccepted (steps p s) texts = Accepts (text_at texts 0) (λ q. As source_failed (TermsOf q (text_at texts 1)))
 IsAccepted (eval p l) texts = Accepts (text_at texts 0) (λ q. EvalOf q (text_at texts 1))
 IsAccepted (demo x) texts = Unit {0}
 
 -- the first stage that stops for the texts of a request, and why; none stops a demo
 abbrev pub StopsAtText : CommandLine → List (List ℕ) → Failure → Type 0
-StopsAtText (compile p s) texts failure = OnSource (text_at texts 0) (λ q. As Source (LegalOf q (text_at texts 1))) (Err failure)
+StopsAtText (compile p s) texts failure = OnSource (text_at texts 0) (λ q. As source_failed (LegalOf q (text_at texts 1))) (Err failure)
 StopsAtText (run p s l traced) texts failure = OnSource (text_at texts 0) (λ q. RunOf q (text_at texts 1) (text_at texts 2)) (Err failure)
-StopsAtText (steps p s) texts failure = OnSource (text_at texts 0) (λ q. As Source (TermsOf q (text_at texts 1))) (Err failure)
+StopsAtText (steps p s) texts failure = OnSource (text_at texts 0) (λ q. As source_failed (TermsOf q (text_at texts 1))) (Err failure)
 StopsAtText (eval p l) texts failure = OnSource (text_at texts 0) (λ q. EvalOf q (text_at texts 1)) (Err failure)
 StopsAtText (demo x) texts failure = ⊥
 
@@ -81,14 +82,14 @@ StopsFor told rose request failure =
 
 -- or for want of memory, which is free
 abbrev pub FailsFor : Told → (List ℕ → Type 0) → CommandLine → Failure → Type 0
-FailsFor told rose request failure = (status_of failure ≡ 13) ⊎ StopsFor told rose request failure
+FailsFor told rose request failure = (failure ≡ Memory) ⊎ StopsFor told rose request failure
 
 -- ---- the whole call
 
 -- why words have no result: want of memory, which is free; or the command refuses them; or their request stops
 abbrev pub WordsCause : Told → (List ℕ → Type 0) → List (List ℕ) → Failure → Type 0
 WordsCause told rose words failure =
-    (status_of failure ≡ 13)
+    (failure ≡ Memory)
     ⊎ (((failure ≡ Words) × IsRefused words)
     ⊎ ((request : CommandLine) × Asks words request × StopsFor told rose request failure))
 

@@ -9,7 +9,7 @@ use Rattle.size_arith.specs.Ranges.{leasts}
 use Rattle.lift_tree.specs.declared.layout.Layout as layout
 use Rattle.lift_tree.specs.declared.layout.Layout.TheVariants.{Join, Transpose, Split, Reverse, Stride}
 use Rattle.lift_tree.specs.declared.term.UnaryForm.{UnaryForm}
-use Rattle.lift_tree.specs.declared.term.UnaryForm.TheVariants.{Div, Rem, First, Second, Layout, Slide, Pad, ToLocal, ToPrivate}
+use Rattle.lift_tree.specs.declared.term.UnaryForm.TheVariants.{Div, Rem, First, Second, Layout, Slide, Pad, ToLocal, ToPrivate, Then}
 use Rattle.lift_tree.specs.declared.term.BinaryForm.{BinaryForm}
 use Rattle.lift_tree.specs.declared.term.BinaryForm.TheVariants as binary
 use Rattle.lift_tree.specs.Tree.{Tree, Variable, Number, Input, Unary, Binary, Select, Let, Map, Fold}
@@ -43,6 +43,7 @@ module _ (d : Declared) (inputs : Every (IsFormed d.names) d.inputs) where
   unary_formed (Pad l k) b a r h = r.4
   unary_formed ToLocal b a r h = subst (IsFormed d.names) r h
   unary_formed ToPrivate b a r h = subst (IsFormed d.names) r h
+  unary_formed Then b a r h = subst (IsFormed d.names) r h
 
   binary_formed : (f : BinaryForm) (b c a : PlainTy) → BinaryRow f b c a → IsFormed d.names b → IsFormed d.names c → IsFormed d.names a
   binary_formed (binary.Operator o) b c a r h k = subst (IsFormed d.names) (sym r.2) tt

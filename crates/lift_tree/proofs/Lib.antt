@@ -1,4 +1,5 @@
 pub mod Annotated
+pub mod Fitting
 pub mod Formed
 pub mod Layouts
 pub mod Members

@@ -15,7 +15,7 @@ use Rattle.size_arith.proofs.Integers.{add_mul}
 use Rattle.lift_tree.specs.declared.layout.Layout as layout
 use Rattle.lift_tree.specs.declared.layout.Layout.TheVariants.{Join, Transpose, Split, Reverse, Stride}
 use Rattle.lift_tree.specs.declared.term.UnaryForm.{UnaryForm}
-use Rattle.lift_tree.specs.declared.term.UnaryForm.TheVariants.{Div, Rem, First, Second, Layout, Slide, Pad, ToLocal, ToPrivate}
+use Rattle.lift_tree.specs.declared.term.UnaryForm.TheVariants.{Div, Rem, First, Second, Layout, Slide, Pad, ToLocal, ToPrivate, Then}
 use Rattle.lift_tree.specs.declared.term.BinaryForm.{BinaryForm}
 use Rattle.lift_tree.specs.declared.term.BinaryForm.TheVariants as binary
 use Rattle.lift_tree.specs.Values.{Value, Word, Both, array, members, word, first, second}
@@ -227,6 +227,7 @@ module _ (d : Declared) (w : World) (ok : IsAdmissible d w) (few : length d.name
       (list_has w.bases x (plus (plus (constant l) n) (constant k)) (padded l k xs) total (every-padded (HasType w.bases x) l k xs least u.1))
   unary_has ToLocal b a v fb r t = subst (λ z. HasType w.bases z v) r t
   unary_has ToPrivate b a v fb r t = subst (λ z. HasType w.bases z v) r t
+  unary_has Then b a v fb r t = subst (λ z. HasType w.bases z v) r t
 
   pub binary_has : (f : BinaryForm) (b c a : PlainTy) (v u : Value) → BinaryRow f b c a → HasType w.bases b v → HasType w.bases c u → HasType w.bases a (binary_value f v u)
   binary_has (binary.Operator o) b c a v u r s t =

@@ -5,7 +5,7 @@ use Rattle.size_arith.specs.declared.poly.Monomial.{Monomial}
 use Rattle.lift_tree.specs.declared.layout.Layout as layout
 use Rattle.lift_tree.specs.declared.layout.Layout.TheVariants.{Join, Transpose, Split, Reverse, Stride}
 use Rattle.lift_tree.specs.declared.term.UnaryForm.{UnaryForm}
-use Rattle.lift_tree.specs.declared.term.UnaryForm.TheVariants.{Div, Rem, First, Second, Layout, Slide, Pad, ToLocal, ToPrivate}
+use Rattle.lift_tree.specs.declared.term.UnaryForm.TheVariants.{Div, Rem, First, Second, Layout, Slide, Pad, ToLocal, ToPrivate, Then}
 use Rattle.lift_tree.specs.declared.term.BinaryForm.{BinaryForm}
 use Rattle.lift_tree.specs.declared.term.BinaryForm.TheVariants as binary
 use Rattle.lift_tree.specs.Tree.{Tree, Variable, Number, Input, Unary, Binary, Select, Let, Map, Fold}
@@ -44,6 +44,7 @@ unary_unique names (Pad l m) b a c h k =
     let p = h.3 in let q = k.3 in let r = i.0 in let u = i.1 in cc
 unary_unique names ToLocal b a c h k = sym h ∙ k
 unary_unique names ToPrivate b a c h k = sym h ∙ k
+unary_unique names Then b a c h k = sym h ∙ k
 
 binary_unique : (f : BinaryForm) (b d a c : PlainTy) → BinaryRow f b d a → BinaryRow f b d c → a ≡ c
 binary_unique (binary.Operator o) b d a c h k = h.2 ∙ sym k.2

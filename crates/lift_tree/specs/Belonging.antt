@@ -7,7 +7,7 @@ use Rattle.lift_tree.specs.declared.length.Part.{Part}
 use Rattle.lift_tree.specs.declared.layout.Layout as layout
 use Rattle.lift_tree.specs.declared.layout.Layout.TheVariants.{Join, Transpose, Split, Reverse, Stride}
 use Rattle.lift_tree.specs.declared.term.UnaryForm.{UnaryForm}
-use Rattle.lift_tree.specs.declared.term.UnaryForm.TheVariants.{Div, Rem, First, Second, Layout, Slide, Pad, ToLocal, ToPrivate}
+use Rattle.lift_tree.specs.declared.term.UnaryForm.TheVariants.{Div, Rem, First, Second, Layout, Slide, Pad, ToLocal, ToPrivate, Then}
 use Rattle.lift_tree.specs.Tree.{Tree, Variable, Number, Input, Unary, Binary, Select, Let, Map, Fold}
 use Rattle.lift_tree.specs.InputTypes as written
 use Rattle.lift_tree.specs.InputTypes.{Written}
@@ -74,6 +74,7 @@ FormIsNamed s (Slide m n) = (1 ≤ m) × (1 ≤ n)
 FormIsNamed s (Pad m n) = Unit {0}
 FormIsNamed s ToLocal = Unit {0}
 FormIsNamed s ToPrivate = Unit {0}
+FormIsNamed s Then = Unit {0}
 
 -- each variable has its binder, where there are so many around, and each input and size is one of so many
 abbrev pub Belongs : (sizes inputs binders : ℕ) → Tree → Type 0

@@ -9,12 +9,12 @@ use Rattle.lift_tree.specs.declared.length.Part.{Part}
 use Rattle.lift_tree.specs.declared.layout.Layout as layout
 use Rattle.lift_tree.specs.declared.layout.Layout.TheVariants.{Join, Transpose, Split, Reverse, Stride}
 use Rattle.lift_tree.specs.declared.term.UnaryForm.{UnaryForm}
-use Rattle.lift_tree.specs.declared.term.UnaryForm.TheVariants.{Div, Rem, First, Second, Layout, Slide, Pad, ToLocal, ToPrivate}
+use Rattle.lift_tree.specs.declared.term.UnaryForm.TheVariants.{Div, Rem, First, Second, Layout, Slide, Pad, ToLocal, ToPrivate, Then}
 use Rattle.lift_tree.specs.Tree.{Tree, Variable, Number, Input, Unary, Binary, Select, Let, Map, Fold}
 use Rattle.lift_tree.specs.InputTypes as written
 use Rattle.lift_tree.specs.InputTypes.{Written}
 use Rattle.lift_tree.specs.Types.{PlainTy, U32, PairOf, ArrayOf}
-use Rattle.lift_tree.specs.Typing.{constant, declared_by, IsDeclared}
+use Rattle.lift_tree.specs.Typing.{constant, Declared, declared_by, IsDeclared}
 use Rattle.lift_tree.specs.WorkedOut.{factor_monomial, product_of, with_part, length_of, worked_out, range_of}
 use Rattle.lift_tree.specs.Lists.{Every}
 use Rattle.lift_tree.specs.Programs.{PlainInput, PlainProgram}
@@ -138,6 +138,7 @@ UnaryFits names (Slide s t) a = SlideFits names s t a
 UnaryFits names (Pad l r) a = PadFits names l r a
 UnaryFits names ToLocal a = Unit {0}
 UnaryFits names ToPrivate a = Unit {0}
+UnaryFits names Then a = Unit {0}
 
 -- the nodes of a term that have these types
 abbrev pub NodesFit : List Name → Tree → Annotation → Type 0
@@ -168,6 +169,28 @@ InputFits names (written.Array a n) =
 pub record IsWithinLimits (p : PlainProgram) (t : Tree) (n : Annotation) : Type 0 where
   pub inputs : Every (λ (i : PlainInput). InputFits (map range_of p.sizes) i.ty) p.inputs
   pub nodes : NodesFit (map range_of p.sizes) t n
+
+-- ---- what may be named
+-- each length has few enough terms, of a low enough degree
+abbrev pub LengthsFit : PlainTy → Type 0
+LengthsFit U32 = Unit {0}
+LengthsFit (PairOf a b) = LengthsFit a × LengthsFit b
+LengthsFit (ArrayOf a n) = (length n ≤ 32) × (degree n ≤ 4) × LengthsFit a
+
+-- a type as a whole, wherever it comes from
+pub record TypeFits (names : List Name) (a : PlainTy) : Type 0 where
+  pub lengths : LengthsFit a
+  pub arrays : arrays a ≤ 4
+  pub scalars : HasFewScalars names a
+
+-- the inputs' types, and the nodes of a term over them that have these types, pass no limit
+pub record TypesFit (d : Declared) (t : Tree) (n : Annotation) : Type 0 where
+  pub inputs : Every (TypeFits d.names) d.inputs
+  pub nodes : NodesFit d.names t n
+
+-- those of a program within its limits don't
+abbrev pub LimitsFit : Type 0
+LimitsFit = (p : PlainProgram) (t : Tree) (n : Annotation) → IsWithinLimits p t n → TypesFit (declared_by p) t n
 
 -- the program is declared, and the scalars of its inputs are few: what a launch file is read for
 pub record HasProperInputs (p : PlainProgram) : Type 0 where

@@ -68,6 +68,7 @@ unary_value w (unary.Slide size step) v = array_of_rows (pieces (pieces_that_fit
 unary_value w (unary.Pad before after) v = array (padded before after (members v))
 unary_value w unary.ToLocal v = v
 unary_value w unary.ToPrivate v = v
+unary_value w unary.Then v = v
 
 abbrev pub binary_value : BinaryForm → Value → Value → Value
 binary_value (binary.Operator o) v u = Word (apply_op (scalar_op o) (word v) (word u))

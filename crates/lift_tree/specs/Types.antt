@@ -1,5 +1,5 @@
 -- Types, wherever they lie in memory, and the values that have them.
-use Rattle.std.specs.Prelude.{ℕ, ◌≡◌, ◌<◌, ◌^◌, Bool, true, false, List, length, pos, Some, slice_get}
+use Rattle.std.specs.Prelude.{ℕ, ◌≡◌, ◌<◌, ◌^◌, Bool, true, false, ◌&&◌, List, length, pos, Some, slice_get}
 use Rattle.size_arith.specs.declared.names.Name.{Name}
 use Rattle.size_arith.specs.declared.poly.Monomial.{Monomial}
 use Rattle.size_arith.specs.Polynomial.{value_at}
@@ -35,6 +35,17 @@ abbrev pub HoldsElements : PlainTy → Type 0
 HoldsElements U32 = Unit {0}
 HoldsElements (PairOf a b) = IsElement a × IsElement b
 HoldsElements (ArrayOf a n) = HoldsElements a
+
+-- the same as tests
+abbrev pub is_element : PlainTy → Bool
+is_element U32 = true
+is_element (PairOf a b) = is_element a && is_element b
+is_element (ArrayOf a n) = false
+
+abbrev pub holds_elements : PlainTy → Bool
+holds_elements U32 = true
+holds_elements (PairOf a b) = is_element a && is_element b
+holds_elements (ArrayOf a n) = holds_elements a
 
 -- the type of a program's output: an array, its pairs hold elements only
 abbrev pub IsOutput : PlainTy → Type 0

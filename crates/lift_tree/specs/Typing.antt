@@ -8,7 +8,7 @@ use Rattle.size_arith.specs.Shown.{ShownAtLeast}
 use Rattle.lift_tree.specs.declared.layout.Layout as layout
 use Rattle.lift_tree.specs.declared.layout.Layout.TheVariants.{Join, Transpose, Split, Reverse, Stride}
 use Rattle.lift_tree.specs.declared.term.UnaryForm.{UnaryForm}
-use Rattle.lift_tree.specs.declared.term.UnaryForm.TheVariants.{Div, Rem, First, Second, Layout, Slide, Pad, ToLocal, ToPrivate}
+use Rattle.lift_tree.specs.declared.term.UnaryForm.TheVariants.{Div, Rem, First, Second, Layout, Slide, Pad, ToLocal, ToPrivate, Then}
 use Rattle.lift_tree.specs.declared.term.BinaryForm.{BinaryForm}
 use Rattle.lift_tree.specs.declared.term.BinaryForm.TheVariants as binary
 use Rattle.lift_tree.specs.Tree.{Tree, Variable, Number, Input, Unary, Binary, Select, Let, Map, Fold}
@@ -50,6 +50,7 @@ UnaryRow names (Slide s t) b a =
 UnaryRow names (Pad l r) b a = (x : PlainTy) × (n : List Monomial) × (b ≡ ArrayOf x n) × (a ≡ ArrayOf x (plus (plus (constant l) n) (constant r))) × IsFormed names a
 UnaryRow names ToLocal b a = b ≡ a
 UnaryRow names ToPrivate b a = b ≡ a
+UnaryRow names Then b a = b ≡ a
 
 -- a form with children of types b and c has type a
 abbrev pub BinaryRow : BinaryForm → (b c a : PlainTy) → Type 0

@@ -1,6 +1,7 @@
 //! Laws of the definitions.
 
 ghost use Rattle.lift_tree.specs.Annotations.{AnnotatedIsTyped};
+ghost use Rattle.lift_tree.specs.Limits.{LimitsFit};
 ghost use Rattle.lift_tree.specs.Positions.{ReversesByPosition, StridesByPosition};
 ghost use Rattle.lift_tree.specs.Typing.{OneType, ValuesHaveTypes};
 
@@ -32,4 +33,10 @@ pub fn reverses_have_positions()
 #[tactic(auto, using(crate::proofs::Strides::strides_by_position))]
 pub fn strides_have_positions()
     ensures { StridesByPosition }
+{}
+
+/// What a program within its limits may name, and the nodes of its term, pass no limit.
+#[tactic(auto, using(crate::proofs::Fitting::limits_fit))]
+pub fn limits_fit()
+    ensures { LimitsFit }
 {}

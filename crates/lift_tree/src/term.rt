@@ -21,7 +21,7 @@ pub enum Operator {
     Eq,
 }
 
-/// A form with one child: the patterns of Lift (ICFP 2015), its stencils' slide and pad (CGO 2018), and the address spaces of Lift IR (CGO 2017).
+/// A form with one child: the patterns of Lift (ICFP 2015), its stencils' slide and pad (CGO 2018), the address spaces of Lift IR (CGO 2017), and the cut between two kernels, which is this project's own.
 #[derive(Debug, Drop)]
 pub enum UnaryForm {
     /// The whole quotient by this literal.
@@ -42,6 +42,8 @@ pub enum UnaryForm {
     ToLocal,
     /// The same value, kept in private memory.
     ToPrivate,
+    /// The same array, made by a kernel of its own, from which the kernels after it read it.
+    Then,
 }
 
 /// A form with two children and no binder.
@@ -114,6 +116,7 @@ impl UnaryForm {
             UnaryForm::Pad(before, after) => Ok(UnaryForm::Pad(*before, *after)),
             UnaryForm::ToLocal => Ok(UnaryForm::ToLocal),
             UnaryForm::ToPrivate => Ok(UnaryForm::ToPrivate),
+            UnaryForm::Then => Ok(UnaryForm::Then),
         }
     }
 }

@@ -1,7 +1,7 @@
 //! Types.
 
 ghost use Rattle.std.specs.Prelude.{◌≡◌, IfOk};
-ghost use Rattle.lift_tree.specs.Types.{is_array, ty_of};
+ghost use Rattle.lift_tree.specs.Types.{holds_elements, is_array, is_element, ty_of};
 
 use size_arith::Poly;
 use std::alloc::{AllocError, Global};
@@ -40,6 +40,28 @@ impl Ty {
         match self {
             Ty::Number | Ty::Pair(_, _) => false,
             Ty::Array(_, _) => true,
+        }
+    }
+
+    /// Whether it is u32, or a pair of such types.
+    pub fn is_element(&self) -> bool
+        ensures { result ≡ is_element (ty_of self.now) }
+    {
+        match self {
+            Ty::Number => true,
+            Ty::Pair(a, b) => a.is_element() && b.is_element(),
+            Ty::Array(_, _) => false,
+        }
+    }
+
+    /// Whether its pairs hold elements only.
+    pub fn holds_elements(&self) -> bool
+        ensures { result ≡ holds_elements (ty_of self.now) }
+    {
+        match self {
+            Ty::Number => true,
+            Ty::Pair(a, b) => a.is_element() && b.is_element(),
+            Ty::Array(element, _) => element.holds_elements(),
         }
     }
 }

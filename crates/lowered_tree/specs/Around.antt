@@ -1,11 +1,10 @@
 -- What is around a node, from the root on. Each takes what is around the parent, and the parent's type.
 use Rattle.std.specs.Prelude.{Bool, true, false, not, ◌&&◌, ◌||◌}
 use Rattle.lift_tree.specs.declared.term.UnaryForm.{UnaryForm}
-use Rattle.lift_tree.specs.declared.term.UnaryForm.TheVariants.{Div, Rem, First, Second, Layout, Slide, Pad, ToLocal, ToPrivate}
+use Rattle.lift_tree.specs.declared.term.UnaryForm.TheVariants.{Div, Rem, First, Second, Layout, Slide, Pad, ToLocal, ToPrivate, Then}
 use Rattle.lift_tree.specs.declared.term.MapKind.{MapKind}
 use Rattle.lift_tree.specs.Tree.{Tree}
-use Rattle.lift_tree.specs.Types.{PlainTy}
-use Rattle.lowered_tree.specs.Elements.{is_element}
+use Rattle.lift_tree.specs.Types.{PlainTy, is_element}
 use Rattle.lowered_tree.specs.Kinds.{is_global, is_over_groups, is_local, is_sequential, is_parallel, is_task}
 use Rattle.lowered_tree.specs.declared.around.Around.{Around}
 use Rattle.lowered_tree.specs.declared.around.AddressSpace.{AddressSpace}
@@ -48,6 +47,7 @@ under_form s (Slide n m) a = operand s a
 under_form s (Pad n m) a = operand s a
 under_form s ToLocal a = copied s Local a
 under_form s ToPrivate a = copied s Private a
+under_form s Then a = operand s a
 
 -- the array of a map or fold, or a let's value. An element is no argument
 abbrev pub argument : Around → (of_element : Bool) → PlainTy → Around

@@ -1,12 +1,12 @@
 -- Terms whose copies are of arrays.
 use Rattle.std.specs.Prelude.{◌≡◌, true}
 use Rattle.lift_tree.specs.declared.term.UnaryForm.{UnaryForm}
-use Rattle.lift_tree.specs.declared.term.UnaryForm.TheVariants.{Div, Rem, First, Second, Layout, Slide, Pad, ToLocal, ToPrivate}
+use Rattle.lift_tree.specs.declared.term.UnaryForm.TheVariants.{Div, Rem, First, Second, Layout, Slide, Pad, ToLocal, ToPrivate, Then}
 use Rattle.lift_tree.specs.Tree.{Tree, Unary, Binary, Select, Let, Map, Fold}
-use Rattle.lift_tree.specs.Types.{PlainTy, is_array}
+use Rattle.lift_tree.specs.Types.{PlainTy, IsOutput, is_array}
 use Rattle.lift_tree.specs.Annotations.{Annotation, One, Two, Three}
 
--- where a form copies, what it copies is an array
+-- where a form copies, what it copies is an array; what a kernel of its own makes may be a program's output
 abbrev pub FormCopiesArrays : UnaryForm → PlainTy → Type 0
 FormCopiesArrays (Div n) a = Unit {0}
 FormCopiesArrays (Rem n) a = Unit {0}
@@ -17,8 +17,9 @@ FormCopiesArrays (Slide s t) a = Unit {0}
 FormCopiesArrays (Pad l r) a = Unit {0}
 FormCopiesArrays ToLocal a = is_array a ≡ true
 FormCopiesArrays ToPrivate a = is_array a ≡ true
+FormCopiesArrays Then a = IsOutput a
 
--- local and private copies are of arrays
+-- local and private copies are of arrays, and so are those that kernels of their own make
 abbrev pub CopiesArrays : Tree → Annotation → Type 0
 CopiesArrays (Unary f t) (One a n) = FormCopiesArrays f a × CopiesArrays t n
 CopiesArrays (Binary f t u) (Two a n m) = CopiesArrays t n × CopiesArrays u m

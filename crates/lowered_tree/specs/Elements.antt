@@ -1,13 +1,7 @@
 -- Tests of types.
-use Rattle.std.specs.Prelude.{ℕ, zero, suc, Bool, true, false, ◌&&◌, ◌||◌, List, [], ◌∷◌}
+use Rattle.std.specs.Prelude.{ℕ, zero, suc, Bool, true, false, ◌||◌, List, [], ◌∷◌}
 use Rattle.size_arith.specs.declared.poly.Monomial.{Monomial}
 use Rattle.lift_tree.specs.Types.{PlainTy, U32, PairOf, ArrayOf}
-
--- u32, or a pair of element types
-abbrev pub is_element : PlainTy → Bool
-is_element U32 = true
-is_element (PairOf a b) = is_element a && is_element b
-is_element (ArrayOf a n) = false
 
 abbrev pub names_a_size : List ℕ → Bool
 names_a_size [] = false

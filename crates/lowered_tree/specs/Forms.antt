@@ -6,7 +6,7 @@ use Rattle.lift_tree.specs.declared.term.MapKind.{MapKind}
 use Rattle.lift_tree.specs.declared.term.FoldKind.TheVariants as fold_kind
 use Rattle.lift_tree.specs.Tree.{Tree, Variable, Input, Unary, Binary, Let, Map, Fold}
 use Rattle.lift_tree.specs.Annotations.{Annotation, Two, type_in}
-use Rattle.lowered_tree.specs.Elements.{is_element}
+use Rattle.lift_tree.specs.Types.{is_element}
 use Rattle.lowered_tree.specs.Kinds.{is_plain, is_local}
 
 -- a map of such a kind
@@ -35,6 +35,11 @@ is_local_copy _ = false
 abbrev pub is_private_copy : Tree → Bool
 is_private_copy (Unary unary.ToPrivate t) = true
 is_private_copy _ = false
+
+-- a cut between two kernels
+abbrev pub is_then : Tree → Bool
+is_then (Unary unary.Then t) = true
+is_then _ = false
 
 -- seen through layouts that are written through and the bodies of lets, a map over a group's items
 abbrev pub shows_local_map : Tree → Bool

@@ -1,14 +1,15 @@
--- Which nests of maps, folds and copies can be printed: eleven rules, each broken at single nodes.
-use Rattle.std.specs.Prelude.{◌≡◌, ◌↔◌, ℕ, Bool, false, not, ◌&&◌, ◌||◌, List, [], ◌∷◌, ◌++◌, map, Option, Some, None, if◌then◌else◌}
+-- Which nests of maps, folds and copies can be printed: eleven rules, and one before them, each broken at single nodes, and one of the whole.
+use Rattle.std.specs.Prelude.{◌≡◌, ◌↔◌, ℕ, Bool, false, not, ◌&&◌, ◌||◌, List, [], ◌∷◌, ◌++◌, map, nat_lt, Option, Some, None, if◌then◌else◌}
 use Rattle.lift_tree.specs.Tree.{Tree, Unary, Binary, Select, Let, Map, Fold}
 use Rattle.lift_tree.specs.Annotations.{Annotation, One, Two, Three, type_in}
 use Rattle.lift_tree.specs.Lists.{Every}
 use Rattle.lowered_tree.specs.declared.around.Around.{Around}
 use Rattle.lowered_tree.specs.declared.rule.NestRule.{NestRule}
-use Rattle.lowered_tree.specs.declared.rule.NestRule.TheVariants.{N1, N2, N3, N4, N5, N6, N7, N8, N9, N10, N11}
-use Rattle.lowered_tree.specs.Elements.{is_element, hangs_on_sizes}
-use Rattle.lowered_tree.specs.Kinds.{is_global, is_over_groups, is_local, is_sequential, is_parallel}
-use Rattle.lowered_tree.specs.Forms.{is_map_of, is_undecided, is_lowered_map, is_lowered_fold, is_local_copy, is_private_copy, copies_local_map, is_let_of_element, is_let_of_array, is_read_alone, is_placed}
+use Rattle.lowered_tree.specs.declared.rule.NestRule.TheVariants.{N1, N2, N3, N4, N5, N6, N7, N8, N9, N10, N11, N12, N13}
+use Rattle.lift_tree.specs.Types.{is_element}
+use Rattle.lowered_tree.specs.Elements.{hangs_on_sizes}
+use Rattle.lowered_tree.specs.Kinds.{is_global, is_over_groups, is_local, is_sequential, is_parallel, is_task}
+use Rattle.lowered_tree.specs.Forms.{is_map_of, is_undecided, is_lowered_map, is_lowered_fold, is_local_copy, is_private_copy, copies_local_map, is_let_of_element, is_let_of_array, is_read_alone, is_placed, is_then}
 use Rattle.lowered_tree.specs.Around.{at_root, operand, under_form, argument, let_body, map_body, fold_body}
 
 -- ---- nodes
@@ -58,7 +59,7 @@ root_site t n = site_at (at_root t) t n
 
 -- ---- rules
 
--- the rule is broken at a node t whose types are n, with this around it
+-- the rule is broken at a node t whose types are n, with this around it; N12 is of the whole, and no node breaks it
 abbrev pub breaks : NestRule → Around → Tree → Annotation → Bool
 breaks N1 s t n = is_undecided t
 breaks N2 s t n = is_map_of is_local t && not s.is_next_to_group
@@ -75,6 +76,8 @@ breaks N8 s t n = is_private_copy t && (not s.in_item || hangs_on_sizes (type_in
 breaks N9 s t n = is_map_of is_parallel t && s.in_serial
 breaks N10 s t n = (s.is_written && not (is_element (type_in n))) && is_read_alone t
 breaks N11 s t n = (s.is_written && not (is_element (type_in n))) && is_placed t
+breaks N12 s t n = false
+breaks N13 s t n = is_then t
 
 abbrev pub broken_at : NestRule → Site → Bool
 broken_at r x = breaks r x.around x.tree x.types
@@ -91,8 +94,13 @@ IsLegalNest t n = Every IsUnbroken (sites (at_root t) t n)
 
 -- ---- the first broken rule
 
-abbrev pub rules : List NestRule
-rules = N1 ∷ N2 ∷ N3 ∷ N4 ∷ N5 ∷ N6 ∷ N7 ∷ N8 ∷ N9 ∷ N10 ∷ N11 ∷ []
+-- what is judged at all nodes before any other rule
+abbrev pub earliest_rules : List NestRule
+earliest_rules = N13 ∷ []
+
+-- all other rules that a node breaks
+abbrev pub later_rules : List NestRule
+later_rules = N1 ∷ N2 ∷ N3 ∷ N4 ∷ N5 ∷ N6 ∷ N7 ∷ N8 ∷ N9 ∷ N10 ∷ N11 ∷ []
 
 -- the first of these rules that is broken at the node
 abbrev pub lowest : List NestRule → Site → Option NestRule
@@ -107,14 +115,40 @@ abbrev pub at_place : List ℕ → Option NestRule → Option (List ℕ × NestR
 at_place p (Some r) = Some (p, r)
 at_place p None = None
 
--- of these nodes the first at which a rule is broken, and the lowest such rule
-abbrev pub first_broken : List Site → Option (List ℕ × NestRule)
-first_broken [] = None
-first_broken (x ∷ xs) = first_of (at_place x.place (lowest rules x)) (first_broken xs)
+-- of these nodes the first at which one of these rules is broken, and the lowest such rule
+abbrev pub first_broken : List NestRule → List Site → Option (List ℕ × NestRule)
+first_broken rs [] = None
+first_broken rs (x ∷ xs) = first_of (at_place x.place (lowest rs x)) (first_broken rs xs)
 
-abbrev pub nest_fault : Tree → Annotation → Option (List ℕ × NestRule)
-nest_fault t n = first_broken (sites (at_root t) t n)
+-- ---- a fixed local size
 
--- where there is none the nest is legal, and else it isn't
+-- a group would have more than one item, and all but one would do nothing: no map is parallel
+abbrev pub leaves_items_idle : Option ℕ → Tree → Bool
+leaves_items_idle (Some size) t = nat_lt 1 size && is_task t
+leaves_items_idle None t = false
+
+-- the rule that a fixed local size breaks
+abbrev pub size_rule : Option ℕ → Tree → Option NestRule
+size_rule local t = if leaves_items_idle local t then Some N12 else None
+
+-- of the whole's nodes the first at which one of the later rules is broken, where this one is tried behind those of the root
+abbrev pub first_broken_with : Option NestRule → List Site → Option (List ℕ × NestRule)
+first_broken_with whole [] = at_place [] whole
+first_broken_with whole (root ∷ xs) =
+    first_of (at_place root.place (lowest later_rules root)) (first_of (at_place [] whole) (first_broken later_rules xs))
+
+-- with this local size, where one is fixed, the first cut in preorder, or else the first node at which a rule is broken, and the lowest such rule
+abbrev pub nest_fault : Option ℕ → Tree → Annotation → Option (List ℕ × NestRule)
+nest_fault local t n =
+    first_of (first_broken earliest_rules (sites (at_root t) t n))
+    (first_broken_with (size_rule local t) (sites (at_root t) t n))
+
+-- the nest is legal, and no item of a fixed local size is idle
+pub record IsLegalWith (local : Option ℕ) (t : Tree) (n : Annotation) : Type 0 where
+  pub nest : IsLegalNest t n
+  pub size : leaves_items_idle local t ≡ false
+
+-- where there is none the nest is legal with the local size, and else it isn't
 abbrev pub LegalWithoutFault : Type 0
-LegalWithoutFault = (t : Tree) (n : Annotation) → (nest_fault t n ≡ None) ↔ IsLegalNest t n
+LegalWithoutFault =
+    (local : Option ℕ) (t : Tree) (n : Annotation) → (nest_fault local t n ≡ None) ↔ IsLegalWith local t n

@@ -1,8 +1,8 @@
 -- What is known of each lowered term.
-use Rattle.std.specs.Prelude.{◌≡◌, ◌≤◌, [], length}
+use Rattle.std.specs.Prelude.{◌≤◌, [], length}
 use Rattle.lift_tree.specs.Annotations.{Annotation, Annotates, type_in}
 use Rattle.lift_tree.specs.Belonging.{IsProper}
-use Rattle.lift_tree.specs.Limits.{IsWithinLimits}
+use Rattle.lift_tree.specs.Limits.{IsWithinLimits, TypesFit}
 use Rattle.lift_tree.specs.Programs.{PlainProgram}
 use Rattle.lift_tree.specs.Tree.{Tree, height}
 use Rattle.lift_tree.specs.Types.{IsOutput}
@@ -21,9 +21,15 @@ pub record IsTypedWithin (p : PlainProgram) (t : Tree) (n : Annotation) : Type 0
   pub low : height t ≤ 256
   pub copies : CopiesArrays t n
 
--- it is such a term of some program that declares the same, and its forms have words for numbers
-pub record IsOfProgram (d : Declared) (t : Tree) (n : Annotation) : Type 0 where
-  pub program : PlainProgram
-  pub declares : declared_by program ≡ d
-  pub typed : IsTypedWithin program t n
+-- A typed term over what it may name, within the limits, which copies nothing but arrays; its forms
+-- have words for numbers. Inputs are a program's eight at most, and an array of each of fifteen
+-- kernels before.
+pub record IsSoundTerm (d : Declared) (t : Tree) (n : Annotation) : Type 0 where
+  pub few : length d.inputs ≤ 23
+  pub declared : IsDeclared d
+  pub nodes : Annotates d [] t n
+  pub output : IsOutput (type_in n)
+  pub within : TypesFit d t n
+  pub low : height t ≤ 256
+  pub copies : CopiesArrays t n
   pub words : FormsHaveWords t

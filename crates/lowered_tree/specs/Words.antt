@@ -1,7 +1,7 @@
 -- Terms whose forms' numbers are words: what code's terms are.
 use Rattle.std.specs.Prelude.{◌<◌, ◌^◌}
 use Rattle.lift_tree.specs.declared.term.UnaryForm.{UnaryForm}
-use Rattle.lift_tree.specs.declared.term.UnaryForm.TheVariants.{Div, Rem, First, Second, Layout, Slide, Pad, ToLocal, ToPrivate}
+use Rattle.lift_tree.specs.declared.term.UnaryForm.TheVariants.{Div, Rem, First, Second, Layout, Slide, Pad, ToLocal, ToPrivate, Then}
 use Rattle.lift_tree.specs.Tree.{Tree, Variable, Number, Input, Unary, Binary, Select, Let, Map, Fold}
 
 -- a divisor, a slide's step, and the number before a pad
@@ -15,6 +15,7 @@ FormHasWords (Slide s t) = t < 2 ^ 32
 FormHasWords (Pad l r) = l < 2 ^ 32
 FormHasWords ToLocal = Unit {0}
 FormHasWords ToPrivate = Unit {0}
+FormHasWords Then = Unit {0}
 
 abbrev pub FormsHaveWords : Tree → Type 0
 FormsHaveWords (Variable v) = Unit {0}

@@ -1,9 +1,8 @@
 //! What is around a node of a term.
 
 ghost use Rattle.std.specs.Prelude.{◌≡◌};
-ghost use Rattle.lift_tree.specs.Types.{ty_of};
+ghost use Rattle.lift_tree.specs.Types.{ty_of, is_element};
 ghost use Rattle.lift_tree.specs.Tree.{tree_of};
-ghost use Rattle.lowered_tree.specs.Elements.{is_element};
 ghost use Rattle.lowered_tree.specs.Kinds.{is_parallel, is_task};
 ghost use Rattle.lowered_tree.specs.Around.{at_root, operand, passed, copied, under_form, argument, let_body, map_body, fold_body};
 
@@ -44,17 +43,6 @@ pub struct Around {
     pub in_serial: bool,
     /// Where what is written here goes: to the nearest copy around it, else to the output.
     pub space: AddressSpace,
-}
-
-/// Whether the type is u32, or a pair of such types.
-pub fn is_element(ty: &Ty) -> bool
-    ensures { result ≡ is_element (ty_of ty.now) }
-{
-    match ty {
-        Ty::Number => true,
-        Ty::Pair(a, b) => is_element(a) && is_element(b),
-        Ty::Array(_, _) => false,
-    }
 }
 
 /// Whether a map of this kind spreads its turns over work-items or work-groups.
@@ -105,7 +93,7 @@ impl Around {
     {
         Around {
             is_written: false,
-            in_element: self.in_element || is_element(parent),
+            in_element: self.in_element || parent.is_element(),
             ..self
         }
     }
@@ -115,8 +103,8 @@ impl Around {
         ensures { result ≡ passed self (ty_of parent.now) }
     {
         Around {
-            is_written: self.is_written && !is_element(parent),
-            in_element: self.in_element || is_element(parent),
+            is_written: self.is_written && !parent.is_element(),
+            in_element: self.in_element || parent.is_element(),
             ..self
         }
     }
@@ -128,7 +116,7 @@ impl Around {
         Around {
             is_written: true,
             in_argument: false,
-            in_element: self.in_element || is_element(parent),
+            in_element: self.in_element || parent.is_element(),
             space,
             ..self
         }
@@ -147,7 +135,8 @@ impl Around {
             | UnaryForm::First
             | UnaryForm::Second
             | UnaryForm::Slide(_, _)
-            | UnaryForm::Pad(_, _) => self.operand(parent),
+            | UnaryForm::Pad(_, _)
+            | UnaryForm::Then => self.operand(parent),
         }
     }
 
@@ -158,7 +147,7 @@ impl Around {
         Around {
             is_written: false,
             in_argument: self.in_argument || !of_element,
-            in_element: self.in_element || is_element(parent),
+            in_element: self.in_element || parent.is_element(),
             ..self
         }
     }
@@ -168,8 +157,8 @@ impl Around {
         ensures { result ≡ let_body self of_element (ty_of parent.now) }
     {
         Around {
-            is_written: self.is_written && !is_element(parent),
-            in_element: self.in_element || is_element(parent),
+            is_written: self.is_written && !parent.is_element(),
+            in_element: self.in_element || parent.is_element(),
             in_serial: self.in_serial || of_element,
             ..self
         }
@@ -185,7 +174,7 @@ impl Around {
         Around {
             is_written: true,
             in_argument: self.in_argument,
-            in_element: self.in_element || is_element(parent),
+            in_element: self.in_element || parent.is_element(),
             in_item: self.in_item || is_global || is_local,
             in_group: self.in_group || is_group,
             in_local: self.in_local || is_local,
@@ -202,7 +191,7 @@ impl Around {
     {
         Around {
             is_written: false,
-            in_element: self.in_element || is_element(parent),
+            in_element: self.in_element || parent.is_element(),
             is_next_to_group: false,
             ..self
         }

@@ -6,9 +6,9 @@ ghost use Rattle.lift_tree.specs.Types.{ty_of};
 ghost use Rattle.lift_tree.specs.Annotations.{annotation_of};
 ghost use Rattle.lowered_tree.specs.Elements.{names_a_size, is_over_sizes, hangs_on_sizes};
 ghost use Rattle.lowered_tree.specs.Kinds.{is_global, is_local, is_over_groups, is_parallel, is_sequential};
-ghost use Rattle.lowered_tree.specs.Forms.{is_map_of, is_undecided, is_lowered_map, is_lowered_fold, is_local_copy, is_private_copy, shows_local_map, copies_local_map, is_let_of_element, is_let_of_array, is_read_alone, is_placed};
+ghost use Rattle.lowered_tree.specs.Forms.{is_map_of, is_undecided, is_lowered_map, is_lowered_fold, is_local_copy, is_private_copy, shows_local_map, copies_local_map, is_let_of_element, is_let_of_array, is_read_alone, is_placed, is_then};
 
-use crate::around::{is_element, is_parallel};
+use crate::around::is_parallel;
 use lift_tree::term::{BinaryForm, FoldKind, MapKind, Term, UnaryForm};
 use lift_tree::ty::Ty;
 use lift_tree::typed::NodeTypes;
@@ -145,6 +145,16 @@ pub fn is_private_copy(term: &Term) -> bool
     }
 }
 
+/// Whether the node is a cut between two kernels.
+pub fn is_then(term: &Term) -> bool
+    ensures { result ≡ is_then (tree_of term.now) }
+{
+    match term {
+        Term::Unary(UnaryForm::Then, _) => true,
+        _ => false,
+    }
+}
+
 // Whether it is a map over a group's items, seen through layouts that are written through and the bodies of lets.
 fn shows_local_map(term: &Term) -> bool
     ensures { result ≡ shows_local_map (tree_of term.now) }
@@ -172,7 +182,7 @@ pub fn is_let_of_element(term: &Term, types: &NodeTypes) -> bool
     ensures { result ≡ is_let_of_element (tree_of term.now) (annotation_of types.now) }
 {
     match (term, types) {
-        (Term::Let(_, _), NodeTypes::Two(_, value, _)) => is_element(value.own_type()),
+        (Term::Let(_, _), NodeTypes::Two(_, value, _)) => value.own_type().is_element(),
         _ => false,
     }
 }
@@ -182,7 +192,7 @@ pub fn is_let_of_array(term: &Term, types: &NodeTypes) -> bool
     ensures { result ≡ is_let_of_array (tree_of term.now) (annotation_of types.now) }
 {
     match (term, types) {
-        (Term::Let(_, _), NodeTypes::Two(_, value, _)) => !is_element(value.own_type()),
+        (Term::Let(_, _), NodeTypes::Two(_, value, _)) => !value.own_type().is_element(),
         _ => false,
     }
 }

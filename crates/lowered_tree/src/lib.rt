@@ -4,7 +4,7 @@
 #![tactic(auto)]
 
 pub mod around;
-mod copies;
+pub mod copies;
 pub mod forms;
 mod inputs;
 pub mod kind;

@@ -1,14 +1,15 @@
 //! Lowered terms, and those whose nest is legal.
 
 ghost use Rattle.std.specs.Prelude.{◌≡◌, None, map};
+ghost use Rattle.std.proofs.Props.{props};
 ghost use Rattle.lift_tree.specs.Tree.{tree_of};
 ghost use Rattle.lift_tree.specs.Annotations.{annotation_of};
 ghost use Rattle.lift_tree.specs.Types.{ty_of};
-ghost use Rattle.lowered_tree.specs.Kinds.{is_task};
+ghost use Rattle.lowered_tree.specs.Kinds.{IsLocalSize, is_task};
 ghost use Rattle.lowered_tree.specs.Nest.{nest_fault, root_site};
 ghost use Rattle.lowered_tree.specs.Nodes.{own_site};
 ghost use Rattle.lowered_tree.specs.Spaces.{spaces_of};
-ghost use Rattle.lowered_tree.specs.Whole.{IsOfProgram};
+ghost use Rattle.lowered_tree.specs.Whole.{IsSoundTerm};
 
 use crate::around::{AddressSpace, Around, is_task};
 use crate::node::Node;
@@ -25,8 +26,8 @@ pub struct Lowered {
     pub inputs: Vec<Ty>,
     pub term: Term,
     pub types: NodeTypes,
-    // The term is typed within the limits, as one of a program that declares this.
-    ghost of_program: { ∥ IsOfProgram (record { names = names; inputs = map ty_of inputs.items })
+    // The term is typed within the limits, over these sizes and inputs.
+    ghost sound: { ∥ IsSoundTerm (record { names = names; inputs = map ty_of inputs.items })
         (tree_of term) (annotation_of types) ∥₁ },
 }
 
@@ -51,11 +52,14 @@ impl Lowered {
     }
 }
 
-/// A lowered term whose nest is legal.
+/// A lowered term whose nest is legal, and the local size of all launches, from 1 to 256, where the
+/// script fixes it.
 #[derive(Drop)]
 pub struct Mapped {
     pub lowered: Lowered,
-    ghost legal: { nest_fault (tree_of lowered.term) (annotation_of lowered.types) ≡ None },
+    pub local: Option<u32>,
+    ghost legal: { nest_fault local (tree_of lowered.term) (annotation_of lowered.types) ≡ None },
+    ghost sized: { IsLocalSize local } by { Prim.hlevel props },
 }
 
 /// A legal term, with the address space of each computing node: of each lowered map, sequential fold and element term in writing position.

@@ -7,7 +7,7 @@ ghost use Rattle.lift_tree.specs.Tree.{nodes, tree_of};
 ghost use Rattle.lowered_tree.specs.Nest.{sites};
 ghost use Rattle.lowered_tree.specs.Nodes.{own_site, sites_of, sites_among, nodes_of, nodes_among};
 
-use crate::around::{Around, is_element};
+use crate::around::Around;
 use lift_tree::term::Term;
 use lift_tree::ty::Ty;
 use lift_tree::typed::NodeTypes;
@@ -60,7 +60,7 @@ impl<'t> Node<'t> {
                 )
             }
             (Term::Let(value, body), NodeTypes::Two(ty, n, m)) => {
-                let of_element = is_element(n.own_type());
+                let of_element = n.own_type().is_element();
                 let value = node_at(around.argument(of_element, ty), value, n);
                 Children::Two(value, node_at(around.let_body(of_element, ty), body, m))
             }

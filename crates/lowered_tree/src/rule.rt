@@ -1,6 +1,6 @@
 //! The rules of the nest.
 
-/// A rule that each node of a printed term keeps. What breaks it is told with each.
+/// A rule that a printed term keeps. What breaks it is told with each: for all but the last a node.
 #[derive(Clone, Copy, PartialEq, Eq)]
 pub enum NestRule {
     /// A plain map, reduce or fold.
@@ -25,11 +25,18 @@ pub enum NestRule {
     N10,
     /// In writing position, and no element: a variable, an input or a copy.
     N11,
+    /// A local size above 1 that is fixed for a term without a parallel map: of the whole, at the root.
+    N12,
+    /// A cut between two kernels, in the term of one kernel.
+    N13,
 }
 
 impl NestRule {
-    /// All rules, the lowest first.
-    pub const ALL: [NestRule; 11] = [
+    /// What is judged at all nodes before any other rule.
+    pub const EARLIEST: [NestRule; 1] = [NestRule::N13];
+
+    /// All other rules that a node breaks, the lowest first.
+    pub const LATER: [NestRule; 11] = [
         NestRule::N1,
         NestRule::N2,
         NestRule::N3,

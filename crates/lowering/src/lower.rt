@@ -206,6 +206,8 @@ fn formed(
         UnaryForm::Layout(forms::Layout::Stride(step)) => {
             strided(alloc, names, step, operand_ty, operand)
         }
+        // no legal nest has a cut between kernels, and so nothing is asked of it
+        UnaryForm::Then => Ok(Term::Literal(0)),
         UnaryForm::Layout(_) | UnaryForm::Slide(_, _) | UnaryForm::Pad(_, _) => {
             reshaped(alloc, form, ty, operand_ty, operand)
         }

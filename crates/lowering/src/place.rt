@@ -40,7 +40,10 @@ impl Place {
             UnaryForm::Div(_) | UnaryForm::Rem(_) => Place::Element,
             UnaryForm::ToPrivate | UnaryForm::ToLocal => Place::Written,
             UnaryForm::First | UnaryForm::Second => self.of_pair(),
-            UnaryForm::Layout(_) | UnaryForm::Slide(_, _) | UnaryForm::Pad(_, _) => self,
+            UnaryForm::Layout(_)
+            | UnaryForm::Slide(_, _)
+            | UnaryForm::Pad(_, _)
+            | UnaryForm::Then => self,
         }
     }
 

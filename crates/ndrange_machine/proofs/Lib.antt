@@ -13,6 +13,7 @@ pub mod Rows
 pub mod Settling
 pub mod Standing
 pub mod Stepping
+pub mod Telling
 pub mod Together
 pub mod Waiting
 pub mod Wanting

@@ -1,5 +1,5 @@
 -- What a work-item wants, by its line.
-use Rattle.std.proofs.Common.{◌≡◌, ◌∙◌, ℕ, ◌+◌, Option, Some, None, sym, ap, subst}
+use Rattle.std.proofs.Common.{◌≡◌, ◌∙◌, ℕ, ◌+◌, Option, Some, None, sym, ap}
 use Rattle.std.specs.Prelude.{slice_get}
 use Rattle.kernel_tree.specs.Formula.{value}
 use Rattle.kernel_tree.specs.Launch.{ids_of}
@@ -16,10 +16,8 @@ use Rattle.ndrange_machine.specs.ItemView.{ItemView}
 use Rattle.ndrange_machine.specs.Known.{variables}
 use Rattle.kernel_tree.specs.declared.events.Event.{Event}
 use Rattle.kernel_tree.specs.declared.events.Fault.{Fault}
-use Rattle.enabled_events.specs.Listed.{AreFlags}
-use Rattle.race_marks.specs.Marked.{MarksTell}
 use Rattle.ndrange_machine.specs.Takes.{Advances, IsWanted, SameCore}
-use Rattle.ndrange_machine.proofs.Stepping.{same_holds}
+use Rattle.ndrange_machine.proofs.Telling.{same_stands}
 use Rattle.ndrange_machine.specs.Wants.{want_if, want_in, want_tail, wanted}
 
 -- the j-th work-item, which stands at this line
@@ -63,14 +61,4 @@ wants_to_repeat m j it at head w h is = wants m j it at _ w h is
 -- the same machine, whatever proves what is known of it
 pub advances_same : {n : Machine} (m : Machine) (e : Event) (new : Machine) (fault : Option Fault) → Advances n e new fault → SameCore m n → n.ready ≡ m.ready → n.marks ≡ m.marks → Advances m e new fault
 advances_same m e new fault h core ready marks = λ k l c es st clean en.
-    h k l c es
-    (record {
-      grammar = st.grammar;
-      is_run = st.is_run;
-      holds = same_holds k l c m _ _ core st.holds;
-      flags = subst (AreFlags _ _) (sym ready) st.flags;
-      vars = λ no j it q. st.vars no j it (ap (λ z. slice_get z j) (sym core.items) ∙ q);
-      marks = λ no. subst (MarksTell _ _ es) (sym marks) (st.marks no);
-      steady = st.steady;
-    })
-    clean en
+    h k l c es (same_stands k l c es m _ core ready marks st) clean en

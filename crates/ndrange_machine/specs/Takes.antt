@@ -73,6 +73,10 @@ is_going (Some l) = not (is_barrier (Some l))
 abbrev pub IsGoing : Machine → (j : ℕ) → Bool → Type 0
 IsGoing m j b = (it : ItemView) → slice_get m.items.items j ≡ Some it → b ≡ is_going (slice_get m.lines.items it.line)
 
+-- the j-th work-item stands at this line
+abbrev pub StandsAt : Machine → (j line : ℕ) → Type 0
+StandsAt m j line = (it : ItemView) → slice_get m.items.items j ≡ Some it → it.line ≡ line
+
 -- whether the j-th work-item stands at a barrier
 abbrev pub IsAtBarrier : Machine → (j : ℕ) → Bool → Type 0
 IsAtBarrier m j b = (it : ItemView) → slice_get m.items.items j ≡ Some it → b ≡ is_barrier (slice_get m.lines.items it.line)
@@ -83,6 +87,17 @@ pub record SameCore (m n : Machine) : Type 0 where
   pub launch : n.launch ≡ m.launch
   pub memory : n.memory ≡ m.memory
   pub items : n.items.items ≡ m.items.items
+
+-- the fault of the event after which the machine is this one, where that has one
+abbrev pub told_if : (fails : Bool) → Machine → Option Fault
+told_if fails m = if fails then m.fault else None
+
+-- the same machine, which tells this fault of its last event
+pub record Tells (m n : Machine) (fails : Bool) (fault : Option Fault) : Type 0 where
+  pub core : SameCore m n
+  pub ready : n.ready ≡ m.ready
+  pub marks : n.marks ≡ m.marks
+  pub told : told_if fails n ≡ fault
 
 -- the machine with one work-item changed, but for memory, flags and marks
 pub record Changes (m n : Machine) (j : ℕ) (c : Change) (line : ℕ) : Type 0 where

@@ -1,6 +1,6 @@
 //! A work-item of the machine.
 
-ghost use Rattle.std.specs.Prelude.{◌≡◌, ◌↔◌, IfOk, IsTrue};
+ghost use Rattle.std.specs.Prelude.{◌≡◌, ◌↔◌, ℕ, Some, IfOk, IsTrue};
 ghost use Rattle.ndrange_machine.specs.Groups.{SamePlace};
 ghost use Rattle.ndrange_machine.specs.Changes.{changed, start_view};
 ghost use Rattle.kernel_tree.specs.Formula as formula;
@@ -13,7 +13,7 @@ use crate::four::Four;
 use crate::ids::Ids;
 use crate::line::Line;
 use crate::turn::{Turn, same_numbers};
-use crate::value::{value_of, variable_at, word_at};
+use crate::value::{leaf_of, operate, value_of, variable_at, word_at};
 use crate::want::{Want, want_at, want_at_tail};
 use kernel_tree::launches::Launch;
 use kernel_tree::tree::Expr;
@@ -128,7 +128,7 @@ impl Item {
     }
 
     /// An expression's value for it, as the work-item of this number; none where that meets a
-    /// divisor of 0.
+    /// divisor of 0. Literals, variables and what one operator makes of them need no call.
     #[inline(always)]
     pub fn value(&self, launch: &Launch, number: u32, e: &Expr) -> Option<u32>
         ensures { result ≡ formula.value (ids_of launch.now number) (variables self.now.turns)
@@ -138,15 +138,40 @@ impl Item {
             Expr::Number(n) => Some(*n),
             Expr::Variable(v) => Some(word_at(&self.words, *v)),
             Expr::LoopVariable(i) => Some(variable_at(&self.turns, *i)),
-            _ => value_of(
-                &Ids::of_item(launch, number),
-                &launch.sizes,
-                &self.turns,
-                &self.words,
-                &self.vectors,
-                e,
-            ),
+            Expr::Binary(op, a, b) => match self.leaf(launch, a) {
+                Some(x) => match self.leaf(launch, b) {
+                    Some(y) => operate(*op, x, y),
+                    None => self.any_value(launch, number, e),
+                },
+                None => self.any_value(launch, number, e),
+            },
+            _ => self.any_value(launch, number, e),
         }
+    }
+
+    // The value of a literal, a variable or a size; none of another expression.
+    #[inline(always)]
+    fn leaf(&self, launch: &Launch, e: &Expr) -> Option<u32>
+        ensures { (ids : formula.Ids) (x : ℕ) → ids.sizes ≡ launch.now.sizes → result ≡ Some x
+            → formula.value ids (variables self.now.turns) self.now.vars (formula_of e.now)
+            ≡ Some x }
+    {
+        leaf_of(&launch.sizes, &self.turns, &self.words, e)
+    }
+
+    // An expression's value, whatever it is.
+    fn any_value(&self, launch: &Launch, number: u32, e: &Expr) -> Option<u32>
+        ensures { result ≡ formula.value (ids_of launch.now number) (variables self.now.turns)
+            self.now.vars (formula_of e.now) }
+    {
+        value_of(
+            &Ids::of_item(launch, number),
+            &launch.sizes,
+            &self.turns,
+            &self.words,
+            &self.vectors,
+            e,
+        )
     }
 
     /// Makes the change, and goes to the line. It takes no memory: a loop begins only where there is

@@ -5,7 +5,7 @@ ghost use Rattle.kernel_tree.specs.Code as code;
 ghost use Rattle.kernel_tree.specs.Launch as seen;
 ghost use Rattle.kernel_tree.specs.declared.events.Event as held_event;
 ghost use Rattle.kernel_tree.specs.declared.events.Event.TheVariants as event_form;
-ghost use Rattle.kernel_tree.specs.declared.events.FaultKind.TheVariants.{OutOfRange};
+ghost use Rattle.kernel_tree.specs.declared.events.FaultKind.TheVariants.{OutOfRange, Race};
 ghost use Rattle.kernel_tree.specs.Device.{device_of, AllEnded};
 ghost use Rattle.kernel_tree.specs.Kernels.{kernel_of};
 ghost use Rattle.kernel_tree.specs.Schedule.{AreEnabled};
@@ -19,6 +19,7 @@ ghost use Rattle.ndrange_machine.specs.Changes.{start_view};
 ghost use Rattle.ndrange_machine.specs.Sights.{access_of_want, fault_in, lane_of, raced_cell, touch_at};
 ghost use Rattle.ndrange_machine.specs.ItemView.{ItemView};
 ghost use Rattle.ndrange_machine.specs.Known.{AreGroups};
+ghost use Rattle.ndrange_machine.specs.Memory.{rows_of};
 ghost use Rattle.ndrange_machine.specs.declared.want.Want.TheVariants as want_form;
 
 use crate::four::Four;
@@ -40,7 +41,8 @@ use race_marks::marks::Touch;
 use std::alloc::{AllocError, Global};
 use std::sync::ledger::Ledger;
 
-/// A kernel at some point of a run.
+/// A kernel at some point of a run. The fault is that of the last event that had one: a step says
+/// by a `bool` whether it had one, so that nothing of it is looked at where all is well.
 #[derive(Drop)]
 pub struct Machine {
     lines: Vec<Line>,
@@ -50,6 +52,7 @@ pub struct Machine {
     groups: Vec<u16>,
     marks: CellMarks,
     ready: Ready,
+    fault: Option<Fault>,
     ghost small: { IsSmall (grid_of launch) },
     ghost ready_grid: { ready.grid ≡ grid_of launch },
     ghost ready_items: { length ready.items ≡ seen.item_count launch },
@@ -62,7 +65,7 @@ pub struct Machine {
 
 impl Machine {
     ghost use Rattle.ndrange_machine.specs.Stands.{StandsFor, CountsEnabled, AreOutputs, enabled_count, state_after};
-    ghost use Rattle.ndrange_machine.specs.Takes.{Advances, TellsAccess, Takes, Changes, PassesOne, PassesGroup, IsWanted, IsAtBarrier, IsGoing, SameCore};
+    ghost use Rattle.ndrange_machine.specs.Takes.{Advances, TellsAccess, Takes, Changes, PassesOne, PassesGroup, IsWanted, IsAtBarrier, IsGoing, SameCore, StandsAt, Tells, is_going, told_if};
     ghost use Rattle.ndrange_machine.specs.Groups.{SamePlace, TellsTogether, TellsEnded, SetsFlag, Refreshes, Meets, Settles, Stops, Begins, MarksRelease};
 
     /// The machine at the start of the kernel's run. All its memory is taken here.
@@ -83,14 +86,13 @@ impl Machine {
             body,
             ..
         } = kernel;
-        let Cells { ins, outs, rest } = cells;
         let grid = Grid {
             global: launch.global,
             local: launch.local,
         };
+        let rest = cells.rest;
+        let stores = Stores::start(alloc, grid, cells, locals, privates)?;
         let lines = lines_of(alloc, body)?;
-        let memory = Memory::start(alloc, grid, ins, outs, &locals, &privates, rest)?;
-        let tables = Tables::start(alloc, grid, &memory.outs, &locals)?;
         let items = items_at_start(
             alloc,
             grid.item_count(),
@@ -99,6 +101,7 @@ impl Machine {
             vectors,
             rest,
         )?;
+        let Stores { memory, tables } = stores;
         let Tables {
             groups,
             marks,
@@ -112,6 +115,7 @@ impl Machine {
             groups,
             marks,
             ready,
+            fault: None,
         };
         machine.begin();
         Ok(machine)
@@ -210,7 +214,13 @@ impl Machine {
         ensures release { (g : ℕ) → event ≡ event_form.Release g → result ≡ None }
     {
         match event {
-            Event::Step(item) => self.step_item(item),
+            Event::Step(item) => {
+                if self.step_item(item) {
+                    self.fault
+                } else {
+                    None
+                }
+            }
             Event::Release(group) => {
                 self.release_group(group);
                 None
@@ -252,6 +262,17 @@ impl Machine {
                 _ => true,
             },
             None => false,
+        }
+    }
+
+    // Whether a work-item that stands at this line has neither ended nor stands at a barrier.
+    #[inline(always)]
+    fn goes_on(&self, line: usize) -> bool
+        ensures { result ≡ is_going (slice_get self.now.lines.items line) }
+    {
+        match self.lines.get(line) {
+            None | Some(Line::Barrier { .. }) => false,
+            _ => true,
         }
     }
 
@@ -401,16 +422,18 @@ impl Machine {
         }
     }
 
-    // Sets which events are enabled after a work-item's step, and says whether its group diverges.
+    // Sets which events are enabled after the step of a work-item to this line, and says whether its
+    // group diverges.
     #[inline(always)]
-    fn settle(&mut self, item: u32) -> bool
-        requires { item < seen.item_count self.old.launch }
+    fn settle(&mut self, item: u32, line: usize) -> bool
+        requires there { item < seen.item_count self.old.launch }
+        requires stands { StandsAt self.old item line }
         ensures core { SameCore self.old self.new }
         ensures marks { self.new.marks ≡ self.old.marks }
         ensures settles { Settles self.old self.new item result }
     {
         flags_follow();
-        if self.can_step(item) {
+        if self.goes_on(line) {
             return false;
         }
         self.ready.set_item(item, false);
@@ -426,22 +449,22 @@ impl Machine {
 
     // Takes the next step of a work-item that there is.
     #[inline(always)]
-    fn step_item(&mut self, item: u32) -> Option<Fault>
-        ensures { Advances self.old (event_form.Step item) self.new result }
+    fn step_item(&mut self, item: u32) -> bool
+        ensures { Advances self.old (event_form.Step item) self.new (told_if result self.new) }
     {
         if (item as usize) < self.groups.len() {
             self.go(item)
         } else {
-            None
+            false
         }
     }
 
     // Takes the next step of a work-item. Where its line is one of those that most events are of, no
     // `Want` is made of it.
     #[inline(always)]
-    fn go(&mut self, item: u32) -> Option<Fault>
+    fn go(&mut self, item: u32) -> bool
         requires { item < seen.item_count self.old.launch }
-        ensures { Advances self.old (event_form.Step item) self.new result }
+        ensures { Advances self.old (event_form.Step item) self.new (told_if result self.new) }
     {
         match self.items.get(item as usize) {
             Some(it) => {
@@ -490,14 +513,14 @@ impl Machine {
     }
 
     // Takes the next step of a work-item, whatever its line is.
-    fn take(&mut self, item: u32) -> Option<Fault>
+    fn take(&mut self, item: u32) -> bool
         requires { item < seen.item_count self.old.launch }
-        ensures { Advances self.old (event_form.Step item) self.new result }
+        ensures { Advances self.old (event_form.Step item) self.new (told_if result self.new) }
     {
         marks_stay();
         match self.want(item) {
-            Want::Ends | Want::Waits { .. } => None,
-            Want::Fails(kind) => Some(Fault { kind, cell: None }),
+            Want::Ends | Want::Waits { .. } => false,
+            Want::Fails(kind) => self.fails(kind),
             Want::Changes(change, line) => self.keep(item, change, line),
             Want::Reads(variable, array, index, line) => {
                 self.load(item, variable, array, index, line)
@@ -514,38 +537,31 @@ impl Machine {
 
     // Changes a work-item, which touches no memory, and goes to the line.
     #[inline(always)]
-    fn keep(&mut self, item: u32, change: Change, line: usize) -> Option<Fault>
+    fn keep(&mut self, item: u32, change: Change, line: usize) -> bool
         requires { item < seen.item_count self.old.launch }
         ensures { IsWanted self.old item (want_form.Changes change line)
-            → Advances self.old (event_form.Step item) self.new result }
+            → Advances self.old (event_form.Step item) self.new (told_if result self.new) }
     {
         marks_stay();
         self.change(item, change, line);
-        let diverges = self.settle(item);
-        fault(None, None, diverges)
+        let diverges = self.settle(item, line);
+        self.tells_divergence(diverges)
     }
 
     // Loads a cell's word into a private variable, and goes to the line.
     #[inline(always)]
-    fn load(
-        &mut self,
-        item: u32,
-        variable: u32,
-        array: Array,
-        index: u32,
-        line: usize,
-    ) -> Option<Fault>
+    fn load(&mut self, item: u32, variable: u32, array: Array, index: u32, line: usize) -> bool
         requires { item < seen.item_count self.old.launch }
         ensures { IsWanted self.old item (want_form.Reads variable array index line)
-            → Advances self.old (event_form.Step item) self.new result }
+            → Advances self.old (event_form.Step item) self.new (told_if result self.new) }
     {
         let group = self.group_of(item) as u32;
         match self.memory.read(array, group, item, index as u64) {
             Some(word) => {
                 let races = self.touch(item, array, index, false);
                 self.change(item, Change::Sets(variable, word), line);
-                let diverges = self.settle(item);
-                fault(lane_if(races), shared(array, index as u64), diverges)
+                let diverges = self.settle(item, line);
+                self.tells(races, diverges, array, index)
             }
             None => self.stop_outside(item, line),
         }
@@ -553,24 +569,17 @@ impl Machine {
 
     // Stores the word in a cell, and goes to the line.
     #[inline(always)]
-    fn store(
-        &mut self,
-        item: u32,
-        array: Array,
-        index: u32,
-        word: u32,
-        line: usize,
-    ) -> Option<Fault>
+    fn store(&mut self, item: u32, array: Array, index: u32, word: u32, line: usize) -> bool
         requires { item < seen.item_count self.old.launch }
         ensures { IsWanted self.old item (want_form.Writes array index word line)
-            → Advances self.old (event_form.Step item) self.new result }
+            → Advances self.old (event_form.Step item) self.new (told_if result self.new) }
     {
         let group = self.group_of(item) as u32;
         if self.memory.write(array, group, item, index as u64, word) {
             let races = self.touch(item, array, index, true);
             self.change(item, Change::Keeps, line);
-            let diverges = self.settle(item);
-            fault(lane_if(races), shared(array, index as u64), diverges)
+            let diverges = self.settle(item, line);
+            self.tells(races, diverges, array, index)
         } else {
             self.stop_outside(item, line)
         }
@@ -584,60 +593,110 @@ impl Machine {
         array: Array,
         offset: u32,
         line: usize,
-    ) -> Option<Fault>
+    ) -> bool
         requires { item < seen.item_count self.old.launch }
         ensures { IsWanted self.old item (want_form.ReadsFour variable array offset line)
-            → Advances self.old (event_form.Step item) self.new result }
+            → Advances self.old (event_form.Step item) self.new (told_if result self.new) }
     {
         let group = self.group_of(item) as u32;
         match self.memory.read_four(array, group, item, offset) {
             Some(four) => {
                 let lane = self.touch_four(item, array, offset, false);
                 self.change(item, Change::SetsFour(variable, four), line);
-                let diverges = self.settle(item);
-                fault(lane, shared_lane(array, offset, lane), diverges)
+                let diverges = self.settle(item, line);
+                self.tells_four(lane, diverges, array, offset)
             }
             None => self.stop_outside(item, line),
         }
     }
 
     // Stores four words in cells, and goes to the line.
-    fn store_four(
-        &mut self,
-        item: u32,
-        array: Array,
-        offset: u32,
-        four: Four,
-        line: usize,
-    ) -> Option<Fault>
+    fn store_four(&mut self, item: u32, array: Array, offset: u32, four: Four, line: usize) -> bool
         requires { item < seen.item_count self.old.launch }
         ensures { IsWanted self.old item (want_form.WritesFour array offset four line)
-            → Advances self.old (event_form.Step item) self.new result }
+            → Advances self.old (event_form.Step item) self.new (told_if result self.new) }
     {
         let group = self.group_of(item) as u32;
         if self.memory.write_four(array, group, item, offset, four) {
             let lane = self.touch_four(item, array, offset, true);
             self.change(item, Change::Keeps, line);
-            let diverges = self.settle(item);
-            fault(lane, shared_lane(array, offset, lane), diverges)
+            let diverges = self.settle(item, line);
+            self.tells_four(lane, diverges, array, offset)
         } else {
             self.stop_outside(item, line)
         }
     }
 
     // Goes to the line after an access outside its array.
-    fn stop_outside(&mut self, item: u32, line: usize) -> Option<Fault>
+    fn stop_outside(&mut self, item: u32, line: usize) -> bool
         requires { item < seen.item_count self.old.launch }
-        ensures fault { result ≡ Some (record { kind = OutOfRange; cell = None }) }
+        ensures fault { told_if result self.new
+            ≡ Some (record { kind = OutOfRange; cell = None }) }
         ensures stops { Stops self.old self.new item line }
     {
         self.change(item, Change::Keeps, line);
-        self.settle(item);
-        Some(Fault {
-            kind: FaultKind::OutOfRange,
-            cell: None,
-        })
+        self.settle(item, line);
+        self.fails(FaultKind::OutOfRange)
     }
+
+    // Whether an event has a fault
+
+    // An event of one access, which races or leaves a group that diverges.
+    #[inline(always)]
+    fn tells(&mut self, races: bool, diverges: bool, array: Array, index: u32) -> bool
+        ensures { Tells self.old self.new result
+            (fault_in (lane_of races) (shared_cell (array_of array) index) diverges) }
+    {
+        if races {
+            self.races(shared(array, index as u64))
+        } else {
+            self.tells_divergence(diverges)
+        }
+    }
+
+    // An event of four accesses, of which this lane races, or which leaves a group that diverges.
+    fn tells_four(&mut self, lane: Option<u32>, diverges: bool, array: Array, offset: u32) -> bool
+        ensures { Tells self.old self.new result
+            (fault_in lane (raced_cell (array_of array) offset lane) diverges) }
+    {
+        match lane {
+            Some(lane) => self.races(shared(array, 4 * offset as u64 + lane as u64)),
+            None => self.tells_divergence(diverges),
+        }
+    }
+
+    // An event that fails by nothing but that it leaves a group that diverges, if it does.
+    #[inline(always)]
+    fn tells_divergence(&mut self, diverges: bool) -> bool
+        ensures { Tells self.old self.new result (fault_in None None diverges) }
+    {
+        if diverges {
+            self.fails(FaultKind::Divergent)
+        } else {
+            false
+        }
+    }
+
+    // An event that races for this cell.
+    fn races(&mut self, cell: Option<Cell>) -> bool
+        ensures { Tells self.old self.new result (Some (record { kind = Race; cell = cell })) }
+    {
+        self.fault = Some(Fault {
+            kind: FaultKind::Race,
+            cell,
+        });
+        true
+    }
+
+    // An event that fails by this, without a cell.
+    fn fails(&mut self, kind: FaultKind) -> bool
+        ensures { Tells self.old self.new result (Some (record { kind = kind; cell = None })) }
+    {
+        self.fault = Some(Fault { kind, cell: None });
+        true
+    }
+
+    // What a work-item touches
 
     // Takes a work-item's access of a cell into account, and says whether it is a race.
     #[inline(always)]
@@ -750,6 +809,49 @@ impl Machine {
     }
 }
 
+// What a machine has beside its text and its work-items.
+#[derive(Drop)]
+struct Stores {
+    memory: Memory,
+    tables: Tables,
+}
+
+impl Stores {
+    // With these cells at the start, and local and private arrays of these lengths.
+    fn start(
+        alloc: Global,
+        grid: Grid,
+        cells: Cells,
+        locals: Vec<u32>,
+        privates: Vec<u32>,
+    ) -> Result<Stores, AllocError>
+        requires { IsSmall grid }
+        ensures ins { IfOk result (λ s. rows_of s.memory.ins.items ≡ cells.ins) }
+        ensures outs { IfOk result (λ s. rows_of s.memory.outs.items ≡ cells.outs) }
+        ensures locals { IfOk result (λ s. map (λ rows. rows_of rows.items) s.memory.locals.items
+            ≡ replicate (seen.group_count (laid grid))
+            (map (λ n. replicate n cells.rest) locals.items)) }
+        ensures privates { IfOk result (λ s. map (λ rows. rows_of rows.items) s.memory.privates.items
+            ≡ replicate (seen.item_count (laid grid))
+            (map (λ n. replicate n cells.rest) privates.items)) }
+        ensures groups { IfOk result
+            (λ s. AreGroups grid (seen.item_count (laid grid)) s.tables.groups.items) }
+        ensures marked { IfOk result (λ s. s.tables.marks.groups ≡ seen.group_count (laid grid)) }
+        ensures marks { IfOk result (λ s. BeginsMarks s.memory.outs.items locals.items
+            (seen.group_count (laid grid)) s.tables.marks) }
+        ensures ready { IfOk result (λ s. s.tables.ready ≡ record {
+          grid = grid;
+          items = replicate (seen.item_count (laid grid)) false;
+          groups = replicate (seen.group_count (laid grid)) false;
+        }) }
+    {
+        let Cells { ins, outs, rest } = cells;
+        let memory = Memory::start(alloc, grid, ins, outs, &locals, &privates, rest)?;
+        let tables = Tables::start(alloc, grid, &memory.outs, &locals)?;
+        Ok(Stores { memory, tables })
+    }
+}
+
 // What a machine keeps of its work-items and groups beside where they stand: each item's group, the
 // marks of cells, and which events are enabled.
 #[derive(Drop)]
@@ -832,16 +934,6 @@ fn shared(array: Array, index: u64) -> Option<Cell>
     }
 }
 
-// The cell of the lane that races, as it is seen, where one does.
-fn shared_lane(array: Array, offset: u32, lane: Option<u32>) -> Option<Cell>
-    ensures { result ≡ raced_cell (array_of array) offset lane }
-{
-    match lane {
-        Some(lane) => shared(array, 4 * offset as u64 + lane as u64),
-        None => None,
-    }
-}
-
 // The access of shared memory that a work-item makes that wants this.
 fn access_in(want: Want) -> Option<Access>
     ensures { result ≡ access_of_want want }
@@ -856,33 +948,5 @@ fn access_in(want: Want) -> Option<Access>
             shared(array, 4 * offset as u64).map(Access::WriteFour)
         }
         Want::Ends | Want::Waits { .. } | Want::Fails(_) | Want::Changes(..) => None,
-    }
-}
-
-// The lane of an access of one cell, where it races.
-#[inline(always)]
-fn lane_if(races: bool) -> Option<u32>
-    ensures { result ≡ lane_of races }
-{
-    if races { Some(0) } else { None }
-}
-
-// The fault of an event of which this lane races, with this cell, or that leaves a group that diverges.
-#[inline(always)]
-fn fault(lane: Option<u32>, cell: Option<Cell>, diverges: bool) -> Option<Fault>
-    ensures { result ≡ fault_in lane cell diverges }
-{
-    if lane.is_some() {
-        Some(Fault {
-            kind: FaultKind::Race,
-            cell,
-        })
-    } else if diverges {
-        Some(Fault {
-            kind: FaultKind::Divergent,
-            cell: None,
-        })
-    } else {
-        None
     }
 }

@@ -31,11 +31,11 @@ pub fn value_of(
         Expr::Size(s) => Some(word_at(sizes, *s)),
         Expr::Id(dimension, form) => Some(ids.get(*dimension, *form)),
         Expr::Binary(op, a, b) => {
-            let x = match leaf_of(turns, words, a) {
+            let x = match leaf_of(sizes, turns, words, a) {
                 Some(x) => x,
                 None => value_of(ids, sizes, turns, words, vectors, a)?,
             };
-            let y = match leaf_of(turns, words, b) {
+            let y = match leaf_of(sizes, turns, words, b) {
                 Some(y) => y,
                 None => value_of(ids, sizes, turns, words, vectors, b)?,
             };
@@ -53,10 +53,11 @@ pub fn value_of(
     }
 }
 
-// The value of a literal or a variable, which needs no call; none of another expression.
+/// The value of a literal, a variable or a size, which needs no call; none of another expression.
 #[inline(always)]
-fn leaf_of(turns: &[Turn], words: &[u32], e: &Expr) -> Option<u32>
-    ensures { (ids : formula.Ids) (vectors : List formula.Four) (x : ℕ) → result ≡ Some x
+pub fn leaf_of(sizes: &[u32], turns: &[Turn], words: &[u32], e: &Expr) -> Option<u32>
+    ensures { (ids : formula.Ids) (vectors : List formula.Four) (x : ℕ) → ids.sizes ≡ sizes.now
+        → result ≡ Some x
         → formula.value ids (variables turns.now) (record { words = words.now; vectors = vectors })
         (formula_of e.now) ≡ Some x }
 {
@@ -64,6 +65,7 @@ fn leaf_of(turns: &[Turn], words: &[u32], e: &Expr) -> Option<u32>
         Expr::Number(n) => Some(*n),
         Expr::Variable(v) => Some(word_at(words, *v)),
         Expr::LoopVariable(i) => Some(variable_at(turns, *i)),
+        Expr::Size(s) => Some(word_at(sizes, *s)),
         _ => None,
     }
 }
@@ -113,9 +115,20 @@ fn any_bound_of(sizes: &[u32], bound: &Expr) -> Option<u32>
     value_of(&Ids::unasked(), sizes, &[], &[], &[], bound)
 }
 
-// What the operator gives; none at a divisor of 0.
+/// What the operator gives; none at a divisor of 0. Most are sums, which need no call.
 #[inline(always)]
-fn operate(op: Op, x: u32, y: u32) -> Option<u32>
+pub fn operate(op: Op, x: u32, y: u32) -> Option<u32>
+    ensures { result ≡ formula.operate op x y }
+{
+    match op {
+        Op::Add => Some(x.wrapping_add(y)),
+        _ => operate_any(op, x, y),
+    }
+}
+
+// What the operator gives, whatever it is; none at a divisor of 0.
+#[inline(always)]
+fn operate_any(op: Op, x: u32, y: u32) -> Option<u32>
     ensures { result ≡ formula.operate op x y }
 {
     if divides(op) && y == 0 {

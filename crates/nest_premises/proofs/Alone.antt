@@ -7,13 +7,13 @@ use Rattle.lift_tree.specs.declared.term.BinaryForm.TheVariants as binary
 use Rattle.lift_tree.specs.declared.term.MapKind.TheVariants as map_kind
 use Rattle.lift_tree.specs.Tree as tree
 use Rattle.lift_tree.specs.Tree.{Tree}
-use Rattle.lift_tree.specs.Types.{PlainTy}
+use Rattle.lift_tree.specs.Types.{PlainTy, is_element}
 use Rattle.lift_tree.specs.Typing.{Declared}
 use Rattle.lift_tree.specs.Annotations.{Annotation, Leaf, One, Two, Three, type_in, Annotates}
 use Rattle.lift_ir.specs.Lowerable.{IsElementTerm}
 use Rattle.lowered_tree.specs.declared.around.Around.{Around}
 use Rattle.lowered_tree.specs.declared.rule.NestRule.TheVariants.{N2, N3, N5, N8}
-use Rattle.lowered_tree.specs.Elements.{is_element, hangs_on_sizes}
+use Rattle.lowered_tree.specs.Elements.{hangs_on_sizes}
 use Rattle.lowered_tree.specs.Forms.{shows_local_map}
 use Rattle.lowered_tree.specs.Kinds.{is_task}
 use Rattle.nest_premises.specs.Unbroken.{AllUnbroken}
@@ -59,6 +59,7 @@ module _ (d : Declared) where
   argument_alone s g (tree.Unary (unary.Pad j l) t) (One a n) y h w i q = argument_alone _ g t n y.0 h.1 w i q
   argument_alone s g (tree.Unary unary.ToLocal t) (One a n) y h w i q = true_is_not_false (not s.in_group) (not_from_false s.in_group q) (not_left (not s.in_group) s.in_local (not_left (not s.in_group || s.in_local) (not (shows_local_map t)) (h.0 N5)))
   argument_alone s g (tree.Unary unary.ToPrivate t) (One a n) y h w i q = true_is_not_false (not s.in_item) (not_from_false s.in_item i) (not_left (not s.in_item) (hangs_on_sizes a) (h.0 N8))
+  argument_alone s g (tree.Unary unary.Then t) (One a n) y h w i q = argument_alone _ g t n y.0 h.1 w i q
   argument_alone s g (tree.Binary f t u) (Two a n m) y h w i q = two _ _ (argument_alone _ g t n y.0 h.1 w i q) (argument_alone _ g u m y.1 h.2 w i q)
   argument_alone s g (tree.Select t u x) (Three a n m l) y h w i q = three _ _ _ (argument_alone _ g t n y.0 h.1 w i q) (argument_alone _ g u m y.1 h.2 w i q) (argument_alone _ g x l y.2 h.3 w i q)
   argument_alone s g (tree.Let v b) (Two a n m) y h w i q =
@@ -81,6 +82,7 @@ module _ (d : Declared) where
   body_alone s g (tree.Unary (unary.Pad j l) t) (One a n) y h w i = body_alone _ g t n y.0 h.1 w i
   body_alone s g (tree.Unary unary.ToLocal t) (One a n) y h w i = body_alone _ g t n y.0 h.1 w i
   body_alone s g (tree.Unary unary.ToPrivate t) (One a n) y h w i = body_alone _ g t n y.0 h.1 w i
+  body_alone s g (tree.Unary unary.Then t) (One a n) y h w i = body_alone _ g t n y.0 h.1 w i
   body_alone s g (tree.Binary f t u) (Two a n m) y h w i = two _ _ (body_alone _ g t n y.0 h.1 w i) (body_alone _ g u m y.1 h.2 w i)
   body_alone s g (tree.Select t u x) (Three a n m l) y h w i = three _ _ _ (body_alone _ g t n y.0 h.1 w i) (body_alone _ g u m y.1 h.2 w i) (body_alone _ g x l y.2 h.3 w i)
   body_alone s g (tree.Let v b) (Two a n m) y h w i = two _ _ (body_alone _ g v n y.0 h.1 w i) (body_alone _ (type_in n ∷ g) b m y.1 h.2 w i)

@@ -10,7 +10,7 @@ use Rattle.lift_tree.specs.declared.term.FoldKind.TheVariants as fold_kind
 use Rattle.lift_tree.specs.Tree as tree
 use Rattle.lift_tree.specs.Tree.{Tree}
 use Rattle.lift_tree.specs.Types as types
-use Rattle.lift_tree.specs.Types.{PlainTy}
+use Rattle.lift_tree.specs.Types.{PlainTy, is_element}
 use Rattle.lift_tree.specs.Typing.{Declared}
 use Rattle.lift_tree.specs.Annotations.{Annotation, Leaf, One, Two, Three, type_in, Annotates}
 use Rattle.lift_ir.specs.Lowering.{Written, Argument, lower}
@@ -19,7 +19,7 @@ use Rattle.lift_ir.proofs.Lets.{written_let, argument_let, let_parts}
 use Rattle.lift_ir.proofs.Reshaped.{through_layout}
 use Rattle.lowered_tree.specs.declared.around.Around.{Around}
 use Rattle.lowered_tree.specs.declared.rule.NestRule.TheVariants.{N1, N3, N4, N8, N10, N11}
-use Rattle.lowered_tree.specs.Elements.{is_element, hangs_on_sizes}
+use Rattle.lowered_tree.specs.Elements.{hangs_on_sizes}
 use Rattle.lowered_tree.specs.Forms.{is_map_of, is_lowered_fold, is_let_of_element}
 use Rattle.lowered_tree.specs.Kinds.{is_sequential}
 use Rattle.nest_premises.specs.Unbroken.{IsUnbrokenAt, AllUnbroken}

@@ -6,7 +6,7 @@ use Rattle.lift_tree.specs.declared.term.UnaryForm.TheVariants as unary
 use Rattle.lift_tree.specs.declared.term.MapKind.TheVariants as map_kind
 use Rattle.lift_tree.specs.Tree as tree
 use Rattle.lift_tree.specs.Tree.{Tree}
-use Rattle.lift_tree.specs.Types.{PlainTy}
+use Rattle.lift_tree.specs.Types.{PlainTy, is_element}
 use Rattle.lift_tree.specs.Typing.{Declared}
 use Rattle.lift_tree.specs.Annotations.{Annotation, One, Two, type_in, Annotates}
 use Rattle.lift_ir.specs.Forms.{StandsOverLaunch}
@@ -15,7 +15,6 @@ use Rattle.lift_ir.specs.Lowerable.{IsStaged}
 use Rattle.lift_ir.proofs.Lets.{written_let, let_parts}
 use Rattle.lift_ir.proofs.Reshaped.{through_layout}
 use Rattle.lowered_tree.specs.declared.around.Around.{Around}
-use Rattle.lowered_tree.specs.Elements.{is_element}
 use Rattle.lowered_tree.specs.Kinds.{is_global}
 use Rattle.nest_premises.specs.Unbroken.{AllUnbroken}
 use Rattle.nest_premises.proofs.Rules.{told_ir}

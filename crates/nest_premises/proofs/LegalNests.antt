@@ -1,8 +1,7 @@
 -- Each legal nest is for one work-item, over all of them, or over work-groups.
 use Rattle.std.proofs.Common.{◌≡◌, Bool, true, false, [], refl, subst}
 use Rattle.lift_tree.specs.Tree.{Tree}
-use Rattle.lift_tree.specs.Programs.{PlainProgram}
-use Rattle.lift_tree.specs.Typing.{declared_by}
+use Rattle.lift_tree.specs.Typing.{Declared}
 use Rattle.lift_tree.specs.Annotations.{Annotation}
 use Rattle.printed_form.specs.Programs.{lowered_root}
 use Rattle.lowered_tree.specs.Around.{at_root}
@@ -19,44 +18,44 @@ use Rattle.nest_premises.specs.Groups.{LegalNestsStand, LegalGroupsStandOverGrou
 use Rattle.nest_premises.proofs.Known.{Known}
 use Rattle.nest_premises.proofs.OverGroups.{over_groups}
 
-module _ (known : Known) (p : PlainProgram) (t : Tree) (n : Annotation) (r : IsLegalTerm p t n) (copies : CopiesArrays t n) where
+module _ (known : Known) (d : Declared) (t : Tree) (n : Annotation) (r : IsLegalTerm d t n) (copies : CopiesArrays t n) where
   no_task : nest_kind t ≡ OverGroups → is_task t ≡ false
   no_task e = go (is_task t) refl
     where
       go : (x : Bool) → is_task t ≡ x → x ≡ false
-      go true z = let k = (known.kinds p t n r copies).1 z in absurd (cc)
+      go true z = let k = (known.kinds d t n r copies).1 z in absurd (cc)
       go false z = refl
 
-  groups : nest_kind t ≡ OverGroups → StandsOverGroups (lowered_root (declared_by p).names t n)
-  groups e = over_groups known (declared_by p) (at_root t) [] t n r.nodes (known.unbroken t n r.legal) (known.lowerable p t n r copies).staged (no_task e) refl refl e
+  groups : nest_kind t ≡ OverGroups → StandsOverGroups (lowered_root d.names t n)
+  groups e = over_groups known d (at_root t) [] t n r.nodes (known.unbroken t n r.legal) (known.lowerable d t n r copies).staged (no_task e) refl refl e
 
-  stand : StandsAs (nest_kind t) (lowered_root (declared_by p).names t n)
+  stand : StandsAs (nest_kind t) (lowered_root d.names t n)
   stand = go (nest_kind t) refl
     where
-      go : (k : NestKind) → nest_kind t ≡ k → StandsAs k (lowered_root (declared_by p).names t n)
-      go Task e = known.tasks p t n r copies e
-      go OverLaunch e = known.launches p t n r copies e
+      go : (k : NestKind) → nest_kind t ≡ k → StandsAs k (lowered_root d.names t n)
+      go Task e = known.tasks d t n r copies e
+      go OverLaunch e = known.launches d t n r copies e
       go OverGroups e = groups e
 
 pub legal_nests_stand : Known → LegalNestsStand
-legal_nests_stand known p t n r copies = stand known p t n r copies
+legal_nests_stand known d t n r copies = stand known d t n r copies
 
 pub legal_groups_stand_over_groups : LegalTermsCanBeLowered → LegalNestsStand → LegalGroupsStandOverGroups
-legal_groups_stand_over_groups lowerable nests p t n r copies e =
-    let l = lowerable p t n r copies in
-    let stands : StandsOverGroups (lowered_root (declared_by p).names t n) = subst (λ k. StandsAs k (lowered_root (declared_by p).names t n)) e (nests p t n r copies) in
+legal_groups_stand_over_groups lowerable nests d t n r copies e =
+    let l = lowerable d t n r copies in
+    let stands : StandsOverGroups (lowered_root d.names t n) = subst (λ k. StandsAs k (lowered_root d.names t n)) e (nests d t n r copies) in
     record { staged = l.staged; program = λ bases ok. record { lowerable = l.lowerable bases ok; stands = stands }; fits = l.fits }
 
 pub legal_terms_are_printable : UngroupedTermsArePrintable → LegalGroupsStandOverGroups → LegalTermsArePrintable
-legal_terms_are_printable ungrouped grouped p t n r copies = go (nest_kind t) refl
+legal_terms_are_printable ungrouped grouped d t n r copies = go (nest_kind t) refl
   where
-    go : (k : NestKind) → nest_kind t ≡ k → IsPrintableAs k (declared_by p) t n
-    go Task e = ungrouped p t n r copies (λ f. clash e f)
+    go : (k : NestKind) → nest_kind t ≡ k → IsPrintableAs k d t n
+    go Task e = ungrouped d t n r copies (λ f. clash e f)
       where
         clash : nest_kind t ≡ Task → nest_kind t ≡ OverGroups → ⊥
         clash e f = absurd (cc)
-    go OverLaunch e = ungrouped p t n r copies (λ f. clash e f)
+    go OverLaunch e = ungrouped d t n r copies (λ f. clash e f)
       where
         clash : nest_kind t ≡ OverLaunch → nest_kind t ≡ OverGroups → ⊥
         clash e f = absurd (cc)
-    go OverGroups e = grouped p t n r copies e
+    go OverGroups e = grouped d t n r copies e

@@ -81,6 +81,7 @@ module _ (d : Declared) (declared : IsDeclared d) (scalars : Every (HasFewScalar
   unary_few (unary.Pad l k) b a r u f h = formed_few a _ _ r.3 f (subst (UnaryFits d.names (unary.Pad l k)) r.2 u).2
   unary_few unary.ToLocal b a r u f h = subst IsFew r h
   unary_few unary.ToPrivate b a r u f h = subst IsFew r h
+  unary_few unary.Then b a r u f h = subst IsFew r h
 
   binary_few : (f : BinaryForm) (b c a : PlainTy) → BinaryRow f b c a → OuterFits d.names a → IsFormed d.names a → IsFew b → IsFew c → IsFew a
   binary_few (binary.Operator o) b c a r u f h k = number a r.2
@@ -98,6 +99,7 @@ module _ (d : Declared) (declared : IsDeclared d) (scalars : Every (HasFewScalar
   form_fits (unary.Pad l r) a s h = tt
   form_fits unary.ToLocal a s h = small a h
   form_fits unary.ToPrivate a s h = small a h
+  form_fits unary.Then a s h = tt
 
   formed_in : (g : List PlainTy) (t : Tree) (n : Annotation) → Every (IsFormed d.names) g → Annotates d g t n → IsFormed d.names (type_in n)
   formed_in g t n all y = formed d declared.inputs g t (type_in n) all (annotated_is_typed d g t n y)

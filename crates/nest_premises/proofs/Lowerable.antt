@@ -7,7 +7,7 @@ use Rattle.lift_tree.specs.declared.term.BinaryForm.TheVariants as binary
 use Rattle.lift_tree.specs.Tree as tree
 use Rattle.lift_tree.specs.Tree.{Tree}
 use Rattle.lift_tree.specs.Types as types
-use Rattle.lift_tree.specs.Types.{PlainTy}
+use Rattle.lift_tree.specs.Types.{PlainTy, is_element}
 use Rattle.lift_tree.specs.Typing.{Declared}
 use Rattle.lift_tree.specs.Annotations.{Annotation, Leaf, One, Two, Three, type_in, Annotates}
 use Rattle.lift_tree.proofs.Layouts.{layout_holds}
@@ -18,7 +18,7 @@ use Rattle.lift_ir.specs.Lowerable.{IsElementTerm, IsStaged, IsLowerable}
 use Rattle.lift_ir.proofs.Typed.{told, flat_at}
 use Rattle.lowered_tree.specs.declared.around.Around.{Around}
 use Rattle.lowered_tree.specs.declared.rule.NestRule.TheVariants.{N6, N8, N10, N11}
-use Rattle.lowered_tree.specs.Elements.{is_element, hangs_on_sizes}
+use Rattle.lowered_tree.specs.Elements.{hangs_on_sizes}
 use Rattle.nest_premises.specs.Unbroken.{AllUnbroken}
 use Rattle.nest_premises.proofs.Fits.{Fits}
 use Rattle.nest_premises.proofs.Rules.{moved, of_layout, not_right, told_element, told_ir, from_ir}

@@ -29,6 +29,7 @@ unary_in names p unary.First a b x = placed_in p a (lower_unary names Element un
 unary_in names p unary.Second a b x = placed_in p a (lower_unary names Element unary.Second a b x)
 unary_in names p unary.ToPrivate a b x = omega arith
 unary_in names p unary.ToLocal a b x = omega arith
+unary_in names p unary.Then a b x = omega arith
 unary_in names p (unary.Layout l) a b x = through_layout (λ u. phases_in u ≤ phases_in x) (λ y u i h. h) names p l a b x (omega arith)
 unary_in names p (unary.Slide s k) a b x = omega arith
 unary_in names p (unary.Pad s k) a b x = omega arith
@@ -81,6 +82,7 @@ unary_of names p unary.First a b x = let e = placed_of p a (lower_unary names El
 unary_of names p unary.Second a b x = let e = placed_of p a (lower_unary names Element unary.Second a b x) in omega arith
 unary_of names p unary.ToPrivate a b x = omega arith
 unary_of names p unary.ToLocal a b x = omega arith
+unary_of names p unary.Then a b x = omega arith
 unary_of names p (unary.Layout l) a b x = through_layout (λ u. phase_count u ≤ phase_count x) (λ y u i h. h) names p l a b x (omega arith)
 unary_of names p (unary.Slide s k) a b x = omega arith
 unary_of names p (unary.Pad s k) a b x = omega arith

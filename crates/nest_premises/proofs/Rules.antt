@@ -7,7 +7,7 @@ use Rattle.lift_tree.specs.declared.layout.Layout as layout
 use Rattle.lift_tree.specs.Tree as tree
 use Rattle.lift_tree.specs.Tree.{Tree}
 use Rattle.lift_tree.specs.Types as types
-use Rattle.lift_tree.specs.Types.{PlainTy, is_array}
+use Rattle.lift_tree.specs.Types.{PlainTy, is_array, is_element}
 use Rattle.lift_tree.specs.Lists.{Every}
 use Rattle.lift_tree.specs.Typing.{LayoutRow}
 use Rattle.lift_tree.specs.Annotations.{Annotation, Leaf, One, Two, Three}
@@ -15,7 +15,6 @@ use Rattle.lift_tree.proofs.Layouts.{layout_operand, layout_result}
 use Rattle.lift_ir.specs.Lowerable.{HoldsNoScalar}
 use Rattle.lift_ir.specs.Lowering as ir
 use Rattle.lowered_tree.specs.declared.around.Around.{Around}
-use Rattle.lowered_tree.specs.Elements.{is_element}
 use Rattle.lowered_tree.specs.Nest.{Site, sites, under, in_child, IsUnbroken}
 use Rattle.nest_premises.specs.Unbroken.{AllUnbroken}
 

@@ -14,7 +14,7 @@ use Rattle.lift_tree.specs.declared.term.FoldKind.TheVariants as fold_kind
 use Rattle.lift_tree.specs.Tree as tree
 use Rattle.lift_tree.specs.Tree.{Tree}
 use Rattle.lift_tree.specs.Types as types
-use Rattle.lift_tree.specs.Types.{PlainTy, is_array, IsInput}
+use Rattle.lift_tree.specs.Types.{PlainTy, is_array, IsInput, is_element}
 use Rattle.lift_tree.specs.Lists.{Every}
 use Rattle.lift_tree.specs.Typing.{Declared}
 use Rattle.lift_tree.specs.Annotations.{Annotation, Leaf, One, Two, Three, type_in, Annotates}
@@ -24,9 +24,9 @@ use Rattle.lift_ir.specs.AtLaunch.{natural, length_at, ty_at}
 use Rattle.lift_ir.specs.Lowering.{Written, Argument}
 use Rattle.lift_ir.specs.Lowerable.{IsElementTerm, HoldsNoScalar, IsStaged}
 use Rattle.lowered_tree.specs.declared.around.Around.{Around}
-use Rattle.lowered_tree.specs.declared.rule.NestRule.TheVariants.{N1, N6, N7, N8, N10, N11}
+use Rattle.lowered_tree.specs.declared.rule.NestRule.TheVariants.{N1, N6, N7, N8, N10, N11, N13}
 use Rattle.lowered_tree.specs.Around.{under_form}
-use Rattle.lowered_tree.specs.Elements.{is_element, names_a_size, is_over_sizes, hangs_on_sizes}
+use Rattle.lowered_tree.specs.Elements.{names_a_size, is_over_sizes, hangs_on_sizes}
 use Rattle.lowered_tree.specs.Kinds.{is_plain}
 use Rattle.lowered_tree.specs.Copies.{CopiesArrays}
 use Rattle.nest_premises.specs.Unbroken.{IsUnbrokenAt, AllUnbroken}
@@ -64,6 +64,7 @@ module _ (d : Declared) (inputs : Every IsInput d.inputs) where
   counted s g (tree.Unary (unary.Pad j l) t) (One a n) y h k c w = clash_array a (types.ArrayOf _ _) y.1.3 refl w
   counted s g (tree.Unary unary.ToLocal t) (One a n) y h k c w = true_is_not_false (is_array a) k.0 w
   counted s g (tree.Unary unary.ToPrivate t) (One a n) y h k c w = true_is_not_false (is_array a) k.0 w
+  counted s g (tree.Unary unary.Then t) (One a n) y h k c w = absurd (true_is_not_false true refl (h.0 N13))
   counted s g (tree.Binary (binary.Operator o) t u) (Two a n m) y h k c w = (
     counted _ g t n y.0 h.1 k.0 (or_left (s.in_element || is_element a) (is_element (type_in n)) c) (moved is_array false (type_in n) types.U32 y.2.0 refl),
     counted _ g u m y.1 h.2 k.1 (or_left (s.in_element || is_element a) (is_element (type_in m)) c) (moved is_array false (type_in m) types.U32 y.2.1 refl),
@@ -167,6 +168,7 @@ module _ (d : Declared) (inputs : Every IsInput d.inputs) (ys : List ℕ) where
     argued s g (tree.Unary (unary.Pad j l) t) (One a n) y h k f w e = argued _ g t n y.0 h.1 k.1 f.2 w (moved is_element false (type_in n) (types.ArrayOf _ _) y.1.2 refl)
     argued s g (tree.Unary unary.ToLocal t) (One a n) y h k f w e = copied ys t a n k.0 f.0 f.1 (same_literal ys a (h.0 N6)) (written (is_element (type_in n)) _ g t n y.0 h.1 k.1 f.2 refl refl)
     argued s g (tree.Unary unary.ToPrivate t) (One a n) y h k f w e = copied ys t a n k.0 f.0 f.1 (same_literal ys a (not_right (not s.in_item) (hangs_on_sizes a) (h.0 N8))) (written (is_element (type_in n)) _ g t n y.0 h.1 k.1 f.2 refl refl)
+    argued s g (tree.Unary unary.Then t) (One a n) y h k f w e = absurd (true_is_not_false true refl (h.0 N13))
     argued s g (tree.Binary (binary.Operator o) t u) (Two a n m) y h k f w e = clash_element a types.U32 y.2.2 refl e
     argued s g (tree.Binary binary.Pair t u) (Two a n m) y h k f w e =
         clash_element a (types.PairOf (type_in n) (type_in m)) y.2.2 (told_element (types.PairOf (type_in n) (type_in m)) (y.2.0, y.2.1)) e
@@ -201,6 +203,7 @@ module _ (d : Declared) (inputs : Every IsInput d.inputs) (ys : List ℕ) where
     written false s g (tree.Unary (unary.Pad j l) t) (One a n) y h k f w e = refused s.is_written (is_element a) (h.0 N10) w e
     written false s g (tree.Unary unary.ToLocal t) (One a n) y h k f w e = refused s.is_written (is_element a) (h.0 N11) w e
     written false s g (tree.Unary unary.ToPrivate t) (One a n) y h k f w e = refused s.is_written (is_element a) (h.0 N11) w e
+    written false s g (tree.Unary unary.Then t) (One a n) y h k f w e = absurd (true_is_not_false true refl (h.0 N13))
     written false s g (tree.Binary (binary.Operator o) t u) (Two a n m) y h k f w e = clash_element a types.U32 y.2.2 refl e
     written false s g (tree.Binary binary.Pair t u) (Two a n m) y h k f w e =
         clash_element a (types.PairOf (type_in n) (type_in m)) y.2.2 (told_element (types.PairOf (type_in n) (type_in m)) (y.2.0, y.2.1)) e

@@ -9,7 +9,7 @@ use Rattle.lift_tree.specs.declared.term.MapKind.TheVariants as map_kind
 use Rattle.lift_tree.specs.Tree as tree
 use Rattle.lift_tree.specs.Tree.{Tree}
 use Rattle.lift_tree.specs.Types as types
-use Rattle.lift_tree.specs.Types.{PlainTy}
+use Rattle.lift_tree.specs.Types.{PlainTy, is_element}
 use Rattle.lift_tree.specs.Typing.{Declared}
 use Rattle.lift_tree.specs.Annotations.{Annotation, Leaf, One, Two, Three, type_in, Annotates}
 use Rattle.lift_ir.specs.Terms as low
@@ -21,7 +21,6 @@ use Rattle.lift_ir.proofs.Lets.{argument_let}
 use Rattle.lift_ir.proofs.Reshaped.{through_layout}
 use Rattle.lowered_tree.specs.declared.around.Around.{Around}
 use Rattle.lowered_tree.specs.declared.rule.NestRule.TheVariants.{N5, N10}
-use Rattle.lowered_tree.specs.Elements.{is_element}
 use Rattle.lowered_tree.specs.Forms.{shows_local_map}
 use Rattle.lowered_tree.specs.Kinds.{is_task}
 use Rattle.nest_premises.specs.Unbroken.{AllUnbroken}
@@ -58,6 +57,7 @@ shows_no_task (tree.Unary (unary.Slide j l) t) e z = absurd (cc)
 shows_no_task (tree.Unary (unary.Pad j l) t) e z = absurd (cc)
 shows_no_task (tree.Unary unary.ToLocal t) e z = absurd (cc)
 shows_no_task (tree.Unary unary.ToPrivate t) e z = absurd (cc)
+shows_no_task (tree.Unary unary.Then t) e z = absurd (cc)
 shows_no_task (tree.Binary f t u) e z = absurd (cc)
 shows_no_task (tree.Select t u x) e z = absurd (cc)
 shows_no_task (tree.Fold j t u x) e z = absurd (cc)

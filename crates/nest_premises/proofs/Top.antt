@@ -9,14 +9,13 @@ use Rattle.lift_tree.specs.declared.term.MapKind.TheVariants as map_kind
 use Rattle.lift_tree.specs.Tree as tree
 use Rattle.lift_tree.specs.Tree.{Tree}
 use Rattle.lift_tree.specs.Types as types
-use Rattle.lift_tree.specs.Types.{PlainTy}
+use Rattle.lift_tree.specs.Types.{PlainTy, is_element}
 use Rattle.lift_tree.specs.Typing.{Declared}
 use Rattle.lift_tree.specs.Annotations.{Annotation, Leaf, One, Two, Three, type_in, Annotates}
 use Rattle.lift_ir.specs.Lowering.{Written}
 use Rattle.lift_ir.specs.Lowerable.{IsStaged}
 use Rattle.lowered_tree.specs.declared.around.Around.{Around}
 use Rattle.lowered_tree.specs.declared.rule.NestRule.TheVariants.{N1, N2, N9, N10}
-use Rattle.lowered_tree.specs.Elements.{is_element}
 use Rattle.lowered_tree.specs.Kinds.{is_global, is_over_groups, is_parallel, is_task}
 use Rattle.lowered_tree.specs.Kind.{shows_map}
 use Rattle.nest_premises.specs.Unbroken.{AllUnbroken}

@@ -1,18 +1,14 @@
 -- Legal terms can be lowered and printed.
-use Rattle.std.proofs.Common.{◌≡◌, ℕ, ◌/◌, ◌<◌, ◌^◌, Bool, true, false, List, [], ◌∷◌, refl, sym, ◌∙◌, subst, inl, inr, arith, map}
+use Rattle.std.proofs.Common.{◌≡◌, ℕ, ◌/◌, ◌<◌, ◌^◌, Bool, true, false, List, [], ◌∷◌, refl, sym, ◌∙◌, subst, inl, inr, arith, Option}
 use Rattle.std.specs.Prelude.{◌↔◌}
 use Rattle.std.proofs.Math.Nat.{mul-div-le, mod-eq-sub-mul-div}
 use Rattle.size_arith.specs.declared.names.Name.{Name}
 use Rattle.size_arith.specs.Ranges.{AreNames, IsName, IsAdmissible, Admissible, leasts}
 use Rattle.lift_tree.specs.Tree.{Tree}
-use Rattle.lift_tree.specs.Types.{PlainTy, IsInput, IsOutput}
+use Rattle.lift_tree.specs.Types.{PlainTy, IsInput, IsOutput, is_element}
 use Rattle.lift_tree.specs.Lists.{Every}
-use Rattle.lift_tree.specs.InputTypes as input_type
-use Rattle.lift_tree.specs.InputTypes.{Written}
-use Rattle.lift_tree.specs.Limits.{InputFits, HasFewScalars}
-use Rattle.lift_tree.specs.Programs.{PlainInput, PlainProgram}
-use Rattle.lift_tree.specs.WorkedOut.{worked_out, range_of}
-use Rattle.lift_tree.specs.Typing.{Declared, declared_by}
+use Rattle.lift_tree.specs.Limits.{HasFewScalars, TypeFits}
+use Rattle.lift_tree.specs.Typing.{Declared}
 use Rattle.lift_tree.specs.Annotations.{Annotation, type_in}
 use Rattle.kernel_tree.specs.Launch.{Launch}
 use Rattle.kernel_tree.proofs.Grouping.{flat_items}
@@ -25,8 +21,7 @@ use Rattle.lift_ir.proofs.Typed.{output_flat}
 use Rattle.lift_ir.proofs.Values.{shape_is}
 use Rattle.printed_form.specs.Programs.{IsLaunchOf, lowered_root, StandsAt}
 use Rattle.lowered_tree.specs.Around.{at_root}
-use Rattle.lowered_tree.specs.Elements.{is_element}
-use Rattle.lowered_tree.specs.Kinds.{is_global, is_over_groups, is_task}
+use Rattle.lowered_tree.specs.Kinds.{is_global, is_over_groups, is_task, asks_of}
 use Rattle.lowered_tree.specs.Copies.{CopiesArrays}
 use Rattle.nest_premises.specs.Legal.{shows_global_map, IsLegalTerm}
 use Rattle.lowered_tree.specs.Kind.{nest_kind}
@@ -60,26 +55,18 @@ leasts_admissible (n ∷ names) h = (least_admissible n h.0, leasts_admissible n
 
 -- ---- inputs
 
-few_scalars : (names : List Name) (ty : Written) → InputFits names ty → HasFewScalars names (worked_out names ty)
-few_scalars names input_type.Number h = tt
-few_scalars names (input_type.Pair a b) h = (few_scalars names a h.0, few_scalars names b h.1)
-few_scalars names (input_type.Array a parts) h = h.2.scalars
-
-all_few : (names : List Name) (is : List PlainInput) → Every (λ (i : PlainInput). InputFits names i.ty) is → Every (HasFewScalars names) (map (λ (i : PlainInput). worked_out names i.ty) is)
+all_few : (names : List Name) (tys : List PlainTy) → Every (TypeFits names) tys → Every (HasFewScalars names) tys
 all_few names [] h = tt
-all_few names (i ∷ is) h = (few_scalars names i.ty h.0, all_few names is h.1)
+all_few names (a ∷ tys) h = (h.0.scalars, all_few names tys h.1)
 
 -- ---- a legal term
 
-module _ (p : PlainProgram) (t : Tree) (n : Annotation) (r : IsLegalTerm p t n) (copies : CopiesArrays t n) where
-  abbrev d : Declared
-  d = declared_by p
-
+module _ (d : Declared) (t : Tree) (n : Annotation) (r : IsLegalTerm d t n) (copies : CopiesArrays t n) where
   unbroken : AllUnbroken (at_root t) t n
   unbroken = all_unbroken (at_root t) t n r.legal
 
   scalars : Every (HasFewScalars d.names) d.inputs
-  scalars = all_few (map range_of p.sizes) p.inputs r.within.inputs
+  scalars = all_few d.names d.inputs r.within.inputs
 
   limited : (bases : List ℕ) (ok : Admissible d.names bases) → Fits bases t n × IsFew d r.declared scalars bases ok (type_in n)
   limited bases ok = fits_in d r.declared scalars bases ok [] t n tt tt r.nodes r.within.nodes r.words
@@ -109,7 +96,7 @@ module _ (p : PlainProgram) (t : Tree) (n : Annotation) (r : IsLegalTerm p t n) 
   }
 
   -- what is lowered can be printed, where it has the forms of their places
-  printable : ((bases : List ℕ) (l : Launch) → IsLaunchOf d (is_task t) bases l → StandsAt l (lowered_root d.names t n)) → IsPrintable d t n
+  printable : ((local : Option ℕ) (bases : List ℕ) (l : Launch) → IsLaunchOf d (asks_of local t) bases l → StandsAt l (lowered_root d.names t n)) → IsPrintable d t n
   printable stands = record { staged = lowered.staged; lowerable = lowered.lowerable; fits = lowered.fits; stands = stands }
 
   one_item : is_task t ≡ true → Stands true (lowered_root d.names t n)
@@ -119,10 +106,10 @@ module _ (p : PlainProgram) (t : Tree) (n : Annotation) (r : IsLegalTerm p t n) 
   all_items e = over_launch d (at_root t) [] t n r.nodes unbroken staged (over_no_task is_global global_parallel t n e) refl e
 
   task : is_task t ≡ true → IsPrintable d t n
-  task z = printable (λ bases l k. inl (flat_items l k.flat ∙ k.admissible.alone z, one_item z))
+  task z = printable (λ local bases l k. inl (flat_items l k.flat ∙ k.admissible.alone z, one_item z))
 
   over : Over is_global t n → IsPrintable d t n
-  over e = printable (λ bases l k. inr (all_items e))
+  over e = printable (λ local bases l k. inr (all_items e))
 
   launch : shows_global_map t ≡ true → IsPrintable d t n
   launch e = over (over_of is_global d [] t n r.nodes e)
@@ -148,25 +135,25 @@ module _ (p : PlainProgram) (t : Tree) (n : Annotation) (r : IsLegalTerm p t n) 
       go (inr (inr o)) = absurd (none o)
 
 pub legal_terms_can_be_lowered : LegalTermsCanBeLowered
-legal_terms_can_be_lowered p t n r copies = lowered p t n r copies
+legal_terms_can_be_lowered d t n r copies = lowered d t n r copies
 
 pub kinds_tell_tasks : KindsTellTasks
-kinds_tell_tasks p t n r copies = kind p t n r copies
+kinds_tell_tasks d t n r copies = kind d t n r copies
 
 pub ungrouped_terms_are_printable : UngroupedTermsArePrintable
-ungrouped_terms_are_printable p t n r copies e = for_items p t n r copies (λ o. e (groups_kind t (over_shows is_over_groups t n o)))
+ungrouped_terms_are_printable d t n r copies e = for_items d t n r copies (λ o. e (groups_kind t (over_shows is_over_groups t n o)))
 
 pub tasks_are_printable : TasksArePrintable
-tasks_are_printable p t n r copies z = task p t n r copies z
+tasks_are_printable d t n r copies z = task d t n r copies z
 
 pub launches_are_printable : LaunchesArePrintable
-launches_are_printable p t n r copies e = launch p t n r copies e
+launches_are_printable d t n r copies e = launch d t n r copies e
 
 pub legal_nests_are_unbroken : LegalNestsAreUnbroken
 legal_nests_are_unbroken t n h = all_unbroken (at_root t) t n h
 
 pub tasks_stand : TasksStand
-tasks_stand p t n r copies e = one_item p t n r copies ((kind p t n r copies).0 e)
+tasks_stand d t n r copies e = one_item d t n r copies ((kind d t n r copies).0 e)
 
 pub launches_stand : LaunchesStand
-launches_stand p t n r copies e = all_items p t n r copies (over_of is_global (declared_by p) [] t n r.nodes (shown_launch t e))
+launches_stand d t n r copies e = all_items d t n r copies (over_of is_global d [] t n r.nodes (shown_launch t e))

@@ -2,8 +2,7 @@
 use Rattle.std.specs.Prelude.{◌≡◌, ◌≤◌, List}
 use Rattle.size_arith.specs.declared.names.Name.{Name}
 use Rattle.lift_tree.specs.Tree.{Tree, nodes}
-use Rattle.lift_tree.specs.Typing.{declared_by}
-use Rattle.lift_tree.specs.Programs.{PlainProgram}
+use Rattle.lift_tree.specs.Typing.{Declared}
 use Rattle.lift_tree.specs.Annotations.{Annotation}
 use Rattle.printed_form.specs.Programs.{lowered_root}
 use Rattle.group_form.specs.Uses.{phase_count}
@@ -16,20 +15,20 @@ use Rattle.nest_premises.specs.Stands.{StandsAs, IsGroupPrintable, IsPrintableAs
 -- what a legal term is lowered to stands as the term's kind says
 abbrev pub LegalNestsStand : Type 0
 LegalNestsStand =
-    (p : PlainProgram) (t : Tree) (n : Annotation) → IsLegalTerm p t n → CopiesArrays t n
-    → StandsAs (nest_kind t) (lowered_root (declared_by p).names t n)
+    (d : Declared) (t : Tree) (n : Annotation) → IsLegalTerm d t n → CopiesArrays t n
+    → StandsAs (nest_kind t) (lowered_root d.names t n)
 
 -- a legal term with a map over work-groups on top can be printed as such
 abbrev pub LegalGroupsStandOverGroups : Type 0
 LegalGroupsStandOverGroups =
-    (p : PlainProgram) (t : Tree) (n : Annotation) → IsLegalTerm p t n → CopiesArrays t n
-    → nest_kind t ≡ OverGroups → IsGroupPrintable (declared_by p) t n
+    (d : Declared) (t : Tree) (n : Annotation) → IsLegalTerm d t n → CopiesArrays t n
+    → nest_kind t ≡ OverGroups → IsGroupPrintable d t n
 
 -- each legal term can be printed as its kind says
 abbrev pub LegalTermsArePrintable : Type 0
 LegalTermsArePrintable =
-    (p : PlainProgram) (t : Tree) (n : Annotation) → IsLegalTerm p t n → CopiesArrays t n
-    → IsPrintableAs (nest_kind t) (declared_by p) t n
+    (d : Declared) (t : Tree) (n : Annotation) → IsLegalTerm d t n → CopiesArrays t n
+    → IsPrintableAs (nest_kind t) d t n
 
 -- a term has no more phases than nodes
 abbrev pub PhasesAreFew : Type 0

@@ -2,9 +2,8 @@
 use Rattle.std.specs.Prelude.{◌≡◌, ◌≢◌, ◌↔◌, true, false, List}
 use Rattle.lift_tree.specs.declared.term.MapKind.TheVariants.{Local}
 use Rattle.lift_tree.specs.Tree.{Tree, Let, Map}
-use Rattle.lift_tree.specs.Types.{PlainTy, IsElement}
-use Rattle.lift_tree.specs.Typing.{Declared, declared_by}
-use Rattle.lift_tree.specs.Programs.{PlainProgram}
+use Rattle.lift_tree.specs.Types.{PlainTy, IsElement, is_element}
+use Rattle.lift_tree.specs.Typing.{Declared}
 use Rattle.lift_tree.specs.Annotations.{Annotation, Two, type_in, Annotates}
 use Rattle.lift_ir.specs.Forms.{Stands, StandsOverLaunch}
 use Rattle.lift_ir.specs.Lowering as ir
@@ -13,7 +12,6 @@ use Rattle.lift_ir.specs.Lowerable.{IsStaged}
 use Rattle.printed_form.specs.Programs.{lowered_root}
 use Rattle.lowered_tree.specs.declared.around.Around.{Around}
 use Rattle.lowered_tree.specs.Around.{at_root}
-use Rattle.lowered_tree.specs.Elements.{is_element}
 use Rattle.lowered_tree.specs.Kinds.{is_task}
 use Rattle.lowered_tree.specs.Nest.{IsLegalNest}
 use Rattle.lowered_tree.specs.Copies.{CopiesArrays}
@@ -26,48 +24,48 @@ use Rattle.nest_premises.specs.Unbroken.{AllUnbroken}
 -- a legal term, whatever its maps
 abbrev pub LegalTermsCanBeLowered : Type 0
 LegalTermsCanBeLowered =
-    (p : PlainProgram) (t : Tree) (n : Annotation) → IsLegalTerm p t n → CopiesArrays t n
-    → CanBeLowered (declared_by p) t n
+    (d : Declared) (t : Tree) (n : Annotation) → IsLegalTerm d t n → CopiesArrays t n
+    → CanBeLowered d t n
 
 -- it has no parallel map just where none is on top
 abbrev pub KindsTellTasks : Type 0
 KindsTellTasks =
-    (p : PlainProgram) (t : Tree) (n : Annotation) → IsLegalTerm p t n → CopiesArrays t n
+    (d : Declared) (t : Tree) (n : Annotation) → IsLegalTerm d t n → CopiesArrays t n
     → (nest_kind t ≡ Task) ↔ (is_task t ≡ true)
 
 -- a legal term with no map over work-groups on top
 abbrev pub UngroupedTermsArePrintable : Type 0
 UngroupedTermsArePrintable =
-    (p : PlainProgram) (t : Tree) (n : Annotation) → IsLegalTerm p t n → CopiesArrays t n
-    → nest_kind t ≢ OverGroups → IsPrintable (declared_by p) t n
+    (d : Declared) (t : Tree) (n : Annotation) → IsLegalTerm d t n → CopiesArrays t n
+    → nest_kind t ≢ OverGroups → IsPrintable d t n
 
 -- a legal term without parallel maps
 abbrev pub TasksArePrintable : Type 0
 TasksArePrintable =
-    (p : PlainProgram) (t : Tree) (n : Annotation) → IsLegalTerm p t n → CopiesArrays t n
-    → is_task t ≡ true → IsPrintable (declared_by p) t n
+    (d : Declared) (t : Tree) (n : Annotation) → IsLegalTerm d t n → CopiesArrays t n
+    → is_task t ≡ true → IsPrintable d t n
 
 -- a legal term with a map over all work-items on top
 abbrev pub LaunchesArePrintable : Type 0
 LaunchesArePrintable =
-    (p : PlainProgram) (t : Tree) (n : Annotation) → IsLegalTerm p t n → CopiesArrays t n
-    → shows_global_map t ≡ true → IsPrintable (declared_by p) t n
+    (d : Declared) (t : Tree) (n : Annotation) → IsLegalTerm d t n → CopiesArrays t n
+    → shows_global_map t ≡ true → IsPrintable d t n
 
 -- ---- what stands for whom
 
 -- what a legal term for one work-item is lowered to
 abbrev pub TasksStand : Type 0
 TasksStand =
-    (p : PlainProgram) (t : Tree) (n : Annotation)
-    → IsLegalTerm p t n → CopiesArrays t n → nest_kind t ≡ Task
-    → Stands true (lowered_root (declared_by p).names t n)
+    (d : Declared) (t : Tree) (n : Annotation)
+    → IsLegalTerm d t n → CopiesArrays t n → nest_kind t ≡ Task
+    → Stands true (lowered_root d.names t n)
 
 -- and one for all work-items
 abbrev pub LaunchesStand : Type 0
 LaunchesStand =
-    (p : PlainProgram) (t : Tree) (n : Annotation)
-    → IsLegalTerm p t n → CopiesArrays t n → nest_kind t ≡ OverLaunch
-    → StandsOverLaunch (lowered_root (declared_by p).names t n)
+    (d : Declared) (t : Tree) (n : Annotation)
+    → IsLegalTerm d t n → CopiesArrays t n → nest_kind t ≡ OverLaunch
+    → StandsOverLaunch (lowered_root d.names t n)
 
 -- ---- at each node
 

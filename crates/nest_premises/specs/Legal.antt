@@ -2,9 +2,8 @@
 use Rattle.std.specs.Prelude.{Bool, []}
 use Rattle.lift_tree.specs.Tree.{Tree}
 use Rattle.lift_tree.specs.Types.{IsOutput}
-use Rattle.lift_tree.specs.Programs.{PlainProgram}
-use Rattle.lift_tree.specs.Typing.{declared_by, IsDeclared}
-use Rattle.lift_tree.specs.Limits.{IsWithinLimits}
+use Rattle.lift_tree.specs.Typing.{Declared, IsDeclared}
+use Rattle.lift_tree.specs.Limits.{TypesFit}
 use Rattle.lift_tree.specs.Annotations.{Annotation, type_in, Annotates}
 use Rattle.lowered_tree.specs.Kind.{shows_map}
 use Rattle.lowered_tree.specs.Kinds.{is_global}
@@ -15,11 +14,11 @@ use Rattle.lowered_tree.specs.Words.{FormsHaveWords}
 abbrev pub shows_global_map : Tree → Bool
 shows_global_map = shows_map is_global
 
--- a typed term of a program, within the limits on types, with a legal nest
-pub record IsLegalTerm (p : PlainProgram) (t : Tree) (n : Annotation) : Type 0 where
-  pub declared : IsDeclared (declared_by p)
-  pub nodes : Annotates (declared_by p) [] t n
+-- a typed term over what it may name, within the limits on types, with a legal nest
+pub record IsLegalTerm (d : Declared) (t : Tree) (n : Annotation) : Type 0 where
+  pub declared : IsDeclared d
+  pub nodes : Annotates d [] t n
   pub output : IsOutput (type_in n)
-  pub within : IsWithinLimits p t n
+  pub within : TypesFit d t n
   pub words : FormsHaveWords t
   pub legal : IsLegalNest t n

@@ -1,5 +1,5 @@
 -- What the printer asks of a typed term.
-use Rattle.std.specs.Prelude.{ℕ, List}
+use Rattle.std.specs.Prelude.{ℕ, List, Option}
 use Rattle.size_arith.specs.Ranges.{Admissible}
 use Rattle.lift_tree.specs.Tree.{Tree}
 use Rattle.lift_tree.specs.Typing.{Declared}
@@ -7,7 +7,7 @@ use Rattle.lift_tree.specs.Annotations.{Annotation}
 use Rattle.kernel_tree.specs.Launch.{Launch}
 use Rattle.lift_ir.specs.Lowering.{Written}
 use Rattle.lift_ir.specs.Lowerable.{IsStaged}
-use Rattle.lowered_tree.specs.Kinds.{is_task}
+use Rattle.lowered_tree.specs.Kinds.{asks_of}
 use Rattle.printed_form.specs.Programs.{FitsBuffers, IsLaunchOf, IsLowerableProgram, lowered_root, StandsAt}
 
 -- it can be lowered at all admissible sizes, and all of it fits its buffers
@@ -16,10 +16,10 @@ pub record CanBeLowered (d : Declared) (t : Tree) (n : Annotation) : Type 0 wher
   pub lowerable : (bases : List ℕ) → Admissible d.names bases → IsLowerableProgram d bases t n
   pub fits : (bases : List ℕ) → Admissible d.names bases → FitsBuffers d bases n
 
--- it can be lowered, and what it is lowered to can be printed, at every admissible launch
+-- it can be lowered, and what it is lowered to can be printed, at every admissible launch, whatever local size is fixed
 pub record IsPrintable (d : Declared) (t : Tree) (n : Annotation) : Type 0 where
   pub staged : IsStaged Written t n
   pub lowerable : (bases : List ℕ) → Admissible d.names bases → IsLowerableProgram d bases t n
   pub fits : (bases : List ℕ) → Admissible d.names bases → FitsBuffers d bases n
-  pub stands : (bases : List ℕ) (l : Launch) → IsLaunchOf d (is_task t) bases l
+  pub stands : (local : Option ℕ) (bases : List ℕ) (l : Launch) → IsLaunchOf d (asks_of local t) bases l
       → StandsAt l (lowered_root d.names t n)

@@ -3,7 +3,7 @@ use Rattle.std.specs.Prelude.{false}
 use Rattle.lift_tree.specs.Tree.{Tree, Unary, Binary, Select, Let, Map, Fold}
 use Rattle.lift_tree.specs.Annotations.{Annotation, One, Two, Three, type_in}
 use Rattle.lowered_tree.specs.declared.around.Around.{Around}
-use Rattle.lowered_tree.specs.Elements.{is_element}
+use Rattle.lift_tree.specs.Types.{is_element}
 use Rattle.lowered_tree.specs.Around.{operand, under_form, argument, let_body, map_body, fold_body}
 use Rattle.lowered_tree.specs.Nest.{site_at, IsUnbroken}
 

@@ -61,7 +61,7 @@ fn allocated(
     let Some(lowered) = lowered_last(alloc, program, script)? else {
         return Ok(None);
     };
-    let Ok(mapped) = judge(alloc, lowered) else {
+    let Ok(mapped) = judge(alloc, lowered, None) else {
         return Ok(None);
     };
     Ok(Some(buffers(alloc, &spaces(alloc, mapped)?)))

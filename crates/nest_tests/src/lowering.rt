@@ -13,7 +13,7 @@ pub fn lowered_last(alloc: Global, program: &str, script: &str) -> Result<Option
     let Ok(last) = last_term(alloc, program.as_bytes(), script.as_bytes()) else {
         return Ok(None);
     };
-    Ok(Some(lowered(alloc, &last)?))
+    Ok(Some(lowered(alloc, &last.typed)?))
 }
 
 #[test]

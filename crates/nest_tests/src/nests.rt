@@ -1,5 +1,7 @@
 //! Nests that are legal or not, and the address spaces of legal ones.
 
+ghost use Rattle.lowered_tree.specs.Kinds.{IsLocalSize};
+
 use crate::lowering::lowered_last;
 use address_spaces::spaces;
 use lowered_tree::around::AddressSpace;
@@ -18,6 +20,8 @@ const REVERSED: &str = "input xs: [u32; 4]; output reverse(map(\\x. add(x, 1), x
 
 const STRIDED: &str = "input xs: [u32; 4]; output stride(2, map(\\x. add(x, 1), xs))";
 
+const TWICE: &str = "input xs: [u32; 4]; output map(\\x. add(x, 1), map(\\x. mul(x, 2), xs))";
+
 const ROWS: &str = "input xs: [[u32; 4]; 4]; output map(\\r. map(\\x. x, r), xs)";
 
 const HALVES: &str =
@@ -35,7 +39,7 @@ const SUMMED: &str =
     "at . split-reduce 2\nat . reduce-fold\nat 0.0.1 reduce-fold\nat 0.0.1 fold-seq\nat 0.0 to-seq\nat 0 private\nat . fold-seq";
 
 // A program, a script, and the first node at which a rule is broken: its place in digits, and the rule.
-const BROKEN: [(&str, &str, &str, NestRule); 19] = [
+const BROKEN: [(&str, &str, &str, NestRule); 23] = [
     (ADDED, "", "", NestRule::N1),
     (ADDED, "at . to-lcl", "", NestRule::N2),
     (ROWS, "at 1 to-glb\nat . to-glb", "1", NestRule::N3),
@@ -101,6 +105,21 @@ const BROKEN: [(&str, &str, &str, NestRule); 19] = [
         "0",
         NestRule::N11,
     ),
+    // a cut between two kernels is no part of one kernel's term, and is judged before all else
+    (
+        TWICE,
+        "at 0 to-glb\nat 0 then\nat . to-glb",
+        "0",
+        NestRule::N13,
+    ),
+    (TWICE, "at 0 then", "0", NestRule::N13),
+    (TWICE, "at 0 then\nat 0.0.0 then", "0", NestRule::N13),
+    (
+        "input xs: [u32; 4]; output let y = map(\\x. x, xs) in map(\\z. fold(\\a b. add(a, b), z, y), xs)",
+        "at 0 then\nat . let-inline",
+        "10",
+        NestRule::N13,
+    ),
 ];
 
 // A program, a script, and the spaces of its last term's computing nodes in preorder: global, local or private.
@@ -152,15 +171,49 @@ const KINDS: [(&str, &str, NestKind); 10] = [
     ),
 ];
 
-// What is judged of it.
+// The same with a fixed local size.
+const BROKEN_WITH_A_SIZE: [(&str, &str, u32, &str, NestRule); 6] = [
+    (ADDED, "at . to-seq", 2, "", NestRule::N12),
+    (ROWS, "at . to-seq", 256, "", NestRule::N12),
+    (ADDED, "", 2, "", NestRule::N1),
+    ("input xs: [u32; 5]; output xs", "", 2, "", NestRule::N11),
+    (ROWS, "at 1 to-lcl\nat . to-seq", 2, "1", NestRule::N2),
+    (
+        TWICE,
+        "at 0 to-seq\nat 0 then\nat . to-seq",
+        2,
+        "0",
+        NestRule::N13,
+    ),
+];
+
+// Legal terms with a fixed local size.
+const LEGAL_WITH_A_SIZE: [(&str, &str, u32); 3] = [
+    (ADDED, "at . to-seq", 1),
+    (ADDED, "at . to-glb", 2),
+    (ROWS, "at 1 to-lcl\nat . to-wrg", 256),
+];
+
+// What is judged of it, with this local size where one is fixed.
 fn judged(
     alloc: Global,
     program: &str,
     script: &str,
+    local: Option<u32>,
 ) -> Result<Option<Result<Mapped, NestNo>>, Fail> {
     match lowered_last(alloc, program, script)? {
-        Some(lowered) => Ok(Some(judge(alloc, lowered))),
+        Some(lowered) => Ok(Some(judge(alloc, lowered, size_of_groups(local)))),
         None => Ok(None),
+    }
+}
+
+// The number, where groups may have that size.
+fn size_of_groups(number: Option<u32>) -> Option<u32>
+    ensures { IsLocalSize result }
+{
+    match number {
+        Some(size) if 1 <= size && size <= 256 => Some(size),
+        _ => None,
     }
 }
 
@@ -168,18 +221,19 @@ fn is_place(numbers: &[u32], digits: &str) -> bool {
     numbers.iter().map(|n| *n).eq(digits.bytes().map(|digit| (digit as u32).wrapping_sub(48)))
 }
 
-fn is_broken(
-    alloc: Global,
-    program: &str,
-    script: &str,
-    digits: &str,
-    want: NestRule,
-) -> Result<bool, Fail> {
-    match judged(alloc, program, script)? {
+fn breaks(judged: Option<Result<Mapped, NestNo>>, digits: &str, want: NestRule) -> bool {
+    match judged {
         Some(Err(NestNo::Nest { place, rule })) => {
-            Ok(is_place(place.numbers(), digits) && rule == want)
+            is_place(place.numbers(), digits) && rule == want
         }
-        _ => Ok(false),
+        _ => false,
+    }
+}
+
+fn keeps_size(judged: Option<Result<Mapped, NestNo>>, local: u32) -> bool {
+    match judged {
+        Some(Ok(mapped)) => mapped.local == Some(local),
+        _ => false,
     }
 }
 
@@ -192,7 +246,7 @@ fn letter(space: &AddressSpace) -> u8 {
 }
 
 fn has_spaces(alloc: Global, program: &str, script: &str, want: &str) -> Result<bool, Fail> {
-    match judged(alloc, program, script)? {
+    match judged(alloc, program, script, None)? {
         Some(Ok(mapped)) => {
             let spaced = spaces(alloc, mapped)?;
             Ok(spaced.spaces.iter().map(letter).eq(want.bytes()))
@@ -204,10 +258,22 @@ fn has_spaces(alloc: Global, program: &str, script: &str, want: &str) -> Result<
 #[test]
 fn the_first_broken_rule_is_told(rt: HostRuntime) -> Result<(), Fail> {
     for (program, script, digits, rule) in BROKEN {
-        assert!(rt;
-            is_broken(rt.alloc(), program, script, digits, rule)?,
-            "{script}"
-        );
+        let judged = judged(rt.alloc(), program, script, None)?;
+        assert!(rt; breaks(judged, digits, rule), "{script}");
+    }
+    Ok(())
+}
+
+// A size above 1 is refused at the root, behind the root's own rules and before all nodes below it.
+#[test]
+fn no_item_of_a_fixed_size_is_idle(rt: HostRuntime) -> Result<(), Fail> {
+    for (program, script, local, digits, rule) in BROKEN_WITH_A_SIZE {
+        let judged = judged(rt.alloc(), program, script, Some(local))?;
+        assert!(rt; breaks(judged, digits, rule), "{script}");
+    }
+    for (program, script, local) in LEGAL_WITH_A_SIZE {
+        let judged = judged(rt.alloc(), program, script, Some(local))?;
+        assert!(rt; keeps_size(judged, local), "{script}");
     }
     Ok(())
 }

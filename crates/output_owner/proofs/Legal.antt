@@ -9,7 +9,7 @@ use Rattle.lift_tree.specs.declared.term.MapKind.{MapKind}
 use Rattle.lift_tree.specs.Annotations.{Annotation, One, Two, type_in, Annotates}
 use Rattle.lift_tree.specs.Lists.{Every}
 use Rattle.lift_tree.specs.Tree.{Tree, Unary, Let, Map}
-use Rattle.lift_tree.specs.Types.{PlainTy, U32, PairOf, ArrayOf, IsFormed}
+use Rattle.lift_tree.specs.Types.{PlainTy, U32, PairOf, ArrayOf, IsFormed, is_element}
 use Rattle.lift_tree.specs.Typing.{Declared, IsDeclared}
 use Rattle.lift_tree.proofs.Layouts.{layout_result}
 use Rattle.lift_tree.proofs.Annotated.{annotated_is_typed}
@@ -17,7 +17,6 @@ use Rattle.lift_tree.proofs.Formed.{formed}
 use Rattle.lift_ir.specs.Lowering as ir
 use Rattle.lowered_tree.specs.Around.{argument, let_body, map_body, passed}
 use Rattle.lowered_tree.specs.declared.rule.NestRule.TheVariants.{N10}
-use Rattle.lowered_tree.specs.Elements.{is_element}
 use Rattle.lowered_tree.specs.Nest.{IsUnbroken, Site, sites, under}
 use Rattle.output_owner.specs.Written.{IsWritten}
 

@@ -1,18 +1,17 @@
 -- The owner of a scalar of a whole term.
-use Rattle.std.proofs.Common.{◌≡◌, ℕ, ◌<◌, ◌^◌, List, [], refl, sym, ap, ◌∙◌, subst}
+use Rattle.std.proofs.Common.{◌≡◌, ℕ, ◌<◌, ◌^◌, List, [], refl, sym, ap, ◌∙◌, subst, Option}
 use Rattle.size_arith.specs.declared.names.Name.{Name}
 use Rattle.size_arith.specs.Ranges.{Admissible, AreNames, sizes_at}
 use Rattle.lift_tree.specs.Annotations.{Annotation, annotation_of, type_in}
-use Rattle.lift_tree.specs.Programs.{PlainProgram}
 use Rattle.lift_tree.specs.Tree.{Tree, tree_of}
-use Rattle.lift_tree.specs.Typing.{declared_by}
+use Rattle.lift_tree.specs.Typing.{Declared}
 use Rattle.kernel_tree.specs.Launch.{Launch}
 use Rattle.lift_ir.specs.AtLaunch.{length_at}
 use Rattle.lift_ir.specs.Owner.{owner}
 use Rattle.lift_ir.specs.Types.{size}
 use Rattle.lift_ir.proofs.Values.{shape_is}
 use Rattle.lowered_tree.specs.Around.{at_root}
-use Rattle.lowered_tree.specs.Kinds.{is_task}
+use Rattle.lowered_tree.specs.Kinds.{asks_of}
 use Rattle.lowered_tree.specs.declared.lowered.Lowered.{Lowered}
 use Rattle.nest_premises.specs.Laws.{LegalTermsCanBeLowered}
 use Rattle.printed_form.specs.Programs.{cell_owner, IsLaunchOf}
@@ -23,7 +22,7 @@ use Rattle.output_owner.specs.declared.walk.OnTop.{OnTop}
 use Rattle.output_owner.specs.Written.{IsNumber, IsScalarOf}
 use Rattle.output_owner.proofs.Bases.{bases_back}
 
-module _ (lowered : LegalTermsCanBeLowered) (p : PlainProgram) (l : Lowered) (launch : Launch) (bases : List ℕ) (cell : ℕ) (is : IsLegalFor p l) (here : IsLaunchOf (declared_by p) (is_task (tree_of l.term)) bases launch) where
+module _ (lowered : LegalTermsCanBeLowered) (d : Declared) (l : Lowered) (launch : Launch) (bases : List ℕ) (cell : ℕ) (is : IsLegalFor d l) (local : Option ℕ) (here : IsLaunchOf d (asks_of local (tree_of l.term)) bases launch) where
   ok : Admissible l.names bases
   ok = subst (λ (ns : List Name). Admissible ns bases) is.names here.admissible.sizes
 
@@ -33,14 +32,14 @@ module _ (lowered : LegalTermsCanBeLowered) (p : PlainProgram) (l : Lowered) (la
       ∙ bases_back l.names bases (subst AreNames is.names is.legal.declared.names) ok
 
   few : cell_count bases l < 2 ^ 31
-  few = subst (λ z. size z < 2 ^ 31) (shape_is bases (type_in (annotation_of l.types))) ((lowered p (tree_of l.term) (annotation_of l.types) is.legal is.copies).fits bases here.admissible.sizes).0.small
+  few = subst (λ z. size z < 2 ^ 31) (shape_is bases (type_in (annotation_of l.types))) ((lowered d (tree_of l.term) (annotation_of l.types) is.legal is.copies).fits bases here.admissible.sizes).0.small
 
   pub of_root : cell < cell_count bases l → IsScalarOf l.names launch.sizes (tree_of l.term) (annotation_of l.types) cell
   of_root below = record {
     admissible = subst (Admissible l.names) (sym same_bases) ok;
     exact = subst (λ (b : List ℕ). launch.sizes ≡ sizes_at l.names b) (sym same_bases) (here.sizes ∙ ap (λ (ns : List Name). sizes_at ns bases) is.names);
     term = record {
-      declared = declared_by p;
+      declared = d;
       same = is.names;
       proper = is.legal.declared;
       binders = [];
@@ -82,7 +81,7 @@ module _ (lowered : LegalTermsCanBeLowered) (p : PlainProgram) (l : Lowered) (la
       subst (λ (ns : List Name). IsScalarOf ns launch.sizes (tree_of top.body.now) (annotation_of top.types.now) top.number → item ≡ owner_on_top ns (bases_of ns launch.sizes) launch top) en told in
       at_bases item (t (b s) ∙ sym ((f s).item launch))
 
--- the program's names are those of its legal term
-pub of_names : (p : PlainProgram) (l : Lowered) (bases : List ℕ) (launch : Launch) (array cell item : ℕ) → IsLegalFor p l
-    → item ≡ cell_owner l.names bases launch (tree_of l.term) (annotation_of l.types) array cell → item ≡ cell_owner (declared_by p).names bases launch (tree_of l.term) (annotation_of l.types) array cell
-of_names p l bases launch array cell item is h = subst (λ (ns : List Name). item ≡ cell_owner ns bases launch (tree_of l.term) (annotation_of l.types) array cell) (sym is.names) h
+-- the names are those of the legal term
+pub of_names : (d : Declared) (l : Lowered) (bases : List ℕ) (launch : Launch) (array cell item : ℕ) → IsLegalFor d l
+    → item ≡ cell_owner l.names bases launch (tree_of l.term) (annotation_of l.types) array cell → item ≡ cell_owner d.names bases launch (tree_of l.term) (annotation_of l.types) array cell
+of_names d l bases launch array cell item is h = subst (λ (ns : List Name). item ≡ cell_owner ns bases launch (tree_of l.term) (annotation_of l.types) array cell) (sym is.names) h

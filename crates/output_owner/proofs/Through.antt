@@ -11,12 +11,12 @@ use Rattle.size_arith.proofs.Soundness.{shown_at_least}
 use Rattle.lift_tree.specs.declared.length.Factor.{Factor}
 use Rattle.lift_tree.specs.declared.layout.Layout as layout
 use Rattle.lift_tree.specs.declared.layout.Layout.TheVariants.{Join, Transpose, Split, Reverse, Stride}
-use Rattle.lift_tree.specs.declared.term.UnaryForm.TheVariants.{Div, First, Layout, Pad, Rem, Second, Slide, ToLocal, ToPrivate}
+use Rattle.lift_tree.specs.declared.term.UnaryForm.TheVariants.{Div, First, Layout, Pad, Rem, Second, Slide, Then, ToLocal, ToPrivate}
 use Rattle.lift_tree.specs.declared.term.MapKind.{MapKind}
 use Rattle.lift_tree.specs.declared.term.UnaryForm.{UnaryForm}
 use Rattle.lift_tree.specs.Annotations.{Annotation, One, Two, type_in}
 use Rattle.lift_tree.specs.Tree.{Tree, Unary, Let, Map}
-use Rattle.lift_tree.specs.Types.{PlainTy, ArrayOf}
+use Rattle.lift_tree.specs.Types.{PlainTy, ArrayOf, is_element}
 use Rattle.lift_tree.specs.Meaning.{product_at}
 use Rattle.lift_tree.specs.WorkedOut.{product_of}
 use Rattle.lift_tree.proofs.Sizes.{product_value, value-of_monomial}
@@ -31,7 +31,6 @@ use Rattle.lift_ir.specs.Terms as terms
 use Rattle.lift_ir.specs.Types as shapes
 use Rattle.lift_ir.specs.Types.{Ty, size, unflat}
 use Rattle.lift_ir.proofs.AtLaunch.{join_reshapes, split_reshapes, stride_lengths, Strides}
-use Rattle.lowered_tree.specs.Elements.{is_element}
 use Rattle.output_owner.specs.Bases.{bases_of}
 use Rattle.output_owner.specs.declared.walk.OnTop.{OnTop}
 use Rattle.output_owner.specs.Owners.{HaveOneOwner, IsOfNone, IsOfTop, map_over, position, written}
@@ -368,7 +367,7 @@ module _ (names : List Name) (sizes : List ℕ) where
   IsNoLayout (Layout l) = ⊥
   IsNoLayout _ = Unit {0}
 
-  pub is_no_layout : (f : UnaryForm) → ((x : ℕ) × (f ≡ Div x)) ⊎ (((x : ℕ) × (f ≡ Rem x)) ⊎ ((f ≡ First) ⊎ ((f ≡ Second) ⊎ (((x : ℕ) × (y : ℕ) × (f ≡ Slide x y)) ⊎ (((x : ℕ) × (y : ℕ) × (f ≡ Pad x y)) ⊎ ((f ≡ ToLocal) ⊎ (f ≡ ToPrivate))))))) → IsNoLayout f
+  pub is_no_layout : (f : UnaryForm) → ((x : ℕ) × (f ≡ Div x)) ⊎ (((x : ℕ) × (f ≡ Rem x)) ⊎ ((f ≡ First) ⊎ ((f ≡ Second) ⊎ (((x : ℕ) × (y : ℕ) × (f ≡ Slide x y)) ⊎ (((x : ℕ) × (y : ℕ) × (f ≡ Pad x y)) ⊎ ((f ≡ ToLocal) ⊎ ((f ≡ ToPrivate) ⊎ (f ≡ Then)))))))) → IsNoLayout f
   is_no_layout f (inl (x, e)) = subst IsNoLayout (sym e) tt
   is_no_layout f (inr (inl (x, e))) = subst IsNoLayout (sym e) tt
   is_no_layout f (inr (inr (inl e))) = subst IsNoLayout (sym e) tt
@@ -376,7 +375,8 @@ module _ (names : List Name) (sizes : List ℕ) where
   is_no_layout f (inr (inr (inr (inr (inl (x, y, e)))))) = subst IsNoLayout (sym e) tt
   is_no_layout f (inr (inr (inr (inr (inr (inl (x, y, e))))))) = subst IsNoLayout (sym e) tt
   is_no_layout f (inr (inr (inr (inr (inr (inr (inl e))))))) = subst IsNoLayout (sym e) tt
-  is_no_layout f (inr (inr (inr (inr (inr (inr (inr e))))))) = subst IsNoLayout (sym e) tt
+  is_no_layout f (inr (inr (inr (inr (inr (inr (inr (inl e)))))))) = subst IsNoLayout (sym e) tt
+  is_no_layout f (inr (inr (inr (inr (inr (inr (inr (inr e)))))))) = subst IsNoLayout (sym e) tt
 
   pub of_no_layout : (f : UnaryForm) (t : Tree) (a : PlainTy) (n : Annotation) (k : ℕ) → IsNoLayout f → NoneOn k (Unary f t) (One a n)
   of_no_layout (Div x) t a n k other s = record { item = λ l. refl; local = λ l. refl }
@@ -388,6 +388,7 @@ module _ (names : List Name) (sizes : List ℕ) where
   of_no_layout (Pad x y) t a n k other s = absurd (no_pad names x y t a n s.term)
   of_no_layout ToLocal t a n k other s = record { item = λ l. refl; local = λ l. refl }
   of_no_layout ToPrivate t a n k other s = record { item = λ l. refl; local = λ l. refl }
+  of_no_layout Then t a n k other s = record { item = λ l. refl; local = λ l. refl }
 
   -- ---- the map on top, whose rows have so many scalars
 

@@ -1,14 +1,13 @@
 //! The owner of a cell.
 
-ghost use Rattle.std.specs.Prelude.{◌≡◌, ◌+◌, ◌*◌, ◌%◌, ◌<◌, ℕ, List};
+ghost use Rattle.std.specs.Prelude.{◌≡◌, ◌+◌, ◌*◌, ◌%◌, ◌<◌, ℕ, List, Option};
 ghost use Rattle.kernel_tree.specs.Launch.{IsWhole, groups_across};
 ghost use Rattle.lift_tree.specs.Annotations.{annotation_of};
-ghost use Rattle.lift_tree.specs.Programs.{PlainProgram};
 ghost use Rattle.lift_tree.specs.Tree.{tree_of};
-ghost use Rattle.lift_tree.specs.Typing.{declared_by};
+ghost use Rattle.lift_tree.specs.Typing.{Declared};
 ghost use Rattle.lift_ir.specs.AtLaunch.{length_at};
 ghost use Rattle.lift_ir.specs.Owner.{local_owner};
-ghost use Rattle.lowered_tree.specs.Kinds.{is_task};
+ghost use Rattle.lowered_tree.specs.Kinds.{asks_of};
 ghost use Rattle.output_owner.specs.Bases.{bases_of};
 ghost use Rattle.output_owner.specs.Outputs.{IsLegalFor, cell_count};
 ghost use Rattle.output_owner.specs.Owners.{owner_on_top, position, written};
@@ -77,15 +76,15 @@ fn item(top: &OnTop, launch: &Launch, names: &[Name]) -> u32
 ///
 /// Under `mapGlb` at turn i it is item i mod G, where the launch has G; under `mapWrg` at turn i and
 /// `mapLcl` at turn j local item j mod L of group i mod (G / L), where a group has L; with no
-/// parallel map item 0. The term is a program's legal one, the launch is one row and admissible for
-/// it, and the cell is in the output. It takes no memory.
+/// parallel map item 0. The term is a legal one, the launch is one row and admissible for it, whatever
+/// local size is fixed, and the cell is in the output. It takes no memory.
 pub fn owner(lowered: &Lowered, launch: &Launch, cell: u64) -> u32
     requires whole { IsWhole launch.now }
     requires some { 0 < launch.now.global.0 }
-    ensures { (p : PlainProgram) (bases : List ℕ) → IsLegalFor p lowered.now
-        → IsLaunchOf (declared_by p) (is_task (tree_of lowered.now.term)) bases launch.now
+    ensures { (d : Declared) (local : Option ℕ) (bases : List ℕ) → IsLegalFor d lowered.now
+        → IsLaunchOf d (asks_of local (tree_of lowered.now.term)) bases launch.now
         → (array : ℕ) → cell < cell_count bases lowered.now
-        → result ≡ cell_owner (declared_by p).names bases launch.now (tree_of lowered.now.term)
+        → result ≡ cell_owner d.names bases launch.now (tree_of lowered.now.term)
         (annotation_of lowered.now.types) array cell }
 {
     legal_terms_can_be_lowered();

@@ -24,7 +24,6 @@ use lift_tree::layout::Layout;
 use lift_tree::term::{MapKind, Term, UnaryForm};
 use lift_tree::ty::Ty;
 use lift_tree::typed::NodeTypes;
-use lowered_tree::around::is_element;
 use size_arith::Name;
 
 /// The turn of the map on top in which a scalar is written, and its number in what the body gives.
@@ -173,16 +172,17 @@ pub fn on_top<'t>(
                 | UnaryForm::Slide(_, _)
                 | UnaryForm::Pad(_, _)
                 | UnaryForm::ToLocal
-                | UnaryForm::ToPrivate => None,
+                | UnaryForm::ToPrivate
+                | UnaryForm::Then => None,
             },
             NodeTypes::Leaf(_) | NodeTypes::Two(_, _, _) | NodeTypes::Three(_, _, _, _) => None,
         },
         Term::Let(_, body) => match types {
             NodeTypes::Two(ty, n, m) => {
-                if is_element(ty) {
+                if ty.is_element() {
                     return None;
                 }
-                if is_element(n.own_type()) {
+                if n.own_type().is_element() {
                     return None;
                 }
                 on_top(body, m, number, names, sizes)

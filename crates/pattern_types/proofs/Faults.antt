@@ -14,13 +14,13 @@ use Rattle.lift_tree.specs.declared.length.Factor.{Factor}
 use Rattle.lift_tree.specs.declared.layout.Layout as layout
 use Rattle.lift_tree.specs.declared.layout.Layout.TheVariants.{Join, Transpose, Split, Reverse, Stride}
 use Rattle.lift_tree.specs.declared.term.UnaryForm.{UnaryForm}
-use Rattle.lift_tree.specs.declared.term.UnaryForm.TheVariants.{Div, Rem, First, Second, Layout, Slide, Pad, ToLocal, ToPrivate}
+use Rattle.lift_tree.specs.declared.term.UnaryForm.TheVariants.{Div, Rem, First, Second, Layout, Slide, Pad, ToLocal, ToPrivate, Then}
 use Rattle.lift_tree.specs.declared.term.BinaryForm.{BinaryForm}
 use Rattle.lift_tree.specs.declared.term.BinaryForm.TheVariants as binary
 use Rattle.scalar_ops.specs.declared.op.Reducer.{Reducer}
 use Rattle.lift_tree.specs.Belonging.{FormIsNamed}
 use Rattle.lift_tree.specs.Limits.{arrays, components}
-use Rattle.lift_tree.specs.Types.{PlainTy, U32, PairOf, ArrayOf, IsElement}
+use Rattle.lift_tree.specs.Types.{PlainTy, U32, PairOf, ArrayOf, IsElement, is_element}
 use Rattle.lift_tree.specs.Typing.{constant}
 use Rattle.lift_tree.specs.WorkedOut.{factor_monomial, product_of}
 use Rattle.pattern_types.specs.declared.refusal.Rule.{Rule}
@@ -32,7 +32,7 @@ use Rattle.pattern_types.specs.declared.fault.Fault.TheVariants.{Breaks, Passes}
 use Rattle.pattern_types.specs.Judged as judged
 use Rattle.pattern_types.specs.Judged.{and_then, demand, at_most, counted, faulty, within, product_judged, scalars_judged, number_row, unary_row, layout_row, split_row, pieces_row, reverse_row, stride_row, strided_row, windows_row, zip_row, reduce_row, binary_row, select_row, element_in, map_end, fold_start, fold_end}
 use Rattle.pattern_types.specs.Refusals.{Any, most, CountsLength, CountsInside, CountsArray, Formed, formed, IsFault, products_along, IsPair, IsArray, IsArrayOfArrays, windows, unary_rule, UnaryDemand, unary_formed, unary_lengths, UnaryFault, binary_rule, BinaryDemand, binary_formed, BinaryFault, RuleFault}
-use Rattle.pattern_types.specs.Tests.{exact_quotient, is_element, is_same_element}
+use Rattle.pattern_types.specs.Tests.{exact_quotient, is_same_element}
 use Rattle.pattern_types.proofs.Results.{within_ok, demand_ok}
 use Rattle.pattern_types.proofs.Judging.{done}
 use Rattle.pattern_types.proofs.Products.{product_right}
@@ -331,6 +331,7 @@ unary_faults names z (Pad l r) (PairOf a b) i g = one (Breaks rule.Pad) (inl (re
 unary_faults names z (Pad l r) (ArrayOf x n) i g = pad_faults names l r x n
 unary_faults names z ToLocal b i g = none b
 unary_faults names z ToPrivate b i g = none b
+unary_faults names z Then b i g = none b
 
 -- ---- forms with two children, and select
 zip_faults : (names : List Name) (b c : PlainTy) → IsGood names b → Faults (BinaryFault names binary.Zip b c) (zip_row names b c)

@@ -12,15 +12,15 @@ use Rattle.lift_tree.specs.declared.length.Factor.{Factor}
 use Rattle.lift_tree.specs.declared.layout.Layout as layout
 use Rattle.lift_tree.specs.declared.layout.Layout.TheVariants.{Join, Transpose, Split, Reverse, Stride}
 use Rattle.lift_tree.specs.declared.term.UnaryForm.{UnaryForm}
-use Rattle.lift_tree.specs.declared.term.UnaryForm.TheVariants.{Div, Rem, First, Second, Layout, Slide, Pad, ToLocal, ToPrivate}
+use Rattle.lift_tree.specs.declared.term.UnaryForm.TheVariants.{Div, Rem, First, Second, Layout, Slide, Pad, ToLocal, ToPrivate, Then}
 use Rattle.lift_tree.specs.declared.term.BinaryForm.{BinaryForm}
 use Rattle.lift_tree.specs.declared.term.BinaryForm.TheVariants as binary
-use Rattle.lift_tree.specs.Types.{PlainTy, U32, PairOf, ArrayOf, IsElement, IsFormed}
+use Rattle.lift_tree.specs.Types.{PlainTy, U32, PairOf, ArrayOf, IsElement, IsFormed, is_element}
 use Rattle.lift_tree.specs.WorkedOut.{product_of}
 use Rattle.lift_tree.specs.Typing.{constant, LayoutRow, UnaryRow, BinaryRow}
 use Rattle.pattern_types.specs.declared.refusal.Rule.TheVariants as rule
 use Rattle.pattern_types.specs.declared.fault.Fault.{Fault}
-use Rattle.pattern_types.specs.Tests.{exact_quotient, all_divide, is_element}
+use Rattle.pattern_types.specs.Tests.{exact_quotient, all_divide}
 use Rattle.pattern_types.specs.Judged.{pieces_row, reverse_row, strided_row, windows_row, unary_row, operator_row, zip_row, reduce_row, binary_row}
 use Rattle.lift_tree.specs.Limits.{IsSmall, ArrayFits, OuterFits, UnaryFits}
 use Rattle.pattern_types.proofs.Products.{product_right}
@@ -139,6 +139,7 @@ judges_unary names (Pad l k) b a r g o =
     (subst (λ z. At names (Pad l k) (ArrayOf r.0 r.1) z) (sym r.3) (judges_pad names l k r.0 r.1) o)
 judges_unary names ToLocal b a r g o = answers r
 judges_unary names ToPrivate b a r g o = answers r
+judges_unary names Then b a r g o = answers r
 
 -- ---- forms with two children
 pub element_is : (a : PlainTy) → IsElement a → IsTrue (is_element a)

@@ -5,7 +5,7 @@ use Rattle.std.proofs.lemmas.Bool.{and_from}
 use Rattle.size_arith.specs.declared.names.Name.{Name}
 use Rattle.size_arith.specs.declared.poly.Monomial.{Monomial}
 use Rattle.lift_tree.specs.Tree.{Tree, Variable, Number, Input, Unary, Binary, Select, Let, Map, Fold}
-use Rattle.lift_tree.specs.Types.{PlainTy, U32, PairOf, ArrayOf, IsElement, HoldsElements, IsOutput, IsFormed}
+use Rattle.lift_tree.specs.Types.{PlainTy, U32, PairOf, ArrayOf, IsElement, HoldsElements, IsOutput, IsFormed, is_element, holds_elements}
 use Rattle.lift_tree.specs.Typing.{Declared, constant, declared_by, HasOutput}
 use Rattle.lift_tree.specs.WorkedOut.{range_of, worked_out}
 use Rattle.lift_tree.specs.Programs.{PlainInput, PlainProgram}
@@ -25,7 +25,7 @@ use Rattle.pattern_types.specs.declared.fault.NodeFault.{NodeFault}
 use Rattle.lift_tree.specs.Belonging.{Belongs}
 use Rattle.pattern_types.specs.Numbers.{NumbersFit}
 use Rattle.pattern_types.specs.Scopes.{nth_type}
-use Rattle.pattern_types.specs.Tests.{is_element, holds_elements, is_output, is_same_element}
+use Rattle.pattern_types.specs.Tests.{is_output, is_same_element}
 use Rattle.pattern_types.specs.Judged as table
 use Rattle.pattern_types.specs.Judged.{under, select_row, element_in, map_end, fold_start, fold_end, judged, at_node, refusal_at, output_judged, program_judged}
 use Rattle.pattern_types.specs.Judgement.{HasTypes, IsJudgement, TypesAreJudged, OutputsHaveTypes, OutputsBelong, Explains}

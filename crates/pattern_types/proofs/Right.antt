@@ -4,7 +4,7 @@ use Rattle.std.specs.Prelude.{Ok, slice_get}
 use Rattle.size_arith.specs.declared.names.Name.{Name}
 use Rattle.size_arith.specs.declared.poly.Monomial.{Monomial}
 use Rattle.lift_tree.specs.Tree.{Tree, Variable, Number, Input, Unary, Binary, Select, Let, Map, Fold}
-use Rattle.lift_tree.specs.Types.{PlainTy, U32, PairOf, ArrayOf, IsElement}
+use Rattle.lift_tree.specs.Types.{PlainTy, U32, PairOf, ArrayOf, IsElement, is_element}
 use Rattle.lift_tree.specs.Typing.{Declared, constant}
 use Rattle.lift_tree.specs.Lists.{Every}
 use Rattle.lift_tree.specs.Annotations.{Annotation, Leaf, One, Two, Three, type_in, Annotates}
@@ -15,7 +15,7 @@ use Rattle.pattern_types.specs.declared.fault.NodeFault.{NodeFault}
 use Rattle.lift_tree.specs.Belonging.{Belongs}
 use Rattle.pattern_types.specs.Numbers.{NumbersFit}
 use Rattle.pattern_types.specs.Scopes.{nth_type}
-use Rattle.pattern_types.specs.Tests.{is_element, is_same_element}
+use Rattle.pattern_types.specs.Tests.{is_same_element}
 use Rattle.pattern_types.specs.Judged.{and_then, demand, here, under, unary_row, binary_row, select_row, operator_row, number_row, element_in, map_end, fold_start, fold_end, judged}
 use Rattle.pattern_types.proofs.Results.{yes, and_ok, demand_ok, here_ok, under_ok}
 use Rattle.pattern_types.proofs.Table.{IsGood, formed_right, unary_right, binary_right, number_right, constant_low, is_element_so, same_element}

@@ -12,10 +12,10 @@ use Rattle.lift_tree.specs.declared.length.Factor.{Factor}
 use Rattle.lift_tree.specs.declared.layout.Layout as layout
 use Rattle.lift_tree.specs.declared.layout.Layout.TheVariants.{Join, Transpose, Split, Reverse, Stride}
 use Rattle.lift_tree.specs.declared.term.UnaryForm.{UnaryForm}
-use Rattle.lift_tree.specs.declared.term.UnaryForm.TheVariants.{Div, Rem, First, Second, Layout, Slide, Pad, ToLocal, ToPrivate}
+use Rattle.lift_tree.specs.declared.term.UnaryForm.TheVariants.{Div, Rem, First, Second, Layout, Slide, Pad, ToLocal, ToPrivate, Then}
 use Rattle.lift_tree.specs.declared.term.BinaryForm.{BinaryForm}
 use Rattle.lift_tree.specs.declared.term.BinaryForm.TheVariants as binary
-use Rattle.lift_tree.specs.Types.{PlainTy, U32, PairOf, ArrayOf, IsElement, IsFormed}
+use Rattle.lift_tree.specs.Types.{PlainTy, U32, PairOf, ArrayOf, IsElement, IsFormed, is_element}
 use Rattle.lift_tree.specs.WorkedOut.{product_of}
 use Rattle.lift_tree.specs.Typing.{constant, UnaryRow, BinaryRow}
 use Rattle.lift_tree.specs.Limits.{arrays, components}
@@ -23,7 +23,7 @@ use Rattle.pattern_types.specs.declared.refusal.Rule.TheVariants as rule
 use Rattle.pattern_types.specs.declared.refusal.TypeLimit.TheVariants as limit
 use Rattle.pattern_types.specs.declared.fault.Fault.{Fault}
 use Rattle.lift_tree.specs.Belonging.{FormIsNamed}
-use Rattle.pattern_types.specs.Tests.{exact_quotient, all_divide, is_element, is_same_element}
+use Rattle.pattern_types.specs.Tests.{exact_quotient, all_divide, is_same_element}
 use Rattle.pattern_types.specs.Judged.{demand, at_most, counted, within, product_judged, formed, scalars_judged, unary_row, binary_row, layout_row, split_row, pieces_row, stride_row, strided_row, windows_row, number_row, zip_row, reduce_row}
 use Rattle.pattern_types.proofs.Results.{yes, and_ok, within_ok, demand_ok}
 use Rattle.pattern_types.proofs.Products.{product_right}
@@ -192,6 +192,7 @@ unary_right names z (Pad l r) (ArrayOf x n) a i g h =
     ((x, n, refl, f.0 ∙ ap (λ y. ArrayOf x y) (sym v.0 ∙ ap (λ y. plus y (constant r)) (sym w.0)), good_formed names a f.1), f.1)
 unary_right names z ToLocal b a i g h = let e = same_ok b a h in (e, subst (IsGood names) e g)
 unary_right names z ToPrivate b a i g h = let e = same_ok b a h in (e, subst (IsGood names) e g)
+unary_right names z Then b a i g h = let e = same_ok b a h in (e, subst (IsGood names) e g)
 
 -- ---- pairs of types
 pub is_element_so : (a : PlainTy) → IsTrue (is_element a) → IsElement a

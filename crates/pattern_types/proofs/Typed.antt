@@ -12,7 +12,7 @@ use Rattle.lift_tree.specs.declared.length.Factor.TheVariants as factor
 use Rattle.lift_tree.specs.declared.layout.Layout as layout
 use Rattle.lift_tree.specs.declared.layout.Layout.TheVariants.{Join, Transpose, Split, Reverse, Stride}
 use Rattle.lift_tree.specs.declared.term.UnaryForm.{UnaryForm}
-use Rattle.lift_tree.specs.declared.term.UnaryForm.TheVariants.{Div, Rem, First, Second, Layout, Slide, Pad, ToLocal, ToPrivate}
+use Rattle.lift_tree.specs.declared.term.UnaryForm.TheVariants.{Div, Rem, First, Second, Layout, Slide, Pad, ToLocal, ToPrivate, Then}
 use Rattle.lift_tree.specs.Tree.{Tree, Variable, Number, Input, Unary, Binary, Select, Let, Map, Fold}
 use Rattle.lift_tree.specs.Types.{PlainTy, U32, ArrayOf, IsElement, IsFormed}
 use Rattle.lift_tree.specs.Typing.{Declared, constant, LayoutRow, UnaryRow, BinaryRow, Types}
@@ -99,6 +99,7 @@ form_is names (Slide s t) b a r h o = let e = r.3 in (size_is names s (subst (Is
 form_is names (Pad l k) b a r h o = tt
 form_is names ToLocal b a r h o = tt
 form_is names ToPrivate b a r h o = tt
+form_is names Then b a r h o = tt
 
 -- ---- terms
 below : {A : Type 0} (xs : List A) (n : ℕ) (x : A) → slice_get xs n ≡ Some x → n < length xs

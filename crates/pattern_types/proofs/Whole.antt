@@ -6,7 +6,7 @@ use Rattle.size_arith.specs.declared.names.Name.{Name}
 use Rattle.size_arith.specs.Ranges.{AreNames}
 use Rattle.lift_tree.specs.InputTypes as written
 use Rattle.lift_tree.specs.InputTypes.{Written}
-use Rattle.lift_tree.specs.Types.{PlainTy, U32, PairOf, ArrayOf, IsElement, HoldsElements, IsInput, IsOutput, IsFormed}
+use Rattle.lift_tree.specs.Types.{PlainTy, U32, PairOf, ArrayOf, IsElement, HoldsElements, IsInput, IsOutput, IsFormed, is_element, holds_elements}
 use Rattle.lift_tree.specs.Typing.{Declared, declared_by, IsDeclared}
 use Rattle.lift_tree.specs.WorkedOut.{range_of, worked_out}
 use Rattle.lift_tree.specs.Programs.{PlainInput, PlainProgram}
@@ -16,7 +16,7 @@ use Rattle.lift_tree.proofs.Members.{length-map}
 use Rattle.pattern_types.specs.declared.refusal.Rule.TheVariants as rule
 use Rattle.pattern_types.specs.declared.fault.NodeFault.{NodeFault}
 use Rattle.lift_tree.specs.Belonging.{Belongs, IsElementType, HoldsElementTypes, IsInputType}
-use Rattle.pattern_types.specs.Tests.{is_element, holds_elements, is_output}
+use Rattle.pattern_types.specs.Tests.{is_output}
 use Rattle.pattern_types.specs.Judged.{demand, here, at_node, judged, inputs_judged, output_judged}
 use Rattle.pattern_types.specs.Judgement.{JudgedTypesAreRight}
 use Rattle.pattern_types.proofs.Results.{yes, and_ok, demand_ok, here_ok}

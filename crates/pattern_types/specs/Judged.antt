@@ -12,14 +12,14 @@ use Rattle.lift_tree.specs.declared.length.Part.{Part}
 use Rattle.lift_tree.specs.declared.layout.Layout as layout
 use Rattle.lift_tree.specs.declared.layout.Layout.TheVariants.{Join, Transpose, Split, Reverse, Stride}
 use Rattle.lift_tree.specs.declared.term.UnaryForm.{UnaryForm}
-use Rattle.lift_tree.specs.declared.term.UnaryForm.TheVariants.{Div, Rem, First, Second, Layout, Slide, Pad, ToLocal, ToPrivate}
+use Rattle.lift_tree.specs.declared.term.UnaryForm.TheVariants.{Div, Rem, First, Second, Layout, Slide, Pad, ToLocal, ToPrivate, Then}
 use Rattle.lift_tree.specs.declared.term.BinaryForm.{BinaryForm}
 use Rattle.lift_tree.specs.declared.term.BinaryForm.TheVariants as binary
 use Rattle.lift_tree.specs.Tree.{Tree, Variable, Number, Input, Unary, Binary, Select, Let, Map, Fold}
 use Rattle.lift_tree.specs.InputTypes as written
 use Rattle.lift_tree.specs.InputTypes.{Written}
 use Rattle.lift_tree.specs.Programs.{PlainInput, PlainProgram}
-use Rattle.lift_tree.specs.Types.{PlainTy, U32, PairOf, ArrayOf}
+use Rattle.lift_tree.specs.Types.{PlainTy, U32, PairOf, ArrayOf, is_element}
 use Rattle.lift_tree.specs.Typing.{Declared, constant}
 use Rattle.lift_tree.specs.WorkedOut.{factor_monomial, with_part, range_of}
 use Rattle.lift_tree.specs.Limits.{arrays, components}
@@ -36,7 +36,7 @@ use Rattle.pattern_types.specs.declared.fault.Fault.{Fault}
 use Rattle.pattern_types.specs.declared.fault.Fault.TheVariants.{Breaks, Passes, Memory}
 use Rattle.pattern_types.specs.declared.fault.NodeFault.{NodeFault}
 use Rattle.pattern_types.specs.Scopes.{nth_type}
-use Rattle.pattern_types.specs.Tests.{exact_quotient, is_element, is_output, is_same_element}
+use Rattle.pattern_types.specs.Tests.{exact_quotient, is_output, is_same_element}
 
 abbrev pub and_then : {A B E : Type 0} → Result A E → (A → Result B E) → Result B E
 and_then (Ok a) f = f a
@@ -196,6 +196,7 @@ unary_row names (Slide s t) a = slide_row names s t a
 unary_row names (Pad l r) a = pad_row names l r a
 unary_row names ToLocal a = Ok a
 unary_row names ToPrivate a = Ok a
+unary_row names Then a = Ok a
 
 abbrev pub operator_row : PlainTy → PlainTy → Result PlainTy Fault
 operator_row a b = and_then (number_row a) (λ _. number_row b)

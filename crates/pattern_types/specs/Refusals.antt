@@ -10,7 +10,7 @@ use Rattle.lift_tree.specs.declared.length.Part.{Part}
 use Rattle.lift_tree.specs.declared.layout.Layout as layout
 use Rattle.lift_tree.specs.declared.layout.Layout.TheVariants.{Join, Transpose, Split, Reverse, Stride}
 use Rattle.lift_tree.specs.declared.term.UnaryForm.{UnaryForm}
-use Rattle.lift_tree.specs.declared.term.UnaryForm.TheVariants.{Div, Rem, First, Second, Layout, Slide, Pad, ToLocal, ToPrivate}
+use Rattle.lift_tree.specs.declared.term.UnaryForm.TheVariants.{Div, Rem, First, Second, Layout, Slide, Pad, ToLocal, ToPrivate, Then}
 use Rattle.lift_tree.specs.declared.term.BinaryForm.{BinaryForm}
 use Rattle.lift_tree.specs.declared.term.BinaryForm.TheVariants as binary
 use Rattle.lift_tree.specs.Annotations.{Annotation, Annotates, type_in}
@@ -132,6 +132,7 @@ unary_rule (Slide s t) = Some rule.Slide
 unary_rule (Pad l r) = Some rule.Pad
 unary_rule ToLocal = None
 unary_rule ToPrivate = None
+unary_rule Then = None
 
 abbrev pub IsPair : PlainTy → Type 0
 IsPair b = (x y : PlainTy) × (b ≡ PairOf x y)
@@ -164,6 +165,7 @@ UnaryDemand names (Slide s t) b =
 UnaryDemand names (Pad l r) b = IsArray b
 UnaryDemand names ToLocal b = Unit {0}
 UnaryDemand names ToPrivate b = Unit {0}
+UnaryDemand names Then b = Unit {0}
 
 abbrev pub windows : (size step : ℕ) → List Monomial → List Monomial
 windows s t n = plus (quotient (number (pos t)) (minus n (constant s))) (constant 1)
@@ -195,6 +197,7 @@ unary_formed names First b = []
 unary_formed names Second b = []
 unary_formed names ToLocal b = []
 unary_formed names ToPrivate b = []
+unary_formed names Then b = []
 
 abbrev pub layout_lengths : List Name → layout.Layout → PlainTy → List (List Monomial)
 layout_lengths names Join (ArrayOf (ArrayOf x m) n) = times n m ∷ []
@@ -217,6 +220,7 @@ unary_lengths names First b = []
 unary_lengths names Second b = []
 unary_lengths names ToLocal b = []
 unary_lengths names ToPrivate b = []
+unary_lengths names Then b = []
 
 abbrev pub UnaryFault : List Name → UnaryForm → PlainTy → Fault → Type 0
 UnaryFault names f b =

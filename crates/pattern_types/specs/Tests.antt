@@ -2,7 +2,7 @@
 use Rattle.std.specs.Prelude.{ℕ, Bool, true, false, not, ◌&&◌, if◌then◌else◌, nat_le, List, [], ◌∷◌, int_rem, Option, Some, None}
 use Rattle.size_arith.specs.declared.poly.Monomial.{Monomial}
 use Rattle.size_arith.specs.Polynomial.{is_zero, quotient}
-use Rattle.lift_tree.specs.Types.{PlainTy, U32, PairOf, ArrayOf}
+use Rattle.lift_tree.specs.Types.{PlainTy, U32, PairOf, ArrayOf, holds_elements}
 
 abbrev pub are_at_most : List ℕ → List ℕ → Bool
 are_at_most [] ns = true
@@ -23,16 +23,6 @@ abbrev pub exact_quotient : (divisor length : List Monomial) → Option (List Mo
 exact_quotient [] n = None
 exact_quotient (d ∷ []) n = if all_divide d n then Some (quotient d n) else None
 exact_quotient (d ∷ e ∷ p) n = None
-
-abbrev pub is_element : PlainTy → Bool
-is_element U32 = true
-is_element (PairOf a b) = is_element a && is_element b
-is_element (ArrayOf a n) = false
-
-abbrev pub holds_elements : PlainTy → Bool
-holds_elements U32 = true
-holds_elements (PairOf a b) = is_element a && is_element b
-holds_elements (ArrayOf a n) = holds_elements a
 
 abbrev pub is_output : PlainTy → Bool
 is_output U32 = false

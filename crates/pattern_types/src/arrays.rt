@@ -5,7 +5,7 @@ ghost use Rattle.lift_tree.specs.Types.{ty_of, ArrayOf};
 ghost use Rattle.lift_tree.specs.Limits.{arrays, components};
 ghost use Rattle.pattern_types.specs.declared.fault.Fault.TheVariants.{Memory};
 ghost use Rattle.pattern_types.specs.Judged.{at_most, counted, element_in, formed, scalars_judged};
-ghost use Rattle.pattern_types.specs.Tests.{is_element, holds_elements, is_output, is_same_element};
+ghost use Rattle.pattern_types.specs.Tests.{is_output, is_same_element};
 
 use crate::fault::{Fault, demanded};
 use crate::lengths::product;
@@ -14,32 +14,12 @@ use lift_tree::ty::Ty;
 use size_arith::{Names, Poly};
 use std::alloc::{AllocError, Global};
 
-pub fn is_element(ty: &Ty) -> bool
-    ensures { result ≡ is_element (ty_of ty.now) }
-{
-    match ty {
-        Ty::Number => true,
-        Ty::Pair(a, b) => is_element(a) && is_element(b),
-        Ty::Array(_, _) => false,
-    }
-}
-
-fn holds_elements(ty: &Ty) -> bool
-    ensures { result ≡ holds_elements (ty_of ty.now) }
-{
-    match ty {
-        Ty::Number => true,
-        Ty::Pair(a, b) => is_element(a) && is_element(b),
-        Ty::Array(element, _) => holds_elements(element),
-    }
-}
-
 pub fn is_output(ty: &Ty) -> bool
     ensures { result ≡ is_output (ty_of ty.now) }
 {
     match ty {
         Ty::Number | Ty::Pair(_, _) => false,
-        Ty::Array(element, _) => holds_elements(element),
+        Ty::Array(element, _) => element.holds_elements(),
     }
 }
 

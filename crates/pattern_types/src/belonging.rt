@@ -124,7 +124,8 @@ fn form_is_named(sizes: usize, form: &UnaryForm) -> bool
         | UnaryForm::Second
         | UnaryForm::Pad(_, _)
         | UnaryForm::ToLocal
-        | UnaryForm::ToPrivate => true,
+        | UnaryForm::ToPrivate
+        | UnaryForm::Then => true,
     }
 }
 

@@ -11,7 +11,7 @@ ghost use Rattle.pattern_types.specs.declared.refusal.Rule.TheVariants as rule;
 ghost use Rattle.pattern_types.specs.Numbers.{NumbersFit};
 ghost use Rattle.pattern_types.specs.Scopes.{nth_type, declared_as};
 
-use crate::arrays::{element_of, formed, is_element, is_same_element};
+use crate::arrays::{element_of, formed, is_same_element};
 use crate::fault::{Fault, NodeFault, demanded};
 use crate::lengths::constant;
 use crate::refusal::Rule;
@@ -107,7 +107,7 @@ fn fold_element<'t>(array: &'t Ty, start: &Ty) -> Result<&'t Ty, Fault>
     ensures refused { IfErr result (λ f. fold_start (ty_of array.now) (ty_of start.now) ≡ Err f) }
 {
     let element = element_of(array, Rule::Fold)?;
-    demanded(is_element(start), Rule::Fold)?;
+    demanded(start.is_element(), Rule::Fold)?;
     Ok(element)
 }
 

@@ -6,7 +6,7 @@ ghost use Rattle.pattern_types.specs.declared.fault.Fault.TheVariants.{Memory};
 ghost use Rattle.lift_tree.specs.Belonging.{FormIsNamed, LayoutIsNamed};
 ghost use Rattle.pattern_types.specs.Judged.{number_row, first_row, second_row, join_row, transpose_row, split_row, reverse_row, stride_row, layout_row, windows_row, slide_row, pad_row, unary_row, operator_row, pair_row, zip_row, reduce_row, binary_row, select_row};
 
-use crate::arrays::{formed, is_element};
+use crate::arrays::formed;
 use crate::fault::{Fault, demanded};
 use crate::lengths::{constant, difference, exact_quotient, product, product_of, sum};
 use crate::refusal::Rule;
@@ -206,7 +206,7 @@ pub fn unary(alloc: Global, names: &Names, form: &UnaryForm, operand: &Ty) -> Re
         UnaryForm::Layout(by) => layout(alloc, names, by, operand),
         UnaryForm::Slide(size, step) => slide(alloc, names, *size, *step, operand),
         UnaryForm::Pad(before, after) => pad(alloc, names, *before, *after, operand),
-        UnaryForm::ToLocal | UnaryForm::ToPrivate => Ok(operand.copy(alloc)?),
+        UnaryForm::ToLocal | UnaryForm::ToPrivate | UnaryForm::Then => { Ok(operand.copy(alloc)?) }
     }
 }
 
@@ -223,7 +223,7 @@ fn pair(alloc: Global, a: &Ty, b: &Ty) -> Result<Ty, Fault>
     ensures refused { IfErr result (λ f. f ≢ Memory → pair_row (ty_of a.now) (ty_of b.now)
         ≡ Err f) }
 {
-    demanded(is_element(a) && is_element(b), Rule::Pair)?;
+    demanded(a.is_element() && b.is_element(), Rule::Pair)?;
     Ok(pair_of(alloc, a, b)?)
 }
 

@@ -118,7 +118,7 @@ impl World<'_> {
             UnaryForm::Layout(layout) => self.layout(alloc, layout, v),
             UnaryForm::Slide(size, step) => slid(alloc, &v, *size, *step),
             UnaryForm::Pad(before, after) => pad(alloc, &v, *before, *after),
-            UnaryForm::ToLocal | UnaryForm::ToPrivate => Ok(v),
+            UnaryForm::ToLocal | UnaryForm::ToPrivate | UnaryForm::Then => Ok(v),
         }
     }
 

@@ -1,5 +1,5 @@
 -- What a term stands as, it stands as in one way.
-use Rattle.std.proofs.Common.{Bool, true, false, List}
+use Rattle.std.proofs.Common.{Bool, true, false}
 use Rattle.std.specs.Coded.{×_prop, Unit-prop}
 use Rattle.lift_ir.specs.Layouts.{IsInvertible, Layout, Split, Join, Transpose, Reverse, Slide, Pad}
 use Rattle.lift_ir.specs.Forms.{Stands}

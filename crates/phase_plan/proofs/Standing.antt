@@ -3,11 +3,11 @@ use Rattle.std.proofs.Common.{◌≡◌, subst, sym}
 use Rattle.size_arith.specs.Ranges.{leasts}
 use Rattle.lift_tree.specs.Annotations.{Annotation}
 use Rattle.lift_tree.specs.Tree.{Tree}
-use Rattle.lift_tree.specs.Typing.{Declared, declared_by}
+use Rattle.lift_tree.specs.Typing.{Declared}
 use Rattle.lift_ir.specs.Lowering.{Lowered}
 use Rattle.lowered_tree.specs.Kind.{nest_kind}
 use Rattle.lowered_tree.specs.Nest.{IsLegalNest}
-use Rattle.lowered_tree.specs.Whole.{IsOfProgram}
+use Rattle.lowered_tree.specs.Whole.{IsSoundTerm}
 use Rattle.lowered_tree.specs.declared.kind.NestKind.TheVariants.{OverGroups}
 use Rattle.nest_premises.specs.Groups.{LegalGroupsStandOverGroups}
 use Rattle.nest_premises.specs.Legal.{IsLegalTerm}
@@ -15,16 +15,15 @@ use Rattle.kernel_premises.specs.Soundness.{LeastSizesAreAdmissible}
 use Rattle.printed_form.specs.Programs.{lowered_root}
 use Rattle.group_form.specs.Forms.{StandsOverGroups}
 
-pub stands : LegalGroupsStandOverGroups → LeastSizesAreAdmissible → (d : Declared) (t : Tree) (n : Annotation) (root : Lowered) → IsOfProgram d t n → IsLegalNest t n → nest_kind t ≡ OverGroups → root ≡ lowered_root d.names t n → StandsOverGroups root
+pub stands : LegalGroupsStandOverGroups → LeastSizesAreAdmissible → (d : Declared) (t : Tree) (n : Annotation) (root : Lowered) → IsSoundTerm d t n → IsLegalNest t n → nest_kind t ≡ OverGroups → root ≡ lowered_root d.names t n → StandsOverGroups root
 stands stand least d t n root is nest kind lowered =
-    let own = declared_by is.program in
-    let legal : IsLegalTerm is.program t n = record {
-      declared = is.typed.declared;
-      nodes = is.typed.nodes;
-      output = is.typed.output;
-      within = is.typed.within;
+    let legal : IsLegalTerm d t n = record {
+      declared = is.declared;
+      nodes = is.nodes;
+      output = is.output;
+      within = is.within;
       words = is.words;
       legal = nest;
     } in
-    let all = (stand is.program t n legal is.typed.copies kind).program (leasts own.names) (least own.names is.typed.declared.names) in
-    subst StandsOverGroups (sym lowered) (subst (λ (e : Declared). StandsOverGroups (lowered_root e.names t n)) is.declares all.stands)
+    let all = (stand d t n legal is.copies kind).program (leasts d.names) (least d.names is.declared.names) in
+    subst StandsOverGroups (sym lowered) all.stands

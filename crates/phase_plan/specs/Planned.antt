@@ -1,5 +1,5 @@
 -- What a plan says of a legal term.
-use Rattle.std.specs.Prelude.{◌≡◌, ℕ, List}
+use Rattle.std.specs.Prelude.{◌≡◌, ℕ, List, Option}
 use Rattle.size_arith.specs.declared.names.Name.{Name}
 use Rattle.lift_tree.specs.Annotations.{Annotation}
 use Rattle.lift_tree.specs.Tree.{Tree}
@@ -9,21 +9,23 @@ use Rattle.lowered_tree.specs.declared.kind.NestKind.TheVariants as nest
 use Rattle.buffer_allocation.specs.Allocated.{AreAllocated}
 use Rattle.lift_ir.specs.Lowering.{Lowered}
 use Rattle.printed_form.specs.Programs.{lowered_root}
+use Rattle.group_form.specs.ChosenForms.{forms_of}
+use Rattle.group_form.specs.Form.{is_once}
 use Rattle.phase_plan.specs.Phases.{ArePhasesOf}
 use Rattle.phase_plan.specs.declared.kind.Kind.{Kind}
 use Rattle.phase_plan.specs.declared.kind.Kind.TheVariants.{Task, OverLaunch, OverGroups}
 
 -- who runs the term, as its nest tells; over work-groups with the phases of what it is lowered to
-abbrev pub IsKindOf : Tree → Lowered → Kind → Type 0
-IsKindOf t root Task = nest_kind t ≡ nest.Task
-IsKindOf t root OverLaunch = nest_kind t ≡ nest.OverLaunch
-IsKindOf t root (OverGroups phases) =
+abbrev pub IsKindOf : List Name → (local : Option ℕ) → Tree → Lowered → Kind → Type 0
+IsKindOf names local t root Task = nest_kind t ≡ nest.Task
+IsKindOf names local t root OverLaunch = nest_kind t ≡ nest.OverLaunch
+IsKindOf names local t root (OverGroups phases) =
     (nest_kind t ≡ nest.OverGroups)
-    × ArePhasesOf root phases.count phases.touches.items phases.barriers.items
+    × ArePhasesOf root (is_once (forms_of names local) root) phases.count phases.touches.items phases.barriers.items
 
 -- the term's nest is legal, its arrays are those that it is given, this is what it is lowered to with these ranges of sizes, and this who runs it
-pub record IsPlannedFor (names : List Name) (t : Tree) (n : Annotation) (locals privates : List ℕ) (root : Lowered) (runs : Kind) : Type 0 where
+pub record IsPlannedFor (names : List Name) (local : Option ℕ) (t : Tree) (n : Annotation) (locals privates : List ℕ) (root : Lowered) (runs : Kind) : Type 0 where
   pub legal : IsLegalNest t n
   pub arrays : AreAllocated locals privates t n
   pub lowered : root ≡ lowered_root names t n
-  pub kind : IsKindOf t root runs
+  pub kind : IsKindOf names local t root runs

@@ -1,4 +1,5 @@
 -- A plan's term, and what the plan tells of it.
+use Rattle.std.specs.Prelude.{ℕ, Option}
 use Rattle.lift_tree.specs.Annotations.{Annotation, annotation_of}
 use Rattle.lift_tree.specs.Tree.{Tree, tree_of}
 use Rattle.lift_tree.specs.Typing.{Declared}
@@ -11,6 +12,10 @@ use Rattle.phase_plan.specs.declared.planned.Plan.{Plan}
 abbrev pub declared_in : Plan → Declared
 declared_in plan = declared_of plan.spaced.now.mapped.lowered
 
+-- the local size of all launches, where one is fixed
+abbrev pub local_in : Plan → Option ℕ
+local_in plan = plan.spaced.now.mapped.local
+
 abbrev pub tree_in : Plan → Tree
 tree_in plan = tree_of plan.spaced.now.mapped.lowered.term
 
@@ -20,5 +25,5 @@ types_in plan = annotation_of plan.spaced.now.mapped.lowered.types
 -- what the plan says holds of the term
 abbrev pub IsTold : Plan → Type 0
 IsTold plan =
-    IsPlannedFor (declared_in plan).names (tree_in plan) (types_in plan) plan.buffers.now.local.items
+    IsPlannedFor (declared_in plan).names (local_in plan) (tree_in plan) (types_in plan) plan.buffers.now.local.items
     plan.buffers.now.private.items (term_of plan.root) plan.kind

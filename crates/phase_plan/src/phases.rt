@@ -24,13 +24,14 @@ pub struct Phases {
 }
 
 impl Phases {
-    /// The phases of a map over work-groups, seen through layouts and lets of inputs.
+    /// The phases of a map over work-groups, seen through layouts and lets of inputs, whose groups take
+    /// one turn at most, or many.
     ///
-    /// Going forward, a barrier stands just before a phase that conflicts with a phase since the last barrier. One more closes the body where a phase after the last barrier conflicts with one before the first; where there is no barrier, where any two phases conflict, or one with itself. 2^32 phases or local arrays are answered as want of memory.
-    pub fn of(alloc: Global, root: &Term) -> Result<Self, AllocError>
+    /// Going forward, a barrier stands just before a phase that conflicts with a phase since the last barrier. One more closes the body of many turns where a phase after the last barrier conflicts with one before the first; where there is no barrier, where any two phases conflict, or one with itself. 2^32 phases or local arrays are answered as want of memory.
+    pub fn of(alloc: Global, root: &Term, once: bool) -> Result<Self, AllocError>
         requires { StandsOverGroups (term_of root.now) }
         ensures { IfOk result (λ phases.
-            ArePhasesOf (term_of root.now) phases.count phases.touches.items phases.barriers.items) }
+            ArePhasesOf (term_of root.now) once phases.count phases.touches.items phases.barriers.items) }
     {
         uses_tell_barriers();
         let Walk {
@@ -38,7 +39,7 @@ impl Phases {
             touches,
             ..
         } = Walk::through(alloc, root)?;
-        let barriers = place(alloc, &touches, count)?;
+        let barriers = place(alloc, &touches, count, once)?;
         Ok(Phases {
             count,
             touches,

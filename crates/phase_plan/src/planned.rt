@@ -22,7 +22,7 @@ pub struct Plan<'s> {
     /// Who runs it; over work-groups, its phases and their barriers.
     pub kind: Kind,
     ghost planned: { ∥ IsPlannedFor spaced.now.mapped.lowered.names
-        (tree_of spaced.now.mapped.lowered.term)
+        spaced.now.mapped.local (tree_of spaced.now.mapped.lowered.term)
         (annotation_of spaced.now.mapped.lowered.types) buffers.now.local.items
         buffers.now.private.items (term_of root) kind ∥₁ },
 }

@@ -5,6 +5,8 @@ ghost use Rattle.lift_tree.specs.Annotations.{annotation_of};
 ghost use Rattle.lift_tree.specs.Tree.{tree_of};
 ghost use Rattle.lowering.specs.Terms.{term_of};
 ghost use Rattle.buffer_allocation.specs.Allocated.{AreAllocated};
+ghost use Rattle.group_form.specs.ChosenForms.{forms_of};
+ghost use Rattle.group_form.specs.Form.{is_once};
 ghost use Rattle.phase_plan.specs.Planned.{IsKindOf};
 ghost use Rattle.phase_plan.specs.Plans.{IsTold};
 ghost use Rattle.printed_form.specs.Programs.{lowered_root};
@@ -13,6 +15,7 @@ use crate::kind::Kind;
 use crate::phases::Phases;
 use crate::planned::Plan;
 use buffer_allocation::buffers::Buffers;
+use group_form::chosen::is_over_one;
 use kernel_premises::soundness::least_sizes_are_admissible;
 use lowered_tree::kind::{NestKind, nest_kind};
 use lowered_tree::laws::legal_without_fault;
@@ -20,7 +23,32 @@ use lowered_tree::lowered::Spaced;
 use lowering::lower::lower;
 use lowering::term::Term;
 use nest_premises::groups::legal_groups_stand_over_groups;
+use size_arith::Names;
 use std::alloc::{AllocError, Global};
+
+// Whether the map over work-groups is an `if`, by the local size that is fixed.
+fn is_once(names: &Names, local: Option<u32>, term: &Term) -> bool
+    ensures { result ≡ is_once (forms_of names.now local) (term_of term.now) }
+{
+    match term {
+        Term::Reshape(_, a) | Term::LetArray(_, a) => is_once(names, local, a),
+        Term::Map(_, count, _, _, _) => is_over_one(names, local, count),
+        Term::Literal(_)
+        | Term::Bound(_)
+        | Term::Source(_)
+        | Term::Apply(_, _, _)
+        | Term::ApplyNumber(_, _, _)
+        | Term::Select(_, _, _)
+        | Term::Pair(_, _)
+        | Term::Zip(_, _)
+        | Term::First(_)
+        | Term::Second(_)
+        | Term::LetElement(_, _, _)
+        | Term::Fold(_, _, _, _, _, _)
+        | Term::Store(_, _)
+        | Term::Copy(_, _, _) => false,
+    }
+}
 
 // Who runs the term, with its phases over work-groups.
 fn kind_of(alloc: Global, spaced: &Spaced, root: &Term) -> Result<Kind, AllocError>
@@ -28,15 +56,20 @@ fn kind_of(alloc: Global, spaced: &Spaced, root: &Term) -> Result<Kind, AllocErr
         (tree_of spaced.now.mapped.lowered.term)
         (annotation_of spaced.now.mapped.lowered.types) }
     ensures { IfOk result
-        (IsKindOf (tree_of spaced.now.mapped.lowered.term) (term_of root.now)) }
+        (IsKindOf spaced.now.mapped.lowered.names spaced.now.mapped.local
+        (tree_of spaced.now.mapped.lowered.term) (term_of root.now)) }
 {
     least_sizes_are_admissible();
     legal_groups_stand_over_groups();
     legal_without_fault();
-    match nest_kind(&spaced.mapped.lowered.term) {
+    let mapped = &spaced.mapped;
+    match nest_kind(&mapped.lowered.term) {
         NestKind::Task => Ok(Kind::Task),
         NestKind::OverLaunch => Ok(Kind::OverLaunch),
-        NestKind::OverGroups => Ok(Kind::OverGroups(Phases::of(alloc, root)?)),
+        NestKind::OverGroups => {
+            let once = is_once(&mapped.lowered.names, mapped.local, root);
+            Ok(Kind::OverGroups(Phases::of(alloc, root, once)?))
+        }
     }
 }
 

@@ -1,9 +1,9 @@
 -- The printer's code is of the kernel grammar.
-use Rattle.std.proofs.Common.{◌≡◌, ℕ, zero, suc, ◌+◌, ◌*◌, ◌<◌, ◌≤◌, Bool, true, false, List, [], ◌∷◌, nat_lt, refl, arith}
+use Rattle.std.proofs.Common.{◌≡◌, ℕ, zero, suc, ◌+◌, ◌*◌, ◌<◌, ◌≤◌, Bool, true, false, List, [], ◌∷◌, nat_lt, refl, subst, arith}
 use Rattle.std.specs.Prelude.{max, Option}
 use Rattle.std.proofs.lemmas.Bool.{lt-ltb}
 use Rattle.kernel_tree.specs.Formula.{Formula}
-use Rattle.kernel_tree.specs.Code.{Code, End, Assigns, Loops, Kernel}
+use Rattle.kernel_tree.specs.Code.{Code, End, Assigns, Loops, Guards, Kernel}
 use Rattle.kernel_tree.specs.Grammar.{is_constant, is_expression, is_readable, is_writable, has_statement, are_statements, deepest}
 use Rattle.lift_ir.specs.Types.{Ty, Scalar, PairOf, ArrayOf, IsElement, width}
 use Rattle.lift_ir.specs.Terms.{LoadSet, Skip, Take, Each, Kind, Term, Literal, Bound, Source, Apply, ApplyNumber, Select, Both, Project, Reshape, LetArray, LetElement, Map, Fold, Store, Copy, push}
@@ -16,10 +16,10 @@ use Rattle.printed_form.specs.GrammarViews.{IsGoodSign, IsTargetSign, IsGoodView
 use Rattle.printed_form.proofs.GrammarExpressions.{both, as_expression, good_number, or_good, some_higher, good_both, good_one, good_three, IsGoodSome}
 use Rattle.printed_form.proofs.GrammarViews.{view_more, part_good, part_target, held_good, loaded_good}
 
-module _ (k : Kernel) (S : ℕ) (one : 1 ≤ S) (small : S ≤ 1024) where
-  -- statements within so many loops, and no `if`
+module _ (k : Kernel) (S : ℕ) (one : 1 ≤ S) (small : S ≤ 1024) (ifs : ℕ) where
+  -- statements within so many loops, and these `if`s
   abbrev pub Fine : (l : ℕ) → Code → Type 0
-  Fine l c = are_statements k l l c ≡ true
+  Fine l c = are_statements k l (ifs + l) c ≡ true
 
   abbrev pub Does : Code → Type 0
   Does c = has_statement c ≡ true
@@ -135,12 +135,21 @@ module _ (k : Kernel) (S : ℕ) (one : 1 ≤ S) (small : S ≤ 1024) where
   held_pushed l g env ty n le all = pushed l g env 0 (held_view ty n) (held_good k S one ty n k.variables l (8 + 3 * 0) le) all
 
   -- ---- loops
-  pub loop_fine : (l : ℕ) (kind : Kind) (b : Formula) (body rest : Code) → l < 1024 → IsSpelledIn k S b → Does body → Fine (suc l) body → Fine l rest → Fine l (Loops (start_of kind) b (stride_of kind) body rest)
+  pub loop_fine : (l : ℕ) (kind : Kind) (b : Formula) (body rest : Code) → ifs + l < 1024 → IsSpelledIn k S b → Does body → Fine (suc l) body → Fine l rest → Fine l (Loops (start_of kind) b (stride_of kind) body rest)
   loop_fine l kind b body rest lt s d f r =
-      both (nat_lt l deepest) _ (lt-ltb l 1024 lt)
+      let e : ifs + suc l ≡ suc (ifs + l) = omega arith in
+      both (nat_lt (ifs + l) deepest) _ (lt-ltb (ifs + l) 1024 lt)
       (both (is_constant b) _ s.constant
       (both (is_expression k l b) _ (as_expression k l S b small (s.declared l, s.low))
-      (both (has_statement body) _ d (both (are_statements k (suc l) (suc l) body) _ f r))))
+      (both (has_statement body) _ d (both (are_statements k (suc l) (suc (ifs + l)) body) _ (subst (λ z. are_statements k (suc l) z body ≡ true) e f) r))))
+
+  pub guard_fine : (l : ℕ) (kind : Kind) (b : Formula) (body rest : Code) → ifs + l < 1024 → IsSpelledIn k S b → Does body → are_statements k l (suc ifs + l) body ≡ true → Fine l rest → Fine l (Guards (start_of kind) b body rest)
+  guard_fine l kind b body rest lt s d f r =
+      let e : suc ifs + l ≡ suc (ifs + l) = omega arith in
+      both (nat_lt (ifs + l) deepest) _ (lt-ltb (ifs + l) 1024 lt)
+      (both (is_constant b) _ s.constant
+      (both (is_expression k l b) _ (as_expression k l S b small (s.declared l, s.low))
+      (both (has_statement body) _ d (both (are_statements k l (suc (ifs + l)) body) _ (subst (λ z. are_statements k l z body ≡ true) e f) r))))
 
   module _ {A : Type 0} (P : A → Type 0) (Q : ℕ → Type 0) where
     high_some : (t : Term A) → 1 ≤ expression_height t

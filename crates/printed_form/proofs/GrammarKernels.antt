@@ -1,20 +1,30 @@
 -- The kernel that the printer makes of a typed term is of the kernel grammar.
-use Rattle.std.proofs.Common.{◌+◌, ◌*◌, refl, arith}
+use Rattle.std.proofs.Common.{◌≡◌, ℕ, ◌+◌, ◌*◌, ◌≤◌, true, Option, Some, None, nat_lt, refl, arith}
+use Rattle.std.proofs.lemmas.Bool.{lt-ltb, le-leb}
 use Rattle.kernel_tree.specs.Code.{Output, End}
+use Rattle.kernel_tree.specs.Grammar.{is_group_size, largest_group}
 use Rattle.lift_tree.specs.Annotations.{type_in}
 use Rattle.lift_ir.specs.AtLaunch.{shape_of}
 use Rattle.printed_form.specs.Views.{placed_view}
 use Rattle.printed_form.specs.Printer.{no_view}
-use Rattle.printed_form.specs.Programs.{lowered_root, printed_kernel}
+use Rattle.printed_form.specs.Programs.{lowered_root, row_of, IsGroupSize, printed_kernel}
 use Rattle.printed_form.proofs.Lengths.{counted}
 use Rattle.printed_form.specs.KernelGrammar.{KernelsAreOfTheGrammar}
 use Rattle.printed_form.specs.GrammarPieces.{CanBePrinted}
+use Rattle.printed_form.proofs.GrammarExpressions.{both}
 use Rattle.printed_form.proofs.GrammarViews.{blank_good}
 use Rattle.printed_form.proofs.GrammarPieces.{terms_printed}
 
+-- groups of a size that can be fixed are such as the grammar has
+pub is_size : (local : Option ℕ) → IsGroupSize local → is_group_size (row_of local) ≡ true
+is_size None h = refl
+is_size (Some size) h =
+    let few : size * 1 ≤ largest_group = omega arith in
+    both (nat_lt 0 size) _ (lt-ltb 0 size h.0) (both (nat_lt 0 1) _ refl (le-leb (size * 1) largest_group few))
+
 pub of_the_grammar : KernelsAreOfTheGrammar
-of_the_grammar spell S M d t a h =
-    let k = printed_kernel spell d t a in
+of_the_grammar spell S M d local t a h =
+    let k = printed_kernel spell d local t a in
     let r = lowered_root d.names t a in
     let ty = shape_of (type_in a) in
     let w = placed_view spell Output 0 ty in
@@ -23,5 +33,5 @@ of_the_grammar spell S M d t a h =
     let privates = counted r in
     let can : CanBePrinted k spell S M d (λ v. 0) 0 0 0 0 r = record { written = h.written; sound = h.sound; layouts = h.layouts; low = h.low; deep = omega arith; variables = omega arith; privates = omega arith } in
     let out = terms.output ty refl h.lengths h.few in
-    terms.kernel ty r refl refl refl h.sound refl (terms.statements 0 0 0 0 (λ v. 0) no_view r w End out can)
-    (terms.codes 0 0 0 0 (λ v. 0) no_view r w End (λ v. blank_good k S h.some k.variables 0 (8 + 3 * 0)) out can refl)
+    terms.kernel ty r refl refl refl h.sound (is_size local h.size) (terms.statements 0 0 0 0 0 (λ v. 0) no_view r w End out can)
+    (terms.codes 0 0 0 0 0 (λ v. 0) no_view r w End (λ v. blank_good k S h.some k.variables 0 (8 + 3 * 0)) out can refl)

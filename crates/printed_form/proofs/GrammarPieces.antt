@@ -5,23 +5,22 @@ use Rattle.std.proofs.lemmas.Bool.{lt-ltb}
 use Rattle.size_arith.specs.declared.poly.Monomial.{Monomial}
 use Rattle.lift_tree.specs.Types.{PlainTy}
 use Rattle.lift_tree.specs.Typing.{Declared}
-use Rattle.kernel_tree.specs.Formula.{Formula, LoopVariable}
+use Rattle.kernel_tree.specs.Formula.{Formula}
 use Rattle.kernel_tree.specs.Code.{Input, Output, Kernel}
 use Rattle.kernel_tree.specs.Grammar.{are_lengths, has_statement, is_group_size}
 use Rattle.lift_ir.specs.Types.{Ty, width, size}
 use Rattle.lift_ir.specs.Terms.{Space, LocalMemory, PrivateMemory, Term, Literal, Bound, Source, Apply, ApplyNumber, Select, Both, Project, Reshape, LetArray, LetElement, Map, Fold, Store, Copy}
 use Rattle.printed_form.specs.Counts.{copied, copy_lengths}
 use Rattle.printed_form.specs.Views.{View, view_at, operand_indices, result_indices, placed_view}
-use Rattle.printed_form.specs.Printer.{print_loaded}
 use Rattle.printed_form.specs.Programs.{buffer_count, first_buffer, input_shape}
 use Rattle.printed_form.specs.Sound.{IsSpelledIn, IsSound, dimensions}
 use Rattle.printed_form.specs.GrammarViews.{IsGoodView}
 use Rattle.printed_form.specs.KernelGrammar.{IsSourceIn}
-use Rattle.printed_form.specs.GrammarPieces.{ViewsStayWithin, LoopsAreOfTheGrammar, HasRoomFor, views_of_inputs, TermsAreOfTheGrammar, TermsArePrintedWithin, ArraysCanBeDeclared}
+use Rattle.printed_form.specs.GrammarPieces.{ViewsStayWithin, MapsAreOfTheGrammar, HasRoomFor, views_of_inputs, TermsAreOfTheGrammar, TermsArePrintedWithin, ArraysCanBeDeclared}
 use Rattle.printed_form.proofs.GrammarExpressions.{both, first_of, second_of}
-use Rattle.printed_form.proofs.GrammarViews.{view_more, target_within, blank_good, sides_good, part_good, turned_good, turned_target, loaded_good, reshaped_good, reshaped_target, placed_good, placed_target, some_width, laid_reads, laid_fills}
-use Rattle.printed_form.proofs.GrammarCodes.{loads_fine, loads_does, loop_fine}
-use Rattle.printed_form.proofs.GrammarTerms.{viewed_good, written_does, written_fine}
+use Rattle.printed_form.proofs.GrammarViews.{view_more, target_within, blank_good, sides_good, part_good, at_turn_good, at_turn_target, loaded_good, reshaped_good, reshaped_target, placed_good, placed_target, some_width, laid_reads, laid_fills}
+use Rattle.printed_form.proofs.GrammarCodes.{loads_fine, loads_does, loop_fine, guard_fine}
+use Rattle.printed_form.proofs.GrammarTerms.{viewed_good, written_kept, written_does, written_fine}
 
 -- ---- lengths of arrays
 lengths_append : (xs ys : List ℕ) → are_lengths xs ≡ true → are_lengths ys ≡ true → are_lengths (xs ++ ys) ≡ true
@@ -72,6 +71,7 @@ source_within (a ∷ tys) (suc s) lt = let x = source_within tys s (omega arith)
 pub views_stay : ViewsStayWithin
 views_stay k S one = record {
   more = λ l m h i x lm hi r. view_more k S one k.variables k.variables l m (8 + 3 * h) (8 + 3 * i) x (omega arith) lm (omega arith) r;
+  deeper = λ l m h i w lm hi f. target_within k S one l m (8 + 3 * h) (8 + 3 * i) w lm (omega arith) f;
   blank = λ l h. blank_good k S one k.variables l (8 + 3 * h);
   sides = λ l h x y r q. sides_good k S one k.variables l (8 + 3 * h) x y r q;
   part = λ l h x s r. part_good k S one k.variables l (8 + 3 * h) x s r;
@@ -80,19 +80,21 @@ views_stay k S one = record {
       (reshaped_good k S one spell y k.variables l (8 + 3 * h) x s r);
   result = λ spell y l h w s f.
       target_within k S one l l (8 + 3 * h + 3) (8 + 3 * suc h) (λ cs is. w cs (result_indices spell y is)) (omega arith) (omega arith) (reshaped_target k S one spell y l (8 + 3 * h) w s f);
-  element = λ loads l h n x le r. loaded_good k S one loads (view_at (LoopVariable l) x) n k.variables k.variables (suc l) (8 + 3 * h) (omega arith) le (turned_good k S one k.variables l (8 + 3 * h) x r);
-  place = λ l h w f. turned_target k S one l (8 + 3 * h) w f;
+  element = λ turn loads l h n x t le r. loaded_good k S one loads (view_at turn x) n k.variables k.variables l (8 + 3 * h) (omega arith) le (at_turn_good k S one turn k.variables l (8 + 3 * h) x t r);
+  read = λ turn l h x t r. at_turn_good k S one turn k.variables l (8 + 3 * h) x t r;
+  place = λ turn l h w t f. at_turn_target k S one turn l (8 + 3 * h) w t f;
   laid = laid_reads k S one;
   laid_places = laid_fills k S one;
 }
 
--- ---- loops
-pub loops_fine : LoopsAreOfTheGrammar
-loops_fine k S l h n kind bound loads x body rest one fits lt le s r d f g =
-    let small : S ≤ 1024 = omega arith in
-    let x1 = view_at (LoopVariable l) x in
-    loop_fine k S one small l kind bound (print_loaded loads x1 n body) rest lt s (loads_does k S one small loads x1 n body d)
-    (loads_fine k S one small (suc l) loads x1 n k.variables (8 + 3 * h) body fits le (turned_good k S one k.variables l (8 + 3 * h) x r) f) g
+-- ---- statements of maps
+pub maps_stay : MapsAreOfTheGrammar
+maps_stay k S one small = record {
+  loads = λ l ifs h n loads x rest fits le r f. loads_fine k S one small ifs l loads x n k.variables (8 + 3 * h) rest fits le r f;
+  loaded = λ loads x n rest d. loads_does k S one small 0 loads x n rest d;
+  loop = λ l ifs kind bound body rest lt s d f g. loop_fine k S one small ifs l kind bound body rest lt s d f g;
+  guard = λ l ifs kind bound body rest lt s d f g. guard_fine k S one small ifs l kind bound body rest lt s d f g;
+}
 
 -- ---- terms
 module _ (k : Kernel) (spell : List Monomial → Formula) (S M : ℕ) (d : Declared) (room : HasRoomFor k S M d) where
@@ -113,12 +115,13 @@ module _ (k : Kernel) (spell : List Monomial → Formula) (S M : ℕ) (d : Decla
 
   terms_are : TermsAreOfTheGrammar k spell S M d
   terms_are = record {
-    arguments = λ l a g env t all s le. viewed_good k S room.some small spell ins Q inputs M room.fits l g env a t all le s;
+    arguments = λ l a g env t all s le. viewed_good k S room.some small 0 spell ins Q inputs M room.fits l g env a t all le s;
     output = λ ty outs s few.
         target_within k S room.some 0 0 (2 * dimensions ty) (8 + 3 * 0) (placed_view spell Output 0 ty) (omega arith) (omega arith)
         (placed_target k S room.some spell Output 0 ty 0 (λ c lt. lt-ltb (0 + c) k.outputs (omega arith)) s);
-    codes = λ l above n a g env t w rest all f c r. written_fine k S room.some small spell ins Q inputs M room.fits l g env a n t w above rest all f c.written c.sound c.layouts c.low c.deep c.variables c.privates r;
-    statements = λ l above n a g env t w rest f c. written_does k S room.some small spell ins Q inputs M room.fits l env a n t w (8 + 3 * above) rest c.written c.sound f;
+    codes = λ l ifs above n a g env t w rest all f c r. written_fine k S room.some small ifs spell ins Q inputs M room.fits l g env a n t w above rest all f c.written c.sound c.layouts c.low c.deep c.variables c.privates r;
+    statements = λ l depth above n a g env t w rest f c. written_does k S room.some small 0 spell ins Q inputs M room.fits l env a n t w (8 + 3 * above) rest c.written c.sound f;
+    kept = λ l n a env t w rest r. written_kept k S room.some small 0 spell ins Q inputs M room.fits l env a n t w rest r;
     kernel = λ ty t outs locals privates s group has are.
         both (nat_lt 0 k.outputs) _ (lt-ltb 0 k.outputs (let x = some_width k S room.some spell ty in omega arith))
         (both (are_lengths k.locals) _ (subst (λ ns. are_lengths ns ≡ true) (sym locals) (arrays_declared k spell S d LocalMemory t s))

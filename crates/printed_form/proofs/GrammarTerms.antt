@@ -16,7 +16,7 @@ use Rattle.printed_form.specs.GrammarViews.{IsGoodView, IsTarget, AllReadWithin}
 use Rattle.printed_form.proofs.GrammarViews.{view_more, target_within, blank_good, sides_good, part_good, turned_good, turned_target, first_target, loaded_good, reshaped_good, reshaped_target, laid_reads, laid_fills}
 use Rattle.printed_form.proofs.GrammarCodes.{Fine, Does, views_deeper, pushed, held_pushed, assigned_fine, assigned_kept, held_all, stored_fine, stored_does, stored_kept, loads_fine, loads_does, all_exprs, element_fine, element_kept, loop_fine, turn_fine, turn_does}
 
-module _ (k : Kernel) (S : ℕ) (one : 1 ≤ S) (small : S ≤ 1024) {A : Type 0} (spell : A → Formula) (ins : ℕ → View) (Q : ℕ → Type 0) (inputs : (s : ℕ) → Q s → IsGoodView k S k.variables 0 8 (ins s)) (M : ℕ) (low : S + (8 + 3 * M) ≤ 1024) where
+module _ (k : Kernel) (S : ℕ) (one : 1 ≤ S) (small : S ≤ 1024) (ifs : ℕ) {A : Type 0} (spell : A → Formula) (ins : ℕ → View) (Q : ℕ → Type 0) (inputs : (s : ℕ) → Q s → IsGoodView k S k.variables 0 8 (ins s)) (M : ℕ) (low : S + (8 + 3 * M) ≤ 1024) where
   abbrev Sp : A → Type 0
   Sp n = IsSpelledIn k S (spell n)
 
@@ -55,7 +55,7 @@ module _ (k : Kernel) (S : ℕ) (one : 1 ≤ S) (small : S ≤ 1024) {A : Type 0
       higher l (8 + 3 * stacked g x + 3) (8 + 3 * suc (stacked g x)) (λ cs is. viewed env a x cs (operand_indices spell y is)) (omega arith)
       (reshaped_good k S one spell y k.variables l (8 + 3 * stacked g x) (viewed env a x) s.0 (viewed_good l g env a x all le s.1))
   viewed_good l g env a (LetArray v b) all le s =
-      viewed_good l (push (stacked g v) g) (push (viewed env a v) env) (a + private_count v) b (pushed k S one small l g env (stacked g v) (viewed env a v) (viewed_good l g env a v all (omega arith) s.0) all) (omega arith) s.1
+      viewed_good l (push (stacked g v) g) (push (viewed env a v) env) (a + private_count v) b (pushed k S one small ifs l g env (stacked g v) (viewed env a v) (viewed_good l g env a v all (omega arith) s.0) all) (omega arith) s.1
   viewed_good l g env a (LetElement ty v b) all le s = blank_good k S one k.variables l (8 + 3 * 0)
   viewed_good l g env a (Map kind m ls x b) all le s = blank_good k S one k.variables l (8 + 3 * 0)
   viewed_good l g env a (Fold m ls ty x s1 b) all le s = blank_good k S one k.variables l (8 + 3 * 0)
@@ -65,7 +65,7 @@ module _ (k : Kernel) (S : ℕ) (one : 1 ≤ S) (small : S ≤ 1024) {A : Type 0
 
   -- ---- statements come
   mutual
-    argument_kept : (d : ℕ) (env : ℕ → View) (a n : ℕ) (t : Term A) (rest : Code) → Does k S one small rest → Does k S one small (print_argument spell ins d env a n t rest)
+    argument_kept : (d : ℕ) (env : ℕ → View) (a n : ℕ) (t : Term A) (rest : Code) → Does k S one small ifs rest → Does k S one small ifs (print_argument spell ins d env a n t rest)
     argument_kept d env a n (Literal c) rest r = r
     argument_kept d env a n (Bound v) rest r = r
     argument_kept d env a n (Source v) rest r = r
@@ -84,7 +84,7 @@ module _ (k : Kernel) (S : ℕ) (one : 1 ≤ S) (small : S ≤ 1024) {A : Type 0
     argument_kept d env a n (Copy LocalMemory ty x) rest r = r
     argument_kept d env a n (Copy PrivateMemory ty x) rest r = written_kept d env a n x (laid_view Private (a + private_count x) ty) rest r
 
-    written_kept : (d : ℕ) (env : ℕ → View) (a n : ℕ) (t : Term A) (w : View) (rest : Code) → Does k S one small rest → Does k S one small (print_written spell ins d env a n t w rest)
+    pub written_kept : (d : ℕ) (env : ℕ → View) (a n : ℕ) (t : Term A) (w : View) (rest : Code) → Does k S one small ifs rest → Does k S one small ifs (print_written spell ins d env a n t w rest)
     written_kept d env a n (Literal c) w rest r = r
     written_kept d env a n (Bound v) w rest r = r
     written_kept d env a n (Source v) w rest r = r
@@ -97,8 +97,8 @@ module _ (k : Kernel) (S : ℕ) (one : 1 ≤ S) (small : S ≤ 1024) {A : Type 0
     written_kept d env a n (LetArray v b) w rest r =
         argument_kept d env a n v (print_written spell ins d (push (viewed env a v) env) (a + private_count v) (n + variable_count v) b w rest) (written_kept d (push (viewed env a v) env) (a + private_count v) (n + variable_count v) b w rest r)
     written_kept d env a n (LetElement ty v b) w rest r =
-        element_kept k S one small Sp Q n env v (print_assigned ty (sign_exprs env n v) (n + let_variables v) (print_written spell ins d (push (held_view ty (n + let_variables v)) env) a (n + let_variables v + width ty) b w rest))
-        (assigned_kept k S one small ty (sign_exprs env n v) (n + let_variables v) (print_written spell ins d (push (held_view ty (n + let_variables v)) env) a (n + let_variables v + width ty) b w rest)
+        element_kept k S one small ifs Sp Q n env v (print_assigned ty (sign_exprs env n v) (n + let_variables v) (print_written spell ins d (push (held_view ty (n + let_variables v)) env) a (n + let_variables v + width ty) b w rest))
+        (assigned_kept k S one small ifs ty (sign_exprs env n v) (n + let_variables v) (print_written spell ins d (push (held_view ty (n + let_variables v)) env) a (n + let_variables v + width ty) b w rest)
         (written_kept d (push (held_view ty (n + let_variables v)) env) a (n + let_variables v + width ty) b w rest r))
     written_kept d env a n (Map kind m ls x b) w rest r =
         argument_kept d env a n x
@@ -110,20 +110,20 @@ module _ (k : Kernel) (S : ℕ) (one : 1 ≤ S) (small : S ≤ 1024) {A : Type 0
         (Loops (start_of Sequential) (spell m) (stride_of Sequential)
         (print_fold_turn env ls ty (view_at (LoopVariable d) (viewed env a x)) (n + variable_count x + let_variables s) b)
         (print_stored ty (λ cs. held_sign (held_view ty (n + variable_count x + let_variables s) cs [])) (view_at (Number 0) w) rest))))
-        (element_kept k S one small Sp Q (n + variable_count x) env s
+        (element_kept k S one small ifs Sp Q (n + variable_count x) env s
         (print_assigned ty (sign_exprs env (n + variable_count x) s) (n + variable_count x + let_variables s)
         (Loops (start_of Sequential) (spell m) (stride_of Sequential)
         (print_fold_turn env ls ty (view_at (LoopVariable d) (viewed env a x)) (n + variable_count x + let_variables s) b)
         (print_stored ty (λ cs. held_sign (held_view ty (n + variable_count x + let_variables s) cs [])) (view_at (Number 0) w) rest)))
-        (assigned_kept k S one small ty (sign_exprs env (n + variable_count x) s) (n + variable_count x + let_variables s)
+        (assigned_kept k S one small ifs ty (sign_exprs env (n + variable_count x) s) (n + variable_count x + let_variables s)
         (Loops (start_of Sequential) (spell m) (stride_of Sequential)
         (print_fold_turn env ls ty (view_at (LoopVariable d) (viewed env a x)) (n + variable_count x + let_variables s) b)
         (print_stored ty (λ cs. held_sign (held_view ty (n + variable_count x + let_variables s) cs [])) (view_at (Number 0) w) rest)) refl))
-    written_kept d env a n (Store ty x) w rest r = element_kept k S one small Sp Q n env x (print_stored ty (sign_exprs env n x) w rest) (stored_kept k S one small ty (sign_exprs env n x) w rest r)
+    written_kept d env a n (Store ty x) w rest r = element_kept k S one small ifs Sp Q n env x (print_stored ty (sign_exprs env n x) w rest) (stored_kept k S one small ifs ty (sign_exprs env n x) w rest r)
     written_kept d env a n (Copy space ty x) w rest r = r
 
   -- a term that can be written has a statement
-  pub written_does : (d : ℕ) (env : ℕ → View) (a n : ℕ) (t : Term A) (w : View) (W : ℕ) (rest : Code) → CanBeWritten t → IsSound Sp Q t → IsTarget k S d W w → Does k S one small (print_written spell ins d env a n t w rest)
+  pub written_does : (d : ℕ) (env : ℕ → View) (a n : ℕ) (t : Term A) (w : View) (W : ℕ) (rest : Code) → CanBeWritten t → IsSound Sp Q t → IsTarget k S d W w → Does k S one small ifs (print_written spell ins d env a n t w rest)
   written_does d env a n (Literal c) w W rest can s g = absurd can
   written_does d env a n (Bound v) w W rest can s g = absurd can
   written_does d env a n (Source v) w W rest can s g = absurd can
@@ -134,15 +134,15 @@ module _ (k : Kernel) (S : ℕ) (one : 1 ≤ S) (small : S ≤ 1024) {A : Type 0
   written_does d env a n (Project s1 x) w W rest can s g = absurd can
   written_does d env a n (Copy space ty x) w W rest can s g = absurd can
   written_does d env a n (Store ty x) w W rest can s g =
-      element_kept k S one small Sp Q n env x (print_stored ty (sign_exprs env n x) w rest) (stored_does k S one small d ty (sign_exprs env n x) w W rest s.0 g)
+      element_kept k S one small ifs Sp Q n env x (print_stored ty (sign_exprs env n x) w rest) (stored_does k S one small ifs d ty (sign_exprs env n x) w W rest s.0 g)
   written_does d env a n (Reshape y x) w W rest can s g =
       written_does d env a n x (λ cs is. w cs (result_indices spell y is)) (W + 3) rest can.1 s.1 (reshaped_target k S one spell y d W w s.0 g)
   written_does d env a n (LetArray v b) w W rest can s g =
       argument_kept d env a n v (print_written spell ins d (push (viewed env a v) env) (a + private_count v) (n + variable_count v) b w rest)
       (written_does d (push (viewed env a v) env) (a + private_count v) (n + variable_count v) b w W rest can.1 s.1 g)
   written_does d env a n (LetElement ty v b) w W rest can s g =
-      element_kept k S one small Sp Q n env v (print_assigned ty (sign_exprs env n v) (n + let_variables v) (print_written spell ins d (push (held_view ty (n + let_variables v)) env) a (n + let_variables v + width ty) b w rest))
-      (assigned_kept k S one small ty (sign_exprs env n v) (n + let_variables v) (print_written spell ins d (push (held_view ty (n + let_variables v)) env) a (n + let_variables v + width ty) b w rest)
+      element_kept k S one small ifs Sp Q n env v (print_assigned ty (sign_exprs env n v) (n + let_variables v) (print_written spell ins d (push (held_view ty (n + let_variables v)) env) a (n + let_variables v + width ty) b w rest))
+      (assigned_kept k S one small ifs ty (sign_exprs env n v) (n + let_variables v) (print_written spell ins d (push (held_view ty (n + let_variables v)) env) a (n + let_variables v + width ty) b w rest)
       (written_does d (push (held_view ty (n + let_variables v)) env) a (n + let_variables v + width ty) b w W rest can s.1 g))
   written_does d env a n (Map kind m ls x b) w W rest can s g =
       argument_kept d env a n x
@@ -154,22 +154,22 @@ module _ (k : Kernel) (S : ℕ) (one : 1 ≤ S) (small : S ≤ 1024) {A : Type 0
       (Loops (start_of Sequential) (spell m) (stride_of Sequential)
       (print_fold_turn env ls ty (view_at (LoopVariable d) (viewed env a x)) (n + variable_count x + let_variables s1) b)
       (print_stored ty (λ cs. held_sign (held_view ty (n + variable_count x + let_variables s1) cs [])) (view_at (Number 0) w) rest))))
-      (element_kept k S one small Sp Q (n + variable_count x) env s1
+      (element_kept k S one small ifs Sp Q (n + variable_count x) env s1
       (print_assigned ty (sign_exprs env (n + variable_count x) s1) (n + variable_count x + let_variables s1)
       (Loops (start_of Sequential) (spell m) (stride_of Sequential)
       (print_fold_turn env ls ty (view_at (LoopVariable d) (viewed env a x)) (n + variable_count x + let_variables s1) b)
       (print_stored ty (λ cs. held_sign (held_view ty (n + variable_count x + let_variables s1) cs [])) (view_at (Number 0) w) rest)))
-      (assigned_kept k S one small ty (sign_exprs env (n + variable_count x) s1) (n + variable_count x + let_variables s1)
+      (assigned_kept k S one small ifs ty (sign_exprs env (n + variable_count x) s1) (n + variable_count x + let_variables s1)
       (Loops (start_of Sequential) (spell m) (stride_of Sequential)
       (print_fold_turn env ls ty (view_at (LoopVariable d) (viewed env a x)) (n + variable_count x + let_variables s1) b)
       (print_stored ty (λ cs. held_sign (held_view ty (n + variable_count x + let_variables s1) cs [])) (view_at (Number 0) w) rest)) refl))
 
   abbrev Right : ℕ → Code → Type 0
-  Right l c = Fine k S one small l c
+  Right l c = Fine k S one small ifs l c
 
   -- ---- all of it is of the grammar
   mutual
-    argument_fine : (d : ℕ) (g : ℕ → ℕ) (env : ℕ → View) (a n : ℕ) (t : Term A) (rest : Code) → Views d g env → CanBeRead t → IsSound Sp Q t → IsReadWithin M g t → AreLow 1024 t → d + loop_depth t ≤ 1024
+    argument_fine : (d : ℕ) (g : ℕ → ℕ) (env : ℕ → View) (a n : ℕ) (t : Term A) (rest : Code) → Views d g env → CanBeRead t → IsSound Sp Q t → IsReadWithin M g t → AreLow 1024 t → ifs + d + loop_depth t ≤ 1024
         → n + variable_count t ≤ k.variables → a + private_count t ≤ length k.privates → Right d rest → Right d (print_argument spell ins d env a n t rest)
     argument_fine d g env a n (Literal c) rest all can s most low deep vars priv f = f
     argument_fine d g env a n (Bound v) rest all can s most low deep vars priv f = f
@@ -184,7 +184,7 @@ module _ (k : Kernel) (S : ℕ) (one : 1 ≤ S) (small : S ≤ 1024) {A : Type 0
     argument_fine d g env a n (Reshape y x) rest all can s most low deep vars priv f = argument_fine d g env a n x rest all can s.1 most.1 low deep vars priv f
     argument_fine d g env a n (LetArray v b) rest all can s most low deep vars priv f =
         argument_fine d g env a n v (print_argument spell ins d (push (viewed env a v) env) (a + private_count v) (n + variable_count v) b rest) all can.0 s.0 most.0 low.0 (omega arith) (omega arith) (omega arith)
-        (argument_fine d (push (stacked g v) g) (push (viewed env a v) env) (a + private_count v) (n + variable_count v) b rest (pushed k S one small d g env (stacked g v) (viewed env a v) (viewed_good d g env a v all (omega arith) s.0) all) can.1 s.1 most.1 low.1 (omega arith) (omega arith) (omega arith) f)
+        (argument_fine d (push (stacked g v) g) (push (viewed env a v) env) (a + private_count v) (n + variable_count v) b rest (pushed k S one small ifs d g env (stacked g v) (viewed env a v) (viewed_good d g env a v all (omega arith) s.0) all) can.1 s.1 most.1 low.1 (omega arith) (omega arith) (omega arith) f)
     argument_fine d g env a n (LetElement ty v b) rest all can s most low deep vars priv f = f
     argument_fine d g env a n (Map kind m ls x b) rest all can s most low deep vars priv f = f
     argument_fine d g env a n (Fold m ls ty x s1 b) rest all can s most low deep vars priv f = f
@@ -193,7 +193,7 @@ module _ (k : Kernel) (S : ℕ) (one : 1 ≤ S) (small : S ≤ 1024) {A : Type 0
     argument_fine d g env a n (Copy PrivateMemory ty x) rest all can s most low deep vars priv f =
         written_fine d g env a n x (laid_view Private (a + private_count x) ty) 0 rest all (laid_target (a + private_count x) ty d (omega arith) s.0 s.1) can s.2 most low deep vars (omega arith) f
 
-    pub written_fine : (d : ℕ) (g : ℕ → ℕ) (env : ℕ → View) (a n : ℕ) (t : Term A) (w : View) (W : ℕ) (rest : Code) → Views d g env → IsTarget k S d (8 + 3 * W) w → CanBeWritten t → IsSound Sp Q t → IsWrittenWithin M g W t → AreLow 1024 t → d + loop_depth t ≤ 1024
+    pub written_fine : (d : ℕ) (g : ℕ → ℕ) (env : ℕ → View) (a n : ℕ) (t : Term A) (w : View) (W : ℕ) (rest : Code) → Views d g env → IsTarget k S d (8 + 3 * W) w → CanBeWritten t → IsSound Sp Q t → IsWrittenWithin M g W t → AreLow 1024 t → ifs + d + loop_depth t ≤ 1024
         → n + variable_count t ≤ k.variables → a + private_count t ≤ length k.privates → Right d rest → Right d (print_written spell ins d env a n t w rest)
     written_fine d g env a n (Literal c) w W rest all tg can s most low deep vars priv f = absurd can
     written_fine d g env a n (Bound v) w W rest all tg can s most low deep vars priv f = absurd can
@@ -205,18 +205,18 @@ module _ (k : Kernel) (S : ℕ) (one : 1 ≤ S) (small : S ≤ 1024) {A : Type 0
     written_fine d g env a n (Project s1 x) w W rest all tg can s most low deep vars priv f = absurd can
     written_fine d g env a n (Copy space ty x) w W rest all tg can s most low deep vars priv f = absurd can
     written_fine d g env a n (Store ty x) w W rest all tg can s most high deep vars priv f =
-        element_fine k S one small Sp Q d n g env x (print_stored ty (sign_exprs env n x) w rest) all vars s.1 high
-        (stored_fine k S one small d ty (sign_exprs env n x) w (8 + 3 * W) rest (omega arith) tg (all_exprs k S one small Sp Q d n g env x all vars s.1 high) f)
+        element_fine k S one small ifs Sp Q d n g env x (print_stored ty (sign_exprs env n x) w rest) all vars s.1 high
+        (stored_fine k S one small ifs d ty (sign_exprs env n x) w (8 + 3 * W) rest (omega arith) tg (all_exprs k S one small ifs Sp Q d n g env x all vars s.1 high) f)
     written_fine d g env a n (Reshape y x) w W rest all tg can s most high deep vars priv f =
         written_fine d g env a n x (λ cs is. w cs (result_indices spell y is)) (suc W) rest all
         (target_within k S one d d (8 + 3 * W + 3) (8 + 3 * suc W) (λ cs is. w cs (result_indices spell y is)) (omega arith) (omega arith) (reshaped_target k S one spell y d (8 + 3 * W) w s.0 tg)) can.1 s.1 most high deep vars priv f
     written_fine d g env a n (LetArray v b) w W rest all tg can s most high deep vars priv f =
         argument_fine d g env a n v (print_written spell ins d (push (viewed env a v) env) (a + private_count v) (n + variable_count v) b w rest) all can.0 s.0 most.0 high.0 (omega arith) (omega arith) (omega arith)
-        (written_fine d (push (stacked g v) g) (push (viewed env a v) env) (a + private_count v) (n + variable_count v) b w W rest (pushed k S one small d g env (stacked g v) (viewed env a v) (viewed_good d g env a v all (omega arith) s.0) all) tg can.1 s.1 most.1 high.1 (omega arith) (omega arith) (omega arith) f)
+        (written_fine d (push (stacked g v) g) (push (viewed env a v) env) (a + private_count v) (n + variable_count v) b w W rest (pushed k S one small ifs d g env (stacked g v) (viewed env a v) (viewed_good d g env a v all (omega arith) s.0) all) tg can.1 s.1 most.1 high.1 (omega arith) (omega arith) (omega arith) f)
     written_fine d g env a n (LetElement ty v b) w W rest all tg can s most high deep vars priv f =
-        element_fine k S one small Sp Q d n g env v (print_assigned ty (sign_exprs env n v) (n + let_variables v) (print_written spell ins d (push (held_view ty (n + let_variables v)) env) a (n + let_variables v + width ty) b w rest)) all (omega arith) s.0 high.0
-        (assigned_fine k S one small d ty (sign_exprs env n v) (n + let_variables v) (print_written spell ins d (push (held_view ty (n + let_variables v)) env) a (n + let_variables v + width ty) b w rest) (omega arith) (all_exprs k S one small Sp Q d n g env v all (omega arith) s.0 high.0)
-        (written_fine d (push 0 g) (push (held_view ty (n + let_variables v)) env) a (n + let_variables v + width ty) b w W rest (held_pushed k S one small d g env ty (n + let_variables v) (omega arith) all) tg can s.1 most high.1 deep (omega arith) priv f))
+        element_fine k S one small ifs Sp Q d n g env v (print_assigned ty (sign_exprs env n v) (n + let_variables v) (print_written spell ins d (push (held_view ty (n + let_variables v)) env) a (n + let_variables v + width ty) b w rest)) all (omega arith) s.0 high.0
+        (assigned_fine k S one small ifs d ty (sign_exprs env n v) (n + let_variables v) (print_written spell ins d (push (held_view ty (n + let_variables v)) env) a (n + let_variables v + width ty) b w rest) (omega arith) (all_exprs k S one small ifs Sp Q d n g env v all (omega arith) s.0 high.0)
+        (written_fine d (push 0 g) (push (held_view ty (n + let_variables v)) env) a (n + let_variables v + width ty) b w W rest (held_pushed k S one small ifs d g env ty (n + let_variables v) (omega arith) all) tg can s.1 most high.1 deep (omega arith) priv f))
     written_fine d g env a n (Map kind m ls x b) w W rest all tg can s most high deep vars priv f =
         argument_fine d g env a n x
         (Loops (start_of kind) (spell m) (stride_of kind) (print_loaded ls (view_at (LoopVariable d) (viewed env a x)) (n + variable_count x) (print_written spell ins (suc d) (push (loaded_view ls (view_at (LoopVariable d) (viewed env a x)) (n + variable_count x)) env) (a + private_count x) (n + variable_count x + load_count ls) b (view_at (LoopVariable d) w) End)) rest)
@@ -225,12 +225,12 @@ module _ (k : Kernel) (S : ℕ) (one : 1 ≤ S) (small : S ≤ 1024) {A : Type 0
         let N = n + variable_count x in
         let fits : S + (8 + 3 * stacked g x) ≤ 1024 = (let e = most.0 in omega arith) in
         let good = turned_good k S one k.variables d (8 + 3 * stacked g x) (viewed env a x) (viewed_good d g env a x all (omega arith) s.1) in
-        let inner = pushed k S one small (suc d) g env (stacked g x) (loaded_view ls x1 N) (loaded_good k S one ls x1 N k.variables k.variables (suc d) (8 + 3 * stacked g x) (omega arith) (omega arith) good) (views_deeper k S one small d (suc d) g env (omega arith) all) in
+        let inner = pushed k S one small ifs (suc d) g env (stacked g x) (loaded_view ls x1 N) (loaded_good k S one ls x1 N k.variables k.variables (suc d) (8 + 3 * stacked g x) (omega arith) (omega arith) good) (views_deeper k S one small ifs d (suc d) g env (omega arith) all) in
         let turned = turned_target k S one d (8 + 3 * W) w tg in
-        loop_fine k S one small d kind (spell m) (print_loaded ls x1 N (print_written spell ins (suc d) (push (loaded_view ls x1 N) env) (a + private_count x) (N + load_count ls) b (view_at (LoopVariable d) w) End)) rest (omega arith) s.0
-        (loads_does k S one small ls x1 N (print_written spell ins (suc d) (push (loaded_view ls x1 N) env) (a + private_count x) (N + load_count ls) b (view_at (LoopVariable d) w) End)
+        loop_fine k S one small ifs d kind (spell m) (print_loaded ls x1 N (print_written spell ins (suc d) (push (loaded_view ls x1 N) env) (a + private_count x) (N + load_count ls) b (view_at (LoopVariable d) w) End)) rest (omega arith) s.0
+        (loads_does k S one small ifs ls x1 N (print_written spell ins (suc d) (push (loaded_view ls x1 N) env) (a + private_count x) (N + load_count ls) b (view_at (LoopVariable d) w) End)
         (written_does (suc d) (push (loaded_view ls x1 N) env) (a + private_count x) (N + load_count ls) b (view_at (LoopVariable d) w) (8 + 3 * W) End can.1 s.2 turned))
-        (loads_fine k S one small (suc d) ls x1 N k.variables (8 + 3 * stacked g x) (print_written spell ins (suc d) (push (loaded_view ls x1 N) env) (a + private_count x) (N + load_count ls) b (view_at (LoopVariable d) w) End) fits (omega arith) good
+        (loads_fine k S one small ifs (suc d) ls x1 N k.variables (8 + 3 * stacked g x) (print_written spell ins (suc d) (push (loaded_view ls x1 N) env) (a + private_count x) (N + load_count ls) b (view_at (LoopVariable d) w) End) fits (omega arith) good
         (written_fine (suc d) (push (stacked g x) g) (push (loaded_view ls x1 N) env) (a + private_count x) (N + load_count ls) b (view_at (LoopVariable d) w) W End inner turned can.1 s.2 most.2 high.1 (omega arith) (omega arith) (omega arith) refl)) f)
     written_fine d g env a n (Fold m ls ty x s1 b) w W rest all tg can s most high deep vars priv f =
         let N = n + variable_count x in
@@ -241,9 +241,9 @@ module _ (k : Kernel) (S : ℕ) (one : 1 ≤ S) (small : S ≤ 1024) {A : Type 0
         let loop = Loops (start_of Sequential) (spell m) (stride_of Sequential) (print_fold_turn env ls ty x1 acc b) stored in
         let good = turned_good k S one k.variables d (8 + 3 * stacked g x) (viewed env a x) (viewed_good d g env a x all (omega arith) s.2) in
         argument_fine d g env a n x (print_element env N s1 (print_assigned ty (sign_exprs env N s1) acc loop)) all can s.2 most.2 high.0 (omega arith) (omega arith) (omega arith)
-        (element_fine k S one small Sp Q d N g env s1 (print_assigned ty (sign_exprs env N s1) acc loop) all (omega arith) s.3 high.1
-        (assigned_fine k S one small d ty (sign_exprs env N s1) acc loop (omega arith) (all_exprs k S one small Sp Q d N g env s1 all (omega arith) s.3 high.1)
-        (loop_fine k S one small d Sequential (spell m) (print_fold_turn env ls ty x1 acc b) stored (omega arith) s.0
-        (turn_does k S one small Sp Q env ls ty x1 acc b s.1)
-        (turn_fine k S one small Sp Q (suc d) g env ls ty x1 (stacked g x) acc b fits (views_deeper k S one small d (suc d) g env (omega arith) all) good (omega arith) s.4 high.2)
-        (stored_fine k S one small d ty (λ cs. held_sign (held_view ty acc cs [])) (view_at (Number 0) w) (8 + 3 * W) rest (let e = most.0 in omega arith) (first_target k S one d (8 + 3 * W) w tg) (held_all k S one small d ty acc (omega arith)) f))))
+        (element_fine k S one small ifs Sp Q d N g env s1 (print_assigned ty (sign_exprs env N s1) acc loop) all (omega arith) s.3 high.1
+        (assigned_fine k S one small ifs d ty (sign_exprs env N s1) acc loop (omega arith) (all_exprs k S one small ifs Sp Q d N g env s1 all (omega arith) s.3 high.1)
+        (loop_fine k S one small ifs d Sequential (spell m) (print_fold_turn env ls ty x1 acc b) stored (omega arith) s.0
+        (turn_does k S one small ifs Sp Q env ls ty x1 acc b s.1)
+        (turn_fine k S one small ifs Sp Q (suc d) g env ls ty x1 (stacked g x) acc b fits (views_deeper k S one small ifs d (suc d) g env (omega arith) all) good (omega arith) s.4 high.2)
+        (stored_fine k S one small ifs d ty (λ cs. held_sign (held_view ty acc cs [])) (view_at (Number 0) w) (8 + 3 * W) rest (let e = most.0 in omega arith) (first_target k S one d (8 + 3 * W) w tg) (held_all k S one small ifs d ty acc (omega arith)) f))))

@@ -13,7 +13,7 @@ use Rattle.lift_ir.specs.Scalars.{by_side}
 use Rattle.printed_form.specs.Counts.{load_count}
 use Rattle.printed_form.specs.Views.{Sign, Blank, Held, Read, View, held_sign, held_view, loaded_view, view_at, are_parts, dividend, cell_in_rows, operand_indices, result_indices, index_from, index_in, placed_view, laid_view}
 use Rattle.printed_form.specs.Sound.{IsGood, IsSpelledIn, AllLengths, IsSoundLayout, dimensions}
-use Rattle.printed_form.specs.GrammarViews.{AllGood, IsGoodSign, IsTargetSign, IsGoodView, IsTarget, ReadsWithin, FillsWithin}
+use Rattle.printed_form.specs.GrammarViews.{IsTurnFormula, AllGood, IsGoodSign, IsTargetSign, IsGoodView, IsTarget, ReadsWithin, FillsWithin}
 use Rattle.printed_form.proofs.GrammarExpressions.{first_of, second_of, good_higher, good_number, good_binary, IsGoodSome}
 
 module _ (k : Kernel) (S : ℕ) (one : 1 ≤ S) where
@@ -55,6 +55,13 @@ module _ (k : Kernel) (S : ℕ) (one : 1 ≤ S) where
 
   loop_good : (l L h : ℕ) → L < l → 1 ≤ h → IsGood k l h (LoopVariable L)
   loop_good l L h lt p = (lt-ltb L l lt, p)
+
+  -- at a formula that may stand for a turn
+  pub at_turn_good : (turn : Formula) (n L H : ℕ) (x : View) → IsTurnFormula k L turn → IsGoodView k S n L H x → IsGoodView k S n L H (view_at turn x)
+  at_turn_good turn n L H x t g = λ l h cs is a b c. g l h cs (turn ∷ is) a b (let low = (t l a).1 in ((t l a).0, omega arith), c)
+
+  pub at_turn_target : (turn : Formula) (L H : ℕ) (x : View) → IsTurnFormula k L turn → IsTarget k S L H x → IsTarget k S L H (view_at turn x)
+  at_turn_target turn L H x t g = λ l h cs is a b c. g l h cs (turn ∷ is) a b (let low = (t l a).1 in ((t l a).0, omega arith), c)
 
   pub turned_good : (n L H : ℕ) (x : View) → IsGoodView k S n L H x → IsGoodView k S n (suc L) H (view_at (LoopVariable L) x)
   turned_good n L H x g = λ l h cs is a b c. g l h cs (LoopVariable L ∷ is) (omega arith) b (loop_good l L h (omega arith) (omega arith), c)

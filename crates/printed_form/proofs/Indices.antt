@@ -6,7 +6,8 @@ use Rattle.std.proofs.Math.Nat.{mod-eq_of_lt, mul-le-mul_right, mul-le-mul_left,
 use Rattle.scalar_ops.specs.declared.op.Op.{Op}
 use Rattle.scalar_ops.specs.declared.op.Op.TheVariants.{Add, Sub, Mul, Min, Max, Div, Rem}
 use Rattle.scalar_ops.specs.Operators.{apply_op}
-use Rattle.kernel_tree.specs.Formula.{Formula, Number, LoopVariable, Size, Binary, divides, operate, with_both, value}
+use Rattle.kernel_tree.specs.declared.tree.Dimension.TheVariants.{X}
+use Rattle.kernel_tree.specs.Formula.{Formula, Number, LoopVariable, Size, Id, GroupId, LocalId, Binary, divides, operate, with_both, value}
 use Rattle.kernel_tree.specs.Code.{Array}
 use Rattle.kernel_tree.specs.Launch.{Launch, ids_of}
 use Rattle.lift_ir.specs.Types.{Ty, Scalar, PairOf, ArrayOf, IsPosition, IsFlat, IsShort, width, component, size, flat, Shape, measured}
@@ -60,6 +61,8 @@ module _ (l : Launch) (item : ℕ) {A : Type 0} (num : A → ℕ) (spell : A →
   formula_is : (f g : Formula) → same_formula f g ≡ true → f ≡ g
   formula_is (Number m) (Number n) h = ap Number (eqb-true m n h)
   formula_is (LoopVariable i) (LoopVariable j) h = ap LoopVariable (eqb-true i j h)
+  formula_is (Id X GroupId) (Id X GroupId) h = refl
+  formula_is (Id X LocalId) (Id X LocalId) h = refl
   formula_is (Size s) (Size t) h = ap Size (eqb-true s t h)
   formula_is (Binary o a b) (Binary p c d) h =
       let front = both_true (same_operator o p && same_formula a c) (same_formula b d) h in

@@ -6,6 +6,7 @@ pub mod Elements
 pub mod Cells
 pub mod Loops
 pub mod Folds
+pub mod Rest
 pub mod Writes
 pub mod Whole
 pub mod Theorem

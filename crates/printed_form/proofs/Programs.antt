@@ -1,6 +1,6 @@
 -- Kernels printed for a program's typed term: they keep what they owe, they may be started, and the
 -- printer's kernel is one.
-use Rattle.std.proofs.Common.{◌≡◌, ℕ, zero, suc, ◌+◌, ◌*◌, ◌/◌, ◌%◌, ◌-◌, ◌<◌, ◌≤◌, ◌^◌, Bool, List, [], ◌∷◌, ◌++◌, length, get_or, Some, refl, sym, ap, ◌∙◌, subst, pos, ◌≤ℤ◌, arith, length-append}
+use Rattle.std.proofs.Common.{◌≡◌, ℕ, zero, suc, ◌+◌, ◌*◌, ◌/◌, ◌%◌, ◌-◌, ◌<◌, ◌≤◌, ◌^◌, Bool, List, [], ◌∷◌, ◌++◌, length, get_or, Option, Some, None, refl, sym, ap, ◌∙◌, subst, pos, ◌≤ℤ◌, arith, length-append}
 use Rattle.std.specs.Prelude.{map, slice_get, slice_index}
 use Rattle.std.proofs.Math.ListN.{get_or-append}
 use Rattle.std.proofs.Math.Seq.{get_or-append_right}
@@ -19,7 +19,7 @@ use Rattle.lift_tree.specs.Values.{Value, Word, array, nth}
 use Rattle.lift_tree.specs.Annotations.{Annotation, type_in}
 use Rattle.lift_tree.specs.Meaning.{World, meaning}
 use Rattle.lift_tree.specs.Launches as launches
-use Rattle.lift_tree.specs.Launches.{IsAdmissibleLaunch, buffers_of}
+use Rattle.lift_tree.specs.Launches.{Asks, IsAdmissibleLaunch, IsFixedSize, buffers_of}
 use Rattle.lift_tree.proofs.Members.{length-map}
 use Rattle.kernel_tree.specs.Code.{Array, Input, Output, Local, Private, Kernel}
 use Rattle.kernel_tree.specs.Grammar.{largest_group}
@@ -48,7 +48,7 @@ use Rattle.lift_ir.proofs.Values.{shape_is, has_scalars, same_lists}
 use Rattle.printed_form.specs.Headline.{EveryRunKeeps}
 use Rattle.printed_form.specs.Whole.{IsCode, IsPrinted}
 use Rattle.printed_form.specs.Printer.{input_marks, kernel_code}
-use Rattle.printed_form.specs.Programs.{input_shape, first_buffer, buffer_count, lowered_root, cell_owner, IsLaunchOf, SameContents, PrintedProgramsKeep, PrintedProgramsStart, ProgramsArePrinted, PrintedProgramsGoAlike, Prints, AreBuffersOf, IsLowerableProgram}
+use Rattle.printed_form.specs.Programs.{input_shape, first_buffer, buffer_count, lowered_root, cell_owner, row_of, IsLaunchOf, SameContents, PrintedProgramsKeep, PrintedProgramsStart, ProgramsArePrinted, PrintedProgramsGoAlike, Prints, AreBuffersOf, IsLowerableProgram}
 use Rattle.printed_form.proofs.Printed.{code_is}
 use Rattle.printed_form.specs.Alike.{AlikeItems, AlikeStates}
 use Rattle.printed_form.proofs.Whole.{completed}
@@ -135,8 +135,8 @@ buffers_count ys (b ∷ tys) (v ∷ vs) all h =
 
 -- launches
 
-pub whole : (l : Launch) (is_task : Bool) (names : List Name) (bases : List ℕ) → kernel_launch.IsFlat l → IsAdmissibleLaunch names is_task bases l.global.0 l.local.0 → IsWhole l
-whole l is_task names bases flat h =
+pub whole : (l : Launch) (asks : Asks) (names : List Name) (bases : List ℕ) → kernel_launch.IsFlat l → IsAdmissibleLaunch names asks bases l.global.0 l.local.0 → IsWhole l
+whole l asks names bases flat h =
     let a = h.local_least in
     let b = h.divides in
     let c = flat.one_local_row in
@@ -157,8 +157,8 @@ sizes_count (n ∷ names) [] h = absurd h
 sizes_count (n ∷ names) (y ∷ ys) h = let e = sizes_count names ys h.1 in omega arith
 
 -- lengths that are shown at least a number are so
-shown : (d : Declared) (is_task : Bool) (bases : List ℕ) (l : Launch) → IsDeclared d → IsLaunchOf d is_task bases l → (j : ℕ) (p : List Monomial) → ShownAtLeast j d.names p → pos j ≤ℤ value_at bases p
-shown d is_task bases l declared launch j p s = shown_at_least d.names bases declared.names launch.admissible.sizes j p s
+shown : (d : Declared) (asks : Asks) (bases : List ℕ) (l : Launch) → IsDeclared d → IsLaunchOf d asks bases l → (j : ℕ) (p : List Monomial) → ShownAtLeast j d.names p → pos j ≤ℤ value_at bases p
+shown d asks bases l declared launch j p s = shown_at_least d.names bases declared.names launch.admissible.sizes j p s
 
 abbrev sources_at : Declared → List ℕ → ℕ → Ty
 sources_at d bases v = measured (length_at bases) (input_shape d.inputs v)
@@ -205,7 +205,7 @@ module _ (d : Declared) (w : World) (declared : IsDeclared d) (ok : IsAdmissible
           none cs (i ∷ q) p = let z = p.0 in absurd (omega arith)
 
 -- a program's printed kernel is one for its term in the intermediate representation
-module _ (d : Declared) (is_task : Bool) (w : World) (t : Tree) (a : Annotation) (l : Launch) (c : Cells) (program : IsLowerableProgram d w.bases t a) (ok : IsAdmissible d w) (launch : IsLaunchOf d is_task w.bases l) (buffers : AreBuffersOf d w t a c) where
+module _ (d : Declared) (asks : Asks) (w : World) (t : Tree) (a : Annotation) (l : Launch) (c : Cells) (program : IsLowerableProgram d w.bases t a) (ok : IsAdmissible d w) (launch : IsLaunchOf d asks w.bases l) (buffers : AreBuffersOf d w t a c) where
   abbrev num : List Monomial → ℕ
   num = length_at w.bases
 
@@ -225,7 +225,7 @@ module _ (d : Declared) (is_task : Bool) (w : World) (t : Tree) (a : Annotation)
   lowers = lowers_is d w ok program.declared.few t Written [] a 0 refl program.nodes program.lowerable
 
   has : HasType num src no_type low result
-  has = has_is d w.bases (shown d is_task w.bases l program.declared launch) program.declared.inputs src (λ i b e. sym (source_is d w.bases i b e)) t Written [] a tt program.nodes program.lowerable
+  has = has_is d w.bases (shown d asks w.bases l program.declared launch) program.declared.inputs src (λ i b e. sym (source_is d w.bases i b e)) t Written [] a tt program.nodes program.lowerable
 
   flat_type : IsFlat result
   flat_type = output_flat w.bases (type_in a) program.output
@@ -237,9 +237,9 @@ module _ (d : Declared) (is_task : Bool) (w : World) (t : Tree) (a : Annotation)
   valued : HasScalars result (meaning w [] t) (scalars_of num sources no_scalars low)
   valued = means num w src sources (length d.inputs) given low 0 t no_type [] no_scalars result lowers has (λ i lt. absurd (omega arith))
 
-  is_printed : (k : Kernel) → Prints d w.bases t a l k → IsPrinted l num src (input_marks num (first_buffer d.inputs) (input_shape d.inputs)) sources low result k c
+  is_printed : (k : Kernel) → Prints d asks.local w.bases t a l k → IsPrinted l num src (input_marks num (first_buffer d.inputs) (input_shape d.inputs)) sources low result k c
   is_printed k printed = record {
-    whole = whole l is_task d.names w.bases launch.flat launch.admissible;
+    whole = whole l asks d.names w.bases launch.flat launch.admissible;
     flat = launch.flat;
     some = subst (λ n. 0 < n) (sym (flat_items l launch.flat)) (let z = launch.admissible.global_least in omega arith);
     few = subst (λ n. n < 2 ^ 31) (sym (flat_items l launch.flat)) (let z = launch.admissible.global_most in omega arith);
@@ -252,12 +252,12 @@ module _ (d : Declared) (is_task : Bool) (w : World) (t : Tree) (a : Annotation)
     inputs = input_given d w program.declared ok c buffers.inputs;
   }
 
-  keeps : (k : Kernel) → Prints d w.bases t a l k → EveryRunKeeps k l c (cell_owner d.names w.bases l t a) (launches.lists_of (type_in a) (meaning w [] t))
+  keeps : (k : Kernel) → Prints d asks.local w.bases t a l k → EveryRunKeeps k l c (cell_owner d.names w.bases l t a) (launches.lists_of (type_in a) (meaning w [] t))
   keeps k printed =
       subst (EveryRunKeeps k l c (cell_owner d.names w.bases l t a)) (sym (same_lists w.bases (type_in a) (meaning w [] t)))
       (printed_kernels_keep (List Monomial) num l w t (length d.inputs) src (input_marks num (first_buffer d.inputs) (input_shape d.inputs)) sources low result k c lowers given (is_printed k printed))
 
-  module _ (k m : Kernel) (one : Prints d w.bases t a l k) (two : Prints d w.bases t a l m) (s r : State) (start : IsStart k l c s) (begin : IsStart m l c r) (same : SameContents l s r) where
+  module _ (k m : Kernel) (one : Prints d asks.local w.bases t a l k) (two : Prints d asks.local w.bases t a l m) (s r : State) (start : IsStart k l c s) (begin : IsStart m l c r) (same : SameContents l s r) where
     lengths : (b : Array) → length_in k c b ≡ length_in m c b
     lengths (Input n) = refl
     lengths (Output n) = refl
@@ -275,7 +275,7 @@ module _ (d : Declared) (is_task : Bool) (w : World) (t : Tree) (a : Annotation)
 
     go_alike : GoesAlike (device_of k l c) s (device_of m l c) r
     go_alike =
-        let whole_launch = whole l is_task d.names w.bases launch.flat launch.admissible in
+        let whole_launch = whole l asks d.names w.bases launch.flat launch.admissible in
         let full = completed num l src (input_marks num (first_buffer d.inputs) (input_shape d.inputs)) sources low result k c (is_printed k one) s start in
         let told : Enacts (device_of k l c) s (history (device_of k l c) s full.0) = record { events = full.0; completes = full.1; acts = λ j lt. refl } in
         let again : Enacts (device_of m l c) r (history (device_of k l c) s full.0) = record {
@@ -286,26 +286,31 @@ module _ (d : Declared) (is_task : Bool) (w : World) (t : Tree) (a : Annotation)
         goes_alike l whole_launch (length_in k c) (length_in m c) s r (history (device_of k l c) s full.0) (fun_ext (λ g. fun_ext (λ f. states.epochs g f))) told again
 
 pub printed_programs_keep : PrintedProgramsKeep
-printed_programs_keep d is_task w t a l k c program ok launch buffers printed = keeps d is_task w t a l c program ok launch buffers k printed
+printed_programs_keep d asks w t a l k c program ok launch buffers printed = keeps d asks w t a l c program ok launch buffers k printed
+
+-- groups of the size that is fixed are such a row
+pub has_local : (local : Option ℕ) (l : Launch) → kernel_launch.IsFlat l → IsFixedSize local l.local.0 → HasLocal (row_of local) l
+has_local None l flat h = tt
+has_local (Some size) l flat h = ap (λ x. (x, l.local.1)) h ∙ ap (λ y. (size, y)) flat.one_local_row
 
 pub printed_programs_start : PrintedProgramsStart
-printed_programs_start d is_task w t a l k c program ok launch buffers printed = record {
-  whole = whole l is_task d.names w.bases launch.flat launch.admissible;
+printed_programs_start d asks w t a l k c program ok launch buffers printed = record {
+  whole = whole l asks d.names w.bases launch.flat launch.admissible;
   small_groups = subst (λ n. l.local.0 * n ≤ largest_group) (sym launch.flat.one_local_row) (let z = launch.admissible.local_most in omega arith);
   few_items = subst (λ n. n ≤ 65536) (sym (flat_items l launch.flat)) launch.admissible.global_most;
-  local = subst (λ size. HasLocal size l) (sym printed.local) tt;
+  local = subst (λ size. HasLocal size l) (sym printed.local) (has_local asks.local l launch.flat launch.admissible.fixed);
   sizes = ap length launch.sizes ∙ sizes_count d.names w.bases launch.admissible.sizes ∙ sym printed.sizes;
   ins = ap length buffers.inputs ∙ buffers_count w.bases d.inputs w.inputs program.declared.arrays ok.inputs ∙ sym printed.inputs;
   outs = sym (length-map length c.outs) ∙ ap length buffers.outputs ∙ length-map length (launches.lists_of (type_in a) (meaning w [] t)) ∙ lists_length w.bases (type_in a) (meaning w [] t) ∙ sym printed.outputs;
 }
 
 pub programs_are_printed : ProgramsArePrinted
-programs_are_printed d is_task bases t a l spell program launch staged stands placed spelled =
+programs_are_printed d asks bases t a l spell program launch staged stands placed spelled =
     let num = length_at bases in
     let low = lowered_root d.names t a in
     let src = sources_at d bases in
     let same = shape_is bases (type_in a) in
-    let has = has_is d bases (shown d is_task bases l program.declared launch) program.declared.inputs src (λ i b e. sym (source_is d bases i b e)) t Written [] a tt program.nodes program.lowerable in
+    let has = has_is d bases (shown d asks bases l program.declared launch) program.declared.inputs src (λ i b e. sym (source_is d bases i b e)) t Written [] a tt program.nodes program.lowerable in
     record {
       inputs = refl;
       outputs = refl;
@@ -328,4 +333,4 @@ programs_are_printed d is_task bases t a l spell program launch staged stands pl
         go (Absent le e) = subst (IsPlaced (length_at bases)) (sym e) (record { flat = tt; short = (omega arith, tt); small = omega arith })
 
 pub printed_programs_go_alike : PrintedProgramsGoAlike
-printed_programs_go_alike d is_task w t a l k m c s r program ok launch buffers one two start begin same = go_alike d is_task w t a l c program ok launch buffers k m one two s r start begin same
+printed_programs_go_alike d asks w t a l k m c s r program ok launch buffers one two start begin same = go_alike d asks w t a l c program ok launch buffers k m one two s r start begin same

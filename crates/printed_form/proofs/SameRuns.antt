@@ -22,7 +22,7 @@ use Rattle.printed_form.specs.Marks.{Marks}
 use Rattle.printed_form.specs.Form.{IsWritten}
 use Rattle.printed_form.specs.Whole.{no_marks, output_marks, IsOverLaunch, IsCode}
 use Rattle.printed_form.specs.Alike.{Alike, AlikeFrames, AlikeItems, AlikeWants, AlikeStates, SameRun, PrintedKernelsAreAlike}
-use Rattle.printed_form.proofs.Alike.{alike_written, alike_over_launch}
+use Rattle.printed_form.proofs.Alike.{alike_by_statements, alike_written, alike_over_launch}
 
 module _ (l : Launch) (k : ℕ) where
   same_loops : (fs hs : List Frame) → AlikeFrames l k fs hs → loop_variables fs ≡ loop_variables hs
@@ -276,11 +276,11 @@ pub codes_alike : {A : Type 0} (num : A → ℕ) (l : Launch) (ins : ℕ → Mar
 codes_alike num l ins t ty a b x y item lt =
     ⊎_elim
     (λ p. ⊎_elim
-    (λ q. subst (λ i. Alike l i [] a b) (let e = p.0 in let z : 0 ≡ item = omega arith in z) (alike_written l 0 ins num t [] no_marks 0 0 (output_marks ty) a b End End p.1 q.1 tt))
+    (λ q. subst (λ i. Alike l i [] a b) (let e = p.0 in let z : 0 ≡ item = omega arith in z) (alike_written l 0 ins (Alike l 0) (alike_by_statements l 0) num t [] no_marks 0 0 (output_marks ty) a b End End p.1 q.1 tt))
     (λ q. absurd (never_both num l 0 ins t [] no_marks no_marks 0 0 0 0 (output_marks ty) (output_marks ty) a End b End p.1 (q 0 (let e = p.0 in omega arith)))) y)
     (λ p. ⊎_elim
     (λ q. absurd (never_both num l 0 ins t [] no_marks no_marks 0 0 0 0 (output_marks ty) (output_marks ty) b End a End q.1 (p 0 (let e = q.0 in omega arith))))
-    (λ q. alike_over_launch l item ins num t no_marks 0 0 (output_marks ty) a b End End (p item lt) (q item lt) tt) y)
+    (λ q. alike_over_launch l item ins (Alike l item) (alike_by_statements l item) num t no_marks 0 0 (output_marks ty) a b End End (p item lt) (q item lt) tt) y)
     x
 
 pub printed_kernels_are_alike : (A : Type 0) → PrintedKernelsAreAlike A

@@ -1,10 +1,10 @@
--- What is printed of arguments and of terms in writing position, and the loops of maps, is of the
--- kernel grammar.
+-- What is printed of arguments and of terms in writing position, and the statements of maps, are of
+-- the kernel grammar.
 use Rattle.std.specs.Prelude.{◌≡◌, ℕ, suc, ◌+◌, ◌*◌, ◌<◌, ◌≤◌, ◌^◌, Bool, true, List, ◌∷◌, length}
 use Rattle.size_arith.specs.declared.poly.Monomial.{Monomial}
 use Rattle.lift_tree.specs.Typing.{Declared}
-use Rattle.kernel_tree.specs.Formula.{Formula, LoopVariable}
-use Rattle.kernel_tree.specs.Code.{Array, Output, Code, Loops, Kernel}
+use Rattle.kernel_tree.specs.Formula.{Formula}
+use Rattle.kernel_tree.specs.Code.{Array, Output, Code, Loops, Guards, Kernel}
 use Rattle.kernel_tree.specs.Grammar.{are_lengths, are_statements, has_statement, is_group_size, is_kernel, is_readable, is_writable}
 use Rattle.lift_ir.specs.Types.{Shape, Ty, width}
 use Rattle.lift_ir.specs.Layouts.{Layout}
@@ -16,7 +16,7 @@ use Rattle.printed_form.specs.Views.{View, Blank, loaded_view, view_at, operand_
 use Rattle.printed_form.specs.Printer.{argument_view, input_views, print_loaded, print_written}
 use Rattle.printed_form.specs.Programs.{buffer_count, first_buffer, input_shape}
 use Rattle.printed_form.specs.Sound.{IsSpelledIn, AllLengths, IsSoundLayout, dimensions, stacked, IsWrittenWithin, loop_depth, AreLow, CanBeWritten}
-use Rattle.printed_form.specs.GrammarViews.{ReadsWithin, FillsWithin, AllReadWithin}
+use Rattle.printed_form.specs.GrammarViews.{IsTurnFormula, ReadsWithin, FillsWithin, AllReadWithin}
 use Rattle.printed_form.specs.KernelGrammar.{IsSoundIn}
 
 -- which views read, and which tell where to write, within the grammar of a kernel, where lengths
@@ -25,6 +25,8 @@ pub record ViewsStay (k : Kernel) (high : ℕ) : Type 0 where
   -- those that do, in more loops and through more layouts
   pub more : (l m h i : ℕ) (x : View) → l ≤ m → h ≤ i
       → ReadsWithin k high l h x → ReadsWithin k high m i x
+  pub deeper : (l m h i : ℕ) (w : View) → l ≤ m → h ≤ i
+      → FillsWithin k high l h w → FillsWithin k high m i w
   pub blank : (l h : ℕ) → ReadsWithin k high l h (λ cs is. Blank)
   -- two by side, and a part of one
   pub sides : (l h : ℕ) (x y : View) → ReadsWithin k high l h x → ReadsWithin k high l h y
@@ -38,12 +40,16 @@ pub record ViewsStay (k : Kernel) (high : ℕ) : Type 0 where
   pub result : (spell : List Monomial → Formula) (y : Layout (List Monomial)) (l h : ℕ) (w : View)
       → IsSoundLayout (λ n. IsSpelledIn k high (spell n)) y → FillsWithin k high l h w
       → FillsWithin k high l (suc h) (λ cs is. w cs (result_indices spell y is))
-  -- a loop's element, of which scalars are loaded, and its place
-  pub element : (loads : LoadSet) (l h n : ℕ) (x : View) → n + load_count loads ≤ k.variables
-      → ReadsWithin k high l h x
-      → ReadsWithin k high (suc l) h (loaded_view loads (view_at (LoopVariable l) x) n)
-  pub place : (l h : ℕ) (w : View) → FillsWithin k high l h w
-      → FillsWithin k high (suc l) h (view_at (LoopVariable l) w)
+  -- the element at a turn, of which scalars are loaded, and its place
+  pub element : (turn : Formula) (loads : LoadSet) (l h n : ℕ) (x : View)
+      → IsTurnFormula k l turn → n + load_count loads ≤ k.variables → ReadsWithin k high l h x
+      → ReadsWithin k high l h (loaded_view loads (view_at turn x) n)
+  pub read : (turn : Formula) (l h : ℕ) (x : View)
+      → IsTurnFormula k l turn → ReadsWithin k high l h x
+      → ReadsWithin k high l h (view_at turn x)
+  pub place : (turn : Formula) (l h : ℕ) (w : View)
+      → IsTurnFormula k l turn → FillsWithin k high l h w
+      → FillsWithin k high l h (view_at turn w)
   -- declared arrays of literal lengths
   pub laid : (form : ℕ → Array) (first : ℕ) (ty : Ty) (l : ℕ)
       → ((c : ℕ) → c < width ty → is_readable k (form (first + c)) ≡ true)
@@ -57,17 +63,30 @@ pub record ViewsStay (k : Kernel) (high : ℕ) : Type 0 where
 abbrev pub ViewsStayWithin : Type 0
 ViewsStayWithin = (k : Kernel) (high : ℕ) → 1 ≤ high → ViewsStay k high
 
--- the loop of a map over what reads within the grammar is of it, where its body is
-abbrev pub LoopsAreOfTheGrammar : Type 0
-LoopsAreOfTheGrammar =
-    (k : Kernel) (high l h n : ℕ) (kind : Kind) (bound : Formula) (loads : LoadSet) (x : View)
-    (body rest : Code)
-    → 1 ≤ high → high + (8 + 3 * h) ≤ 1024 → l < 1024 → n + load_count loads ≤ k.variables
-    → IsSpelledIn k high bound → ReadsWithin k high l h x
-    → has_statement body ≡ true → are_statements k (suc l) (suc l) body ≡ true
-    → are_statements k l l rest ≡ true
-    → are_statements k l l (Loops (start_of kind) bound (stride_of kind)
-    (print_loaded loads (view_at (LoopVariable l) x) n body) rest) ≡ true
+-- which statements of maps are of the grammar of a kernel, in so many loops and ifs, where lengths
+-- are at most so high
+pub record MapsStay (k : Kernel) (high : ℕ) : Type 0 where
+  -- the loads of an element that reads within it
+  pub loads : (l ifs h n : ℕ) (loads : LoadSet) (x : View) (rest : Code)
+      → high + (8 + 3 * h) ≤ 1024 → n + load_count loads ≤ k.variables → ReadsWithin k high l h x
+      → are_statements k l (ifs + l) rest ≡ true
+      → are_statements k l (ifs + l) (print_loaded loads x n rest) ≡ true
+  pub loaded : (loads : LoadSet) (x : View) (n : ℕ) (rest : Code) → has_statement rest ≡ true
+      → has_statement (print_loaded loads x n rest) ≡ true
+  -- a loop and an `if`, where their body is
+  pub loop : (l ifs : ℕ) (kind : Kind) (bound : Formula) (body rest : Code)
+      → ifs + l < 1024 → IsSpelledIn k high bound → has_statement body ≡ true
+      → are_statements k (suc l) (ifs + suc l) body ≡ true
+      → are_statements k l (ifs + l) rest ≡ true
+      → are_statements k l (ifs + l) (Loops (start_of kind) bound (stride_of kind) body rest) ≡ true
+  pub guard : (l ifs : ℕ) (kind : Kind) (bound : Formula) (body rest : Code)
+      → ifs + l < 1024 → IsSpelledIn k high bound → has_statement body ≡ true
+      → are_statements k l (suc ifs + l) body ≡ true
+      → are_statements k l (ifs + l) rest ≡ true
+      → are_statements k l (ifs + l) (Guards (start_of kind) bound body rest) ≡ true
+
+abbrev pub MapsAreOfTheGrammar : Type 0
+MapsAreOfTheGrammar = (k : Kernel) (high : ℕ) → 1 ≤ high → high ≤ 1024 → MapsStay k high
 
 -- lengths are at most so high, at most so many layouts stand one on another, and the kernel has the
 -- program's inputs
@@ -81,15 +100,15 @@ abbrev pub views_of_inputs : (spell : List Monomial → Formula) → Declared �
 views_of_inputs spell d = input_views spell (first_buffer d.inputs) (input_shape d.inputs)
 
 module _ (k : Kernel) (spell : List Monomial → Formula) (high most : ℕ) (d : Declared) where
-  -- a term in writing position in so many loops and below so many layouts, where so many stand over
-  -- what binders stand for, from these variables and private arrays on
-  pub record CanBePrinted (g : ℕ → ℕ) (loops above variable private : ℕ) (t : Term (List Monomial))
+  -- a term in writing position, so deep in loops and ifs and below so many layouts, where so many
+  -- stand over what binders stand for, from these variables and private arrays on
+  pub record CanBePrinted (g : ℕ → ℕ) (depth above variable private : ℕ) (t : Term (List Monomial))
       : Type 0 where
     pub written : CanBeWritten t
     pub sound : IsSoundIn k spell high d t
     pub layouts : IsWrittenWithin most g above t
     pub low : AreLow 1024 t
-    pub deep : loops + loop_depth t ≤ 1024
+    pub deep : depth + loop_depth t ≤ 1024
     pub variables : variable + variable_count t ≤ k.variables
     pub privates : private + private_count t ≤ length k.privates
 
@@ -105,22 +124,30 @@ module _ (k : Kernel) (spell : List Monomial → Formula) (high most : ℕ) (d :
         → AllLengths (λ n. IsSpelledIn k high (spell n)) ty → dimensions ty ≤ 4
         → FillsWithin k high 0 0 (placed_view spell Output 0 ty)
     -- the code of a term in writing position is of it, and has a statement
-    pub codes : (l above variable private : ℕ) (g : ℕ → ℕ) (env : ℕ → View)
+    pub codes : (l ifs above variable private : ℕ) (g : ℕ → ℕ) (env : ℕ → View)
         (t : Term (List Monomial)) (w : View) (rest : Code)
         → AllReadWithin k high l g env → FillsWithin k high l above w
-        → CanBePrinted g l above variable private t → are_statements k l l rest ≡ true
-        → are_statements k l l
+        → CanBePrinted g (ifs + l) above variable private t
+        → are_statements k l (ifs + l) rest ≡ true
+        → are_statements k l (ifs + l)
         (print_written spell (views_of_inputs spell d) l env private variable t w rest) ≡ true
-    pub statements : (l above variable private : ℕ) (g : ℕ → ℕ) (env : ℕ → View)
+    pub statements : (l depth above variable private : ℕ) (g : ℕ → ℕ) (env : ℕ → View)
         (t : Term (List Monomial)) (w : View) (rest : Code)
-        → FillsWithin k high l above w → CanBePrinted g l above variable private t
+        → FillsWithin k high l above w → CanBePrinted g depth above variable private t
+        → has_statement
+        (print_written spell (views_of_inputs spell d) l env private variable t w rest) ≡ true
+    -- and where a statement follows it
+    pub kept : (l variable private : ℕ) (env : ℕ → View) (t : Term (List Monomial)) (w : View)
+        (rest : Code)
+        → has_statement rest ≡ true
         → has_statement
         (print_written spell (views_of_inputs spell d) l env private variable t w rest) ≡ true
     -- a kernel that declares a term's arrays is of the grammar where its code is
     pub kernel : (ty : Shape (List Monomial)) (t : Term (List Monomial))
         → k.outputs ≡ width ty → k.locals ≡ copy_lengths LocalMemory t
         → k.privates ≡ copy_lengths PrivateMemory t → IsSoundIn k spell high d t
-        → is_group_size k.local ≡ true → has_statement k.code ≡ true → are_statements k 0 0 k.code ≡ true → is_kernel k ≡ true
+        → is_group_size k.local ≡ true → has_statement k.code ≡ true
+        → are_statements k 0 0 k.code ≡ true → is_kernel k ≡ true
 
 abbrev pub TermsArePrintedWithin : Type 0
 TermsArePrintedWithin =

@@ -13,6 +13,10 @@ module _ (k : Kernel) where
   AllGood l h [] = Unit {0}
   AllGood l h (i ∷ is) = IsGood k l h i × AllGood l h is
 
+  -- an expression that may stand for a turn, in so many loops and more
+  abbrev pub IsTurnFormula : (loops : ℕ) → Formula → Type 0
+  IsTurnFormula l e = (m : ℕ) → l ≤ m → IsGood k m 1 e
+
   -- one of so many variables, or a cell that is read
   abbrev pub IsGoodSign : (variables loops high : ℕ) → Sign → Type 0
   IsGoodSign n l h Blank = Unit {0}

@@ -1,5 +1,5 @@
 -- The kernel that the printer makes is of the kernel grammar.
-use Rattle.std.specs.Prelude.{◌≡◌, ℕ, ◌+◌, ◌*◌, ◌<◌, ◌≤◌, true, List, length}
+use Rattle.std.specs.Prelude.{◌≡◌, ℕ, ◌+◌, ◌*◌, ◌<◌, ◌≤◌, true, List, Option, length}
 use Rattle.size_arith.specs.declared.poly.Monomial.{Monomial}
 use Rattle.lift_tree.specs.Tree.{Tree}
 use Rattle.lift_tree.specs.Annotations.{Annotation, type_in}
@@ -9,7 +9,7 @@ use Rattle.kernel_tree.specs.Code.{Kernel}
 use Rattle.kernel_tree.specs.Grammar.{is_kernel}
 use Rattle.lift_ir.specs.Terms.{Term}
 use Rattle.lift_ir.specs.AtLaunch.{shape_of}
-use Rattle.printed_form.specs.Programs.{input_shape, lowered_root, printed_kernel}
+use Rattle.printed_form.specs.Programs.{input_shape, lowered_root, IsGroupSize, printed_kernel}
 use Rattle.printed_form.specs.Sound.{IsSpelledIn, AllLengths, IsSound, IsWrittenWithin, dimensions, loop_depth, AreLow, CanBeWritten}
 
 -- an input that is declared, whose lengths are spelled in the grammar
@@ -27,21 +27,25 @@ IsSoundIn k spell high d t =
 
 -- A typed term is printed within the grammar: something is stored wherever it is written; its
 -- numbers are words, its lengths and inputs are spelled in the grammar, at most so high; at most so
--- many layouts stand one on another; element terms and loops don't nest too deep.
+-- many layouts stand one on another; element terms and loops don't nest too deep; groups may have
+-- the size that is fixed.
 pub record IsPrintedWithin (spell : List Monomial → Formula) (high most : ℕ) (d : Declared)
-    (t : Tree) (a : Annotation) : Type 0 where
+    (local : Option ℕ) (t : Tree) (a : Annotation) : Type 0 where
+  pub size : IsGroupSize local
   pub some : 1 ≤ high
   pub fits : high + (8 + 3 * most) ≤ 1024
   pub written : CanBeWritten (lowered_root d.names t a)
-  pub sound : IsSoundIn (printed_kernel spell d t a) spell high d (lowered_root d.names t a)
+  pub sound : IsSoundIn (printed_kernel spell d local t a) spell high d (lowered_root d.names t a)
   pub layouts : IsWrittenWithin most (λ v. 0) 0 (lowered_root d.names t a)
   pub low : AreLow 1024 (lowered_root d.names t a)
   pub loops : loop_depth (lowered_root d.names t a) ≤ 1024
-  pub lengths : AllLengths (λ n. IsSpelledIn (printed_kernel spell d t a) high (spell n))
+  pub lengths : AllLengths (λ n. IsSpelledIn (printed_kernel spell d local t a) high (spell n))
       (shape_of (type_in a))
   pub few : dimensions (shape_of (type_in a)) ≤ 4
 
 abbrev pub KernelsAreOfTheGrammar : Type 0
 KernelsAreOfTheGrammar =
-    (spell : List Monomial → Formula) (high most : ℕ) (d : Declared) (t : Tree) (a : Annotation)
-    → IsPrintedWithin spell high most d t a → is_kernel (printed_kernel spell d t a) ≡ true
+    (spell : List Monomial → Formula) (high most : ℕ) (d : Declared) (local : Option ℕ) (t : Tree)
+    (a : Annotation)
+    → IsPrintedWithin spell high most d local t a
+    → is_kernel (printed_kernel spell d local t a) ≡ true

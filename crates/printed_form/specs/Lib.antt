@@ -4,6 +4,7 @@ pub mod Counts
 pub mod Marks
 pub mod Expressions
 pub mod Form
+pub mod MapForms
 pub mod Runs
 pub mod Whole
 pub mod Views

@@ -1,5 +1,5 @@
 -- A kernel printed for a whole program's typed term.
-use Rattle.std.specs.Prelude.{◌≡◌, ℕ, zero, suc, ◌+◌, ◌<◌, ◌^◌, ◌⊎◌, Bool, true, List, [], ◌∷◌, length, map, None}
+use Rattle.std.specs.Prelude.{◌≡◌, ℕ, zero, suc, ◌+◌, ◌<◌, ◌≤◌, ◌^◌, ◌⊎◌, true, List, [], ◌∷◌, length, map, Option, Some, None, IfSome}
 use Rattle.size_arith.specs.declared.names.Name.{Name}
 use Rattle.size_arith.specs.declared.poly.Monomial.{Monomial}
 use Rattle.size_arith.specs.Ranges.{sizes_at}
@@ -9,9 +9,10 @@ use Rattle.lift_tree.specs.Types.{PlainTy, IsOutput}
 use Rattle.lift_tree.specs.Typing.{Declared, IsDeclared, IsAdmissible}
 use Rattle.lift_tree.specs.Annotations.{Annotation, type_in, Annotates}
 use Rattle.lift_tree.specs.Meaning.{World, meaning}
-use Rattle.lift_tree.specs.Launches.{IsAdmissibleLaunch, buffers_of, lists_of}
+use Rattle.lift_tree.specs.Launches.{Asks, IsAdmissibleLaunch, buffers_of, lists_of}
 use Rattle.kernel_tree.specs.Formula.{Formula}
 use Rattle.kernel_tree.specs.Code.{Kernel}
+use Rattle.kernel_tree.specs.Grammar.{largest_group}
 use Rattle.kernel_tree.specs.Launch.{Launch, Cells, IsFlat, MayStart, item_count}
 use Rattle.kernel_tree.specs.Device.{State, device_of, IsStart}
 use Rattle.kernel_tree.specs.Alike.{GoesAlike}
@@ -49,12 +50,21 @@ buffer_count (a ∷ tys) = width (shape_of a) + buffer_count tys
 abbrev pub lowered_root : List Name → Tree → Annotation → Lowered
 lowered_root names t a = lower names Written t a
 
+-- groups of a fixed size are one row
+abbrev pub row_of : Option ℕ → Option (ℕ × ℕ)
+row_of None = None
+row_of (Some size) = Some (size, 1)
+
+-- a size that can be fixed
+abbrev pub IsGroupSize : Option ℕ → Type 0
+IsGroupSize local = IfSome local (λ size. (1 ≤ size) × (size ≤ largest_group))
+
 -- The kernel is printed for the typed term at a launch, where the base names have these values: it
 -- has a parameter for each component of each input, then of the output, then for each size; private
--- variables and arrays as the term needs them, and no variable of four words; it asks for no size of
--- groups; and its code is printed for the term.
-pub record Prints (d : Declared) (bases : List ℕ) (t : Tree) (a : Annotation) (l : Launch)
-    (k : Kernel) : Type 0 where
+-- variables and arrays as the term needs them, and no variable of four words; it asks for the size
+-- of groups that the script fixes; and its code is printed for the term.
+pub record Prints (d : Declared) (size : Option ℕ) (bases : List ℕ) (t : Tree) (a : Annotation)
+    (l : Launch) (k : Kernel) : Type 0 where
   pub inputs : k.inputs ≡ buffer_count d.inputs
   pub outputs : k.outputs ≡ width (shape_of (type_in a))
   pub sizes : k.sizes ≡ length d.names
@@ -62,13 +72,14 @@ pub record Prints (d : Declared) (bases : List ℕ) (t : Tree) (a : Annotation) 
   pub privates : k.privates ≡ copy_lengths PrivateMemory (lowered_root d.names t a)
   pub variables : k.variables ≡ variable_count (lowered_root d.names t a)
   pub vectors : k.vectors ≡ 0
-  pub local : k.local ≡ None
+  pub local : k.local ≡ row_of size
   pub code : IsCode l (input_marks (length_at bases) (first_buffer d.inputs) (input_shape d.inputs))
       (length_at bases) (lowered_root d.names t a) (ty_at bases (type_in a)) k.code
 
 -- the kernel that the printer makes of a typed term, where lengths are spelled so
-abbrev pub printed_kernel : (List Monomial → Formula) → Declared → Tree → Annotation → Kernel
-printed_kernel spell d t a = record {
+abbrev pub printed_kernel :
+    (List Monomial → Formula) → Declared → (size : Option ℕ) → Tree → Annotation → Kernel
+printed_kernel spell d local t a = record {
   inputs = buffer_count d.inputs;
   outputs = width (shape_of (type_in a));
   sizes = length d.names;
@@ -76,7 +87,7 @@ printed_kernel spell d t a = record {
   privates = copy_lengths PrivateMemory (lowered_root d.names t a);
   variables = variable_count (lowered_root d.names t a);
   vectors = 0;
-  local = None;
+  local = row_of local;
   code =
       kernel_code spell (first_buffer d.inputs) (input_shape d.inputs) (lowered_root d.names t a)
       (shape_of (type_in a));
@@ -88,10 +99,10 @@ abbrev pub cell_owner :
 cell_owner names bases l t a array index =
     owner (length_at bases) l (lowered_root names t a) (unflat (ty_at bases (type_in a)) index)
 
--- the launch is one row, has these sizes, and one work-item where the term is a task
-pub record IsLaunchOf (d : Declared) (is_task : Bool) (bases : List ℕ) (l : Launch) : Type 0 where
+-- the launch is one row, has these sizes, and is as it is asked for
+pub record IsLaunchOf (d : Declared) (asks : Asks) (bases : List ℕ) (l : Launch) : Type 0 where
   pub flat : IsFlat l
-  pub admissible : IsAdmissibleLaunch d.names is_task bases l.global.0 l.local.0
+  pub admissible : IsAdmissibleLaunch d.names asks bases l.global.0 l.local.0
   pub sizes : l.sizes ≡ sizes_at d.names bases
 
 -- the buffers hold the inputs, and the output's are as long as the value's lists
@@ -112,19 +123,19 @@ pub record IsLowerableProgram (d : Declared) (bases : List ℕ) (t : Tree)
 -- source value
 abbrev pub PrintedProgramsKeep : Type 0
 PrintedProgramsKeep =
-    (d : Declared) (is_task : Bool) (w : World) (t : Tree) (a : Annotation) (l : Launch)
+    (d : Declared) (asks : Asks) (w : World) (t : Tree) (a : Annotation) (l : Launch)
     (k : Kernel) (c : Cells)
-    → IsLowerableProgram d w.bases t a → IsAdmissible d w → IsLaunchOf d is_task w.bases l
-    → AreBuffersOf d w t a c → Prints d w.bases t a l k
+    → IsLowerableProgram d w.bases t a → IsAdmissible d w → IsLaunchOf d asks w.bases l
+    → AreBuffersOf d w t a c → Prints d asks.local w.bases t a l k
     → EveryRunKeeps k l c (cell_owner d.names w.bases l t a) (lists_of (type_in a) (meaning w [] t))
 
 -- and it may be started there
 abbrev pub PrintedProgramsStart : Type 0
 PrintedProgramsStart =
-    (d : Declared) (is_task : Bool) (w : World) (t : Tree) (a : Annotation) (l : Launch)
+    (d : Declared) (asks : Asks) (w : World) (t : Tree) (a : Annotation) (l : Launch)
     (k : Kernel) (c : Cells)
-    → IsLowerableProgram d w.bases t a → IsAdmissible d w → IsLaunchOf d is_task w.bases l
-    → AreBuffersOf d w t a c → Prints d w.bases t a l k → MayStart k l c
+    → IsLowerableProgram d w.bases t a → IsAdmissible d w → IsLaunchOf d asks w.bases l
+    → AreBuffersOf d w t a c → Prints d asks.local w.bases t a l k → MayStart k l c
 
 -- lengths are spelled with their values at the launch
 abbrev pub IsSpelling : (List Monomial → Formula) → (bases : List ℕ) → Launch → Type 0
@@ -142,11 +153,11 @@ FitsBuffers d bases a = Every (λ b. IsPlaced (length_at bases) (shape_of b)) (t
 -- what the printer makes of a typed term is printed for it, at each admissible launch
 abbrev pub ProgramsArePrinted : Type 0
 ProgramsArePrinted =
-    (d : Declared) (is_task : Bool) (bases : List ℕ) (t : Tree) (a : Annotation) (l : Launch)
+    (d : Declared) (asks : Asks) (bases : List ℕ) (t : Tree) (a : Annotation) (l : Launch)
     (spell : List Monomial → Formula)
-    → IsLowerableProgram d bases t a → IsLaunchOf d is_task bases l → IsStaged Written t a
+    → IsLowerableProgram d bases t a → IsLaunchOf d asks bases l → IsStaged Written t a
     → StandsAt l (lowered_root d.names t a) → FitsBuffers d bases a → IsSpelling spell bases l
-    → Prints d bases t a l (printed_kernel spell d t a)
+    → Prints d asks.local bases t a l (printed_kernel spell d asks.local t a)
 
 -- states that hold the same contents: the items' variables, and memory
 pub record SameContents (l : Launch) (s r : State) : Type 0 where
@@ -158,9 +169,10 @@ pub record SameContents (l : Launch) (s r : State) : Type 0 where
 -- of both
 abbrev pub PrintedProgramsGoAlike : Type 0
 PrintedProgramsGoAlike =
-    (d : Declared) (is_task : Bool) (w : World) (t : Tree) (a : Annotation) (l : Launch)
+    (d : Declared) (asks : Asks) (w : World) (t : Tree) (a : Annotation) (l : Launch)
     (k m : Kernel) (c : Cells) (s r : State)
-    → IsLowerableProgram d w.bases t a → IsAdmissible d w → IsLaunchOf d is_task w.bases l
-    → AreBuffersOf d w t a c → Prints d w.bases t a l k → Prints d w.bases t a l m
+    → IsLowerableProgram d w.bases t a → IsAdmissible d w → IsLaunchOf d asks w.bases l
+    → AreBuffersOf d w t a c
+    → Prints d asks.local w.bases t a l k → Prints d asks.local w.bases t a l m
     → IsStart k l c s → IsStart m l c r → SameContents l s r
     → GoesAlike (device_of k l c) s (device_of m l c) r

@@ -2,7 +2,8 @@
 use Rattle.std.specs.Prelude.{ℕ, ◌+◌, ◌==◌, ◌&&◌, if◌then◌else◌, Bool, true, false, List, ◌∷◌, Option, Some, None}
 use Rattle.scalar_ops.specs.declared.op.Op.{Op}
 use Rattle.scalar_ops.specs.declared.op.Op.TheVariants.{Add, Sub, Mul, Min, Max, Div, Rem}
-use Rattle.kernel_tree.specs.Formula.{Formula, Number, Variable, LoopVariable, Size, Binary}
+use Rattle.kernel_tree.specs.declared.tree.Dimension.TheVariants.{X}
+use Rattle.kernel_tree.specs.Formula.{Formula, Number, Variable, LoopVariable, Size, Id, GroupId, LocalId, Binary}
 use Rattle.kernel_tree.specs.Code.{Array}
 use Rattle.lift_ir.specs.Types.{Shape, Ty, Scalar, PairOf, ArrayOf, width, component}
 use Rattle.lift_ir.specs.Layouts.{Layout, Split, Join, Transpose, Reverse, Slide, Pad}
@@ -58,6 +59,8 @@ same_operator _ _ = false
 abbrev pub same_formula : Formula → Formula → Bool
 same_formula (Number m) (Number n) = m == n
 same_formula (LoopVariable i) (LoopVariable j) = i == j
+same_formula (Id X GroupId) (Id X GroupId) = true
+same_formula (Id X LocalId) (Id X LocalId) = true
 same_formula (Size s) (Size t) = s == t
 same_formula (Binary o a b) (Binary p c d) =
     same_operator o p && same_formula a c && same_formula b d

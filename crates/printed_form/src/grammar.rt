@@ -1,7 +1,7 @@
 //! Laws of printed kernels and the kernel grammar, each carried by a function that does nothing.
 
 ghost use Rattle.printed_form.specs.KernelGrammar.{KernelsAreOfTheGrammar};
-ghost use Rattle.printed_form.specs.GrammarPieces.{ArraysCanBeDeclared, LoopsAreOfTheGrammar, TermsArePrintedWithin, ViewsStayWithin};
+ghost use Rattle.printed_form.specs.GrammarPieces.{ArraysCanBeDeclared, MapsAreOfTheGrammar, TermsArePrintedWithin, ViewsStayWithin};
 
 /// What the printer makes of a typed term is a kernel of the kernel grammar, where the term's
 /// numbers are words, its lengths are spelled in the grammar, and layouts, elements and loops don't
@@ -11,14 +11,15 @@ pub fn kernels_are_of_the_grammar()
 {}
 
 /// What stands for a value stays within the kernel grammar: in more loops, side by side, by its
-/// parts, through a layout, at a loop's variable; and declared arrays stand within it.
+/// parts, through a layout, at what stands for a turn; and declared arrays stand within it.
 pub fn views_stay_within()
     ensures { ViewsStayWithin }
 {}
 
-/// The loop of a map over an argument within the kernel grammar is of it, where its body is.
-pub fn loops_are_of_the_grammar()
-    ensures { LoopsAreOfTheGrammar }
+/// The statements of a map are of the kernel grammar: the loads of an element that reads within it,
+/// and a loop or an `if`, where its body is.
+pub fn maps_are_of_the_grammar()
+    ensures { MapsAreOfTheGrammar }
 {}
 
 /// What is printed of an argument, or of a term in writing position, is of the kernel grammar,

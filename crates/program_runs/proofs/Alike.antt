@@ -20,9 +20,10 @@ use Rattle.kernel_tree.proofs.Scheduled.{divergence_in, failure_in}
 use Rattle.kernel_tree.proofs.Sights.{one_sight}
 use Rattle.ndrange_device.specs.Outcomes.{EndsUnder, sights}
 use Rattle.launch_file.specs.LaunchFile.{Given}
+use Rattle.strategy_script.specs.LocalSize.{local_fixed}
 use Rattle.launch_file.specs.declared.file.Ask.TheVariants.{Run}
 use Rattle.lift_tree.specs.Annotations.{Annotation, type_in}
-use Rattle.lift_tree.specs.Launches.{lists_of}
+use Rattle.lift_tree.specs.Launches.{Asks, lists_of}
 use Rattle.lift_tree.specs.Meaning.{World, meaning}
 use Rattle.lift_tree.specs.Programs.{PlainProgram}
 use Rattle.lift_tree.specs.Tree.{Tree}
@@ -31,7 +32,7 @@ use Rattle.lift_tree.specs.Typing.{Declared, IsAdmissible, OneType, Types, decla
 use Rattle.lift_tree.specs.Values.{Value}
 use Rattle.lift_tree.proofs.Annotated.{annotated_is_typed}
 use Rattle.lowered_tree.specs.Kind.{nest_kind}
-use Rattle.lowered_tree.specs.Kinds.{is_task}
+use Rattle.lowered_tree.specs.Kinds.{asks_of}
 use Rattle.lowered_tree.specs.declared.kind.NestKind.{NestKind}
 use Rattle.lowered_tree.specs.declared.kind.NestKind.TheVariants.{OverGroups, OverLaunch, Task}
 use Rattle.nest_premises.specs.Groups.{LegalTermsArePrintable}
@@ -54,16 +55,16 @@ use Rattle.program_runs.proofs.Running.{OneKernel, start_is}
 
 -- ---- one law for all kinds
 
-of_kind : PrintedProgramsGoAlike → PrintedGroupProgramsGoAlike → (kind : NestKind) (d : Declared) (alone : Bool) (w : World) (t : Tree) (n : Annotation) (l : Launch) (k m : Kernel) (c : Cells) (s r : State)
-    → IsPrintableAs kind d t n → IsAdmissible d w → IsLaunchOf d alone w.bases l → AreBuffersOf d w t n c → PrintsAs kind d w.bases t n l k → PrintsAs kind d w.bases t n l m
+of_kind : PrintedProgramsGoAlike → PrintedGroupProgramsGoAlike → (kind : NestKind) (d : Declared) (asks : Asks) (w : World) (t : Tree) (n : Annotation) (l : Launch) (k m : Kernel) (c : Cells) (s r : State)
+    → IsPrintableAs kind d t n → IsAdmissible d w → IsLaunchOf d asks w.bases l → AreBuffersOf d w t n c → PrintsAs kind d asks.local w.bases t n l k → PrintsAs kind d asks.local w.bases t n l m
     → IsStart k l c s → IsStart m l c r → SameContents l s r → GoesAlike (device_of k l c) s (device_of m l c) r
-of_kind items groups Task d alone w t n l k m c s r can ok here cells a b = items d alone w t n l k m c s r (can.lowerable w.bases ok.bases) ok here cells a b
-of_kind items groups OverLaunch d alone w t n l k m c s r can ok here cells a b = items d alone w t n l k m c s r (can.lowerable w.bases ok.bases) ok here cells a b
-of_kind items groups OverGroups d alone w t n l k m c s r can ok here cells a b = groups d alone w t n l k m c s r (can.program w.bases ok.bases) ok here cells a b
+of_kind items groups Task d asks w t n l k m c s r can ok here cells a b = items d asks w t n l k m c s r (can.lowerable w.bases ok.bases) ok here cells a b
+of_kind items groups OverLaunch d asks w t n l k m c s r can ok here cells a b = items d asks w t n l k m c s r (can.lowerable w.bases ok.bases) ok here cells a b
+of_kind items groups OverGroups d asks w t n l k m c s r can ok here cells a b = groups d asks w t n l k m c s r (can.program w.bases ok.bases) ok here cells a b
 
 pub kernels_alike : LegalTermsArePrintable → PrintedProgramsGoAlike → PrintedGroupProgramsGoAlike → PrintedKernelsGoAlike
-kernels_alike printable items groups p t n w l k m c s r legal copies ok here cells a b =
-    of_kind items groups (nest_kind t) (declared_by p) (is_task t) w t n l k m c s r (printable p t n legal copies) ok here cells a b
+kernels_alike printable items groups p local t n w l k m c s r legal copies ok here cells a b =
+    of_kind items groups (nest_kind t) (declared_by p) (asks_of local t) w t n l k m c s r (printable (declared_by p) t n legal copies) ok here cells a b
 
 -- ---- the same is seen
 
@@ -131,15 +132,15 @@ shape_of_rows [] (o ∷ os) count long = absurd (omega (arith, count))
 shape_of_rows (r ∷ rs) [] count long = absurd (omega (arith, count))
 shape_of_rows (r ∷ rs) (o ∷ os) count long = ap₂ (λ x xs. x ∷ xs) (sym (long 0)) (shape_of_rows rs os (omega (arith, count)) (λ a. long (suc a)))
 
-as_many : (kind : NestKind) (d : Declared) (bases : List ℕ) (t : Tree) (n : Annotation) (l : Launch) (k m : Kernel) → PrintsAs kind d bases t n l k → PrintsAs kind d bases t n l m
+as_many : (kind : NestKind) (d : Declared) (local : Option ℕ) (bases : List ℕ) (t : Tree) (n : Annotation) (l : Launch) (k m : Kernel) → PrintsAs kind d local bases t n l k → PrintsAs kind d local bases t n l m
     → (k.variables ≡ m.variables) × (k.vectors ≡ m.vectors)
-as_many Task d bases t n l k m a b = (a.variables ∙ sym b.variables, a.vectors ∙ sym b.vectors)
-as_many OverLaunch d bases t n l k m a b = (a.variables ∙ sym b.variables, a.vectors ∙ sym b.vectors)
-as_many OverGroups d bases t n l k m a b = (a.variables ∙ sym b.variables, a.vectors ∙ sym b.vectors)
+as_many Task d local bases t n l k m a b = (a.variables ∙ sym b.variables, a.vectors ∙ sym b.vectors)
+as_many OverLaunch d local bases t n l k m a b = (a.variables ∙ sym b.variables, a.vectors ∙ sym b.vectors)
+as_many OverGroups d local bases t n l k m a b = (a.variables ∙ sym b.variables, a.vectors ∙ sym b.vectors)
 
-module _ (one_type : OneType) (alike : PrintedKernelsGoAlike) (p : PlainProgram) (output : PlainTy) (last : TermState) (accepted : IsAccepted p last.tree last.types) (keeps : Keeps (declared_by p) [] p.body last.tree) (typed : Types (declared_by p) [] p.body output)
-    (k m : Kernel) (first : PrintsAtAll p last k) (other : PrintsAtAll p last m) (meets : MeetsSource p output last m)
-    (g : Given) (ok : IsAdmissibleFor p (is_task last.tree) g) (events releases : ℕ) (e : RunsAsGiven p output k g events releases) where
+module _ (one_type : OneType) (alike : PrintedKernelsGoAlike) (p : PlainProgram) (output : PlainTy) (local : Option ℕ) (last : TermState) (accepted : IsAccepted p last.tree last.types) (keeps : Keeps (declared_by p) [] p.body last.tree) (typed : Types (declared_by p) [] p.body output)
+    (k m : Kernel) (first : PrintsAtAll p local last k) (other : PrintsAtAll p local last m) (meets : MeetsSource p output local last m)
+    (g : Given) (ok : IsAdmissibleFor p (asks_of local last.tree) g) (events releases : ℕ) (e : RunsAsGiven p output k g events releases) where
   abbrev w : World
   w = world_given g
 
@@ -149,7 +150,7 @@ module _ (one_type : OneType) (alike : PrintedKernelsGoAlike) (p : PlainProgram)
   long : map length cells.outs ≡ map length (lists_of output (source_value p w))
   long = shape_of_rows (lists_of output (source_value p w)) cells.outs e.left.count e.left.lengths
 
-  here : IsLaunchOf (declared_by p) (is_task last.tree) g.bases g.launch
+  here : IsLaunchOf (declared_by p) (asks_of local last.tree) g.bases g.launch
   here = record { flat = ok.flat; admissible = ok.launch; sizes = ok.world.sizes }
 
   same_type : output ≡ type_in last.types
@@ -167,17 +168,17 @@ module _ (one_type : OneType) (alike : PrintedKernelsGoAlike) (p : PlainProgram)
   contents : SameContents g.launch (start_state k cells) (start_state m cells)
   contents = record {
     variables = λ j lt.
-        let many = as_many (nest_kind last.tree) (declared_by p) g.bases last.tree last.types g.launch k m (first g.bases g.launch here) (other g.bases g.launch here) in
+        let many = as_many (nest_kind last.tree) (declared_by p) local g.bases last.tree last.types g.launch k m (first g.bases g.launch here) (other g.bases g.launch here) in
         ap₂ (λ (words vectors : ℕ). record { words = replicate words 0; vectors = replicate vectors (spread 0) }) many.0 many.1;
     memory = refl;
   }
 
   go_alike : GoesAlike (device_of k g.launch cells) (start_state k cells) (device_of m g.launch cells) (start_state m cells)
   go_alike =
-      alike p last.tree last.types w g.launch k m cells (start_state k cells) (start_state m cells) accepted.legal accepted.copies ok.world here buffers
+      alike p local last.tree last.types w g.launch k m cells (start_state k cells) (start_state m cells) accepted.legal accepted.copies ok.world here buffers
       (first g.bases g.launch here) (other g.bases g.launch here) (start_is k g.launch cells) (start_is m g.launch cells) contents
 
-  admits : Admits p output (is_task last.tree) w g.launch cells
+  admits : Admits p output (asks_of local last.tree) w g.launch cells
   admits = record { world = ok.world; flat = ok.flat; launch = ok.launch; sizes = refl; inputs = refl; outputs = long }
 
   abbrev runs_alike : RunsAsGiven p output m g events releases
@@ -189,20 +190,21 @@ module _ (one_type : OneType) (alike : PrintedKernelsGoAlike) (p : PlainProgram)
   traced_as traced = traced_alike g.schedule k m g.launch cells (lists_of output (source_value p w)) events releases go_alike e traced
 
 module _ (one : OneKernel) (one_type : OneType) (ends : CompilationEndsOnce) (alike : PrintedKernelsGoAlike) (program script launch : List ℕ) (traced : Bool) (lines : List ℕ) (ran : AreRunLines program script launch traced lines) where
-  for_program : (output : PlainTy) (task : Bool) (text : List ℕ) → IsCompiled program script ran.source output task text → AreLinesOfText ran.source ran.output text ran.given traced lines
-  for_program output task text other =
+  for_program : (output : PlainTy) (asks : Asks) (text : List ℕ) → IsCompiled program script ran.source output asks text → AreLinesOfText ran.source ran.output text ran.given traced lines
+  for_program output asks text other =
       let c = ran.compiled in
+      let local = local_fixed script in
       let lines_are = ran.run in
       let runs = lines_are.run in
       let one_end = ends ran.source script (Ok other.last) (Ok c.last) other.legal c.legal in
       let same_last : other.last ≡ c.last = cc (one_end) in
       let same_output : output ≡ ran.output = one_type (declared_by ran.source) [] ran.source.body output ran.output other.typed.typed c.typed.typed in
       let same_kernel : c.kernel ≡ runs.kernel = one lift ran.text c.kernel runs.kernel c.written runs.read in
-      let first = subst (PrintsAtAll ran.source c.last) same_kernel c.prints in
-      let second = subst (λ (x : TermState). PrintsAtAll ran.source x other.kernel) same_last other.prints in
-      let meets = subst (λ (a : PlainTy). MeetsSource ran.source a c.last other.kernel) same_output (subst (λ (x : TermState). MeetsSource ran.source output x other.kernel) same_last other.meets) in
-      let ok = subst (λ (b : Bool). IsAdmissibleFor ran.source b ran.given) (sym c.alone) (given_is_admissible ran.source (Run ran.task) launch ran.given ran.launch_file) in
-      let e = runs_alike one_type alike ran.source ran.output c.last c.accepted c.keeps c.typed.typed runs.kernel other.kernel first second meets ran.given ok lines_are.events lines_are.releases runs.run in
+      let first = subst (PrintsAtAll ran.source local c.last) same_kernel c.prints in
+      let second = subst (λ (x : TermState). PrintsAtAll ran.source local x other.kernel) same_last other.prints in
+      let meets = subst (λ (a : PlainTy). MeetsSource ran.source a local c.last other.kernel) same_output (subst (λ (x : TermState). MeetsSource ran.source output local x other.kernel) same_last other.meets) in
+      let ok = subst (λ (a : Asks). IsAdmissibleFor ran.source a ran.given) (sym c.asked) (given_is_admissible ran.source (Run ran.task ran.local) launch ran.given ran.launch_file) in
+      let e = runs_alike one_type alike ran.source ran.output local c.last c.accepted c.keeps c.typed.typed runs.kernel other.kernel first second meets ran.given ok lines_are.events lines_are.releases runs.run in
       record {
         events = lines_are.events;
         releases = lines_are.releases;
@@ -211,20 +213,21 @@ module _ (one : OneKernel) (one_type : OneType) (ends : CompilationEndsOnce) (al
           kernel = other.kernel;
           read = other.written;
           run = e;
-          seen_of_it = runs.seen_of_it ∙ traced_as one_type alike ran.source ran.output c.last c.accepted c.keeps c.typed.typed runs.kernel other.kernel first second meets ran.given ok lines_are.events lines_are.releases runs.run traced;
+          seen_of_it = runs.seen_of_it ∙ traced_as one_type alike ran.source ran.output local c.last c.accepted c.keeps c.typed.typed runs.kernel other.kernel first second meets ran.given ok lines_are.events lines_are.releases runs.run traced;
         };
         written = lines_are.written;
       }
 
-  pub lines_alike : (source : PlainProgram) (output : PlainTy) (task : Bool) (text : List ℕ) → IsCompiled program script source output task text → AreLinesOf program launch traced text lines
-  lines_alike source output task text other =
+  pub lines_alike : (source : PlainProgram) (output : PlainTy) (asks : Asks) (text : List ℕ) → IsCompiled program script source output asks text → AreLinesOf program launch traced text lines
+  lines_alike source output asks text other =
       let same : source ≡ ran.source = ran.compiled.read.only source other.read.is in
       record {
         source = ran.source;
         output = ran.output;
         task = ran.task;
+        local = ran.local;
         read = ran.compiled.read;
         given = ran.given;
         launch_file = ran.launch_file;
-        run = for_program output task text (subst (λ (q : PlainProgram). IsCompiled program script q output task text) same other);
+        run = for_program output asks text (subst (λ (q : PlainProgram). IsCompiled program script q output asks text) same other);
       }

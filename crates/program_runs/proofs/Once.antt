@@ -1,5 +1,5 @@
 -- Runs and evaluations come to one end.
-use Rattle.std.proofs.Common.{◌≡◌, ◌∙◌, ℕ, List, ap, sym, subst, refl, inl, inr, None, Result, Ok, Err}
+use Rattle.std.proofs.Common.{◌≡◌, ◌∙◌, ℕ, List, ap, sym, subst, refl, arith, inl, inr, None, Result, Ok, Err}
 use Rattle.std.proofs.lemmas.Option.{none-some, same_Some}
 use Rattle.lift_reader.specs.ProgramText.{IsProgramText, first_limit}
 use Rattle.lift_reader.specs.declared.refusal.ReadRefusal.TheVariants as readings
@@ -10,9 +10,17 @@ use Rattle.launch_file.specs.Judged as launches
 use Rattle.launch_file.specs.Laws.{FilesAreNotRefused, FilesGiveOneThing}
 use Rattle.launch_file.specs.declared.file.Ask.{Ask}
 use Rattle.launch_file.specs.declared.file.Ask.TheVariants as asks
-use Rattle.fault_lines.specs.Failure as failures
-use Rattle.fault_lines.specs.Failure.{Failure}
+use Rattle.launch_file.specs.declared.refusal.LaunchNo.{LaunchNo}
+use Rattle.launch_file.specs.declared.refusal.LaunchNo.TheVariants as no
+use Rattle.pattern_types.specs.declared.refusal.TypeRefusal.TheVariants as typings
+use Rattle.strategy_script.specs.declared.faults.StepNo.TheVariants as stops
+use Rattle.strategy_script.specs.declared.script.ScriptNo.TheVariants as scripts
+use Rattle.thread_mapping.specs.declared.judging.NestNo.TheVariants as nests
+use Rattle.buffer_allocation.specs.declared.buffers.AllocNo.TheVariants as allocations
+use Rattle.fault_lines.specs.Failure.{Failure, HidesNoMemory, launch_failed, source_failed}
+use Rattle.fault_lines.specs.declared.refusal.Refusal.{Refusal}
 use Rattle.fault_lines.specs.declared.refusal.Refusal.TheVariants as told
+use Rattle.strategy_script.specs.LocalSize.{local_fixed}
 use Rattle.stages.specs.Stages.{As, IsOne}
 use Rattle.stages.proofs.One.{as_one, err_same, then_one}
 use Rattle.program_source.specs.Ends.{Accepts, HasOneEnd, OnSource}
@@ -41,13 +49,62 @@ launch_one well one p ask launch proper (Err e) (Err f) (inr a) (inr b) =
 
 run_one : CompilationEndsOnce → LaunchLaws → (text : List ℕ) (p : PlainProgram) (script launch : List ℕ) → IsRead text p → IsOne (RunOf p script launch)
 run_one compiled laws text p script launch read =
-    then_one _ _ (as_one failures.Source (LegalOf p script) (compiled p script)) (λ last is.
-    as_one (failures.Launch p) (LaunchOf p (asks.Run (is_task last.tree)) launch) (launch_one laws.refused laws.one p (asks.Run (is_task last.tree)) launch (laws.proper text p is.1.0 read is.1.1)))
+    then_one _ _ (as_one source_failed (LegalOf p script) (compiled p script)) (λ last is.
+    as_one (launch_failed p) (LaunchOf p (asks.Run (is_task last.tree) (local_fixed script)) launch) (launch_one laws.refused laws.one p (asks.Run (is_task last.tree) (local_fixed script)) launch (laws.proper text p is.1.0 read is.1.1)))
 
 eval_one : SourcesEndOnce → LaunchLaws → (text : List ℕ) (p : PlainProgram) (launch : List ℕ) → IsRead text p → IsOne (EvalOf p launch)
 eval_one sources laws text p launch read =
-    then_one _ _ (as_one failures.Source (TypesOf p) (sources.types p)) (λ types is.
-    as_one (failures.Launch p) (LaunchOf p asks.Eval launch) (launch_one laws.refused laws.one p asks.Eval launch (laws.proper text p types read is)))
+    then_one _ _ (as_one source_failed (TypesOf p) (sources.types p)) (λ types is.
+    as_one (launch_failed p) (LaunchOf p asks.Eval launch) (launch_one laws.refused laws.one p asks.Eval launch (laws.proper text p types read is)))
+
+-- ---- a cause hides no want of memory
+
+refusal_whole : (why : Refusal) → HidesNoMemory (source_failed why)
+refusal_whole (told.Program (readings.Syntax token offset)) = λ e. absurd (omega (arith, e))
+refusal_whole (told.Program (readings.Limit which count)) = λ e. absurd (omega (arith, e))
+refusal_whole (told.Program readings.Memory) = λ e. refl
+refusal_whole (told.Typing (typings.IllTyped spot rule)) = λ e. absurd (omega (arith, e))
+refusal_whole (told.Typing (typings.Limit which spot count)) = λ e. absurd (omega (arith, e))
+refusal_whole (told.Typing typings.Memory) = λ e. refl
+refusal_whole (told.Script (scripts.Syntax line)) = λ e. absurd (omega (arith, e))
+refusal_whole (told.Script (scripts.Limit which count)) = λ e. absurd (omega (arith, e))
+refusal_whole (told.Script scripts.Memory) = λ e. refl
+refusal_whole (told.Step (stops.Inapplicable step why)) = λ e. absurd (omega (arith, e))
+refusal_whole (told.Step (stops.Limit which step count)) = λ e. absurd (omega (arith, e))
+refusal_whole (told.Step stops.Memory) = λ e. refl
+refusal_whole (told.Nest (nests.Nest place rule)) = λ e. absurd (omega (arith, e))
+refusal_whole (told.Nest nests.Memory) = λ e. refl
+refusal_whole (told.Alloc (allocations.Limit which count)) = λ e. absurd (omega (arith, e))
+refusal_whole (told.Alloc allocations.Memory) = λ e. refl
+refusal_whole told.Memory = λ e. refl
+
+launch_whole : (p : PlainProgram) (why : LaunchNo) → HidesNoMemory (launch_failed p why)
+launch_whole p no.NotJson = λ e. absurd (omega (arith, e))
+launch_whole p (no.Missing key) = λ e. absurd (omega (arith, e))
+launch_whole p (no.Size size given) = λ e. absurd (omega (arith, e))
+launch_whole p (no.Local global local) = λ e. absurd (omega (arith, e))
+launch_whole p (no.NotTask global) = λ e. absurd (omega (arith, e))
+launch_whole p (no.Shape input) = λ e. absurd (omega (arith, e))
+launch_whole p no.Memory = λ e. refl
+
+-- so does one that is told as such a refusal
+told_whole : (f : Failure) (why : Refusal) → f ≡ source_failed why → HidesNoMemory f
+told_whole f why is = subst HidesNoMemory (sym is) (refusal_whole why)
+
+source_whole : {A : Type 0} (R : PlainProgram → Result A Refusal → Type 0) (p : PlainProgram) (f : Failure) → As source_failed (R p) (Err f) → HidesNoMemory f
+source_whole R p f (why, h, is) = told_whole f why is
+
+run_whole : (script launch : List ℕ) (p : PlainProgram) (f : Failure) → RunOf p script launch (Err f) → HidesNoMemory f
+run_whole script launch p f (inl (why, h, is)) = told_whole f why is
+run_whole script launch p f (inr (last, legal, (why, h, is))) = subst HidesNoMemory (sym is) (launch_whole p why)
+
+eval_whole : (launch : List ℕ) (p : PlainProgram) (f : Failure) → EvalOf p launch (Err f) → HidesNoMemory f
+eval_whole launch p f (inl (why, h, is)) = told_whole f why is
+eval_whole launch p f (inr (types, typed, (why, h, is))) = subst HidesNoMemory (sym is) (launch_whole p why)
+
+all_whole : {A : Type 0} (text : List ℕ) (S : PlainProgram → Result A Failure → Type 0) → ((p : PlainProgram) (f : Failure) → S p (Err f) → HidesNoMemory f) → (f : Failure) → OnSource text S (Err f) → HidesNoMemory f
+all_whole text S each f (inl (why, h, is)) = told_whole f (told.Program why) is
+all_whole text S each f (inr (p, read, h)) = each p f h
 
 -- ---- whole texts
 
@@ -67,19 +124,20 @@ no_cause text S one f (p, is, within, (a, h)) refused =
     let two : Ok a ≡ Err f = one (Ok a) (Err f) (p, read, h) refused in
     cc (two)
 
-one_end : {A : Type 0} → SourcesEndOnce → (text : List ℕ) (S : PlainProgram → Result A Failure → Type 0) → ((p : PlainProgram) → IsRead text p → IsOne (S p)) → HasOneEnd text S
-one_end sources text S each =
-    let one : IsOne (OnSource text S) = then_one _ S (as_one (λ why. failures.Source (told.Program why)) (ReadsProgram text) (sources.read text)) each in
-    record { cause = one_cause text S one; none = no_cause text S one }
+one_end : {A : Type 0} → SourcesEndOnce → (text : List ℕ) (S : PlainProgram → Result A Failure → Type 0) → ((p : PlainProgram) → IsRead text p → IsOne (S p))
+    → ((p : PlainProgram) (f : Failure) → S p (Err f) → HidesNoMemory f) → HasOneEnd text S
+one_end sources text S each whole =
+    let one : IsOne (OnSource text S) = then_one _ S (as_one (λ why. source_failed (told.Program why)) (ReadsProgram text) (sources.read text)) each in
+    record { cause = one_cause text S one; none = no_cause text S one; whole = all_whole text S whole }
 
-pub terms_end : SourcesEndOnce → (program script : List ℕ) → HasOneEnd program (λ p. As failures.Source (TermsOf p script))
-terms_end sources program script = one_end sources program (λ p. As failures.Source (TermsOf p script)) (λ p read. as_one failures.Source (TermsOf p script) (sources.terms p script))
+pub terms_end : SourcesEndOnce → (program script : List ℕ) → HasOneEnd program (λ p. As source_failed (TermsOf p script))
+terms_end sources program script = one_end sources program (λ p. As source_failed (TermsOf p script)) (λ p read. as_one source_failed (TermsOf p script) (sources.terms p script)) (source_whole (λ p. TermsOf p script))
 
-pub kernel_end : SourcesEndOnce → CompilationEndsOnce → (program script : List ℕ) → HasOneEnd program (λ p. As failures.Source (LegalOf p script))
-kernel_end sources compiled program script = one_end sources program (λ p. As failures.Source (LegalOf p script)) (λ p read. as_one failures.Source (LegalOf p script) (compiled p script))
+pub kernel_end : SourcesEndOnce → CompilationEndsOnce → (program script : List ℕ) → HasOneEnd program (λ p. As source_failed (LegalOf p script))
+kernel_end sources compiled program script = one_end sources program (λ p. As source_failed (LegalOf p script)) (λ p read. as_one source_failed (LegalOf p script) (compiled p script)) (source_whole (λ p. LegalOf p script))
 
 pub run_end : SourcesEndOnce → CompilationEndsOnce → LaunchLaws → (program script launch : List ℕ) → HasOneEnd program (λ p. RunOf p script launch)
-run_end sources compiled laws program script launch = one_end sources program (λ p. RunOf p script launch) (λ p read. run_one compiled laws program p script launch read)
+run_end sources compiled laws program script launch = one_end sources program (λ p. RunOf p script launch) (λ p read. run_one compiled laws program p script launch read) (run_whole script launch)
 
 pub eval_end : SourcesEndOnce → LaunchLaws → (program launch : List ℕ) → HasOneEnd program (λ p. EvalOf p launch)
-eval_end sources laws program launch = one_end sources program (λ p. EvalOf p launch) (λ p read. eval_one sources laws program p launch read)
+eval_end sources laws program launch = one_end sources program (λ p. EvalOf p launch) (λ p read. eval_one sources laws program p launch read) (eval_whole launch)

@@ -18,7 +18,7 @@ use Rattle.kernel_tree.specs.declared.events.Cell as shown
 use Rattle.ndrange_device.specs.Outcomes.{EndsUnder, FaultsUnder, SeesRun, sights}
 use Rattle.launch_file.specs.LaunchFile.{Given}
 use Rattle.launch_file.specs.ResultLine.{result_line}
-use Rattle.lift_tree.specs.Launches.{lists_of}
+use Rattle.lift_tree.specs.Launches.{Asks, lists_of}
 use Rattle.lift_tree.specs.Programs.{PlainProgram}
 use Rattle.lift_tree.specs.Types.{PlainTy, HasType}
 use Rattle.lift_tree.specs.Typing.{ValuesHaveTypes, declared_by}
@@ -56,7 +56,7 @@ start_is k l c = record {
 run_as_given : (schedule : Schedule) (k : Kernel) (l m : Launch) (c d : Cells) (rows : List (List ℕ)) (events releases : ℕ) → l ≡ m → c ≡ d → EndsUnder schedule k l c rows events releases → EndsUnder schedule k m d rows events releases
 run_as_given schedule k l m c d rows events releases launch cells e = subst (λ x. EndsUnder schedule k m x rows events releases) cells (subst (λ x. EndsUnder schedule k x c rows events releases) launch e)
 
-module _ (p : PlainProgram) (output : PlainTy) (task : Bool) (text : List ℕ) (g : Given) (types : ValuesHaveTypes) (ok : IsAdmissibleFor p task g) (is : IsTextFor p output task text) where
+module _ (p : PlainProgram) (output : PlainTy) (asks : Asks) (text : List ℕ) (g : Given) (types : ValuesHaveTypes) (ok : IsAdmissibleFor p asks g) (is : IsTextFor p output asks text) where
   value_typed : HasType g.bases output (source_value p (world_given g))
   value_typed = types (declared_by p) (world_given g) [] [] p.body output is.typed.declared ok.world tt (λ n a e. absurd (cc (e))) is.typed.typed
 
@@ -73,7 +73,7 @@ module _ (p : PlainProgram) (output : PlainTy) (task : Bool) (text : List ℕ) (
     long : map length (begun p output (world_given g)).outs ≡ map length (lists_of output (source_value p (world_given g)))
     long = blank_lengths (list_lengths g.bases output) ∙ sym (lengths g.bases output (source_value p (world_given g)) is.laid_out.elements value_typed)
 
-    admits : Admits p output task (world_given g) g.launch (begun p output (world_given g))
+    admits : Admits p output asks (world_given g) g.launch (begun p output (world_given g))
     admits = record { world = ok.world; flat = ok.flat; launch = ok.launch; sizes = refl; inputs = refl; outputs = long }
 
     module _ (one : OneKernel) (k : Kernel) (read : IsKernelText lift text k) where

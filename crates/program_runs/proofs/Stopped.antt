@@ -5,7 +5,7 @@ use Rattle.launch_file.specs.Judged as launches
 use Rattle.launch_file.specs.declared.file.Ask.{Ask}
 use Rattle.launch_file.specs.declared.refusal.LaunchNo.{LaunchNo}
 use Rattle.launch_file.specs.declared.refusal.LaunchNo.TheVariants as no
-use Rattle.fault_lines.specs.Failure as failures
+use Rattle.fault_lines.specs.Failure.{launch_failed, source_failed}
 use Rattle.fault_lines.specs.declared.refusal.Refusal.{Refusal}
 use Rattle.program_source.specs.Ends.{FailsFor, OnSource}
 use Rattle.program_source.specs.Program.{IsRead}
@@ -14,7 +14,7 @@ use Rattle.program_runs.specs.Started.{LaunchOf}
 
 pub launch_fails : {A : Type 0} (text : List ℕ) (p : PlainProgram) (ask : A → Ask) (launch : List ℕ) (S : PlainProgram → Result A Refusal → Type 0) (a : A) (why : LaunchNo)
     → IsRead text p → S p (Ok a) → (why ≢ no.Memory → launches.Refuses p (ask a) launch why)
-    → FailsFor (OnSource text (λ q. Then (As failures.Source (S q)) (λ b. As (failures.Launch q) (LaunchOf q (ask b) launch)))) (failures.Launch p why)
+    → FailsFor (OnSource text (λ q. Then (As source_failed (S q)) (λ b. As (launch_failed q) (LaunchOf q (ask b) launch)))) (launch_failed p why)
 launch_fails text p ask launch S a no.Memory read is h = inl refl
 launch_fails text p ask launch S a no.NotJson read is h = inr (inr (p, read, inr (a, is, (no.NotJson, h (λ e. cc (e)), refl))))
 launch_fails text p ask launch S a (no.Missing key) read is h = inr (inr (p, read, inr (a, is, (no.Missing key, h (λ e. cc (e)), refl))))

@@ -1,5 +1,5 @@
 -- Kernels that are printed for one term, and texts of one program's kernels, run alike.
-use Rattle.std.specs.Prelude.{ℕ, List, Bool}
+use Rattle.std.specs.Prelude.{ℕ, List, Option, Bool}
 use Rattle.kernel_tree.specs.Alike.{GoesAlike}
 use Rattle.kernel_tree.specs.Code.{Kernel}
 use Rattle.kernel_tree.specs.Device.{IsStart, State, device_of}
@@ -7,6 +7,7 @@ use Rattle.kernel_tree.specs.Launch.{Cells, Launch}
 use Rattle.launch_file.specs.LaunchFile.{Given, IsLaunchFile}
 use Rattle.launch_file.specs.declared.file.Ask.TheVariants.{Run}
 use Rattle.lift_tree.specs.Annotations.{Annotation}
+use Rattle.lift_tree.specs.Launches.{Asks}
 use Rattle.lift_tree.specs.Meaning.{World}
 use Rattle.lift_tree.specs.Programs.{PlainProgram}
 use Rattle.lift_tree.specs.Tree.{Tree}
@@ -14,7 +15,7 @@ use Rattle.lift_tree.specs.Types.{PlainTy}
 use Rattle.lift_tree.specs.Typing.{IsAdmissible, declared_by}
 use Rattle.lowered_tree.specs.Copies.{CopiesArrays}
 use Rattle.lowered_tree.specs.Kind.{nest_kind}
-use Rattle.lowered_tree.specs.Kinds.{is_task}
+use Rattle.lowered_tree.specs.Kinds.{asks_of}
 use Rattle.nest_premises.specs.Legal.{IsLegalTerm}
 use Rattle.printed_form.specs.Programs.{AreBuffersOf, IsLaunchOf, SameContents}
 use Rattle.program_source.specs.Program.{IsRead}
@@ -22,17 +23,17 @@ use Rattle.compilation.specs.Compiled.{IsCompiled, PrintsAs}
 use Rattle.program_runs.specs.Runs.{AreLinesOfText}
 use Rattle.program_runs.specs.Started.{AreRunLines}
 
--- any two kernels that are printed for one legal term, as its kind says, go alike at one launch and
+-- any two kernels that are printed for one legal term, as its kind says, with one local size or none, go alike at one launch and
 -- from the same contents: the same events can come, with the same accesses, and each schedule makes
 -- the same run of both
 abbrev pub PrintedKernelsGoAlike : Type 0
 PrintedKernelsGoAlike =
-    (p : PlainProgram) (t : Tree) (n : Annotation) (w : World) (l : Launch) (k m : Kernel)
-    (c : Cells) (s r : State)
-    → IsLegalTerm p t n → CopiesArrays t n → IsAdmissible (declared_by p) w
-    → IsLaunchOf (declared_by p) (is_task t) w.bases l → AreBuffersOf (declared_by p) w t n c
-    → PrintsAs (nest_kind t) (declared_by p) w.bases t n l k
-    → PrintsAs (nest_kind t) (declared_by p) w.bases t n l m
+    (p : PlainProgram) (local : Option ℕ) (t : Tree) (n : Annotation) (w : World) (l : Launch)
+    (k m : Kernel) (c : Cells) (s r : State)
+    → IsLegalTerm (declared_by p) t n → CopiesArrays t n → IsAdmissible (declared_by p) w
+    → IsLaunchOf (declared_by p) (asks_of local t) w.bases l → AreBuffersOf (declared_by p) w t n c
+    → PrintsAs (nest_kind t) (declared_by p) local w.bases t n l k
+    → PrintsAs (nest_kind t) (declared_by p) local w.bases t n l m
     → IsStart k l c s → IsStart m l c r → SameContents l s r
     → GoesAlike (device_of k l c) s (device_of m l c) r
 
@@ -41,9 +42,10 @@ pub record AreLinesOf (program launch : List ℕ) (traced : Bool) (text lines : 
   pub source : PlainProgram
   pub output : PlainTy
   pub task : Bool
+  pub local : Option ℕ
   pub read : IsRead program source
   pub given : Given
-  pub launch_file : IsLaunchFile source (Run task) launch given
+  pub launch_file : IsLaunchFile source (Run task local) launch given
   pub run : AreLinesOfText source output text given traced lines
 
 -- the lines of a run are those of every text of the program's kernel, whatever stands in its
@@ -52,6 +54,6 @@ abbrev pub TextsRunAlike : Type 0
 TextsRunAlike =
     (program script launch : List ℕ) (traced : Bool) (lines : List ℕ)
     → AreRunLines program script launch traced lines
-    → (source : PlainProgram) (output : PlainTy) (task : Bool) (text : List ℕ)
-    → IsCompiled program script source output task text
+    → (source : PlainProgram) (output : PlainTy) (asks : Asks) (text : List ℕ)
+    → IsCompiled program script source output asks text
     → AreLinesOf program launch traced text lines

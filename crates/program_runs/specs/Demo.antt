@@ -1,8 +1,8 @@
 -- The demo's line.
-use Rattle.std.specs.Prelude.{◌≡◌, ℕ, List, Bool}
+use Rattle.std.specs.Prelude.{◌≡◌, ℕ, List}
 use Rattle.kernel_tree.specs.Code.{Kernel}
 use Rattle.kernel_tree.specs.KernelText.{IsKernelText, lift}
-use Rattle.lift_tree.specs.Launches.{lists_of}
+use Rattle.lift_tree.specs.Launches.{Asks, lists_of}
 use Rattle.lift_tree.specs.Programs.{PlainProgram}
 use Rattle.lift_tree.specs.Types.{PlainTy}
 use Rattle.demo_program.specs.Data.{demo_given}
@@ -26,7 +26,7 @@ pub record IsLineOfDemo (p : PlainProgram) (output : PlainTy) (text : List ℕ) 
 pub record IsDemoLine (seed : ℕ) (line : List ℕ) : Type 0 where
   pub source : PlainProgram
   pub output : PlainTy
-  pub task : Bool
+  pub asks : Asks
   pub text : List ℕ
-  pub compiled : IsCompiled program_text script_text source output task text
+  pub compiled : IsCompiled program_text script_text source output asks text
   pub run : IsLineOfDemo source output text seed line

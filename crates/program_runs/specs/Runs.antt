@@ -7,7 +7,7 @@ use Rattle.kernel_tree.specs.KernelText.{IsKernelText, lift}
 use Rattle.kernel_tree.specs.Device.{device_of, start_state}
 use Rattle.kernel_tree.specs.Launch.{Cells, IsFlat, Launch}
 use Rattle.ndrange_device.specs.Outcomes.{EndsUnder, sights}
-use Rattle.lift_tree.specs.Launches.{IsAdmissibleLaunch, buffers_of, lists_of}
+use Rattle.lift_tree.specs.Launches.{Asks, IsAdmissibleLaunch, buffers_of, lists_of}
 use Rattle.lift_tree.specs.Meaning.{World}
 use Rattle.lift_tree.specs.Programs.{PlainProgram}
 use Rattle.lift_tree.specs.Types.{PlainTy}
@@ -31,10 +31,10 @@ begun p output w = record {
 }
 
 -- the sizes, the inputs and the launch that are given are admissible for the program; the launch is one row
-pub record IsAdmissibleFor (p : PlainProgram) (is_task : Bool) (g : Given) : Type 0 where
+pub record IsAdmissibleFor (p : PlainProgram) (asks : Asks) (g : Given) : Type 0 where
   pub world : IsAdmissible (declared_by p) (world_given g)
   pub flat : IsFlat g.launch
-  pub launch : IsAdmissibleLaunch (declared_by p).names is_task g.bases g.launch.global.0 g.launch.local.0
+  pub launch : IsAdmissibleLaunch (declared_by p).names asks g.bases g.launch.global.0 g.launch.local.0
 
 -- the kernel's run under the schedule, at the launch and on the inputs that are given leaves the source's value, and has so many events, so many of them releases
 abbrev pub RunsAsGiven : PlainProgram → (output : PlainTy) → Kernel → Given → (events releases : ℕ) → Type 0

@@ -1,5 +1,5 @@
 -- What a run and an evaluation are started from.
-use Rattle.std.specs.Prelude.{◌≡◌, ℕ, List, None, Bool, Result, Ok, Err}
+use Rattle.std.specs.Prelude.{◌≡◌, ℕ, List, Option, None, Bool, Result, Ok, Err}
 use Rattle.lift_tree.specs.Programs.{PlainProgram}
 use Rattle.lift_tree.specs.Types.{PlainTy}
 use Rattle.lowered_tree.specs.Kinds.{is_task}
@@ -9,14 +9,15 @@ use Rattle.launch_file.specs.ResultLine.{result_line}
 use Rattle.launch_file.specs.declared.file.Ask.{Ask}
 use Rattle.launch_file.specs.declared.file.Ask.TheVariants.{Eval, Run}
 use Rattle.launch_file.specs.declared.refusal.LaunchNo.{LaunchNo}
-use Rattle.fault_lines.specs.Failure as failures
-use Rattle.fault_lines.specs.Failure.{Failure}
+use Rattle.fault_lines.specs.Failure.{Failure, launch_failed, source_failed}
 use Rattle.program_source.specs.Ends.{HasOneEnd}
 use Rattle.program_source.specs.Program.{IsRead, TypesOf, source_value}
 use Rattle.stages.specs.Stages.{As, Then}
+use Rattle.strategy_script.specs.LocalSize.{local_fixed}
 use Rattle.program_source.specs.Terms.{TermsOf}
 use Rattle.compilation.specs.Compiled.{IsCompiled}
 use Rattle.compilation.specs.Legal.{LegalOf}
+use Rattle.compilation.specs.Meets.{asks_with}
 use Rattle.program_runs.specs.Runs.{AreLinesOfText, world_given}
 
 -- what a launch file gives a program, or the first check that it fails
@@ -24,18 +25,18 @@ abbrev pub LaunchOf : PlainProgram → Ask → (launch : List ℕ) → Result Gi
 LaunchOf p ask launch (Ok given) = IsLaunchFile p ask launch given
 LaunchOf p ask launch (Err why) = Refuses p ask launch why
 
--- what a run is given, or the first stage that stops: all of compilation, then the launch file, for a task where the last term has no parallel map
+-- what a run is given, or the first stage that stops: all of compilation, then the launch file, for a task where the last term has no parallel map, and for the local size that the script fixes
 abbrev pub RunOf : PlainProgram → (script launch : List ℕ) → Result Given Failure → Type 0
-RunOf p script launch = Then (As failures.Source (LegalOf p script)) (λ last. As (failures.Launch p) (LaunchOf p (Run (is_task last.tree)) launch))
+RunOf p script launch = Then (As source_failed (LegalOf p script)) (λ last. As (launch_failed p) (LaunchOf p (Run (is_task last.tree) (local_fixed script)) launch))
 
 -- what an evaluation is given, or the first stage that stops: the types, then the launch file
 abbrev pub EvalOf : PlainProgram → (launch : List ℕ) → Result Given Failure → Type 0
-EvalOf p launch = Then (As failures.Source (TypesOf p)) (λ _. As (failures.Launch p) (LaunchOf p Eval launch))
+EvalOf p launch = Then (As source_failed (TypesOf p)) (λ _. As (launch_failed p) (LaunchOf p Eval launch))
 
 -- the stages of each kind of call come to one end
 pub record StagesEndOnce : Type 0 where
-  pub kernel : (program script : List ℕ) → HasOneEnd program (λ p. As failures.Source (LegalOf p script))
-  pub steps : (program script : List ℕ) → HasOneEnd program (λ p. As failures.Source (TermsOf p script))
+  pub kernel : (program script : List ℕ) → HasOneEnd program (λ p. As source_failed (LegalOf p script))
+  pub steps : (program script : List ℕ) → HasOneEnd program (λ p. As source_failed (TermsOf p script))
   pub run : (program script launch : List ℕ) → HasOneEnd program (λ p. RunOf p script launch)
   pub value : (program launch : List ℕ) → HasOneEnd program (λ p. EvalOf p launch)
 
@@ -44,10 +45,11 @@ pub record AreRunLines (program script launch : List ℕ) (traced : Bool) (lines
   pub source : PlainProgram
   pub output : PlainTy
   pub task : Bool
+  pub local : Option ℕ
   pub text : List ℕ
-  pub compiled : IsCompiled program script source output task text
+  pub compiled : IsCompiled program script source output (asks_with task local) text
   pub given : Given
-  pub launch_file : IsLaunchFile source (Run task) launch given
+  pub launch_file : IsLaunchFile source (Run task local) launch given
   pub run : AreLinesOfText source output text given traced lines
 
 -- The line is that of the value of the source expression, at the launch file's sizes and inputs.

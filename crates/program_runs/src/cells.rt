@@ -7,6 +7,7 @@ ghost use Rattle.lift_tree.specs.Types.{ty_of};
 ghost use Rattle.lift_tree.specs.Values.{value_of};
 ghost use Rattle.lift_tree.specs.WorkedOut.{worked_out};
 ghost use Rattle.launch_file.specs.LaunchFile.{given_by};
+ghost use Rattle.compilation.specs.Meets.{asks_with};
 ghost use Rattle.program_runs.specs.Runs.{IsAdmissibleFor, begun, world_given};
 
 use compilation::Compiled;
@@ -44,8 +45,8 @@ fn add_inputs(
 /// The inputs of a launch file in their buffers, the outputs' as long as their type says, and 0 in
 /// all other memory.
 pub fn begun(alloc: Global, compiled: &Compiled, file: &LaunchFile) -> Result<Cells, AllocError>
-    requires { IsAdmissibleFor (program_of compiled.now.program) compiled.now.is_task
-        (given_by file.now) }
+    requires { IsAdmissibleFor (program_of compiled.now.program)
+        (asks_with compiled.now.is_task compiled.now.local) (given_by file.now) }
     ensures { IfOk result (λ cells. cells ≡ begun (program_of compiled.now.program)
         (ty_of compiled.now.output) (world_given (given_by file.now))) }
 {

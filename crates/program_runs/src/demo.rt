@@ -3,9 +3,10 @@ ghost use Rattle.std.specs.Prelude.{◌≡◌, IfErr, IfOk};
 ghost use Rattle.lift_tree.specs.Programs.{program_of};
 ghost use Rattle.lift_tree.specs.Types.{ty_of};
 ghost use Rattle.demo_program.specs.Data.{demo_given};
-ghost use Rattle.fault_lines.specs.Failure.{status_of};
+ghost use Rattle.fault_lines.specs.Failure as failures;
 ghost use Rattle.fault_lines.specs.Shown.{failure_of};
 ghost use Rattle.program_runs.specs.Demo.{IsDemoLine, IsLineOfDemo};
+ghost use Rattle.compilation.specs.Meets.{asks_with};
 ghost use Rattle.program_runs.specs.Runs.{IsAdmissibleFor};
 
 use crate::laws::one_end;
@@ -24,8 +25,8 @@ use std::alloc::{AllocError, Global};
 // The line of the run of what is read back from the text, on the data of the seed. The run isn't
 // traced: behind its events' lines, of which there are none, stands the demo's.
 fn seeded_line(alloc: Global, compiled: &Compiled, seed: u32) -> Result<Vec<u8>, AllocError>
-    requires { IsAdmissibleFor (program_of compiled.now.program) compiled.now.is_task
-        (demo_given seed) }
+    requires { IsAdmissibleFor (program_of compiled.now.program)
+        (asks_with compiled.now.is_task compiled.now.local) (demo_given seed) }
     ensures { IfOk result (λ line. IsLineOfDemo (program_of compiled.now.program)
         (ty_of compiled.now.output) compiled.now.text.items seed line.items) }
 {
@@ -41,7 +42,7 @@ fn seeded_line(alloc: Global, compiled: &Compiled, seed: u32) -> Result<Vec<u8>,
 /// refuses it; memory may run out.
 pub fn demo_text(alloc: Global, seed: u32) -> Result<Vec<u8>, Failure>
     ensures found { IfOk result (λ line. IsDemoLine seed line.items) }
-    ensures refused { IfErr result (λ failure. status_of (failure_of failure) ≡ 13) }
+    ensures refused { IfErr result (λ failure. failure_of failure ≡ failures.Memory) }
 {
     one_end();
     compilation_ends_once();

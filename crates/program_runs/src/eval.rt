@@ -1,6 +1,7 @@
 //! The value of a program's source expression, without any kernel.
-ghost use Rattle.std.specs.Prelude.{◌≡◌, None, false, IfErr, IfOk};
-ghost use Rattle.launch_file.specs.LaunchFile.{given_by};
+ghost use Rattle.std.specs.Prelude.{◌≡◌, None, IfErr, IfOk};
+ghost use Rattle.launch_file.specs.LaunchFile.{asks_in, given_by};
+ghost use Rattle.launch_file.specs.declared.file.Ask.TheVariants.{Eval};
 ghost use Rattle.launch_file.specs.ResultLine.{result_line};
 ghost use Rattle.lift_tree.specs.Annotations.{IsTyped};
 ghost use Rattle.lift_tree.specs.Programs.{program_of};
@@ -24,7 +25,7 @@ use std::alloc::{AllocError, Global};
 fn value_line(alloc: Global, typed: &Typed, file: &LaunchFile) -> Result<Vec<u8>, AllocError>
     requires typed { IsTyped typed.now }
     requires whole { tree_of typed.now.term ≡ tree_of typed.now.program.body }
-    requires admissible { IsAdmissibleFor (program_of typed.now.program) false
+    requires admissible { IsAdmissibleFor (program_of typed.now.program) (asks_in Eval)
         (given_by file.now) }
     ensures { IfOk result (λ line. line.items ≡ result_line
         (source_value (program_of typed.now.program) (world_given (given_by file.now))) None) }
@@ -47,9 +48,6 @@ pub fn eval_text(alloc: Global, program: &[u8], launch: &[u8]) -> Result<Vec<u8>
     let typed = typed_source(alloc, program)?;
     match read_launch(alloc, launch, &typed.program, Ask::Eval) {
         Ok(file) => Ok(value_line(alloc, &typed, &file)?),
-        Err(no) => Err(Failure::Launch {
-            program: typed.program,
-            no,
-        }),
+        Err(no) => Err(Failure::for_launch(typed.program, no)),
     }
 }

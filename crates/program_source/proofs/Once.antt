@@ -102,8 +102,8 @@ types_one p = as_one told.Typing (λ r. program_judged p p.body ≡ r) (equal_on
 pub terms_one : ScriptsEndOnce → (p : PlainProgram) (script : List ℕ) → IsOne (TermsOf p script)
 terms_one scripts p script =
     then_one _ _ (types_one p) (λ types _.
-    then_one _ _ (as_one told.Script (ReadsScript script) (scripts script)) (λ steps _.
-    as_one told.Step (λ r. terms_of p steps (source_of p types) ≡ r) (equal_one (terms_of p steps (source_of p types)))))
+    then_one _ _ (as_one told.Script (ReadsScript script) (scripts script)) (λ read _.
+    as_one told.Step (λ r. terms_of p read.steps (source_of p types) ≡ r) (equal_one (terms_of p read.steps (source_of p types)))))
 
 -- a program's text and a script come to one end
 pub text_one : SourcesEndOnce → (program script : List ℕ) → IsOne (OnProgram program (λ p. TermsOf p script))

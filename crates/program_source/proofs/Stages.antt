@@ -16,7 +16,7 @@ use Rattle.strategy_script.specs.declared.faults.StepNo.TheVariants as stops
 use Rattle.strategy_script.specs.declared.script.ScriptLimit.TheVariants as limits
 use Rattle.strategy_script.specs.declared.script.ScriptNo.{ScriptNo}
 use Rattle.strategy_script.specs.declared.script.ScriptNo.TheVariants as scripts
-use Rattle.strategy_script.specs.declared.script.Step.{Step}
+use Rattle.strategy_script.specs.Scripts.{PlainScript}
 use Rattle.fault_lines.specs.Refusal.{program_refused, script_refused, step_refused, typing_refused}
 use Rattle.fault_lines.specs.declared.refusal.Refusal.{Refusal}
 use Rattle.fault_lines.specs.declared.refusal.Refusal.TheVariants as told
@@ -58,8 +58,8 @@ script_stops p types script (scripts.Syntax line) typed h = inr (inr (types, typ
 script_stops p types script (scripts.Limit limits.Steps count) typed h = inr (inr (types, typed, inl (scripts.Limit limits.Steps count, h, refl)))
 script_stops p types script scripts.Memory typed h = inl refl
 
-pub step_stops : (p : PlainProgram) (types : Annotation) (script : List ℕ) (steps : List Step) (why : StepNo) → program_judged p p.body ≡ Ok types → IsScript script steps → length steps ≤ 256
-    → (why ≢ stops.Memory → terms_of p steps (source_of p types) ≡ Err why) → StopsFor (TermsOf p script) (step_refused why)
-step_stops p types script steps (stops.Inapplicable step why) typed is few h = inr (inr (types, typed, inr (steps, (is, few), (stops.Inapplicable step why, h (λ e. cc (e)), refl))))
-step_stops p types script steps (stops.Limit which step count) typed is few h = inr (inr (types, typed, inr (steps, (is, few), (stops.Limit which step count, h (λ e. cc (e)), refl))))
-step_stops p types script steps stops.Memory typed is few h = inl refl
+pub step_stops : (p : PlainProgram) (types : Annotation) (script : List ℕ) (read : PlainScript) (why : StepNo) → program_judged p p.body ≡ Ok types → IsScript script read → length read.steps ≤ 256
+    → (why ≢ stops.Memory → terms_of p read.steps (source_of p types) ≡ Err why) → StopsFor (TermsOf p script) (step_refused why)
+step_stops p types script read (stops.Inapplicable step why) typed is few h = inr (inr (types, typed, inr (read, (is, few), (stops.Inapplicable step why, h (λ e. cc (e)), refl))))
+step_stops p types script read (stops.Limit which step count) typed is few h = inr (inr (types, typed, inr (read, (is, few), (stops.Limit which step count, h (λ e. cc (e)), refl))))
+step_stops p types script read stops.Memory typed is few h = inl refl

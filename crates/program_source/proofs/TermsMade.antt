@@ -23,6 +23,7 @@ use Rattle.strategy_script.specs.declared.faults.Fault.{Fault}
 use Rattle.strategy_script.specs.declared.faults.Fault.TheVariants.{Passes}
 use Rattle.strategy_script.specs.declared.faults.StepLimit.TheVariants.{Depth, Nodes}
 use Rattle.strategy_script.specs.declared.faults.StepNo.{StepNo}
+use Rattle.strategy_script.specs.Scripts.{PlainScript}
 use Rattle.strategy_script.specs.declared.script.Step.{Step}
 use Rattle.term_texts.specs.TermText.{text_of}
 use Rattle.program_source.specs.Program.{IsRead, ProgramsAreLow}
@@ -47,12 +48,12 @@ each_source t whole [] h = tt
 each_source t whole (u ∷ us) h =
     (record { program = h.0.program; typed = h.0.typed; keeps = subst (λ (b : Tree). Keeps (declared_by (program_of t.program)) [] b (tree_of u.term)) whole h.0.keeps }, each_source t whole us h.1)
 
-pub source_terms_are : (program script : List ℕ) (t : Typed) (steps : List Step) (terms : List Typed) → IsBegun program script t steps
-    → terms_of (program_of t.program) steps (state_of t) ≡ Ok (map state_of terms) → Every (IsAfter t) terms → AreSourceTerms program script terms
-source_terms_are program script t steps terms begun made each = record {
+pub source_terms_are : (program script : List ℕ) (t : Typed) (read : PlainScript) (terms : List Typed) → IsBegun program script t read
+    → terms_of (program_of t.program) read.steps (state_of t) ≡ Ok (map state_of terms) → Every (IsAfter t) terms → AreSourceTerms program script terms
+source_terms_are program script t read terms begun made each = record {
   source = program_of t.program;
   read = begun.read;
-  made = (annotation_of t.types, begun.judged, (steps, (begun.is, begun.few), source_made t steps (Ok (map state_of terms)) begun.whole made));
+  made = (annotation_of t.types, begun.judged, (read, (begun.is, begun.few), source_made t read.steps (Ok (map state_of terms)) begun.whole made));
   each = each_source t begun.whole terms each;
 }
 
@@ -71,7 +72,7 @@ first_from p (step ∷ steps) k s terms e =
     (more.0, sym (cc (more.2)))
 
 pub first_is : (p : PlainProgram) (script : List ℕ) (terms : List State) (made : TermsOf p script (Ok terms)) → (rest : List State) × (terms ≡ source_of p made.0 ∷ rest)
-first_is p script terms made = first_from p made.2.0 0 (source_of p made.0) terms made.2.2
+first_is p script terms made = first_from p made.2.0.steps 0 (source_of p made.0) terms made.2.2
 
 -- ---- the last
 
@@ -176,9 +177,10 @@ record LastOver (program script : List ℕ) (p : PlainProgram) (t : Typed) : Typ
   judged : program_judged p (tree_of t.term) ≡ Ok (annotation_of t.types)
   low : height (tree_of t.term) ≤ 256
 
-pub last_is : (program script : List ℕ) (source t : Typed) (steps : List Step) → TypesAreJudged → ProgramsAreLow → IsBegun program script source steps
-    → IsLast (program_of source.program) steps (state_of source) (state_of t) → IsAfter source t → IsLastTerm program script t
-last_is program script source t steps law lows begun last after =
+pub last_is : (program script : List ℕ) (source t : Typed) (read : PlainScript) → TypesAreJudged → ProgramsAreLow → IsBegun program script source read
+    → IsLast (program_of source.program) read.steps (state_of source) (state_of t) → IsAfter source t → IsLastTerm program script t
+last_is program script source t read law lows begun last after =
+    let steps = read.steps in
     let p = program_of source.program in
     let typed = after.typed in
     let body = subst (λ (b : Tree). Keeps (declared_by p) [] b (tree_of t.term)) begun.whole after.keeps in
@@ -190,7 +192,7 @@ last_is program script source t steps law lows begun last after =
       read = begun.read;
       proper = begun.ready.proper;
       terms = last.front ++ state_of t ∷ [];
-      made = (annotation_of source.types, begun.judged, (steps, (begun.is, begun.few), made));
+      made = (annotation_of source.types, begun.judged, (read, (begun.is, begun.few), made));
       is_last = record { front = last.front; is = refl };
       keeps = body;
       output = kept_output p (type_in (annotation_of source.types)) (tree_of t.term) (type_in (annotation_of t.types)) (output_of source p.body begun.ready.typed begun.whole) body

@@ -24,7 +24,7 @@ last_copies : ScriptsCopyArrays → (program script : List ℕ) (t : Typed) → 
 last_copies law program script t last =
     let made = last.made in
     last_has (λ (s : State). CopiesArrays s.tree s.types) last.terms (state_of t) last.is_last
-    (law program (program_of t.program) made.0 made.2.0 last.terms last.read.is made.1 made.2.2)
+    (law program (program_of t.program) made.0 made.2.0.steps last.terms last.read.is made.1 made.2.2)
 
 pub typed_within : ScriptsCopyArrays → (program script : List ℕ) (t : Typed) → IsLastTerm program script t → IsTypedWithin (program_of t.program) (tree_of t.term) (annotation_of t.types)
 typed_within law program script t last = record {

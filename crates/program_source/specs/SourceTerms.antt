@@ -12,19 +12,19 @@ use Rattle.pattern_types.specs.Judged.{program_judged}
 use Rattle.rewriting.specs.Keeps.{Keeps}
 use Rattle.strategy_script.specs.ScriptText.{IsScript}
 use Rattle.strategy_script.specs.Steps.{IsReady, State, state_of}
-use Rattle.strategy_script.specs.declared.script.Step.{Step}
+use Rattle.strategy_script.specs.Scripts.{PlainScript}
 use Rattle.term_texts.specs.TermText.{text_of}
 use Rattle.program_source.specs.Program.{IsRead}
 use Rattle.program_source.specs.Terms.{IsLast, TermsOf}
 
--- a program's typed source, and the steps of a script
-pub record IsBegun (program script : List ℕ) (t : Typed) (steps : List Step) : Type 0 where
+-- a program's typed source, and what the text of a script says
+pub record IsBegun (program script : List ℕ) (t : Typed) (read_script : PlainScript) : Type 0 where
   pub read : IsRead program (program_of t.program)
   pub whole : tree_of t.term ≡ tree_of t.program.body
   pub judged : program_judged (program_of t.program) (tree_of t.program.body) ≡ Ok (annotation_of t.types)
   pub ready : IsReady t
-  pub is : IsScript script steps
-  pub few : length steps ≤ 256
+  pub is : IsScript script read_script
+  pub few : length read_script.steps ≤ 256
 
 -- a typed term of the program, with the source's type and value
 pub record IsSourceTerm (p : PlainProgram) (t : Typed) : Type 0 where

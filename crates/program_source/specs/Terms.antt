@@ -20,7 +20,7 @@ StepsOf p types steps = As told.Step (λ r. terms_of p steps (source_of p types)
 
 -- the terms that a script makes of a program, or the first stage that stops: its types, the script's text, the steps
 abbrev pub TermsOf : PlainProgram → (script : List ℕ) → Result (List State) Refusal → Type 0
-TermsOf p script = Then (TypesOf p) (λ types. Then (As told.Script (ReadsScript script)) (StepsOf p types))
+TermsOf p script = Then (TypesOf p) (λ types. Then (As told.Script (ReadsScript script)) (λ read. StepsOf p types read.steps))
 
 -- this is the last of the terms
 pub record IsLast (last : State) (terms : List State) : Type 0 where

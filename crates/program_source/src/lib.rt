@@ -6,4 +6,4 @@ mod source;
 mod terms;
 
 pub use source::typed_source;
-pub use terms::{last_term, source_terms, steps_text};
+pub use terms::{LastTerm, last_term, source_terms, steps_text};

@@ -14,6 +14,7 @@ ghost use Rattle.program_source.specs.SourceTerms.{
 };
 ghost use Rattle.program_source.specs.StepsText.{IsStepsText};
 ghost use Rattle.program_source.specs.Terms.{TermsOf};
+ghost use Rattle.strategy_script.specs.LocalSize.{local_fixed};
 
 use crate::laws::sources_end_once;
 use crate::source::typed_source;
@@ -26,7 +27,15 @@ use std::alloc::{AllocError, Global};
 use strategy_script::{Script, read_script, run_script};
 use term_texts::term_text;
 
-// The typed source of a program, and the steps of a script.
+/// The last of a program's terms along a script, and the local size of all launches where the script
+/// fixes it.
+#[derive(Drop)]
+pub struct LastTerm {
+    pub typed: Typed,
+    pub local: Option<u32>,
+}
+
+// The typed source of a program, and the script.
 fn begin(alloc: Global, program: &[u8], script: &[u8]) -> Result<(Typed, Script), Refusal>
     ensures begun { IfOk result (λ b. IsBegun program.now script.now b.0 b.1) }
     ensures refused { IfErr result
@@ -53,11 +62,13 @@ pub fn source_terms(alloc: Global, program: &[u8], script: &[u8]) -> Result<Vec<
 }
 
 /// The last of the terms of [`source_terms`], with the same refusals: typed within the limits, and
-/// copying nothing but arrays. It holds two terms at a time.
-pub fn last_term(alloc: Global, program: &[u8], script: &[u8]) -> Result<Typed, Refusal>
-    ensures last { IfOk result (IsLastTerm program.now script.now) }
-    ensures within { IfOk result (λ t. IsTypedWithin (program_of t.program) (tree_of t.term)
-        (annotation_of t.types)) }
+/// copying nothing but arrays; and the local size that the script fixes. It holds two terms at a
+/// time.
+pub fn last_term(alloc: Global, program: &[u8], script: &[u8]) -> Result<LastTerm, Refusal>
+    ensures last { IfOk result (λ last. IsLastTerm program.now script.now last.typed) }
+    ensures local { IfOk result (λ last. last.local ≡ local_fixed script.now) }
+    ensures within { IfOk result (λ last. IsTypedWithin (program_of last.typed.program)
+        (tree_of last.typed.term) (annotation_of last.typed.types)) }
     ensures refused { IfErr result
         (StopsFor (OnProgram program.now (λ p. TermsOf p script.now))) }
 {
@@ -65,7 +76,11 @@ pub fn last_term(alloc: Global, program: &[u8], script: &[u8]) -> Result<Typed, 
     typed_nodes_type_the_term();
     types_are_judged();
     let (source, script) = begin(alloc, program, script)?;
-    Ok(strategy_script::last_term(alloc, source, &script)?)
+    let typed = strategy_script::last_term(alloc, source, &script)?;
+    Ok(LastTerm {
+        typed,
+        local: script.local(),
+    })
 }
 
 // Writes a term on a line behind the text.

@@ -5,7 +5,7 @@ use Rattle.std.proofs.lemmas.Option.{cond_some}
 use Rattle.readings.specs.Readings.{Owed, Token, Form, Mark, Grammar, Reads, stands, takes, gives, notes, Stops, Refused}
 use Rattle.readings.specs.Running.{Table, next, last, run, or_refuse, Decides}
 
-and_then_some : {A B : Type 0} (f : A → Option B) (o : Option A) (y : B) → option_and_then f o ≡ Some y → (x : A) × (o ≡ Some x) × (f x ≡ Some y)
+pub and_then_some : {A B : Type 0} (f : A → Option B) (o : Option A) (y : B) → option_and_then f o ≡ Some y → (x : A) × (o ≡ Some x) × (f x ≡ Some y)
 and_then_some f None y e = absurd (cc)
 and_then_some f (Some x) y e = (x, refl, e)
 
@@ -14,7 +14,7 @@ refuse_ok e f None y h = absurd (cc)
 refuse_ok e f (Some x) y h = (x, refl, h)
 
 module _ {T F M N : Type 0} (g : Grammar T F M N) (b : Table T F M N) (d : Decides g b) where
-  next-sound : (o : List (Owed T F M)) (n : N) (t : T) (p : List (Owed T F M) × N) (ts : List T) (o2 : List (Owed T F M)) (n2 : N) → next b o n t ≡ Some p → Reads g p.0 p.1 ts o2 n2 → Reads g o n (t ∷ ts) o2 n2
+  pub next-sound : (o : List (Owed T F M)) (n : N) (t : T) (p : List (Owed T F M) × N) (ts : List T) (o2 : List (Owed T F M)) (n2 : N) → next b o n t ≡ Some p → Reads g p.0 p.1 ts o2 n2 → Reads g o n (t ∷ ts) o2 n2
   next-sound [] n t p ts o2 n2 e r = absurd (cc)
   next-sound (Token a ∷ o) n t p ts o2 n2 e r =
       let h = cond_some (b.same a t) (o, n) p e in
@@ -26,7 +26,7 @@ module _ {T F M N : Type 0} (g : Grammar T F M N) (b : Table T F M N) (d : Decid
       let h = and_then_some (λ n'. next b o n' t) (b.marked m n) p e in
       notes (sym (d.marked m n) ∙ h.1) (next-sound o h.0 t p ts o2 n2 h.2 r)
 
-  next-only : {o : List (Owed T F M)} {n : N} {ts : List T} {o2 : List (Owed T F M)} {n2 : N} → Reads g o n ts o2 n2 → (t : T) (more : List T) → ts ≡ t ∷ more → (p : List (Owed T F M) × N) × (next b o n t ≡ Some p) × Reads g p.0 p.1 more o2 n2
+  pub next-only : {o : List (Owed T F M)} {n : N} {ts : List T} {o2 : List (Owed T F M)} {n2 : N} → Reads g o n ts o2 n2 → (t : T) (more : List T) → ts ≡ t ∷ more → (p : List (Owed T F M) × N) × (next b o n t ≡ Some p) × Reads g p.0 p.1 more o2 n2
   next-only stands t more e = absurd (cc)
   next-only (takes {t = a} {o = o} {o' = o2} {n = n} {n' = n2} {ts = ts} r) t more e =
       let e1 : a ≡ t = cc in let e2 : ts ≡ more = cc in
@@ -46,7 +46,7 @@ module _ {T F M N : Type 0} (g : Grammar T F M N) (b : Table T F M N) (d : Decid
       let h = and_then_some (λ n'. last b o n') (b.marked m n) n2 e in
       notes (sym (d.marked m n) ∙ h.1) (last-sound o h.0 n2 h.2)
 
-  last-only : {o : List (Owed T F M)} {n : N} {ts : List T} {o2 : List (Owed T F M)} {n2 : N} → Reads g o n ts o2 n2 → ts ≡ [] → o2 ≡ [] → last b o n ≡ Some n2
+  pub last-only : {o : List (Owed T F M)} {n : N} {ts : List T} {o2 : List (Owed T F M)} {n2 : N} → Reads g o n ts o2 n2 → ts ≡ [] → o2 ≡ [] → last b o n ≡ Some n2
   last-only (stands {o = o} {n = n}) e z = rw z
   last-only (takes r) e z = absurd (cc)
   last-only (gives h r) e z = absurd (cc)

@@ -1,7 +1,7 @@
 -- The conditions' names in messages.
 use Rattle.std.specs.Prelude.{ℕ, List, codes}
 use Rattle.rewriting.specs.declared.refused.Condition.{Condition}
-use Rattle.rewriting.specs.declared.refused.Condition.TheVariants.{Positive, Divides, Length, Same, Mentions, Array}
+use Rattle.rewriting.specs.declared.refused.Condition.TheVariants.{Positive, Divides, Length, Same, Mentions, Array, Whole, Closed}
 
 abbrev pub condition_name : Condition → List ℕ
 condition_name Positive = codes "positive"
@@ -10,3 +10,5 @@ condition_name Length = codes "length"
 condition_name Same = codes "same"
 condition_name Mentions = codes "mentions"
 condition_name Array = codes "array"
+condition_name Whole = codes "whole"
+condition_name Closed = codes "closed"

@@ -22,6 +22,10 @@ pub enum Condition {
     Mentions,
     /// The term is an array.
     Array,
+    /// The pairs of the term's type hold elements only.
+    Whole,
+    /// No binder is around the term.
+    Closed,
 }
 
 impl Condition {
@@ -36,6 +40,8 @@ impl Condition {
             Condition::Same => "same",
             Condition::Mentions => "mentions",
             Condition::Array => "array",
+            Condition::Whole => "whole",
+            Condition::Closed => "closed",
         }
     }
 }

@@ -1,5 +1,5 @@
 -- The rules keep types and values.
-use Rattle.std.proofs.Common.{◌≡◌, List, [], ◌∷◌, refl, sym, ap, ◌∙◌, subst}
+use Rattle.std.proofs.Common.{◌≡◌, Bool, true, false, List, [], ◌∷◌, refl, sym, ap, ◌∙◌, subst}
 use Rattle.std.specs.Prelude.{map, if◌then◌else◌, Result, Ok, Err, IfOk}
 use Rattle.size_arith.specs.declared.poly.Monomial.{Monomial}
 use Rattle.lift_tree.specs.declared.term.MapKind.{MapKind}
@@ -11,21 +11,21 @@ use Rattle.lift_tree.specs.declared.term.Term.{Term}
 use Rattle.lift_tree.specs.Tree.{Tree, tree_of, Variable, Unary, Map, Fold}
 use Rattle.lift_tree.specs.Values.{Value, array, members}
 use Rattle.lift_tree.specs.Meaning.{World, meaning, unary_value}
-use Rattle.lift_tree.specs.Types.{PlainTy, U32, PairOf, ArrayOf, is_array}
+use Rattle.lift_tree.specs.Types.{PlainTy, U32, PairOf, ArrayOf, is_array, holds_elements}
 use Rattle.lift_tree.specs.Typing.{Declared, UnaryRow, Types}
 use Rattle.lift_tree.specs.Annotations.{type_in}
 use Rattle.lift_tree.proofs.Annotated.{annotated_is_typed}
 use Rattle.lift_tree.proofs.Members.{members-array}
 use Rattle.lift_tree.proofs.Sound.{values_have_types}
 use Rattle.lift_tree.proofs.Unique.{one_type}
-use Rattle.rewriting.specs.declared.refused.Condition.TheVariants.{Array}
+use Rattle.rewriting.specs.declared.refused.Condition.TheVariants.{Array, Whole}
 use Rattle.rewriting.specs.Around.{Around}
 use Rattle.rewriting.specs.declared.refused.Refused.{Refused}
 use Rattle.rewriting.specs.Answers.{Becomes, NoSide, IsAnswer}
 use Rattle.rewriting.specs.Keeps.{KeepsIn}
 use Rattle.rules_lower.specs.declared.rule.Rule.{Rule}
-use Rattle.rules_lower.specs.declared.rule.Rule.TheVariants.{ToGlobal, ToWorkGroup, ToLocal, ToSequential, FoldSequential, Local, Private, LocalCopy, PrivateCopy}
-use Rattle.rules_lower.specs.Rules.{answer, mapped, folded, copied}
+use Rattle.rules_lower.specs.declared.rule.Rule.TheVariants.{ToGlobal, ToWorkGroup, ToLocal, ToSequential, FoldSequential, Local, Private, LocalCopy, PrivateCopy, Then}
+use Rattle.rules_lower.specs.Rules.{answer, mapped, folded, copied, if_closed}
 use Rattle.rules_lower.specs.Laws.{LoweringKeeps}
 
 becomes_of : (t u : Tree) → Becomes t ≡ Becomes u → t ≡ u
@@ -54,6 +54,9 @@ keeping_local = record { row = λ d b a e. e; value = λ w v. refl }
 
 keeping_private : IsKeeping unary.ToPrivate
 keeping_private = record { row = λ d b a e. e; value = λ w v. refl }
+
+keeping_then : IsKeeping unary.Then
+keeping_then = record { row = λ d b a e. e; value = λ w v. refl }
 
 map_same : (xs : List Value) → map (λ (x : Value). x) xs ≡ xs
 map_same [] = refl
@@ -92,6 +95,19 @@ on_array_keeps a t s u U32 e k b = absurd (cc)
 on_array_keeps a t s u (PairOf x y) e k b = absurd (cc)
 on_array_keeps a t s u (ArrayOf x n) e k b = subst (KeepsIn a t) (becomes_of s u b) (k x n e)
 
+-- what stands for an array that a kernel of its own makes
+closed_becomes : (bs : List PlainTy) (s u : Tree) → if_closed bs (Becomes s) ≡ Becomes u → s ≡ u
+closed_becomes [] s u e = becomes_of s u e
+closed_becomes (b ∷ bs) s u e = absurd (cc)
+
+whole_becomes : (whole : Bool) (bs : List PlainTy) (s u : Tree) → (if whole then if_closed bs (Becomes s) else NoSide Whole) ≡ Becomes u → s ≡ u
+whole_becomes true bs s u e = closed_becomes bs s u e
+whole_becomes false bs s u e = absurd (cc)
+
+cut_becomes : (array whole : Bool) (bs : List PlainTy) (s u : Tree) → (if array then (if whole then if_closed bs (Becomes s) else NoSide Whole) else NoSide Array) ≡ Becomes u → s ≡ u
+cut_becomes true whole bs s u e = whole_becomes whole bs s u e
+cut_becomes false whole bs s u e = absurd (cc)
+
 pub lowering_keeps : LoweringKeeps
 lowering_keeps ToGlobal a t u e = mapped_keeps kind.Global a t u e
 lowering_keeps ToWorkGroup a t u e = mapped_keeps kind.WorkGroup a t u e
@@ -104,6 +120,8 @@ lowering_keeps LocalCopy a t u e =
     on_array_keeps a t (copied unary.ToLocal kind.Local t) u (type_in a.types) refl (λ x n h. kept_keeps unary.ToLocal keeping_local a t (Map kind.Local t (Variable 0)) (copy_keeps a kind.Local t x n h)) e
 lowering_keeps PrivateCopy a t u e =
     on_array_keeps a t (copied unary.ToPrivate kind.Sequential t) u (type_in a.types) refl (λ x n h. kept_keeps unary.ToPrivate keeping_private a t (Map kind.Sequential t (Variable 0)) (copy_keeps a kind.Sequential t x n h)) e
+lowering_keeps Then a t u e =
+    subst (KeepsIn a t) (cut_becomes (is_array (type_in a.types)) (holds_elements (type_in a.types)) a.binders (Unary unary.Then t) u e) (kept_keeps unary.Then keeping_then a t t (same_keeps a t))
 
 -- so does what a call answers
 pub answered_keeps : (rule : Rule) (a : Around) (t : Term) (r : Result Term Refused) → IsAnswer (answer rule a (tree_of t)) t r → IfOk r (λ u. KeepsIn a (tree_of t) (tree_of u))

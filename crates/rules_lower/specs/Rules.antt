@@ -1,18 +1,18 @@
 -- The rules that say how a term is run, one row each.
-use Rattle.std.specs.Prelude.{if◌then◌else◌}
+use Rattle.std.specs.Prelude.{if◌then◌else◌, List, [], ◌∷◌}
 use Rattle.lift_tree.specs.declared.term.MapKind.{MapKind}
 use Rattle.lift_tree.specs.declared.term.MapKind.TheVariants as map
 use Rattle.lift_tree.specs.declared.term.FoldKind.TheVariants as fold
 use Rattle.lift_tree.specs.declared.term.UnaryForm.{UnaryForm}
 use Rattle.lift_tree.specs.declared.term.UnaryForm.TheVariants as unary
 use Rattle.lift_tree.specs.Tree.{Tree, Variable, Unary, Map, Fold}
-use Rattle.lift_tree.specs.Types.{is_array}
+use Rattle.lift_tree.specs.Types.{PlainTy, holds_elements, is_array}
 use Rattle.lift_tree.specs.Annotations.{type_in}
-use Rattle.rewriting.specs.declared.refused.Condition.TheVariants.{Array}
+use Rattle.rewriting.specs.declared.refused.Condition.TheVariants.{Array, Whole, Closed}
 use Rattle.rewriting.specs.Around.{Around}
 use Rattle.rewriting.specs.Answers.{Answer, Becomes, NoShape, NoSide}
 use Rattle.rules_lower.specs.declared.rule.Rule.{Rule}
-use Rattle.rules_lower.specs.declared.rule.Rule.TheVariants.{ToGlobal, ToWorkGroup, ToLocal, ToSequential, FoldSequential, Local, Private, LocalCopy, PrivateCopy}
+use Rattle.rules_lower.specs.declared.rule.Rule.TheVariants.{ToGlobal, ToWorkGroup, ToLocal, ToSequential, FoldSequential, Local, Private, LocalCopy, PrivateCopy, Then}
 
 -- a plain map, run so
 abbrev pub mapped : MapKind → Tree → Answer
@@ -32,6 +32,20 @@ on_array a u = if is_array (type_in a.types) then Becomes u else NoSide Array
 abbrev pub copied : UnaryForm → MapKind → Tree → Tree
 copied f k t = Unary f (Map k t (Variable 0))
 
+-- what an array becomes that a kernel of its own makes: first its pairs hold elements only, then no binder is around it
+abbrev pub if_closed : List PlainTy → Answer → Answer
+if_closed [] u = u
+if_closed (b ∷ bs) u = NoSide Closed
+
+abbrev pub if_whole : PlainTy → Answer → Answer
+if_whole ty u = if holds_elements ty then u else NoSide Whole
+
+abbrev pub cut_off : Around → Tree → Answer
+cut_off a t =
+    if is_array (type_in a.types)
+    then if_whole (type_in a.types) (if_closed a.binders (Becomes (Unary unary.Then t)))
+    else NoSide Array
+
 -- what the rule says of a term with this around it
 abbrev pub answer : Rule → Around → Tree → Answer
 answer ToGlobal a t = mapped map.Global t
@@ -43,3 +57,4 @@ answer Local a t = on_array a (Unary unary.ToLocal t)
 answer Private a t = on_array a (Unary unary.ToPrivate t)
 answer LocalCopy a t = on_array a (copied unary.ToLocal map.Local t)
 answer PrivateCopy a t = on_array a (copied unary.ToPrivate map.Sequential t)
+answer Then a t = cut_off a t

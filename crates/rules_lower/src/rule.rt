@@ -5,7 +5,7 @@ ghost use Rattle.lift_tree.specs.Tree.{Unary, tree_of};
 ghost use Rattle.rewriting.specs.Around.{context_of};
 ghost use Rattle.rewriting.specs.Answers.{IsAnswer};
 ghost use Rattle.rewriting.specs.Keeps.{KeepsIn};
-ghost use Rattle.rules_lower.specs.Rules.{answer, copied, folded, mapped, on_array};
+ghost use Rattle.rules_lower.specs.Rules.{answer, copied, cut_off, folded, mapped, on_array};
 
 use lift_tree::term::{FoldKind, MapKind, Term, UnaryForm};
 use lift_tree::typed::Context;
@@ -33,11 +33,13 @@ pub enum Rule {
     LocalCopy,
     /// `private-copy`: an array is copied to private memory by one work-item.
     PrivateCopy,
+    /// `then`: an array is made by a kernel of its own, before those that read it.
+    Then,
 }
 
 /// The term that the rule makes of the term, which has the term's type, and its value at all sizes, inputs and values of binders.
 ///
-/// `Shape` comes exactly where the rule wants a plain map or fold and the term is none, and `Side` exactly where it wants an array and the term is none; both hand the term back unchanged. The context is that of the term's place.
+/// `Shape` comes exactly where the rule wants a plain map or fold and the term is none, and `Side` exactly where it wants an array and the term is none, or, for `then`, an array whose pairs hold elements only, with no binder around it; both hand the term back unchanged. The context is that of the term's place.
 #[tactic(auto, using(crate::proofs::Kept::lowering_keeps))]
 pub fn apply(alloc: Global, rule: &Rule, term: Term, context: &Context) -> Result<Term, Refused>
     ensures answer { IsAnswer
@@ -60,6 +62,7 @@ pub fn apply(alloc: Global, rule: &Rule, term: Term, context: &Context) -> Resul
             term,
             context,
         ),
+        Rule::Then => cut_off(alloc, term, context),
     }
 }
 
@@ -111,6 +114,23 @@ fn copied(
         Ok(copy_of(alloc, form, kind, term)?)
     } else {
         Err(Refused::Side(Condition::Array, term))
+    }
+}
+
+// The array, made by a kernel of its own.
+fn cut_off(alloc: Global, term: Term, context: &Context) -> Result<Term, Refused>
+    ensures { IsAnswer (cut_off (context_of context.now) (tree_of term)) term result }
+{
+    let ty = context.types.own_type();
+    if !ty.is_array() {
+        return Err(Refused::Side(Condition::Array, term));
+    }
+    if !ty.holds_elements() {
+        return Err(Refused::Side(Condition::Whole, term));
+    }
+    match context.binders.as_slice() {
+        [] => Ok(Term::unary(alloc, UnaryForm::Then, term)?),
+        _ => Err(Refused::Side(Condition::Closed, term)),
     }
 }
 

@@ -55,7 +55,7 @@ const SHAPES: [(&str, &str, u64); 28] = [
 ];
 
 // A term, a script, the step that isn't made, and the first condition that is false.
-const SIDES: [(&str, &str, u64, Condition); 25] = [
+const SIDES: [(&str, &str, u64, Condition); 31] = [
     (
         "split(2, join(rows))",
         "at . split-join",
@@ -174,6 +174,40 @@ const SIDES: [(&str, &str, u64, Condition); 25] = [
     ("map(\\x. 3, xs)", "at 1 local-copy", 1, Condition::Array),
     ("map(\\x. 3, xs)", "at 1 private-copy", 1, Condition::Array),
     ("map(\\x. 3, xs)", "at 1 copy", 1, Condition::Array),
+    // an element, though a binder is around it too
+    ("map(\\x. 3, xs)", "at 1 then", 1, Condition::Array),
+    (
+        "join(map(\\r. r, rows))",
+        "at 0.1 then",
+        1,
+        Condition::Closed,
+    ),
+    (
+        "let y = map(\\x. x, xs) in map(\\z. add(z, 1), y)",
+        "at 1.0 then",
+        1,
+        Condition::Closed,
+    ),
+    // its pairs hold arrays
+    (
+        "map(\\p. first(p), zip(rows, rows))",
+        "at 0 then",
+        1,
+        Condition::Whole,
+    ),
+    // and so where a binder is around it too, and where it is such a pair alone
+    (
+        "map(\\r. map(\\p. first(p), zip(rows, rows)), rows)",
+        "at 1.0 then",
+        1,
+        Condition::Whole,
+    ),
+    (
+        "map(\\p. first(p), zip(rows, rows))",
+        "at 1.0 then",
+        1,
+        Condition::Array,
+    ),
 ];
 
 const PLACES: [(&str, &str, u64); 3] = [

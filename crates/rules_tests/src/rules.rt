@@ -234,7 +234,7 @@ const REGROUPED: [(&str, &str, &str); 7] = [
     ),
 ];
 
-const LOWER: [(&str, &str, &str); 11] = [
+const LOWER: [(&str, &str, &str); 14] = [
     ("map(\\x. x, xs)", "at . to-glb", "mapGlb(\\_0. _0, xs)"),
     ("map(\\x. x, xs)", "at . to-wrg", "mapWrg(\\_0. _0, xs)"),
     ("map(\\x. x, xs)", "at . to-lcl", "mapLcl(\\_0. _0, xs)"),
@@ -258,6 +258,18 @@ const LOWER: [(&str, &str, &str); 11] = [
     ),
     ("xs", "at . local-copy", "toLocal(mapLcl(\\_0. _0, xs))"),
     ("xs", "at . private-copy", "toPrivate(mapSeq(\\_0. _0, xs))"),
+    ("join(rows)", "at 0 then", "join(then(rows))"),
+    (
+        "map(\\p. add(first(p), second(p)), zip(xs, xs))",
+        "at 0 then",
+        "map(\\_0. add(first(_0), second(_0)), then(zip(xs, xs)))",
+    ),
+    // an array that is let is under no binder of the let's own
+    (
+        "let y = map(\\x. x, xs) in y",
+        "at 0 then",
+        "let _0 = then(map(\\_0. _0, xs)) in _0",
+    ),
 ];
 
 fn rewrites(alloc: Global, term: &str, script: &str, want: &str) -> Result<bool, Fail> {
@@ -320,9 +332,28 @@ const STENCIL_SCRIPT: &[u8] =
 const STENCIL_LAST: &[u8] =
     b"join(join(mapWrg(\\_0. mapLcl(\\_1. foldSeq(\\_2 _3. add(_2, _3), 0, _1), slide(3, 1, toLocal(mapLcl(\\_1. _1, _0)))), slide(4, 2, pad(1, 1, xs)))))";
 
+// A map in two kernels, step by step.
+const MAPS: &[u8] = b"input xs: [u32; 4]; output map(\\x. add(x, 1), map(\\x. mul(x, 2), xs))";
+
+const MAPS_SCRIPT: &[u8] = b"at 0 to-glb\nat 0 then\nat . to-glb";
+
+const MAPS_TERMS: &[u8] =
+    b"map(\\_0. add(_0, 1), map(\\_0. mul(_0, 2), xs))\nmap(\\_0. add(_0, 1), mapGlb(\\_0. mul(_0, 2), xs))\nmap(\\_0. add(_0, 1), then(mapGlb(\\_0. mul(_0, 2), xs)))\nmapGlb(\\_0. add(_0, 1), then(mapGlb(\\_0. mul(_0, 2), xs)))\n";
+
+// A let that is cut off goes under a binder where its variable stands.
+const INLINED: &[u8] =
+    b"input xs: [u32; 4]; output let y = map(\\x. x, xs) in map(\\z. fold(\\a b. add(a, b), z, y), xs)";
+
+const INLINED_SCRIPT: &[u8] = b"at 0 then\nat . let-inline";
+
+const INLINED_LAST: &[u8] =
+    b"map(\\_0. fold(\\_1 _2. add(_1, _2), _0, then(map(\\_1. _1, xs))), xs)";
+
 #[test]
 fn a_script_makes_a_term_each_step(rt: HostRuntime) -> Result<(), Fail> {
     assert!(rt; has_lines(rt.alloc(), SUM, SUM_SCRIPT, SUM_TERMS)?);
+    assert!(rt; has_lines(rt.alloc(), MAPS, MAPS_SCRIPT, MAPS_TERMS)?);
+    assert!(rt; becomes(rt.alloc(), INLINED, INLINED_SCRIPT, INLINED_LAST)?);
     Ok(())
 }
 

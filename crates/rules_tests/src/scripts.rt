@@ -8,7 +8,7 @@ use std::test::Fail;
 use strategy_script::{Rule, ScriptLimit, ScriptNo, read_script};
 
 // Each rule by its name, at the root or below.
-const STEPS: [(&str, &[u32], Rule); 31] = [
+const STEPS: [(&str, &[u32], Rule); 32] = [
     ("at . fuse-map", &[], Rule::Algebra(Algebra::FuseMap)),
     ("at 0 fuse-fold", &[0], Rule::Algebra(Algebra::FuseFold)),
     (
@@ -76,6 +76,7 @@ const STEPS: [(&str, &[u32], Rule); 31] = [
         &[],
         Rule::Lower(Lower::PrivateCopy),
     ),
+    ("at 0 then", &[0], Rule::Lower(Lower::Then)),
 ];
 
 // Texts, and how many steps they have.
@@ -85,10 +86,43 @@ const COUNTED: [(&str, usize); 3] = [
     ("at . to-seq\r\n\tat\t1  copy \n#\nat . local", 3),
 ];
 
-// Texts, and the first line that is neither a step nor none.
-const REFUSED: [(&str, u64); 17] = [
+// Texts, the local size that each fixes, and how many steps it has.
+const SIZED: [(&str, Option<u32>, usize); 6] = [
+    ("launch local 2", Some(2), 0),
+    ("launch local 1\nat . to-seq", Some(1), 1),
+    (
+        "# groups\n\n \t launch\tlocal  256 \r\nat . copy\nat . local",
+        Some(256),
+        2,
+    ),
+    ("launch local 4\n# launch local 2\n\nat . copy", Some(4), 1),
+    ("# launch local 2\nat . copy", None, 1),
+    ("", None, 0),
+];
+
+// Texts, and the first line that is none of a script, or stands where it may not.
+const REFUSED: [(&str, u64); 36] = [
+    ("launch local 0", 1),
+    ("launch local 257", 1),
+    ("launch local 4294967297", 1),
+    ("launch local 02", 1),
+    ("launch local two", 1),
+    ("launch local", 1),
+    ("launch", 1),
+    ("launch global 2", 1),
+    ("Launch local 2", 1),
+    ("launch local 2 # x", 1),
+    ("launch local 2 2", 1),
+    ("launch local2", 1),
+    ("launch local +2", 1),
+    ("launch local 2\nlaunch local 2", 2),
+    ("at . to-seq\nlaunch local 2", 2),
+    ("\n#\nlaunch local 2\n\nat . copy\n#\nlaunch local 4", 7),
+    ("launch local 2\nat . to-sequence", 2),
     ("at . to-seq\nat . to-sequence", 2),
     ("at . to-seq # run", 1),
+    ("at 0 then 1", 1),
+    ("\nat 0 then\nlaunch local 2 2\nlaunch", 3),
     ("\n\nat . to-seq\r", 3),
     ("at . split-map", 1),
     ("at . split-map 2 3", 1),
@@ -123,6 +157,13 @@ fn has_steps(alloc: Global, text: &[u8], count: usize) -> Result<bool, Fail> {
     }
 }
 
+fn fixes(alloc: Global, text: &str, local: Option<u32>, count: usize) -> Result<bool, Fail> {
+    match read_script(alloc, text.as_bytes()) {
+        Ok(script) => Ok(script.local() == local && script.steps().len() == count),
+        Err(_) => Ok(false),
+    }
+}
+
 fn is_refused(alloc: Global, text: &[u8], want: ScriptNo) -> Result<bool, Fail> {
     match read_script(alloc, text) {
         Ok(_) => Ok(false),
@@ -143,6 +184,9 @@ fn texts_are_read_line_by_line(rt: HostRuntime) -> Result<(), Fail> {
     for (text, count) in COUNTED {
         assert!(rt; has_steps(rt.alloc(), text.as_bytes(), count)?, "{text}");
     }
+    for (text, local, count) in SIZED {
+        assert!(rt; fixes(rt.alloc(), text, local, count)?, "{text}");
+    }
     for (text, line) in REFUSED {
         let want = ScriptNo::Syntax { line };
         assert!(rt; is_refused(rt.alloc(), text.as_bytes(), want)?, "{text}");
@@ -150,11 +194,11 @@ fn texts_are_read_line_by_line(rt: HostRuntime) -> Result<(), Fail> {
     Ok(())
 }
 
-// 256 steps pass, 257 don't, and a line that is none comes first.
+// 256 steps pass, 257 don't, and a line that is none comes first. A local size is no step.
 #[test]
 fn steps_are_limited(rt: HostRuntime) -> Result<(), Fail> {
     let alloc = rt.alloc();
-    let mut text = Vec::new(alloc);
+    let mut text = Vec::from_slice(alloc, b"launch local 2\n")?;
     for _ in 0..256 {
         text.extend_from_slice(b"at . copy\n")?;
     }
@@ -166,6 +210,6 @@ fn steps_are_limited(rt: HostRuntime) -> Result<(), Fail> {
     };
     assert!(rt; is_refused(alloc, &text, many)?);
     text.extend_from_slice(b"\nat")?;
-    assert!(rt; is_refused(alloc, &text, ScriptNo::Syntax { line: 258 })?);
+    assert!(rt; is_refused(alloc, &text, ScriptNo::Syntax { line: 259 })?);
     Ok(())
 }

@@ -2,8 +2,10 @@ pub mod Deep
 pub mod Digits
 pub mod Listed
 pub mod Once
+pub mod Openings
 pub mod Parts
 pub mod Rewritten
+pub mod Sizes
 pub mod Small
 pub mod Stepping
 pub mod TextLines

@@ -1,7 +1,9 @@
 pub mod Laws
 pub mod Lines
+pub mod LocalSize
 pub mod Numbers
 pub mod RuleAnswers
 pub mod RuleNames
 pub mod ScriptText
+pub mod Scripts
 pub mod Steps

@@ -45,6 +45,7 @@ lower_name lower.Local = codes "local"
 lower_name lower.Private = codes "private"
 lower_name lower.LocalCopy = codes "local-copy"
 lower_name lower.PrivateCopy = codes "private-copy"
+lower_name lower.Then = codes "then"
 
 abbrev pub rule_name : Rule → List ℕ
 rule_name (Algebra rule) = algebra_name rule
@@ -81,6 +82,7 @@ plain_rules =
     Lower lower.Private ∷
     Lower lower.LocalCopy ∷
     Lower lower.PrivateCopy ∷
+    Lower lower.Then ∷
     []
 
 -- the rule of this name, among those without a number

@@ -7,6 +7,7 @@ mod context;
 pub mod faults;
 pub mod laws;
 mod lines;
+mod local_size;
 mod numbers;
 mod places;
 pub mod read;

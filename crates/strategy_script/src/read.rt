@@ -1,20 +1,28 @@
 //! The text of a script.
 
-ghost use Rattle.std.specs.Prelude.{◌≡◌, ◌⊎◌, ◌<◌, ◌≤◌, Err, IfOk, IfErr, length};
+ghost use Rattle.std.specs.Prelude.{◌≡◌, ◌⊎◌, ◌+◌, ◌<◌, ◌≤◌, ◌^◌, Err, IfOk, IfErr, length};
 ghost use Rattle.std.specs.Result.{IsErrAnd};
+ghost use Rattle.std.specs.Str.Lines.{lines};
+ghost use Rattle.strategy_script.specs.LocalSize.{local_in};
 ghost use Rattle.strategy_script.specs.ScriptText.{
+  AreSteps,
   IsScript,
   ReadsScript,
   RefusesScript,
+  RefusesSteps,
   ended,
+  good_lines,
   numbered_rule,
   rule_of,
   step_behind,
+  step_lines,
   step_of,
+  steps_in,
 };
 ghost use Rattle.strategy_script.specs.declared.script.ScriptNo.{ScriptNo};
 
 use crate::lines::{is_no_step, split_line, split_word};
+use crate::local_size::local_of;
 use crate::numbers::{number_of, place_of};
 use crate::rule::Rule;
 use crate::script::{Script, ScriptLimit, ScriptNo, Step};
@@ -78,13 +86,59 @@ fn step_of(alloc: Global, line: &[u8]) -> Result<Option<Step>, AllocError>
     }
 }
 
-// The steps of a text's lines, in order.
-fn steps_in(alloc: Global, text: &[u8]) -> Result<Vec<Step>, ScriptNo>
-    ensures script { IfOk result (λ steps. IsScript text.now steps.items) }
-    ensures refused { IfErr result (RefusesScript text.now) }
+// How a text begins: the local size that it fixes, in how many lines, and what stands behind them.
+#[derive(Clone, Copy)]
+struct Opening<'a> {
+    local: Option<u32>,
+    lines: u64,
+    rest: &'a [u8],
+}
+
+// A text's lines of no step, and a line behind them that fixes the local size.
+#[tactic(auto, using(crate::proofs::Openings::no_step, crate::proofs::Openings::no_step_but_size, crate::proofs::Openings::steps_passed, crate::proofs::Openings::size_passed, crate::proofs::Openings::good_passed, crate::proofs::Openings::size_here, crate::proofs::Openings::good_sized, crate::proofs::Openings::good_unsized))]
+fn opening_of(text: &[u8]) -> Opening<'_>
+    ensures size { result.local ≡ local_in (lines text.now) }
+    ensures good { result.lines + step_lines (lines result.rest.now) ≡ good_lines text.now }
+    ensures all { result.lines + length (lines result.rest.now) ≡ length (lines text.now) }
+    ensures steps { steps_in result.rest.now ≡ steps_in text.now }
+    ensures few { result.lines + length result.rest.now ≤ length text.now }
+{
+    let mut lines = 0u64;
+    let mut rest = text;
+    while !rest.is_empty() {
+        let (line, behind) = split_line(rest);
+        if !is_no_step(line) {
+            return match local_of(line) {
+                Some(size) => Opening {
+                    local: Some(size),
+                    lines: lines + 1,
+                    rest: behind,
+                },
+                None => Opening {
+                    local: None,
+                    lines,
+                    rest,
+                },
+            };
+        }
+        lines += 1;
+        rest = behind;
+    }
+    Opening {
+        local: None,
+        lines,
+        rest,
+    }
+}
+
+// The steps of a text's lines, in order, with so many lines before it.
+fn steps_in(alloc: Global, text: &[u8], before: u64) -> Result<Vec<Step>, ScriptNo>
+    requires { before + length text.now < 2 ^ 64 }
+    ensures script { IfOk result (λ steps. AreSteps text.now steps.items) }
+    ensures refused { IfErr result (RefusesSteps before text.now) }
 {
     let mut steps = Vec::new(alloc);
-    let mut lines = 0u64;
+    let mut lines = before;
     let mut rest = text;
     while !rest.is_empty() {
         let (line, behind) = split_line(rest);
@@ -102,9 +156,10 @@ fn steps_in(alloc: Global, text: &[u8]) -> Result<Vec<Step>, ScriptNo>
     Ok(steps)
 }
 
-// The script of a text's steps, where there aren't too many.
-fn script_of(steps: Vec<Step>) -> Result<Script, ScriptNo>
-    ensures script { IfOk result (λ script. (script ≡ steps.items) × (length steps.items ≤ 256)) }
+// The script of a local size and steps, where these aren't too many.
+fn script_of(local: Option<u32>, steps: Vec<Step>) -> Result<Script, ScriptNo>
+    ensures script { IfOk result (λ script. (script.local ≡ local)
+        × (script.steps ≡ steps.items) × (length steps.items ≤ 256)) }
     ensures refused { IfErr result (λ no. (no
         ≡ ScriptNo.Limit ScriptLimit.Steps (length steps.items)) × (256 < length steps.items)) }
 {
@@ -115,7 +170,7 @@ fn script_of(steps: Vec<Step>) -> Result<Script, ScriptNo>
             count,
         });
     }
-    Ok(Script::new(steps))
+    Ok(Script::new(local, steps))
 }
 
 /// The script that a text is.
@@ -123,15 +178,19 @@ fn script_of(steps: Vec<Step>) -> Result<Script, ScriptNo>
 /// Each line is a step, `at PLACE RULE` with the rule's number where it has one, or is empty, of
 /// blanks alone, or a comment. Blanks are spaces and tabs; a line ends with LF, which the last may
 /// lack, and a CR just before it is passed over. A place is `.`, or child numbers joined by `.`. A
-/// number is decimal, without a leading zero, at most 4294967295.
+/// number is decimal, without a leading zero, at most 4294967295. One line before all steps may be
+/// `launch local K`, with K from 1 to 256, which fixes the local size of all launches. It is no
+/// step.
 ///
-/// `Syntax` comes just where a line is neither a step nor none, and names the first. `Limit` comes
-/// just where each line is one or the other, and more than 256 are steps.
+/// `Syntax` comes just where a line is none of these or stands where it may not, and names the
+/// first. `Limit` comes just where there is no such line, and more than 256 are steps.
 pub fn read_script(alloc: Global, text: &[u8]) -> Result<Script, ScriptNo>
-    ensures script { IfOk result (λ steps. IsScript text.now steps × (length steps ≤ 256)) }
+    ensures script { IfOk result
+        (λ script. IsScript text.now script × (length script.steps ≤ 256)) }
     ensures refused { IfErr result (RefusesScript text.now) }
     ensures exact { (no : ScriptNo) → ReadsScript text.now (Err no)
         → IsErrAnd result (λ e. (e ≡ no) ⊎ (e ≡ ScriptNo.Memory)) }
 {
-    script_of(steps_in(alloc, text)?)
+    let opening = opening_of(text);
+    script_of(opening.local, steps_in(alloc, opening.rest, opening.lines)?)
 }

@@ -18,7 +18,7 @@ pub enum Rule {
     Lower(Lower),
 }
 
-const PLAIN: [Rule; 27] = [
+const PLAIN: [Rule; 28] = [
     Rule::Algebra(Algebra::FuseMap),
     Rule::Algebra(Algebra::FuseFold),
     Rule::Algebra(Algebra::JoinSplit),
@@ -46,6 +46,7 @@ const PLAIN: [Rule; 27] = [
     Rule::Lower(Lower::Private),
     Rule::Lower(Lower::LocalCopy),
     Rule::Lower(Lower::PrivateCopy),
+    Rule::Lower(Lower::Then),
 ];
 
 fn algebra_name(rule: Algebra) -> &'static [u8]
@@ -97,6 +98,7 @@ fn lower_name(rule: Lower) -> &'static [u8]
         Lower::Private => b"private",
         Lower::LocalCopy => b"local-copy",
         Lower::PrivateCopy => b"private-copy",
+        Lower::Then => b"then",
     }
 }
 

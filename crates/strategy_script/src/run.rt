@@ -60,11 +60,11 @@ fn term_in_place(alloc: Global, typed: Typed, step: &Step, number: u64) -> Resul
 pub fn run_script(alloc: Global, source: Typed, script: &Script) -> Result<Vec<Typed>, StepNo>
     requires ready { IsReady source }
     ensures terms { IfOk result (λ terms.
-        terms_of (program_of source.program) script.now (state_of source)
+        terms_of (program_of source.program) script.now.steps (state_of source)
         ≡ Ok (map state_of terms.items)) }
     ensures each { IfOk result (λ terms. Every (IsAfter source) terms.items) }
     ensures refused { IfErr result (λ e. e ≢ no.Memory
-        → terms_of (program_of source.program) script.now (state_of source) ≡ Err e) }
+        → terms_of (program_of source.program) script.now.steps (state_of source) ≡ Err e) }
 {
     let mut terms = Vec::new(alloc);
     let mut current = source;
@@ -85,11 +85,11 @@ pub fn run_script(alloc: Global, source: Typed, script: &Script) -> Result<Vec<T
 /// time.
 pub fn last_term(alloc: Global, source: Typed, script: &Script) -> Result<Typed, StepNo>
     requires ready { IsReady source }
-    ensures last { IfOk result (λ t. IsLastTerm (program_of source.program) script.now
-        (state_of source) (state_of t)) }
+    ensures last { IfOk result (λ t. IsLastTerm (program_of source.program)
+        script.now.steps (state_of source) (state_of t)) }
     ensures after { IfOk result (λ t. IsAfter source t) }
     ensures refused { IfErr result (λ e. e ≢ no.Memory
-        → terms_of (program_of source.program) script.now (state_of source) ≡ Err e) }
+        → terms_of (program_of source.program) script.now.steps (state_of source) ≡ Err e) }
 {
     let mut current = source;
     let mut made = 0u64;

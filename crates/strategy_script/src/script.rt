@@ -16,32 +16,40 @@ pub struct Step {
     pub rule: Rule,
 }
 
-/// A script. Contracts see the list of its steps.
+/// A script. Contracts see the local size that it fixes, and the list of its steps.
 #[derive(Drop)]
 pub struct Script {
+    local: Option<u32>,
     steps: Vec<Step>,
 }
 
 impl Model for Script {
-    ghost use Rattle.std.specs.Prelude.{List};
-    ghost use Rattle.strategy_script.specs.declared.script.Step.{Step};
+    ghost use Rattle.strategy_script.specs.Scripts.{PlainScript};
 
-    ghost Value = { List Step };
+    ghost Value = { PlainScript };
 
-    ghost view = { λ s. s.steps.items };
+    ghost view = { λ s. record { local = s.local; steps = s.steps.items } };
 }
 
 impl Script {
-    /// The script of these steps.
-    pub fn new(steps: Vec<Step>) -> Self
-        ensures { result ≡ steps.items }
+    /// The script of these steps, with this local size where it fixes one.
+    pub fn new(local: Option<u32>, steps: Vec<Step>) -> Self
+        ensures size { result.local ≡ local }
+        ensures steps { result.steps ≡ steps.items }
     {
-        Script { steps }
+        Script { local, steps }
+    }
+
+    /// The local size of all launches, where the script fixes it: from 1 to 256 work-items.
+    pub fn local(&self) -> Option<u32>
+        ensures { result ≡ self.now.local }
+    {
+        self.local
     }
 
     /// The steps in order.
     pub fn steps(&self) -> &[Step]
-        ensures { result.now ≡ self.now }
+        ensures { result.now ≡ self.now.steps }
     {
         self.steps.as_slice()
     }
@@ -57,8 +65,9 @@ pub enum ScriptLimit {
 /// Why a text gives no script.
 #[derive(Clone, Copy, Debug, PartialEq, Eq, Error)]
 pub enum ScriptNo {
-    /// This line, counted from 1, is the first that is neither a step nor none.
-    #[error("line {line} is no step")]
+    /// This line, counted from 1, is the first that is no step, nor none, nor fixes the local size
+    /// where a line may.
+    #[error("line {line} is no line of a script")]
     Syntax { line: u64 },
     /// The text is a script, and passes this limit with this count.
     #[error("limit {which:?}: {count}")]

@@ -4,7 +4,7 @@ use Rattle.lift_tree.specs.declared.program.Size.{Size}
 use Rattle.lift_tree.specs.declared.layout.Layout as layout
 use Rattle.lift_tree.specs.declared.layout.Layout.TheVariants.{Join, Transpose, Split, Reverse, Stride}
 use Rattle.lift_tree.specs.declared.term.UnaryForm.{UnaryForm}
-use Rattle.lift_tree.specs.declared.term.UnaryForm.TheVariants.{Div, Rem, First, Second, Layout, Slide, Pad, ToLocal, ToPrivate}
+use Rattle.lift_tree.specs.declared.term.UnaryForm.TheVariants.{Div, Rem, First, Second, Layout, Slide, Pad, ToLocal, ToPrivate, Then}
 use Rattle.lift_tree.specs.declared.term.MapKind.{MapKind}
 use Rattle.lift_tree.specs.declared.term.FoldKind.{FoldKind}
 use Rattle.lift_tree.specs.Tree.{Tree, Variable, Number, Input, Unary, Binary, Select, Let, Map, Fold}
@@ -39,6 +39,7 @@ unary_start sizes (Slide s t) = codes "slide(" ++ two_numbers s t
 unary_start sizes (Pad l r) = codes "pad(" ++ two_numbers l r
 unary_start sizes ToLocal = codes "toLocal("
 unary_start sizes ToPrivate = codes "toPrivate("
+unary_start sizes Then = codes "then("
 
 -- what stands behind it
 abbrev pub unary_end : UnaryForm → List ℕ

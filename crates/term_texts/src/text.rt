@@ -58,6 +58,7 @@ fn push_unary_start(
         }
         UnaryForm::ToLocal => text.extend_from_slice(b"toLocal("),
         UnaryForm::ToPrivate => text.extend_from_slice(b"toPrivate("),
+        UnaryForm::Then => text.extend_from_slice(b"then("),
     }
 }
 

@@ -4,7 +4,7 @@ use Rattle.lift_tree.specs.Tree.{Tree}
 use Rattle.lift_tree.specs.Annotations.{Annotation, type_in}
 use Rattle.lowered_tree.specs.declared.around.Around.{Around}
 use Rattle.lowered_tree.specs.declared.rule.NestRule.{NestRule}
-use Rattle.lowered_tree.specs.Elements.{is_element}
+use Rattle.lift_tree.specs.Types.{is_element}
 use Rattle.lowered_tree.specs.Nest.{nest_fault}
 use Rattle.thread_mapping.specs.declared.judging.Broken.{Broken}
 use Rattle.thread_mapping.specs.declared.judging.NestNo.{NestNo}
@@ -24,6 +24,6 @@ from_child i (Some (p, r)) = Some (i ∷ p, r)
 from_child i None = None
 
 -- why a term isn't printed
-abbrev pub Refuses : NestNo → Tree → Annotation → Type 0
-Refuses (Nest place rule) t n = nest_fault t n ≡ Some (place, rule)
-Refuses Memory t n = Unit {0}
+abbrev pub Refuses : NestNo → Option ℕ → Tree → Annotation → Type 0
+Refuses (Nest place rule) local t n = nest_fault local t n ≡ Some (place, rule)
+Refuses Memory local t n = Unit {0}

@@ -3,11 +3,12 @@
 ghost use Rattle.std.specs.Prelude.{◌≡◌, [], IfErr, IfOk};
 ghost use Rattle.lift_tree.specs.Tree.{tree_of};
 ghost use Rattle.lift_tree.specs.Annotations.{annotation_of};
-ghost use Rattle.lowered_tree.specs.Nest.{at_place, first_broken, first_of};
+ghost use Rattle.lowered_tree.specs.Kinds.{IsLocalSize};
+ghost use Rattle.lowered_tree.specs.Nest.{at_place, earliest_rules, first_broken, first_broken_with, first_of, later_rules, nest_fault, size_rule};
 ghost use Rattle.lowered_tree.specs.Nodes.{sites_of, sites_among};
 ghost use Rattle.thread_mapping.specs.Found.{found, from_child, Refuses};
 
-use crate::rules::lowest;
+use crate::rules::{lowest, size_rule};
 use lift_tree::place::Place;
 use lowered_tree::lowered::{Lowered, Mapped};
 use lowered_tree::node::{Children, Node};
@@ -17,7 +18,7 @@ use std::alloc::{AllocError, Global};
 /// Why a term isn't printed.
 #[derive(Drop)]
 pub enum NestNo {
-    /// The first node in preorder at which a rule is broken, and the lowest such rule.
+    /// The first cut between two kernels in preorder; or, where there is none, the first node at which a rule is broken, and the lowest such rule.
     Nest { place: Place, rule: NestRule },
     /// Memory ran out.
     Memory,
@@ -75,45 +76,83 @@ fn earlier(first: Option<Broken>, second: Option<Broken>) -> Option<Broken>
     if first.is_some() { first } else { second }
 }
 
-// The first of these nodes and those below them at which a rule is broken, seen from their parent.
+// The first of these nodes and those below them at which one of the rules is broken, seen from their parent.
 #[tactic(auto, using(crate::proofs::Sites::first_under, crate::proofs::Sites::first_of_two_children, crate::proofs::Sites::first_of_three_children))]
 #[cycle(judging)]
-fn first_among(children: Children<'_>, alloc: Global) -> Result<Option<Broken>, AllocError>
-    ensures { IfOk result (λ b. found b ≡ first_broken (sites_among children.entry)) }
+fn first_among(
+    rules: &[NestRule],
+    children: Children<'_>,
+    alloc: Global,
+) -> Result<Option<Broken>, AllocError>
+    ensures { IfOk result (λ b. found b ≡ first_broken rules.now (sites_among children.entry)) }
 {
     match children {
         Children::Leaf => Ok(None),
-        Children::One(a) => in_child(0, first_in(a, alloc)?),
+        Children::One(a) => in_child(0, first_in(rules, a, alloc)?),
         Children::Two(a, b) => {
-            let first = in_child(0, first_in(a, alloc)?)?;
-            Ok(earlier(first, in_child(1, first_in(b, alloc)?)?))
+            let first = in_child(0, first_in(rules, a, alloc)?)?;
+            Ok(earlier(first, in_child(1, first_in(rules, b, alloc)?)?))
         }
         Children::Three(a, b, c) => {
-            let first = in_child(0, first_in(a, alloc)?)?;
-            let second = in_child(1, first_in(b, alloc)?)?;
-            Ok(earlier(first, earlier(second, in_child(2, first_in(c, alloc)?)?)))
+            let first = in_child(0, first_in(rules, a, alloc)?)?;
+            let second = in_child(1, first_in(rules, b, alloc)?)?;
+            let third = in_child(2, first_in(rules, c, alloc)?)?;
+            Ok(earlier(first, earlier(second, third)))
         }
     }
 }
 
-// The first node, of this one and those below it in preorder, at which a rule is broken.
+// The first node, of this one and those below it in preorder, at which one of the rules is broken.
 #[cycle(judging)]
-fn first_in(node: Node<'_>, alloc: Global) -> Result<Option<Broken>, AllocError>
-    ensures { IfOk result (λ b. found b ≡ first_broken (sites_of node.entry)) }
+fn first_in(rules: &[NestRule], node: Node<'_>, alloc: Global) -> Result<Option<Broken>, AllocError>
+    ensures { IfOk result (λ b. found b ≡ first_broken rules.now (sites_of node.entry)) }
 {
-    let own = here(alloc, lowest(&NestRule::ALL, node));
-    let later = first_among(node.children(), alloc)?;
+    let own = here(alloc, lowest(rules, node));
+    let later = first_among(rules, node.children(), alloc)?;
     Ok(earlier(own, later))
 }
 
-/// Judges the nest of a lowered term: by eleven rules at each node. `Nest` comes exactly where one is broken, with the first node in preorder and the lowest rule there.
-pub fn judge(alloc: Global, lowered: Lowered) -> Result<Mapped, NestNo>
-    ensures legal { IfOk result (λ m. m.lowered ≡ lowered) }
-    ensures refused { IfErr result
-        (λ e. Refuses e (tree_of lowered.term) (annotation_of lowered.types)) }
+// The first node of a whole term at which a rule is broken that isn't judged before all others, that
+// of a fixed local size behind the root's own.
+fn first_in_whole(
+    root: Node<'_>,
+    local: Option<u32>,
+    alloc: Global,
+) -> Result<Option<Broken>, AllocError>
+    ensures { IfOk result (λ b. found b
+        ≡ first_broken_with (size_rule local (tree_of root.entry.term.now)) (sites_of root.entry)) }
 {
-    match first_in(lowered.root(), alloc)? {
+    let own = here(alloc, lowest(&NestRule::LATER, root));
+    let of_size = here(alloc, size_rule(local, root.term));
+    let later = first_among(&NestRule::LATER, root.children(), alloc)?;
+    Ok(earlier(own, earlier(of_size, later)))
+}
+
+// A cut between two kernels, wherever it is; else what else is broken first.
+fn fault(alloc: Global, lowered: &Lowered, local: Option<u32>) -> Result<Option<Broken>, AllocError>
+    ensures { IfOk result (λ b. found b
+        ≡ nest_fault local (tree_of lowered.now.term) (annotation_of lowered.now.types)) }
+{
+    let cut = first_in(&NestRule::EARLIEST, lowered.root(), alloc)?;
+    let other = first_in_whole(lowered.root(), local, alloc)?;
+    Ok(earlier(cut, other))
+}
+
+/// Judges the nest of a lowered term, with the local size of all launches, from 1 to 256, where one is
+/// fixed: whether
+/// it has a cut between two kernels, then by eleven rules at each node, and by one of that size at the
+/// root, behind the root's own and before all nodes below it. `Nest` comes exactly where there is a
+/// cut, with the first in preorder, or where another rule is broken, with the first node in preorder
+/// and the lowest rule there.
+pub fn judge(alloc: Global, lowered: Lowered, local: Option<u32>) -> Result<Mapped, NestNo>
+    requires { IsLocalSize local }
+    ensures legal { IfOk result (λ m. m.lowered ≡ lowered) }
+    ensures size { IfOk result (λ m. m.local ≡ local) }
+    ensures refused { IfErr result
+        (λ e. Refuses e local (tree_of lowered.term) (annotation_of lowered.types)) }
+{
+    match fault(alloc, &lowered, local)? {
         Some(Broken { place, rule }) => Err(NestNo::Nest { place, rule }),
-        None => Ok(Mapped { lowered }),
+        None => Ok(Mapped { lowered, local }),
     }
 }

@@ -2,16 +2,19 @@
 
 ghost use Rattle.std.specs.Prelude.{◌≡◌};
 ghost use Rattle.lift_tree.specs.Annotations.{annotation_of};
-ghost use Rattle.lowered_tree.specs.Nest.{broken_at, lowest};
+ghost use Rattle.lift_tree.specs.Tree.{tree_of};
+ghost use Rattle.lowered_tree.specs.Nest.{broken_at, leaves_items_idle, lowest, size_rule};
 ghost use Rattle.lowered_tree.specs.Nodes.{own_site};
 ghost use Rattle.lowered_tree.specs.declared.rule.NestRule.TheVariants.{N4, N5, N7};
 ghost use Rattle.thread_mapping.specs.Found.{writes_array};
 
-use lowered_tree::around::is_element;
+use lift_tree::term::Term;
+use lowered_tree::around::is_task;
 use lowered_tree::forms::{
     copies_local_map, hangs_on_sizes, is_global_map, is_group_map, is_let_of_array,
     is_let_of_element, is_local_copy, is_local_map, is_lowered_fold, is_lowered_map,
-    is_parallel_map, is_placed, is_private_copy, is_read_alone, is_sequential_map, is_undecided,
+    is_parallel_map, is_placed, is_private_copy, is_read_alone, is_sequential_map, is_then,
+    is_undecided,
 };
 use lowered_tree::node::Node;
 use lowered_tree::rule::NestRule;
@@ -24,7 +27,7 @@ fn has_work_of_a_group(node: Node<'_>) -> bool
         && !node.around.in_local
         && (is_sequential_map(node.term)
             || is_lowered_fold(node.term)
-            || node.around.is_written && is_element(node.ty())
+            || node.around.is_written && node.ty().is_element()
             || is_let_of_element(node.term, node.types))
 }
 
@@ -43,7 +46,7 @@ fn has_work_in_an_argument(node: Node<'_>) -> bool
     let is_work = is_lowered_map(node.term)
         || is_lowered_fold(node.term)
         || is_let_of_element(node.term, node.types);
-    let is_element = node.around.in_element || is_element(node.ty());
+    let is_element = node.around.in_element || node.ty().is_element();
     node.around.in_argument && is_work || is_element && is_let_of_array(node.term, node.types)
 }
 
@@ -51,10 +54,10 @@ fn has_work_in_an_argument(node: Node<'_>) -> bool
 fn writes_array(node: Node<'_>) -> bool
     ensures { result ≡ writes_array node.entry.around (annotation_of node.entry.types.now) }
 {
-    node.around.is_written && !is_element(node.ty())
+    node.around.is_written && !node.ty().is_element()
 }
 
-/// Whether the rule is broken at this node.
+/// Whether the rule is broken at this node, which none of the whole is.
 pub fn breaks(rule: NestRule, node: Node<'_>) -> bool
     ensures { result ≡ broken_at rule (own_site node.entry) }
 {
@@ -73,6 +76,29 @@ pub fn breaks(rule: NestRule, node: Node<'_>) -> bool
         NestRule::N9 => is_parallel_map(node.term) && node.around.in_serial,
         NestRule::N10 => writes_array(node) && is_read_alone(node.term),
         NestRule::N11 => writes_array(node) && is_placed(node.term),
+        NestRule::N12 => false,
+        NestRule::N13 => is_then(node.term),
+    }
+}
+
+// A group would have more than one item, and one would do all the work of this whole term.
+fn leaves_items_idle(local: Option<u32>, whole: &Term) -> bool
+    ensures { result ≡ leaves_items_idle local (tree_of whole.now) }
+{
+    match local {
+        Some(size) => 1 < size && is_task(whole),
+        None => false,
+    }
+}
+
+/// The rule that a local size breaks, where one is fixed for this whole term.
+pub fn size_rule(local: Option<u32>, whole: &Term) -> Option<NestRule>
+    ensures { result ≡ size_rule local (tree_of whole.now) }
+{
+    if leaves_items_idle(local, whole) {
+        Some(NestRule::N12)
+    } else {
+        None
     }
 }
 

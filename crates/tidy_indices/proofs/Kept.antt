@@ -2,9 +2,12 @@
 use Rattle.std.proofs.Common.{◌≡◌, ℕ, Bool, true, false, Option, Some, None, List, [], refl, sym, ap, ◌∙◌, subst, arith}
 use Rattle.std.specs.Prelude.{◌∷◌, if◌then◌else◌}
 use Rattle.size_arith.specs.declared.names.Name.{Name}
+use Rattle.size_arith.specs.Ranges.{AreNames, Admissible, sizes_at}
 use Rattle.index_expr.specs.Expression as index
 use Rattle.index_expr.specs.Expression.{Expression, nodes}
-use Rattle.kernel_tree.specs.Formula.{Formula, Ids, Vars, value}
+use Rattle.kernel_tree.specs.Formula.{Formula, Ids, Vars, no_vars, value, sizes_alone}
+use Rattle.kernel_tree.specs.Launch.{ids_of}
+use Rattle.length_spelling.specs.Turns.{turns_of}
 use Rattle.length_spelling.specs.Formulas.{index_formula}
 use Rattle.length_spelling.specs.Laws.{AreWords}
 use Rattle.index_simplify.specs.PlainRanges.{PlainRanges}
@@ -18,55 +21,66 @@ use Rattle.tidy_indices.specs.Spelling.{IsNoLarger, SimpleFormulasAreIrredundant
 use Rattle.tidy_indices.specs.declared.spans.Span.{Span}
 use Rattle.tidy_indices.specs.Reading.{reading, IsIndexFormula}
 use Rattle.tidy_indices.specs.Spans.{span_of}
-use Rattle.tidy_indices.specs.Places.{PlainPlace, ranges_outside, in_loop_of, in_loop, inside, inside_all, place_of}
-use Rattle.tidy_indices.specs.Tidy.{ranges_by, tidied_reading, tidied_at}
-use Rattle.tidy_indices.specs.Laws.{AreBelow, EachIsIndexFormula, TidyFormulasKeepValues, TidyFormulasAreNoLarger, TidyFormulasAreIrredundant, TidyFormulasAreShort}
+use Rattle.tidy_indices.specs.Around.{Around, InLoop, InIf, StandsIn}
+use Rattle.tidy_indices.specs.Places.{PlainPlace, ranges_outside, in_loop_of, in_loop, inside, asked_turn, with_turn_within, in_if, within, within_all, place_of}
+use Rattle.tidy_indices.specs.Tidy.{ranges_by, tidied_reading, tidied_at, tidy_formula}
+use Rattle.tidy_indices.specs.Laws.{HaveIndexBounds, TidyFormulasKeepValues, TidyFormulasAreNoLarger, TidyFormulasAreIrredundant, TidyFormulasAreShort}
 use Rattle.tidy_indices.proofs.Known.{Known}
+use Rattle.tidy_indices.proofs.Sizes.{same_nodes}
+use Rattle.tidy_indices.proofs.Items.{AreIds, of_item, of_none}
 use Rattle.tidy_indices.proofs.Readings.{is_read, index_reads}
 use Rattle.tidy_indices.proofs.Worths.{simple_worth}
 use Rattle.tidy_indices.proofs.Intervals.{AreSizesOf, is_shown, is_ranged}
 use Rattle.tidy_indices.proofs.Turns.{Holds, place_is_of, place_holds, turns_fit, turns_up_to, are_below_lengths, multiples_at, sizes_fit, sizes_within, sizes_divide, shown_value}
 
 -- ---- values
-module _ (facts : Known) (names : List Name) (ids : Ids) (fit : AreWords ids.sizes) (sizes_are : AreSizesOf names ids.sizes) (all : AreMultiples (ranges_outside names) ids.sizes) (turns : List ℕ) (variables : Vars) (p : PlainPlace) (h : Holds names ids.sizes fit sizes_are all p turns) (f : Formula) (n : ℕ) (is : value ids turns variables f ≡ Some n) where
+module _ (facts : Known) (names : List Name) (ids : Ids) (fit : AreWords ids.sizes) (sizes_are : AreSizesOf names ids.sizes) (all : AreMultiples (ranges_outside names) ids.sizes) (loops : List ℕ) (variables : Vars) (p : PlainPlace) (h : Holds names ids.sizes fit sizes_are all p (turns_of ids loops)) (f : Formula) (n : ℕ) (is : value ids loops variables f ≡ Some n) where
   module _ (known : p.is_known ≡ true) (e : Expression) (read : reading f ≡ Some e) where
-    words : AreWords turns
-    words = turns_fit names ids.sizes fit sizes_are all p.around.lengths p.lasts turns (h.loops known)
+    words : AreWords (turns_of ids loops)
+    words = turns_fit names ids.sizes fit sizes_are all p.around.lengths p.lasts (turns_of ids loops) (h.known known)
 
-    worth : value ids turns variables (index_formula e) ≡ Some n
-    worth = ap (value ids turns variables) (is_read f e read).same ∙ is
+    worth : value ids loops variables (index_formula e) ≡ Some n
+    worth = ap (value ids loops variables) (is_read f e read).same ∙ is
 
-    ranged_value : (s : Span) → span_of p.sizes p.lasts e ≡ Some s → value ids turns variables (simple_formula p.around e) ≡ Some n
+    ranged_value : (s : Span) → span_of p.sizes p.lasts e ≡ Some s → value ids loops variables (simple_formula p.around e) ≡ Some n
     ranged_value s span =
+        let turns = turns_of ids loops in
         let it = is_read f e read in
-        let up_to = turns_up_to names ids.sizes fit sizes_are all p.around.lengths p.lasts turns (h.loops known) in
+        let up_to = turns_up_to names ids.sizes fit sizes_are all p.around.lengths p.lasts turns (h.known known) in
         let shown = is_shown names ids.sizes p.lasts turns sizes_are up_to e s it.literals (ap (λ z. span_of z p.lasts e) (sym h.is_of.sizes) ∙ span) in
-        let twice : Some n ≡ Some shown.at = sym worth ∙ shown_value facts names ids p.lasts turns variables sizes_are up_to e s fit words it.literals shown in
-        facts.simple p.around ids turns variables e shown.at fit words it.literals
-        (record { loops = are_below_lengths names ids.sizes fit sizes_are all p turns (h.loops known); multiples = multiples_at names ids.sizes fit sizes_are all p h.is_of; own = it.wide turns words })
+        let twice : Some n ≡ Some shown.at = sym worth ∙ shown_value facts names ids p.lasts loops variables sizes_are up_to e s fit words it.literals shown in
+        facts.simple p.around ids loops variables e shown.at fit words it.literals
+        (record { loops = are_below_lengths names ids.sizes fit sizes_are all p turns (h.known known); multiples = multiples_at names ids.sizes fit sizes_are all p h.is_of; own = it.wide turns words })
         (is_ranged names ids.sizes p.lasts turns sizes_are up_to e s shown) shown.divisors shown.exact_is
         ∙ sym twice
 
-    by_span : (s : Option Span) → span_of p.sizes p.lasts e ≡ s → value ids turns variables (simple_formula (ranges_by p s) e) ≡ Some n
+    by_span : (s : Option Span) → span_of p.sizes p.lasts e ≡ s → value ids loops variables (simple_formula (ranges_by p s) e) ≡ Some n
     by_span (Some s) span = ranged_value s span
-    by_span None span = let it = is_read f e read in simple_worth facts p.around.multiples ids turns variables fit words (multiples_at names ids.sizes fit sizes_are all p h.is_of) e n it.literals it.wide worth
+    by_span None span = let it = is_read f e read in simple_worth facts p.around.multiples ids loops variables fit words (multiples_at names ids.sizes fit sizes_are all p h.is_of) e n it.literals it.wide worth
 
-  by_reading : (known : p.is_known ≡ true) (e : Option Expression) → reading f ≡ e → value ids turns variables (tidied_reading p f e) ≡ Some n
+  by_reading : (known : p.is_known ≡ true) (e : Option Expression) → reading f ≡ e → value ids loops variables (tidied_reading p f e) ≡ Some n
   by_reading known (Some e) read = by_span known e read (span_of p.sizes p.lasts e) refl
   by_reading known None read = is
 
-  by_known : (b : Bool) → p.is_known ≡ b → value ids turns variables (if b then tidied_reading p f (reading f) else f) ≡ Some n
+  by_known : (b : Bool) → p.is_known ≡ b → value ids loops variables (if b then tidied_reading p f (reading f) else f) ≡ Some n
   by_known true known = by_reading known (reading f) refl
   by_known false known = is
 
+module _ (facts : Known) (names : List Name) (bases : List ℕ) (are : AreNames names) (ok : Admissible names bases) (local : Option (ℕ × ℕ)) where
+  kept : (ids : Ids) (around : List Around) (loops : List ℕ) (variables : Vars) (f : Formula) (n : ℕ) → ids.sizes ≡ sizes_at names bases → AreIds local ids → StandsIn ids around loops
+      → value ids loops variables f ≡ Some n → value ids loops variables (tidy_formula names local around f) ≡ Some n
+  kept ids around loops variables f n same own stands is =
+      let fit = subst AreWords (sym same) (sizes_fit names bases are ok) in
+      let sizes = subst (AreSizesOf names) (sym same) (sizes_within names bases are ok) in
+      let divide = subst (AreMultiples (ranges_outside names)) (sym same) (sizes_divide names bases ok) in
+      let p : PlainPlace = place_of names local around in
+      by_known facts names ids fit sizes divide loops variables p (place_holds names ids.sizes fit sizes divide facts ids refl local around loops own stands) f n is p.is_known refl
+
 pub keep_values : Known → TidyFormulasKeepValues
-keep_values facts names bases are ok ids bounds turns variables f n same below is =
-    let fit = subst AreWords (sym same) (sizes_fit names bases are ok) in
-    let within = subst (AreSizesOf names) (sym same) (sizes_within names bases are ok) in
-    let divide = subst (AreMultiples (ranges_outside names)) (sym same) (sizes_divide names bases ok) in
-    let p : PlainPlace = place_of names bounds in
-    by_known facts names ids fit within divide turns variables p
-    (place_holds names ids.sizes fit within divide facts bounds turns (subst (λ z. AreBelow z bounds turns) (sym same) below)) f n is p.is_known refl
+keep_values facts names bases local l are ok same at = record {
+  index = λ item around loops variables f n stands is. kept facts names bases are ok local (ids_of l item) around loops variables f n same (of_item local l at item) stands is;
+  bound = λ b n is. kept facts names bases are ok local (sizes_alone l.sizes) [] [] no_vars b n same (of_none local l at l.sizes) tt is;
+}
 
 -- ---- sizes
 itself : (f : Formula) → IsNoLarger f f
@@ -81,7 +95,7 @@ no_larger_at small p f true = no_larger_by small p f (reading f) refl
 no_larger_at small p f false = itself f
 
 pub no_larger : SimpleFormulasAreNoLarger → TidyFormulasAreNoLarger
-no_larger small names bounds f = let p : PlainPlace = place_of names bounds in no_larger_at small p f p.is_known
+no_larger small names local around f = let p : PlainPlace = place_of names local around in no_larger_at small p f p.is_known
 
 -- ---- in loops whose bounds are read
 loop_known : (p : PlainPlace) (e : Expression) (s : Option Span) → p.is_known ≡ true → (in_loop_of p e s).is_known ≡ true
@@ -93,9 +107,19 @@ in_known p b is h =
     let read = index_reads b is in
     subst (λ z. (in_loop p z).is_known ≡ true) (sym read.1) (loop_known p read.0 (span_of p.sizes [] read.0) h)
 
-all_known : (p : PlainPlace) (bounds : List Formula) → EachIsIndexFormula bounds → p.is_known ≡ true → (inside_all p bounds).is_known ≡ true
+turn_known : (p : PlainPlace) (k : ℕ) (e : Expression) (s : Option Span) → p.is_known ≡ true → (with_turn_within p k e s).is_known ≡ true
+turn_known p k e (Some s) h = h
+turn_known p k e None h = h
+
+if_known : (p : PlainPlace) (k : Option ℕ) (e : Option Expression) → p.is_known ≡ true → (in_if p k e).is_known ≡ true
+if_known p (Some k) (Some e) h = turn_known p k e (span_of p.sizes [] e) h
+if_known p (Some k) None h = h
+if_known p None e h = h
+
+all_known : (p : PlainPlace) (around : List Around) → HaveIndexBounds around → p.is_known ≡ true → (within_all p around).is_known ≡ true
 all_known p [] each h = h
-all_known p (b ∷ bounds) each h = all_known (inside p b) bounds each.1 (in_known p b each.0 h)
+all_known p (InLoop b ∷ around) each h = all_known (within p (InLoop b)) around each.1 (in_known p b each.0 h)
+all_known p (InIf s b ∷ around) each h = all_known (within p (InIf s b)) around each (if_known p (asked_turn s) (reading b) h)
 
 -- there an index is simplified
 record IsSimplifiedHere (p : PlainPlace) (f : Formula) (e : Expression) : Type 0 where
@@ -115,25 +139,19 @@ simplified_here p f e known read = record {
 }
 
 pub irredundant : SimpleFormulasAreIrredundant → TidyFormulasAreIrredundant
-irredundant plain names bounds f each is =
+irredundant plain names local around f each is =
     let read = index_reads f is in
-    let here = simplified_here (place_of names bounds) f read.0 (all_known _ bounds each refl) read.1 in
+    let here = simplified_here (place_of names local around) f read.0 (all_known _ around each refl) read.1 in
     subst IsIrredundant (sym here.same) (plain here.ranges read.0)
-
-same_nodes : (e : Expression) → formula_nodes (index_formula e) ≡ nodes e
-same_nodes (index.Variable k l g) = refl
-same_nodes (index.Literal n) = refl
-same_nodes (index.Size k) = refl
-same_nodes (index.Binary o a b) = let x = same_nodes a in let y = same_nodes b in omega arith
 
 -- what is declared depends on what sizes are multiples of alone
 declared_by : (r q : PlainRanges) (e : Expression) → r.multiples ≡ q.multiples → AreDeclared r e → AreDeclared q e
 declared_by r q e same h = subst (λ ms. AreDeclared (record { lengths = q.lengths; multiples = ms }) e) same h
 
 pub short : ExpressionsAreSimplified → TidyFormulasAreShort
-short simplified names bounds f e each read declared =
-    let here = simplified_here (place_of names bounds) f e (all_known _ bounds each refl) read in
-    let of = place_is_of names bounds in
+short simplified names local around f e each read declared =
+    let here = simplified_here (place_of names local around) f e (all_known _ around each refl) read in
+    let of = place_is_of names local around in
     let fine = declared_by (ranges_outside names) here.ranges e (sym (here.multiples ∙ of.multiples)) declared in
     let few = (simplified here.ranges e).short fine in
     let count = same_nodes (simple here.ranges e) in

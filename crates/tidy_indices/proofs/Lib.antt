@@ -1,3 +1,5 @@
+mod Changes
+mod Spelled
 mod Sizes
 mod Shapes
 mod Values
@@ -5,5 +7,6 @@ mod Known
 mod Readings
 mod Worths
 mod Intervals
+mod Items
 mod Turns
 mod Kept

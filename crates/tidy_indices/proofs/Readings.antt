@@ -1,6 +1,6 @@
 -- What is read of an expression of a kernel.
 use Rattle.std.proofs.Common.{◌≡◌, ℕ, ◌^◌, Bool, true, false, Option, Some, None, List, refl, ap, ◌∙◌, subst, arith}
-use Rattle.std.specs.Prelude.{nat_lt, if◌then◌else◌}
+use Rattle.std.specs.Prelude.{nat_lt, if◌then◌else◌, option_map}
 use Rattle.std.proofs.lemmas.Bool.{ltb-true, lt-ltb}
 use Rattle.scalar_ops.specs.declared.op.Op.{Op}
 use Rattle.scalar_ops.specs.declared.op.Op.TheVariants.{Add, Sub, Mul, Div, Rem, Min, Max}
@@ -8,12 +8,14 @@ use Rattle.index_expr.specs.declared.operation.Operation.{Operation}
 use Rattle.index_expr.specs.declared.operation.Operation.TheVariants.{Sum, Difference, Product, Quotient, Remainder, Least, Greatest}
 use Rattle.index_expr.specs.Expression as index
 use Rattle.index_expr.specs.Expression.{Expression}
-use Rattle.kernel_tree.specs.Formula.{Formula, Number, Variable, LoopVariable, Size, Id, Binary, Choose}
+use Rattle.kernel_tree.specs.declared.tree.Dimension.TheVariants.{X}
+use Rattle.kernel_tree.specs.Formula.{Formula, Number, Variable, LoopVariable, Size, Id, GroupId, LocalId, Binary, Choose}
+use Rattle.length_spelling.specs.Turns.{loop_turn, turn_formula}
 use Rattle.length_spelling.specs.Formulas.{index_formula, operator_of}
 use Rattle.length_spelling.specs.Laws.{AreWords}
 use Rattle.index_simplify.specs.Ranges.{AreWithin}
 use Rattle.index_simplify.specs.Simplified.{HasWordLiterals}
-use Rattle.tidy_indices.specs.Reading.{operation_of, on_both, reading, IsIndexOperator, IsIndexFormula}
+use Rattle.tidy_indices.specs.Reading.{any_turn, operation_of, on_both, reading, IsIndexOperator, IsIndexFormula}
 
 -- its variables may be any words
 abbrev pub AreWide : Expression → Type 0
@@ -30,8 +32,13 @@ number_read n true e t h =
     subst (IsRead (Number n)) same (record { same = refl; literals = ltb-true n (2 ^ 32) t; wide = λ turns w. tt })
 number_read n false e t h = absurd (cc h)
 
-loop_read : (k : ℕ) → IsRead (LoopVariable k) (index.Variable k 0 4294967295)
-loop_read k = record { same = refl; literals = tt; wide = λ turns w. (omega arith, let lt = w k in omega arith) }
+turn_read : (k : ℕ) → IsRead (turn_formula k) (any_turn k)
+turn_read k = record { same = refl; literals = tt; wide = λ turns w. (omega arith, let lt = w k in omega arith) }
+
+-- a loop's turn whose number is a word
+numbered : (k : ℕ) (b : Bool) (e : Expression) → option_map any_turn (if b then Some k else None) ≡ Some e → any_turn k ≡ e
+numbered k true e h = cc h
+numbered k false e h = absurd (cc h)
 
 size_read : (k : ℕ) → IsRead (Size k) (index.Size k)
 size_read k = record { same = refl; literals = tt; wide = λ turns w. tt }
@@ -64,8 +71,10 @@ operation_read op None f g a b e is x y h = absurd (cc h)
 pub is_read : (f : Formula) (e : Expression) → reading f ≡ Some e → IsRead f e
 is_read (Number n) e h = number_read n (nat_lt n (2 ^ 32)) e refl h
 is_read (Variable v) e h = absurd (cc h)
-is_read (LoopVariable k) e h = let same : index.Variable k 0 4294967295 ≡ e = cc h in subst (IsRead (LoopVariable k)) same (loop_read k)
+is_read (LoopVariable k) e h = subst (IsRead (LoopVariable k)) (numbered (loop_turn k) (nat_lt (loop_turn k) (2 ^ 32)) e h) (turn_read (loop_turn k))
 is_read (Size k) e h = let same : index.Size k ≡ e = cc h in subst (IsRead (Size k)) same (size_read k)
+is_read (Id X GroupId) e h = let same : any_turn 0 ≡ e = cc h in subst (IsRead (Id X GroupId)) same (turn_read 0)
+is_read (Id X LocalId) e h = let same : any_turn 1 ≡ e = cc h in subst (IsRead (Id X LocalId)) same (turn_read 1)
 is_read (Id d form) e h = absurd (cc h)
 is_read (Binary o a b) e h = operation_read o (operation_of o) a b (reading a) (reading b) e refl (is_read a) (is_read b) h
 is_read (Choose c a b x y) e h = absurd (cc h)
@@ -87,8 +96,10 @@ operator_read _ h = absurd h
 pub index_reads : (f : Formula) → IsIndexFormula f → Reads f
 index_reads (Number n) h = (index.Literal n, ap (λ (b : Bool). if b then Some (index.Literal n) else None) (lt-ltb n (2 ^ 32) h))
 index_reads (Variable v) h = absurd h
-index_reads (LoopVariable k) h = (index.Variable k 0 4294967295, refl)
+index_reads (LoopVariable k) h = (any_turn (loop_turn k), ap (λ (b : Bool). option_map any_turn (if b then Some (loop_turn k) else None)) (lt-ltb (loop_turn k) (2 ^ 32) h))
 index_reads (Size k) h = (index.Size k, refl)
+index_reads (Id X GroupId) h = (any_turn 0, refl)
+index_reads (Id X LocalId) h = (any_turn 1, refl)
 index_reads (Id d form) h = absurd h
 index_reads (Binary o a b) h =
     let p = operator_read o h.0 in

@@ -7,6 +7,7 @@ use Rattle.index_expr.specs.declared.operation.Operation.TheVariants.{Sum, Diffe
 use Rattle.index_expr.specs.Expression.{Expression, Variable, Literal, Size, Binary}
 use Rattle.kernel_tree.specs.Formula as formula
 use Rattle.kernel_tree.specs.Formula.{Formula}
+use Rattle.length_spelling.specs.Turns.{turn_formula}
 use Rattle.length_spelling.specs.Formulas.{index_formula, operator_of}
 use Rattle.index_simplify.specs.Operations.{simple}
 use Rattle.index_simplify.specs.Shapes as shape
@@ -14,6 +15,7 @@ use Rattle.index_simplify.specs.Shapes.{EachNode, IsPlain}
 use Rattle.index_simplify.specs.Promises.{ExpressionsAreSimplified}
 use Rattle.tidy_indices.specs.Redundant.{IsRedundant, SumOfNumbers, ProductOfNumbers, LeastOfNumbers, GreatestOfNumbers, QuotientOfNumbers, RemainderOfNumbers, PlusZero, ZeroPlus, MinusZero, TimesOne, OneTimes, TimesZero, ZeroTimes, OverOne, ModuloOne, CellOfParts, IsIrredundant}
 use Rattle.tidy_indices.specs.Spelling.{SimpleFormulasAreIrredundant}
+use Rattle.tidy_indices.proofs.Spelled.{no_number, no_size, no_operation, turn_back, turn_irredundant}
 
 -- ---- an operation is known by its operator
 abbrev operation_in : Op → Operation
@@ -36,21 +38,21 @@ known Greatest = refl
 
 -- ---- an expression is known by its spelling, but for the ranges of its variables
 number_back : (e : Expression) (n : ℕ) → index_formula e ≡ formula.Number n → e ≡ Literal n
-number_back (Variable k l g) n h = absurd (cc h)
+number_back (Variable k l g) n h = absurd (no_number k n h)
 number_back (Literal m) n h = let same : m ≡ n = cc h in ap Literal same
 number_back (Size k) n h = absurd (cc h)
 number_back (Binary o a b) n h = absurd (cc h)
 
-record IsLoop (i : ℕ) (e : Expression) : Type 0 where
+record IsTurn (i : ℕ) (e : Expression) : Type 0 where
   least : ℕ
   greatest : ℕ
   same : e ≡ Variable i least greatest
 
-loop_back : (e : Expression) (i : ℕ) → index_formula e ≡ formula.LoopVariable i → IsLoop i e
-loop_back (Variable k l g) i h = let same : k ≡ i = cc h in record { least = l; greatest = g; same = ap (λ x. Variable x l g) same }
-loop_back (Literal m) i h = absurd (cc h)
-loop_back (Size k) i h = absurd (cc h)
-loop_back (Binary o a b) i h = absurd (cc h)
+turn_in : (e : Expression) (i : ℕ) → index_formula e ≡ turn_formula i → IsTurn i e
+turn_in (Variable k l g) i h = record { least = l; greatest = g; same = ap (λ x. Variable x l g) (turn_back k i h) }
+turn_in (Literal m) i h = absurd (no_number i m (sym h))
+turn_in (Size k) i h = absurd (no_size i k (sym h))
+turn_in (Binary o a b) i h = absurd (no_operation i (operator_of o) (index_formula a) (index_formula b) (sym h))
 
 record IsMade (o : Operation) (x y : Formula) (e : Expression) : Type 0 where
   first : Expression
@@ -60,7 +62,7 @@ record IsMade (o : Operation) (x y : Formula) (e : Expression) : Type 0 where
   right : index_formula second ≡ y
 
 made_back : (e : Expression) (op : Op) (x y : Formula) → index_formula e ≡ formula.Binary op x y → IsMade (operation_in op) x y e
-made_back (Variable k l g) op x y h = absurd (cc h)
+made_back (Variable k l g) op x y h = absurd (no_operation k op x y h)
 made_back (Literal m) op x y h = absurd (cc h)
 made_back (Size k) op x y h = absurd (cc h)
 made_back (Binary o a b) op x y h =
@@ -84,21 +86,21 @@ left_back e op n f h =
     let made = made_back e op (formula.Number n) f h in
     (made.second, made.same ∙ ap (λ x. Binary (operation_in op) x made.second) (number_back made.first n made.left))
 
--- a loop's variable under an operation with a number
-part_back : (e : Expression) (op : Op) (i n : ℕ) → index_formula e ≡ formula.Binary op (formula.LoopVariable i) (formula.Number n) → (l g : ℕ) × (e ≡ Binary (operation_in op) (Variable i l g) (Literal n))
+-- a turn under an operation with a number
+part_back : (e : Expression) (op : Op) (i n : ℕ) → index_formula e ≡ formula.Binary op (turn_formula i) (formula.Number n) → (l g : ℕ) × (e ≡ Binary (operation_in op) (Variable i l g) (Literal n))
 part_back e op i n h =
-    let made = right_back e op (formula.LoopVariable i) n h in
-    let parts = made_back e op (formula.LoopVariable i) (formula.Number n) h in
-    let loop = loop_back parts.first i parts.left in (
-      loop.least,
-      loop.greatest,
-      parts.same ∙ ap (λ x. Binary (operation_in op) x parts.second) loop.same ∙ ap (Binary (operation_in op) (Variable i loop.least loop.greatest)) (number_back parts.second n parts.right),
+    let made = right_back e op (turn_formula i) n h in
+    let parts = made_back e op (turn_formula i) (formula.Number n) h in
+    let turn = turn_in parts.first i parts.left in (
+      turn.least,
+      turn.greatest,
+      parts.same ∙ ap (λ x. Binary (operation_in op) x parts.second) turn.same ∙ ap (Binary (operation_in op) (Variable i turn.least turn.greatest)) (number_back parts.second n parts.right),
     )
 
-cell_back : (e : Expression) (i n : ℕ) → index_formula e ≡ formula.Binary Add (formula.Binary Mul (formula.Binary Div (formula.LoopVariable i) (formula.Number n)) (formula.Number n)) (formula.Binary Rem (formula.LoopVariable i) (formula.Number n)) → shape.IsRedundant e
+cell_back : (e : Expression) (i n : ℕ) → index_formula e ≡ formula.Binary Add (formula.Binary Mul (formula.Binary Div (turn_formula i) (formula.Number n)) (formula.Number n)) (formula.Binary Rem (turn_formula i) (formula.Number n)) → shape.IsRedundant e
 cell_back e i n h =
-    let sum = made_back e Add (formula.Binary Mul (formula.Binary Div (formula.LoopVariable i) (formula.Number n)) (formula.Number n)) (formula.Binary Rem (formula.LoopVariable i) (formula.Number n)) h in
-    let times = made_back sum.first Mul (formula.Binary Div (formula.LoopVariable i) (formula.Number n)) (formula.Number n) sum.left in
+    let sum = made_back e Add (formula.Binary Mul (formula.Binary Div (turn_formula i) (formula.Number n)) (formula.Number n)) (formula.Binary Rem (turn_formula i) (formula.Number n)) h in
+    let times = made_back sum.first Mul (formula.Binary Div (turn_formula i) (formula.Number n)) (formula.Number n) sum.left in
     let quotient = part_back times.first Div i n times.left in
     let remainder = part_back sum.second Rem i n sum.right in
     let number = number_back times.second n times.right in
@@ -125,7 +127,7 @@ redundant_back e _ (ModuloOne f) h = let b = right_back e Rem f 1 h in subst sha
 redundant_back e _ (CellOfParts i n) h = cell_back e i n h
 
 irredundant : (e : Expression) → EachNode IsPlain e → IsIrredundant (index_formula e)
-irredundant (Variable k l g) h = tt
+irredundant (Variable k l g) h = turn_irredundant k
 irredundant (Literal n) h = tt
 irredundant (Size k) h = tt
 irredundant (Binary o a b) h = ((λ red. h.0.irredundant (redundant_back (Binary o a b) _ red refl)), irredundant a h.1, irredundant b h.2)

@@ -8,12 +8,14 @@ use Rattle.index_expr.specs.Expression.{Expression, Variable, Literal, Size, Bin
 use Rattle.kernel_tree.specs.Code.{Kernel}
 use Rattle.kernel_tree.specs.Grammar as grammar
 use Rattle.kernel_tree.specs.Grammar.{is_constant, is_operator, names_declared}
+use Rattle.length_spelling.specs.Turns.{turn_formula}
 use Rattle.length_spelling.specs.Formulas.{index_formula, operator_of}
 use Rattle.index_simplify.specs.Operations.{simple}
 use Rattle.index_simplify.specs.Simplified.{height, names_are, HasWordLiterals}
 use Rattle.index_simplify.specs.Promises.{ExpressionsAreSimplified}
 use Rattle.tidy_indices.specs.Formulas.{formula_nodes}
 use Rattle.tidy_indices.specs.Spelling.{SimpleFormulasAreNoLarger}
+use Rattle.tidy_indices.proofs.Spelled.{turn_nodes, turn_height, turn_varies}
 
 both : (a b : Bool) → (a && b) ≡ true → (a ≡ true) × (b ≡ true)
 both true b e = (refl, e)
@@ -23,20 +25,20 @@ and_both : (a b : Bool) → a ≡ true → b ≡ true → (a && b) ≡ true
 and_both true b p q = q
 and_both false b p q = absurd (cc p)
 
-same_nodes : (e : Expression) → formula_nodes (index_formula e) ≡ nodes e
-same_nodes (Variable k l g) = refl
+pub same_nodes : (e : Expression) → formula_nodes (index_formula e) ≡ nodes e
+same_nodes (Variable k l g) = turn_nodes k
 same_nodes (Literal n) = refl
 same_nodes (Size k) = refl
 same_nodes (Binary o a b) = let x = same_nodes a in let y = same_nodes b in omega arith
 
 same_height : (e : Expression) → grammar.height (index_formula e) ≡ height e
-same_height (Variable k l g) = refl
+same_height (Variable k l g) = turn_height k
 same_height (Literal n) = refl
 same_height (Size k) = refl
 same_height (Binary o a b) = let x = same_height a in let y = same_height b in omega arith
 
 same_constant : (e : Expression) → is_constant (index_formula e) ≡ names_are (λ k. false) (λ k. true) e
-same_constant (Variable k l g) = refl
+same_constant (Variable k l g) = turn_varies k
 same_constant (Literal n) = refl
 same_constant (Size k) = refl
 same_constant (Binary o a b) = let x = same_constant a in let y = same_constant b in cc
@@ -52,7 +54,7 @@ operators Greatest = refl
 
 module _ (k : Kernel) (loops : ℕ) where
   abbrev AreNames : Expression → Bool
-  AreNames e = names_are (λ i. nat_lt i loops) (λ s. nat_lt s k.sizes) e
+  AreNames e = names_are (λ i. names_declared k loops (turn_formula i)) (λ s. nat_lt s k.sizes) e
 
   names_of : (e : Expression) → names_declared k loops (index_formula e) ≡ true → (AreNames e ≡ true) × HasWordLiterals e
   names_of (Variable i l g) h = (h, tt)
@@ -77,7 +79,7 @@ pub are_no_larger : ExpressionsAreSimplified → SimpleFormulasAreNoLarger
 are_no_larger simplified r e =
     let made = simplified r e in
     record {
-      declared = λ k loops h. let names = names_of k loops e h in names_back k loops (simple r e) (made.small.names (λ i. nat_lt i loops) (λ s. nat_lt s k.sizes) names.0) (made.literals names.1);
+      declared = λ k loops h. let names = names_of k loops e h in names_back k loops (simple r e) (made.small.names (λ i. names_declared k loops (turn_formula i)) (λ s. nat_lt s k.sizes) names.0) (made.literals names.1);
       constant = λ h. same_constant (simple r e) ∙ made.small.names (λ i. false) (λ s. true) (sym (same_constant e) ∙ h);
       low = (let x = same_height e in let y = same_height (simple r e) in let z = made.small.height in omega arith);
       nodes = (let x = same_nodes e in let y = same_nodes (simple r e) in let z = made.small.nodes in omega arith);

@@ -9,6 +9,7 @@ use Rattle.index_expr.specs.Expression.{Expression, Variable, Literal, Size, Bin
 use Rattle.index_expr.specs.Values.{operate_words, Divides}
 use Rattle.kernel_tree.specs.Formula as formula
 use Rattle.kernel_tree.specs.Formula.{Formula, Ids, Vars, operate, with_both, value}
+use Rattle.length_spelling.specs.Turns.{turn_formula, turns_of}
 use Rattle.length_spelling.specs.Formulas.{index_formula, operator_of}
 use Rattle.length_spelling.specs.Laws.{AreWords}
 use Rattle.index_simplify.specs.PlainRanges.{PlainRanges}
@@ -28,6 +29,7 @@ use Rattle.index_simplify.specs.Simplified.{HasWordLiterals}
 use Rattle.index_simplify.specs.Promises.{SameOperationsAreEqual}
 use Rattle.tidy_indices.proofs.Known.{Known}
 use Rattle.tidy_indices.proofs.Readings.{AreWide}
+use Rattle.tidy_indices.proofs.Spelled.{turn_value}
 
 -- ---- words
 word_same : (x : ℕ) → x < 2 ^ 32 → x % 2 ^ 32 ≡ x
@@ -130,7 +132,7 @@ number_is n _ h = absurd (cc h)
 
 -- ---- the same but for the ranges of variables: the same formula
 variable_formula : (k l g : ℕ) (e : Expression) → same_variable k e ≡ true → index_formula (Variable k l g) ≡ index_formula e
-variable_formula k l g (Variable j m h) e = ap formula.LoopVariable (eqb-true k j e)
+variable_formula k l g (Variable j m h) e = ap turn_formula (eqb-true k j e)
 variable_formula k l g _ e = absurd (cc e)
 
 size_formula : (k : ℕ) (e : Expression) → same_size k e ≡ true → index_formula (Size k) ≡ index_formula e
@@ -380,36 +382,36 @@ module _ (facts : Known) (multiples : List ℕ) where
       ∙ ap (parted_operation Sizes o a) (parted_same b (λ turns w. (wide turns w).1) h.1)
       ∙ ap (λ z. unwrap_or z (Binary o a b)) (no_part o a b (λ turns w. (wide turns w).0) (λ turns w. (wide turns w).1) h.0 h.1)
 
-  module _ (ids : Ids) (turns : List ℕ) (variables : Vars) (sizes_fit : AreWords ids.sizes) (turns_fit : AreWords turns) (all : AreMultiples Sizes ids.sizes) where
+  module _ (ids : Ids) (loops : List ℕ) (variables : Vars) (sizes_fit : AreWords ids.sizes) (turns_fit : AreWords (turns_of ids loops)) (all : AreMultiples Sizes ids.sizes) where
     abbrev IsWorth : Expression → ℕ → Type 0
-    IsWorth e n = value ids turns variables (index_formula e) ≡ Some n
+    IsWorth e n = value ids loops variables (index_formula e) ≡ Some n
 
     -- an operation's result comes of what its arguments are worth
     record HasParts (o : Operation) (a b : Formula) (n : ℕ) : Type 0 where
       first : ℕ
       second : ℕ
-      first_is : value ids turns variables a ≡ Some first
-      second_is : value ids turns variables b ≡ Some second
+      first_is : value ids loops variables a ≡ Some first
+      second_is : value ids loops variables b ≡ Some second
       is_result : IsResult o first second n
 
-    parts_of : (o : Operation) (a b : Formula) (n : ℕ) (x y : Option ℕ) → value ids turns variables a ≡ x → value ids turns variables b ≡ y → with_both (operate (operator_of o)) x y ≡ Some n → HasParts o a b n
+    parts_of : (o : Operation) (a b : Formula) (n : ℕ) (x y : Option ℕ) → value ids loops variables a ≡ x → value ids loops variables b ≡ y → with_both (operate (operator_of o)) x y ≡ Some n → HasParts o a b n
     parts_of o a b n None y p q h = absurd (cc h)
     parts_of o a b n (Some x) None p q h = absurd (cc h)
     parts_of o a b n (Some x) (Some y) p q h = record { first = x; second = y; first_is = p; second_is = q; is_result = result_back o x y n h }
 
-    parts : (o : Operation) (a b : Formula) (n : ℕ) → value ids turns variables (formula.Binary (operator_of o) a b) ≡ Some n → HasParts o a b n
-    parts o a b n h = parts_of o a b n (value ids turns variables a) (value ids turns variables b) refl refl h
+    parts : (o : Operation) (a b : Formula) (n : ℕ) → value ids loops variables (formula.Binary (operator_of o) a b) ≡ Some n → HasParts o a b n
+    parts o a b n h = parts_of o a b n (value ids loops variables a) (value ids loops variables b) refl refl h
 
     joined : (o : Operation) (a b : Expression) (x y : ℕ) → IsWorth a x → IsWorth b y → (Divides o → y ≢ 0) → IsWorth (Binary o a b) (operate_words o x y)
     joined o a b x y p q d =
-        ap (λ z. with_both (operate (operator_of o)) z (value ids turns variables (index_formula b))) p
+        ap (λ z. with_both (operate (operator_of o)) z (value ids loops variables (index_formula b))) p
         ∙ ap (with_both (operate (operator_of o)) (Some x)) q ∙ result_is o x y d
 
     some : (m n : ℕ) → Some m ≡ Some n → m ≡ n
     some m n e = cc e
 
     pub word_of : (e : Expression) (n : ℕ) → HasWordLiterals e → IsWorth e n → n < 2 ^ 32
-    word_of (Variable k l g) n h w = subst (λ z. z < 2 ^ 32) (some _ _ w) (turns_fit k)
+    word_of (Variable k l g) n h w = subst (λ z. z < 2 ^ 32) (some _ _ (sym (turn_value ids loops variables k) ∙ w)) (turns_fit k)
     word_of (Literal m) n h w = subst (λ z. z < 2 ^ 32) (some _ _ w) h
     word_of (Size k) n h w = subst (λ z. z < 2 ^ 32) (some _ _ w) (sizes_fit k)
     word_of (Binary o a b) n h w =
@@ -422,7 +424,7 @@ module _ (facts : Known) (multiples : List ℕ) where
         let tests = and_parts (same_operation o p) (is_number k b) h in
         let q = parts o (index_formula a) (index_formula b) n w in
         let is = number_is k b tests.1 in
-        let same : q.second ≡ k = some _ _ (sym q.second_is ∙ ap (λ e. value ids turns variables (index_formula e)) is) in
+        let same : q.second ≡ k = some _ _ (sym q.second_is ∙ ap (λ e. value ids loops variables (index_formula e)) is) in
         (q.first, q.first_is, q.is_result.result ∙ ap (λ x. operate_words x q.first q.second) (facts.operations o p tests.0) ∙ ap (operate_words p q.first) same)
 
     first_known : (o p : Operation) (k n : ℕ) (a b : Expression) → (same_operation o p && is_number k a) ≡ true → IsWorth (Binary o a b) n → (y : ℕ) × (IsWorth b y) × (n ≡ operate_words p k y)
@@ -430,7 +432,7 @@ module _ (facts : Known) (multiples : List ℕ) where
         let tests = and_parts (same_operation o p) (is_number k a) h in
         let q = parts o (index_formula a) (index_formula b) n w in
         let is = number_is k a tests.1 in
-        let same : q.first ≡ k = some _ _ (sym q.first_is ∙ ap (λ e. value ids turns variables (index_formula e)) is) in
+        let same : q.first ≡ k = some _ _ (sym q.first_is ∙ ap (λ e. value ids loops variables (index_formula e)) is) in
         (q.second, q.second_is, q.is_result.result ∙ ap (λ x. operate_words x q.first q.second) (facts.operations o p tests.0) ∙ ap (λ z. operate_words p z q.second) same)
 
     -- the second stands where it has the first's worth
@@ -454,8 +456,8 @@ module _ (facts : Known) (multiples : List ℕ) where
     computed_worth o a b n lits h w =
         let l = are_literals o a b h in
         let q = parts o (index_formula a) (index_formula b) n w in
-        let first : l.first ≡ q.first = some _ _ (sym (ap (λ e. value ids turns variables (index_formula e)) l.first_is) ∙ q.first_is) in
-        let second : l.second ≡ q.second = some _ _ (sym (ap (λ e. value ids turns variables (index_formula e)) l.second_is) ∙ q.second_is) in
+        let first : l.first ≡ q.first = some _ _ (sym (ap (λ e. value ids loops variables (index_formula e)) l.first_is) ∙ q.first_is) in
+        let second : l.second ≡ q.second = some _ _ (sym (ap (λ e. value ids loops variables (index_formula e)) l.second_is) ∙ q.second_is) in
         let both_are : computed o a b ≡ computed_from o l.first l.second = ap (λ e. computed o e b) l.first_is ∙ ap (computed o (Literal l.first)) l.second_is in
         let is = from_computed o l.first l.second (subst HasWordLiterals l.first_is lits) (subst (λ z. is_some z ≡ true) both_are h) in
         ap Some (ap (λ z. unwrap_or z 0) both_are ∙ is ∙ ap (λ z. operate_words o z l.second) first ∙ ap (operate_words o q.first) second ∙ sym q.is_result.result)
@@ -464,7 +466,7 @@ module _ (facts : Known) (multiples : List ℕ) where
     minus_worth o a b n lits h w =
         let tests = and_parts (same_operation o Difference) (same a b) h in
         let q = parts o (index_formula a) (index_formula b) n w in
-        let alike : q.first ≡ q.second = some _ _ (sym q.first_is ∙ ap (value ids turns variables) (same_formula facts.operations a b tests.1) ∙ q.second_is) in
+        let alike : q.first ≡ q.second = some _ _ (sym q.first_is ∙ ap (value ids loops variables) (same_formula facts.operations a b tests.1) ∙ q.second_is) in
         ap Some (sym (q.is_result.result ∙ ap (λ x. operate_words x q.first q.second) (facts.operations o Difference tests.0) ∙ ap (operate_words Difference q.first) (sym alike) ∙ minus_same q.first (word_of a q.first lits q.first_is)))
 
     -- ---- a literal times a size over its divisor
@@ -480,8 +482,8 @@ module _ (facts : Known) (multiples : List ℕ) where
         → (n ≡ (p.times * (slice_index ids.sizes p.number / p.divisor)) % 2 ^ 32) × (p.divisor ≢ 0)
     scaled_worth o a b n h p w =
         let q = parts o (index_formula a) (index_formula b) n w in
-        let over : HasParts Quotient (formula.Size p.number) (formula.Number p.divisor) q.second = parts Quotient (formula.Size p.number) (formula.Number p.divisor) q.second (ap (λ e. value ids turns variables (index_formula e)) (sym p.second_is) ∙ q.second_is) in
-        let times : q.first ≡ p.times = some _ _ (sym q.first_is ∙ ap (λ e. value ids turns variables (index_formula e)) p.first_is) in
+        let over : HasParts Quotient (formula.Size p.number) (formula.Number p.divisor) q.second = parts Quotient (formula.Size p.number) (formula.Number p.divisor) q.second (ap (λ e. value ids loops variables (index_formula e)) (sym p.second_is) ∙ q.second_is) in
+        let times : q.first ≡ p.times = some _ _ (sym q.first_is ∙ ap (λ e. value ids loops variables (index_formula e)) p.first_is) in
         let size : over.first ≡ slice_index ids.sizes p.number = some _ _ (sym over.first_is) in
         let divisor : over.second ≡ p.divisor = some _ _ (sym over.second_is) in
         let quotient : q.second ≡ slice_index ids.sizes p.number / p.divisor = over.is_result.result ∙ ap (λ z. z / over.second) size ∙ ap (λ z. slice_index ids.sizes p.number / z) divisor in (
@@ -498,7 +500,7 @@ module _ (facts : Known) (multiples : List ℕ) where
         let size : ℕ = slice_index ids.sizes p.0.number in
         let fits : p.0.divisor * (size / p.0.divisor) ≡ size = (let same = div-add-mod size p.0.divisor in omega arith) in
         let is : n ≡ size = worth.0 ∙ ap (λ z. (z * (size / p.0.divisor)) % 2 ^ 32) (sym p.1) ∙ ap (λ z. z % 2 ^ 32) fits ∙ mod-eq_of_lt (sizes_fit p.0.number) in
-        ap (λ e. value ids turns variables (index_formula (first_part e))) p.0.second_is ∙ ap Some (sym is)
+        ap (λ e. value ids loops variables (index_formula (first_part e))) p.0.second_is ∙ ap Some (sym is)
 
     part_worth : (o : Operation) (a b : Expression) (n : ℕ) → (same_operation o Product && is_scaled_size Sizes a b) ≡ true → IsWorth (Binary o a b) n → IsWorth (scaled a b) n
     part_worth o a b n h w =
@@ -508,8 +510,8 @@ module _ (facts : Known) (multiples : List ℕ) where
         let rest = all p.0.number p.0.divisor p.0.known in
         let size : ℕ = slice_index ids.sizes p.0.number in
         let is : ((p.0.times / p.0.divisor) * size) % 2 ^ 32 ≡ n = ap (λ z. z % 2 ^ 32) (times_over p.0.times size p.0.divisor p.1 rest) ∙ sym worth.0 in
-        ap (λ e. value ids turns variables (index_formula (scaled e b))) p.0.first_is
-        ∙ ap (λ e. value ids turns variables (index_formula (scaled (Literal p.0.times) e))) p.0.second_is ∙ ap Some is
+        ap (λ e. value ids loops variables (index_formula (scaled e b))) p.0.first_is
+        ∙ ap (λ e. value ids loops variables (index_formula (scaled (Literal p.0.times) e))) p.0.second_is ∙ ap Some is
 
     -- the two parts of a number are that number
     parts_worth : (o : Operation) (a b : Expression) (n : ℕ) → HasWordLiterals a → (same_operation o Sum && are_parts a b) ≡ true → IsWorth (Binary o a b) n → IsWorth (first_part (first_part a)) n
@@ -517,16 +519,16 @@ module _ (facts : Known) (multiples : List ℕ) where
         let tests = and_parts (same_operation o Sum) (are_parts a b) h in
         let p = parts_are facts.operations a b tests.1 in
         let q = parts o (index_formula a) (index_formula b) n w in
-        let begin = parts Product (formula.Binary (operator_of Quotient) (index_formula p.number) p.divisor) p.divisor q.first (ap (value ids turns variables) (sym p.first_is) ∙ q.first_is) in
+        let begin = parts Product (formula.Binary (operator_of Quotient) (index_formula p.number) p.divisor) p.divisor q.first (ap (value ids loops variables) (sym p.first_is) ∙ q.first_is) in
         let row = parts Quotient (index_formula p.number) p.divisor begin.first begin.first_is in
-        let column = parts Remainder (index_formula p.number) p.divisor q.second (ap (value ids turns variables) (sym p.second_is) ∙ q.second_is) in
+        let column = parts Remainder (index_formula p.number) p.divisor q.second (ap (value ids loops variables) (sym p.second_is) ∙ q.second_is) in
         let divisor : begin.second ≡ row.second = some _ _ (sym begin.second_is ∙ row.second_is) in
         let other : column.second ≡ row.second = some _ _ (sym column.second_is ∙ row.second_is) in
         let number : column.first ≡ row.first = some _ _ (sym column.first_is ∙ row.first_is) in
         let lt : row.first < 2 ^ 32 = word_of p.number row.first (subst HasWordLiterals p.number_is (first_words (first_part a) (first_words a lits))) row.first_is in
         let sum : n ≡ operate_words Sum q.first q.second = q.is_result.result ∙ ap (λ x. operate_words x q.first q.second) (facts.operations o Sum tests.0) in
         let is : n ≡ row.first = whole_from n q.first q.second begin.first begin.second row.first row.second column.first column.second sum begin.is_result.result row.is_result.result column.is_result.result divisor other number lt in
-        ap (λ e. value ids turns variables (index_formula e)) p.number_is ∙ row.first_is ∙ ap Some (sym is)
+        ap (λ e. value ids loops variables (index_formula e)) p.number_is ∙ row.first_is ∙ ap Some (sym is)
       where
         first_words : (e : Expression) → HasWordLiterals e → HasWordLiterals (first_part e)
         first_words (Variable k l g) h = h

@@ -1,58 +1,74 @@
 -- What a tidy expression has in common with the one that it is made of, and what more.
-use Rattle.std.specs.Prelude.{ℕ, ◌≡◌, ◌≤◌, ◌<◌, List, [], ◌∷◌, Some}
+use Rattle.std.specs.Prelude.{ℕ, ◌≡◌, ◌≤◌, ◌<◌, List, [], ◌∷◌, Option, Some}
 use Rattle.size_arith.specs.declared.names.Name.{Name}
 use Rattle.size_arith.specs.Ranges.{AreNames, Admissible, sizes_at}
 use Rattle.index_expr.specs.Expression.{Expression, short_nodes}
-use Rattle.kernel_tree.specs.Formula.{Formula, Ids, Vars, value, bound_value}
+use Rattle.kernel_tree.specs.Formula.{Formula, Vars, value, bound_value}
+use Rattle.kernel_tree.specs.Launch.{Launch, IsWhole, HasLocal, ids_of}
 use Rattle.index_simplify.specs.Simplified.{AreDeclared}
 use Rattle.tidy_indices.specs.Formulas.{formula_nodes}
 use Rattle.tidy_indices.specs.Redundant.{IsIrredundant}
 use Rattle.tidy_indices.specs.Spelling.{IsNoLarger}
 use Rattle.tidy_indices.specs.Reading.{reading, IsIndexFormula}
+use Rattle.tidy_indices.specs.Around.{Around, InLoop, InIf, StandsIn}
 use Rattle.tidy_indices.specs.Places.{ranges_outside}
 use Rattle.tidy_indices.specs.Tidy.{tidy_formula}
 
--- each turn is below the bound of its loop
-abbrev pub AreBelow : (sizes : List ℕ) → (bounds : List Formula) → (turns : List ℕ) → Type 0
-AreBelow sizes [] [] = Unit {0}
-AreBelow sizes (b ∷ bounds) (t ∷ turns) = (n : ℕ) × (bound_value sizes b ≡ Some n) × (t < n) × AreBelow sizes bounds turns
-AreBelow sizes _ _ = ⊥
-
--- a change of expressions in loops of these bounds, the outermost first
+-- a change of expressions in these loops and ifs, the outermost first
 abbrev pub Change : Type 0
-Change = (bounds : List Formula) → Formula → Formula
+Change = List Around → Formula → Formula
 
--- at these sizes it leaves each value, at the turns of the loops around
-abbrev pub KeepsValues : Change → (sizes : List ℕ) → Type 0
-KeepsValues change sizes =
-    (ids : Ids) (bounds : List Formula) (turns : List ℕ) (variables : Vars) (f : Formula) (n : ℕ)
-    → ids.sizes ≡ sizes → AreBelow sizes bounds turns → value ids turns variables f ≡ Some n
-    → value ids turns variables (change bounds f) ≡ Some n
+-- at this launch it leaves each value: that of an index, for each item that is in the loops and ifs
+-- around, at its turns, and that of a bound
+pub record KeepsValues (change : Change) (l : Launch) : Type 0 where
+  pub index :
+      (item : ℕ) (around : List Around) (turns : List ℕ) (variables : Vars) (f : Formula) (n : ℕ)
+      → StandsIn (ids_of l item) around turns → value (ids_of l item) turns variables f ≡ Some n
+      → value (ids_of l item) turns variables (change around f) ≡ Some n
+  pub bound :
+      (b : Formula) (n : ℕ)
+      → bound_value l.sizes b ≡ Some n → bound_value l.sizes (change [] b) ≡ Some n
 
 -- it leaves expressions no larger, and of the kernel grammar
 abbrev pub KeepsSmall : Change → Type 0
-KeepsSmall change = (bounds : List Formula) (f : Formula) → IsNoLarger f (change bounds f)
+KeepsSmall change = (around : List Around) (f : Formula) → IsNoLarger f (change around f)
 
-abbrev pub EachIsIndexFormula : List Formula → Type 0
-EachIsIndexFormula [] = Unit {0}
-EachIsIndexFormula (b ∷ bounds) = IsIndexFormula b × EachIsIndexFormula bounds
+-- each bound of a loop spells an index expression
+abbrev pub HaveIndexBounds : List Around → Type 0
+HaveIndexBounds [] = Unit {0}
+HaveIndexBounds (InLoop b ∷ around) = IsIndexFormula b × HaveIndexBounds around
+HaveIndexBounds (InIf s b ∷ around) = HaveIndexBounds around
+
+-- a launch of a kernel that asks for groups of this size, where it asks for one: groups are whole, and
+-- a row has items, at most 65,536
+pub record IsLaunchFor (local : Option (ℕ × ℕ)) (l : Launch) : Type 0 where
+  pub whole : IsWhole l
+  pub size : HasLocal local l
+  pub some : 0 < l.global.0
+  pub few : l.global.0 ≤ 65536
 
 -- at admissible sizes values stay, whether or not anything wraps
 abbrev pub TidyFormulasKeepValues : Type 0
-TidyFormulasKeepValues = (names : List Name) (bases : List ℕ) → AreNames names → Admissible names bases → KeepsValues (tidy_formula names) (sizes_at names bases)
+TidyFormulasKeepValues =
+    (names : List Name) (bases : List ℕ) (local : Option (ℕ × ℕ)) (l : Launch)
+    → AreNames names → Admissible names bases → l.sizes ≡ sizes_at names bases
+    → IsLaunchFor local l → KeepsValues (tidy_formula names local) l
 
 abbrev pub TidyFormulasAreNoLarger : Type 0
-TidyFormulasAreNoLarger = (names : List Name) → KeepsSmall (tidy_formula names)
+TidyFormulasAreNoLarger =
+    (names : List Name) (local : Option (ℕ × ℕ)) → KeepsSmall (tidy_formula names local)
 
 -- no part of an index is redundant, in loops whose bounds spell index expressions
 abbrev pub TidyFormulasAreIrredundant : Type 0
 TidyFormulasAreIrredundant =
-    (names : List Name) (bounds : List Formula) (f : Formula)
-    → EachIsIndexFormula bounds → IsIndexFormula f → IsIrredundant (tidy_formula names bounds f)
+    (names : List Name) (local : Option (ℕ × ℕ)) (around : List Around) (f : Formula)
+    → HaveIndexBounds around → IsIndexFormula f
+    → IsIrredundant (tidy_formula names local around f)
 
 -- where sizes are divided by what they are declared multiples of, it has no more nodes than are counted in short
 abbrev pub TidyFormulasAreShort : Type 0
 TidyFormulasAreShort =
-    (names : List Name) (bounds : List Formula) (f : Formula) (e : Expression)
-    → EachIsIndexFormula bounds → reading f ≡ Some e → AreDeclared (ranges_outside names) e
-    → formula_nodes (tidy_formula names bounds f) ≤ short_nodes e
+    (names : List Name) (local : Option (ℕ × ℕ)) (around : List Around) (f : Formula)
+    (e : Expression)
+    → HaveIndexBounds around → reading f ≡ Some e → AreDeclared (ranges_outside names) e
+    → formula_nodes (tidy_formula names local around f) ≤ short_nodes e

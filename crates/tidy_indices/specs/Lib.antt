@@ -3,6 +3,7 @@ pub mod Redundant
 pub mod Spelling
 pub mod Reading
 pub mod Spans
+pub mod Around
 pub mod Places
 pub mod Tidy
 pub mod Laws

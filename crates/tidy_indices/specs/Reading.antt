@@ -1,12 +1,14 @@
 -- Expressions of a kernel as index expressions.
-use Rattle.std.specs.Prelude.{◌^◌, ◌<◌, nat_lt, if◌then◌else◌, Option, Some, None}
+use Rattle.std.specs.Prelude.{ℕ, ◌^◌, ◌<◌, nat_lt, if◌then◌else◌, Option, Some, None, option_map}
 use Rattle.scalar_ops.specs.declared.op.Op.{Op}
 use Rattle.scalar_ops.specs.declared.op.Op.TheVariants.{Add, Sub, Mul, Div, Rem, Min, Max}
 use Rattle.index_expr.specs.declared.operation.Operation.{Operation}
 use Rattle.index_expr.specs.declared.operation.Operation.TheVariants.{Sum, Difference, Product, Quotient, Remainder, Least, Greatest}
 use Rattle.index_expr.specs.Expression as index
 use Rattle.index_expr.specs.Expression.{Expression}
-use Rattle.kernel_tree.specs.Formula.{Formula, Number, LoopVariable, Size, Binary}
+use Rattle.kernel_tree.specs.declared.tree.Dimension.TheVariants.{X}
+use Rattle.kernel_tree.specs.Formula.{Formula, Number, LoopVariable, Size, Id, GroupId, LocalId, Binary}
+use Rattle.length_spelling.specs.Turns.{as_number, loop_turn}
 
 -- the operation that an operator is
 abbrev pub operation_of : Op → Option Operation
@@ -23,10 +25,16 @@ abbrev pub on_both : Option Operation → Option Expression → Option Expressio
 on_both (Some o) (Some a) (Some b) = Some (index.Binary o a b)
 on_both _ _ _ = None
 
--- the index expression that an expression of a kernel spells, where it spells one: each variable is that of a loop, and may be any word
+-- a turn, which may be any word
+abbrev pub any_turn : ℕ → Expression
+any_turn k = index.Variable k 0 4294967295
+
+-- the index expression that an expression of a kernel spells, where it spells one
 abbrev pub reading : Formula → Option Expression
 reading (Number n) = if nat_lt n (2 ^ 32) then Some (index.Literal n) else None
-reading (LoopVariable k) = Some (index.Variable k 0 4294967295)
+reading (LoopVariable k) = option_map any_turn (as_number (loop_turn k))
+reading (Id X GroupId) = Some (any_turn 0)
+reading (Id X LocalId) = Some (any_turn 1)
 reading (Size k) = Some (index.Size k)
 reading (Binary o a b) = on_both (operation_of o) (reading a) (reading b)
 reading _ = None
@@ -44,7 +52,9 @@ IsIndexOperator _ = ⊥
 -- it spells an index expression
 abbrev pub IsIndexFormula : Formula → Type 0
 IsIndexFormula (Number n) = n < 2 ^ 32
-IsIndexFormula (LoopVariable k) = Unit {0}
+IsIndexFormula (LoopVariable k) = loop_turn k < 2 ^ 32
+IsIndexFormula (Id X GroupId) = Unit {0}
+IsIndexFormula (Id X LocalId) = Unit {0}
 IsIndexFormula (Size k) = Unit {0}
 IsIndexFormula (Binary o a b) = IsIndexOperator o × IsIndexFormula a × IsIndexFormula b
 IsIndexFormula _ = ⊥

@@ -1,7 +1,8 @@
 -- The shapes that no index and no bound of a kernel has a part of: something simpler has their value, whatever the ranges.
 use Rattle.std.specs.Prelude.{ℕ, ◌+◌, ◌*◌, ◌^◌, ◌<◌, min, max}
 use Rattle.scalar_ops.specs.declared.op.Op.TheVariants.{Add, Sub, Mul, Min, Max, Div, Rem}
-use Rattle.kernel_tree.specs.Formula.{Formula, Number, LoopVariable, Binary, Choose}
+use Rattle.kernel_tree.specs.Formula.{Formula, Number, Binary, Choose}
+use Rattle.length_spelling.specs.Turns.{turn_formula}
 
 pub data IsRedundant : Formula → Type 0 where
   SumOfNumbers : (m n : ℕ) → m + n < 2 ^ 32 → IsRedundant (Binary Add (Number m) (Number n))
@@ -19,7 +20,10 @@ pub data IsRedundant : Formula → Type 0 where
   ZeroTimes : (f : Formula) → IsRedundant (Binary Mul (Number 0) f)
   OverOne : (f : Formula) → IsRedundant (Binary Div f (Number 1))
   ModuloOne : (f : Formula) → IsRedundant (Binary Rem f (Number 1))
-  CellOfParts : (i n : ℕ) → IsRedundant (Binary Add (Binary Mul (Binary Div (LoopVariable i) (Number n)) (Number n)) (Binary Rem (LoopVariable i) (Number n)))
+  CellOfParts :
+      (k n : ℕ)
+      → IsRedundant (Binary Add (Binary Mul (Binary Div (turn_formula k) (Number n)) (Number n))
+      (Binary Rem (turn_formula k) (Number n)))  -- of any turn, a loop's or an id
 
 -- no part of it is redundant
 abbrev pub IsIrredundant : Formula → Type 0

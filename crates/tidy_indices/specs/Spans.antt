@@ -41,7 +41,7 @@ abbrev pub declared_from_to : Option Name → Option Span
 declared_from_to (Some n) = Some (from_to n.from n.to)
 declared_from_to None = None
 
--- with these sizes, in loops whose variables are at most so great
+-- with these sizes, at turns that are at most so great
 abbrev pub span_of : List Name → (lasts : List ℕ) → Expression → Option Span
 span_of names lasts (Variable k l g) = turns_up_to (slice_get lasts k)
 span_of names lasts (Literal n) = Some (from_to n n)

@@ -5,6 +5,7 @@ use Rattle.index_expr.specs.Values.{exact, IsRangedAt, HasNoZeroDivisorAt}
 use Rattle.kernel_tree.specs.Formula.{Formula, Ids, Vars, value}
 use Rattle.kernel_tree.specs.Code.{Kernel}
 use Rattle.kernel_tree.specs.Grammar.{height, is_constant, names_declared}
+use Rattle.length_spelling.specs.Turns.{turns_of}
 use Rattle.length_spelling.specs.Formulas.{index_formula}
 use Rattle.length_spelling.specs.Laws.{AreWords}
 use Rattle.index_simplify.specs.PlainRanges.{PlainRanges}
@@ -17,16 +18,20 @@ use Rattle.tidy_indices.specs.Redundant.{IsIrredundant}
 abbrev pub RangedFormulasHaveTheValues : Type 0
 RangedFormulasHaveTheValues =
     (ids : Ids) (loops : List ℕ) (variables : Vars) (e : Expression) (n : ℕ)
-    → AreWords ids.sizes → AreWords loops → HasWordLiterals e
-    → IsRangedAt ids.sizes loops e → HasNoZeroDivisorAt ids.sizes loops e
-    → exact ids.sizes loops e ≡ pos n → value ids loops variables (index_formula e) ≡ Some n
+    → AreWords ids.sizes → AreWords (turns_of ids loops) → HasWordLiterals e
+    → IsRangedAt ids.sizes (turns_of ids loops) e
+    → HasNoZeroDivisorAt ids.sizes (turns_of ids loops) e
+    → exact ids.sizes (turns_of ids loops) e ≡ pos n
+    → value ids loops variables (index_formula e) ≡ Some n
 
 -- and simplified too, at a point of the ranges
 abbrev pub SimpleFormulasHaveTheValues : Type 0
 SimpleFormulasHaveTheValues =
     (r : PlainRanges) (ids : Ids) (loops : List ℕ) (variables : Vars) (e : Expression) (n : ℕ)
-    → AreWords ids.sizes → AreWords loops → HasWordLiterals e → IsPoint r ids.sizes loops e
-    → IsRangedAt ids.sizes loops e → HasNoZeroDivisorAt ids.sizes loops e → exact ids.sizes loops e ≡ pos n
+    → AreWords ids.sizes → AreWords (turns_of ids loops) → HasWordLiterals e
+    → IsPoint r ids.sizes (turns_of ids loops) e → IsRangedAt ids.sizes (turns_of ids loops) e
+    → HasNoZeroDivisorAt ids.sizes (turns_of ids loops) e
+    → exact ids.sizes (turns_of ids loops) e ≡ pos n
     → value ids loops variables (simple_formula r e) ≡ Some n
 
 -- the second is of the kernel grammar where the first is, and no larger

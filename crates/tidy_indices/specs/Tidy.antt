@@ -1,5 +1,5 @@
 -- Tidy expressions of a kernel.
-use Rattle.std.specs.Prelude.{if◌then◌else◌, List, Option, Some, None}
+use Rattle.std.specs.Prelude.{ℕ, if◌then◌else◌, List, Option, Some, None}
 use Rattle.size_arith.specs.declared.names.Name.{Name}
 use Rattle.index_expr.specs.Expression.{Expression}
 use Rattle.kernel_tree.specs.Formula.{Formula}
@@ -8,12 +8,13 @@ use Rattle.tidy_indices.specs.Formulas.{simple_formula}
 use Rattle.tidy_indices.specs.declared.spans.Span.{Span}
 use Rattle.tidy_indices.specs.Reading.{reading}
 use Rattle.tidy_indices.specs.Spans.{span_of}
-use Rattle.tidy_indices.specs.Places.{PlainPlace, without_loops, place_of}
+use Rattle.tidy_indices.specs.Around.{Around}
+use Rattle.tidy_indices.specs.Places.{PlainPlace, without_turns, place_of}
 
--- what is known of loops is of use where nothing wraps
+-- what is known of turns is of use where nothing wraps
 abbrev pub ranges_by : PlainPlace → Option Span → PlainRanges
 ranges_by p (Some s) = p.around
-ranges_by p None = without_loops p.around
+ranges_by p None = without_turns p.around
 
 abbrev pub tidied_reading : PlainPlace → Formula → Option Expression → Formula
 tidied_reading p f (Some e) = simple_formula (ranges_by p (span_of p.sizes p.lasts e)) e
@@ -22,6 +23,8 @@ tidied_reading p f None = f
 abbrev pub tidied_at : PlainPlace → Formula → Formula
 tidied_at p f = if p.is_known then tidied_reading p f (reading f) else f
 
--- an index or a bound, in loops of these bounds, the outermost first
-abbrev pub tidy_formula : List Name → (bounds : List Formula) → Formula → Formula
-tidy_formula names bounds f = tidied_at (place_of names bounds) f
+-- an index or a bound, in a kernel that asks for groups of this size, in these loops and ifs, the
+-- outermost first
+abbrev pub tidy_formula :
+    List Name → (local : Option (ℕ × ℕ)) → List Around → Formula → Formula
+tidy_formula names local around f = tidied_at (place_of names local around) f

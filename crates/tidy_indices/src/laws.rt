@@ -47,8 +47,8 @@ pub fn simple_formulas_are_irredundant()
     expressions_are_simplified();
 }
 
-/// At admissible sizes a tidy expression has the value of the expression, in loops of these bounds,
-/// whether or not anything in it wraps.
+/// At admissible sizes a tidy expression has the value of the expression, in loops of these bounds
+/// and groups of the size that the kernel asks for, whether or not anything in it wraps.
 pub fn tidy_formulas_keep_values()
     ensures { TidyFormulasKeepValues }
 {

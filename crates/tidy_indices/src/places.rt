@@ -1,8 +1,8 @@
 //! What is known at a place in a kernel.
 
-ghost use Rattle.std.specs.Prelude.{◌≡◌, IfOk, Some, map};
+ghost use Rattle.std.specs.Prelude.{◌≡◌, IfOk, Some, map, min};
 ghost use Rattle.index_expr.specs.Expression.{expression_of};
-ghost use Rattle.kernel_tree.specs.Tree.{formula_of};
+ghost use Rattle.kernel_tree.specs.Tree.{formula_of, start_of};
 ghost use Rattle.index_simplify.specs.PlainRanges.{ranges_of};
 ghost use Rattle.tidy_indices.specs.Places as spec;
 ghost use Rattle.tidy_indices.specs.Formulas.{simple_formula};
@@ -15,17 +15,19 @@ use crate::spans::span_of;
 use crate::spelling::spell_simplified;
 use index_expr::{Index, Operation};
 use index_simplify::{Ranges, simplified};
-use kernel_tree::tree::Expr;
+use kernel_tree::tree::{Dimension, Expr, Start};
+use length_spelling::Turn;
 use size_arith::{Name, Names};
 use std::alloc::{AllocError, Global};
 
-/// What is known at a place in a kernel: of the sizes, and of the loops around.
+/// What is known at a place in a kernel: of the sizes, of a work-item's ids, and of the loops and ifs
+/// around.
 #[derive(Drop)]
 pub struct Place {
     sizes: Vec<Name>,
-    // The length of each loop, the outermost first, and what sizes are multiples of.
+    // What each turn is below, by the turns' numbers, and what sizes are multiples of.
     around: Ranges,
-    // How great each loop's variable is at most.
+    // How great each turn is at most.
     lasts: Vec<u32>,
     // Whether each loop's bound spells an index expression.
     is_known: bool,
@@ -66,9 +68,32 @@ fn beyond_words(alloc: Global) -> Result<Index, AllocError>
     )
 }
 
-// What sizes are multiples of, without the loops.
-fn without_loops(alloc: Global, ranges: &Ranges) -> Result<Ranges, AllocError>
-    ensures { IfOk result (λ r. ranges_of r ≡ spec.without_loops (ranges_of ranges.now)) }
+// A row has at most so many items, so a group's id is below that.
+const ROW_LIMIT: u32 = 65536;
+
+// What an item's id in its group is below, in a kernel that asks for groups of this size.
+fn local_length(alloc: Global, local: Option<(u32, u32)>) -> Result<Index, AllocError>
+    ensures { IfOk result (λ e. expression_of e ≡ spec.local_length local) }
+{
+    match local {
+        Some((size, _)) => Ok(Index::Literal(size)),
+        None => beyond_words(alloc),
+    }
+}
+
+// And how great it is at most.
+fn local_last(local: Option<(u32, u32)>) -> u32
+    ensures { result ≡ spec.local_last local }
+{
+    match local {
+        Some((size, _)) => size.saturating_sub(1),
+        None => u32::MAX,
+    }
+}
+
+// What sizes are multiples of, without the turns.
+fn without_turns(alloc: Global, ranges: &Ranges) -> Result<Ranges, AllocError>
+    ensures { IfOk result (λ r. ranges_of r ≡ spec.without_turns (ranges_of ranges.now)) }
 {
     let multiples = Vec::from_slice(alloc, &ranges.multiples)?;
     Ok(Ranges {
@@ -77,18 +102,68 @@ fn without_loops(alloc: Global, ranges: &Ranges) -> Result<Ranges, AllocError>
     })
 }
 
+// The turn that an `if` asks of: a group's id or an item's own.
+fn asked_turn(start: Start) -> Option<u32>
+    ensures { result ≡ spec.asked_turn (start_of start) }
+{
+    match start {
+        Start::GroupId(Dimension::X) => Turn::Group.number(),
+        Start::LocalId(Dimension::X) => Turn::Local.number(),
+        _ => None,
+    }
+}
+
+// The shorter of two lengths in numbers; else the one that is told last.
+fn shorter(known: &Index, told: Index) -> Index
+    ensures { expression_of result ≡ spec.shorter (expression_of known.now) (expression_of told) }
+{
+    match (known, &told) {
+        (Index::Literal(m), Index::Literal(n)) => Index::Literal(*m.min(n)),
+        (_, _) => told,
+    }
+}
+
+// The turn of this number is below this length too.
+fn shorten(lengths: &mut Vec<Index>, turn: u32, length: Index)
+    ensures { map expression_of lengths.new.items
+        ≡ spec.changed_at turn (λ known. spec.shorter known (expression_of length))
+        (map expression_of lengths.old.items) }
+{
+    if let Some(known) = lengths.get_mut(turn as usize) {
+        *known = shorter(known, length);
+    }
+}
+
+// And at most so great.
+fn lower(lasts: &mut Vec<u32>, turn: u32, last: u32)
+    ensures { lasts.new.items ≡ spec.changed_at turn (λ known. min known last) lasts.old.items }
+{
+    if let Some(known) = lasts.get_mut(turn as usize) {
+        *known = last.min(*known);
+    }
+}
+
 impl Place {
-    /// Outside of all loops.
-    pub fn outside(alloc: Global, names: &Names) -> Result<Self, AllocError>
-        ensures { IfOk result (λ place. spec.plain_place place ≡ spec.outside names.now) }
+    /// Outside of all loops, in a kernel that asks for groups of this size.
+    pub fn outside(
+        alloc: Global,
+        names: &Names,
+        local: Option<(u32, u32)>,
+    ) -> Result<Self, AllocError>
+        ensures { IfOk result (λ place. spec.plain_place place ≡ spec.outside names.now local) }
     {
         let sizes = Vec::from_slice(alloc, names.as_slice())?;
         let multiples = multiples_of(alloc, names.as_slice())?;
-        let lengths = Vec::new(alloc);
+        let mut lengths = Vec::with_capacity(alloc, 2)?;
+        lengths.push(Index::Literal(ROW_LIMIT))?;
+        lengths.push(local_length(alloc, local)?)?;
+        let mut lasts = Vec::with_capacity(alloc, 2)?;
+        lasts.push(ROW_LIMIT - 1)?;
+        lasts.push(local_last(local))?;
         Ok(Place {
             sizes,
             around: Ranges { lengths, multiples },
-            lasts: Vec::new(alloc),
+            lasts,
             is_known: true,
         })
     }
@@ -127,7 +202,7 @@ impl Place {
     {
         match span_of(&self.sizes, &[], bound) {
             Some(span) => {
-                let ranges = without_loops(alloc, &self.around)?;
+                let ranges = without_turns(alloc, &self.around)?;
                 let length = simplified(alloc, bound, &ranges)?;
                 self.with_loop(alloc, length, span.greatest.saturating_sub(1))
             }
@@ -150,7 +225,51 @@ impl Place {
         }
     }
 
-    // What is of use for an expression here: what is known of loops is so where nothing wraps.
+    // Where a turn is below this length too, so great at most.
+    fn with_turn_below(
+        &self,
+        alloc: Global,
+        turn: u32,
+        length: Index,
+        last: u32,
+    ) -> Result<Self, AllocError>
+        ensures { IfOk result (λ place. spec.plain_place place
+            ≡ spec.with_turn_below (spec.plain_place self.now) turn (expression_of length) last) }
+    {
+        let mut place = self.copy(alloc)?;
+        shorten(&mut place.around.lengths, turn, length);
+        lower(&mut place.lasts, turn, last);
+        Ok(place)
+    }
+
+    // Where a turn is below the bound that spells this expression: one that may wrap tells nothing.
+    fn with_turn_within(&self, alloc: Global, turn: u32, bound: &Index) -> Result<Self, AllocError>
+        ensures { IfOk result (λ place. spec.plain_place place
+            ≡ spec.with_turn_in (spec.plain_place self.now) turn
+            (Some (expression_of bound.now))) }
+    {
+        match span_of(&self.sizes, &[], bound) {
+            Some(span) => {
+                let ranges = without_turns(alloc, &self.around)?;
+                let length = simplified(alloc, bound, &ranges)?;
+                self.with_turn_below(alloc, turn, length, span.greatest.saturating_sub(1))
+            }
+            None => self.copy(alloc),
+        }
+    }
+
+    /// In an `if` more, which asks whether this start is below this bound.
+    pub fn guarded(&self, alloc: Global, start: Start, bound: &Expr) -> Result<Self, AllocError>
+        ensures { IfOk result (λ place. spec.plain_place place
+            ≡ spec.guarded (spec.plain_place self.now) (start_of start) (formula_of bound.now)) }
+    {
+        match (asked_turn(start), reading(alloc, bound)?) {
+            (Some(turn), Some(bound)) => self.with_turn_within(alloc, turn, &bound),
+            (_, _) => self.copy(alloc),
+        }
+    }
+
+    // What is of use for an expression here: what is known of turns is so where nothing wraps.
     fn tidied_index(&self, alloc: Global, index: &Index) -> Result<Expr, AllocError>
         ensures { IfOk result (λ e. formula_of e ≡ simple_formula
             (tidy.ranges_by (spec.plain_place self.now)
@@ -160,7 +279,7 @@ impl Place {
     {
         match span_of(&self.sizes, &self.lasts, index) {
             Some(_) => spell_simplified(alloc, index, &self.around),
-            None => spell_simplified(alloc, index, &without_loops(alloc, &self.around)?),
+            None => spell_simplified(alloc, index, &without_turns(alloc, &self.around)?),
         }
     }
 

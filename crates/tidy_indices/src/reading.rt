@@ -3,10 +3,12 @@
 ghost use Rattle.std.specs.Prelude.{◌≡◌, IfOk, option_map};
 ghost use Rattle.index_expr.specs.Expression.{expression_of};
 ghost use Rattle.kernel_tree.specs.Tree.{formula_of};
+ghost use Rattle.length_spelling.specs.Turns.{number_of, as_number};
 ghost use Rattle.tidy_indices.specs.Reading as spec;
 
 use index_expr::{Index, Operation};
-use kernel_tree::tree::Expr;
+use kernel_tree::tree::{Dimension, Expr, IdForm};
+use length_spelling::Turn;
 use scalar_ops::op::Op;
 use std::alloc::{AllocError, Global};
 
@@ -42,18 +44,28 @@ fn on_both(
     }
 }
 
+// A turn, which may be any word, where it has a number.
+fn any_turn(turn: Turn) -> Option<Index>
+    ensures { option_map expression_of result
+        ≡ option_map spec.any_turn (as_number (number_of turn)) }
+{
+    Some(Index::Variable {
+        number: turn.number()?,
+        least: 0,
+        greatest: u32::MAX,
+    })
+}
+
 /// The index expression that an expression of a kernel spells, where it spells one: its variables
-/// are those of loops, and may be any word.
+/// are the turns that a work-item is in, and may be any word.
 pub fn reading(alloc: Global, expr: &Expr) -> Result<Option<Index>, AllocError>
     ensures { IfOk result (λ e. option_map expression_of e ≡ spec.reading (formula_of expr.now)) }
 {
     match expr {
         Expr::Number(n) => Ok(Some(Index::Literal(*n))),
-        Expr::LoopVariable(number) => Ok(Some(Index::Variable {
-            number: *number,
-            least: 0,
-            greatest: u32::MAX,
-        })),
+        Expr::LoopVariable(depth) => Ok(any_turn(Turn::Loop(*depth))),
+        Expr::Id(Dimension::X, IdForm::GroupId) => Ok(any_turn(Turn::Group)),
+        Expr::Id(Dimension::X, IdForm::LocalId) => Ok(any_turn(Turn::Local)),
         Expr::Size(number) => Ok(Some(Index::Size(*number))),
         Expr::Binary(op, a, b) => match operation_of(*op) {
             Some(operation) => {

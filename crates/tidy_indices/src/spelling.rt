@@ -12,7 +12,8 @@ use kernel_tree::tree::Expr;
 use length_spelling::spell_index;
 use std::alloc::{AllocError, Global};
 
-/// An index expression, simplified at a place with these ranges: its variables are those of the enclosing loops.
+/// An index expression, simplified at a place with these ranges: its variables are the turns that a
+/// work-item is in.
 pub fn spell_simplified(alloc: Global, index: &Index, ranges: &Ranges) -> Result<Expr, AllocError>
     ensures { IfOk result
         (λ e. formula_of e ≡ simple_formula (ranges_of ranges.now) (expression_of index.now)) }

@@ -9,7 +9,7 @@ use Rattle.kernel_tree.specs.declared.tree.Stmt.{Stmt, Loop, If}
 use Rattle.kernel_tree.specs.Code.{Code, End, Loops, Guards}
 use Rattle.kernel_tree.specs.Tree.{before, code_then, formula_of, start_of, stride_of}
 use Rattle.kernel_tree.proofs.Rows.{before-Loop, before-If, code_then-append}
-use Rattle.tidy_indices.specs.Places.{PlainPlace, inside}
+use Rattle.tidy_indices.specs.Places.{PlainPlace, inside, guarded as guarded_place}
 use Rattle.tidy_indices.specs.Tidy.{tidied_at}
 use Rattle.tidy_kernels.specs.Places.{tidied_in}
 
@@ -35,11 +35,11 @@ module _ (outermost here : PlainPlace) where
       ∙ ap (λ k. Loops (start_of s) (tidied_at outermost (formula_of b)) (stride_of c) k (tidied_in outermost here after)) (are ∙ ap (λ p. tidied_in outermost p (code_then body.items End)) at)
       ∙ ap (tidied_in outermost here) (sym (before-Loop s b c body after))
 
-  pub guarded : (s : Start) (b bound : Expr) (body made : Vec Stmt Global)
-      → formula_of bound ≡ tidied_at outermost (formula_of b) → code_then made.items End ≡ tidied_in outermost here (code_then body.items End)
+  pub guarded : (place : PlainPlace) (s : Start) (b bound : Expr) (body made : Vec Stmt Global)
+      → place ≡ guarded_place here (start_of s) (formula_of b) → formula_of bound ≡ tidied_at outermost (formula_of b) → code_then made.items End ≡ tidied_in outermost place (code_then body.items End)
       → StandsFor (before (If s bound made)) (before (If s b body))
-  guarded s b bound body made is are after =
+  guarded place s b bound body made at is are after =
       before-If s bound made (tidied_in outermost here after)
       ∙ ap (λ f. Guards (start_of s) f (code_then made.items End) (tidied_in outermost here after)) is
-      ∙ ap (λ k. Guards (start_of s) (tidied_at outermost (formula_of b)) k (tidied_in outermost here after)) are
+      ∙ ap (λ k. Guards (start_of s) (tidied_at outermost (formula_of b)) k (tidied_in outermost here after)) (are ∙ ap (λ p. tidied_in outermost p (code_then body.items End)) at)
       ∙ ap (tidied_in outermost here) (sym (before-If s b body after))

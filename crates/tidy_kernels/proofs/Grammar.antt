@@ -5,6 +5,7 @@ use Rattle.std.proofs.lemmas.Bool.{leb-true, le-leb}
 use Rattle.kernel_tree.specs.Formula.{Formula, Number, Variable, LoopVariable, Size, Id, Binary, Choose, Lanes, Vector, Spread, Each}
 use Rattle.kernel_tree.specs.Code.{Array, Input, Output, Local, Private, Code, End, Assigns, Loads, Stores, AssignsFour, LoadsFour, StoresFour, Loops, Guards, Syncs, Kernel}
 use Rattle.kernel_tree.specs.Grammar.{deepest, height, is_constant, names_declared, is_expression, is_readable, is_writable, is_shared, lanes_height, names_declared_in_lanes, are_lanes, has_statement, are_statements, are_lengths, is_group_size}
+use Rattle.tidy_indices.specs.Around.{Around, InLoop, InIf}
 use Rattle.tidy_indices.specs.Laws.{Change, KeepsSmall}
 use Rattle.tidy_kernels.specs.Pass.{tidied_code, tidied_kernel}
 use Rattle.tidy_kernels.specs.Laws.{TidiedKernelsAreKernels}
@@ -48,7 +49,7 @@ module _ (tidy : Change) (k : Kernel) (small : KeepsSmall tidy) where
       let p = parts (names_declared_in_lanes k l e) (nat_le (lanes_height e) deepest) h in
       both (names_declared_in_lanes tidied l e) (nat_le (lanes_height e) deepest) (sym (same_names_in_lanes k tidied refl refl refl l e) ∙ p.0) p.1
 
-  made : (l : ℕ) (around : List Formula) (f : Formula) → is_expression k l f ≡ true → is_expression tidied l (tidy around f) ≡ true
+  made : (l : ℕ) (around : List Around) (f : Formula) → is_expression k l f ≡ true → is_expression tidied l (tidy around f) ≡ true
   made l around f h =
       let p = parts (names_declared tidied l f) (nat_le (height f) deepest) (kept l f h) in
       let low = (small around f).low in
@@ -67,7 +68,7 @@ module _ (tidy : Change) (k : Kernel) (small : KeepsSmall tidy) where
   writable (Local n) h = h
   writable (Private n) h = h
 
-  has : (around : List Formula) (code : Code) → has_statement code ≡ true → has_statement (tidied_code tidy around code) ≡ true
+  has : (around : List Around) (code : Code) → has_statement code ≡ true → has_statement (tidied_code tidy around code) ≡ true
   has around End h = h
   has around (Assigns v e after) h = refl
   has around (Loads v a i after) h = refl
@@ -79,7 +80,7 @@ module _ (tidy : Change) (k : Kernel) (small : KeepsSmall tidy) where
   has around (Guards s b body after) h = refl
   has around (Syncs on_local on_global after) h = refl
 
-  are : (l d : ℕ) (around : List Formula) (code : Code) → are_statements k l d code ≡ true → are_statements tidied l d (tidied_code tidy around code) ≡ true
+  are : (l d : ℕ) (around : List Around) (code : Code) → are_statements k l d code ≡ true → are_statements tidied l d (tidied_code tidy around code) ≡ true
   are l d around End h = refl
   are l d around (Assigns v e after) h =
       let p = parts (nat_lt v k.variables) _ h in
@@ -124,8 +125,8 @@ module _ (tidy : Change) (k : Kernel) (small : KeepsSmall tidy) where
       both (nat_lt d deepest) _ p.0
       (both (is_constant (tidy [] b)) _ ((small [] b).constant q.0)
       (both (is_expression tidied l (tidy [] b)) _ (made l [] b r.0)
-      (both (has_statement (tidied_code tidy (around ++ b ∷ []) body)) _ (has (around ++ b ∷ []) body t.0)
-      (both (are_statements tidied (suc l) (suc d) (tidied_code tidy (around ++ b ∷ []) body)) _ (are (suc l) (suc d) (around ++ b ∷ []) body u.0) (are l d around after u.1)))))
+      (both (has_statement (tidied_code tidy (around ++ InLoop b ∷ []) body)) _ (has (around ++ InLoop b ∷ []) body t.0)
+      (both (are_statements tidied (suc l) (suc d) (tidied_code tidy (around ++ InLoop b ∷ []) body)) _ (are (suc l) (suc d) (around ++ InLoop b ∷ []) body u.0) (are l d around after u.1)))))
   are l d around (Guards s b body after) h =
       let p = parts (nat_lt d deepest) _ h in
       let q = parts (is_constant b) _ p.1 in
@@ -135,8 +136,8 @@ module _ (tidy : Change) (k : Kernel) (small : KeepsSmall tidy) where
       both (nat_lt d deepest) _ p.0
       (both (is_constant (tidy [] b)) _ ((small [] b).constant q.0)
       (both (is_expression tidied l (tidy [] b)) _ (made l [] b r.0)
-      (both (has_statement (tidied_code tidy around body)) _ (has around body t.0)
-      (both (are_statements tidied l (suc d) (tidied_code tidy around body)) _ (are l (suc d) around body u.0) (are l d around after u.1)))))
+      (both (has_statement (tidied_code tidy (around ++ InIf s b ∷ []) body)) _ (has (around ++ InIf s b ∷ []) body t.0)
+      (both (are_statements tidied l (suc d) (tidied_code tidy (around ++ InIf s b ∷ []) body)) _ (are l (suc d) (around ++ InIf s b ∷ []) body u.0) (are l d around after u.1)))))
   are l d around (Syncs on_local on_global after) h =
       let p = parts (on_local || on_global) _ h in
       both (on_local || on_global) _ p.0 (are l d around after p.1)

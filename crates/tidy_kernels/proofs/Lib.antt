@@ -1,4 +1,3 @@
 mod Grammar
 mod Blocks
 mod Places
-mod Runs

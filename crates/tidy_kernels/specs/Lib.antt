@@ -1,4 +1,3 @@
 pub mod Pass
 pub mod Places
-pub mod Runs
 pub mod Laws

@@ -15,7 +15,7 @@ use std::alloc::{AllocError, Global};
 use tidy_indices::Place;
 use tidy_indices::laws::tidy_formulas_are_no_larger;
 
-// The statements of a block, tidy. Bounds are so outside of all loops.
+// The statements of a block, tidy. Bounds are so outside of all loops and ifs.
 #[cycle(tidying)]
 fn tidied_block(
     alloc: Global,
@@ -65,7 +65,8 @@ fn tidied_statement(
             Ok(Stmt::Loop(start, outermost.tidied(alloc, &bound)?, stride, body))
         }
         Stmt::If(start, bound, body) => {
-            let body = tidied_block(alloc, outermost, here, body)?;
+            let guarded = here.guarded(alloc, start, &bound)?;
+            let body = tidied_block(alloc, outermost, &guarded, body)?;
             Ok(Stmt::If(start, outermost.tidied(alloc, &bound)?, body))
         }
         Stmt::Assign(variable, value) => Ok(Stmt::Assign(variable, value)),
@@ -81,13 +82,15 @@ fn tidied_statement(
 }
 
 /// The kernel with tidy indices and bounds: each index of a load or a store, and each offset of four,
-/// is simplified in the loops around it, and each bound of a loop or an `if` outside of all loops.
+/// is simplified in the loops and ifs around it, and each bound of a loop or an `if` outside of all.
+/// An item's id in its group is known to be below the size that the kernel asks for, and each id that
+/// an `if` around asks of below the bound of that.
 pub fn tidied(alloc: Global, kernel: Kernel, names: &Names) -> Result<Kernel, AllocError>
     ensures { IfOk result (λ k. kernel_of k
-        ≡ tidied_kernel (tidy_formula names.now) (kernel_of kernel)) }
+        ≡ tidied_kernel (tidy_formula names.now kernel.local) (kernel_of kernel)) }
 {
     tidy_formulas_are_no_larger();
-    let outermost = Place::outside(alloc, names)?;
+    let outermost = Place::outside(alloc, names, kernel.local)?;
     let body = tidied_block(alloc, &outermost, &outermost, kernel.body)?;
     Ok(Kernel {
         inputs: kernel.inputs,

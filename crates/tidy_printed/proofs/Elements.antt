@@ -8,10 +8,11 @@ use Rattle.printed_form.specs.Counts.{let_variables}
 use Rattle.printed_form.specs.Marks.{Marks, held_marks}
 use Rattle.printed_form.specs.Expressions.{held, exprs}
 use Rattle.printed_form.specs.Form.{IsAssigned, IsReassigned, IsElementWork}
+use Rattle.tidy_indices.specs.Around.{Around}
 use Rattle.tidy_indices.specs.Laws.{Change}
 use Rattle.tidy_kernels.specs.Pass.{tidied_code}
 
-module _ (tidy : Change) (around : List Formula) where
+module _ (tidy : Change) (around : List Around) where
   abbrev tidied : Code → Code
   tidied = tidied_code tidy around
 

@@ -1,13 +1,15 @@
 -- How spelled index expressions are put together.
-use Rattle.std.proofs.Common.{◌≡◌, ℕ, refl, ap, ◌∙◌, subst, List, true}
+use Rattle.std.proofs.Common.{◌≡◌, ℕ, zero, suc, refl, ap, ◌∙◌, subst, List, true}
 use Rattle.size_arith.specs.declared.names.Name.{Name}
 use Rattle.index_expr.specs.declared.operation.Operation.{Operation}
 use Rattle.index_expr.specs.declared.operation.Operation.TheVariants.{Sum, Difference, Product, Quotient, Remainder, Least, Greatest}
 use Rattle.index_expr.specs.Expression as index
 use Rattle.index_expr.specs.Expression.{Expression}
 use Rattle.scalar_ops.specs.declared.op.Op.TheVariants.{Div}
-use Rattle.kernel_tree.specs.Formula.{Formula, Number, LoopVariable, Size, Binary}
+use Rattle.kernel_tree.specs.declared.tree.Dimension.TheVariants.{X}
+use Rattle.kernel_tree.specs.Formula.{Formula, Number, LoopVariable, Size, Id, GroupId, LocalId, Binary}
 use Rattle.length_spelling.specs.Formulas.{index_formula, operator_of}
+use Rattle.length_spelling.specs.Turns.{loop_turn}
 use Rattle.index_simplify.specs.Simplified.{is_declared, AreDeclared}
 use Rattle.tidy_indices.specs.Places.{ranges_outside}
 
@@ -36,7 +38,13 @@ module _ (names : List Name) where
   index_number n = (spelled_number n, tt)
 
   pub index_loop : (d : ℕ) → Index (LoopVariable d)
-  index_loop d = (record { expression = index.Variable d 0 0; spelled = refl; declared = tt }, tt)
+  index_loop d = (record { expression = index.Variable (loop_turn d) 0 0; spelled = refl; declared = tt }, tt)
+
+  pub index_group : Index (Id X GroupId)
+  index_group = (record { expression = index.Variable 0 0 0; spelled = refl; declared = tt }, tt)
+
+  pub index_local : Index (Id X LocalId)
+  index_local = (record { expression = index.Variable 1 0 0; spelled = refl; declared = tt }, tt)
 
   joined : (o : Operation) (i j : Formula) (a b : Expression) → i ≡ index_formula a → j ≡ index_formula b → Binary (operator_of o) i j ≡ index_formula (index.Binary o a b)
   joined o i j a b p q = ap (λ x. Binary (operator_of o) x j) p ∙ ap (λ x. Binary (operator_of o) (index_formula a) x) q
@@ -86,4 +94,8 @@ module _ (names : List Name) where
     where
       of : (a : Expression) → Binary Div e n ≡ index_formula a → AreDeclared (ranges_outside names) a → Spelled e
       of (index.Binary o a b) h d = record { expression = a; spelled = cc h; declared = d.1 }
-      of _ h d = absurd (cc h)
+      of (index.Variable zero l g) h d = absurd (cc h)
+      of (index.Variable (suc zero) l g) h d = absurd (cc h)
+      of (index.Variable (suc (suc k)) l g) h d = absurd (cc h)
+      of (index.Literal k) h d = absurd (cc h)
+      of (index.Size k) h d = absurd (cc h)

@@ -1,7 +1,7 @@
 -- What spells an index expression of words can be read, as the same expression but for the ranges
 -- of its variables.
-use Rattle.std.proofs.Common.{◌≡◌, ℕ, ◌<◌, ◌^◌, Bool, true, false, List, Option, Some, None, refl, ap, ◌∙◌, subst}
-use Rattle.std.specs.Prelude.{◌&&◌, nat_lt, if◌then◌else◌}
+use Rattle.std.proofs.Common.{◌≡◌, ℕ, zero, suc, ◌<◌, ◌≤◌, ◌^◌, Bool, true, false, List, Option, Some, None, refl, ap, ◌∙◌, subst, arith}
+use Rattle.std.specs.Prelude.{◌&&◌, nat_lt, if◌then◌else◌, option_map}
 use Rattle.std.proofs.lemmas.Bool.{ltb-true, lt-ltb}
 use Rattle.size_arith.specs.declared.names.Name.{Name}
 use Rattle.scalar_ops.specs.declared.op.Op.{Op}
@@ -11,12 +11,14 @@ use Rattle.index_expr.specs.declared.operation.Operation.TheVariants.{Sum, Diffe
 use Rattle.index_expr.specs.Expression.{Expression, Variable, Literal, Size, Binary}
 use Rattle.kernel_tree.specs.Code.{Kernel}
 use Rattle.kernel_tree.specs.Grammar.{is_operator, names_declared}
+use Rattle.kernel_tree.specs.declared.tree.Dimension.TheVariants.{X}
 use Rattle.kernel_tree.specs.Formula as formula
-use Rattle.kernel_tree.specs.Formula.{Formula, Number, LoopVariable}
+use Rattle.kernel_tree.specs.Formula.{Formula, Number, LoopVariable, Id, GroupId, LocalId}
 use Rattle.length_spelling.specs.Formulas.{index_formula, operator_of}
+use Rattle.length_spelling.specs.Turns.{loop_turn}
 use Rattle.index_simplify.specs.PlainRanges.{PlainRanges}
-use Rattle.index_simplify.specs.Simplified.{is_declared, AreDeclared, HasWordLiterals}
-use Rattle.tidy_indices.specs.Reading.{operation_of, on_both, reading, IsIndexFormula, IsIndexOperator}
+use Rattle.index_simplify.specs.Simplified.{is_declared, AreDeclared}
+use Rattle.tidy_indices.specs.Reading.{operation_of, on_both, any_turn, reading, IsIndexFormula, IsIndexOperator}
 use Rattle.tidy_indices.specs.Places.{ranges_outside}
 use Rattle.tidy_printed.specs.Indices.{IsDeclaredIndex}
 use Rattle.tidy_printed.proofs.Formulas.{Spelled}
@@ -52,8 +54,21 @@ same_operation Greatest = refl
 of_both : (o : Operation) (x y : Option Expression) (a b : Expression) → x ≡ Some a → y ≡ Some b → on_both (operation_of (operator_of o)) x y ≡ Some (Binary o a b)
 of_both o x y a b p q = ap (λ z. on_both z x y) (same_operation o) ∙ ap (λ z. on_both (Some o) z y) p ∙ ap (λ z. on_both (Some o) (Some a) z) q
 
-read_again : (e : Expression) → HasWordLiterals e → reading (index_formula e) ≡ Some (unranged e)
-read_again (Variable k l g) h = refl
+-- its numbers are words
+abbrev AreWords : Expression → Type 0
+AreWords (Variable v l g) = v < 2 ^ 32
+AreWords (Literal n) = n < 2 ^ 32
+AreWords (Size k) = Unit {0}
+AreWords (Binary o a b) = AreWords a × AreWords b
+
+numbered : (n : ℕ) (b : Bool) → b ≡ true → option_map any_turn (if b then Some n else None) ≡ Some (any_turn n)
+numbered n true e = refl
+numbered n false e = absurd (cc e)
+
+read_again : (e : Expression) → AreWords e → reading (index_formula e) ≡ Some (unranged e)
+read_again (Variable zero l g) h = refl
+read_again (Variable (suc zero) l g) h = refl
+read_again (Variable (suc (suc k)) l g) h = numbered (suc (suc k)) (nat_lt (suc (suc k)) (2 ^ 32)) (lt-ltb (suc (suc k)) (2 ^ 32) h)
 read_again (Literal n) h = chosen n (nat_lt n (2 ^ 32)) (lt-ltb n (2 ^ 32) h)
 read_again (Size k) h = refl
 read_again (Binary o a b) h = of_both o (reading (index_formula a)) (reading (index_formula b)) (unranged a) (unranged b) (read_again a h.0) (read_again b h.1)
@@ -69,18 +84,20 @@ module _ (r : PlainRanges) where
   still_declared (Size k) h = tt
   still_declared (Binary o a b) h = (same_declared o a b ∙ h.0, still_declared a h.1, still_declared b h.2)
 
--- the grammar's numbers are words
-has_words : (k : Kernel) (loops : ℕ) (e : Expression) → names_declared k loops (index_formula e) ≡ true → HasWordLiterals e
-has_words k loops (Variable v l g) h = tt
-has_words k loops (Literal n) h = ltb-true n (2 ^ 32) h
-has_words k loops (Size s) h = tt
-has_words k loops (Binary o a b) h =
+-- the grammar's numbers are words, in as many loops as nest
+has_words : (k : Kernel) (loops : ℕ) → loops ≤ 1024 → (e : Expression) → names_declared k loops (index_formula e) ≡ true → AreWords e
+has_words k loops few (Variable zero l g) h = omega arith
+has_words k loops few (Variable (suc zero) l g) h = omega arith
+has_words k loops few (Variable (suc (suc i)) l g) h = let lt = ltb-true i loops h in omega arith
+has_words k loops few (Literal n) h = ltb-true n (2 ^ 32) h
+has_words k loops few (Size s) h = tt
+has_words k loops few (Binary o a b) h =
     let parts = second_of (is_operator (operator_of o)) (names_declared k loops (index_formula a) && names_declared k loops (index_formula b)) h in
-    (has_words k loops a (first_of (names_declared k loops (index_formula a)) (names_declared k loops (index_formula b)) parts), has_words k loops b (second_of (names_declared k loops (index_formula a)) (names_declared k loops (index_formula b)) parts))
+    (has_words k loops few a (first_of (names_declared k loops (index_formula a)) (names_declared k loops (index_formula b)) parts), has_words k loops few b (second_of (names_declared k loops (index_formula a)) (names_declared k loops (index_formula b)) parts))
 
-pub spelled_read : (names : List Name) (k : Kernel) (loops : ℕ) (f : Formula) → names_declared k loops f ≡ true → Spelled names f → IsDeclaredIndex names f
-spelled_read names k loops f h s =
-    let words = has_words k loops s.expression (subst (λ x. names_declared k loops x ≡ true) s.spelled h) in
+pub spelled_read : (names : List Name) (k : Kernel) (loops : ℕ) (f : Formula) → loops ≤ 1024 → names_declared k loops f ≡ true → Spelled names f → IsDeclaredIndex names f
+spelled_read names k loops f few h s =
+    let words = has_words k loops few s.expression (subst (λ x. names_declared k loops x ≡ true) s.spelled h) in
     record { expression = unranged s.expression; spelled = ap reading s.spelled ∙ read_again s.expression words; declared = still_declared (ranges_outside names) s.expression s.declared }
 
 -- ---- what can be read spells an index expression
@@ -98,6 +115,10 @@ index_number : (n : ℕ) (b : Bool) (e : Expression) → nat_lt n (2 ^ 32) ≡ b
 index_number n true e lt h = ltb-true n (2 ^ 32) lt
 index_number n false e lt h = absurd (cc h)
 
+index_turn : (n : ℕ) (b : Bool) (e : Expression) → nat_lt n (2 ^ 32) ≡ b → option_map any_turn (if b then Some n else None) ≡ Some e → n < 2 ^ 32
+index_turn n true e lt h = ltb-true n (2 ^ 32) lt
+index_turn n false e lt h = absurd (cc h)
+
 -- of each part there is something read
 index_both : (op : Op) (o : Option Operation) (x y : Option Expression) (e : Expression) (P Q : Type 0) → operation_of op ≡ o → ((a : Expression) → x ≡ Some a → P) → ((b : Expression) → y ≡ Some b → Q) → on_both o x y ≡ Some e → IsIndexOperator op × P × Q
 index_both op (Some o) (Some a) (Some b) e P Q same first second h = (index_operator op o same, first a refl, second b refl)
@@ -107,7 +128,9 @@ index_both op None x y e P Q same first second h = absurd (cc h)
 
 pub read_index : (f : Formula) (e : Expression) → reading f ≡ Some e → IsIndexFormula f
 read_index (Number n) e h = index_number n (nat_lt n (2 ^ 32)) e refl h
-read_index (LoopVariable k) e h = tt
+read_index (LoopVariable k) e h = index_turn (loop_turn k) (nat_lt (loop_turn k) (2 ^ 32)) e refl h
+read_index (Id X GroupId) e h = tt
+read_index (Id X LocalId) e h = tt
 read_index (formula.Size k) e h = tt
 read_index (formula.Binary o a b) e h = index_both o (operation_of o) (reading a) (reading b) e (IsIndexFormula a) (IsIndexFormula b) refl (read_index a) (read_index b) h
 read_index _ e h = absurd (cc h)

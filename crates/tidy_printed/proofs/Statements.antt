@@ -1,8 +1,8 @@
 -- Tidied, loads, stores and loops are what they were printed for: indices and bounds keep their
 -- values.
-use Rattle.std.proofs.Common.{◌≡◌, ℕ, ◌+◌, ◌<◌, Bool, true, false, List, [], ◌∷◌, ◌++◌, Option, Some, refl, ap}
-use Rattle.kernel_tree.specs.Formula.{Formula, no_vars, bound_value, sizes_alone}
-use Rattle.kernel_tree.specs.Code.{Array, Code, End}
+use Rattle.std.proofs.Common.{◌≡◌, ℕ, ◌+◌, ◌<◌, Bool, true, false, List, [], ◌∷◌, ◌++◌, Option, Some, ap}
+use Rattle.kernel_tree.specs.Formula.{Formula, Ids, bound_value}
+use Rattle.kernel_tree.specs.Code.{Array, Start, start_value, Code, End}
 use Rattle.kernel_tree.specs.Launch.{Launch, ids_of}
 use Rattle.lift_ir.specs.Types.{Ty, Scalar, PairOf, ArrayOf, width}
 use Rattle.lift_ir.specs.Terms.{LoadSet, Skip, Take, Each, Kind, Term, push}
@@ -10,24 +10,34 @@ use Rattle.printed_form.specs.Counts.{let_variables, load_count}
 use Rattle.printed_form.specs.Marks.{Mark, Nowhere, Register, Spot, Marks, held_marks, loaded_marks}
 use Rattle.printed_form.specs.Expressions.{exprs}
 use Rattle.printed_form.specs.Form.{IsSpot, IsStored, IsLoaded, IsLoop, IsFoldTurn}
-use Rattle.tidy_indices.specs.Laws.{AreBelow, Change, KeepsValues}
+use Rattle.tidy_indices.specs.Around.{Around, InLoop, InIf, StandsIn}
+use Rattle.tidy_indices.specs.Laws.{Change, KeepsValues}
 use Rattle.tidy_kernels.specs.Pass.{tidied_code}
 use Rattle.tidy_printed.specs.Terms.{TidiedLoadsArePrinted}
 use Rattle.tidy_printed.proofs.Elements.{reassigned, element}
 
 -- one loop more
-below_more : (sizes : List ℕ) (bounds : List Formula) (turns : List ℕ) (b : Formula) (n t : ℕ) → AreBelow sizes bounds turns → bound_value sizes b ≡ Some n → t < n → AreBelow sizes (bounds ++ b ∷ []) (turns ++ t ∷ [])
-below_more sizes [] [] b n t h e lt = (n, e, lt, tt)
-below_more sizes [] (u ∷ turns) b n t h e lt = absurd h
-below_more sizes (c ∷ bounds) [] b n t h e lt = absurd h
-below_more sizes (c ∷ bounds) (u ∷ turns) b n t h e lt = (h.0, h.1, h.2, below_more sizes bounds turns b n t h.3 e lt)
+in_loop : (ids : Ids) (around : List Around) (turns : List ℕ) (b : Formula) (n t : ℕ) → StandsIn ids around turns → bound_value ids.sizes b ≡ Some n → t < n → StandsIn ids (around ++ InLoop b ∷ []) (turns ++ t ∷ [])
+in_loop ids [] [] b n t h e lt = (n, e, lt, tt)
+in_loop ids [] (u ∷ turns) b n t h e lt = absurd h
+in_loop ids (InLoop c ∷ around) [] b n t h e lt = absurd h
+in_loop ids (InLoop c ∷ around) (u ∷ turns) b n t h e lt = (h.0, h.1, h.2, in_loop ids around turns b n t h.3 e lt)
+in_loop ids (InIf s c ∷ around) turns b n t h e lt = (h.0, h.1, h.2, in_loop ids around turns b n t h.3 e lt)
 
-module _ (l : Launch) (item : ℕ) (ins : ℕ → Marks) (tidy : Change) (keeps : KeepsValues tidy l.sizes) (around : List Formula) (ts : List ℕ) (below : AreBelow l.sizes around ts) where
+-- and one `if`
+pub in_if : (ids : Ids) (around : List Around) (turns : List ℕ) (s : Start) (b : Formula) (n : ℕ) → StandsIn ids around turns → bound_value ids.sizes b ≡ Some n → start_value ids s < n → StandsIn ids (around ++ InIf s b ∷ []) turns
+in_if ids [] [] s b n h e lt = (n, e, lt, tt)
+in_if ids [] (u ∷ turns) s b n h e lt = absurd h
+in_if ids (InLoop c ∷ around) [] s b n h e lt = absurd h
+in_if ids (InLoop c ∷ around) (u ∷ turns) s b n h e lt = (h.0, h.1, h.2, in_if ids around turns s b n h.3 e lt)
+in_if ids (InIf r c ∷ around) turns s b n h e lt = (h.0, h.1, h.2, in_if ids around turns s b n h.3 e lt)
+
+module _ (l : Launch) (item : ℕ) (ins : ℕ → Marks) (tidy : Change) (keeps : KeepsValues tidy l) (around : List Around) (ts : List ℕ) (stands : StandsIn (ids_of l item) around ts) where
   abbrev tidied : Code → Code
   tidied = tidied_code tidy around
 
   spot : (m : Mark) (a : Array) (i : Formula) → IsSpot l item ins ts m a i → IsSpot l item ins ts m a (tidy around i)
-  spot (Spot b n) a i h = (h.0, λ vs. keeps (ids_of l item) around ts vs i n refl below (h.1 vs))
+  spot (Spot b n) a i h = (h.0, λ vs. keeps.index item around ts vs i n stands (h.1 vs))
   spot Nowhere a i h = absurd h
   spot (Register v) a i h = absurd h
 
@@ -44,14 +54,14 @@ module _ (l : Launch) (item : ℕ) (ins : ℕ → Marks) (tidy : Change) (keeps 
 
   -- a loop whose tidied body is what it was printed for at each turn
   pub loop : (kind : Kind) (n : ℕ) (B : ℕ → Code → Type 0) (code rest : Code)
-      → ((b : Formula) (i : ℕ) (body : Code) → AreBelow l.sizes (around ++ b ∷ []) (ts ++ i ∷ []) → B i body → B i (tidied_code tidy (around ++ b ∷ []) body))
+      → ((b : Formula) (i : ℕ) (body : Code) → StandsIn (ids_of l item) (around ++ InLoop b ∷ []) (ts ++ i ∷ []) → B i body → B i (tidied_code tidy (around ++ InLoop b ∷ []) body))
       → IsLoop l item ins kind n B code rest → IsLoop l item ins kind n B (tidied code) (tidied rest)
   loop kind n B code rest turn h = (
     tidy [] h.0,
-    tidied_code tidy (around ++ h.0 ∷ []) h.1,
+    tidied_code tidy (around ++ InLoop h.0 ∷ []) h.1,
     ap tidied h.2,
-    keeps (sizes_alone l.sizes) [] [] no_vars h.0 n refl tt h.3,
-    λ i lt own. turn h.0 i h.1 (below_more l.sizes around ts h.0 n i below h.3 lt) (h.4 i lt own),
+    keeps.bound h.0 n h.3,
+    λ i lt own. turn h.0 i h.1 (in_loop (ids_of l item) around ts h.0 n i stands h.3 lt) (h.4 i lt own),
   )
 
   pub fold_turn : {A : Type 0} → (env : ℕ → Marks) (loads : LoadSet) (ty : Ty) (x : Marks) (acc : ℕ) (b : Term A) (body : Code) → IsFoldTurn l item ins ts env loads ty x acc b body → IsFoldTurn l item ins ts env loads ty x acc b (tidied body)
@@ -66,4 +76,4 @@ module _ (l : Launch) (item : ℕ) (ins : ℕ → Marks) (tidy : Change) (keeps 
       )
 
 pub loads_are : TidiedLoadsArePrinted
-loads_are l item ins tidy around ts loads x n code rest keeps below h = loaded l item ins tidy keeps around ts below loads x n code rest h
+loads_are l item ins tidy around ts loads x n code rest keeps stands h = loaded l item ins tidy keeps around ts stands loads x n code rest h

@@ -1,55 +1,75 @@
 -- Tidied, a map over work-groups is what it was printed for.
-use Rattle.std.proofs.Common.{◌≡◌, ℕ, ◌+◌, ◌<◌, true, List, [], ◌∷◌, Some, refl, ap}
+use Rattle.std.proofs.Common.{◌≡◌, ℕ, ◌+◌, ◌<◌, Bool, true, false, List, [], ◌∷◌, Some, refl, ap, ◌∙◌, arith}
 use Rattle.size_arith.specs.declared.poly.Monomial.{Monomial}
 use Rattle.lift_tree.specs.Annotations.{type_in}
-use Rattle.kernel_tree.specs.Formula.{Formula, no_vars, bound_value, sizes_alone}
+use Rattle.kernel_tree.specs.Formula.{Formula, bound_value}
 use Rattle.kernel_tree.specs.Code.{Local as LocalArray, Code, End}
-use Rattle.kernel_tree.specs.Launch.{Launch}
+use Rattle.kernel_tree.specs.Launch.{Launch, ids_of}
 use Rattle.barrier_placement.specs.Fencing.{Fencing, Open, Fenced}
 use Rattle.lift_ir.specs.AtLaunch.{length_at, ty_at}
 use Rattle.lift_ir.specs.Layouts.{result_position}
 use Rattle.lift_ir.specs.Terms.{LoadSet, WorkGroup, Local, LocalMemory, Term, Bound, Source, Both, Project, Reshape, LetArray, Map, Copy, push}
 use Rattle.lift_ir.specs.Scalars.{at_index}
 use Rattle.printed_form.specs.Counts.{load_count}
+use Rattle.printed_form.specs.MapForms.{MapForm, MapForms, form_over_groups, statement_over_groups, variables_in}
 use Rattle.printed_form.specs.Marks.{Marks, laid_in, loaded_marks}
-use Rattle.printed_form.specs.Form.{argument_marks}
+use Rattle.printed_form.specs.Form.{start_of, IsTurnOf, argument_marks}
 use Rattle.printed_form.specs.Whole.{no_marks, output_marks}
 use Rattle.printed_form.specs.Printer.{input_marks}
 use Rattle.printed_form.specs.Programs.{input_shape, first_buffer, lowered_root}
 use Rattle.group_phases.specs.Epochs.{IsPast}
+use Rattle.group_form.specs.ChosenForms.{forms_of}
 use Rattle.group_form.specs.Origins.{local_count}
 use Rattle.group_form.specs.Stages.{marks_of}
 use Rattle.group_form.specs.Uses.{phases_in}
-use Rattle.group_form.specs.Form.{Used, used_after, IsLocalLoop, IsGroupArgument, IsGroupWritten, IsGroupTurn, IsOverGroups}
-use Rattle.tidy_indices.specs.Laws.{AreBelow, Change, KeepsValues}
+use Rattle.group_form.specs.Form.{Used, used_after, IsLocalMap, IsGroupArgument, IsGroupWritten, IsGroupTurn, IsOverGroups}
+use Rattle.tidy_indices.specs.Around.{Around, InLoop, InIf, StandsIn}
+use Rattle.tidy_indices.specs.Laws.{Change, KeepsValues}
 use Rattle.tidy_kernels.specs.Pass.{tidied_code}
-use Rattle.tidy_printed.specs.Terms.{TidiedLoadsArePrinted, TidiedMapLoopsArePrinted}
+use Rattle.tidy_printed.specs.Terms.{TidiedLoadsArePrinted, TidiedMapsArePrinted}
 use Rattle.tidy_printed.specs.Groups.{TidiedGroupCodesArePrinted, TidiedGroupKernelsArePrinted}
 
-past : (tidy : Change) (around : List Formula) (f : Fencing) (before after : Code) → IsPast f before after → IsPast f (tidied_code tidy around before) (tidied_code tidy around after)
+past : (tidy : Change) (around : List Around) (f : Fencing) (before after : Code) → IsPast f before after → IsPast f (tidied_code tidy around before) (tidied_code tidy around after)
 past tidy around Open before after h = ap (tidied_code tidy around) h
 past tidy around (Fenced on_local on_global) before after h = ap (tidied_code tidy around) h
 
-module _ {A : Type 0} (loaded : TidiedLoadsArePrinted) (looped : TidiedMapLoopsArePrinted A) (num : A → ℕ) (l : Launch) (ins : ℕ → Marks) (fence : ℕ → Fencing) (tidy : Change) (keeps : KeepsValues tidy l.sizes) where
-  -- within the loop over groups
-  module _ (bound : Formula) (turns : ℕ) (is : bound_value l.sizes bound ≡ Some turns) where
-    abbrev around : List Formula
-    around = bound ∷ []
+-- the statement around a turn of a map over groups
+abbrev statement_in : (once : Bool) → Formula → Around
+statement_in false b = InLoop b
+statement_in true b = InIf (start_of WorkGroup) b
+
+tidied_statement : (tidy : Change) (once : Bool) (b : Formula) (body : Code) → tidied_code tidy [] (statement_over_groups once b body) ≡ statement_over_groups once (tidy [] b) (tidied_code tidy (statement_in once b ∷ []) body)
+tidied_statement tidy false b body = refl
+tidied_statement tidy true b body = refl
+
+module _ {A : Type 0} (loaded : TidiedLoadsArePrinted) (mapped : TidiedMapsArePrinted A) (num : A → ℕ) (forms : MapForms A) (l : Launch) (ins : ℕ → Marks) (fence : ℕ → Fencing) (tidy : Change) (keeps : KeepsValues tidy l) where
+  -- within the map over groups
+  module _ (once : Bool) (bound : Formula) (turns : ℕ) (is : bound_value l.sizes bound ≡ Some turns) where
+    abbrev outer : MapForm
+    outer = form_over_groups once
+
+    abbrev around : List Around
+    around = statement_in once bound ∷ []
 
     abbrev tidied : Code → Code
     tidied = tidied_code tidy around
 
-    below : (i : ℕ) → i < turns → AreBelow l.sizes around (i ∷ [])
-    below i lt = (turns, is, lt, tt)
+    -- a group that takes a turn has an id below so many turns
+    stands : (item i : ℕ) → i < turns → IsTurnOf l item WorkGroup i → StandsIn (ids_of l item) around (variables_in outer [] i)
+    stands item i lt own = by_form once
+      where
+        by_form : (once : Bool) → StandsIn (ids_of l item) (statement_in once bound ∷ []) (variables_in (form_over_groups once) [] i)
+        by_form false = (turns, is, lt, tt)
+        by_form true = (turns, is, (let from = own.1 in omega arith), tt)
 
-    local_loop : (env : (turn var : ℕ) → Marks) (u : Used) (len : ℕ) (loads : LoadSet) (marks : ℕ → Marks) (b : Term A) (w : ℕ → Marks) (code rest : Code)
-        → IsLocalLoop num l ins fence turns env u len loads marks b w code rest → IsLocalLoop num l ins fence turns env u len loads marks b w (tidied code) (tidied rest)
-    local_loop env u len loads marks b w code rest h = λ item i here lt own.
-        looped l item ins num tidy around (i ∷ []) Local len (env i) u.privates u.variables loads (marks i) (w i) b code rest keeps (below i lt) (h item i here lt own)
+    local_map : (env : (turn var : ℕ) → Marks) (u : Used) (len : A) (loads : LoadSet) (marks : ℕ → Marks) (b : Term A) (w : ℕ → Marks) (code rest : Code)
+        → IsLocalMap num forms l ins fence outer turns env u len loads marks b w code rest → IsLocalMap num forms l ins fence outer turns env u len loads marks b w (tidied code) (tidied rest)
+    local_map env u len loads marks b w code rest h = λ item i here lt own.
+        mapped l item ins num tidy around (variables_in outer [] i) (forms.local len) Local (num len) (env i) u.privates u.variables loads (marks i) (w i) b code rest keeps (stands item i lt own) (h item i here lt own)
 
     mutual
       group_argument : (env : (turn var : ℕ) → Marks) (u : Used) (t : Term A) (code rest : Code)
-          → IsGroupArgument num l ins fence turns env u t code rest → IsGroupArgument num l ins fence turns env u t (tidied code) (tidied rest)
+          → IsGroupArgument num forms l ins fence outer turns env u t code rest → IsGroupArgument num forms l ins fence outer turns env u t (tidied code) (tidied rest)
       group_argument env u (Bound v) code rest h = ap tidied h
       group_argument env u (Source a) code rest h = ap tidied h
       group_argument env u (Both true a b) code rest h = (tidied h.0, group_argument env u a code h.0 h.1, group_argument env (used_after u a) b h.0 rest h.2)
@@ -61,7 +81,7 @@ module _ {A : Type 0} (loaded : TidiedLoadsArePrinted) (looped : TidiedMapLoopsA
       group_argument env u _ code rest h = absurd h
 
       group_written : (env : (turn var : ℕ) → Marks) (u : Used) (t : Term A) (w : ℕ → Marks) (code rest : Code)
-          → IsGroupWritten num l ins fence turns env u t w code rest → IsGroupWritten num l ins fence turns env u t w (tidied code) (tidied rest)
+          → IsGroupWritten num forms l ins fence outer turns env u t w code rest → IsGroupWritten num forms l ins fence outer turns env u t w (tidied code) (tidied rest)
       group_written env u (Reshape y t) w code rest h = (h.0, group_written env u t (λ i cs p. w i cs (result_position num y p)) code rest h.1)
       group_written env u (LetArray v b) w code rest h =
           (tidied h.0, group_argument env u v code h.0 h.1, group_written (λ i. push (marks_of num ins env u.locals v i) (env i)) (used_after u v) b w h.0 rest h.2)
@@ -70,37 +90,37 @@ module _ {A : Type 0} (loaded : TidiedLoadsArePrinted) (looped : TidiedMapLoopsA
         tidied h.1,
         group_argument env u xs code h.0 h.2,
         past tidy around (fence (u.phases + phases_in xs)) h.0 h.1 h.3,
-        local_loop env (used_after u xs) (num n) loads (marks_of num ins env u.locals xs) b w h.1 rest h.4,
+        local_map env (used_after u xs) n loads (marks_of num ins env u.locals xs) b w h.1 rest h.4,
       )
       group_written env u _ w code rest h = absurd h
 
     group_turn : (env : ℕ → Marks) (loads : LoadSet) (marks : Marks) (b : Term A) (w : Marks) (code : Code)
-        → IsGroupTurn num l ins fence turns env loads marks b w code → IsGroupTurn num l ins fence turns env loads marks b w (tidied code)
+        → IsGroupTurn num forms l ins fence outer turns env loads marks b w code → IsGroupTurn num forms l ins fence outer turns env loads marks b w (tidied code)
     group_turn env loads marks b w code h = (
       tidied h.0,
       tidied h.1,
-      λ item i here lt own. loaded l item ins tidy around (i ∷ []) loads (at_index i marks) 0 code h.0 keeps (below i lt) (h.2 item i here lt own),
+      λ item i here lt own. loaded l item ins tidy around (variables_in outer [] i) loads (at_index i marks) 0 code h.0 keeps (stands item i lt own) (h.2 item i here lt own),
       group_written (λ i. push (loaded_marks loads (at_index i marks) 0) env) (record { locals = 0; privates = 0; variables = load_count loads; phases = 0 }) b (λ i. at_index i w) h.0 h.1 h.3,
       past tidy around (fence (phases_in b)) h.1 End h.4,
     )
 
-  over_groups : (env : ℕ → Marks) (t : Term A) (w : Marks) (code : Code) → IsOverGroups num l ins fence env t w code → IsOverGroups num l ins fence env t w (tidied_code tidy [] code)
+  over_groups : (env : ℕ → Marks) (t : Term A) (w : Marks) (code : Code) → IsOverGroups num forms l ins fence env t w code → IsOverGroups num forms l ins fence env t w (tidied_code tidy [] code)
   over_groups env (Reshape y t) w code h = (h.0, over_groups env t (λ cs p. w cs (result_position num y p)) code h.1)
   over_groups env (LetArray v b) w code h = over_groups (push (argument_marks l ins num env 0 v) env) b w code h
   over_groups env (Map WorkGroup n loads xs b) w code h = (
     tidy [] h.0,
-    tidied_code tidy (h.0 ∷ []) h.1,
-    ap (tidied_code tidy []) h.2,
-    keeps (sizes_alone l.sizes) [] [] no_vars h.0 (num n) refl tt h.3,
-    group_turn h.0 (num n) h.3 env loads (argument_marks l ins num env 0 xs) b w h.1 h.4,
+    tidied_code tidy (statement_in (forms.once n) h.0 ∷ []) h.1,
+    ap (tidied_code tidy []) h.2 ∙ tidied_statement tidy (forms.once n) h.0 h.1,
+    keeps.bound h.0 (num n) h.3,
+    group_turn (forms.once n) h.0 (num n) h.3 env loads (argument_marks l ins num env 0 xs) b w h.1 h.4,
   )
   over_groups env _ w code h = absurd h
 
-pub code_is : TidiedLoadsArePrinted → TidiedMapLoopsArePrinted (List Monomial) → TidiedGroupCodesArePrinted (List Monomial)
-code_is loaded looped num l ins fence env tidy t to code keeps h = over_groups loaded looped num l ins fence tidy keeps env t to code h
+pub code_is : TidiedLoadsArePrinted → TidiedMapsArePrinted (List Monomial) → TidiedGroupCodesArePrinted (List Monomial)
+code_is loaded mapped num forms l ins fence env tidy t to code keeps h = over_groups loaded mapped num forms l ins fence tidy keeps env t to code h
 
-pub kernel_is : TidiedLoadsArePrinted → TidiedMapLoopsArePrinted (List Monomial) → TidiedGroupKernelsArePrinted
-kernel_is loaded looped d bases t a l tidy k keeps h = record {
+pub kernel_is : TidiedLoadsArePrinted → TidiedMapsArePrinted (List Monomial) → TidiedGroupKernelsArePrinted
+kernel_is loaded mapped d size bases t a l tidy k keeps h = record {
   inputs = h.inputs;
   outputs = h.outputs;
   sizes = h.sizes;
@@ -111,5 +131,5 @@ kernel_is loaded looped d bases t a l tidy k keeps h = record {
   local = h.local;
   fence = h.fence;
   needed = h.needed;
-  code = over_groups loaded looped (length_at bases) l (input_marks (length_at bases) (first_buffer d.inputs) (input_shape d.inputs)) h.fence tidy keeps no_marks (lowered_root d.names t a) (output_marks (ty_at bases (type_in a))) k.code h.code;
+  code = over_groups loaded mapped (length_at bases) (forms_of d.names size) l (input_marks (length_at bases) (first_buffer d.inputs) (input_shape d.inputs)) h.fence tidy keeps no_marks (lowered_root d.names t a) (output_marks (ty_at bases (type_in a))) k.code h.code;
 }

@@ -8,6 +8,7 @@ use Rattle.lift_ir.specs.AtLaunch.{length_at, ty_at}
 use Rattle.lift_ir.specs.Layouts.{result_position}
 use Rattle.lift_ir.specs.Terms.{Global, Term, Reshape, LetArray, Map, push}
 use Rattle.printed_form.specs.Counts.{variable_count, private_count}
+use Rattle.printed_form.specs.MapForms.{Looped}
 use Rattle.printed_form.specs.Marks.{Marks}
 use Rattle.printed_form.specs.Form.{argument_marks}
 use Rattle.printed_form.specs.Whole.{IsOverLaunch, no_marks, output_marks}
@@ -16,9 +17,9 @@ use Rattle.printed_form.specs.Programs.{input_shape, first_buffer, lowered_root}
 use Rattle.tidy_indices.specs.Laws.{Change, KeepsValues}
 use Rattle.tidy_kernels.specs.Pass.{tidied_code}
 use Rattle.tidy_printed.specs.Terms.{TidiedCodesArePrinted, TidiedKernelsArePrinted}
-use Rattle.tidy_printed.proofs.TidiedTerms.{argument, written, map_loops_are}
+use Rattle.tidy_printed.proofs.TidiedTerms.{argument, written, maps_are}
 
-module _ {A : Type 0} (l : Launch) (item : ℕ) (ins : ℕ → Marks) (num : A → ℕ) (tidy : Change) (keeps : KeepsValues tidy l.sizes) where
+module _ {A : Type 0} (l : Launch) (item : ℕ) (ins : ℕ → Marks) (num : A → ℕ) (tidy : Change) (keeps : KeepsValues tidy l) where
   over_launch : (env : ℕ → Marks) (a n : ℕ) (t : Term A) (w : Marks) (code rest : Code)
       → IsOverLaunch l item ins num env a n t w code rest → IsOverLaunch l item ins num env a n t w (tidied_code tidy [] code) (tidied_code tidy [] rest)
   over_launch env a n (Reshape y t) w code rest h = (h.0, over_launch env a n t (λ cs q. w cs (result_position num y q)) code rest h.1)
@@ -30,7 +31,7 @@ module _ {A : Type 0} (l : Launch) (item : ℕ) (ins : ℕ → Marks) (num : A �
   over_launch env a n (Map Global len loads xs b) w code rest h = (
     tidied_code tidy [] h.0,
     argument l item ins num tidy keeps [] [] tt env a n xs code h.0 h.1,
-    map_loops_are l item ins num tidy [] [] Global (num len) env (a + private_count xs) (n + variable_count xs) loads (argument_marks l ins num env a xs) w b h.0 rest keeps tt h.2,
+    maps_are l item ins num tidy [] [] Looped Global (num len) env (a + private_count xs) (n + variable_count xs) loads (argument_marks l ins num env a xs) w b h.0 rest keeps tt h.2,
   )
   over_launch env a n _ w code rest h = absurd h
 
@@ -39,7 +40,7 @@ code_is l ins num tidy t ty code keeps (inl h) = inl (h.0, written l 0 ins num t
 code_is l ins num tidy t ty code keeps (inr h) = inr (λ item lt. over_launch l item ins num tidy keeps no_marks 0 0 t (output_marks ty) code End (h item lt))
 
 pub kernel_is : TidiedKernelsArePrinted
-kernel_is d bases t a l tidy k keeps h = record {
+kernel_is d size bases t a l tidy k keeps h = record {
   inputs = h.inputs;
   outputs = h.outputs;
   sizes = h.sizes;

@@ -9,7 +9,8 @@ use Rattle.tidy_indices.specs.Formulas.{formula_nodes}
 use Rattle.tidy_indices.specs.Redundant.{IsIrredundant}
 use Rattle.tidy_indices.specs.Reading.{reading, IsIndexFormula}
 use Rattle.tidy_indices.specs.Places.{ranges_outside}
-use Rattle.tidy_indices.specs.Laws.{Change, EachIsIndexFormula}
+use Rattle.tidy_indices.specs.Around.{Around}
+use Rattle.tidy_indices.specs.Laws.{Change, HaveIndexBounds}
 
 -- in place of an index or a bound that spells an index expression: no part of it is redundant, and
 -- it has no more nodes than that expression counted in short
@@ -38,13 +39,13 @@ IsTidyFor (Guards s b body r) (Guards t d other q) =
 IsTidyFor (Syncs l g r) (Syncs m h q) = (l ≡ m) × (g ≡ h) × IsTidyFor r q
 IsTidyFor _ _ = ⊥
 
--- in loops whose bounds spell index expressions it makes of each such formula one without redundant
+-- in ifs, and in loops whose bounds spell index expressions, it makes of each such formula one without redundant
 -- parts and, where sizes are divided as they are declared, with no more nodes than are counted in
 -- short
 pub record MakesTidy (names : List Name) (tidy : Change) : Type 0 where
-  pub irredundant : (around : List Formula) (f : Formula) → EachIsIndexFormula around
+  pub irredundant : (around : List Around) (f : Formula) → HaveIndexBounds around
       → IsIndexFormula f → IsIrredundant (tidy around f)
   pub short :
-      (around : List Formula) (f : Formula) (e : Expression) → EachIsIndexFormula around
+      (around : List Around) (f : Formula) (e : Expression) → HaveIndexBounds around
       → reading f ≡ Some e → AreDeclared (ranges_outside names) e
       → formula_nodes (tidy around f) ≤ short_nodes e

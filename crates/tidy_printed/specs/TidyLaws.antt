@@ -1,6 +1,6 @@
 -- The indices and bounds of the kernels that are printed with lengths as they are spelled, and of
 -- those kernels tidied.
-use Rattle.std.specs.Prelude.{◌≡◌, ℕ, true, List, []}
+use Rattle.std.specs.Prelude.{◌≡◌, ℕ, true, List, [], Option}
 use Rattle.size_arith.specs.declared.names.Name.{Name}
 use Rattle.size_arith.specs.Ranges.{AreNames}
 use Rattle.lift_tree.specs.Tree.{Tree}
@@ -20,31 +20,31 @@ use Rattle.tidy_printed.specs.Tidy.{IsTidyFor, MakesTidy}
 
 abbrev pub TermsHaveIndexFormulas : Type 0
 TermsHaveIndexFormulas =
-    (d : Declared) (t : Tree) (a : Annotation)
+    (d : Declared) (size : Option ℕ) (t : Tree) (a : Annotation)
     →
-    (let plain = printed_kernel (length_formula d.names) d t a in AreNames d.names
+    (let plain = printed_kernel (length_formula d.names) d size t a in AreNames d.names
     → is_kernel plain ≡ true → EachIndexAndBound (IsDeclaredIndex d.names) plain.code)
 
 abbrev pub GroupsHaveIndexFormulas : Type 0
 GroupsHaveIndexFormulas =
-    (d : Declared) (fence : ℕ → Fencing) (t : Tree) (a : Annotation)
+    (d : Declared) (size : Option ℕ) (fence : ℕ → Fencing) (t : Tree) (a : Annotation)
     →
-    (let plain = printed_group_kernel (length_formula d.names) fence d t a in AreNames d.names
+    (let plain = printed_group_kernel (length_formula d.names) fence d size t a in AreNames d.names
     → is_kernel plain ≡ true → EachIndexAndBound (IsDeclaredIndex d.names) plain.code)
 
 abbrev pub TidiedTermsAreTidy : Type 0
 TidiedTermsAreTidy =
-    (d : Declared) (t : Tree) (a : Annotation) (tidy : Change)
+    (d : Declared) (size : Option ℕ) (t : Tree) (a : Annotation) (tidy : Change)
     →
-    (let plain = printed_kernel (length_formula d.names) d t a in AreNames d.names
+    (let plain = printed_kernel (length_formula d.names) d size t a in AreNames d.names
     → is_kernel plain ≡ true → MakesTidy d.names tidy
     → IsTidyFor plain.code (tidied_kernel tidy plain).code)
 
 abbrev pub TidiedGroupsAreTidy : Type 0
 TidiedGroupsAreTidy =
-    (d : Declared) (fence : ℕ → Fencing) (t : Tree) (a : Annotation) (tidy : Change)
+    (d : Declared) (size : Option ℕ) (fence : ℕ → Fencing) (t : Tree) (a : Annotation) (tidy : Change)
     →
-    (let plain = printed_group_kernel (length_formula d.names) fence d t a in AreNames d.names
+    (let plain = printed_group_kernel (length_formula d.names) fence d size t a in AreNames d.names
     → is_kernel plain ≡ true → MakesTidy d.names tidy
     → IsTidyFor plain.code (tidied_kernel tidy plain).code)
 
@@ -55,6 +55,7 @@ TidiedCodesAreTidy =
     → MakesTidy names tidy → EachIndexAndBound (IsDeclaredIndex names) code
     → IsTidyFor code (tidied_code tidy [] code)
 
--- the tidy formulas of the declared sizes are such
+-- the tidy formulas of the declared sizes are such, whatever size groups are asked to have
 abbrev pub TidyFormulasMakeTidy : Type 0
-TidyFormulasMakeTidy = (names : List Name) → MakesTidy names (tidy_formula names)
+TidyFormulasMakeTidy =
+    (names : List Name) (local : Option (ℕ × ℕ)) → MakesTidy names (tidy_formula names local)

@@ -3,17 +3,17 @@
 ghost use Rattle.size_arith.specs.declared.poly.Monomial.{Monomial};
 ghost use Rattle.std.specs.Prelude.{List};
 ghost use Rattle.tidy_printed.specs.Terms.{TidiedCodesArePrinted, TidiedKernelsArePrinted};
-ghost use Rattle.tidy_printed.specs.Terms.{TidiedLoadsArePrinted, TidiedMapLoopsArePrinted};
+ghost use Rattle.tidy_printed.specs.Terms.{TidiedLoadsArePrinted, TidiedMapsArePrinted};
 
-/// Code that is printed for the loads of an element, in loops of these bounds at these turns, is
+/// Code that is printed for the loads of an element, in these loops and ifs at these turns, is
 /// printed for them when it is tidied, where indices and bounds keep their values.
 pub fn tidied_loads_are_printed()
     ensures { TidiedLoadsArePrinted }
 {}
 
-/// And so is a loop that is printed for a map, of whatever kind.
-pub fn tidied_map_loops_are_printed()
-    ensures { TidiedMapLoopsArePrinted (List Monomial) }
+/// And so is what is printed for a map of whatever kind: a loop, an `if` or its turn alone.
+pub fn tidied_maps_are_printed()
+    ensures { TidiedMapsArePrinted (List Monomial) }
 {}
 
 /// Code that is printed for a term, by one work-item or over the launch, is printed for it when it

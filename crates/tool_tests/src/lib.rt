@@ -8,11 +8,15 @@ mod demo;
 #[cfg(test)]
 mod groups;
 #[cfg(test)]
+mod hostile;
+#[cfg(test)]
 mod indices;
 #[cfg(test)]
 mod kernels;
 #[cfg(test)]
 mod limits;
+#[cfg(test)]
+mod local_sizes;
 #[cfg(test)]
 mod nests;
 #[cfg(test)]

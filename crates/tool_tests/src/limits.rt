@@ -1,166 +1,9 @@
-//! Limits: what is just within one is accepted, and what passes it is refused with its count.
-use crate::call::{COMPILE, Call, FIRST, PROGRAM, RESULT, RUN, SCRIPT, STEPS, repeated};
+//! Further limits: what is just within one is accepted, and what passes it is refused with a count.
+use crate::call::{Call, FIRST, RESULT, RUN, SCRIPT, STEPS, repeated};
+use crate::hostile::sum;
 use crate::kernels::around;
 use std::alloc::{AllocError, Global};
 use std::test::Fail;
-
-// Whether a program along a script is refused with this line, or is accepted where there is none.
-fn is_at_limit<'a>(
-    alloc: Global,
-    words: &[&str],
-    program: &'a str,
-    script: &'a str,
-    line: &str,
-) -> Result<bool, AllocError> {
-    let call = Call {
-        program,
-        script,
-        ..FIRST
-    };
-    if line.is_empty() {
-        call.is_accepted(alloc, words)
-    } else {
-        call.ends(alloc, words, 10, "", line)
-    }
-}
-
-// The sum of two texts' terms.
-fn sum(alloc: Global, a: &str, b: &str) -> Result<String, AllocError> {
-    format!(in alloc; "add({a}, {b})")
-}
-
-// A sum of 2,047 leaves, 12 high.
-fn large_sum(alloc: Global) -> Result<String, AllocError> {
-    let mut full = sum(alloc, "x", "x")?;
-    let mut short = String::from_str(alloc, "x")?;
-    for _ in 0..10 {
-        short = sum(alloc, short.as_str(), full.as_str())?;
-        full = sum(alloc, full.as_str(), full.as_str())?;
-    }
-    Ok(short)
-}
-
-// A map, an input, the sum's 2,047 leaves and 2,046 operators, and each quotient are nodes.
-const QUOTIENTS: [(&str, &str, &str); 2] = [
-    ("div(", ", 1)", ""),
-    ("div(div(", ", 1), 1)", "lift: limit nodes: 4097\n"),
-];
-
-fn quotients_end(alloc: Global) -> Result<bool, AllocError> {
-    let sum = large_sum(alloc)?;
-    let head = "size N from 1 to 1000; input xs: [u32; N]; output map(\\x. ";
-    for (begin, end, line) in QUOTIENTS {
-        let program = format!(in alloc; "{head}{begin}{sum}{end}, xs)")?;
-        if !is_at_limit(alloc, &COMPILE, program.as_str(), SCRIPT, line)? {
-            return Ok(false);
-        }
-    }
-    Ok(true)
-}
-
-// So many layouts on one another around an input: each text opens, and the other closes.
-const LAYOUTS: [(&str, &str, usize, &str); 3] = [
-    ("pad(0, 0, ", ")", 24, ""),
-    ("pad(0, 0, ", ")", 25, "lift: limit layouts: 25\n"),
-    ("join(split(1, ", "))", 13, "lift: limit layouts: 26\n"),
-];
-
-fn layouts_end(alloc: Global) -> Result<bool, AllocError> {
-    for (open, close, times, line) in LAYOUTS {
-        let opened = repeated(alloc, open, times, "xs")?;
-        let closed = repeated(alloc, close, times, ")")?;
-        let program = format!(in alloc; "input xs: [u32; 4]; output map(\\x. x, {opened}{closed}")?;
-        if !is_at_limit(alloc, &COMPILE, program.as_str(), SCRIPT, line)? {
-            return Ok(false);
-        }
-    }
-    Ok(true)
-}
-
-// Programs along scripts, each as it is written.
-const WRITTEN: [(&[&str], &str, &str, &str); 3] = [
-    (
-        &COMPILE,
-        "input xs: [u32; 256]; output map(\\x. x, xs)",
-        "at 0 private-copy\nat . to-seq",
-        "",
-    ),
-    (
-        &COMPILE,
-        "input xs: [u32; 257]; output map(\\x. x, xs)",
-        "at 0 private-copy\nat . to-seq",
-        "lift: limit private: 257\n",
-    ),
-    (
-        &STEPS,
-        "input xs: [[[[u32; 2]; 2]; 2]; 2]; output map(\\x. x, xs)",
-        "at . split-map 2",
-        "lift: limit arrays: 5\n",
-    ),
-];
-
-fn written_end(alloc: Global) -> Result<bool, AllocError> {
-    for (words, program, script, line) in WRITTEN {
-        if !is_at_limit(alloc, words, program, script, line)? {
-            return Ok(false);
-        }
-    }
-    Ok(true)
-}
-
-#[test]
-fn programs_end_at_their_limits(rt: HostRuntime) -> Result<(), Fail> {
-    assert!(rt; quotients_end(rt.alloc())?);
-    assert!(rt; layouts_end(rt.alloc())?);
-    assert!(rt; written_end(rt.alloc())?);
-    Ok(())
-}
-
-const MOVED: &str = "input xs: [u32; 4]; output pad(1, 1, map(\\x. x, xs))";
-
-// Each copy makes the term higher.
-const COPIES: [(&str, usize, &str, &str); 2] = [
-    ("at 0 copy\n", 254, "", ""),
-    ("at 0 copy\n", 255, "", "lift: limit depth: 257\n"),
-];
-
-// A pad and a map change places in each step.
-const MOVES: [(&str, usize, &str, &str); 2] = [
-    ("at . pad-map\nat . map-pad\n", 128, "", ""),
-    (
-        "at . pad-map\nat . map-pad\n",
-        128,
-        "at . pad-map",
-        "lift: limit steps: 257\n",
-    ),
-];
-
-// A script is a text so many times, and then another.
-fn scripts_end(
-    alloc: Global,
-    program: &str,
-    rows: &[(&str, usize, &str, &str)],
-) -> Result<bool, AllocError> {
-    for &(text, times, rest, line) in rows {
-        let script = repeated(alloc, text, times, rest)?;
-        if !is_at_limit(alloc, &STEPS, program, script.as_str(), line)? {
-            return Ok(false);
-        }
-    }
-    Ok(true)
-}
-
-#[test]
-fn a_term_is_at_most_256_high(rt: HostRuntime) -> Result<(), Fail> {
-    assert!(rt; scripts_end(rt.alloc(), PROGRAM, &COPIES)?);
-    Ok(())
-}
-
-#[test]
-fn a_script_has_at_most_256_steps(rt: HostRuntime) -> Result<(), Fail> {
-    assert!(rt; scripts_end(rt.alloc(), MOVED, &MOVES)?);
-    Ok(())
-}
 
 // A program, a script as its beginning, a text so many times and its end, a launch file and the line
 // of the run. One work-item's loop over n numbers is 3n + 1 events: each copy to private memory is
@@ -234,16 +77,12 @@ fn the_nodes_after_a_step_are_limited(rt: HostRuntime) -> Result<(), Fail> {
     let program = format!(in rt.alloc();
         "input xs: [u32; 2]; output map(\\x. let v = {ones} in {names}, xs)"
     )?;
-    let line = "lift: limit nodes: 8193\n";
-    assert!(rt;
-        is_at_limit(
-            rt.alloc(),
-            &STEPS,
-            program.as_str(),
-            "at 1 let-inline",
-            line
-        )?
-    );
+    let call = Call {
+        program: program.as_str(),
+        script: "at 1 let-inline",
+        ..FIRST
+    };
+    assert!(rt; call.ends(rt.alloc(), &STEPS, 10, "", "lift: limit nodes: 8193\n")?);
     Ok(())
 }
 

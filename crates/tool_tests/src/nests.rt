@@ -1,5 +1,5 @@
 //! The rules of the nest: for each a program and a script that break it, and neighbours that don't.
-use crate::call::{COMPILE, Call, FIRST};
+use crate::call::{COMPILE, Call, FIRST, RUN};
 use std::alloc::{AllocError, Global};
 use std::test::Fail;
 
@@ -9,6 +9,8 @@ const NUMBERS: &str = "input xs: [u32; 4]; output map(\\x. x, xs)";
 
 const TWICE: &str = "input xs: [u32; 4]; output map(\\x. x, map(\\x. x, xs))";
 
+const TWO_KERNELS: &str = "input xs: [u32; 4]; output map(\\x. add(x, 1), map(\\x. mul(x, 2), xs))";
+
 const SIZED: &str = "size N from 1 to 64; input xs: [u32; N]; output map(\\x. x, xs)";
 
 const LET_ELEMENT: &str = "input xs: [u32; 4]; output let a = 1 in map(\\x. add(a, x), xs)";
@@ -17,19 +19,13 @@ const LET_ARRAY: &str = "input xs: [u32; 4]; output let ys = xs in map(\\x. x, y
 
 const TILES: &str = "at 0.1.0 local-copy\nat 0.1 to-lcl\nat 0 to-wrg";
 
-// Programs and scripts, each with the first broken rule in preorder, and its place.
-const REFUSED: [(&str, &str, &str); 17] = [
+// Programs and scripts, each with the first broken rule in preorder, and its place. Those of
+// hostile scripts stand apart.
+const REFUSED: [(&str, &str, &str); 11] = [
     (NUMBERS, "", "lift: nest: N1 at .\n"),
     (NUMBERS, "at . to-lcl", "lift: nest: N2 at .\n"),
     (ROWS, "at 1 to-lcl\nat . to-seq", "lift: nest: N2 at 1\n"),
-    (ROWS, "at 1 to-glb\nat . to-glb", "lift: nest: N3 at 1\n"),
     (ROWS, "at 1 to-wrg\nat . to-glb", "lift: nest: N3 at 1\n"),
-    (ROWS, "at 1 to-seq\nat . to-wrg", "lift: nest: N4 at 1\n"),
-    (
-        NUMBERS,
-        "at 0 local-copy\nat . to-seq",
-        "lift: nest: N5 at 0\n",
-    ),
     (
         ROWS,
         "at 1.0 local\nat 1 to-lcl\nat . to-wrg",
@@ -40,18 +36,11 @@ const REFUSED: [(&str, &str, &str); 17] = [
         TILES,
         "lift: nest: N6 at 0.1.0\n",
     ),
-    (TWICE, "at 0 to-seq\nat . to-seq", "lift: nest: N7 at 0\n"),
-    (
-        NUMBERS,
-        "at 0 private-copy\nat . to-glb",
-        "lift: nest: N8 at 0\n",
-    ),
     (
         SIZED,
         "at 0 private-copy\nat . to-seq",
         "lift: nest: N8 at 0\n",
     ),
-    (ROWS, "at 1 to-glb\nat . to-seq", "lift: nest: N9 at 1\n"),
     (LET_ELEMENT, "at 1 to-glb", "lift: nest: N9 at 1\n"),
     (
         "input xs: [u32; 5]; output slide(3, 1, map(\\x. x, xs))",
@@ -71,7 +60,7 @@ const REFUSED: [(&str, &str, &str); 17] = [
 ];
 
 #[test]
-fn each_rule_is_broken_at_its_place(rt: HostRuntime) -> Result<(), Fail> {
+fn rules_are_broken_at_their_places(rt: HostRuntime) -> Result<(), Fail> {
     for (program, script, line) in REFUSED {
         let call = Call {
             program,
@@ -79,6 +68,41 @@ fn each_rule_is_broken_at_its_place(rt: HostRuntime) -> Result<(), Fail> {
             ..FIRST
         };
         assert!(rt; call.ends(rt.alloc(), &COMPILE, 11, "", line)?);
+    }
+    Ok(())
+}
+
+// Terms that kernels of their own make, in place of one kernel: such a term is refused before all
+// other rules, and the first in preorder.
+const OF_SEVERAL_KERNELS: [(&str, &str, &str); 4] = [
+    (
+        TWO_KERNELS,
+        "at 0 to-glb\nat 0 then\nat . to-glb",
+        "lift: nest: N13 at 0\n",
+    ),
+    (TWICE, "at 0 then", "lift: nest: N13 at 0\n"),
+    (
+        TWICE,
+        "launch local 2\nat 0 then\nat . then",
+        "lift: nest: N13 at .\n",
+    ),
+    (
+        "input xs: [u32; 4]; output let y = map(\\x. x, xs) in map(\\z. fold(\\a b. add(a, b), z, y), xs)",
+        "at 0 then\nat . let-inline",
+        "lift: nest: N13 at 1.0\n",
+    ),
+];
+
+#[test]
+fn one_kernel_is_not_several(rt: HostRuntime) -> Result<(), Fail> {
+    for (program, script, line) in OF_SEVERAL_KERNELS {
+        let call = Call {
+            program,
+            script,
+            ..FIRST
+        };
+        assert!(rt; call.ends(rt.alloc(), &COMPILE, 11, "", line)?);
+        assert!(rt; call.ends(rt.alloc(), &RUN, 11, "", line)?);
     }
     Ok(())
 }

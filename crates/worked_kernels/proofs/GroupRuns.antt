@@ -1,5 +1,5 @@
 -- Worked terms.
-use Rattle.std.proofs.Common.{◌≡◌, ℕ, zero, suc, ◌+◌, ◌-◌, ◌*◌, ◌/◌, ◌%◌, ◌<◌, ◌≤◌, ◌^◌, List, [], ◌∷◌, length, Some, Bool, true, false, refl, sym, ap, ◌∙◌, arith}
+use Rattle.std.proofs.Common.{◌≡◌, ℕ, zero, suc, ◌+◌, ◌-◌, ◌*◌, ◌/◌, ◌%◌, ◌<◌, ◌≤◌, ◌^◌, List, [], ◌∷◌, length, Some, Bool, true, false, true≢false, refl, sym, ap, ◌∙◌, arith}
 use Rattle.std.specs.Prelude.{slice_index, min, max, map, All, Contains}
 use Rattle.std.proofs.Math.Nat.{mod-eq_of_lt, le-max_right, max-le}
 use Rattle.std.proofs.lemmas.List.{length-map, get_or-map}
@@ -15,6 +15,7 @@ use Rattle.barrier_placement.specs.Needed.{Needed}
 use Rattle.lift_ir.specs.Types.{Scalar, ArrayOf, IsPosition}
 use Rattle.lift_ir.specs.Terms.{HasType, no_type}
 use Rattle.lift_ir.specs.Scalars.{scalars_of, no_scalars, AreLists}
+use Rattle.printed_form.specs.MapForms.{all_loops, MakeTurns}
 use Rattle.printed_form.specs.Marks.{Spot}
 use Rattle.printed_form.specs.Whole.{IsGiven, no_marks, output_marks}
 use Rattle.worked_kernels.specs.Tiles.{tile_index, copy_turn, add_turn, phase_code, tile_body, tile_kernel, tile_cells, AreTiles, added, no_barriers, tile_touches, two_barriers}
@@ -23,6 +24,9 @@ use Rattle.group_form.specs.Form.{IsOverGroups}
 use Rattle.group_form.specs.Theorem.{AlignedNeedNone, IsPrintedOverGroups, NeededKeepApart, SeparatedGroupsKeep, UsesTellBarriers}
 use Rattle.worked_kernels.specs.Groups as worked
 use Rattle.worked_kernels.specs.Groups.{itself, numbers, input_types, input_marks, input_scalars, use_of, added_tiles, AddedTilesKeep, summed_tiles, tile_place, padded_place, in_window, sum_turn, sum_store, sum_loop, window_turn, windows, sums_body, sums_kernel, AreSums, SummedTilesKeep, SixKeep, half_named_tiles, UnnamedCopiesAreUnused}
+
+loops_make_turns : (l : Launch) → MakeTurns all_loops itself l
+loops_make_turns l = record { local = λ n short. tt; once = λ n e. absurd (true≢false (sym e)) }
 
 none : {P : Type 0} → (cs : List Bool) (p : List ℕ) → IsPosition (ArrayOf 0 Scalar) cs p → P
 none cs [] x = absurd x
@@ -81,7 +85,7 @@ module _ (l : Launch) (tiles : ℕ) (xs out : List ℕ) (rest : ℕ) (h : AreTil
         tt,
       )
 
-  added_code : IsOverGroups itself l (input_marks n) no_barriers no_marks (added_tiles tiles) (output_marks (numbers n)) (tile_kernel false no_barriers).code
+  added_code : IsOverGroups itself all_loops l (input_marks n) no_barriers no_marks (added_tiles tiles) (output_marks (numbers n)) (tile_kernel false no_barriers).code
   added_code = (
     tt,
     (
@@ -135,10 +139,11 @@ module _ (l : Launch) (tiles : ℕ) (xs out : List ℕ) (rest : ℕ) (h : AreTil
     ),
   )
 
-  added_printed : IsPrintedOverGroups l itself (input_types n) (input_marks n) (input_scalars xs) no_barriers (added_tiles tiles) (numbers n) (tile_kernel false no_barriers) c
+  added_printed : IsPrintedOverGroups l itself all_loops (input_types n) (input_marks n) (input_scalars xs) no_barriers (added_tiles tiles) (numbers n) (tile_kernel false no_barriers) c
   added_printed = record {
     whole = h.whole;
     flat = h.flat;
+    makes = loops_make_turns l;
     some = h.some_items;
     few = few;
     stands = (tt, (tt, ((tt, tt), tt)));
@@ -162,8 +167,8 @@ module _ (l : Launch) (tiles : ℕ) (xs out : List ℕ) (rest : ℕ) (h : AreTil
       ([], i ∷ [], (il, tt), refl, (let z : i * 1 + 0 ≡ i = omega arith in z), get_or-map (λ x. (x + 1) % 2 ^ 32) xs i 0 0 (omega arith) ∙ ap (λ z. (slice_index xs z + 1) % 2 ^ 32) e)
   added_listed (suc a) i lt = absurd (omega arith)
 
-added_needed : AlignedNeedNone → (tiles : ℕ) → Needed (group_touches (added_tiles tiles)) (phase_count (added_tiles tiles)) no_barriers
-added_needed none_needed tiles = none_needed (group_touches (added_tiles tiles)) 2 all
+added_needed : AlignedNeedNone → (tiles : ℕ) → Needed (group_touches (added_tiles tiles)) false (phase_count (added_tiles tiles)) no_barriers
+added_needed none_needed tiles = none_needed (group_touches (added_tiles tiles)) false 2 all
   where
     all : All (λ x. x.aligned ≡ true) (group_touches (added_tiles tiles))
     all zero d lt = refl
@@ -179,12 +184,12 @@ added_tiles_keep none_needed keep apart = record {
   code = refl;
   keeps = λ l tiles xs out rest h.
       let p = added_printed l tiles xs out rest h in
-      keep itself l (input_types (tiles * 2)) (input_marks (tiles * 2)) (input_scalars xs) no_barriers (added_tiles tiles) (numbers (tiles * 2)) (tile_kernel false no_barriers) (tile_cells xs out rest) (added false xs ∷ []) p
-      (apart (added_tiles tiles) no_barriers p.stands (added_needed none_needed tiles)) (ap (λ z. z ∷ []) (length-map xs (λ x. (x + 1) % 2 ^ 32) ∙ h.long ∙ sym h.out_long)) (added_listed l tiles xs out rest h);
+      keep itself all_loops l (input_types (tiles * 2)) (input_marks (tiles * 2)) (input_scalars xs) no_barriers (added_tiles tiles) (numbers (tiles * 2)) (tile_kernel false no_barriers) (tile_cells xs out rest) (added false xs ∷ []) p
+      (apart all_loops (added_tiles tiles) no_barriers p.stands (added_needed none_needed tiles)) (ap (λ z. z ∷ []) (length-map xs (λ x. (x + 1) % 2 ^ 32) ∙ h.long ∙ sym h.out_long)) (added_listed l tiles xs out rest h);
 }
 
 pub unnamed_copies_are_unused : AlignedNeedNone → UnnamedCopiesAreUnused
-unnamed_copies_are_unused none_needed = record { touches = λ tiles. refl; needed = λ tiles. none_needed (group_touches (half_named_tiles tiles)) 3 (all tiles) }
+unnamed_copies_are_unused none_needed = record { touches = λ tiles. refl; needed = λ tiles. none_needed (group_touches (half_named_tiles tiles)) false 3 (all tiles) }
   where
     all : (tiles : ℕ) → All (λ x. x.aligned ≡ true) (group_touches (half_named_tiles tiles))
     all tiles zero d lt = refl
@@ -256,7 +261,7 @@ module _ (l : Launch) (tiles : ℕ) (xs out : List ℕ) (rest : ℕ) (h : AreTil
         tt,
       )
 
-  sums_code : IsOverGroups itself l (input_marks m) two_barriers no_marks (summed_tiles tiles) (output_marks (numbers (m * 1))) sums_kernel.code
+  sums_code : IsOverGroups itself all_loops l (input_marks m) two_barriers no_marks (summed_tiles tiles) (output_marks (numbers (m * 1))) sums_kernel.code
   sums_code = (
     tt,
     (
@@ -331,10 +336,11 @@ module _ (l : Launch) (tiles : ℕ) (xs out : List ℕ) (rest : ℕ) (h : AreTil
     ),
   )
 
-  sums_printed : IsPrintedOverGroups l itself (input_types m) (input_marks m) (input_scalars xs) two_barriers (summed_tiles tiles) (numbers (m * 1)) sums_kernel (tile_cells xs out rest)
+  sums_printed : IsPrintedOverGroups l itself all_loops (input_types m) (input_marks m) (input_scalars xs) two_barriers (summed_tiles tiles) (numbers (m * 1)) sums_kernel (tile_cells xs out rest)
   sums_printed = record {
     whole = h.whole;
     flat = h.flat;
+    makes = loops_make_turns l;
     some = h.some_items;
     few = few l tiles xs out rest h;
     stands = (tt, (tt, (tt, ((tt, tt), tt))));
@@ -356,8 +362,8 @@ module _ (l : Launch) (tiles : ℕ) (xs out : List ℕ) (rest : ℕ) (h : AreTil
   sums_listed sums a (suc b) i lt = absurd (omega arith)
 
 -- the last use told again
-needed_again : UsesTellBarriers → (x y : Touch) (n : ℕ) (fence : ℕ → Fencing) → Needed (x ∷ y ∷ []) n fence → Needed (x ∷ y ∷ y ∷ []) n fence
-needed_again told x y n fence h = told (x ∷ y ∷ []) (x ∷ y ∷ y ∷ []) n fence more less h
+needed_again : UsesTellBarriers → (x y : Touch) (n : ℕ) (fence : ℕ → Fencing) → Needed (x ∷ y ∷ []) false n fence → Needed (x ∷ y ∷ y ∷ []) false n fence
+needed_again told x y n fence h = told (x ∷ y ∷ []) (x ∷ y ∷ y ∷ []) false n fence more less h
   where
     more : (z : Touch) → Contains (x ∷ y ∷ []) z → Contains (x ∷ y ∷ y ∷ []) z
     more z (zero, lt, e) = (0, omega arith, e)
@@ -370,18 +376,18 @@ needed_again told x y n fence h = told (x ∷ y ∷ []) (x ∷ y ∷ y ∷ []) n
     less z (suc (suc zero), lt, e) = (1, omega arith, e)
     less z (suc (suc (suc i)), lt, e) = absurd (omega arith)
 
-summed_needed : UsesTellBarriers → Needed (tile_touches true) 2 two_barriers → (tiles : ℕ) → Needed (group_touches (summed_tiles tiles)) (phase_count (summed_tiles tiles)) two_barriers
+summed_needed : UsesTellBarriers → Needed (tile_touches true) false 2 two_barriers → (tiles : ℕ) → Needed (group_touches (summed_tiles tiles)) false (phase_count (summed_tiles tiles)) two_barriers
 summed_needed told exchanged tiles = needed_again told (use_of 0 true true 0) (use_of 0 false false 1) 2 two_barriers exchanged
 
-pub summed_tiles_keep : UsesTellBarriers → Needed (tile_touches true) 2 two_barriers → SeparatedGroupsKeep ℕ → NeededKeepApart ℕ → SummedTilesKeep
+pub summed_tiles_keep : UsesTellBarriers → Needed (tile_touches true) false 2 two_barriers → SeparatedGroupsKeep ℕ → NeededKeepApart ℕ → SummedTilesKeep
 summed_tiles_keep told exchanged keep apart = record {
   phases = λ tiles. refl;
   touches = λ tiles. refl;
   needed = summed_needed told exchanged;
   keeps = λ l tiles xs out sums rest h some short a.
       let p = sums_printed l tiles xs out rest h some short in
-      keep itself l (input_types (tiles * 2)) (input_marks (tiles * 2)) (input_scalars xs) two_barriers (summed_tiles tiles) (numbers (tiles * 2 * 1)) sums_kernel (tile_cells xs out rest) (sums ∷ []) p
-      (apart (summed_tiles tiles) two_barriers p.stands (summed_needed told exchanged tiles)) (ap (λ z. z ∷ []) (a.long ∙ sym h.out_long)) (sums_listed l tiles xs out rest h some short sums a);
+      keep itself all_loops l (input_types (tiles * 2)) (input_marks (tiles * 2)) (input_scalars xs) two_barriers (summed_tiles tiles) (numbers (tiles * 2 * 1)) sums_kernel (tile_cells xs out rest) (sums ∷ []) p
+      (apart all_loops (summed_tiles tiles) two_barriers p.stands (summed_needed told exchanged tiles)) (ap (λ z. z ∷ []) (a.long ∙ sym h.out_long)) (sums_listed l tiles xs out rest h some short sums a);
 }
 
 pub six_keep : SummedTilesKeep → SixKeep

@@ -8,10 +8,10 @@ use Rattle.tidy_indices.specs.Formulas.{formula_nodes}
 use Rattle.tidy_indices.specs.Redundant.{CellOfParts}
 use Rattle.tidy_indices.specs.Reading.{reading}
 use Rattle.tidy_printed.specs.Tidy.{IsTidyIndex}
-use Rattle.worked_kernels.specs.Indices.{turn, cell_in_rows, two_halves, JoinsAreTidied, JoinsDoNotStay, IndicesDoNotGrow, BoundsAreTidied, BoundsDoNotStay}
+use Rattle.worked_kernels.specs.Indices.{turn, cell_in_rows, two_halves, JoinsAreTidied, JoinsDoNotStay, IndicesDoNotGrow, BoundsAreTidied, BoundsDoNotStay, IfsTellOfIds}
 
 abbrev Turn : Expression
-Turn = Variable 0 0 4294967295
+Turn = Variable 2 0 4294967295
 
 turns_stay : IsTidyIndex turn turn
 turns_stay = record { expression = Turn; spelled = refl; irredundant = tt; short = omega arith }
@@ -30,7 +30,7 @@ joins_are_tidied =
     (refl, sixes_stay, refl, (refl, refl, cell, (refl, turns_stay, refl, tt)), tt)
 
 pub joins_do_not_stay : JoinsDoNotStay
-joins_do_not_stay h = h.3.2.irredundant.0 (CellOfParts 0 3)
+joins_do_not_stay h = h.3.2.irredundant.0 (CellOfParts 2 3)
 
 -- as many nodes as the expression that is read
 counted : (plain printed : Formula) (e : Expression) → IsTidyIndex plain printed → reading plain ≡ Some e → formula_nodes printed ≤ short_nodes e
@@ -46,3 +46,6 @@ bounds_are_tidied =
 
 pub bounds_do_not_stay : BoundsDoNotStay
 bounds_do_not_stay h = let many = counted two_halves two_halves (Binary Product (Literal 2) (Binary Quotient (Size 0) (Literal 2))) h.1 refl in absurd (omega arith)
+
+pub ifs_tell_of_ids : IfsTellOfIds
+ifs_tell_of_ids = refl

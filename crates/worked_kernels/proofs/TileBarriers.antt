@@ -62,7 +62,7 @@ conflict_back = record {
   clash = record { one_space = refl; one_buffer = refl; one_writes = inr refl; not_aligned = refl };
 }
 
-pub aligned_need : Needed (tile_touches false) 2 no_barriers
+pub aligned_need : Needed (tile_touches false) false 2 no_barriers
 aligned_need = record {
   before = λ space q lt. (λ e. absurd (true≢false (sym e)), λ z. absurd (no_conflict space z.0 q z.1.conflict));
   closing = λ space. (λ e. absurd (true≢false (sym e)), λ z. absurd (no_conflict space z.0 z.1 z.2.conflict));
@@ -75,9 +75,9 @@ exchanged_before Local (suc zero) lt = (λ e. (0, record { earlier = omega arith
 exchanged_before Global (suc zero) lt = (λ e. absurd (true≢false (sym e)), λ z. absurd (local_global (on_local true Global z.0 1 z.1.conflict)))
 exchanged_before space (suc (suc q)) lt = absurd (omega arith)
 
-exchanged_closing : (space : Space) → (orders space (two_barriers 2) ≡ true) ↔ ((p q : ℕ) × NeedsClosing (tile_touches true) 2 two_barriers space p q)
+exchanged_closing : (space : Space) → (orders space (two_barriers 2) ≡ true) ↔ ((p q : ℕ) × NeedsClosing (tile_touches true) false 2 two_barriers space p q)
 exchanged_closing Local = (
-  λ e. (1, 0, record { first_within = omega arith; second_within = omega arith; after_last = λ r low high. absurd (omega arith); before_first = λ r le. ap (λ z. stands (two_barriers z)) (let z : r ≡ 0 = omega arith in z); conflict = conflict_back }),
+  λ e. (1, 0, record { again = refl; first_within = omega arith; second_within = omega arith; after_last = λ r low high. absurd (omega arith); before_first = λ r le. ap (λ z. stands (two_barriers z)) (let z : r ≡ 0 = omega arith in z); conflict = conflict_back }),
   λ z. refl,
 )
 exchanged_closing Global = (λ e. absurd (true≢false (sym e)), λ z. absurd (local_global (on_local true Global z.0 z.1 z.2.conflict)))
@@ -86,11 +86,11 @@ exchanged_flagged : (q : ℕ) → q ≤ 2 → stands (two_barriers q) ≡ true �
 exchanged_flagged zero le e = absurd (true≢false (sym e))
 exchanged_flagged (suc q) le e = (Local, refl)
 
-pub exchanged_need : Needed (tile_touches true) 2 two_barriers
+pub exchanged_need : Needed (tile_touches true) false 2 two_barriers
 exchanged_need = record { before = exchanged_before; closing = exchanged_closing; flagged = exchanged_flagged }
 
-pub open_end_fails : Separates (tile_touches true) Local 2 open_end → ⊥
-open_end_fails s = ⊎_elim (λ z. later z.0 z.1 z.2 z.3) (λ z. early z.0 z.1 z.2) (s.around 1 0 (omega arith) (omega arith) conflict_back)
+pub open_end_fails : Separates (tile_touches true) Local false 2 open_end → ⊥
+open_end_fails s = ⊎_elim (λ z. later z.0 z.1 z.2 z.3) (λ z. early z.0 z.1 z.2) (s.around refl 1 0 (omega arith) (omega arith) conflict_back)
   where
     later : (r : ℕ) → 1 < r → r ≤ 2 → orders Local (open_end r) ≡ true → ⊥
     later zero a b e = omega arith
@@ -101,7 +101,7 @@ open_end_fails s = ⊎_elim (λ z. later z.0 z.1 z.2 z.3) (λ z. early z.0 z.1 z
     early zero b e = true≢false (sym e)
     early (suc r) b e = omega arith
 
-pub wrong_flag_fails : Separates (tile_touches true) Local 2 wrong_flag → ⊥
+pub wrong_flag_fails : Separates (tile_touches true) Local false 2 wrong_flag → ⊥
 wrong_flag_fails s = let z = s.within 0 1 (omega arith) (omega arith) conflict in none z.0 z.3
   where
     none : (r : ℕ) → orders Local (wrong_flag r) ≡ true → ⊥

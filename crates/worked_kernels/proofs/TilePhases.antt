@@ -17,7 +17,7 @@ use Rattle.group_phases.specs.Work.{IsOwnLocal, IsFilledEarlier}
 use Rattle.group_phases.specs.Epochs.{IsPast}
 use Rattle.group_phases.specs.Groups.{GroupOutputs, loop_turns}
 use Rattle.group_phases.specs.Phased.{IsGroupKernel}
-use Rattle.group_phases.specs.Phases.{PhaseList, turn_of, row_of, cell_of, targets, phase_scalars, work_of, IsPhaseLoop, IsPhase, AreRead, IsFillable}
+use Rattle.group_phases.specs.Phases.{PhaseList, turn_of, row_of, cell_of, targets, phase_scalars, work_of, IsPhaseMap, IsPhase, AreRead, IsFillable}
 use Rattle.group_phases.specs.Printed.{IsPhased}
 use Rattle.worked_kernels.specs.Tiles.{tile_index, copy_turn, read_index, read_place, add_turn, phase_code, fenced, tile_body, tile_kernel, writer, reader, tile_cells, exchanged, added, tile_owner, tile_filler, AreTiles, first_index, tile_phases, tile_places, tile_value, tile_list}
 
@@ -336,7 +336,9 @@ module _ (l : Launch) (tiles : ℕ) (xs out : List ℕ) (rest : ℕ) (nb : Bool)
       flat = h.flat;
       some = omega arith;
       turns = let g = groups_small in let s = h.short in omega arith;
+      once = λ e. absurd (true≢false (sym e));
       rows = rows_fit;
+      forms = by_phase (λ q. _) tt tt;
       variables = omega arith;
       fits = by_phase (λ q. _) (omega arith) (omega arith);
       after_top = by_phase (λ q. _) (omega arith) (omega arith);
@@ -365,7 +367,7 @@ module _ (l : Launch) (tiles : ℕ) (xs out : List ℕ) (rest : ℕ) (nb : Bool)
       by_phase P a b (suc zero) lt = b
       by_phase P a b (suc (suc q)) lt = absurd (omega arith)
 
-  pub printed : IsGroupKernel (tile_kernel nb fence) l tiles 2 fence (IsPhase itself l p)
+  pub printed : IsGroupKernel (tile_kernel nb fence) l false tiles 2 fence (IsPhase itself l p)
   printed = record {
     bound = Binary Div (Size 0) (Number 2);
     body = tile_body nb fence;
@@ -386,7 +388,7 @@ module _ (l : Launch) (tiles : ℕ) (xs out : List ℕ) (rest : ℕ) (nb : Bool)
       halved : bound_value l.sizes (Binary Div (Size 0) (Number 2)) ≡ Some tiles
       halved = ap (λ ns. Some (slice_index ns 0 / 2)) h.sizes ∙ ap Some (let z : tiles * 2 / 2 ≡ tiles = omega arith in z)
 
-      first : IsPhaseLoop itself l p 0 (phase_code nb 0 (fenced (fence 1) (phase_code nb 1 (fenced (fence 2) End)))) (fenced (fence 1) (phase_code nb 1 (fenced (fence 2) End)))
+      first : IsPhaseMap itself l p 0 (phase_code nb 0 (fenced (fence 1) (phase_code nb 1 (fenced (fence 2) End)))) (fenced (fence 1) (phase_code nb 1 (fenced (fence 2) End)))
       first k i here il own = (
         Number 2,
         copy_turn,
@@ -399,7 +401,7 @@ module _ (l : Launch) (tiles : ℕ) (xs out : List ℕ) (rest : ℕ) (nb : Bool)
         ),
       )
 
-      second : IsPhaseLoop itself l p 1 (phase_code nb 1 (fenced (fence 2) End)) (fenced (fence 2) End)
+      second : IsPhaseMap itself l p 1 (phase_code nb 1 (fenced (fence 2) End)) (fenced (fence 2) End)
       second k i here il own = (
         Number 2,
         add_turn nb,

@@ -13,6 +13,7 @@ use Rattle.lift_ir.specs.Layouts.{Split, Join, Slide, Pad}
 use Rattle.lift_ir.specs.Terms.{Skip, Take, Each, WorkGroup, Local, LocalMemory, Term, Literal, Bound, Source, Apply, Both, Project, Reshape, Map, Fold, Store, Copy}
 use Rattle.lift_ir.specs.Scalars.{Scalars, scalars_of, no_scalars}
 use Rattle.lift_ir.specs.Owner.{owner}
+use Rattle.printed_form.specs.MapForms.{all_loops}
 use Rattle.printed_form.specs.Marks.{Nowhere, Marks, laid_in}
 use Rattle.printed_form.specs.Headline.{EveryRunKeeps}
 use Rattle.worked_kernels.specs.Tiles.{tile_kernel, tile_cells, AreTiles, added, no_barriers, two_barriers}
@@ -63,7 +64,7 @@ added_tiles tiles = added_tiles_over 2 tiles
 -- what the printer makes of them, where lengths are their spellings
 abbrev pub added_tiles_code : Code
 added_tiles_code =
-    group_kernel_code (λ f. f) (λ v. 0) (λ v. ArrayOf (Size 0) Scalar) no_barriers
+    group_kernel_code (λ f. f) all_loops (λ v. 0) (λ v. ArrayOf (Size 0) Scalar) no_barriers
     (added_tiles_over (Number 2) (Binary Div (Size 0) (Number 2))) (ArrayOf (Size 0) Scalar)
 
 -- each item reads what it copied, so no barrier is needed; every run of the kernel without barriers
@@ -74,7 +75,7 @@ pub record AddedTilesKeep : Type 0 where
       → group_touches (added_tiles tiles) ≡ use_of 0 true true 0 ∷ use_of 0 false true 1
       ∷ use_of 0 false true 1 ∷ []
   pub needed : (tiles : ℕ)
-      → Needed (group_touches (added_tiles tiles)) (phase_count (added_tiles tiles)) no_barriers
+      → Needed (group_touches (added_tiles tiles)) false (phase_count (added_tiles tiles)) no_barriers
   pub code : added_tiles_code ≡ (tile_kernel false no_barriers).code
   pub keeps : (l : Launch) (tiles : ℕ) (xs out : List ℕ) (rest : ℕ) → AreTiles l tiles xs out
       → EveryRunKeeps (tile_kernel false no_barriers) l (tile_cells xs out rest)
@@ -100,7 +101,7 @@ pub record UnnamedCopiesAreUnused : Type 0 where
       → group_touches (half_named_tiles tiles) ≡ use_of 0 true true 0 ∷ use_of 1 true true 1
       ∷ use_of 0 false true 2 ∷ use_of 0 false true 2 ∷ []
   pub needed : (tiles : ℕ)
-      → Needed (group_touches (half_named_tiles tiles))
+      → Needed (group_touches (half_named_tiles tiles)) false
       (phase_count (half_named_tiles tiles)) no_barriers
 
 -- A stencil by tiles: join(join(mapWrg(\t. mapLcl(\w. foldSeq(\a x. a + x, 0, w), slide(3, 1,
@@ -179,7 +180,8 @@ pub record SummedTilesKeep : Type 0 where
       → group_touches (summed_tiles tiles) ≡ use_of 0 true true 0 ∷ use_of 0 false false 1
       ∷ use_of 0 false false 1 ∷ []
   pub needed : (tiles : ℕ)
-      → Needed (group_touches (summed_tiles tiles)) (phase_count (summed_tiles tiles)) two_barriers
+      → Needed (group_touches (summed_tiles tiles)) false (phase_count (summed_tiles tiles))
+      two_barriers
   pub keeps : (l : Launch) (tiles : ℕ) (xs out sums : List ℕ) (rest : ℕ) → AreTiles l tiles xs out
       → 0 < tiles → tiles < 2 ^ 29 → AreSums tiles xs sums
       → EveryRunKeeps sums_kernel l (tile_cells xs out rest)

@@ -1,7 +1,11 @@
 -- Worked indices and bounds.
+use Rattle.std.specs.Prelude.{◌≡◌, [], Some}
 use Rattle.scalar_ops.specs.declared.op.Op.TheVariants.{Add, Sub, Mul, Div, Rem}
-use Rattle.kernel_tree.specs.Formula.{Formula, Number, Variable, LoopVariable, Size, Binary}
-use Rattle.kernel_tree.specs.Code.{Input, Output, Code, End, Loads, Stores, Loops, FromZero, ByOne}
+use Rattle.kernel_tree.specs.declared.tree.Dimension.TheVariants.{X}
+use Rattle.kernel_tree.specs.Formula.{Formula, Number, Variable, LoopVariable, Size, Id, LocalId, Binary}
+use Rattle.kernel_tree.specs.Code.{Input, Output, Code, End, Loads, Stores, Loops, Guards, FromZero, FromLocalId, ByOne}
+use Rattle.tidy_indices.specs.Tidy.{tidy_formula}
+use Rattle.tidy_kernels.specs.Pass.{tidied_code}
 use Rattle.tidy_printed.specs.Tidy.{IsTidyFor}
 
 -- a loop of this bound that copies what it reads at this index
@@ -41,3 +45,22 @@ BoundsAreTidied = IsTidyFor (copying two_halves turn) (copying (Size 0) turn)
 
 abbrev pub BoundsDoNotStay : Type 0
 BoundsDoNotStay = IsTidyFor (copying two_halves turn) (copying two_halves turn) → ⊥
+
+-- the row of an item's cell in rows of two, of which each turn has one
+abbrev pub row_of_two : Formula
+row_of_two = Binary Div (Binary Add (Binary Mul turn (Number 2)) (Id X LocalId)) (Number 2)
+
+-- a loop in which the items whose id is below two copy what they read at an index, and all read at
+-- another
+abbrev pub copying_in_if : (inside behind : Formula) → Code
+copying_in_if i j =
+    Loops FromZero (Number 3) ByOne
+    (Guards (FromLocalId X) (Number 2)
+    (Loads 0 (Input 0) i (Stores (Output 0) turn (Variable 0) End))
+    (Loads 0 (Input 0) j End)) End
+
+-- in groups of four that row is the loop's turn within the `if`, and stays behind it
+abbrev pub IfsTellOfIds : Type 0
+IfsTellOfIds =
+    tidied_code (tidy_formula [] (Some (4, 1))) [] (copying_in_if row_of_two row_of_two)
+    ≡ copying_in_if turn row_of_two

@@ -16,6 +16,7 @@ use Rattle.lift_ir.specs.Types.{Scalar, ArrayOf}
 use Rattle.lift_ir.specs.Terms.{Skip, Take, Literal, Bound, Apply, Store, no_type}
 use Rattle.lift_ir.specs.Scalars.{no_scalars}
 use Rattle.printed_form.specs.Headline.{EveryRunKeeps}
+use Rattle.printed_form.specs.MapForms.{Looped}
 use Rattle.printed_form.specs.Marks.{Spot}
 use Rattle.printed_form.specs.Whole.{no_marks}
 use Rattle.group_phases.specs.Outcome.{BarriersServeAll}
@@ -152,6 +153,7 @@ first_index (j ∷ r) = j
 
 abbrev pub tile_phases : ℕ → Phase ℕ
 tile_phases zero = record {
+  form = Looped;
   len = 2;
   loads = Take;
   body = Store Scalar (Bound 0);
@@ -163,6 +165,7 @@ tile_phases zero = record {
   locals = 0;
 }
 tile_phases (suc q) = record {
+  form = Looped;
   len = 2;
   loads = Take;
   body = Store Scalar (Apply Add (Bound 0) (Literal 1));
@@ -201,6 +204,7 @@ tile_value l neighbour xs g t b = in_array b.array b.index
 
 abbrev pub tile_list : Launch → (neighbour : Bool) → (tiles : ℕ) → List ℕ → PhaseList ℕ
 tile_list l neighbour tiles xs = record {
+  once = false;
   turns = tiles;
   count = 2;
   variables = 2;
@@ -229,7 +233,7 @@ tile_list l neighbour tiles xs = record {
 abbrev pub TilesKeep : Type 0
 TilesKeep =
     (l : Launch) (tiles : ℕ) (xs out : List ℕ) (rest : ℕ) (neighbour : Bool) (fence : ℕ → Fencing)
-    → AreTiles l tiles xs out → Separates (tile_touches neighbour) placed.Local 2 fence
+    → AreTiles l tiles xs out → Separates (tile_touches neighbour) placed.Local false 2 fence
     → EveryRunKeeps (tile_kernel neighbour fence) l (tile_cells xs out rest) (tile_owner l)
     (added neighbour xs ∷ [])
 
@@ -237,18 +241,18 @@ TilesKeep =
 abbrev pub TilesServe : Type 0
 TilesServe =
     (l : Launch) (tiles : ℕ) (xs out : List ℕ) (rest : ℕ) (neighbour : Bool) (fence : ℕ → Fencing)
-    → AreTiles l tiles xs out → Separates (tile_touches neighbour) placed.Local 2 fence
+    → AreTiles l tiles xs out → Separates (tile_touches neighbour) placed.Local false 2 fence
     → BarriersServeAll (tile_kernel neighbour fence) l (tile_cells xs out rest) (tile_filler l)
 
 -- where each item reads what it copied itself, no barrier is needed, and every run of the kernel
 -- without barriers keeps what it owes
 abbrev pub AlignedTilesKeep : Type 0
-AlignedTilesKeep = Needed (tile_touches false) 2 no_barriers
+AlignedTilesKeep = Needed (tile_touches false) false 2 no_barriers
     × ((l : Launch) (tiles : ℕ) (xs out : List ℕ) (rest : ℕ) → AreTiles l tiles xs out → EveryRunKeeps (tile_kernel false no_barriers) l (tile_cells xs out rest) (tile_owner l) (added false xs ∷ []))
 
 -- where it reads its neighbour's, two are needed
 abbrev pub ExchangedTilesKeep : Type 0
-ExchangedTilesKeep = Needed (tile_touches true) 2 two_barriers
+ExchangedTilesKeep = Needed (tile_touches true) false 2 two_barriers
     × ((l : Launch) (tiles : ℕ) (xs out : List ℕ) (rest : ℕ) → AreTiles l tiles xs out → EveryRunKeeps (tile_kernel true two_barriers) l (tile_cells xs out rest) (tile_owner l) (added true xs ∷ []))
 
 -- two groups of two items, and 1, 2, 3 and 4

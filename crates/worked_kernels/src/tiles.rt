@@ -1,6 +1,6 @@
 //! Laws of worked tiles, carried by a function that does nothing.
 
-ghost use Rattle.std.specs.Prelude.{true};
+ghost use Rattle.std.specs.Prelude.{false, true};
 ghost use Rattle.barrier_placement.specs.Conflicts.{Local};
 ghost use Rattle.barrier_placement.specs.Separates.{Separates};
 ghost use Rattle.worked_kernels.specs.Tiles.{tile_touches, open_end, wrong_flag, TilesKeep, TilesServe, AlignedTilesKeep, ExchangedTilesKeep, FourKeep, FourExchangedKeep};
@@ -17,8 +17,8 @@ pub fn tiles_keep()
     ensures exchanged { ExchangedTilesKeep }
     ensures four { FourKeep }
     ensures four_exchanged { FourExchangedKeep }
-    ensures open_end { Separates (tile_touches true) Local 2 open_end → ⊥ }
-    ensures wrong_flag { Separates (tile_touches true) Local 2 wrong_flag → ⊥ }
+    ensures open_end { Separates (tile_touches true) Local false 2 open_end → ⊥ }
+    ensures wrong_flag { Separates (tile_touches true) Local false 2 wrong_flag → ⊥ }
 {
     numbered_phases_keep();
 }

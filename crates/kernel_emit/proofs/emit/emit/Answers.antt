@@ -7,7 +7,7 @@ use Rattle.kernel_tree.specs.declared.tree.Kernel.{Kernel as EmittedKernel}
 use Rattle.lowering.specs.Terms.{term_of}
 use Rattle.tidy_indices.specs.Tidy.{tidy_formula}
 use Rattle.tidy_kernels.specs.Pass.{tidied_kernel}
-use Rattle.phase_plan.specs.Plans.{declared_in, tree_in, types_in}
+use Rattle.phase_plan.specs.Plans.{declared_in, local_in, tree_in, types_in}
 use Rattle.kernel_emit.specs.Kernels.{IsKernelFor}
 use Rattle.kernel_emit.specs.Plans.{kernel_for, printed_for}
 use Rattle.kernel_emit.proofs.Made.{emitted_is}
@@ -19,7 +19,7 @@ pub printed-requires : goal.printed-requires
 printed-requires c =
     let plan = c.args.plan.now in
     let told = plan.planned in
-    let of = plan.spaced.now.mapped.lowered.of_program in
+    let of = plan.spaced.now.mapped.lowered.sound in
     let law = c.plans_can_be_emitted.ensures plan in
     record {
       grammar = ∥∥₁_elim told (grammar_once (printed_for plan)) (λ t. ∥∥₁_elim of (grammar_once (printed_for plan)) (λ p. (law p t).0.grammar));
@@ -33,7 +33,7 @@ returns-clause-printed c =
     let plan = c.args.plan.now in
     let plain = kernel_of c.in_ok-kernel.kernel in
     IfOk-weaker c.tidied.result
-    (λ (k : EmittedKernel). kernel_of k ≡ tidied_kernel (tidy_formula (declared_in plan).names) plain)
+    (λ (k : EmittedKernel). kernel_of k ≡ tidied_kernel (tidy_formula (declared_in plan).names plain.local) plain)
     (λ (k : EmittedKernel). kernel_of k ≡ kernel_for plan)
     (λ k h. emitted_is plan (kernel_of k) plain h c.in_ok-kernel.ensures)
     c.tidied.ensures
@@ -43,7 +43,7 @@ returns-clause-meets c =
     let plan = c.args.plan.now in
     let plain = kernel_of c.in_ok-kernel.kernel in
     IfOk-weaker c.tidied.result
-    (λ (k : EmittedKernel). kernel_of k ≡ tidied_kernel (tidy_formula (declared_in plan).names) plain)
-    (λ (k : EmittedKernel). ∥ IsKernelFor (declared_in plan) (tree_in plan) (types_in plan) (kernel_of k) ∥₁)
+    (λ (k : EmittedKernel). kernel_of k ≡ tidied_kernel (tidy_formula (declared_in plan).names plain.local) plain)
+    (λ (k : EmittedKernel). ∥ IsKernelFor (declared_in plan) (local_in plan) (tree_in plan) (types_in plan) (kernel_of k) ∥₁)
     (λ k h. kept plan c.plans_give_kernels.ensures (kernel_of k) (emitted_is plan (kernel_of k) plain h c.in_ok-kernel.ensures))
     c.tidied.ensures

@@ -1,6 +1,6 @@
 use Rattle.std.proofs.Common.{◌≡◌, List, inl, ℕ}
 use Rattle.command_line.specs.Requests.{line_of}
-use Rattle.fault_lines.specs.Failure.{status_of}
+use Rattle.fault_lines.specs.Failure.{Memory}
 use Rattle.fault_lines.specs.Shown.{failure_of}
 use Rattle.lift_tool.specs.Files.{Told}
 use Rattle.lift_tool.specs.Outcome.{FailsFor}
@@ -23,4 +23,4 @@ pub returns-in-Demo-clause-refused : goal.returns-in-Demo-clause-refused
 returns-in-Demo-clause-refused g c =
     let told : Told = g.F.Files.told c.args.files.now in
     let rose : List ℕ → Type 0 = rose_between (g.F.Files.faults c.args.files.now) (g.F.Files.faults c.args.files.now) in
-    if_err (λ e. status_of (failure_of e) ≡ 13) (λ e. FailsFor told rose (line_of c.args.request) (failure_of e)) _ (λ e memory. inl memory) c.demo_text.ensures.refused
+    if_err (λ e. failure_of e ≡ Memory) (λ e. FailsFor told rose (line_of c.args.request) (failure_of e)) _ (λ e memory. inl memory) c.demo_text.ensures.refused

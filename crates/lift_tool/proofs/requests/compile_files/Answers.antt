@@ -1,6 +1,8 @@
 use Rattle.std.proofs.Common.{◌∷◌, Global, List, [], ℕ}
 use Rattle.std.specs.Prelude.{string_bytes}
 use Rattle.command_line.specs.Requests.{compile}
+use Rattle.fault_lines.specs.Shown.{failure_of}
+use Rattle.stages.proofs.HandedOn.{told_on}
 use Rattle.lift_tool.specs.Files.{AreTexts, Told}
 use Rattle.lift_tool.specs.Outcome.{FailsFor}
 use Rattle.lift_tool.specs.Request.{sources}
@@ -22,7 +24,7 @@ returns-in_err-compiled-clause-refused g c =
     let p : List ℕ = string_bytes {Z = Global} c.args.program in
     let s : List ℕ = string_bytes {Z = Global} c.args.script in
     let are : AreTexts told (sources p s) (c.as_slice.result.now ∷ c.as_slice-2.result.now ∷ []) = rw (c.as_slice.ensures.value, c.as_slice-2.ensures.value) c.in_ok-program.ensures.texts in
-    handed_on (FailsFor told rose (compile p s)) _ _ c.from_residual-in_err-compiled.ensures.1 (kernel_fails told rose p s c.as_slice.result.now c.as_slice-2.result.now _ are c.in_err-compiled.ensures.refused)
+    told_on failure_of (FailsFor told rose (compile p s)) _ _ c.from_residual-in_err-compiled.ensures.1 (kernel_fails told rose p s c.as_slice.result.now c.as_slice-2.result.now _ are c.in_err-compiled.ensures.refused)
 
 pub returns-clause-ok : goal.returns-clause-ok
 returns-clause-ok g c =
@@ -30,4 +32,4 @@ returns-clause-ok g c =
     let p : List ℕ = string_bytes {Z = Global} c.args.program in
     let s : List ℕ = string_bytes {Z = Global} c.args.script in
     let are : AreTexts told (sources p s) (c.as_slice.result.now ∷ c.as_slice-2.result.now ∷ []) = rw (c.as_slice.ensures.value, c.as_slice-2.ensures.value) c.in_ok-program.ensures.texts in
-    (c.as_slice.result.now ∷ c.as_slice-2.result.now ∷ [], are, record { source = _; output = _; task = _; compiled = c.in_ok-compiled.ensures.found })
+    (c.as_slice.result.now ∷ c.as_slice-2.result.now ∷ [], are, record { source = _; output = _; asks = _; compiled = c.in_ok-compiled.ensures.found })

@@ -2,9 +2,8 @@ use Rattle.std.proofs.Common.{◌≡◌, ◌∙◌, ◌/◌, ◌%◌, ◌∷◌,
 use Rattle.lift_tree.specs.declared.term.UnaryForm.TheVariants.{Layout}
 use Rattle.lift_tree.specs.Annotations.{One, Two, annotation_of, type_in}
 use Rattle.lift_tree.specs.Tree.{Let, Map, Unary, tree_of}
-use Rattle.lift_tree.specs.Types.{ty_of}
+use Rattle.lift_tree.specs.Types.{ty_of, is_element}
 use Rattle.lift_ir.specs.Lowering.{kind_of}
-use Rattle.lowered_tree.specs.Elements.{is_element}
 use Rattle.output_owner.specs.Bases.{bases_of}
 use Rattle.output_owner.specs.Owners.{HaveOneOwner, map_over, position, written}
 use Rattle.output_owner.specs.Written.{IsScalarOf}

@@ -1,7 +1,7 @@
-use Rattle.std.proofs.Common.{◌≡◌}
-use Rattle.fault_lines.specs.Failure.{status_of}
+use Rattle.std.proofs.Common.{◌≡◌, ap}
+use Rattle.fault_lines.specs.Failure.{Failure, Memory, source_failed}
 use Rattle.fault_lines.specs.Shown.{failure_of}
-use Rattle.stages.proofs.HandedOn.{handed_on}
+use Rattle.stages.proofs.HandedOn.{told_on}
 use Rattle.program_runs.proofs.Unrefused.{admitted_at, memory_alone}
 use Rattle.program_runs.proofs.demo.demo_text.Goals as goal
 
@@ -11,5 +11,5 @@ seeded_line-requires c =
 
 pub returns-in_err-compiled-clause-refused : goal.returns-in_err-compiled-clause-refused
 returns-in_err-compiled-clause-refused c =
-    handed_on (λ failure. status_of (failure_of failure) ≡ 13) _ _ c.from_residual.ensures.1
-    (memory_alone c.one_end.ensures c.legal_without_fault.ensures c.demo_is_accepted.ensures c.program.result.now c.script.result.now c.program.ensures c.script.ensures _ c.in_err-compiled.ensures.refused)
+    told_on failure_of (λ (f : Failure). f ≡ Memory) _ _ c.from_residual.ensures.1
+    (ap source_failed (memory_alone c.one_end.ensures c.legal_without_fault.ensures c.demo_is_accepted.ensures c.program.result.now c.script.result.now c.program.ensures c.script.ensures _ c.in_err-compiled.ensures.refused))

@@ -1,16 +1,21 @@
-use Rattle.std.proofs.Common.{Ok, inl, refl, subst, sym}
+use Rattle.std.proofs.Common.{Ok, ap, inl, refl, subst, sym}
+use Rattle.lift_tree.specs.Launches.{Asks}
 use Rattle.lift_tree.specs.Programs.{program_of}
 use Rattle.lift_tree.specs.Types.{ty_of}
 use Rattle.launch_file.specs.Judged.{Refuses}
 use Rattle.launch_file.specs.declared.file.Ask.TheVariants as asks
 use Rattle.launch_file.specs.LaunchFile.{given_by}
 use Rattle.lowered_tree.specs.Kinds.{is_task}
+use Rattle.strategy_script.specs.LocalSize.{local_fixed}
 use Rattle.compilation.specs.Legal.{LegalOf}
 use Rattle.program_runs.proofs.Admitted.{given_is_admissible}
-use Rattle.program_runs.proofs.Failed.{failed_for, handed_for, source_fails}
+use Rattle.program_runs.proofs.Failed.{failed_for, handed_for, source_fails, told_for}
 use Rattle.program_runs.proofs.Stopped.{launch_fails}
 use Rattle.program_runs.specs.Started.{LaunchOf, RunOf}
-use Rattle.fault_lines.specs.Failure as failures
+use Rattle.fault_lines.specs.Failure.{launch_failed}
+use Rattle.fault_lines.specs.Shown.{failure_of}
+use Rattle.program_source.specs.Ends.{FailsFor, OnSource}
+use Rattle.stages.proofs.HandedOn.{told_on}
 use Rattle.stages.specs.Stages.{As}
 use Rattle.program_runs.proofs.run.run_text.Goals as goal
 
@@ -26,8 +31,20 @@ pub returns-in-Err-clause-refused : goal.returns-in-Err-clause-refused
 returns-in-Err-clause-refused c =
     let p = program_of c.in_ok-compiled.compiled.program in
     let found = c.in_ok-compiled.ensures.found in
-    launch_fails c.args.program.now p (λ last. asks.Run (is_task last.tree)) c.args.launch.now (λ q. LegalOf q c.args.script.now) _ c.in-Err.no found.read found.legal
-    (λ well. subst (λ b. Refuses p (asks.Run b) c.args.launch.now c.in-Err.no) (sym found.alone) (c.in-Err.ensures.refused well))
+    let script = c.args.script.now in
+    let launch = c.args.launch.now in
+    subst (FailsFor (OnSource c.args.program.now (λ q. RunOf q script launch))) (sym c.for_launch.ensures)
+    (launch_fails c.args.program.now p (λ last. asks.Run (is_task last.tree) (local_fixed script)) launch (λ q. LegalOf q script) _ c.in-Err.no found.read found.legal
+    (λ well. subst (λ b. Refuses p (asks.Run b (local_fixed script)) launch c.in-Err.no) (sym (ap (λ (a : Asks). a.alone) found.asked))
+    (subst (λ o. Refuses p (asks.Run c.in_ok-compiled.compiled.is_task o) launch c.in-Err.no) (sym (ap (λ (a : Asks). a.local) found.asked)) (c.in-Err.ensures.refused well))))
+
+pub returns-in_err-compiled-clause-refused : goal.returns-in_err-compiled-clause-refused
+returns-in_err-compiled-clause-refused c =
+    let text = c.args.program.now in
+    let script = c.args.script.now in
+    let launch = c.args.launch.now in
+    told_on failure_of (FailsFor (OnSource text (λ p. RunOf p script launch))) _ _ c.from_residual.ensures.1
+    (source_fails text (λ p. LegalOf p script) (λ p last. As (launch_failed p) (LaunchOf p (asks.Run (is_task last.tree) (local_fixed script)) launch)) _ c.in_err-compiled.ensures.refused)
 
 pub returns-in_ok-run_launch-in-Ok-clause-found : goal.returns-in_ok-run_launch-in-Ok-clause-found
 returns-in_ok-run_launch-in-Ok-clause-found c =
@@ -36,6 +53,7 @@ returns-in_ok-run_launch-in-Ok-clause-found c =
       source = program_of compiled.program;
       output = ty_of compiled.output;
       task = compiled.is_task;
+      local = compiled.local;
       text = compiled.text.items;
       compiled = c.in_ok-compiled.ensures.found;
       given = given_by c.in-Ok.file;
@@ -48,8 +66,8 @@ returns-in_err-compiled-clause-exact c =
     let text = c.args.program.now in
     let script = c.args.script.now in
     let launch = c.args.launch.now in
-    handed_for text (λ p. RunOf p script launch) (c.one_end.ensures.run text script launch) _ _ c.from_residual.ensures.1
-    (source_fails text (λ p. LegalOf p script) (λ p last. As (failures.Launch p) (LaunchOf p (asks.Run (is_task last.tree)) launch)) _ c.in_err-compiled.ensures.refused)
+    told_for text (λ p. RunOf p script launch) (c.one_end.ensures.run text script launch) _ _ c.from_residual.ensures.1
+    (source_fails text (λ p. LegalOf p script) (λ p last. As (launch_failed p) (LaunchOf p (asks.Run (is_task last.tree) (local_fixed script)) launch)) _ c.in_err-compiled.ensures.refused)
 
 pub returns-in_err-run_launch-in-Ok-clause-exact : goal.returns-in_err-run_launch-in-Ok-clause-exact
 returns-in_err-run_launch-in-Ok-clause-exact c =
@@ -64,13 +82,17 @@ returns-in-Err-clause-exact c =
     let launch = c.args.launch.now in
     let p = program_of c.in_ok-compiled.compiled.program in
     let found = c.in_ok-compiled.ensures.found in
-    failed_for c.args.program.now (λ q. RunOf q script launch) (c.one_end.ensures.run c.args.program.now script launch) (failures.Launch p c.in-Err.no)
-    (launch_fails c.args.program.now p (λ last. asks.Run (is_task last.tree)) launch (λ q. LegalOf q script) _ c.in-Err.no found.read found.legal
-    (λ well. subst (λ b. Refuses p (asks.Run b) launch c.in-Err.no) (sym found.alone) (c.in-Err.ensures.refused well)))
+    failed_for c.args.program.now (λ q. RunOf q script launch) (c.one_end.ensures.run c.args.program.now script launch) (failure_of c.for_launch.result)
+    (subst (FailsFor (OnSource c.args.program.now (λ q. RunOf q script launch))) (sym c.for_launch.ensures)
+    (launch_fails c.args.program.now p (λ last. asks.Run (is_task last.tree) (local_fixed script)) launch (λ q. LegalOf q script) _ c.in-Err.no found.read found.legal
+    (λ well. subst (λ b. Refuses p (asks.Run b (local_fixed script)) launch c.in-Err.no) (sym (ap (λ (a : Asks). a.alone) found.asked))
+    (subst (λ o. Refuses p (asks.Run c.in_ok-compiled.compiled.is_task o) launch c.in-Err.no) (sym (ap (λ (a : Asks). a.local) found.asked)) (c.in-Err.ensures.refused well)))))
 
 pub returns-in_ok-run_launch-in-Ok-clause-exact : goal.returns-in_ok-run_launch-in-Ok-clause-exact
 returns-in_ok-run_launch-in-Ok-clause-exact c = λ why cause.
     let found = c.in_ok-compiled.ensures.found in
     let given = given_by c.in-Ok.file in
-    let started = subst (λ b. LaunchOf (program_of c.in_ok-compiled.compiled.program) (asks.Run b) c.args.launch.now (Ok given)) (sym found.alone) c.in-Ok.ensures.ok in
+    let p = program_of c.in_ok-compiled.compiled.program in
+    let started = subst (λ b. LaunchOf p (asks.Run b (local_fixed c.args.script.now)) c.args.launch.now (Ok given)) (sym (ap (λ (a : Asks). a.alone) found.asked))
+    (subst (λ o. LaunchOf p (asks.Run c.in_ok-compiled.compiled.is_task o) c.args.launch.now (Ok given)) (sym (ap (λ (a : Asks). a.local) found.asked)) c.in-Ok.ensures.ok) in
     (c.one_end.ensures.run c.args.program.now c.args.script.now c.args.launch.now).none why (_, found.read.is, found.read.within, (given, (found.last, found.legal, started))) cause

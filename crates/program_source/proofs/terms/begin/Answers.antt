@@ -13,7 +13,7 @@ pub returns-in_err-source-clause-refused : goal.returns-in_err-source-clause-ref
 returns-in_err-source-clause-refused c =
     let script = c.args.script.now in
     handed_on (StopsFor (OnProgram c.args.program.now (λ p. TermsOf p script))) _ _ c.from_residual.ensures.1
-    (types_first c.args.program.now (λ p types. Then (As told.Script (ReadsScript script)) (StepsOf p types)) _ c.in_err-source.ensures.refused)
+    (types_first c.args.program.now (λ p types. Then (As told.Script (ReadsScript script)) (λ read. StepsOf p types read.steps)) _ c.in_err-source.ensures.refused)
 
 pub returns-in_err-script-clause-refused : goal.returns-in_err-script-clause-refused
 returns-in_err-script-clause-refused c =

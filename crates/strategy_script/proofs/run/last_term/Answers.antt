@@ -4,11 +4,11 @@ use Rattle.strategy_script.proofs.Listed.{begins, goes_on}
 use Rattle.strategy_script.proofs.run.last_term.Goals as goal
 
 pub steps-init : goal.steps-init
-steps-init c = ([], begins c.args.script.now c.steps-rest.result.now c.args.source c.steps-rest.ensures c.requires.ready)
+steps-init c = ([], begins c.args.script.now.steps c.steps-rest.result.now c.args.source c.steps-rest.ensures c.requires.ready)
 
 pub steps-preserved : goal.steps-preserved
 steps-preserved c =
     let is : c.steps.rest.now ≡ c.in-Some.step.now ∷ c.in-Some.further.now = search rules in (
       c.steps.invariant.0 ++ state_of c.steps.current ∷ [],
-      goes_on c.args.source c.steps.current c.in_ok-current.current c.args.script.now c.steps.rest.now c.in-Some.further.now c.in-Some.step.now c.steps.made c.steps.invariant.0 is c.steps.invariant.1 c.in_ok-current.ensures.made c.in_ok-current.ensures.after c.in_ok-current.ensures.ready,
+      goes_on c.args.source c.steps.current c.in_ok-current.current c.args.script.now.steps c.steps.rest.now c.in-Some.further.now c.in-Some.step.now c.steps.made c.steps.invariant.0 is c.steps.invariant.1 c.in_ok-current.ensures.made c.in_ok-current.ensures.after c.in_ok-current.ensures.ready,
     )

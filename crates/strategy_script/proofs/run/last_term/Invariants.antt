@@ -5,7 +5,7 @@ use Rattle.strategy_script.proofs.Listed.{IsRunning}
 use Rattle.strategy_script.proofs.run.last_term.Given as goal
 
 abbrev pub invariant-steps : goal.invariant-steps
-invariant-steps l = (front : List State) × IsRunning (program_of l.fn.source.program) l.fn.script l.rest l.made l.fn.source l.current front
+invariant-steps l = (front : List State) × IsRunning (program_of l.fn.source.program) l.fn.script.steps l.rest l.made l.fn.source l.current front
 
 abbrev pub decreases-steps : goal.decreases-steps
 decreases-steps l = length l.rest

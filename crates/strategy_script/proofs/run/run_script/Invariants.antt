@@ -4,7 +4,7 @@ use Rattle.strategy_script.proofs.Listed.{AreMade}
 use Rattle.strategy_script.proofs.run.run_script.Given as goal
 
 abbrev pub invariant-steps : goal.invariant-steps
-invariant-steps l = AreMade (program_of l.fn.source.program) l.fn.script l.rest l.made l.fn.source l.current l.terms.items
+invariant-steps l = AreMade (program_of l.fn.source.program) l.fn.script.steps l.rest l.made l.fn.source l.current l.terms.items
 
 abbrev pub decreases-steps : goal.decreases-steps
 decreases-steps l = length l.rest

@@ -25,5 +25,5 @@ tidied_statement-returns-in_ok-tidied-in-If t c = λ after.
     let o = plain_place c.args.outermost.now in
     let p = plain_place c.args.here.now in
     let q = c.in-If in
-    guarded o p q.start q.bound c.in_ok-tidied-in-If.field-0 q.body c.in_ok-body-in-If.body c.in_ok-tidied-in-If.ensures c.in_ok-body-in-If.ensures after
+    guarded o p (plain_place c.in_ok-guarded-in-If.guarded) q.start q.bound c.in_ok-tidied-in-If.field-0 q.body c.in_ok-body-in-If.body c.in_ok-guarded-in-If.ensures c.in_ok-tidied-in-If.ensures c.in_ok-body-in-If.ensures after
     ∙ ap (λ s. tidied_in o p (before s after)) (sym q.is)

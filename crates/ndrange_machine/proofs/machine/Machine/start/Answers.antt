@@ -1,6 +1,4 @@
-use Rattle.std.proofs.Common.{◌≡◌, ℕ, List, length, map, replicate, ap, ◌∙◌, refl}
-use Rattle.std.specs.Global.{Global}
-use Rattle.std.specs.Prelude.{Vec, slice_index}
+use Rattle.std.proofs.Common.{◌≡◌, length, map, replicate, ap, ◌∙◌, refl}
 use Rattle.kernel_tree.specs.Launch.{Launch, item_count, group_count}
 use Rattle.kernel_tree.specs.Kernels.{kernel_of}
 use Rattle.kernel_tree.specs.Device.{device_of, start_state}
@@ -8,7 +6,6 @@ use Rattle.enabled_events.specs.declared.grid.Grid.{Grid}
 use Rattle.enabled_events.specs.Grids.{laid}
 use Rattle.ndrange_machine.specs.Changes.{start_view}
 use Rattle.ndrange_machine.specs.Lines.{depth}
-use Rattle.ndrange_machine.specs.Memory.{rows_of}
 use Rattle.ndrange_machine.specs.Wants.{text_of}
 use Rattle.ndrange_machine.proofs.Beginning.{begun, lengths_are}
 use Rattle.ndrange_machine.proofs.machine.Machine.start.Goals as goal
@@ -19,30 +16,19 @@ returns c =
     let l = c.args.launch in
     let given = c.args.cells in
     let grid : Grid = record { global = c.launch.inside.global; local = c.launch.inside.local } in
-    let cells = c.cells.inside in
     let text = c.in_ok-lines.ensures in
-    let ins = ap rows_of c.in_ok-memory.ensures.ins ∙ ap (λ v. v.ins) c.cells.view_is in
-    let outs = ap rows_of c.in_ok-memory.ensures.outs ∙ ap (λ v. v.outs) c.cells.view_is in
-    let rest : cells.rest ≡ given.rest = ap (λ v. v.rest) c.cells.view_is in
-    let locals =
-    c.in_ok-memory.ensures.locals
-    ∙ ap (λ ns. replicate (group_count (laid grid)) (map (λ n. replicate n cells.rest) ns)) c.deref.ensures.value
-    ∙ ap (λ w. replicate (group_count (laid grid)) (map (λ n. replicate n w) k.locals)) rest
-    ∙ ap (λ (z : Launch). replicate (group_count z) (map (λ n. replicate n given.rest) k.locals)) c.launch.view_is in
-    let privates =
-    c.in_ok-memory.ensures.privates
-    ∙ ap (λ ns. replicate (item_count (laid grid)) (map (λ n. replicate n cells.rest) ns)) c.deref-2.ensures.value
-    ∙ ap (λ w. replicate (item_count (laid grid)) (map (λ n. replicate n w) k.privates)) rest
-    ∙ ap (λ (z : Launch). replicate (item_count z) (map (λ n. replicate n given.rest) k.privates)) c.launch.view_is in
+    let rest : c.cells.inside.rest ≡ given.rest = ap (λ v. v.rest) c.cells.view_is in
+    let locals = c.in_ok-stores.ensures.locals ∙ ap (λ (z : Launch). replicate (group_count z) (map (λ n. replicate n given.rest) k.locals)) c.launch.view_is in
+    let privates = c.in_ok-stores.ensures.privates ∙ ap (λ (z : Launch). replicate (item_count z) (map (λ n. replicate n given.rest) k.privates)) c.launch.view_is in
     let items =
     c.in_ok-items.ensures
-    ∙ ap (λ n. replicate n (start_view c.depth_of.result k.variables k.vectors cells.rest)) c.item_count.ensures
-    ∙ ap (λ n. replicate (item_count (laid grid)) (start_view n k.variables k.vectors cells.rest)) (c.depth_of.ensures k.code (ap (map text_of) c.deref-5.ensures.value ∙ text))
+    ∙ ap (λ n. replicate n (start_view c.depth_of.result k.variables k.vectors c.cells.inside.rest)) c.item_count.ensures
+    ∙ ap (λ n. replicate (item_count (laid grid)) (start_view n k.variables k.vectors c.cells.inside.rest)) (c.depth_of.ensures k.code (ap (map text_of) c.deref.ensures.value ∙ text))
     ∙ ap (λ w. replicate (item_count (laid grid)) (start_view (depth k.code) k.variables k.vectors w)) rest
     ∙ ap (λ (z : Launch). replicate (item_count z) (start_view (depth k.code) k.variables k.vectors given.rest)) c.launch.view_is in
     let marks =
-    c.in_ok-tables.ensures.marks (device_of k l given) (start_state k given)
+    c.in_ok-stores.ensures.marks (device_of k l given) (start_state k given)
     (ap group_count c.launch.view_is)
-    (λ a. ap (λ (z : List (Vec ℕ Global)). slice_index (map (λ (r : Vec ℕ Global). length r.items) z) a) (c.deref-3.ensures.value ∙ c.in_ok-memory.ensures.outs) ∙ lengths_are cells.outs.items given.outs (ap (λ v. v.outs) c.cells.view_is) a)
-    (λ a. ap (λ z. slice_index z a) c.deref-4.ensures.value) in
-    begun k l given _ ins outs locals privates c.args.kernel.in_grammar c.requires.may_start.whole text refl items marks c.begin.new.self c.begin.ensures.core c.begin.ensures.marks c.begin.ensures.flags
+    (lengths_are c.in_ok-stores.stores.memory.outs.items given.outs c.in_ok-stores.ensures.outs)
+    (λ a. refl) in
+    begun k l given _ c.in_ok-stores.ensures.ins c.in_ok-stores.ensures.outs locals privates c.args.kernel.in_grammar c.requires.may_start.whole text refl items marks c.begin.new.self c.begin.ensures.core c.begin.ensures.marks c.begin.ensures.flags

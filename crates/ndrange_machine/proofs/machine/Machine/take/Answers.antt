@@ -1,6 +1,8 @@
 use Rattle.std.proofs.Common.{subst, ⊎_elim}
+use Rattle.kernel_tree.specs.declared.events.Event.TheVariants.{Step}
 use Rattle.ndrange_machine.specs.Takes.{IsWanted}
 use Rattle.ndrange_machine.proofs.Stepping.{took_fault, never_ends, never_waits}
+use Rattle.ndrange_machine.proofs.Telling.{advanced_to}
 use Rattle.ndrange_machine.proofs.machine.Machine.take.Goals as goal
 
 pub returns-in-Ends : goal.returns-in-Ends
@@ -12,7 +14,8 @@ returns-in-Ends c = λ k l d es st clean en.
 
 pub returns-in-Fails : goal.returns-in-Fails
 returns-in-Fails c = λ k l d es st clean en.
-    took_fault k l d c.args.self.now es st clean c.args.item en c.in-Fails.kind (subst (IsWanted c.args.self.now c.args.item) c.in-Fails.is c.want.ensures)
+    advanced_to k l d es (Step c.args.item) c.args.self.now c.fails.new.self c.fails.result _ c.fails.ensures
+    (took_fault k l d c.args.self.now es st clean c.args.item en c.in-Fails.kind (subst (IsWanted c.args.self.now c.args.item) c.in-Fails.is c.want.ensures))
 
 pub returns-in-Changes : goal.returns-in-Changes
 returns-in-Changes c = c.keep.ensures (subst (IsWanted c.args.self.now c.args.item) c.in-Changes.is c.want.ensures)

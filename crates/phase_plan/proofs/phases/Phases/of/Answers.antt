@@ -19,4 +19,4 @@ place-requires-clause-within c =
     subst₂ (λ (xs : List Touch) (n : ℕ). All (λ x. x.phase < n) xs) (sym (c.deref.ensures.value ∙ c.in_ok-count.ensures.touches)) (sym c.in_ok-count.ensures.phases) placed.within
 
 pub returns : goal.returns
-returns c = are_phases (term_of c.args.root.now) _ _ _ _ c.in_ok-count.ensures.phases c.in_ok-count.ensures.touches c.deref.ensures.value c.in_ok-barriers.ensures.needed c.in_ok-barriers.ensures.in_order c.in_ok-barriers.ensures.pairs
+returns c = are_phases (term_of c.args.root.now) c.args.once _ _ _ _ c.in_ok-count.ensures.phases c.in_ok-count.ensures.touches c.deref.ensures.value c.in_ok-barriers.ensures.needed c.in_ok-barriers.ensures.in_order c.in_ok-barriers.ensures.pairs

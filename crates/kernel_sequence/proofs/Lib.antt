@@ -1,0 +1,5 @@
+pub mod More
+pub mod Extends
+pub mod Kept
+pub mod Names
+pub mod InTurn

@@ -1,0 +1,6 @@
+pub mod Cut
+pub mod Bound
+pub mod Parts
+pub mod Sequence
+pub mod Values
+pub mod Laws

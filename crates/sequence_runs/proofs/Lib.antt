@@ -1,0 +1,5 @@
+mod Buffers
+mod Values
+mod Order
+pub mod Keeping
+pub mod Alone
