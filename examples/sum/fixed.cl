@@ -31,7 +31,7 @@ __kernel __attribute__((reqd_work_group_size(16, 1, 1))) void lift(__global cons
         v5 = l1[i0];
         v4 = (v4 + v5);
       }
-      o0[(((uint)get_group_id(0) * s1) + (uint)get_local_id(0))] = v4;
+      o0[((uint)get_group_id(0) * s1)] = v4;
     }
   }
 }

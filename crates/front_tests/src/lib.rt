@@ -6,6 +6,8 @@ mod launch_files;
 #[cfg(test)]
 mod program_text;
 #[cfg(test)]
+mod stages_files;
+#[cfg(test)]
 mod traces;
 #[cfg(test)]
 mod types;

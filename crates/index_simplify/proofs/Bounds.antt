@@ -1,18 +1,20 @@
 -- What passes the test stays below the length.
 use Rattle.std.proofs.Common.{◌≡◌, ℕ, zero, suc, ℤ, pos, ◌+◌, ◌*◌, ◌/◌, ◌%◌, ◌<◌, ◌≤◌, ◌+ℤ◌, ◌*ℤ◌, Bool, true, false, Option, Some, None, List, refl, sym, ap, ◌∙◌, subst, arith}
-use Rattle.std.specs.Prelude.{◌&&◌, ◌<ℤ◌, nat_lt, if◌then◌else◌, is_some, slice_get, slice_index, int_div, int_rem}
+use Rattle.std.specs.Prelude.{◌&&◌, ◌||◌, ◌<ℤ◌, nat_lt, if◌then◌else◌, is_some, slice_get, slice_index, int_div, int_rem}
 use Rattle.std.proofs.lemmas.Bool.{ltb-true}
+use Rattle.std.proofs.Common.{inl, inr}
 use Rattle.std.proofs.lemmas.Int.{ints}
-use Rattle.std.proofs.Math.Nat.{div-lt_iff_lt-mul, mod-lt, mul-le-mul_right}
+use Rattle.std.proofs.lemmas.Nat.{le-div}
+use Rattle.std.proofs.Math.Nat.{div-lt_iff_lt-mul, div-mul-le_self, mod-lt, mul-le-mul_right}
 use Rattle.index_expr.specs.declared.operation.Operation.TheVariants.{Sum, Product, Quotient, Remainder}
 use Rattle.index_expr.specs.Expression.{Expression, Variable, Literal, Size, Binary}
 use Rattle.index_expr.specs.Values.{exact}
 use Rattle.index_simplify.specs.PlainRanges.{PlainRanges}
 use Rattle.index_simplify.specs.Tests.{is_at_least, is_no_longer}
 use Rattle.index_simplify.specs.Factors.{over}
-use Rattle.index_simplify.specs.Below.{is_natural, is_passed, is_part_within, is_quotient_below, is_remainder_below, is_digit_below, rows_within, is_sum_below, stays_below}
+use Rattle.index_simplify.specs.Below.{is_natural, is_passed, is_part_within, is_greatest_below, is_quotient_below, is_remainder_below, is_digit_below, rows_within, is_sum_below, stays_below}
 use Rattle.index_simplify.specs.Ranges.{AreBelowLengths, AreWithin}
-use Rattle.index_simplify.proofs.Tests.{both, IsNatural, count_value, IsColumn, IsAbove, counted_least, counted_longer, column_of}
+use Rattle.index_simplify.proofs.Tests.{both, one_of, IsNatural, count_value, IsColumn, IsAbove, counted_least, counted_longer, column_of}
 use Rattle.index_simplify.proofs.Divided.{IfLeft, over_left, over_value}
 
 cell_below_rows : (x q y w : ℕ) → x < q → y < w → x * w + y < q * w
@@ -80,13 +82,28 @@ module _ (sizes variables : List ℕ) (r : PlainRanges) (loops : AreBelowLengths
         below = count.2;
       }
 
-  known_below : (k l g : ℕ) (d n : Expression) (known : Option Expression) → slice_get r.lengths k ≡ known → is_passed (λ e. is_passed (is_part_within d n) (over e d)) known ≡ true → IsColumn sizes variables (Binary Quotient (Variable k l g) d) n
-  known_below k l g d n None at h = absurd (cc h)
-  known_below k l g d n (Some known) at h = part_within k l g d n known (over known d) (loops k known at) (over_left sizes variables known d) h
+  -- the greatest number is below one over a number, and so is each
+  greatest_below : (k l g : ℕ) (d n : Expression) → slice_index variables k ≤ g → is_greatest_below g d n ≡ true → IsColumn sizes variables (Binary Quotient (Variable k l g) d) n
+  greatest_below k l g (Literal d) (Literal m) le h =
+      let parts = both (nat_lt 0 d) (nat_lt (g / d) m) h in
+      let v : ℕ = slice_index variables k in
+      let lt = ltb-true (g / d) m parts.1 in
+      let most : v / d ≤ g / d = le-div (v / d) g d (ltb-true 0 d parts.0) (let all = div-mul-le_self v d in omega arith) in
+      record { at = v / d; count = m; column_is = quotient_is (pos v) (pos d) v d refl refl; length_is = refl; below = omega arith }
+  greatest_below k l g (Literal d) n le h = let parts = both (nat_lt 0 d) false h in absurd (cc parts.1)
+  greatest_below k l g d n le h = absurd (cc h)
 
-  quotient_below : (e d n : Expression) → is_quotient_below r e d n ≡ true → IsColumn sizes variables (Binary Quotient e d) n
-  quotient_below (Variable k l g) d n h = known_below k l g d n (slice_get r.lengths k) refl h
-  quotient_below _ d n h = absurd (cc h)
+  known_below : (k l g : ℕ) (d n : Expression) (known : Option Expression) → slice_index variables k ≤ g → slice_get r.lengths k ≡ known → is_passed (λ e. is_greatest_below g d n || is_passed (is_part_within d n) (over e d)) known ≡ true → IsColumn sizes variables (Binary Quotient (Variable k l g) d) n
+  known_below k l g d n None le at h = absurd (cc h)
+  known_below k l g d n (Some known) le at h =
+      elim (one_of (is_greatest_below g d n) (is_passed (is_part_within d n) (over known d)) h) [
+        | inl a ↦ greatest_below k l g d n le a
+        | inr b ↦ part_within k l g d n known (over known d) (loops k known at) (over_left sizes variables known d) b
+      ]
+
+  quotient_below : (e d n : Expression) → AreWithin variables e → is_quotient_below r e d n ≡ true → IsColumn sizes variables (Binary Quotient e d) n
+  quotient_below (Variable k l g) d n own h = known_below k l g d n (slice_get r.lengths k) own.1 refl h
+  quotient_below _ d n own h = absurd (cc h)
 
   remainder_below : (e d n : Expression) → is_remainder_below r e d n ≡ true → IsColumn sizes variables (Binary Remainder e d) n
   remainder_below e (Literal d) n h =
@@ -107,7 +124,7 @@ module _ (sizes variables : List ℕ) (r : PlainRanges) (loops : AreBelowLengths
 
   digit_is : (e n : Expression) → AreWithin variables e → is_digit_below r e n ≡ true → IsColumn sizes variables e n
   digit_is (Variable k l g) n own h = column_of sizes variables r loops (Variable k l g) n own h
-  digit_is (Binary Quotient a b) n own h = quotient_below a b n h
+  digit_is (Binary Quotient a b) n own h = quotient_below a b n own.0 h
   digit_is (Binary Remainder a b) n own h = remainder_below a b n h
   digit_is _ n own h = absurd (cc h)
 

@@ -1,9 +1,9 @@
 -- Which expressions stay below a length.
-use Rattle.std.specs.Prelude.{◌&&◌, nat_lt, if◌then◌else◌, Bool, true, false, is_some, Option, Some, None, option_and_then, slice_get}
+use Rattle.std.specs.Prelude.{ℕ, ◌/◌, ◌&&◌, ◌||◌, nat_lt, if◌then◌else◌, Bool, true, false, is_some, Option, Some, None, option_and_then, slice_get}
 use Rattle.index_expr.specs.declared.operation.Operation.TheVariants.{Sum, Product, Quotient, Remainder}
 use Rattle.index_expr.specs.Expression.{Expression, Variable, Literal, Binary}
 use Rattle.index_simplify.specs.PlainRanges.{PlainRanges}
-use Rattle.index_simplify.specs.Tests.{is_at_least, is_no_longer, is_below, is_count}
+use Rattle.index_simplify.specs.Tests.{is_above, is_at_least, is_no_longer, is_below, is_count}
 use Rattle.index_simplify.specs.Factors.{over}
 
 -- nothing is taken away in it, as far as three operations deep tell
@@ -19,9 +19,14 @@ is_passed test (Some e) = test e
 abbrev pub is_part_within : (divisor length part : Expression) → Bool
 is_part_within d n q = is_natural q && is_natural d && is_no_longer q n
 
--- the variable of a loop of a known length, over a divisor
+-- the greatest of some numbers, over a literal, is below a number
+abbrev pub is_greatest_below : (greatest : ℕ) → (divisor length : Expression) → Bool
+is_greatest_below g (Literal d) n = nat_lt 0 d && is_above n (g / d)
+is_greatest_below g _ n = false
+
+-- the variable of a loop of a known length, over a divisor: by its own range, or by that length
 abbrev pub is_quotient_below : PlainRanges → (dividend divisor length : Expression) → Bool
-is_quotient_below r (Variable k l g) d n = is_passed (λ known. is_passed (is_part_within d n) (over known d)) (slice_get r.lengths k)
+is_quotient_below r (Variable k l g) d n = is_passed (λ known. is_greatest_below g d n || is_passed (is_part_within d n) (over known d)) (slice_get r.lengths k)
 is_quotient_below r _ d n = false
 
 -- the remainder by a literal, in loops

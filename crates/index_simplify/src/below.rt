@@ -7,7 +7,7 @@ ghost use Rattle.index_simplify.specs.PlainRanges.{ranges_of};
 
 use crate::factors::over;
 use crate::law::is_natural;
-use crate::ranges::{Ranges, is_at_least, is_no_longer};
+use crate::ranges::{Ranges, is_above, is_at_least, is_no_longer};
 use index_expr::{Index, Operation};
 use std::alloc::{AllocError, Global};
 
@@ -20,7 +20,19 @@ fn is_part_within(part: &Index, divisor: &Index, length: &Index) -> bool
     is_natural(part) && is_natural(divisor) && is_no_longer(part, length)
 }
 
-// Whether the variable of a loop of a known length, over a divisor, stays below this length.
+// Whether the greatest of some numbers, over a literal, is below this length.
+fn is_greatest_below(greatest: u32, divisor: &Index, length: &Index) -> bool
+    ensures { result
+        ≡ spec.is_greatest_below greatest (expression_of divisor.now) (expression_of length.now) }
+{
+    match divisor {
+        Index::Literal(d) => 0 < *d && is_above(length, greatest / *d),
+        _ => false,
+    }
+}
+
+// Whether the variable of a loop of a known length, over a divisor, stays below this length: by its
+// own range, or by that length. It is asked in loops alone, as of a remainder.
 #[tactic(auto, using(crate::proofs::Known::known_length))]
 fn is_quotient_below(
     alloc: Global,
@@ -34,8 +46,13 @@ fn is_quotient_below(
         (expression_of divisor.now) (expression_of length.now)) }
 {
     match dividend {
-        Index::Variable { number, .. } => match ranges.lengths.get(*number as usize) {
+        Index::Variable {
+            number,
+            greatest,
+            ..
+        } => match ranges.lengths.get(*number as usize) {
             None => Ok(false),
+            Some(_) if is_greatest_below(*greatest, divisor, length) => Ok(true),
             Some(known) => match over(alloc, known, divisor)? {
                 Some(part) => Ok(is_part_within(&part, divisor, length)),
                 None => Ok(false),

@@ -70,8 +70,8 @@ impl Ranges {
     }
 }
 
-// Whether it is a number above this one.
-fn is_above(length: &Index, greatest: u32) -> bool
+/// Whether it is a number above this one.
+pub fn is_above(length: &Index, greatest: u32) -> bool
     ensures { result ≡ spec.is_above (expression_of length.now) greatest }
 {
     match length {

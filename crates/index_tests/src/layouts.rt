@@ -5,7 +5,8 @@ use array_views::View;
 use std::alloc::{AllocError, Global};
 use std::test::Fail;
 
-// An array's lengths, the layouts through which it is read, each with the lengths of what it makes, and the cells of the last one's scalars in row-major order.
+// An array's lengths, the layouts through which it is read, each with the lengths of what it makes,
+// and the cells of the last one's scalars in row-major order.
 const READ: [(&[u32], &[(Form, &[u32])], &[u64]); 14] = [
     (&[6], &[(Form::Split, &[3, 2])], &[0, 1, 2, 3, 4, 5]),
     (&[2, 3], &[(Form::Join, &[6])], &[0, 1, 2, 3, 4, 5]),
@@ -70,7 +71,8 @@ const READ: [(&[u32], &[(Form, &[u32])], &[u64]); 14] = [
     ),
 ];
 
-// The lengths of an array that is written, the layouts from it inwards, each with the lengths of its operand, and the cells of the innermost operand's scalars.
+// The lengths of an array that is written, the layouts from it inwards, each with the lengths of
+// its operand, and the cells of the innermost operand's scalars.
 const WRITTEN: [(&[u32], &[(Form, &[u32])], &[u64]); 9] = [
     (&[2, 3], &[(Form::Split, &[6])], &[0, 1, 2, 3, 4, 5]),
     (&[6], &[(Form::Join, &[2, 3])], &[0, 1, 2, 3, 4, 5]),

@@ -38,7 +38,8 @@ fn spelled(alloc: Global, view: &View, dimensions: u32) -> Result<String, AllocE
     }
 }
 
-// An array's lengths, the layouts through which it is read, each with the lengths of what it makes, how many dimensions the last one has, and the index.
+// An array's lengths, the layouts through which it is read, each with the lengths of what it makes,
+// how many dimensions the last one has, and the index.
 const READ: [(&[u32], &[(Form, &[u32])], u32, &str); 16] = [
     (&[7], &[], 1, "i0"),
     (&[2, 3, 4], &[], 3, "((((i0 * 3) + i1) * 4) + i2)"),

@@ -415,6 +415,17 @@ const BOUNDS: [Row; 5] = [
     ),
 ];
 
+// Of a loop's turn its length alone is used, not that s0 is at most 8.
+const GREATEST: [Row; 1] = [(
+    &[Tree::Number(2), Tree::Size(0)],
+    Tree::Binary(
+        Quotient,
+        &Tree::Binary(Sum, &Tree::Binary(Product, &I, &Tree::Number(8)), &J),
+        &Tree::Number(8),
+    ),
+    "(((i0 * 8) + i1) / 8)",
+)];
+
 // What holds of words that wrap.
 const WRAPPING: [Row; 12] = [
     (
@@ -546,8 +557,8 @@ struct InGroups {
 // The number of the item's cell in rows of four, of which its group has one.
 const CELL: Tree = Tree::Binary(Sum, &Tree::Binary(Product, &GROUP, &Tree::Number(4)), &OWN);
 
-// An item's id in its group is below the group's size, where the kernel asks for one, and a group's id
-// is below 65,536.
+// An item's id in its group is below the group's size, where the kernel asks for one, and a group's
+// id is below 65,536.
 const IDS: [InGroups; 12] = [
     InGroups {
         size: Some((3, 1)),
@@ -802,7 +813,105 @@ const IFS: [InIf; 11] = [
     },
 ];
 
-// s0 is from 1 to 8, s1 an even number from 2 to 8, s2 from 1 to 2^20.
+// The row of the item's cell in rows of four, of which each turn of the loop has one.
+const ROW_OF_FOUR: Tree = Tree::Binary(
+    Quotient,
+    &Tree::Binary(Sum, &Tree::Binary(Product, &I, &Tree::Number(4)), &OWN),
+    &Tree::Number(4),
+);
+
+// And in rows of s0.
+const ROW_OF_S0: Tree = Tree::Binary(
+    Quotient,
+    &Tree::Binary(Sum, &Tree::Binary(Product, &I, &Tree::Size(0)), &OWN),
+    &Tree::Size(0),
+);
+
+// The first of these, and the item's column in a row of s0: the one by a number, the other by s0.
+const BOTH: Tree = Tree::Binary(
+    Sum,
+    &ROW_OF_FOUR,
+    &Tree::Binary(
+        Remainder,
+        &Tree::Binary(Sum, &Tree::Binary(Product, &I, &Tree::Size(0)), &OWN),
+        &Tree::Size(0),
+    ),
+);
+
+// In groups of a size, within a loop over s2, an `if` that asks whether an item's id is below this.
+struct OwnBelow {
+    bound: Tree,
+    size: u32,
+    index: Tree,
+    tidied: &'static str,
+}
+
+// An item's id is below the size of groups, below the length over sizes that an `if` asks of, and
+// at most what that length is at most, less 1: s0 is at most 8, and s3 is 4.
+const LENGTHS: [OwnBelow; 10] = [
+    OwnBelow {
+        bound: Tree::Size(3),
+        size: 4,
+        index: ROW_OF_FOUR,
+        tidied: "i0",
+    },
+    OwnBelow {
+        bound: Tree::Size(0),
+        size: 4,
+        index: ROW_OF_FOUR,
+        tidied: "i0",
+    },
+    OwnBelow {
+        bound: Tree::Size(0),
+        size: 5,
+        index: ROW_OF_FOUR,
+        tidied: "(((i0 * 4) + own) / 4)",
+    },
+    OwnBelow {
+        bound: Tree::Size(3),
+        size: 16,
+        index: ROW_OF_FOUR,
+        tidied: "i0",
+    },
+    OwnBelow {
+        bound: Tree::Size(0),
+        size: 16,
+        index: ROW_OF_FOUR,
+        tidied: "(((i0 * 4) + own) / 4)",
+    },
+    OwnBelow {
+        bound: Tree::Size(0),
+        size: 4,
+        index: ROW_OF_S0,
+        tidied: "i0",
+    },
+    OwnBelow {
+        bound: Tree::Size(3),
+        size: 4,
+        index: ROW_OF_S0,
+        tidied: "(((i0 * s0) + own) / s0)",
+    },
+    OwnBelow {
+        bound: Tree::Size(0),
+        size: 4,
+        index: BOTH,
+        tidied: "(i0 + own)",
+    },
+    OwnBelow {
+        bound: Tree::Size(0),
+        size: 5,
+        index: BOTH,
+        tidied: "((((i0 * 4) + own) / 4) + own)",
+    },
+    OwnBelow {
+        bound: Tree::Size(1),
+        size: 4,
+        index: BOTH,
+        tidied: "(i0 + (((i0 * s0) + own) % s0))",
+    },
+];
+
+// s0 is from 1 to 8, s1 an even number from 2 to 8, s2 from 1 to 2^20, and s3 is 4.
 fn names(alloc: Global) -> Result<Names, AllocError> {
     let mut names = Names::new(alloc);
     names.push(Name {
@@ -819,6 +928,11 @@ fn names(alloc: Global) -> Result<Names, AllocError> {
         multiple: 1,
         from: 1,
         to: 1048576,
+    })?;
+    names.push(Name {
+        multiple: 4,
+        from: 4,
+        to: 4,
     })?;
     Ok(names)
 }
@@ -888,17 +1002,38 @@ fn first_wrong_in_groups(alloc: Global) -> Result<Option<usize>, AllocError> {
     Ok(None)
 }
 
-fn tidied_text_in_if(alloc: Global, around: &InIf) -> Result<String, AllocError> {
-    let bound = spell_index(alloc, &index_of(alloc, &around.bound)?)?;
-    let index = spell_index(alloc, &index_of(alloc, &around.row.index)?)?;
-    let place = place(alloc, around.row.size, around.row.bounds)?;
-    let place = place.guarded(alloc, around.start, &bound)?;
+// Within an `if` at this place that asks whether this start is below this bound.
+fn tidied_text_in_if(
+    alloc: Global,
+    place: &Place,
+    start: Start,
+    bound: &Tree,
+    index: &Tree,
+) -> Result<String, AllocError> {
+    let bound = spell_index(alloc, &index_of(alloc, bound)?)?;
+    let index = spell_index(alloc, &index_of(alloc, index)?)?;
+    let place = place.guarded(alloc, start, &bound)?;
     text(alloc, &place.tidied(alloc, &index)?)
 }
 
 fn first_wrong_in_ifs(alloc: Global) -> Result<Option<usize>, AllocError> {
     for (number, around) in IFS.iter().enumerate() {
-        if tidied_text_in_if(alloc, around)?.as_str() != around.row.tidied {
+        let row = &around.row;
+        let place = place(alloc, row.size, row.bounds)?;
+        let made = tidied_text_in_if(alloc, &place, around.start, &around.bound, &row.index)?;
+        if made.as_str() != row.tidied {
+            return Ok(Some(number));
+        }
+    }
+    Ok(None)
+}
+
+fn first_wrong_below_lengths(alloc: Global) -> Result<Option<usize>, AllocError> {
+    let start = Start::LocalId(Dimension::X);
+    for (number, row) in LENGTHS.iter().enumerate() {
+        let place = place(alloc, Some((row.size, 1)), &[Tree::Size(2)])?;
+        let made = tidied_text_in_if(alloc, &place, start, &row.bound, &row.index)?;
+        if made.as_str() != row.tidied {
             return Ok(Some(number));
         }
     }
@@ -907,7 +1042,9 @@ fn first_wrong_in_ifs(alloc: Global) -> Result<Option<usize>, AllocError> {
 
 #[test]
 fn indices_in_ifs_are_tidied(rt: HostRuntime) -> Result<(), Fail> {
-    assert_eq!(rt; first_wrong_in_ifs(rt.alloc())?, None);
+    let alloc = rt.alloc();
+    assert_eq!(rt; first_wrong_in_ifs(alloc)?, None);
+    assert_eq!(rt; first_wrong_below_lengths(alloc)?, None);
     Ok(())
 }
 
@@ -924,6 +1061,7 @@ fn rows_are_tidied(rt: HostRuntime) -> Result<(), Fail> {
     assert_eq!(rt; first_wrong(alloc, &ENDS)?, None);
     assert_eq!(rt; first_wrong(alloc, &PARTS)?, None);
     assert_eq!(rt; first_wrong(alloc, &BOUNDS)?, None);
+    assert_eq!(rt; first_wrong(alloc, &GREATEST)?, None);
     assert_eq!(rt; first_wrong(alloc, &WRAPPING)?, None);
     Ok(())
 }

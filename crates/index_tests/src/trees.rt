@@ -54,7 +54,8 @@ pub fn text(alloc: Global, index: &Index) -> Result<String, AllocError> {
     }
 }
 
-/// The text of what an expression is simplified to, in loops of these lengths, where sizes are multiples of these numbers.
+/// The text of what an expression is simplified to, in loops of these lengths, where sizes are
+/// multiples of these numbers.
 pub fn simplified_text(
     alloc: Global,
     lengths: &[Tree],

@@ -49,7 +49,7 @@ use Rattle.phase_plan.specs.Planned.{IsKindOf}
 use Rattle.phase_plan.specs.declared.phases.Phases.{Phases}
 use Rattle.phase_plan.specs.declared.kind.Kind.{Kind}
 use Rattle.phase_plan.specs.declared.kind.Kind.TheVariants.{Task, OverLaunch, OverGroups}
-use Rattle.kernel_emit.specs.Kernels.{IsPlainAs, IsPlainFor}
+use Rattle.kernel_emit.specs.Plain.{IsPlainAs, IsPlainFor}
 use Rattle.kernel_emit.specs.Plans.{printed_with}
 
 not_chosen : {A : Type 0} (b : Bool) (x : A) (rest : Option A) → cond b (Some x) rest ≡ None → b ≡ false

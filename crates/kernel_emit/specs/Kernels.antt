@@ -20,9 +20,6 @@ use Rattle.printed_form.specs.Headline.{EveryRunKeeps}
 use Rattle.printed_form.specs.Programs.{AreBuffersOf, IsLaunchOf, Prints, buffer_count, cell_owner}
 use Rattle.group_phases.specs.Outcome.{BarriersServeAll}
 use Rattle.group_form.specs.Programs.{PrintsGroups}
-use Rattle.barrier_placement.specs.Fencing.{Fencing}
-use Rattle.kernel_premises.specs.Terms.{kernel_of_term}
-use Rattle.kernel_premises.specs.Groups.{AreNeeded, kernel_of_groups}
 use Rattle.tidy_printed.specs.Tidy.{IsTidyFor}
 
 -- the kernel is printed for a term of this kind at a launch
@@ -49,18 +46,9 @@ abbrev pub ServesTerm : Declared → (local : Option ℕ) → Tree → Annotatio
 ServesTerm d local t n k = (w : World) (l : Launch) (c : Cells) → IsAdmissible d w → IsLaunchOf d (asks_of local t) w.bases l → AreBuffersOf d w t n c
     → (filler : Cell → ℕ) × BarriersServeAll k l c filler
 
--- the kernel is what the printers make of a term of this kind, with needed barriers
-abbrev pub IsPlainAs : NestKind → Declared → (local : Option ℕ) → Tree → Annotation → Kernel → Type 0
-IsPlainAs Task d local t n k = k ≡ kernel_of_term d local t n
-IsPlainAs OverLaunch d local t n k = k ≡ kernel_of_term d local t n
-IsPlainAs OverGroups d local t n k = (fence : ℕ → Fencing) × AreNeeded d local fence t n × (k ≡ kernel_of_groups d local fence t n)
-
-abbrev pub IsPlainFor : Declared → (local : Option ℕ) → Tree → Annotation → Kernel → Type 0
-IsPlainFor d local t n k = IsPlainAs (nest_kind t) d local t n k
-
--- it differs from that in its indices and bounds alone, of which no part is redundant, and which have no more nodes than those of the printers have with lengths counted in short
+-- no part of an index or of a bound is redundant, an index of a load or a store has no more nodes than the formulas of its array and of the term's layouts put into one another, and a bound no more than its length, with lengths counted in short
 abbrev pub IsTidy : Declared → (local : Option ℕ) → Tree → Annotation → Kernel → Type 0
-IsTidy d local t n k = (plain : Kernel) × IsPlainFor d local t n plain × IsTidyFor plain.code k.code
+IsTidy = IsTidyFor
 
 -- the parameters: a buffer for each component of the inputs, one for each component of the output, and each size
 pub record HasParameters (d : Declared) (output : PlainTy) (k : Kernel) : Type 0 where

@@ -3,7 +3,8 @@ use Rattle.lowered_tree.specs.Whole.{IsSoundTerm}
 use Rattle.phase_plan.specs.Plans.{IsTold, declared_in, local_in, tree_in, types_in}
 use Rattle.phase_plan.specs.declared.planned.Plan.{Plan}
 use Rattle.kernel_emit.specs.Emittable.{IsEmittable}
-use Rattle.kernel_emit.specs.Kernels.{IsKernelFor, IsPlainFor}
+use Rattle.kernel_emit.specs.Kernels.{IsKernelFor}
+use Rattle.kernel_emit.specs.Plain.{IsPlainFor}
 use Rattle.kernel_emit.specs.Plans.{kernel_for, printed_for}
 
 -- what is printed for a plan can be, and is what the printers make of its term

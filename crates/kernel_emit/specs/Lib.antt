@@ -1,4 +1,5 @@
 pub mod Plans
 pub mod Kernels
+pub mod Plain
 pub mod Laws
 pub mod Emittable

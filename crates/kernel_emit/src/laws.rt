@@ -11,7 +11,7 @@ use kernel_premises::limits::terms_can_be_written;
 use kernel_premises::soundness::{least_sizes_are_admissible, lowered_terms_have_sound_parts};
 use kernel_premises::terms::{kernels_are_in_the_grammar, terms_are_printed};
 use lift_ir::laws::lowered_terms_serve;
-use nest_premises::groups::legal_groups_stand_over_groups;
+use nest_premises::groups::{legal_groups_stand_over_groups, legal_nests_stand};
 use nest_premises::laws::{legal_terms_can_be_lowered, ungrouped_terms_are_printable};
 use printed_form::laws::{printed_programs_keep, printed_programs_start};
 use tidy_indices::laws::tidy_formulas_keep_values;
@@ -46,6 +46,7 @@ pub fn plans_give_kernels()
 {
     group_terms_are_printed();
     legal_groups_stand_over_groups();
+    legal_nests_stand();
     plans_can_be_emitted();
     printed_group_programs_keep();
     printed_group_programs_start();

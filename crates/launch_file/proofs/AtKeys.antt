@@ -42,7 +42,7 @@ pub schedule_at_is : (o : Option Data) (s : Schedule) → schedule_at o ≡ Ok s
 schedule_at_is None s h = sym (same_ok in_order s h)
 schedule_at_is (Some d) s h = schedule_in_is d s (ok_or_is (schedule_in d) (no.Missing key.Schedule) s h)
 
-schedule_at_gives : (o : Option Data) (s : Schedule) → IsSchedule o s → schedule_at o ≡ Ok s
+pub schedule_at_gives : (o : Option Data) (s : Schedule) → IsSchedule o s → schedule_at o ≡ Ok s
 schedule_at_gives None s h = ap yes (sym h)
 schedule_at_gives (Some d) s h = ap (λ p. ok_or p (no.Missing key.Schedule)) (schedule_in_gives d s h)
 

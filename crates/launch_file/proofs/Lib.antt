@@ -1,5 +1,6 @@
 pub mod AtKeys
 pub mod Exact
+pub mod InOrder
 pub mod Inputs
 pub mod Lengths
 pub mod Listed
@@ -9,6 +10,7 @@ pub mod Options
 pub mod Proper
 pub mod Ranges
 pub mod ReadValues
+pub mod StagesExact
 pub mod Texts
 pub mod TypedValues
 pub mod Whole

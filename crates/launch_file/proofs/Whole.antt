@@ -53,7 +53,7 @@ sizes_are i (s ∷ ss) d ns h =
     let r = sizes_are (suc i) ss d b.0 b.1 in
     subst (λ ms. AreInRange (s ∷ ss) ms × GivesSizes (s ∷ ss) d ms) (same_ok (a.0 ∷ b.0) ns b.2) ((w.1, r.0), (w.0, r.1))
 
-sizes_give : (i : ℕ) (ss : List Size) (d : Data) (ns : List ℕ) → AreInRange ss ns → GivesSizes ss d ns → sizes_judged i ss d ≡ Ok ns
+pub sizes_give : (i : ℕ) (ss : List Size) (d : Data) (ns : List ℕ) → AreInRange ss ns → GivesSizes ss d ns → sizes_judged i ss d ≡ Ok ns
 sizes_give i [] d [] t h = refl
 sizes_give i [] d (n ∷ ns) t h = absurd h
 sizes_give i (s ∷ ss) d [] t h = absurd h
@@ -73,7 +73,7 @@ module _ (names : List Name) (ys : List ℕ) (few : length names ≤ 8) (are : A
       let r = value_is names ys few are ok x.ty formed a.0 v (ok_or_is (read_value here x.ty a.0) (no.Shape i) v a.2) in
       (ok_or_is (get x.name d) (no.Missing (key.InputAt i)) a.0 a.1 ∙ ap Some r.1, r.0)
 
-  inputs_are : (i : ℕ) (xs : List PlainInput) → Every (IsFormed names) (types_of names xs) → (d : Data) (vs : List Value) → inputs_judged here i xs d ≡ Ok vs → GivesInputs xs d vs × HaveTypes ys (types_of names xs) vs
+  pub inputs_are : (i : ℕ) (xs : List PlainInput) → Every (IsFormed names) (types_of names xs) → (d : Data) (vs : List Value) → inputs_judged here i xs d ≡ Ok vs → GivesInputs xs d vs × HaveTypes ys (types_of names xs) vs
   inputs_are i [] formed d vs h = subst (λ us. GivesInputs [] d us × HaveTypes ys [] us) (same_ok [] vs h) (tt, λ n a e. absurd (cc))
   inputs_are i (x ∷ xs) formed d vs h =
       let a = and_ok (input_judged here i x d) _ vs h in
@@ -83,7 +83,7 @@ module _ (names : List Name) (ys : List ℕ) (few : length names ≤ 8) (are : A
       subst (λ us. GivesInputs (x ∷ xs) d us × HaveTypes ys (types_of names (x ∷ xs)) us) (same_ok (a.0 ∷ b.0) vs b.2)
       ((w.0, r.0), have_more ys (worked_out names x.ty) a.0 (types_of names xs) b.0 w.1 r.1)
 
-  inputs_give : (i : ℕ) (xs : List PlainInput) → Every (IsFormed names) (types_of names xs) → (d : Data) (vs : List Value) → GivesInputs xs d vs → HaveTypes ys (types_of names xs) vs → inputs_judged here i xs d ≡ Ok vs
+  pub inputs_give : (i : ℕ) (xs : List PlainInput) → Every (IsFormed names) (types_of names xs) → (d : Data) (vs : List Value) → GivesInputs xs d vs → HaveTypes ys (types_of names xs) vs → inputs_judged here i xs d ≡ Ok vs
   inputs_give i [] formed d [] h t = refl
   inputs_give i [] formed d (v ∷ vs) h t = absurd h
   inputs_give i (x ∷ xs) formed d [] h t = absurd h

@@ -11,6 +11,7 @@ use Rattle.lift_tree.specs.declared.value.Val.{Val}
 use Rattle.lift_tree.specs.declared.value.Val as held
 use Rattle.launch_file.specs.LaunchFile.{Given, Gives, IsLaunchFile}
 use Rattle.launch_file.specs.Judged.{Refuses, judged}
+use Rattle.launch_file.specs.Stages.{GivesAll, IsStagesFile, RefusesStages, stages_judged}
 
 -- a value passes the checks exactly where it is a launch file, and then they find what it gives
 abbrev pub ChecksAreExact : Type 0
@@ -29,6 +30,22 @@ abbrev pub FilesGiveOneThing : Type 0
 FilesGiveOneThing =
     (p : PlainProgram) (ask : Ask) (bytes : List ℕ) (g h : Given) → HasProperInputs p
     → IsLaunchFile p ask bytes g → IsLaunchFile p ask bytes h → g ≡ h
+
+-- and so of kernels in order: a value passes the checks exactly where it is a launch file of them
+abbrev pub StagesChecksAreExact : Type 0
+StagesChecksAreExact =
+    (p : PlainProgram) (asks : List Ask) (d : Data) (gs : List Given) → HasProperInputs p
+    → (stages_judged p asks d ≡ Ok gs) ↔ GivesAll p asks d gs
+
+abbrev pub StagesFilesAreNotRefused : Type 0
+StagesFilesAreNotRefused =
+    (p : PlainProgram) (asks : List Ask) (bytes : List ℕ) (gs : List Given) (e : LaunchNo) → HasProperInputs p
+    → IsStagesFile p asks bytes gs → ¬ RefusesStages p asks bytes e
+
+abbrev pub StagesFilesGiveOneThing : Type 0
+StagesFilesGiveOneThing =
+    (p : PlainProgram) (asks : List Ask) (bytes : List ℕ) (gs hs : List Given) → HasProperInputs p
+    → IsStagesFile p asks bytes gs → IsStagesFile p asks bytes hs → gs ≡ hs
 
 -- the value of a list, as inputs are held, is the array of its members' values
 abbrev pub ListsAreArrays : Type 0

@@ -6,4 +6,6 @@ pub mod LaunchFile
 pub mod Line
 pub mod ResultLine
 pub mod Shown
+pub mod Stages
+pub mod StagesShown
 pub mod TraceLines

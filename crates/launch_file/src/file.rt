@@ -8,6 +8,7 @@ ghost use Rattle.launch_file.specs.Judged.{Refuses, and_then, is_asked_size, is_
 ghost use Rattle.launch_file.specs.LaunchFile.{IsLaunchFile, given_by};
 ghost use Rattle.launch_file.specs.declared.refusal.LaunchNo.TheVariants.{Memory};
 
+use crate::json::discard;
 use crate::keys::{Keyed, find_keys};
 use crate::refusal::LaunchNo;
 use crate::sizes::{bases_of, sizes_in};
@@ -158,7 +159,11 @@ pub fn read_launch(
         → Refuses (program_of program.now) ask bytes.now e) }
 {
     match Value::from_slice(alloc, bytes) {
-        Ok(value) => Ok(launch_in(alloc, &value, program, ask)?),
+        Ok(value) => {
+            let launch = launch_in(alloc, &value, program, ask);
+            discard(value);
+            launch
+        }
         Err(error) if error.classify() == Category::Memory => Err(LaunchNo::Memory),
         Err(_) => Err(LaunchNo::NotJson),
     }

@@ -59,3 +59,23 @@ pub fn words(alloc: Global, values: &[Value]) -> Result<Option<Vec<u32>>, AllocE
     }
     Ok(Some(numbers))
 }
+
+/// Frees a value. Numbers, of which lists have most, own nothing, so none of them is a call.
+pub fn discard(value: Value) {
+    match value {
+        Value::Array(members) => {
+            for member in members {
+                match member {
+                    Value::Number(_) => {}
+                    member => discard(member),
+                }
+            }
+        }
+        Value::Object(members) => {
+            for (_, member) in members {
+                discard(member);
+            }
+        }
+        Value::Null | Value::Bool(_) | Value::Number(_) | Value::String(_) => {}
+    }
+}

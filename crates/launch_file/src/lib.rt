@@ -11,5 +11,6 @@ pub mod line;
 pub mod refusal;
 pub mod result;
 mod sizes;
+pub mod stages;
 pub mod trace;
 mod values;

@@ -23,7 +23,8 @@ fn push_digits(text: &mut Vec<u8>, number: u64) -> Result<(), AllocError>
     text.extend_from_slice(digits.format(number).as_bytes())
 }
 
-// Writes a number in decimal digits behind the text. One digit needs no buffer.
+// Writes a number in decimal digits behind the text. One digit needs no buffer and no call.
+#[inline(always)]
 #[tactic(auto, using(crate::proofs::Texts::one_digit))]
 pub(crate) fn push_number(text: &mut Vec<u8>, number: u64) -> Result<(), AllocError>
     ensures { OnOk result (text.new.items ≡ text.old.items ++ decimal number) }

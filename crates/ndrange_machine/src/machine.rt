@@ -188,7 +188,7 @@ impl Machine {
         ensures release { (g : ℕ) → event ≡ event_form.Release g → result.fault ≡ None }
     {
         let access = self.access(event);
-        let fault = self.advance(event);
+        let fault = self.advance_by_want(event);
         Seen {
             event,
             access,
@@ -216,6 +216,27 @@ impl Machine {
         match event {
             Event::Step(item) => {
                 if self.step_item(item) {
+                    self.fault
+                } else {
+                    None
+                }
+            }
+            Event::Release(group) => {
+                self.release_group(group);
+                None
+            }
+        }
+    }
+
+    // As `advance`, by what a work-item wants whatever its line is. So `go` has one caller, into which
+    // the compiler puts it.
+    fn advance_by_want(&mut self, event: Event) -> Option<Fault>
+        ensures advances { Advances self.old event self.new result }
+        ensures release { (g : ℕ) → event ≡ event_form.Release g → result ≡ None }
+    {
+        match event {
+            Event::Step(item) => {
+                if self.take_item(item) {
                     self.fault
                 } else {
                     None
@@ -454,6 +475,17 @@ impl Machine {
     {
         if (item as usize) < self.groups.len() {
             self.go(item)
+        } else {
+            false
+        }
+    }
+
+    // Takes the next step of a work-item that there is, whatever its line is.
+    fn take_item(&mut self, item: u32) -> bool
+        ensures { Advances self.old (event_form.Step item) self.new (told_if result self.new) }
+    {
+        if (item as usize) < self.groups.len() {
+            self.take(item)
         } else {
             false
         }

@@ -1,5 +1,5 @@
 -- One entry of a list changed.
-use Rattle.std.proofs.Common.{◌≡◌, ℕ, zero, suc, ◌<◌, ◌≤◌, List, [], ◌∷◌, length, map, refl, sym, ap, ◌∙◌, arith}
+use Rattle.std.proofs.Common.{◌≡◌, ℕ, zero, suc, ◌<◌, ◌≤◌, List, [], ◌∷◌, length, map, refl, ap, ◌∙◌, arith}
 use Rattle.std.proofs.Math.ListN.{get_or, set}
 use Rattle.tidy_indices.specs.Places.{changed_at}
 

@@ -4,6 +4,7 @@ use Rattle.std.specs.Prelude.{nat_lt, nat_le, if◌then◌else◌, slice_get, sl
 use Rattle.std.proofs.Math.Nat.{mod-lt, mod-le, div-le_self, div-mul-le_self}
 use Rattle.std.proofs.lemmas.Nat.{le-div, mul-le}
 use Rattle.std.proofs.lemmas.Bool.{ltb-true, leb-true}
+use Rattle.std.proofs.lemmas.Option.{same_Some}
 use Rattle.std.proofs.lemmas.Int.{ints, clamps}
 use Rattle.size_arith.specs.declared.names.Name.{Name}
 use Rattle.index_expr.specs.declared.operation.Operation.{Operation}
@@ -34,26 +35,23 @@ are_both (Some l) (Some g) s h = record { low = l; high = g; low_is = refl; high
 are_both (Some l) None s h = absurd (cc h)
 are_both None y s h = absurd (cc h)
 
-some : {A : Type 0} (m n : A) → Some m ≡ Some n → m ≡ n
-some m n e = cc e
-
 word_is : (n m : ℕ) → word n ≡ Some m → (n ≡ m) × (m < 2 ^ 32)
 word_is n m h = go (nat_lt n (2 ^ 32)) refl h
   where
     go : (b : Bool) → nat_lt n (2 ^ 32) ≡ b → (if b then Some n else None) ≡ Some m → (n ≡ m) × (m < 2 ^ 32)
-    go true e h = (some n m h, subst (λ z. z < 2 ^ 32) (some n m h) (ltb-true n (2 ^ 32) e))
+    go true e h = (same_Some n m h, subst (λ z. z < 2 ^ 32) (same_Some n m h) (ltb-true n (2 ^ 32) e))
     go false e h = absurd (cc h)
 
 difference_is : (m n d : ℕ) → difference m n ≡ Some d → (n ≤ m) × (m - n ≡ d)
 difference_is m n d h = go (nat_le n m) refl h
   where
     go : (b : Bool) → nat_le n m ≡ b → (if b then Some (m - n) else None) ≡ Some d → (n ≤ m) × (m - n ≡ d)
-    go true e h = (leb-true n m e, some (m - n) d h)
+    go true e h = (leb-true n m e, same_Some (m - n) d h)
     go false e h = absurd (cc h)
 
 quotient_is : (m n q : ℕ) → quotient m n ≡ Some q → (0 < n) × (m / n ≡ q)
 quotient_is m zero q h = absurd (cc h)
-quotient_is m (suc n) q h = (omega arith, some (m / suc n) q h)
+quotient_is m (suc n) q h = (omega arith, same_Some (m / suc n) q h)
 
 -- ---- the result on words of two spans
 record HasResult (o : Operation) (s : Span) (x y : ℕ) : Type 0 where
@@ -123,7 +121,7 @@ remainder_given a b s x y h p q = go (nat_lt 0 b.least) refl h
         let many : 0 < y = (let f = q.above in omega arith) in
         let below : x % y ≤ min a.greatest (b.greatest - 1) = (let f = p.below in let g = q.below in let i = mod-lt x many in let j = mod-le x y in omega arith) in
         let fits : min a.greatest (b.greatest - 1) < 2 ^ 32 = (let f = p.fits in omega arith) in
-        subst (λ z. HasResult Remainder z x y) (some _ _ h)
+        subst (λ z. HasResult Remainder z x y) (same_Some _ _ h)
         (record { at = x % y; exact_is = refl; within = record { above = omega arith; below = below; fits = fits }; divisor = λ w f. absurd (omega arith) })
     go false e h = absurd (cc h)
 
@@ -132,7 +130,7 @@ least_given a b s x y h p q =
     let above : min a.least b.least ≤ min x y = (let f = p.above in let g = q.above in omega arith) in
     let below : min x y ≤ min a.greatest b.greatest = (let f = p.below in let g = q.below in omega arith) in
     let fits : min a.greatest b.greatest < 2 ^ 32 = (let f = p.fits in omega arith) in
-    subst (λ z. HasResult Least z x y) (some _ _ h)
+    subst (λ z. HasResult Least z x y) (same_Some _ _ h)
     (record { at = min x y; exact_is = omega (arith, ints, clamps); within = record { above = above; below = below; fits = fits }; divisor = λ w. absurd w })
 
 greatest_given : IsGiven Greatest
@@ -140,7 +138,7 @@ greatest_given a b s x y h p q =
     let above : max a.least b.least ≤ max x y = (let f = p.above in let g = q.above in omega arith) in
     let below : max x y ≤ max a.greatest b.greatest = (let f = p.below in let g = q.below in omega arith) in
     let fits : max a.greatest b.greatest < 2 ^ 32 = (let f = p.fits in let g = q.fits in omega arith) in
-    subst (λ z. HasResult Greatest z x y) (some _ _ h)
+    subst (λ z. HasResult Greatest z x y) (same_Some _ _ h)
     (record { at = max x y; exact_is = omega (arith, ints, clamps); within = record { above = above; below = below; fits = fits }; divisor = λ w. absurd w })
 
 given : (o : Operation) → IsGiven o
@@ -174,14 +172,14 @@ module _ (names : List Name) (sizes lasts turns : List ℕ) (sizes_are : AreSize
 
   turn_shown : (k l g : ℕ) (s : Span) (last : Option ℕ) → slice_get lasts k ≡ last → turns_up_to last ≡ Some s → IsShown (Variable k l g) s
   turn_shown k l g s None e h = absurd (cc h)
-  turn_shown k l g s (Some m) e h = record { at = slice_index turns k; exact_is = refl; within = subst (λ z. IsIn z (slice_index turns k)) (some _ _ h) (turns_are k m e); words = tt; divisors = tt }
+  turn_shown k l g s (Some m) e h = record { at = slice_index turns k; exact_is = refl; within = subst (λ z. IsIn z (slice_index turns k)) (same_Some _ _ h) (turns_are k m e); words = tt; divisors = tt }
 
   size_shown : (k : ℕ) (s : Span) (name : Option Name) → slice_get names k ≡ name → declared_from_to name ≡ Some s → IsShown (Size k) s
   size_shown k s None e h = absurd (cc h)
-  size_shown k s (Some n) e h = record { at = slice_index sizes k; exact_is = refl; within = subst (λ z. IsIn z (slice_index sizes k)) (some _ _ h) (sizes_are k n e); words = tt; divisors = tt }
+  size_shown k s (Some n) e h = record { at = slice_index sizes k; exact_is = refl; within = subst (λ z. IsIn z (slice_index sizes k)) (same_Some _ _ h) (sizes_are k n e); words = tt; divisors = tt }
 
   literal_shown : (n : ℕ) (s : Span) → n < 2 ^ 32 → Some (from_to n n) ≡ Some s → IsShown (Literal n) s
-  literal_shown n s lt h = record { at = n; exact_is = refl; within = subst (λ z. IsIn z n) (some _ _ h) (record { above = omega arith; below = omega arith; fits = lt }); words = tt; divisors = tt }
+  literal_shown n s lt h = record { at = n; exact_is = refl; within = subst (λ z. IsIn z n) (same_Some _ _ h) (record { above = omega arith; below = omega arith; fits = lt }); words = tt; divisors = tt }
 
   operation_shown : (o : Operation) (a b : Expression) (s p q : Span) → operated o p q ≡ Some s → IsShown a p → IsShown b q → IsShown (Binary o a b) s
   operation_shown o a b s p q h x y =

@@ -1,8 +1,8 @@
 -- What is known of a work-item's ids, at a launch of a kernel that may ask for a size of groups.
-use Rattle.std.proofs.Common.{◌≡◌, ℕ, zero, suc, ◌*◌, ◌/◌, ◌%◌, ◌^◌, ◌<◌, ◌≤◌, Option, Some, None, List, refl, sym, ap, subst, arith}
-use Rattle.std.proofs.Math.Nat.{mod-lt, mod-le, div-le_self}
+use Rattle.std.proofs.Common.{◌≡◌, ℕ, zero, suc, ◌*◌, ◌/◌, ◌%◌, ◌^◌, ◌<◌, ◌≤◌, Option, Some, None, List, ap, arith}
+use Rattle.std.proofs.Math.Nat.{mod-lt, div-le_self}
 use Rattle.kernel_tree.specs.Formula.{Ids, sizes_alone}
-use Rattle.kernel_tree.specs.Launch.{Launch, HasLocal, IsDivided, column_of, ids_of}
+use Rattle.kernel_tree.specs.Launch.{Launch, HasLocal, column_of, ids_of}
 use Rattle.tidy_indices.specs.Laws.{IsLaunchFor}
 
 -- what an item's id in its group is below

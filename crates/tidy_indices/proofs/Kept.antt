@@ -4,7 +4,7 @@ use Rattle.std.specs.Prelude.{◌∷◌, if◌then◌else◌}
 use Rattle.size_arith.specs.declared.names.Name.{Name}
 use Rattle.size_arith.specs.Ranges.{AreNames, Admissible, sizes_at}
 use Rattle.index_expr.specs.Expression as index
-use Rattle.index_expr.specs.Expression.{Expression, nodes}
+use Rattle.index_expr.specs.Expression.{Expression, nodes, short_nodes}
 use Rattle.kernel_tree.specs.Formula.{Formula, Ids, Vars, no_vars, value, sizes_alone}
 use Rattle.kernel_tree.specs.Launch.{ids_of}
 use Rattle.length_spelling.specs.Turns.{turns_of}
@@ -13,17 +13,17 @@ use Rattle.length_spelling.specs.Laws.{AreWords}
 use Rattle.index_simplify.specs.PlainRanges.{PlainRanges}
 use Rattle.index_simplify.specs.Operations.{simple}
 use Rattle.index_simplify.specs.Ranges.{AreMultiples}
-use Rattle.index_simplify.specs.Simplified.{AreDeclared}
+use Rattle.index_simplify.specs.Simplified.{HasWordLiterals, AreDeclared}
 use Rattle.index_simplify.specs.Promises.{ExpressionsAreSimplified}
 use Rattle.tidy_indices.specs.Formulas.{formula_nodes, simple_formula}
 use Rattle.tidy_indices.specs.Redundant.{IsIrredundant}
 use Rattle.tidy_indices.specs.Spelling.{IsNoLarger, SimpleFormulasAreIrredundant, SimpleFormulasAreNoLarger}
 use Rattle.tidy_indices.specs.declared.spans.Span.{Span}
 use Rattle.tidy_indices.specs.Reading.{reading, IsIndexFormula}
-use Rattle.tidy_indices.specs.Spans.{span_of}
+use Rattle.tidy_indices.specs.Spans.{span_of, narrowed}
 use Rattle.tidy_indices.specs.Around.{Around, InLoop, InIf, StandsIn}
-use Rattle.tidy_indices.specs.Places.{PlainPlace, ranges_outside, in_loop_of, in_loop, inside, asked_turn, with_turn_within, in_if, within, within_all, place_of}
-use Rattle.tidy_indices.specs.Tidy.{ranges_by, tidied_reading, tidied_at, tidy_formula}
+use Rattle.tidy_indices.specs.Places.{PlainPlace, ranges_outside, without_turns, in_loop_of, in_loop, inside, asked_turn, with_turn_within, in_if, within, within_all, place_of}
+use Rattle.tidy_indices.specs.Tidy.{tidied_by, tidied_reading, tidied_at, tidy_formula}
 use Rattle.tidy_indices.specs.Laws.{HaveIndexBounds, TidyFormulasKeepValues, TidyFormulasAreNoLarger, TidyFormulasAreIrredundant, TidyFormulasAreShort}
 use Rattle.tidy_indices.proofs.Known.{Known}
 use Rattle.tidy_indices.proofs.Sizes.{same_nodes}
@@ -31,6 +31,7 @@ use Rattle.tidy_indices.proofs.Items.{AreIds, of_item, of_none}
 use Rattle.tidy_indices.proofs.Readings.{is_read, index_reads}
 use Rattle.tidy_indices.proofs.Worths.{simple_worth}
 use Rattle.tidy_indices.proofs.Intervals.{AreSizesOf, is_shown, is_ranged}
+use Rattle.tidy_indices.proofs.Narrowed.{same_spelled, same_span, same_literals, are_within, same_short, are_declared}
 use Rattle.tidy_indices.proofs.Turns.{Holds, place_is_of, place_holds, turns_fit, turns_up_to, are_below_lengths, multiples_at, sizes_fit, sizes_within, sizes_divide, shown_value}
 
 -- ---- values
@@ -42,19 +43,21 @@ module _ (facts : Known) (names : List Name) (ids : Ids) (fit : AreWords ids.siz
     worth : value ids loops variables (index_formula e) ≡ Some n
     worth = ap (value ids loops variables) (is_read f e read).same ∙ is
 
-    ranged_value : (s : Span) → span_of p.sizes p.lasts e ≡ Some s → value ids loops variables (simple_formula p.around e) ≡ Some n
+    ranged_value : (s : Span) → span_of p.sizes p.lasts e ≡ Some s → value ids loops variables (simple_formula p.around (narrowed p.lasts e)) ≡ Some n
     ranged_value s span =
         let turns = turns_of ids loops in
         let it = is_read f e read in
         let up_to = turns_up_to names ids.sizes fit sizes_are all p.around.lengths p.lasts turns (h.known known) in
-        let shown = is_shown names ids.sizes p.lasts turns sizes_are up_to e s it.literals (ap (λ z. span_of z p.lasts e) (sym h.is_of.sizes) ∙ span) in
-        let twice : Some n ≡ Some shown.at = sym worth ∙ shown_value facts names ids p.lasts loops variables sizes_are up_to e s fit words it.literals shown in
-        facts.simple p.around ids loops variables e shown.at fit words it.literals
-        (record { loops = are_below_lengths names ids.sizes fit sizes_are all p turns (h.known known); multiples = multiples_at names ids.sizes fit sizes_are all p h.is_of; own = it.wide turns words })
-        (is_ranged names ids.sizes p.lasts turns sizes_are up_to e s shown) shown.divisors shown.exact_is
+        let index : Expression = narrowed p.lasts e in
+        let literals : HasWordLiterals index = same_literals p.lasts e it.literals in
+        let shown = is_shown names ids.sizes p.lasts turns sizes_are up_to index s literals (same_span p.lasts names e ∙ ap (λ z. span_of z p.lasts e) (sym h.is_of.sizes) ∙ span) in
+        let twice : Some n ≡ Some shown.at = sym worth ∙ ap (value ids loops variables) (sym (same_spelled p.lasts e)) ∙ shown_value facts names ids p.lasts loops variables sizes_are up_to index s fit words literals shown in
+        facts.simple p.around ids loops variables index shown.at fit words literals
+        (record { loops = are_below_lengths names ids.sizes fit sizes_are all p turns (h.known known); multiples = multiples_at names ids.sizes fit sizes_are all p h.is_of; own = are_within p.lasts turns up_to e (it.wide turns words) })
+        (is_ranged names ids.sizes p.lasts turns sizes_are up_to index s shown) shown.divisors shown.exact_is
         ∙ sym twice
 
-    by_span : (s : Option Span) → span_of p.sizes p.lasts e ≡ s → value ids loops variables (simple_formula (ranges_by p s) e) ≡ Some n
+    by_span : (s : Option Span) → span_of p.sizes p.lasts e ≡ s → value ids loops variables (tidied_by p s e) ≡ Some n
     by_span (Some s) span = ranged_value s span
     by_span None span = let it = is_read f e read in simple_worth facts p.around.multiples ids loops variables fit words (multiples_at names ids.sizes fit sizes_are all p h.is_of) e n it.literals it.wide worth
 
@@ -86,8 +89,12 @@ keep_values facts names bases local l are ok same at = record {
 itself : (f : Formula) → IsNoLarger f f
 itself f = record { declared = λ k loops h. h; constant = λ h. h; low = omega arith; nodes = omega arith }
 
+no_larger_span : SimpleFormulasAreNoLarger → (p : PlainPlace) (e : Expression) (s : Option Span) → IsNoLarger (index_formula e) (tidied_by p s e)
+no_larger_span small p e (Some s) = subst (λ z. IsNoLarger z (simple_formula p.around (narrowed p.lasts e))) (same_spelled p.lasts e) (small p.around (narrowed p.lasts e))
+no_larger_span small p e None = small (without_turns p.around) e
+
 no_larger_by : SimpleFormulasAreNoLarger → (p : PlainPlace) (f : Formula) (e : Option Expression) → reading f ≡ e → IsNoLarger f (tidied_reading p f e)
-no_larger_by small p f (Some e) read = let r = ranges_by p (span_of p.sizes p.lasts e) in subst (λ z. IsNoLarger z (simple_formula r e)) (is_read f e read).same (small r e)
+no_larger_by small p f (Some e) read = let s = span_of p.sizes p.lasts e in subst (λ z. IsNoLarger z (tidied_by p s e)) (is_read f e read).same (no_larger_span small p e s)
 no_larger_by small p f None read = itself f
 
 no_larger_at : SimpleFormulasAreNoLarger → (p : PlainPlace) (f : Formula) (b : Bool) → IsNoLarger f (if b then tidied_reading p f (reading f) else f)
@@ -121,28 +128,45 @@ all_known p [] each h = h
 all_known p (InLoop b ∷ around) each h = all_known (within p (InLoop b)) around each.1 (in_known p b each.0 h)
 all_known p (InIf s b ∷ around) each h = all_known (within p (InIf s b)) around each (if_known p (asked_turn s) (reading b) h)
 
--- there an index is simplified
+-- there an index is simplified, with narrower ranges or without
 record IsSimplifiedHere (p : PlainPlace) (f : Formula) (e : Expression) : Type 0 where
   ranges : PlainRanges
+  index : Expression
   multiples : ranges.multiples ≡ p.around.multiples
-  same : tidied_at p f ≡ simple_formula ranges e
+  short : short_nodes index ≡ short_nodes e
+  declared : AreDeclared ranges e → AreDeclared ranges index
+  same : tidied_at p f ≡ simple_formula ranges index
 
-ranges_multiples : (p : PlainPlace) (s : Option Span) → (ranges_by p s).multiples ≡ p.around.multiples
-ranges_multiples p (Some s) = refl
-ranges_multiples p None = refl
+tidied_of : (p : PlainPlace) (f : Formula) (e : Expression) → p.is_known ≡ true → reading f ≡ Some e → (s : Option Span) → span_of p.sizes p.lasts e ≡ s → tidied_at p f ≡ tidied_by p s e
+tidied_of p f e known read s span =
+    ap (λ (b : Bool). if b then tidied_reading p f (reading f) else f) known ∙ ap (tidied_reading p f) read ∙ ap (λ s. tidied_by p s e) span
+
+by_knowing : (p : PlainPlace) (f : Formula) (e : Expression) → p.is_known ≡ true → reading f ≡ Some e → (s : Option Span) → span_of p.sizes p.lasts e ≡ s → IsSimplifiedHere p f e
+by_knowing p f e known read (Some s) span = record {
+  ranges = p.around;
+  index = narrowed p.lasts e;
+  multiples = refl;
+  short = same_short p.lasts e;
+  declared = are_declared p.lasts p.around e;
+  same = tidied_of p f e known read (Some s) span;
+}
+by_knowing p f e known read None span = record {
+  ranges = without_turns p.around;
+  index = e;
+  multiples = refl;
+  short = refl;
+  declared = λ h. h;
+  same = tidied_of p f e known read None span;
+}
 
 simplified_here : (p : PlainPlace) (f : Formula) (e : Expression) → p.is_known ≡ true → reading f ≡ Some e → IsSimplifiedHere p f e
-simplified_here p f e known read = record {
-  ranges = ranges_by p (span_of p.sizes p.lasts e);
-  multiples = ranges_multiples p (span_of p.sizes p.lasts e);
-  same = ap (λ (b : Bool). if b then tidied_reading p f (reading f) else f) known ∙ ap (tidied_reading p f) read;
-}
+simplified_here p f e known read = by_knowing p f e known read (span_of p.sizes p.lasts e) refl
 
 pub irredundant : SimpleFormulasAreIrredundant → TidyFormulasAreIrredundant
 irredundant plain names local around f each is =
     let read = index_reads f is in
     let here = simplified_here (place_of names local around) f read.0 (all_known _ around each refl) read.1 in
-    subst IsIrredundant (sym here.same) (plain here.ranges read.0)
+    subst IsIrredundant (sym here.same) (plain here.ranges here.index)
 
 -- what is declared depends on what sizes are multiples of alone
 declared_by : (r q : PlainRanges) (e : Expression) → r.multiples ≡ q.multiples → AreDeclared r e → AreDeclared q e
@@ -153,7 +177,8 @@ short simplified names local around f e each read declared =
     let here = simplified_here (place_of names local around) f e (all_known _ around each refl) read in
     let of = place_is_of names local around in
     let fine = declared_by (ranges_outside names) here.ranges e (sym (here.multiples ∙ of.multiples)) declared in
-    let few = (simplified here.ranges e).short fine in
-    let count = same_nodes (simple here.ranges e) in
+    let few = (simplified here.ranges here.index).short (here.declared fine) in
+    let count = same_nodes (simple here.ranges here.index) in
     let same = ap formula_nodes here.same in
+    let short = here.short in
     omega arith

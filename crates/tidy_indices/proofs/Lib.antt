@@ -8,5 +8,6 @@ mod Readings
 mod Worths
 mod Intervals
 mod Items
+mod Narrowed
 mod Turns
 mod Kept

@@ -1,7 +1,8 @@
--- A simplified expression's spelling is of the kernel grammar where the expression's is, and no larger.
+-- A simplified expression's spelling is of the kernel grammar where the expression's is, and no
+-- larger.
 use Rattle.std.proofs.Common.{◌≡◌, ℕ, ◌^◌, Bool, true, false, refl, sym, ◌∙◌, arith}
-use Rattle.std.specs.Prelude.{◌&&◌, nat_lt}
-use Rattle.std.proofs.lemmas.Bool.{ltb-true, lt-ltb}
+use Rattle.std.specs.Prelude.{nat_lt}
+use Rattle.std.proofs.lemmas.Bool.{and_from, and_parts, ltb-true, lt-ltb}
 use Rattle.index_expr.specs.declared.operation.Operation.{Operation}
 use Rattle.index_expr.specs.declared.operation.Operation.TheVariants.{Sum, Difference, Product, Quotient, Remainder, Least, Greatest}
 use Rattle.index_expr.specs.Expression.{Expression, Variable, Literal, Size, Binary, nodes}
@@ -16,14 +17,6 @@ use Rattle.index_simplify.specs.Promises.{ExpressionsAreSimplified}
 use Rattle.tidy_indices.specs.Formulas.{formula_nodes}
 use Rattle.tidy_indices.specs.Spelling.{SimpleFormulasAreNoLarger}
 use Rattle.tidy_indices.proofs.Spelled.{turn_nodes, turn_height, turn_varies}
-
-both : (a b : Bool) → (a && b) ≡ true → (a ≡ true) × (b ≡ true)
-both true b e = (refl, e)
-both false b e = absurd (cc e)
-
-and_both : (a b : Bool) → a ≡ true → b ≡ true → (a && b) ≡ true
-and_both true b p q = q
-and_both false b p q = absurd (cc p)
 
 pub same_nodes : (e : Expression) → formula_nodes (index_formula e) ≡ nodes e
 same_nodes (Variable k l g) = turn_nodes k
@@ -61,19 +54,19 @@ module _ (k : Kernel) (loops : ℕ) where
   names_of (Literal n) h = (refl, ltb-true n (2 ^ 32) h)
   names_of (Size s) h = (h, tt)
   names_of (Binary o a b) h =
-      let parts = both (is_operator (operator_of o)) _ h in
-      let args = both (names_declared k loops (index_formula a)) (names_declared k loops (index_formula b)) parts.1 in
+      let parts = and_parts (is_operator (operator_of o)) _ h in
+      let args = and_parts (names_declared k loops (index_formula a)) (names_declared k loops (index_formula b)) parts.1 in
       let x = names_of a args.0 in
       let y = names_of b args.1 in
-      (and_both (AreNames a) (AreNames b) x.0 y.0, (x.1, y.1))
+      (and_from (AreNames a) (AreNames b) x.0 y.0, (x.1, y.1))
 
   names_back : (e : Expression) → AreNames e ≡ true → HasWordLiterals e → names_declared k loops (index_formula e) ≡ true
   names_back (Variable i l g) h w = h
   names_back (Literal n) h w = lt-ltb n (2 ^ 32) w
   names_back (Size s) h w = h
   names_back (Binary o a b) h w =
-      let parts = both (AreNames a) (AreNames b) h in
-      and_both (is_operator (operator_of o)) _ (operators o) (and_both (names_declared k loops (index_formula a)) (names_declared k loops (index_formula b)) (names_back a parts.0 w.0) (names_back b parts.1 w.1))
+      let parts = and_parts (AreNames a) (AreNames b) h in
+      and_from (is_operator (operator_of o)) _ (operators o) (and_from (names_declared k loops (index_formula a)) (names_declared k loops (index_formula b)) (names_back a parts.0 w.0) (names_back b parts.1 w.1))
 
 pub are_no_larger : ExpressionsAreSimplified → SimpleFormulasAreNoLarger
 are_no_larger simplified r e =

@@ -2,7 +2,7 @@
 use Rattle.std.proofs.Common.{◌≡◌, ℕ, zero, suc, false, Some, List, refl, ap}
 use Rattle.std.specs.Prelude.{slice_index}
 use Rattle.scalar_ops.specs.declared.op.Op.{Op}
-use Rattle.kernel_tree.specs.Formula.{Formula, Number, Size, LoopVariable, Binary, Ids, Vars, value}
+use Rattle.kernel_tree.specs.Formula.{Formula, Number, Size, Binary, Ids, Vars, value}
 use Rattle.kernel_tree.specs.Grammar.{height, is_constant}
 use Rattle.length_spelling.specs.Turns.{loop_turn, turn_formula, turns_of}
 use Rattle.tidy_indices.specs.Formulas.{formula_nodes}

@@ -3,7 +3,7 @@ use Rattle.std.proofs.Common.{◌≡◌, ℕ, zero, suc, pos, ◌-◌, ◌*◌, 
 use Rattle.std.specs.Prelude.{◌<ℤ◌, map, min, slice_get, slice_index}
 use Rattle.std.proofs.Math.Nat.{mul-mod_right}
 use Rattle.std.proofs.lemmas.Int.{ints}
-use Rattle.std.proofs.lemmas.List.{append-nil}
+use Rattle.std.proofs.lemmas.List.{append-nil, append_assoc}
 use Rattle.size_arith.specs.declared.names.Name.{Name}
 use Rattle.size_arith.specs.Ranges.{AreNames, Admissible, sizes_at}
 use Rattle.index_expr.specs.declared.operation.Operation.{Operation}
@@ -295,17 +295,13 @@ module _ (names : List Name) (sizes : List ℕ) (fit : AreWords sizes) (sizes_ar
       guarded_holds p loops (FromGlobalId d) b n h w lt = h
       guarded_holds p loops FromZero b n h w lt = h
 
-      append_more : (us : List ℕ) (t : ℕ) (ts : List ℕ) → (us ++ t ∷ []) ++ ts ≡ us ++ t ∷ ts
-      append_more [] t ts = refl
-      append_more (u ∷ us) t ts = ap (λ z. u ∷ z) (append_more us t ts)
-
       -- of the loops around, those that are outermost come first
       all_hold : (p : PlainPlace) (outer : List ℕ) (around : List Around) (turns : List ℕ) → Holds p (turns_of ids outer) → StandsIn ids around turns → Holds (within_all p around) (turns_of ids (outer ++ turns))
       all_hold p outer [] [] h stands = subst (λ us. Holds p (turns_of ids us)) (sym (append-nil outer)) h
       all_hold p outer [] (t ∷ turns) h stands = absurd stands
       all_hold p outer (InLoop b ∷ around) [] h stands = absurd stands
       all_hold p outer (InLoop b ∷ around) (t ∷ turns) h stands =
-          subst (λ us. Holds (within_all (inside p b) around) (turns_of ids us)) (append_more outer t turns)
+          subst (λ us. Holds (within_all (inside p b) around) (turns_of ids us)) (append_assoc outer (t ∷ []) turns)
           (all_hold (inside p b) (outer ++ t ∷ []) around turns (in_holds p (turns_of ids outer) b stands.0 t h (subst (λ z. bound_value z b ≡ Some stands.0) same stands.1) stands.2 (reading b) refl) stands.3)
       all_hold p outer (InIf s b ∷ around) turns h stands =
           all_hold (guarded p s b) outer around turns (guarded_holds p outer s b stands.0 h (subst (λ z. bound_value z b ≡ Some stands.0) same stands.1) stands.2) stands.3

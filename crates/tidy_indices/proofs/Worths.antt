@@ -1,8 +1,10 @@
--- By the laws that know of no loop, an expression keeps its value on words, also where something in it wraps: one lemma a law.
-use Rattle.std.proofs.Common.{◌≡◌, ◌≢◌, ℕ, zero, suc, ◌+◌, ◌-◌, ◌*◌, ◌/◌, ◌%◌, ◌^◌, ◌<◌, ◌≤◌, Bool, true, false, Option, Some, None, List, [], refl, sym, ap, ◌∙◌, subst, ⊎_elim, arith}
+-- By the laws that know of no loop, an expression keeps its value on words, also where something in
+-- it wraps: one lemma a law.
+use Rattle.std.proofs.Common.{◌≡◌, ◌≢◌, ℕ, zero, suc, ◌+◌, ◌-◌, ◌*◌, ◌/◌, ◌%◌, ◌^◌, ◌<◌, ◌≤◌, Bool, true, false, Option, Some, None, List, [], refl, sym, ap, ◌∙◌, subst, arith}
 use Rattle.std.specs.Prelude.{◌==◌, ◌&&◌, ◌||◌, nat_lt, nat_le, is_some, unwrap_or, option_map, if◌then◌else◌, slice_get, slice_index, replicate}
 use Rattle.std.proofs.Math.Nat.{mod-lt, mod-le, mod-eq_of_lt, div-le_self, div-add-mod, mul_assoc, mul_comm, div-one, mod-one}
-use Rattle.std.proofs.lemmas.Bool.{and_parts, cases_Bool, eqb-true, eq-eqb, ltb-true, leb-true}
+use Rattle.std.proofs.lemmas.Bool.{and_parts, false_from_ne_true, eqb-true, eq-eqb, ltb-true, leb-true}
+use Rattle.std.proofs.lemmas.Option.{same_Some}
 use Rattle.index_expr.specs.declared.operation.Operation.{Operation}
 use Rattle.index_expr.specs.declared.operation.Operation.TheVariants.{Sum, Difference, Product, Quotient, Remainder, Least, Greatest}
 use Rattle.index_expr.specs.Expression.{Expression, Variable, Literal, Size, Binary}
@@ -58,7 +60,7 @@ word_of_result Greatest x y h k = omega arith
 
 -- ---- an operation with its result
 nonzero : (n : ℕ) → n ≢ 0 → (n == 0) ≡ false
-nonzero n h = ⊎_elim (λ t. absurd (h (eqb-true n 0 t))) (λ f. f) (cases_Bool (n == 0))
+nonzero n h = false_from_ne_true (n == 0) (λ t. h (eqb-true n 0 t))
 
 result_is : (o : Operation) (x y : ℕ) → (Divides o → y ≢ 0) → operate (operator_of o) x y ≡ Some (operate_words o x y)
 result_is Sum x y h = refl
@@ -407,13 +409,10 @@ module _ (facts : Known) (multiples : List ℕ) where
         ap (λ z. with_both (operate (operator_of o)) z (value ids loops variables (index_formula b))) p
         ∙ ap (with_both (operate (operator_of o)) (Some x)) q ∙ result_is o x y d
 
-    some : (m n : ℕ) → Some m ≡ Some n → m ≡ n
-    some m n e = cc e
-
     pub word_of : (e : Expression) (n : ℕ) → HasWordLiterals e → IsWorth e n → n < 2 ^ 32
-    word_of (Variable k l g) n h w = subst (λ z. z < 2 ^ 32) (some _ _ (sym (turn_value ids loops variables k) ∙ w)) (turns_fit k)
-    word_of (Literal m) n h w = subst (λ z. z < 2 ^ 32) (some _ _ w) h
-    word_of (Size k) n h w = subst (λ z. z < 2 ^ 32) (some _ _ w) (sizes_fit k)
+    word_of (Variable k l g) n h w = subst (λ z. z < 2 ^ 32) (same_Some _ _ (sym (turn_value ids loops variables k) ∙ w)) (turns_fit k)
+    word_of (Literal m) n h w = subst (λ z. z < 2 ^ 32) (same_Some _ _ w) h
+    word_of (Size k) n h w = subst (λ z. z < 2 ^ 32) (same_Some _ _ w) (sizes_fit k)
     word_of (Binary o a b) n h w =
         let p = parts o (index_formula a) (index_formula b) n w in
         subst (λ z. z < 2 ^ 32) (sym p.is_result.result) (word_of_result o p.first p.second (word_of a p.first h.0 p.first_is) (word_of b p.second h.1 p.second_is))
@@ -424,7 +423,7 @@ module _ (facts : Known) (multiples : List ℕ) where
         let tests = and_parts (same_operation o p) (is_number k b) h in
         let q = parts o (index_formula a) (index_formula b) n w in
         let is = number_is k b tests.1 in
-        let same : q.second ≡ k = some _ _ (sym q.second_is ∙ ap (λ e. value ids loops variables (index_formula e)) is) in
+        let same : q.second ≡ k = same_Some _ _ (sym q.second_is ∙ ap (λ e. value ids loops variables (index_formula e)) is) in
         (q.first, q.first_is, q.is_result.result ∙ ap (λ x. operate_words x q.first q.second) (facts.operations o p tests.0) ∙ ap (operate_words p q.first) same)
 
     first_known : (o p : Operation) (k n : ℕ) (a b : Expression) → (same_operation o p && is_number k a) ≡ true → IsWorth (Binary o a b) n → (y : ℕ) × (IsWorth b y) × (n ≡ operate_words p k y)
@@ -432,7 +431,7 @@ module _ (facts : Known) (multiples : List ℕ) where
         let tests = and_parts (same_operation o p) (is_number k a) h in
         let q = parts o (index_formula a) (index_formula b) n w in
         let is = number_is k a tests.1 in
-        let same : q.first ≡ k = some _ _ (sym q.first_is ∙ ap (λ e. value ids loops variables (index_formula e)) is) in
+        let same : q.first ≡ k = same_Some _ _ (sym q.first_is ∙ ap (λ e. value ids loops variables (index_formula e)) is) in
         (q.second, q.second_is, q.is_result.result ∙ ap (λ x. operate_words x q.first q.second) (facts.operations o p tests.0) ∙ ap (λ z. operate_words p z q.second) same)
 
     -- the second stands where it has the first's worth
@@ -456,8 +455,8 @@ module _ (facts : Known) (multiples : List ℕ) where
     computed_worth o a b n lits h w =
         let l = are_literals o a b h in
         let q = parts o (index_formula a) (index_formula b) n w in
-        let first : l.first ≡ q.first = some _ _ (sym (ap (λ e. value ids loops variables (index_formula e)) l.first_is) ∙ q.first_is) in
-        let second : l.second ≡ q.second = some _ _ (sym (ap (λ e. value ids loops variables (index_formula e)) l.second_is) ∙ q.second_is) in
+        let first : l.first ≡ q.first = same_Some _ _ (sym (ap (λ e. value ids loops variables (index_formula e)) l.first_is) ∙ q.first_is) in
+        let second : l.second ≡ q.second = same_Some _ _ (sym (ap (λ e. value ids loops variables (index_formula e)) l.second_is) ∙ q.second_is) in
         let both_are : computed o a b ≡ computed_from o l.first l.second = ap (λ e. computed o e b) l.first_is ∙ ap (computed o (Literal l.first)) l.second_is in
         let is = from_computed o l.first l.second (subst HasWordLiterals l.first_is lits) (subst (λ z. is_some z ≡ true) both_are h) in
         ap Some (ap (λ z. unwrap_or z 0) both_are ∙ is ∙ ap (λ z. operate_words o z l.second) first ∙ ap (operate_words o q.first) second ∙ sym q.is_result.result)
@@ -466,7 +465,7 @@ module _ (facts : Known) (multiples : List ℕ) where
     minus_worth o a b n lits h w =
         let tests = and_parts (same_operation o Difference) (same a b) h in
         let q = parts o (index_formula a) (index_formula b) n w in
-        let alike : q.first ≡ q.second = some _ _ (sym q.first_is ∙ ap (value ids loops variables) (same_formula facts.operations a b tests.1) ∙ q.second_is) in
+        let alike : q.first ≡ q.second = same_Some _ _ (sym q.first_is ∙ ap (value ids loops variables) (same_formula facts.operations a b tests.1) ∙ q.second_is) in
         ap Some (sym (q.is_result.result ∙ ap (λ x. operate_words x q.first q.second) (facts.operations o Difference tests.0) ∙ ap (operate_words Difference q.first) (sym alike) ∙ minus_same q.first (word_of a q.first lits q.first_is)))
 
     -- ---- a literal times a size over its divisor
@@ -483,9 +482,9 @@ module _ (facts : Known) (multiples : List ℕ) where
     scaled_worth o a b n h p w =
         let q = parts o (index_formula a) (index_formula b) n w in
         let over : HasParts Quotient (formula.Size p.number) (formula.Number p.divisor) q.second = parts Quotient (formula.Size p.number) (formula.Number p.divisor) q.second (ap (λ e. value ids loops variables (index_formula e)) (sym p.second_is) ∙ q.second_is) in
-        let times : q.first ≡ p.times = some _ _ (sym q.first_is ∙ ap (λ e. value ids loops variables (index_formula e)) p.first_is) in
-        let size : over.first ≡ slice_index ids.sizes p.number = some _ _ (sym over.first_is) in
-        let divisor : over.second ≡ p.divisor = some _ _ (sym over.second_is) in
+        let times : q.first ≡ p.times = same_Some _ _ (sym q.first_is ∙ ap (λ e. value ids loops variables (index_formula e)) p.first_is) in
+        let size : over.first ≡ slice_index ids.sizes p.number = same_Some _ _ (sym over.first_is) in
+        let divisor : over.second ≡ p.divisor = same_Some _ _ (sym over.second_is) in
         let quotient : q.second ≡ slice_index ids.sizes p.number / p.divisor = over.is_result.result ∙ ap (λ z. z / over.second) size ∙ ap (λ z. slice_index ids.sizes p.number / z) divisor in (
           q.is_result.result ∙ ap (λ x. operate_words x q.first q.second) (facts.operations o Product h) ∙ ap (λ z. operate_words Product z q.second) times ∙ ap (operate_words Product p.times) quotient,
           λ z. over.is_result.divisor tt (divisor ∙ z),
@@ -522,9 +521,9 @@ module _ (facts : Known) (multiples : List ℕ) where
         let begin = parts Product (formula.Binary (operator_of Quotient) (index_formula p.number) p.divisor) p.divisor q.first (ap (value ids loops variables) (sym p.first_is) ∙ q.first_is) in
         let row = parts Quotient (index_formula p.number) p.divisor begin.first begin.first_is in
         let column = parts Remainder (index_formula p.number) p.divisor q.second (ap (value ids loops variables) (sym p.second_is) ∙ q.second_is) in
-        let divisor : begin.second ≡ row.second = some _ _ (sym begin.second_is ∙ row.second_is) in
-        let other : column.second ≡ row.second = some _ _ (sym column.second_is ∙ row.second_is) in
-        let number : column.first ≡ row.first = some _ _ (sym column.first_is ∙ row.first_is) in
+        let divisor : begin.second ≡ row.second = same_Some _ _ (sym begin.second_is ∙ row.second_is) in
+        let other : column.second ≡ row.second = same_Some _ _ (sym column.second_is ∙ row.second_is) in
+        let number : column.first ≡ row.first = same_Some _ _ (sym column.first_is ∙ row.first_is) in
         let lt : row.first < 2 ^ 32 = word_of p.number row.first (subst HasWordLiterals p.number_is (first_words (first_part a) (first_words a lits))) row.first_is in
         let sum : n ≡ operate_words Sum q.first q.second = q.is_result.result ∙ ap (λ x. operate_words x q.first q.second) (facts.operations o Sum tests.0) in
         let is : n ≡ row.first = whole_from n q.first q.second begin.first begin.second row.first row.second column.first column.second sum begin.is_result.result row.is_result.result column.is_result.result divisor other number lt in

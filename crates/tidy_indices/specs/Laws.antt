@@ -39,8 +39,8 @@ HaveIndexBounds [] = Unit {0}
 HaveIndexBounds (InLoop b ∷ around) = IsIndexFormula b × HaveIndexBounds around
 HaveIndexBounds (InIf s b ∷ around) = HaveIndexBounds around
 
--- a launch of a kernel that asks for groups of this size, where it asks for one: groups are whole, and
--- a row has items, at most 65,536
+-- a launch of a kernel that asks for groups of this size, where it asks for one: groups are whole,
+-- and a row has items, at most 65,536
 pub record IsLaunchFor (local : Option (ℕ × ℕ)) (l : Launch) : Type 0 where
   pub whole : IsWhole l
   pub size : HasLocal local l
@@ -65,7 +65,8 @@ TidyFormulasAreIrredundant =
     → HaveIndexBounds around → IsIndexFormula f
     → IsIrredundant (tidy_formula names local around f)
 
--- where sizes are divided by what they are declared multiples of, it has no more nodes than are counted in short
+-- where sizes are divided by what they are declared multiples of, it has no more nodes than are
+-- counted in short
 abbrev pub TidyFormulasAreShort : Type 0
 TidyFormulasAreShort =
     (names : List Name) (local : Option (ℕ × ℕ)) (around : List Around) (f : Formula)

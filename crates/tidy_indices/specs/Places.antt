@@ -14,8 +14,8 @@ use Rattle.tidy_indices.specs.Reading.{reading}
 use Rattle.tidy_indices.specs.Spans.{span_of}
 use Rattle.tidy_indices.specs.Around.{Around, InLoop, InIf}
 
--- the declared sizes, the lengths of the turns and what sizes are multiples of, how great each turn is
--- at most, and whether each bound spells an index expression
+-- the declared sizes, the lengths of the turns and what sizes are multiples of, how great each turn
+-- is at most, and whether each bound spells an index expression
 pub record PlainPlace : Type 0 where
   pub sizes : List Name
   pub around : PlainRanges
@@ -93,7 +93,8 @@ asked_turn (FromGroupId X) = Some 0
 asked_turn (FromLocalId X) = Some 1
 asked_turn _ = None
 
--- the shorter of two lengths in numbers; else the one that is told last
+-- the shorter of two lengths in numbers; else the one that is told last, since how great the turn is
+-- at most tells the number too
 abbrev pub shorter : (known told : Expression) → Expression
 shorter (Literal m) (Literal n) = Literal (min m n)
 shorter _ e = e

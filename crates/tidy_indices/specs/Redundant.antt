@@ -1,4 +1,5 @@
--- The shapes that no index and no bound of a kernel has a part of: something simpler has their value, whatever the ranges.
+-- The shapes that no index and no bound of a kernel has a part of: something simpler has their
+-- value, whatever the ranges.
 use Rattle.std.specs.Prelude.{ℕ, ◌+◌, ◌*◌, ◌^◌, ◌<◌, min, max}
 use Rattle.scalar_ops.specs.declared.op.Op.TheVariants.{Add, Sub, Mul, Min, Max, Div, Rem}
 use Rattle.kernel_tree.specs.Formula.{Formula, Number, Binary, Choose}

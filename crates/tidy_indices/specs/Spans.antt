@@ -1,5 +1,6 @@
--- Between which words the value of an index expression lies, where intervals show that nothing in it wraps.
-use Rattle.std.specs.Prelude.{ℕ, zero, suc, ◌+◌, ◌-◌, ◌*◌, ◌/◌, nat_lt, min, max, if◌then◌else◌, List, Option, Some, None, slice_get}
+-- Between which words the value of an index expression lies, where intervals show that nothing in
+-- it wraps.
+use Rattle.std.specs.Prelude.{ℕ, zero, suc, ◌+◌, ◌-◌, ◌*◌, ◌/◌, nat_lt, min, max, if◌then◌else◌, List, Option, Some, None, unwrap_or, slice_get}
 use Rattle.size_arith.specs.declared.names.Name.{Name}
 use Rattle.index_expr.specs.declared.operation.Operation.{Operation}
 use Rattle.index_expr.specs.declared.operation.Operation.TheVariants.{Sum, Difference, Product, Quotient, Remainder, Least, Greatest}
@@ -47,3 +48,14 @@ span_of names lasts (Variable k l g) = turns_up_to (slice_get lasts k)
 span_of names lasts (Literal n) = Some (from_to n n)
 span_of names lasts (Size k) = declared_from_to (slice_get names k)
 span_of names lasts (Binary o a b) = operated_on o (span_of names lasts a) (span_of names lasts b)
+
+-- where the range of a turn's variable ends: an id's where its turn does, as far as that is known
+abbrev pub narrowed_end : (lasts : List ℕ) → (turn end : ℕ) → ℕ
+narrowed_end lasts k g = if nat_lt k 2 then unwrap_or (slice_get lasts k) g else g
+
+-- the range of each id ends where its turn does; that of a loop's variable stays
+abbrev pub narrowed : (lasts : List ℕ) → Expression → Expression
+narrowed lasts (Variable k l g) = Variable k l (narrowed_end lasts k g)
+narrowed lasts (Literal n) = Literal n
+narrowed lasts (Size k) = Size k
+narrowed lasts (Binary o a b) = Binary o (narrowed lasts a) (narrowed lasts b)

@@ -5,13 +5,12 @@ ghost use Rattle.index_expr.specs.Expression.{expression_of};
 ghost use Rattle.kernel_tree.specs.Tree.{formula_of, start_of};
 ghost use Rattle.index_simplify.specs.PlainRanges.{ranges_of};
 ghost use Rattle.tidy_indices.specs.Places as spec;
-ghost use Rattle.tidy_indices.specs.Formulas.{simple_formula};
 ghost use Rattle.tidy_indices.specs.Spans.{span_of};
 ghost use Rattle.tidy_indices.specs.Tidy as tidy;
 
 use crate::copies::copied;
 use crate::reading::reading;
-use crate::spans::span_of;
+use crate::spans::{narrowed, span_of};
 use crate::spelling::spell_simplified;
 use index_expr::{Index, Operation};
 use index_simplify::{Ranges, simplified};
@@ -20,8 +19,8 @@ use length_spelling::Turn;
 use size_arith::{Name, Names};
 use std::alloc::{AllocError, Global};
 
-/// What is known at a place in a kernel: of the sizes, of a work-item's ids, and of the loops and ifs
-/// around.
+/// What is known at a place in a kernel: of the sizes, of a work-item's ids, and of the loops and
+/// ifs around.
 #[derive(Drop)]
 pub struct Place {
     sizes: Vec<Name>,
@@ -113,7 +112,8 @@ fn asked_turn(start: Start) -> Option<u32>
     }
 }
 
-// The shorter of two lengths in numbers; else the one that is told last.
+// The shorter of two lengths in numbers; else the one that is told last, since how great the turn is
+// at most tells the number too.
 fn shorter(known: &Index, told: Index) -> Index
     ensures { expression_of result ≡ spec.shorter (expression_of known.now) (expression_of told) }
 {
@@ -271,14 +271,16 @@ impl Place {
 
     // What is of use for an expression here: what is known of turns is so where nothing wraps.
     fn tidied_index(&self, alloc: Global, index: &Index) -> Result<Expr, AllocError>
-        ensures { IfOk result (λ e. formula_of e ≡ simple_formula
-            (tidy.ranges_by (spec.plain_place self.now)
+        ensures { IfOk result (λ e. formula_of e ≡ tidy.tidied_by (spec.plain_place self.now)
             (span_of (spec.plain_place self.now).sizes (spec.plain_place self.now).lasts
-            (expression_of index.now)))
+            (expression_of index.now))
             (expression_of index.now)) }
     {
         match span_of(&self.sizes, &self.lasts, index) {
-            Some(_) => spell_simplified(alloc, index, &self.around),
+            Some(_) => {
+                let index = narrowed(alloc, index, &self.lasts)?;
+                spell_simplified(alloc, &index, &self.around)
+            }
             None => spell_simplified(alloc, index, &without_turns(alloc, &self.around)?),
         }
     }

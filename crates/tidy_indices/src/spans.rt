@@ -1,12 +1,13 @@
 //! Between which words the value of an index expression lies.
 
-ghost use Rattle.std.specs.Prelude.{◌≡◌};
+ghost use Rattle.std.specs.Prelude.{◌≡◌, IfOk};
 ghost use Rattle.index_expr.specs.declared.operation.Operation.TheVariants as operation;
 ghost use Rattle.index_expr.specs.Expression.{expression_of};
 ghost use Rattle.tidy_indices.specs.Spans as spec;
 
 use index_expr::{Index, Operation};
 use size_arith::Name;
+use std::alloc::{AllocError, Global};
 
 /// From the least to the greatest.
 #[derive(Clone, Copy, PartialEq, Eq)]
@@ -115,6 +116,45 @@ pub fn span_of(names: &[Name], lasts: &[u32], index: &Index) -> Option<Span>
             let a = span_of(names, lasts, a);
             let b = span_of(names, lasts, b);
             operated_on(*operation, a, b)
+        }
+    }
+}
+
+// How many turns are ids: a group's, and an item's in its group. Those behind them are loops'.
+const IDS: u32 = 2;
+
+// Where the range of a turn's variable ends: an id's where its turn does, as far as that is known.
+fn narrowed_end(lasts: &[u32], turn: u32, end: u32) -> u32
+    ensures { result ≡ spec.narrowed_end lasts.now turn end }
+{
+    if turn < IDS {
+        lasts.get(turn as usize).copied().unwrap_or(end)
+    } else {
+        end
+    }
+}
+
+/// The same index expression, where the range of each id ends where its turn does. A loop's variable
+/// keeps its range, so a kernel for groups of any size is what its loops' lengths alone make of it.
+pub fn narrowed(alloc: Global, index: &Index, lasts: &[u32]) -> Result<Index, AllocError>
+    ensures { IfOk result (λ e. expression_of e
+        ≡ spec.narrowed lasts.now (expression_of index.now)) }
+{
+    match index {
+        Index::Variable {
+            number,
+            least,
+            greatest,
+        } => Ok(Index::Variable {
+            number: *number,
+            least: *least,
+            greatest: narrowed_end(lasts, *number, *greatest),
+        }),
+        Index::Literal(n) => Ok(Index::Literal(*n)),
+        Index::Size(number) => Ok(Index::Size(*number)),
+        Index::Binary(operation, a, b) => {
+            let a = narrowed(alloc, a, lasts)?;
+            Index::binary(alloc, *operation, a, narrowed(alloc, b, lasts)?)
         }
     }
 }

@@ -1,7 +1,7 @@
 -- A tidied kernel is of the kernel grammar.
-use Rattle.std.proofs.Common.{◌≡◌, ℕ, suc, Bool, true, false, List, [], ◌∷◌, ◌++◌, nat_lt, refl, sym, ap, ◌∙◌, arith}
+use Rattle.std.proofs.Common.{◌≡◌, ℕ, suc, true, List, [], ◌∷◌, ◌++◌, nat_lt, refl, sym, ap, ◌∙◌, arith}
 use Rattle.std.specs.Prelude.{◌&&◌, ◌||◌, nat_le}
-use Rattle.std.proofs.lemmas.Bool.{leb-true, le-leb}
+use Rattle.std.proofs.lemmas.Bool.{and_from, and_parts, leb-true, le-leb}
 use Rattle.kernel_tree.specs.Formula.{Formula, Number, Variable, LoopVariable, Size, Id, Binary, Choose, Lanes, Vector, Spread, Each}
 use Rattle.kernel_tree.specs.Code.{Array, Input, Output, Local, Private, Code, End, Assigns, Loads, Stores, AssignsFour, LoadsFour, StoresFour, Loops, Guards, Syncs, Kernel}
 use Rattle.kernel_tree.specs.Grammar.{deepest, height, is_constant, names_declared, is_expression, is_readable, is_writable, is_shared, lanes_height, names_declared_in_lanes, are_lanes, has_statement, are_statements, are_lengths, is_group_size}
@@ -9,14 +9,6 @@ use Rattle.tidy_indices.specs.Around.{Around, InLoop, InIf}
 use Rattle.tidy_indices.specs.Laws.{Change, KeepsSmall}
 use Rattle.tidy_kernels.specs.Pass.{tidied_code, tidied_kernel}
 use Rattle.tidy_kernels.specs.Laws.{TidiedKernelsAreKernels}
-
-both : (a b : Bool) → a ≡ true → b ≡ true → (a && b) ≡ true
-both true b h k = k
-both false b h k = absurd (cc)
-
-parts : (a b : Bool) → (a && b) ≡ true → (a ≡ true) × (b ≡ true)
-parts true b h = (refl, h)
-parts false b h = absurd (cc h)
 
 module _ (k m : Kernel) (sizes : k.sizes ≡ m.sizes) (variables : k.variables ≡ m.variables) (vectors : k.vectors ≡ m.vectors) where
   -- what a formula may name hangs on these counts alone
@@ -41,20 +33,20 @@ module _ (tidy : Change) (k : Kernel) (small : KeepsSmall tidy) where
 
   kept : (l : ℕ) (f : Formula) → is_expression k l f ≡ true → is_expression tidied l f ≡ true
   kept l f h =
-      let p = parts (names_declared k l f) (nat_le (height f) deepest) h in
-      both (names_declared tidied l f) (nat_le (height f) deepest) (sym (same_names k tidied refl refl refl l f) ∙ p.0) p.1
+      let p = and_parts (names_declared k l f) (nat_le (height f) deepest) h in
+      and_from (names_declared tidied l f) (nat_le (height f) deepest) (sym (same_names k tidied refl refl refl l f) ∙ p.0) p.1
 
   kept_lanes : (l : ℕ) (e : Lanes) → are_lanes k l e ≡ true → are_lanes tidied l e ≡ true
   kept_lanes l e h =
-      let p = parts (names_declared_in_lanes k l e) (nat_le (lanes_height e) deepest) h in
-      both (names_declared_in_lanes tidied l e) (nat_le (lanes_height e) deepest) (sym (same_names_in_lanes k tidied refl refl refl l e) ∙ p.0) p.1
+      let p = and_parts (names_declared_in_lanes k l e) (nat_le (lanes_height e) deepest) h in
+      and_from (names_declared_in_lanes tidied l e) (nat_le (lanes_height e) deepest) (sym (same_names_in_lanes k tidied refl refl refl l e) ∙ p.0) p.1
 
   made : (l : ℕ) (around : List Around) (f : Formula) → is_expression k l f ≡ true → is_expression tidied l (tidy around f) ≡ true
   made l around f h =
-      let p = parts (names_declared tidied l f) (nat_le (height f) deepest) (kept l f h) in
+      let p = and_parts (names_declared tidied l f) (nat_le (height f) deepest) (kept l f h) in
       let low = (small around f).low in
       let fits = leb-true (height f) deepest p.1 in
-      both (names_declared tidied l (tidy around f)) (nat_le (height (tidy around f)) deepest) ((small around f).declared tidied l p.0) (le-leb (height (tidy around f)) deepest (omega arith))
+      and_from (names_declared tidied l (tidy around f)) (nat_le (height (tidy around f)) deepest) ((small around f).declared tidied l p.0) (le-leb (height (tidy around f)) deepest (omega arith))
 
   readable : (a : Array) → is_readable k a ≡ true → is_readable tidied a ≡ true
   readable (Input n) h = h
@@ -83,74 +75,74 @@ module _ (tidy : Change) (k : Kernel) (small : KeepsSmall tidy) where
   are : (l d : ℕ) (around : List Around) (code : Code) → are_statements k l d code ≡ true → are_statements tidied l d (tidied_code tidy around code) ≡ true
   are l d around End h = refl
   are l d around (Assigns v e after) h =
-      let p = parts (nat_lt v k.variables) _ h in
-      let q = parts (is_expression k l e) _ p.1 in
-      both (nat_lt v k.variables) _ p.0 (both (is_expression tidied l e) _ (kept l e q.0) (are l d around after q.1))
+      let p = and_parts (nat_lt v k.variables) _ h in
+      let q = and_parts (is_expression k l e) _ p.1 in
+      and_from (nat_lt v k.variables) _ p.0 (and_from (is_expression tidied l e) _ (kept l e q.0) (are l d around after q.1))
   are l d around (Loads v a i after) h =
-      let p = parts (nat_lt v k.variables) _ h in
-      let q = parts (is_readable k a) _ p.1 in
-      let r = parts (is_expression k l i) _ q.1 in
-      both (nat_lt v k.variables) _ p.0 (both (is_readable tidied a) _ (readable a q.0) (both (is_expression tidied l (tidy around i)) _ (made l around i r.0) (are l d around after r.1)))
+      let p = and_parts (nat_lt v k.variables) _ h in
+      let q = and_parts (is_readable k a) _ p.1 in
+      let r = and_parts (is_expression k l i) _ q.1 in
+      and_from (nat_lt v k.variables) _ p.0 (and_from (is_readable tidied a) _ (readable a q.0) (and_from (is_expression tidied l (tidy around i)) _ (made l around i r.0) (are l d around after r.1)))
   are l d around (Stores a i e after) h =
-      let p = parts (is_writable k a) _ h in
-      let q = parts (is_expression k l i) _ p.1 in
-      let r = parts (is_expression k l e) _ q.1 in
-      both (is_writable tidied a) _ (writable a p.0) (both (is_expression tidied l (tidy around i)) _ (made l around i q.0) (both (is_expression tidied l e) _ (kept l e r.0) (are l d around after r.1)))
+      let p = and_parts (is_writable k a) _ h in
+      let q = and_parts (is_expression k l i) _ p.1 in
+      let r = and_parts (is_expression k l e) _ q.1 in
+      and_from (is_writable tidied a) _ (writable a p.0) (and_from (is_expression tidied l (tidy around i)) _ (made l around i q.0) (and_from (is_expression tidied l e) _ (kept l e r.0) (are l d around after r.1)))
   are l d around (AssignsFour v e after) h =
-      let p = parts (nat_lt v k.vectors) _ h in
-      let q = parts (are_lanes k l e) _ p.1 in
-      both (nat_lt v k.vectors) _ p.0 (both (are_lanes tidied l e) _ (kept_lanes l e q.0) (are l d around after q.1))
+      let p = and_parts (nat_lt v k.vectors) _ h in
+      let q = and_parts (are_lanes k l e) _ p.1 in
+      and_from (nat_lt v k.vectors) _ p.0 (and_from (are_lanes tidied l e) _ (kept_lanes l e q.0) (are l d around after q.1))
   are l d around (LoadsFour v a i after) h =
-      let p = parts (nat_lt v k.vectors) _ h in
-      let q = parts (is_shared a && is_readable k a) _ p.1 in
-      let r = parts (is_shared a) (is_readable k a) q.0 in
-      let t = parts (is_expression k l i) _ q.1 in
-      both (nat_lt v k.vectors) _ p.0
-      (both (is_shared a && is_readable tidied a) _ (both (is_shared a) (is_readable tidied a) r.0 (readable a r.1))
-      (both (is_expression tidied l (tidy around i)) _ (made l around i t.0) (are l d around after t.1)))
+      let p = and_parts (nat_lt v k.vectors) _ h in
+      let q = and_parts (is_shared a && is_readable k a) _ p.1 in
+      let r = and_parts (is_shared a) (is_readable k a) q.0 in
+      let t = and_parts (is_expression k l i) _ q.1 in
+      and_from (nat_lt v k.vectors) _ p.0
+      (and_from (is_shared a && is_readable tidied a) _ (and_from (is_shared a) (is_readable tidied a) r.0 (readable a r.1))
+      (and_from (is_expression tidied l (tidy around i)) _ (made l around i t.0) (are l d around after t.1)))
   are l d around (StoresFour a i e after) h =
-      let p = parts (is_shared a && is_writable k a) _ h in
-      let q = parts (is_shared a) (is_writable k a) p.0 in
-      let r = parts (is_expression k l i) _ p.1 in
-      let t = parts (are_lanes k l e) _ r.1 in
-      both (is_shared a && is_writable tidied a) _ (both (is_shared a) (is_writable tidied a) q.0 (writable a q.1))
-      (both (is_expression tidied l (tidy around i)) _ (made l around i r.0)
-      (both (are_lanes tidied l e) _ (kept_lanes l e t.0) (are l d around after t.1)))
+      let p = and_parts (is_shared a && is_writable k a) _ h in
+      let q = and_parts (is_shared a) (is_writable k a) p.0 in
+      let r = and_parts (is_expression k l i) _ p.1 in
+      let t = and_parts (are_lanes k l e) _ r.1 in
+      and_from (is_shared a && is_writable tidied a) _ (and_from (is_shared a) (is_writable tidied a) q.0 (writable a q.1))
+      (and_from (is_expression tidied l (tidy around i)) _ (made l around i r.0)
+      (and_from (are_lanes tidied l e) _ (kept_lanes l e t.0) (are l d around after t.1)))
   are l d around (Loops s b c body after) h =
-      let p = parts (nat_lt d deepest) _ h in
-      let q = parts (is_constant b) _ p.1 in
-      let r = parts (is_expression k l b) _ q.1 in
-      let t = parts (has_statement body) _ r.1 in
-      let u = parts (are_statements k (suc l) (suc d) body) _ t.1 in
-      both (nat_lt d deepest) _ p.0
-      (both (is_constant (tidy [] b)) _ ((small [] b).constant q.0)
-      (both (is_expression tidied l (tidy [] b)) _ (made l [] b r.0)
-      (both (has_statement (tidied_code tidy (around ++ InLoop b ∷ []) body)) _ (has (around ++ InLoop b ∷ []) body t.0)
-      (both (are_statements tidied (suc l) (suc d) (tidied_code tidy (around ++ InLoop b ∷ []) body)) _ (are (suc l) (suc d) (around ++ InLoop b ∷ []) body u.0) (are l d around after u.1)))))
+      let p = and_parts (nat_lt d deepest) _ h in
+      let q = and_parts (is_constant b) _ p.1 in
+      let r = and_parts (is_expression k l b) _ q.1 in
+      let t = and_parts (has_statement body) _ r.1 in
+      let u = and_parts (are_statements k (suc l) (suc d) body) _ t.1 in
+      and_from (nat_lt d deepest) _ p.0
+      (and_from (is_constant (tidy [] b)) _ ((small [] b).constant q.0)
+      (and_from (is_expression tidied l (tidy [] b)) _ (made l [] b r.0)
+      (and_from (has_statement (tidied_code tidy (around ++ InLoop b ∷ []) body)) _ (has (around ++ InLoop b ∷ []) body t.0)
+      (and_from (are_statements tidied (suc l) (suc d) (tidied_code tidy (around ++ InLoop b ∷ []) body)) _ (are (suc l) (suc d) (around ++ InLoop b ∷ []) body u.0) (are l d around after u.1)))))
   are l d around (Guards s b body after) h =
-      let p = parts (nat_lt d deepest) _ h in
-      let q = parts (is_constant b) _ p.1 in
-      let r = parts (is_expression k l b) _ q.1 in
-      let t = parts (has_statement body) _ r.1 in
-      let u = parts (are_statements k l (suc d) body) _ t.1 in
-      both (nat_lt d deepest) _ p.0
-      (both (is_constant (tidy [] b)) _ ((small [] b).constant q.0)
-      (both (is_expression tidied l (tidy [] b)) _ (made l [] b r.0)
-      (both (has_statement (tidied_code tidy (around ++ InIf s b ∷ []) body)) _ (has (around ++ InIf s b ∷ []) body t.0)
-      (both (are_statements tidied l (suc d) (tidied_code tidy (around ++ InIf s b ∷ []) body)) _ (are l (suc d) (around ++ InIf s b ∷ []) body u.0) (are l d around after u.1)))))
+      let p = and_parts (nat_lt d deepest) _ h in
+      let q = and_parts (is_constant b) _ p.1 in
+      let r = and_parts (is_expression k l b) _ q.1 in
+      let t = and_parts (has_statement body) _ r.1 in
+      let u = and_parts (are_statements k l (suc d) body) _ t.1 in
+      and_from (nat_lt d deepest) _ p.0
+      (and_from (is_constant (tidy [] b)) _ ((small [] b).constant q.0)
+      (and_from (is_expression tidied l (tidy [] b)) _ (made l [] b r.0)
+      (and_from (has_statement (tidied_code tidy (around ++ InIf s b ∷ []) body)) _ (has (around ++ InIf s b ∷ []) body t.0)
+      (and_from (are_statements tidied l (suc d) (tidied_code tidy (around ++ InIf s b ∷ []) body)) _ (are l (suc d) (around ++ InIf s b ∷ []) body u.0) (are l d around after u.1)))))
   are l d around (Syncs on_local on_global after) h =
-      let p = parts (on_local || on_global) _ h in
-      both (on_local || on_global) _ p.0 (are l d around after p.1)
+      let p = and_parts (on_local || on_global) _ h in
+      and_from (on_local || on_global) _ p.0 (are l d around after p.1)
 
 pub are_kernels : TidiedKernelsAreKernels
 are_kernels tidy k small h =
-    let p = parts (nat_lt 0 k.outputs) _ h in
-    let q = parts (are_lengths k.locals) _ p.1 in
-    let r = parts (are_lengths k.privates) _ q.1 in
-    let g = parts (is_group_size k.local) _ r.1 in
-    let t = parts (has_statement k.code) _ g.1 in
-    both (nat_lt 0 k.outputs) _ p.0
-    (both (are_lengths k.locals) _ q.0
-    (both (are_lengths k.privates) _ r.0
-    (both (is_group_size k.local) _ g.0
-    (both (has_statement (tidied_code tidy [] k.code)) _ (has tidy k small [] k.code t.0) (are tidy k small 0 0 [] k.code t.1)))))
+    let p = and_parts (nat_lt 0 k.outputs) _ h in
+    let q = and_parts (are_lengths k.locals) _ p.1 in
+    let r = and_parts (are_lengths k.privates) _ q.1 in
+    let g = and_parts (is_group_size k.local) _ r.1 in
+    let t = and_parts (has_statement k.code) _ g.1 in
+    and_from (nat_lt 0 k.outputs) _ p.0
+    (and_from (are_lengths k.locals) _ q.0
+    (and_from (are_lengths k.privates) _ r.0
+    (and_from (is_group_size k.local) _ g.0
+    (and_from (has_statement (tidied_code tidy [] k.code)) _ (has tidy k small [] k.code t.0) (are tidy k small 0 0 [] k.code t.1)))))

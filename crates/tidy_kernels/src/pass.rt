@@ -81,10 +81,10 @@ fn tidied_statement(
     }
 }
 
-/// The kernel with tidy indices and bounds: each index of a load or a store, and each offset of four,
-/// is simplified in the loops and ifs around it, and each bound of a loop or an `if` outside of all.
-/// An item's id in its group is known to be below the size that the kernel asks for, and each id that
-/// an `if` around asks of below the bound of that.
+/// The kernel with tidy indices and bounds: each index of a load or a store, and each offset of
+/// four, is simplified in the loops and ifs around it, and each bound of a loop or an `if` outside
+/// of all. An item's id in its group is known to be below the size that the kernel asks for, and
+/// each id that an `if` around asks of below the bound of that.
 pub fn tidied(alloc: Global, kernel: Kernel, names: &Names) -> Result<Kernel, AllocError>
     ensures { IfOk result (λ k. kernel_of k
         ≡ tidied_kernel (tidy_formula names.now kernel.local) (kernel_of kernel)) }

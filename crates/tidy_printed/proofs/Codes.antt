@@ -1,6 +1,6 @@
 -- The indices of loads and stores, and the bounds of loops, in the printer's code of an element and
 -- of a turn of a fold.
-use Rattle.std.proofs.Common.{ℕ, zero, suc, ◌+◌, Bool, true, false, List, [], ◌∷◌}
+use Rattle.std.proofs.Common.{ℕ, zero, suc, ◌+◌, Bool, true, false, List, [], ◌∷◌, Some, None}
 use Rattle.std.specs.Prelude.{Option}
 use Rattle.size_arith.specs.declared.names.Name.{Name}
 use Rattle.kernel_tree.specs.Formula.{Formula}
@@ -10,60 +10,68 @@ use Rattle.lift_ir.specs.Terms.{LoadSet, Skip, Take, Each, Term, Apply, ApplyNum
 use Rattle.printed_form.specs.Counts.{let_variables, load_count}
 use Rattle.printed_form.specs.Views.{Sign, Blank, Held, Read, View, held_sign, held_view, loaded_view}
 use Rattle.printed_form.specs.Printer.{or_number, sign_exprs, print_assigned, print_reassigned, print_element, print_store, print_load, print_stored, print_loaded, print_fold_turn}
-use Rattle.tidy_printed.specs.Indices.{EachIndexAndBound}
+use Rattle.tidy_printed.specs.Indices.{EachWithin, indices_then}
+use Rattle.tidy_printed.specs.Limits.{IndexNodes, index_limit, load_limits, store_limits}
 use Rattle.tidy_printed.proofs.Formulas.{Spelled}
 use Rattle.tidy_printed.proofs.Views.{NamesIndex, IsIndexed, part_indexed}
 
 module _ (names : List Name) where
-  abbrev pub Fine : Code → Type 0
-  Fine c = EachIndexAndBound (Spelled names) c
+  -- the code's indices and bounds, and then these, are within the limits
+  abbrev pub Fits : List ℕ → Code → (after : List Formula) → Type 0
+  Fits limits c fs = EachWithin (Spelled names) limits (indices_then c fs)
 
-  load_fine : (s : Sign) (v : ℕ) (rest : Code) → NamesIndex names s → Fine rest → Fine (print_load s v rest)
-  load_fine Blank v rest g f = f
-  load_fine (Held u) v rest g f = f
-  load_fine (Read a i) v rest g f = (g.0, f)
+  load_fine : (m : Option ℕ) (s : Sign) (v : ℕ) (rest : Code) (limits : List ℕ) (fs : List Formula) → NamesIndex names m s → Fits limits rest fs → Fits (index_limit m limits) (print_load s v rest) fs
+  load_fine None Blank v rest limits fs g f = f
+  load_fine None (Held u) v rest limits fs g f = f
+  load_fine (Some n) (Read a i) v rest limits fs g f = (g.0, f)
+  load_fine _ _ v rest limits fs g f = absurd g
 
-  store_fine : (s : Sign) (e : Formula) (rest : Code) → NamesIndex names s → Fine rest → Fine (print_store s e rest)
-  store_fine Blank e rest g f = f
-  store_fine (Held u) e rest g f = f
-  store_fine (Read a i) e rest g f = (g.0, f)
+  store_fine : (m : Option ℕ) (s : Sign) (e : Formula) (rest : Code) (limits : List ℕ) (fs : List Formula) → NamesIndex names m s → Fits limits rest fs → Fits (index_limit m limits) (print_store s e rest) fs
+  store_fine None Blank e rest limits fs g f = f
+  store_fine None (Held u) e rest limits fs g f = f
+  store_fine (Some n) (Read a i) e rest limits fs g f = (g.0, f)
+  store_fine _ _ e rest limits fs g f = absurd g
 
-  pub assigned_fine : (ty : Ty) (f : List Bool → Option Formula) (n : ℕ) (rest : Code) → Fine rest → Fine (print_assigned ty f n rest)
-  assigned_fine Scalar f n rest r = r
-  assigned_fine (PairOf a b) f n rest r = assigned_fine a (λ cs. f (false ∷ cs)) n (print_assigned b (λ cs. f (true ∷ cs)) (n + width a) rest) (assigned_fine b (λ cs. f (true ∷ cs)) (n + width a) rest r)
-  assigned_fine (ArrayOf m t) f n rest r = r
+  pub stored_fine : (ty : Ty) (f : List Bool → Option Formula) (m : IndexNodes) (w : View) (rest : Code) (limits : List ℕ) (fs : List Formula) → IsIndexed names m w → Fits limits rest fs → Fits (store_limits ty m limits) (print_stored ty f w rest) fs
+  stored_fine Scalar f m w rest limits fs g r = store_fine (m [] []) (w [] []) (or_number (f [])) rest limits fs (g [] [] [] tt) r
+  stored_fine (PairOf a b) f m w rest limits fs g r =
+      stored_fine a (λ cs. f (false ∷ cs)) (λ cs. m (false ∷ cs)) (λ cs. w (false ∷ cs)) (print_stored b (λ cs. f (true ∷ cs)) (λ cs. w (true ∷ cs)) rest) (store_limits b (λ cs. m (true ∷ cs)) limits) fs (part_indexed names m w false g)
+      (stored_fine b (λ cs. f (true ∷ cs)) (λ cs. m (true ∷ cs)) (λ cs. w (true ∷ cs)) rest limits fs (part_indexed names m w true g) r)
+  stored_fine (ArrayOf k t) f m w rest limits fs g r = r
 
-  reassigned_fine : (ty : Ty) (f : List Bool → Option Formula) (acc n : ℕ) (rest : Code) → Fine rest → Fine (print_reassigned ty f acc n rest)
-  reassigned_fine Scalar f acc n rest r = r
-  reassigned_fine (PairOf a b) f acc n rest r =
-      let again = print_assigned (PairOf a b) (λ cs. held_sign (held_view (PairOf a b) n cs [])) acc rest in
-      assigned_fine (PairOf a b) f n again (assigned_fine (PairOf a b) (λ cs. held_sign (held_view (PairOf a b) n cs [])) acc rest r)
-  reassigned_fine (ArrayOf m t) f acc n rest r = r
-
-  pub stored_fine : (ty : Ty) (f : List Bool → Option Formula) (w : View) (rest : Code) → IsIndexed names w → Fine rest → Fine (print_stored ty f w rest)
-  stored_fine Scalar f w rest g r = store_fine (w [] []) (or_number (f [])) rest (g [] [] tt) r
-  stored_fine (PairOf a b) f w rest g r =
-      stored_fine a (λ cs. f (false ∷ cs)) (λ cs. w (false ∷ cs)) (print_stored b (λ cs. f (true ∷ cs)) (λ cs. w (true ∷ cs)) rest) (part_indexed names w false g)
-      (stored_fine b (λ cs. f (true ∷ cs)) (λ cs. w (true ∷ cs)) rest (part_indexed names w true g) r)
-  stored_fine (ArrayOf m t) f w rest g r = r
-
-  pub loads_fine : (ls : LoadSet) (x : View) (n : ℕ) (rest : Code) → IsIndexed names x → Fine rest → Fine (print_loaded ls x n rest)
-  loads_fine Skip x n rest g f = f
-  loads_fine Take x n rest g f = load_fine (x [] []) n rest (g [] [] tt) f
-  loads_fine (Each a b) x n rest g f =
-      loads_fine a (λ cs. x (false ∷ cs)) n (print_loaded b (λ cs. x (true ∷ cs)) (n + load_count a) rest) (part_indexed names x false g)
-      (loads_fine b (λ cs. x (true ∷ cs)) (n + load_count a) rest (part_indexed names x true g) f)
+  pub loads_fine : (ls : LoadSet) (m : IndexNodes) (x : View) (n : ℕ) (rest : Code) (limits : List ℕ) (fs : List Formula) → IsIndexed names m x → Fits limits rest fs → Fits (load_limits ls m limits) (print_loaded ls x n rest) fs
+  loads_fine Skip m x n rest limits fs g f = f
+  loads_fine Take m x n rest limits fs g f = load_fine (m [] []) (x [] []) n rest limits fs (g [] [] [] tt) f
+  loads_fine (Each a b) m x n rest limits fs g f =
+      loads_fine a (λ cs. m (false ∷ cs)) (λ cs. x (false ∷ cs)) n (print_loaded b (λ cs. x (true ∷ cs)) (n + load_count a) rest) (load_limits b (λ cs. m (true ∷ cs)) limits) fs (part_indexed names m x false g)
+      (loads_fine b (λ cs. m (true ∷ cs)) (λ cs. x (true ∷ cs)) (n + load_count a) rest limits fs (part_indexed names m x true g) f)
 
   -- what stands for binders
-  abbrev pub AreIndexed : (ℕ → View) → Type 0
-  AreIndexed env = (v : ℕ) → IsIndexed names (env v)
+  abbrev pub AreIndexed : (ℕ → IndexNodes) → (ℕ → View) → Type 0
+  AreIndexed counts env = (v : ℕ) → IsIndexed names (counts v) (env v)
 
-  pub pushed : (env : ℕ → View) (x : View) → IsIndexed names x → AreIndexed env → AreIndexed (push x env)
-  pushed env x h all zero = h
-  pushed env x h all (suc v) = all v
+  pub pushed : (counts : ℕ → IndexNodes) (env : ℕ → View) (m : IndexNodes) (x : View) → IsIndexed names m x → AreIndexed counts env → AreIndexed (push m counts) (push x env)
+  pushed counts env m x h all zero = h
+  pushed counts env m x h all (suc v) = all v
 
-  module _ {A : Type 0} where
-    pub element_fine : (n : ℕ) (env : ℕ → View) (t : Term A) (rest : Code) → Fine rest → Fine (print_element env n t rest)
+  -- assignments have no index
+  module _ (limits : List ℕ) (fs : List Formula) where
+    abbrev Fine : Code → Type 0
+    Fine c = Fits limits c fs
+
+    pub assigned_fine : (ty : Ty) (f : List Bool → Option Formula) (n : ℕ) (rest : Code) → Fine rest → Fine (print_assigned ty f n rest)
+    assigned_fine Scalar f n rest r = r
+    assigned_fine (PairOf a b) f n rest r = assigned_fine a (λ cs. f (false ∷ cs)) n (print_assigned b (λ cs. f (true ∷ cs)) (n + width a) rest) (assigned_fine b (λ cs. f (true ∷ cs)) (n + width a) rest r)
+    assigned_fine (ArrayOf m t) f n rest r = r
+
+    pub reassigned_fine : (ty : Ty) (f : List Bool → Option Formula) (acc n : ℕ) (rest : Code) → Fine rest → Fine (print_reassigned ty f acc n rest)
+    reassigned_fine Scalar f acc n rest r = r
+    reassigned_fine (PairOf a b) f acc n rest r =
+        let again = print_assigned (PairOf a b) (λ cs. held_sign (held_view (PairOf a b) n cs [])) acc rest in
+        assigned_fine (PairOf a b) f n again (assigned_fine (PairOf a b) (λ cs. held_sign (held_view (PairOf a b) n cs [])) acc rest r)
+    reassigned_fine (ArrayOf m t) f acc n rest r = r
+
+    pub element_fine : {A : Type 0} → (n : ℕ) (env : ℕ → View) (t : Term A) (rest : Code) → Fine rest → Fine (print_element env n t rest)
     element_fine n env (Apply o a b) rest f = element_fine n env a (print_element env (n + let_variables a) b rest) (element_fine (n + let_variables a) env b rest f)
     element_fine n env (ApplyNumber o m a) rest f = element_fine n env a rest f
     element_fine n env (Select c a b) rest f =
@@ -78,9 +86,9 @@ module _ (names : List Name) where
         (assigned_fine ty (sign_exprs env n v) (n + let_variables v) after (element_fine (n + let_variables v + width ty) inner b rest f))
     element_fine n env _ rest f = f
 
-    pub turn_fine : (env : ℕ → View) (ls : LoadSet) (ty : Ty) (x : View) (acc : ℕ) (b : Term A) → IsIndexed names x → Fine (print_fold_turn env ls ty x acc b)
-    turn_fine env ls ty x acc b g =
-        let n = acc + width ty + load_count ls in
-        let inner = push (loaded_view ls x (acc + width ty)) (push (held_view ty acc) env) in
-        let again = print_reassigned ty (sign_exprs inner n b) acc (n + let_variables b) End in
-        loads_fine ls x (acc + width ty) (print_element inner n b again) g (element_fine n inner b again (reassigned_fine ty (sign_exprs inner n b) acc (n + let_variables b) End tt))
+  pub turn_fine : {A : Type 0} → (env : ℕ → View) (ls : LoadSet) (ty : Ty) (m : IndexNodes) (x : View) (acc : ℕ) (b : Term A) (limits : List ℕ) (fs : List Formula) → IsIndexed names m x → EachWithin (Spelled names) limits fs → Fits (load_limits ls m limits) (print_fold_turn env ls ty x acc b) fs
+  turn_fine env ls ty m x acc b limits fs g f =
+      let n = acc + width ty + load_count ls in
+      let inner = push (loaded_view ls x (acc + width ty)) (push (held_view ty acc) env) in
+      let again = print_reassigned ty (sign_exprs inner n b) acc (n + let_variables b) End in
+      loads_fine ls m x (acc + width ty) (print_element inner n b again) limits fs g (element_fine limits fs n inner b again (reassigned_fine limits fs ty (sign_exprs inner n b) acc (n + let_variables b) End f))

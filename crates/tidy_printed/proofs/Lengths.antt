@@ -6,7 +6,7 @@ use Rattle.size_arith.specs.declared.names.Name.{Name}
 use Rattle.size_arith.specs.declared.poly.Monomial.{Monomial}
 use Rattle.size_arith.specs.Ranges.{AreNames}
 use Rattle.index_expr.specs.declared.operation.Operation.TheVariants.{Sum, Product, Quotient}
-use Rattle.index_expr.specs.Expression.{Expression, Literal, Size, Binary}
+use Rattle.index_expr.specs.Expression.{Expression, Literal, Size, Binary, short_nodes}
 use Rattle.index_expr.specs.Lengths.{base_expression, joined, repeated, product_expression, number_expression, with_coefficient, monomial_expression, is_negative, positive_sum, negative_sum, difference_of, length_expression}
 use Rattle.length_spelling.specs.Formulas.{in_words, length_formula, spelled_length}
 use Rattle.index_simplify.specs.Tests.{is_known_multiple}
@@ -104,5 +104,5 @@ module _ (names : List Name) where
     length_declared : (p : List Monomial) → Declared (length_expression names p)
     length_declared p = without (unwrap_or (positive_sum names p) (Literal 0)) (negative_sum names p) (or_zero (positive_sum names p) (positive_declared p)) (negative_declared p)
 
-    pub lengths_are_spelled : (p : List Monomial) → Spelled names (length_formula names p)
-    lengths_are_spelled p = record { expression = spelled_length names p; spelled = refl; declared = length_declared p }
+    pub lengths_are_spelled : (p : List Monomial) → Spelled names (short_nodes (spelled_length names p)) (length_formula names p)
+    lengths_are_spelled p = record { expression = spelled_length names p; spelled = refl; declared = length_declared p; short = omega arith }

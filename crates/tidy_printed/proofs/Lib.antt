@@ -3,6 +3,7 @@ mod Statements
 mod TidiedTerms
 mod TidiedKernels
 mod TidiedGroups
+pub mod Nodes
 pub mod Formulas
 pub mod Readings
 pub mod Lengths

@@ -1,6 +1,6 @@
 -- What spells an index expression of words can be read, as the same expression but for the ranges
 -- of its variables.
-use Rattle.std.proofs.Common.{◌≡◌, ℕ, zero, suc, ◌<◌, ◌≤◌, ◌^◌, Bool, true, false, List, Option, Some, None, refl, ap, ◌∙◌, subst, arith}
+use Rattle.std.proofs.Common.{◌≡◌, ℕ, zero, suc, ◌+◌, ◌<◌, ◌≤◌, ◌^◌, Bool, true, false, List, Option, Some, None, refl, ap, ◌∙◌, subst, arith}
 use Rattle.std.specs.Prelude.{◌&&◌, nat_lt, if◌then◌else◌, option_map}
 use Rattle.std.proofs.lemmas.Bool.{ltb-true, lt-ltb}
 use Rattle.size_arith.specs.declared.names.Name.{Name}
@@ -8,7 +8,7 @@ use Rattle.scalar_ops.specs.declared.op.Op.{Op}
 use Rattle.scalar_ops.specs.declared.op.Op.TheVariants.{Add, Sub, Mul, Div, Rem, Min, Max}
 use Rattle.index_expr.specs.declared.operation.Operation.{Operation}
 use Rattle.index_expr.specs.declared.operation.Operation.TheVariants.{Sum, Difference, Product, Quotient, Remainder, Least, Greatest}
-use Rattle.index_expr.specs.Expression.{Expression, Variable, Literal, Size, Binary}
+use Rattle.index_expr.specs.Expression.{Expression, Variable, Literal, Size, Binary, short_nodes, short_operation, divisor_of, scaled_nodes}
 use Rattle.kernel_tree.specs.Code.{Kernel}
 use Rattle.kernel_tree.specs.Grammar.{is_operator, names_declared}
 use Rattle.kernel_tree.specs.declared.tree.Dimension.TheVariants.{X}
@@ -95,10 +95,33 @@ has_words k loops few (Binary o a b) h =
     let parts = second_of (is_operator (operator_of o)) (names_declared k loops (index_formula a) && names_declared k loops (index_formula b)) h in
     (has_words k loops few a (first_of (names_declared k loops (index_formula a)) (names_declared k loops (index_formula b)) parts), has_words k loops few b (second_of (names_declared k loops (index_formula a)) (names_declared k loops (index_formula b)) parts))
 
-pub spelled_read : (names : List Name) (k : Kernel) (loops : ℕ) (f : Formula) → loops ≤ 1024 → names_declared k loops f ≡ true → Spelled names f → IsDeclaredIndex names f
-spelled_read names k loops f few h s =
+-- it has as many nodes
+same_divisor : (e : Expression) → divisor_of (unranged e) ≡ divisor_of e
+same_divisor (Binary Quotient (Size k) (Literal d)) = refl
+same_divisor (Binary Quotient (Size k) (Variable v l g)) = refl
+same_divisor (Binary Quotient (Size k) (Size j)) = refl
+same_divisor (Binary Quotient (Size k) (Binary o a b)) = refl
+same_divisor _ = refl
+
+same_operation_nodes : (o : Operation) (a b : Expression) (plain : ℕ) → short_operation o (unranged a) (unranged b) plain ≡ short_operation o a b plain
+same_operation_nodes Product (Literal c) b plain = ap (λ d. scaled_nodes c d plain) (same_divisor b)
+same_operation_nodes Quotient (Size k) (Literal d) plain = refl
+same_operation_nodes _ a b plain = refl
+
+same_nodes : (e : Expression) → short_nodes (unranged e) ≡ short_nodes e
+same_nodes (Variable k l g) = refl
+same_nodes (Literal n) = refl
+same_nodes (Size k) = refl
+same_nodes (Binary o a b) =
+    same_operation_nodes o a b (short_nodes (unranged a) + short_nodes (unranged b) + 1)
+    ∙ ap (λ n. short_operation o a b (n + short_nodes (unranged b) + 1)) (same_nodes a) ∙ ap (λ n. short_operation o a b (short_nodes a + n + 1)) (same_nodes b)
+
+pub spelled_read : (names : List Name) (k : Kernel) (loops : ℕ) (most : ℕ) (f : Formula) → loops ≤ 1024 → names_declared k loops f ≡ true → Spelled names most f → IsDeclaredIndex names most f
+spelled_read names k loops most f few h s =
     let words = has_words k loops few s.expression (subst (λ x. names_declared k loops x ≡ true) s.spelled h) in
-    record { expression = unranged s.expression; spelled = ap reading s.spelled ∙ read_again s.expression words; declared = still_declared (ranges_outside names) s.expression s.declared }
+    let same = same_nodes s.expression in
+    let short = s.short in
+    record { expression = unranged s.expression; spelled = ap reading s.spelled ∙ read_again s.expression words; declared = still_declared (ranges_outside names) s.expression s.declared; short = omega arith }
 
 -- ---- what can be read spells an index expression
 index_operator : (op : Op) (o : Operation) → operation_of op ≡ Some o → IsIndexOperator op

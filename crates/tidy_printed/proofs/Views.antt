@@ -1,5 +1,6 @@
--- The indices that views name, where they are given indices, are spelled index expressions.
-use Rattle.std.proofs.Common.{◌≡◌, ℕ, ◌+◌, Bool, true, false, List, [], ◌∷◌, refl}
+-- The indices that views name, where they are given indices of so many nodes, are spelled index
+-- expressions of no more nodes than the formulas put into one another.
+use Rattle.std.proofs.Common.{◌≡◌, ℕ, ◌+◌, Bool, true, false, List, [], ◌∷◌, Option, Some, None, refl, arith}
 use Rattle.std.specs.Prelude.{if◌then◌else◌}
 use Rattle.size_arith.specs.declared.names.Name.{Name}
 use Rattle.scalar_ops.specs.declared.op.Op.TheVariants.{Add, Sub, Mul, Div, Max}
@@ -9,118 +10,141 @@ use Rattle.lift_ir.specs.Types.{Shape, Ty, Scalar, PairOf, ArrayOf, width}
 use Rattle.lift_ir.specs.Layouts.{Layout, Split, Join, Transpose, Reverse, Slide, Pad}
 use Rattle.lift_ir.specs.Terms.{LoadSet, Skip, Take, Each}
 use Rattle.lift_ir.specs.Scalars.{by_side}
+use Rattle.index_expr.specs.Expression.{Expression, short_nodes}
 use Rattle.printed_form.specs.Counts.{load_count}
-use Rattle.printed_form.specs.Views.{Sign, Blank, Read, View, held_view, loaded_view, view_at, are_parts, dividend, cell_in_rows, operand_indices, result_indices, index_from, index_in, placed_view}
-use Rattle.tidy_printed.proofs.Formulas.{Spelled, Index, divided, spelled_number, index_number, sum, difference, product, least, greatest, quotient, remainder}
+use Rattle.printed_form.specs.Views.{Sign, Blank, Held, Read, View, held_view, loaded_view, view_at, are_parts, dividend, cell_in_rows, operand_indices, result_indices, index_from, index_in, placed_view}
+use Rattle.array_views.specs.Arrays.{spelled_shape}
+use Rattle.array_views.specs.Layouts.{spelled_layout}
+use Rattle.array_views.specs.NodeCounts.{operand_nodes, result_nodes, row_major_nodes, placed_nodes}
+use Rattle.tidy_printed.specs.Limits.{IndexNodes, no_index, at_one_node, after_loads, array_nodes, read_through, written_through}
+use Rattle.tidy_printed.proofs.Formulas.{Spelled, Index, wider, divided, spelled_number, index_number, sum, difference, product, least, greatest, quotient, remainder}
 
 module _ (names : List Name) where
-  abbrev pub AllIndices : List Formula → Type 0
-  AllIndices [] = Unit {0}
-  AllIndices (i ∷ is) = Index names i × AllIndices is
+  abbrev pub AllIndices : List ℕ → List Formula → Type 0
+  AllIndices [] [] = Unit {0}
+  AllIndices (n ∷ ns) (i ∷ is) = Index names n i × AllIndices ns is
+  AllIndices _ _ = ⊥
 
-  abbrev pub NamesIndex : Sign → Type 0
-  NamesIndex (Read a i) = Index names i
-  NamesIndex _ = Unit {0}
+  -- a cell's index has so many nodes; what no cell holds has none
+  abbrev pub NamesIndex : Option ℕ → Sign → Type 0
+  NamesIndex None Blank = Unit {0}
+  NamesIndex None (Held v) = Unit {0}
+  NamesIndex (Some n) (Read a i) = Index names n i
+  NamesIndex _ _ = ⊥
 
-  abbrev pub IsIndexed : View → Type 0
-  IsIndexed v = (cs : List Bool) (is : List Formula) → AllIndices is → NamesIndex (v cs is)
+  abbrev pub IsIndexed : IndexNodes → View → Type 0
+  IsIndexed w v = (cs : List Bool) (ns : List ℕ) (is : List Formula) → AllIndices ns is → NamesIndex (w cs ns) (v cs is)
 
-  pub blank_indexed : IsIndexed (λ cs is. Blank)
-  blank_indexed cs is h = tt
+  pub blank_indexed : IsIndexed no_index (λ cs is. Blank)
+  blank_indexed cs ns is h = tt
 
-  pub sides_indexed : (x y : View) → IsIndexed x → IsIndexed y → IsIndexed (by_side (λ is. Blank) x y)
-  sides_indexed x y g w = go where
-    go : IsIndexed (by_side (λ is. Blank) x y)
-    go [] is h = tt
-    go (false ∷ cs) is h = g cs is h
-    go (true ∷ cs) is h = w cs is h
+  pub sides_indexed : (m n : IndexNodes) (x y : View) → IsIndexed m x → IsIndexed n y → IsIndexed (by_side (λ ns. None) m n) (by_side (λ is. Blank) x y)
+  sides_indexed m n x y g w = go where
+    go : IsIndexed (by_side (λ ns. None) m n) (by_side (λ is. Blank) x y)
+    go [] ns is h = tt
+    go (false ∷ cs) ns is h = g cs ns is h
+    go (true ∷ cs) ns is h = w cs ns is h
 
-  pub part_indexed : (x : View) (s : Bool) → IsIndexed x → IsIndexed (λ cs is. x (s ∷ cs) is)
-  part_indexed x s g = λ cs is h. g (s ∷ cs) is h
+  pub part_indexed : (m : IndexNodes) (x : View) (s : Bool) → IsIndexed m x → IsIndexed (λ cs ns. m (s ∷ cs) ns) (λ cs is. x (s ∷ cs) is)
+  part_indexed m x s g = λ cs ns is h. g (s ∷ cs) ns is h
 
-  pub turned_indexed : (i : Formula) (x : View) → Index names i → IsIndexed x → IsIndexed (view_at i x)
-  turned_indexed i x p g = λ cs is h. g cs (i ∷ is) (p, h)
+  pub turned_indexed : (i : Formula) (m : IndexNodes) (x : View) → Index names 1 i → IsIndexed m x → IsIndexed (at_one_node m) (view_at i x)
+  turned_indexed i m x p g = λ cs ns is h. g cs (1 ∷ ns) (i ∷ is) (p, h)
 
-  pub held_indexed : (ty : Ty) (n : ℕ) → IsIndexed (held_view ty n)
-  held_indexed Scalar n = λ cs is h. tt
-  held_indexed (PairOf x y) n = sides_indexed (held_view x n) (held_view y (n + width x)) (held_indexed x n) (held_indexed y (n + width x))
+  no_sides : (x y : View) → IsIndexed no_index x → IsIndexed no_index y → IsIndexed no_index (by_side (λ is. Blank) x y)
+  no_sides x y g w [] ns is h = tt
+  no_sides x y g w (false ∷ cs) ns is h = g cs ns is h
+  no_sides x y g w (true ∷ cs) ns is h = w cs ns is h
+
+  pub held_indexed : (ty : Ty) (n : ℕ) → IsIndexed no_index (held_view ty n)
+  held_indexed Scalar n = λ cs ns is h. tt
+  held_indexed (PairOf x y) n = no_sides (held_view x n) (held_view y (n + width x)) (held_indexed x n) (held_indexed y (n + width x))
   held_indexed (ArrayOf j t) n = blank_indexed
 
-  pub loaded_indexed : (ls : LoadSet) (x : View) (n : ℕ) → IsIndexed x → IsIndexed (loaded_view ls x n)
-  loaded_indexed Skip x n g = g
-  loaded_indexed Take x n g = λ cs is h. tt
-  loaded_indexed (Each y z) x n g =
-      sides_indexed (loaded_view y (λ cs. x (false ∷ cs)) n) (loaded_view z (λ cs. x (true ∷ cs)) (n + load_count y))
-      (loaded_indexed y (λ cs. x (false ∷ cs)) n (part_indexed x false g)) (loaded_indexed z (λ cs. x (true ∷ cs)) (n + load_count y) (part_indexed x true g))
+  pub loaded_indexed : (ls : LoadSet) (m : IndexNodes) (x : View) (n : ℕ) → IsIndexed m x → IsIndexed (after_loads ls m) (loaded_view ls x n)
+  loaded_indexed Skip m x n g = g
+  loaded_indexed Take m x n g = λ cs ns is h. tt
+  loaded_indexed (Each y z) m x n g =
+      sides_indexed (after_loads y (λ cs. m (false ∷ cs))) (after_loads z (λ cs. m (true ∷ cs))) (loaded_view y (λ cs. x (false ∷ cs)) n) (loaded_view z (λ cs. x (true ∷ cs)) (n + load_count y))
+      (loaded_indexed y (λ cs. m (false ∷ cs)) (λ cs. x (false ∷ cs)) n (part_indexed m x false g)) (loaded_indexed z (λ cs. m (true ∷ cs)) (λ cs. x (true ∷ cs)) (n + load_count y) (part_indexed m x true g))
 
   -- ---- layouts and arrays, whose lengths are spelled so
-  cell : (i m j : Formula) → Index names i → Spelled names m → Index names j → Index names (Binary Add (Binary Mul i m) j)
-  cell i m j x l y = (sum names (Binary Mul i m) j (product names i m x.0 l) y.0, tt)
+  cell : (a l b : ℕ) (i m j : Formula) → Index names a i → Spelled names l m → Index names b j → Index names (a + l + 1 + b + 1) (Binary Add (Binary Mul i m) j)
+  cell a l b i m j x s y = (sum names (a + l + 1) b (Binary Mul i m) j (product names a l i m x.0 s) y.0, tt)
 
   -- the row and the column of one index
-  whole : (i m j : Formula) → are_parts i m j ≡ true → Index names i → Index names (dividend i)
-  whole (Binary Div e n) m j h x = (divided names e n x.0, x.1)
-  whole _ m j h x = absurd (cc h)
+  whole : (a n : ℕ) (i m j : Formula) → are_parts i m j ≡ true → Index names a i → Index names (a + n) (dividend i)
+  whole a n (Binary Div e d) m j h x = (wider names a (a + n) e (omega arith) (divided names a e d x.0), x.1)
+  whole a n _ m j h x = absurd (cc h)
 
-  cell_or_whole : (i m j : Formula) → Index names i → Spelled names m → Index names j → Index names (cell_in_rows i m j)
-  cell_or_whole i m j x l y = go (are_parts i m j) refl
+  cell_or_whole : (a l b : ℕ) (i m j : Formula) → Index names a i → Spelled names l m → Index names b j → Index names (a + l + 1 + b + 1) (cell_in_rows i m j)
+  cell_or_whole a l b i m j x s y = go (are_parts i m j) refl
     where
-      go : (b : Bool) → are_parts i m j ≡ b → Index names (if b then dividend i else Binary Add (Binary Mul i m) j)
-      go true e = whole i m j e x
-      go false e = cell i m j x l y
+      whole_within : Index names (a + (l + 1 + b + 1)) (dividend i) → Index names (a + l + 1 + b + 1) (dividend i)
+      whole_within w = (wider names (a + (l + 1 + b + 1)) (a + l + 1 + b + 1) (dividend i) (omega arith) w.0, w.1)
 
-  clamped : (i n : Formula) (a : ℕ) → Index names i → Spelled names n → Spelled names (Binary Sub (Binary Max i (Number a)) (Number a)) × Spelled names (Binary Sub n (Number 1))
-  clamped i n a x l =
-      let number = spelled_number names a in
-      (difference names (Binary Max i (Number a)) (Number a) (greatest names i (Number a) x.0 number) number, difference names n (Number 1) l (spelled_number names 1))
+      go : (p : Bool) → are_parts i m j ≡ p → Index names (a + l + 1 + b + 1) (if p then dividend i else Binary Add (Binary Mul i m) j)
+      go true e = whole_within (whole a (l + 1 + b + 1) i m j e x)
+      go false e = cell a l b i m j x s y
 
-  module _ {A : Type 0} (spell : A → Formula) (lengths : (n : A) → Spelled names (spell n)) where
-    operand_all : (y : Layout A) (is : List Formula) → AllIndices is → AllIndices (operand_indices spell y is)
-    operand_all (Split m) [] g = g
-    operand_all (Split m) (i ∷ []) g = g
-    operand_all (Split m) (i ∷ j ∷ p) g = (cell_or_whole i (spell m) j g.0 (lengths m) g.1.0, g.1.1)
-    operand_all (Join m) [] g = g
-    operand_all (Join m) (i ∷ p) g = ((quotient names i (spell m) g.0 (lengths m), g.0.1), ((remainder names i (spell m) g.0.0 (lengths m), tt), g.1))
-    operand_all Transpose [] g = g
-    operand_all Transpose (i ∷ []) g = g
-    operand_all Transpose (i ∷ j ∷ p) g = (g.1.0, (g.0, g.1.1))
-    operand_all (Reverse n) [] g = g
-    operand_all (Reverse n) (i ∷ p) g =
-        let last = difference names (spell n) (Number 1) (lengths n) (spelled_number names 1) in
-        ((difference names (Binary Sub (spell n) (Number 1)) i last g.0.0, tt), g.1)
-    operand_all (Slide a t) [] g = g
-    operand_all (Slide a t) (i ∷ []) g = g
-    operand_all (Slide a t) (i ∷ j ∷ p) g = (cell_or_whole i (Number t) j g.0 (spelled_number names t) g.1.0, g.1.1)
-    operand_all (Pad a b n) [] g = g
-    operand_all (Pad a b n) (i ∷ p) g =
-        let parts = clamped i (spell n) a g.0 (lengths n) in
-        ((least names (Binary Sub (Binary Max i (Number a)) (Number a)) (Binary Sub (spell n) (Number 1)) parts.0 parts.1, tt), g.1)
+  clamped : (a l : ℕ) (i n : Formula) (c : ℕ) → Index names a i → Spelled names l n → Spelled names (a + 1 + 1 + 1 + 1) (Binary Sub (Binary Max i (Number c)) (Number c)) × Spelled names (l + 1 + 1) (Binary Sub n (Number 1))
+  clamped a l i n c x s =
+      let number = spelled_number names c in
+      (difference names (a + 1 + 1) 1 (Binary Max i (Number c)) (Number c) (greatest names a 1 i (Number c) x.0 number) number, difference names l 1 n (Number 1) s (spelled_number names 1))
 
-    result_all : (y : Layout A) (is : List Formula) → AllIndices is → AllIndices (result_indices spell y is)
-    result_all (Split m) is g = operand_all (Join m) is g
-    result_all (Join m) is g = operand_all (Split m) is g
-    result_all Transpose is g = operand_all Transpose is g
-    result_all (Reverse n) is g = operand_all (Reverse n) is g
-    result_all (Slide a t) is g = g
-    result_all (Pad a b n) is g = g
+  module _ {A : Type 0} (spell : A → Expression) (text : A → Formula) (lengths : (n : A) → Spelled names (short_nodes (spell n)) (text n)) where
+    abbrev length_nodes : A → ℕ
+    length_nodes n = short_nodes (spell n)
 
-    pub read_through : (y : Layout A) (x : View) → IsIndexed x → IsIndexed (λ cs is. x cs (operand_indices spell y is))
-    read_through y x g = λ cs is h. g cs (operand_indices spell y is) (operand_all y is h)
+    operand_all : (y : Layout A) (ns : List ℕ) (is : List Formula) → AllIndices ns is → AllIndices (operand_nodes short_nodes (spelled_layout spell y) ns) (operand_indices text y is)
+    operand_all (Split m) [] [] g = g
+    operand_all (Split m) (a ∷ []) (i ∷ []) g = g
+    operand_all (Split m) (a ∷ b ∷ ns) (i ∷ j ∷ p) g = (cell_or_whole a (length_nodes m) b i (text m) j g.0 (lengths m) g.1.0, g.1.1)
+    operand_all (Join m) [] [] g = g
+    operand_all (Join m) (a ∷ ns) (i ∷ p) g = ((quotient names a (length_nodes m) i (text m) g.0 (lengths m), g.0.1), ((remainder names a (length_nodes m) i (text m) g.0.0 (lengths m), tt), g.1))
+    operand_all Transpose [] [] g = g
+    operand_all Transpose (a ∷ []) (i ∷ []) g = g
+    operand_all Transpose (a ∷ b ∷ ns) (i ∷ j ∷ p) g = (g.1.0, (g.0, g.1.1))
+    operand_all (Reverse n) [] [] g = g
+    operand_all (Reverse n) (a ∷ ns) (i ∷ p) g =
+        let last = difference names (length_nodes n) 1 (text n) (Number 1) (lengths n) (spelled_number names 1) in
+        ((difference names (length_nodes n + 1 + 1) a (Binary Sub (text n) (Number 1)) i last g.0.0, tt), g.1)
+    operand_all (Slide s t) [] [] g = g
+    operand_all (Slide s t) (a ∷ []) (i ∷ []) g = g
+    operand_all (Slide s t) (a ∷ b ∷ ns) (i ∷ j ∷ p) g = (cell_or_whole a 1 b i (Number t) j g.0 (spelled_number names t) g.1.0, g.1.1)
+    operand_all (Pad l r n) [] [] g = g
+    operand_all (Pad l r n) (a ∷ ns) (i ∷ p) g =
+        let parts = clamped a (length_nodes n) i (text n) l g.0 (lengths n) in
+        ((least names (a + 1 + 1 + 1 + 1) (length_nodes n + 1 + 1) (Binary Sub (Binary Max i (Number l)) (Number l)) (Binary Sub (text n) (Number 1)) parts.0 parts.1, tt), g.1)
+    operand_all y _ _ g = absurd (assumption)
 
-    pub written_through : (y : Layout A) (x : View) → IsIndexed x → IsIndexed (λ cs is. x cs (result_indices spell y is))
-    written_through y x g = λ cs is h. g cs (result_indices spell y is) (result_all y is h)
+    result_all : (y : Layout A) (ns : List ℕ) (is : List Formula) → AllIndices ns is → AllIndices (result_nodes short_nodes (spelled_layout spell y) ns) (result_indices text y is)
+    result_all (Split m) ns is g = operand_all (Join m) ns is g
+    result_all (Join m) ns is g = operand_all (Split m) ns is g
+    result_all Transpose ns is g = operand_all Transpose ns is g
+    result_all (Reverse n) ns is g = operand_all (Reverse n) ns is g
+    result_all (Slide s t) ns is g = g
+    result_all (Pad l r n) ns is g = g
 
-    row_major_from : (t : Shape A) (i : Formula) (q : List Formula) → Index names i → AllIndices q → Index names (index_from spell i t q)
-    row_major_from Scalar i q g w = g
-    row_major_from (PairOf a b) i q g w = g
-    row_major_from (ArrayOf m t) i [] g w = g
-    row_major_from (ArrayOf m t) i (j ∷ q) g w = row_major_from t (Binary Add (Binary Mul i (spell m)) j) q (cell i (spell m) j g (lengths m) w.0) w.1
+    pub read_indexed : (y : Layout A) (m : IndexNodes) (x : View) → IsIndexed m x → IsIndexed (read_through spell y m) (λ cs is. x cs (operand_indices text y is))
+    read_indexed y m x g = λ cs ns is h. g cs (operand_nodes short_nodes (spelled_layout spell y) ns) (operand_indices text y is) (operand_all y ns is h)
 
-    row_major : (t : Shape A) (q : List Formula) → AllIndices q → Index names (index_in spell t q)
-    row_major Scalar q w = index_number names 0
-    row_major (PairOf a b) q w = index_number names 0
-    row_major (ArrayOf m t) [] w = index_number names 0
-    row_major (ArrayOf m t) (i ∷ q) w = row_major_from t i q w.0 w.1
+    pub written_indexed : (y : Layout A) (m : IndexNodes) (x : View) → IsIndexed m x → IsIndexed (written_through spell y m) (λ cs is. x cs (result_indices text y is))
+    written_indexed y m x g = λ cs ns is h. g cs (result_nodes short_nodes (spelled_layout spell y) ns) (result_indices text y is) (result_all y ns is h)
 
-    pub placed_indexed : (form : ℕ → Array) (first : ℕ) (t : Shape A) → IsIndexed (placed_view spell form first t)
-    placed_indexed form first t = λ cs is h. row_major t is h
+    row_major_from : (t : Shape A) (a : ℕ) (i : Formula) (ns : List ℕ) (q : List Formula) → Index names a i → AllIndices ns q → Index names (row_major_nodes short_nodes a (spelled_shape spell t) ns) (index_from text i t q)
+    row_major_from Scalar a i ns q g w = g
+    row_major_from (PairOf s t) a i ns q g w = g
+    row_major_from (ArrayOf m t) a i [] [] g w = g
+    row_major_from (ArrayOf m t) a i (b ∷ ns) (j ∷ q) g w = row_major_from t (a + length_nodes m + 1 + b + 1) (Binary Add (Binary Mul i (text m)) j) ns q (cell a (length_nodes m) b i (text m) j g (lengths m) w.0) w.1
+    row_major_from t a i _ _ g w = absurd (assumption)
+
+    row_major : (t : Shape A) (ns : List ℕ) (q : List Formula) → AllIndices ns q → Index names (placed_nodes short_nodes (spelled_shape spell t) ns) (index_in text t q)
+    row_major Scalar ns q w = index_number names 0
+    row_major (PairOf s t) ns q w = index_number names 0
+    row_major (ArrayOf m t) [] [] w = index_number names 0
+    row_major (ArrayOf m t) (a ∷ ns) (i ∷ q) w = row_major_from t a i ns q w.0 w.1
+    row_major t _ _ w = absurd (assumption)
+
+    pub placed_indexed : (form : ℕ → Array) (first : ℕ) (t : Shape A) → IsIndexed (array_nodes spell t) (placed_view text form first t)
+    placed_indexed form first t = λ cs ns is h. row_major t ns is h

@@ -1,32 +1,38 @@
--- The indices and the bounds of a kernel, and those that spell index expressions.
-use Rattle.std.specs.Prelude.{◌≡◌, List, Some}
+-- The indices and the bounds of a kernel, each within a limit, and those that spell index
+-- expressions.
+use Rattle.std.specs.Prelude.{◌≡◌, ◌≤◌, ℕ, List, [], ◌∷◌, Some}
 use Rattle.size_arith.specs.declared.names.Name.{Name}
-use Rattle.index_expr.specs.Expression.{Expression}
+use Rattle.index_expr.specs.Expression.{Expression, short_nodes}
 use Rattle.kernel_tree.specs.Formula.{Formula}
 use Rattle.kernel_tree.specs.Code.{Code, End, Assigns, Loads, Stores, AssignsFour, LoadsFour, StoresFour, Loops, Guards, Syncs}
 use Rattle.index_simplify.specs.Simplified.{AreDeclared}
 use Rattle.tidy_indices.specs.Reading.{reading}
 use Rattle.tidy_indices.specs.Places.{ranges_outside}
 
--- it holds of each index of a load or a store, of each offset of four, and of each bound of a loop
--- or an `if`
-abbrev pub EachIndexAndBound : (Formula → Type 0) → Code → Type 0
-EachIndexAndBound P End = Unit {0}
-EachIndexAndBound P (Assigns v e after) = EachIndexAndBound P after
-EachIndexAndBound P (Loads v a i after) = P i × EachIndexAndBound P after
-EachIndexAndBound P (Stores a i e after) = P i × EachIndexAndBound P after
-EachIndexAndBound P (AssignsFour v e after) = EachIndexAndBound P after
-EachIndexAndBound P (LoadsFour v a i after) = P i × EachIndexAndBound P after
-EachIndexAndBound P (StoresFour a i e after) = P i × EachIndexAndBound P after
-EachIndexAndBound P (Loops s b c body after) =
-    P b × EachIndexAndBound P body × EachIndexAndBound P after
-EachIndexAndBound P (Guards s b body after) =
-    P b × EachIndexAndBound P body × EachIndexAndBound P after
-EachIndexAndBound P (Syncs on_local on_global after) = EachIndexAndBound P after
+-- each index of a load or a store, each offset of four, and each bound of a loop or an `if`, in the
+-- order of the statements, and then these
+abbrev pub indices_then : Code → (after : List Formula) → List Formula
+indices_then End after = after
+indices_then (Assigns v e rest) after = indices_then rest after
+indices_then (Loads v a i rest) after = i ∷ indices_then rest after
+indices_then (Stores a i e rest) after = i ∷ indices_then rest after
+indices_then (AssignsFour v e rest) after = indices_then rest after
+indices_then (LoadsFour v a i rest) after = i ∷ indices_then rest after
+indices_then (StoresFour a i e rest) after = i ∷ indices_then rest after
+indices_then (Loops s b c body rest) after = b ∷ indices_then body (indices_then rest after)
+indices_then (Guards s b body rest) after = b ∷ indices_then body (indices_then rest after)
+indices_then (Syncs on_local on_global rest) after = indices_then rest after
 
--- it spells an index expression, in which sizes are divided by the numbers alone that they are
--- declared multiples of
-pub record IsDeclaredIndex (names : List Name) (f : Formula) : Type 0 where
+-- as many as there are limits, and it holds of each with its limit
+abbrev pub EachWithin : (ℕ → Formula → Type 0) → (limits : List ℕ) → List Formula → Type 0
+EachWithin P [] [] = Unit {0}
+EachWithin P (n ∷ limits) (f ∷ fs) = P n f × EachWithin P limits fs
+EachWithin P _ _ = ⊥
+
+-- it spells an index expression of at most so many nodes, counted in short, in which sizes are
+-- divided by the numbers alone that they are declared multiples of
+pub record IsDeclaredIndex (names : List Name) (most : ℕ) (f : Formula) : Type 0 where
   pub expression : Expression
   pub spelled : reading f ≡ Some expression
   pub declared : AreDeclared (ranges_outside names) expression
+  pub short : short_nodes expression ≤ most

@@ -1,9 +1,12 @@
--- Which indices and bounds a kernel may have in place of plain ones.
-use Rattle.std.specs.Prelude.{◌≡◌, ◌≤◌, List, Some}
+-- What is forbidden to the indices and the bounds of a term's kernel.
+use Rattle.std.specs.Prelude.{◌≡◌, ◌≤◌, ℕ, List, [], Option, Some}
 use Rattle.size_arith.specs.declared.names.Name.{Name}
+use Rattle.lift_tree.specs.Annotations.{Annotation}
+use Rattle.lift_tree.specs.Tree.{Tree}
+use Rattle.lift_tree.specs.Typing.{Declared}
 use Rattle.index_expr.specs.Expression.{Expression, short_nodes}
 use Rattle.kernel_tree.specs.Formula.{Formula}
-use Rattle.kernel_tree.specs.Code.{Code, End, Assigns, Loads, Stores, AssignsFour, LoadsFour, StoresFour, Loops, Guards, Syncs}
+use Rattle.kernel_tree.specs.Code.{Kernel}
 use Rattle.index_simplify.specs.Simplified.{AreDeclared}
 use Rattle.tidy_indices.specs.Formulas.{formula_nodes}
 use Rattle.tidy_indices.specs.Redundant.{IsIrredundant}
@@ -11,33 +14,18 @@ use Rattle.tidy_indices.specs.Reading.{reading, IsIndexFormula}
 use Rattle.tidy_indices.specs.Places.{ranges_outside}
 use Rattle.tidy_indices.specs.Around.{Around}
 use Rattle.tidy_indices.specs.Laws.{Change, HaveIndexBounds}
+use Rattle.tidy_printed.specs.Indices.{EachWithin, indices_then}
+use Rattle.tidy_printed.specs.Limits.{limits_of}
 
--- in place of an index or a bound that spells an index expression: no part of it is redundant, and
--- it has no more nodes than that expression counted in short
-pub record IsTidyIndex (plain printed : Formula) : Type 0 where
-  pub expression : Expression
-  pub spelled : reading plain ≡ Some expression
-  pub irredundant : IsIrredundant printed
-  pub short : formula_nodes printed ≤ short_nodes expression
+-- no part of it is redundant, and it has at most so many nodes
+pub record IsTidyIndex (most : ℕ) (f : Formula) : Type 0 where
+  pub irredundant : IsIrredundant f
+  pub short : formula_nodes f ≤ most
 
--- the same statements but for the indices of loads and stores, the offsets of fours and the bounds of
--- loops and ifs, which are tidy
-abbrev pub IsTidyFor : (plain printed : Code) → Type 0
-IsTidyFor End End = Unit {0}
-IsTidyFor (Assigns v e r) (Assigns u f q) = (v ≡ u) × (e ≡ f) × IsTidyFor r q
-IsTidyFor (Loads v a i r) (Loads u b j q) = (v ≡ u) × (a ≡ b) × IsTidyIndex i j × IsTidyFor r q
-IsTidyFor (Stores a i e r) (Stores b j f q) = (a ≡ b) × IsTidyIndex i j × (e ≡ f) × IsTidyFor r q
-IsTidyFor (AssignsFour v e r) (AssignsFour u f q) = (v ≡ u) × (e ≡ f) × IsTidyFor r q
-IsTidyFor (LoadsFour v a i r) (LoadsFour u b j q) =
-    (v ≡ u) × (a ≡ b) × IsTidyIndex i j × IsTidyFor r q
-IsTidyFor (StoresFour a i e r) (StoresFour b j f q) =
-    (a ≡ b) × IsTidyIndex i j × (e ≡ f) × IsTidyFor r q
-IsTidyFor (Loops s b c body r) (Loops t d e other q) =
-    (s ≡ t) × IsTidyIndex b d × (c ≡ e) × IsTidyFor body other × IsTidyFor r q
-IsTidyFor (Guards s b body r) (Guards t d other q) =
-    (s ≡ t) × IsTidyIndex b d × IsTidyFor body other × IsTidyFor r q
-IsTidyFor (Syncs l g r) (Syncs m h q) = (l ≡ m) × (g ≡ h) × IsTidyFor r q
-IsTidyFor _ _ = ⊥
+-- so is each index of the kernel, which has no more nodes than the term's formulas put into one
+-- another, and each bound, which has no more than its length
+abbrev pub IsTidyFor : Declared → (local : Option ℕ) → Tree → Annotation → Kernel → Type 0
+IsTidyFor d local t a k = EachWithin IsTidyIndex (limits_of d local t a) (indices_then k.code [])
 
 -- in ifs, and in loops whose bounds spell index expressions, it makes of each such formula one without redundant
 -- parts and, where sizes are divided as they are declared, with no more nodes than are counted in

@@ -1,6 +1,6 @@
 -- The indices and bounds of the kernels that are printed with lengths as they are spelled, and of
 -- those kernels tidied.
-use Rattle.std.specs.Prelude.{◌≡◌, ℕ, true, List, [], Option}
+use Rattle.std.specs.Prelude.{◌≡◌, ◌⊎◌, ℕ, true, List, [], Option}
 use Rattle.size_arith.specs.declared.names.Name.{Name}
 use Rattle.size_arith.specs.Ranges.{AreNames}
 use Rattle.lift_tree.specs.Tree.{Tree}
@@ -9,51 +9,61 @@ use Rattle.lift_tree.specs.Typing.{Declared}
 use Rattle.kernel_tree.specs.Code.{Code}
 use Rattle.kernel_tree.specs.Grammar.{is_kernel}
 use Rattle.barrier_placement.specs.Fencing.{Fencing}
+use Rattle.lift_ir.specs.Forms.{Stands, StandsOverLaunch}
+use Rattle.lift_ir.specs.Lowering.{Lowered}
 use Rattle.length_spelling.specs.Formulas.{length_formula}
-use Rattle.printed_form.specs.Programs.{printed_kernel}
+use Rattle.printed_form.specs.Programs.{lowered_root, printed_kernel}
+use Rattle.group_form.specs.Forms.{StandsOverGroups}
 use Rattle.group_form.specs.Printer.{printed_group_kernel}
 use Rattle.tidy_indices.specs.Tidy.{tidy_formula}
 use Rattle.tidy_indices.specs.Laws.{Change}
 use Rattle.tidy_kernels.specs.Pass.{tidied_code, tidied_kernel}
-use Rattle.tidy_printed.specs.Indices.{EachIndexAndBound, IsDeclaredIndex}
-use Rattle.tidy_printed.specs.Tidy.{IsTidyFor, MakesTidy}
+use Rattle.tidy_printed.specs.Indices.{EachWithin, IsDeclaredIndex, indices_then}
+use Rattle.tidy_printed.specs.Limits.{limits_of}
+use Rattle.tidy_printed.specs.Tidy.{IsTidyFor, IsTidyIndex, MakesTidy}
+
+-- for one work-item, or for a map over the launch
+abbrev pub StandsForItems : Lowered → Type 0
+StandsForItems t = Stands true t ⊎ StandsOverLaunch t
 
 abbrev pub TermsHaveIndexFormulas : Type 0
 TermsHaveIndexFormulas =
     (d : Declared) (size : Option ℕ) (t : Tree) (a : Annotation)
     →
     (let plain = printed_kernel (length_formula d.names) d size t a in AreNames d.names
-    → is_kernel plain ≡ true → EachIndexAndBound (IsDeclaredIndex d.names) plain.code)
+    → StandsForItems (lowered_root d.names t a) → is_kernel plain ≡ true
+    → EachWithin (IsDeclaredIndex d.names) (limits_of d size t a) (indices_then plain.code []))
 
 abbrev pub GroupsHaveIndexFormulas : Type 0
 GroupsHaveIndexFormulas =
     (d : Declared) (size : Option ℕ) (fence : ℕ → Fencing) (t : Tree) (a : Annotation)
     →
     (let plain = printed_group_kernel (length_formula d.names) fence d size t a in AreNames d.names
-    → is_kernel plain ≡ true → EachIndexAndBound (IsDeclaredIndex d.names) plain.code)
+    → StandsOverGroups (lowered_root d.names t a) → is_kernel plain ≡ true
+    → EachWithin (IsDeclaredIndex d.names) (limits_of d size t a) (indices_then plain.code []))
 
 abbrev pub TidiedTermsAreTidy : Type 0
 TidiedTermsAreTidy =
     (d : Declared) (size : Option ℕ) (t : Tree) (a : Annotation) (tidy : Change)
     →
     (let plain = printed_kernel (length_formula d.names) d size t a in AreNames d.names
-    → is_kernel plain ≡ true → MakesTidy d.names tidy
-    → IsTidyFor plain.code (tidied_kernel tidy plain).code)
+    → StandsForItems (lowered_root d.names t a) → is_kernel plain ≡ true → MakesTidy d.names tidy
+    → IsTidyFor d size t a (tidied_kernel tidy plain))
 
 abbrev pub TidiedGroupsAreTidy : Type 0
 TidiedGroupsAreTidy =
     (d : Declared) (size : Option ℕ) (fence : ℕ → Fencing) (t : Tree) (a : Annotation) (tidy : Change)
     →
     (let plain = printed_group_kernel (length_formula d.names) fence d size t a in AreNames d.names
-    → is_kernel plain ≡ true → MakesTidy d.names tidy
-    → IsTidyFor plain.code (tidied_kernel tidy plain).code)
+    → StandsOverGroups (lowered_root d.names t a) → is_kernel plain ≡ true
+    → MakesTidy d.names tidy → IsTidyFor d size t a (tidied_kernel tidy plain))
 
--- any code whose indices and bounds spell such index expressions is so when it is tidied
+-- in any code, each such index and each such bound is tidy within its limit when the code is tidied
 abbrev pub TidiedCodesAreTidy : Type 0
 TidiedCodesAreTidy =
-    (names : List Name) (tidy : Change) (code : Code)
-    → MakesTidy names tidy → EachIndexAndBound (IsDeclaredIndex names) code
-    → IsTidyFor code (tidied_code tidy [] code)
+    (names : List Name) (tidy : Change) (limits : List ℕ) (code : Code)
+    → MakesTidy names tidy → EachWithin (IsDeclaredIndex names) limits (indices_then code [])
+    → EachWithin IsTidyIndex limits (indices_then (tidied_code tidy [] code) [])
 
 -- the tidy formulas of the declared sizes are such, whatever size groups are asked to have
 abbrev pub TidyFormulasMakeTidy : Type 0

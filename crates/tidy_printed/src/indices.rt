@@ -4,8 +4,9 @@ ghost use Rattle.tidy_printed.specs.TidyLaws.{TermsHaveIndexFormulas, GroupsHave
 
 use tidy_indices::laws::{tidy_formulas_are_irredundant, tidy_formulas_are_short};
 
-/// Where the printer makes a kernel of the kernel grammar of a typed term, each index and each
-/// bound spells an index expression that divides sizes by their declared divisors alone.
+/// Where the printer makes a kernel of the kernel grammar of a term for one work-item, or over the
+/// launch, each index and each bound spells an index expression within its limit, the nodes of the
+/// layouts' formulas put into one another, that divides sizes by their declared divisors alone.
 pub fn terms_have_index_formulas()
     ensures { TermsHaveIndexFormulas }
 {}
@@ -15,12 +16,13 @@ pub fn groups_have_index_formulas()
     ensures { GroupsHaveIndexFormulas }
 {}
 
-/// Code with such indices and bounds, in whatever loops and ifs, tidied, is tidy for the plain one.
+/// In code with such indices and bounds, in whatever loops and ifs, each is tidy within its limit
+/// when the code is tidied.
 pub fn tidied_codes_are_tidy()
     ensures { TidiedCodesAreTidy }
 {}
 
-/// Such a kernel of a typed term, tidied, is tidy for the plain one.
+/// Such a kernel of a typed term, tidied, is tidy for the term.
 pub fn tidied_terms_are_tidy()
     ensures { TidiedTermsAreTidy }
 {}

@@ -1,6 +1,6 @@
 //! Printed kernels with simplified indices and bounds: a kernel that is printed for a term is
-//! printed for it when it is tidied (`terms`, `groups`), and tidied it is tidy for the plain one
-//! (`indices`).
+//! printed for it when it is tidied (`terms`, `groups`), and what the printers make is tidy for the
+//! term then (`indices`).
 #![tactic(auto)]
 
 pub mod groups;

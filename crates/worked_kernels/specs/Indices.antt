@@ -1,12 +1,21 @@
 -- Worked indices and bounds.
-use Rattle.std.specs.Prelude.{◌≡◌, [], Some}
+use Rattle.std.specs.Prelude.{◌≡◌, ℕ, List, [], ◌∷◌, Some}
 use Rattle.scalar_ops.specs.declared.op.Op.TheVariants.{Add, Sub, Mul, Div, Rem}
 use Rattle.kernel_tree.specs.declared.tree.Dimension.TheVariants.{X}
 use Rattle.kernel_tree.specs.Formula.{Formula, Number, Variable, LoopVariable, Size, Id, LocalId, Binary}
 use Rattle.kernel_tree.specs.Code.{Input, Output, Code, End, Loads, Stores, Loops, Guards, FromZero, FromLocalId, ByOne}
+use Rattle.lift_ir.specs.Layouts.{Join}
+use Rattle.lift_ir.specs.Terms.{Term, Take, Sequential, Bound, Source, Reshape, Map, Store}
+use Rattle.lift_ir.specs.Types.{Shape, Scalar, ArrayOf}
+use Rattle.index_expr.specs.declared.operation.Operation.TheVariants.{Product, Quotient}
+use Rattle.index_expr.specs.Expression as index
+use Rattle.index_expr.specs.Expression.{Expression, Literal}
+use Rattle.printed_form.specs.MapForms.{all_loops}
 use Rattle.tidy_indices.specs.Tidy.{tidy_formula}
 use Rattle.tidy_kernels.specs.Pass.{tidied_code}
-use Rattle.tidy_printed.specs.Tidy.{IsTidyFor}
+use Rattle.tidy_printed.specs.Indices.{EachWithin, indices_then}
+use Rattle.tidy_printed.specs.Limits.{array_nodes, no_index, written_limits}
+use Rattle.tidy_printed.specs.Tidy.{IsTidyIndex}
 
 -- a loop of this bound that copies what it reads at this index
 abbrev pub copying : (bound index : Formula) → Code
@@ -17,34 +26,63 @@ copying b i =
 abbrev pub turn : Formula
 turn = LoopVariable 0
 
+-- what a copy of an array may have, so many of whose elements are copied: the array is made of an
+-- input of this type
+abbrev pub copy_limits : (length : Expression) → (input : Shape Expression) → (array : Term Expression)
+    → List ℕ
+copy_limits n input xs =
+    written_limits (λ e. e) all_loops (λ v. input) (λ v. no_index)
+    (Map Sequential n Take xs (Store Scalar (Bound 0))) (array_nodes (λ e. e) (ArrayOf n Scalar)) []
+
+-- so the code has
+abbrev pub IsTidyCopy : (length : Expression) → (input : Shape Expression) → (array : Term Expression)
+    → Code → Type 0
+IsTidyCopy n input xs code = EachWithin IsTidyIndex (copy_limits n input xs) (indices_then code [])
+
+-- two rows of three, and their join
+abbrev pub rows : Shape Expression
+rows = ArrayOf (Literal 2) (ArrayOf (Literal 3) Scalar)
+
+abbrev pub joined_rows : Term Expression
+joined_rows = Reshape (Join (Literal 3)) (Source 0)
+
 -- the cell of the turn in rows of three
 abbrev pub cell_in_rows : Formula
 cell_in_rows =
     Binary Add (Binary Mul (Binary Div turn (Number 3)) (Number 3)) (Binary Rem turn (Number 3))
 
--- the rows' join is read at the turn itself, and may be read no other way
+-- the rows' join, put into their row-major number, has nine nodes
+abbrev pub JoinsAreCounted : Type 0
+JoinsAreCounted = copy_limits (Literal 6) rows joined_rows ≡ 1 ∷ 9 ∷ 1 ∷ []
+
+-- it is read at the turn itself, and not at that number, part of which is redundant
 abbrev pub JoinsAreTidied : Type 0
-JoinsAreTidied = IsTidyFor (copying (Number 6) cell_in_rows) (copying (Number 6) turn)
+JoinsAreTidied = IsTidyCopy (Literal 6) rows joined_rows (copying (Number 6) turn)
 
 abbrev pub JoinsDoNotStay : Type 0
-JoinsDoNotStay = IsTidyFor (copying (Number 6) cell_in_rows) (copying (Number 6) cell_in_rows) → ⊥
+JoinsDoNotStay = IsTidyCopy (Literal 6) rows joined_rows (copying (Number 6) cell_in_rows) → ⊥
 
 -- (i0 + i0) - i0 doesn't stand for i0
 abbrev pub IndicesDoNotGrow : Type 0
 IndicesDoNotGrow =
-    IsTidyFor (copying (Number 6) turn)
+    IsTidyCopy (Literal 6) (ArrayOf (Literal 6) Scalar) (Source 0)
     (copying (Number 6) (Binary Sub (Binary Add turn turn) turn)) → ⊥
 
--- twice the half of a size
+-- twice the half of a size, and what spells it
+abbrev pub even_length : Expression
+even_length = index.Binary Product (Literal 2) (index.Binary Quotient (index.Size 0) (Literal 2))
+
 abbrev pub two_halves : Formula
 two_halves = Binary Mul (Number 2) (Binary Div (Size 0) (Number 2))
 
--- it is bound by the size itself, and by nothing longer
+-- a loop over it is bound by the size itself, and by nothing longer
 abbrev pub BoundsAreTidied : Type 0
-BoundsAreTidied = IsTidyFor (copying two_halves turn) (copying (Size 0) turn)
+BoundsAreTidied =
+    IsTidyCopy even_length (ArrayOf even_length Scalar) (Source 0) (copying (Size 0) turn)
 
 abbrev pub BoundsDoNotStay : Type 0
-BoundsDoNotStay = IsTidyFor (copying two_halves turn) (copying two_halves turn) → ⊥
+BoundsDoNotStay =
+    IsTidyCopy even_length (ArrayOf even_length Scalar) (Source 0) (copying two_halves turn) → ⊥
 
 -- the row of an item's cell in rows of two, of which each turn has one
 abbrev pub row_of_two : Formula

@@ -16,9 +16,9 @@ seen_is d s (Release g) lane kind access fault p q = ap (λ z. record { event = 
 
 pub returns-clause-takes : goal.returns-clause-takes
 returns-clause-takes c = λ k l d es st clean en.
-    let a = c.advance-fault.ensures.advances k l d es st clean en in
+    let a = c.advance_by_want-fault.ensures.advances k l d es st clean en in
     let h = a.tells in
     record {
       stands = a.stands;
-      tells = record { kind = h.kind; fault = h.is; lane = h.lane; in_lane = h.in_lane; is = seen_is (device_of k l d) (run (device_of k l d) (start_state k d) es) c.args.event h.lane h.kind c.access-access.result c.advance-fault.result (c.access-access.ensures k l d es st clean en) h.told };
+      tells = record { kind = h.kind; fault = h.is; lane = h.lane; in_lane = h.in_lane; is = seen_is (device_of k l d) (run (device_of k l d) (start_state k d) es) c.args.event h.lane h.kind c.access-access.result c.advance_by_want-fault.result (c.access-access.ensures k l d es st clean en) h.told };
     }

@@ -1,0 +1,249 @@
+//! Launch files of several kernels in order.
+
+ghost use Rattle.std.specs.Prelude.{◌≡◌, ◌≢◌, Err, IfErr, IfOk, Ok, length, map, option_map};
+ghost use Rattle.serde_json.specs.View.{view};
+ghost use Rattle.kernel_tree.specs.Schedule.{schedule_of};
+ghost use Rattle.lift_tree.specs.Programs.{input_of, program_of};
+ghost use Rattle.lift_tree.specs.Limits.{HasProperInputs};
+ghost use Rattle.lift_tree.specs.WorkedOut.{range_of};
+ghost use Rattle.size_arith.specs.Ranges.{AreNames};
+ghost use Rattle.launch_file.specs.Inputs.{InputsFit};
+ghost use Rattle.launch_file.specs.Judged.{AllInRange};
+ghost use Rattle.launch_file.specs.LaunchFile.{given_by};
+ghost use Rattle.launch_file.specs.Stages.{
+  IsStagesFile,
+  RefusesStages,
+  all_objects,
+  files_judged,
+  launches_at,
+  stage_file_judged,
+  stage_judged,
+  stage_keys_judged,
+  stages_judged,
+  stages_judged_from,
+};
+ghost use Rattle.launch_file.specs.StagesShown.{count_of, keys_of, values_in};
+ghost use Rattle.launch_file.specs.declared.refusal.LaunchNo.TheVariants.{Memory};
+
+use crate::file::{Ask, LaunchFile, work_items};
+use crate::json::{discard, object_at, whole_at};
+use crate::keys::schedule_at;
+use crate::refusal::{Key, LaunchNo};
+use crate::sizes::{bases_of, sizes_in};
+use crate::values::inputs_in;
+use kernel_tree::launches::{Launch, Schedule};
+use lift_tree::program::Program;
+use serde_json::{Category, Value};
+use std::alloc::{AllocError, Global};
+
+// The work-items of a kernel, in all and in a group.
+#[derive(Clone, Copy)]
+struct Count {
+    global: u32,
+    local: u32,
+}
+
+// What stands at the keys: the kernels' own objects, and what all kernels share.
+#[derive(Drop)]
+struct StageKeys<'v> {
+    launches: &'v [Value],
+    sizes: &'v Value,
+    inputs: &'v Value,
+    schedule: Schedule,
+}
+
+fn all_objects(values: &[Value]) -> bool
+    ensures { result ≡ all_objects (values_in values.now) }
+{
+    match values {
+        [] => true,
+        [first, rest @ ..] => first.is_object() && all_objects(rest),
+    }
+}
+
+// The kernels' own objects, where there are so many and no other.
+#[tactic(auto, using(crate::proofs::InOrder::are_members))]
+fn launches_at(value: &Value, count: usize) -> Option<&[Value]>
+    ensures { option_map (λ vs. values_in vs.now) result
+        ≡ launches_at count (view value.entry.now) }
+{
+    let launches = value.get("launches")?.as_array()?.as_slice();
+    if launches.len() == count && all_objects(launches) {
+        Some(launches)
+    } else {
+        None
+    }
+}
+
+// What stands at the keys, or the first of them that is missing.
+fn find_stage_keys<'v>(
+    alloc: Global,
+    count: usize,
+    value: &'v Value,
+) -> Result<StageKeys<'v>, LaunchNo>
+    ensures ok { IfOk result
+        (λ k. stage_keys_judged count (view value.entry.now) ≡ Ok (keys_of k)) }
+    ensures refused { IfErr result (λ e. e ≢ Memory
+        → stage_keys_judged count (view value.entry.now) ≡ Err e) }
+{
+    let launches = launches_at(value, count).ok_or(LaunchNo::Missing(Key::Launches))?;
+    let sizes = object_at(value, "sizes").ok_or(LaunchNo::Missing(Key::Sizes))?;
+    let inputs = object_at(value, "inputs").ok_or(LaunchNo::Missing(Key::Inputs))?;
+    let schedule = schedule_at(alloc, value)?;
+    Ok(StageKeys {
+        launches,
+        sizes,
+        inputs,
+        schedule,
+    })
+}
+
+// The work-items of the kernel of this number, from its object.
+fn stage_in(number: usize, ask: Ask, value: &Value) -> Result<Count, LaunchNo>
+    ensures ok { IfOk result (λ c. stage_judged number ask (view value.now) ≡ Ok (count_of c)) }
+    ensures refused { IfErr result (λ e. stage_judged number ask (view value.now) ≡ Err e) }
+{
+    let global = whole_at(value, "global").ok_or(LaunchNo::Missing(Key::GlobalOf(number)))?;
+    let local = whole_at(value, "local").ok_or(LaunchNo::Missing(Key::LocalOf(number)))?;
+    let (global, local) = work_items(ask, global, local)?;
+    Ok(Count { global, local })
+}
+
+// The work-items of each kernel, in turn.
+fn stages_in(alloc: Global, asks: &[Ask], values: &[Value]) -> Result<Vec<Count>, LaunchNo>
+    requires as_many { length asks.now ≡ length values.now }
+    ensures ok { let judged = stages_judged_from 0 asks.now (values_in values.now) in
+        IfOk result (λ cs. judged ≡ Ok (map count_of cs.items)) }
+    ensures refused { let judged = stages_judged_from 0 asks.now (values_in values.now) in
+        IfErr result (λ e. e ≢ Memory → judged ≡ Err e) }
+{
+    let mut counts = Vec::new(alloc);
+    for (number, ask) in asks.iter().enumerate() {
+        counts.push(stage_in(number, *ask, &values[number])?)?;
+    }
+    Ok(counts)
+}
+
+// An equal schedule in memory of its own.
+fn copied(alloc: Global, schedule: &Schedule) -> Result<Schedule, AllocError>
+    ensures { IfOk result (λ s. schedule_of s ≡ schedule_of schedule.now) }
+{
+    match schedule {
+        Schedule::Numbers(numbers) => Ok(Schedule::Numbers(Vec::from_slice(alloc, numbers)?)),
+        Schedule::Seed(seed) => Ok(Schedule::Seed(*seed)),
+    }
+}
+
+// A kernel's launch at these sizes, with the inputs and the schedule that all kernels share.
+fn stage_file(
+    alloc: Global,
+    program: &Program,
+    given: &[u32],
+    keys: &StageKeys<'_>,
+    count: Count,
+) -> Result<LaunchFile, LaunchNo>
+    requires names { AreNames (map range_of program.now.sizes.items) }
+    requires ranges { AllInRange program.now.sizes.items given.now }
+    requires lengths { InputsFit given.now (map input_of program.now.inputs.items) }
+    ensures ok { let judged =
+        stage_file_judged (program_of program.now) given.now (keys_of keys.now) (count_of count) in
+        IfOk result (λ f. judged ≡ Ok (given_by f)) }
+    ensures refused { let judged =
+        stage_file_judged (program_of program.now) given.now (keys_of keys.now) (count_of count) in
+        IfErr result (λ e. e ≢ Memory → judged ≡ Err e) }
+{
+    let inputs = inputs_in(alloc, given, &program.inputs, keys.inputs)?;
+    Ok(LaunchFile {
+        launch: Launch {
+            global: (count.global, 1),
+            local: (count.local, 1),
+            sizes: Vec::from_slice(alloc, given)?,
+        },
+        sizes: bases_of(alloc, &program.sizes, given)?,
+        inputs,
+        schedule: copied(alloc, &keys.schedule)?,
+    })
+}
+
+// The launch of each kernel. Inputs are read before, and once more for each: a value has one owner.
+fn stage_files(
+    alloc: Global,
+    program: &Program,
+    given: &[u32],
+    keys: &StageKeys<'_>,
+    counts: &[Count],
+) -> Result<Vec<LaunchFile>, LaunchNo>
+    requires names { AreNames (map range_of program.now.sizes.items) }
+    requires ranges { AllInRange program.now.sizes.items given.now }
+    requires lengths { InputsFit given.now (map input_of program.now.inputs.items) }
+    ensures ok { let judged = files_judged (program_of program.now) given.now (keys_of keys.now)
+        (map count_of counts.now) in
+        IfOk result (λ fs. judged ≡ Ok (map given_by fs.items)) }
+    ensures refused { let judged = files_judged (program_of program.now) given.now
+        (keys_of keys.now) (map count_of counts.now) in
+        IfErr result (λ e. e ≢ Memory → judged ≡ Err e) }
+{
+    inputs_in(alloc, given, &program.inputs, keys.inputs)?;
+    let mut files = Vec::new(alloc);
+    for count in counts {
+        files.push(stage_file(alloc, program, given, keys, *count)?)?;
+    }
+    Ok(files)
+}
+
+// What the value gives to each kernel.
+#[tactic(auto, using(crate::proofs::Whole::ranges_are))]
+fn stages_of(
+    alloc: Global,
+    value: &Value,
+    program: &Program,
+    asks: &[Ask],
+) -> Result<Vec<LaunchFile>, LaunchNo>
+    requires { HasProperInputs (program_of program.now) }
+    ensures ok { let judged = stages_judged (program_of program.now) asks.now (view value.now) in
+        IfOk result (λ fs. judged ≡ Ok (map given_by fs.items)) }
+    ensures refused { let judged = stages_judged (program_of program.now) asks.now (view value.now) in
+        IfErr result (λ e. e ≢ Memory → judged ≡ Err e) }
+{
+    if !value.is_object() {
+        return Err(LaunchNo::NotJson);
+    }
+    let keys = find_stage_keys(alloc, asks.len(), value)?;
+    let given = sizes_in(alloc, &program.sizes, keys.sizes)?;
+    let counts = stages_in(alloc, asks, keys.launches)?;
+    stage_files(alloc, program, &given, &keys, &counts)
+}
+
+/// The launch file that the bytes are for the kernels of a program in order: for each an admissible
+/// launch, and for all the inputs, of their types, and the schedule, which each begins anew.
+///
+/// The checks are those of `read_launch`, in its order, but for these. `Missing(launches)` stands in
+/// place of `global` and `local`: the list isn't there, or hasn't just one object for each kernel.
+/// In place of `Local` and `NotTask` come, for each kernel in turn, `Missing` for its `global` and
+/// its `local`, then `Local` and `NotTask`. `global` and `local` beside `launches` are passed over.
+/// Want of memory may come at any point.
+///
+/// The inputs are those that typing takes, as for `read_launch`.
+#[tactic(auto, using(crate::proofs::InOrder::stages_file_is))]
+pub fn read_stages(
+    alloc: Global,
+    bytes: &[u8],
+    program: &Program,
+    asks: &[Ask],
+) -> Result<Vec<LaunchFile>, LaunchNo>
+    requires { HasProperInputs (program_of program.now) }
+    ensures ok { IfOk result (λ fs.
+        IsStagesFile (program_of program.now) asks.now bytes.now (map given_by fs.items)) }
+    ensures refused { IfErr result (λ e. e ≢ Memory
+        → RefusesStages (program_of program.now) asks.now bytes.now e) }
+{
+    match Value::from_slice(alloc, bytes) {
+        Ok(value) => {
+            let files = stages_of(alloc, &value, program, asks);
+            discard(value);
+            files
+        }
+        Err(error) if error.classify() == Category::Memory => Err(LaunchNo::Memory),
+        Err(_) => Err(LaunchNo::NotJson),
+    }
+}

@@ -1,0 +1,140 @@
+-- How many nodes each index and each bound of a term's kernel may have: an index as many as the
+-- formulas of its array and of the layouts around it put into one another, a bound as many as its
+-- length. They stand in the order of the kernel's statements.
+use Rattle.std.specs.Prelude.{ℕ, Bool, true, false, List, [], ◌∷◌, Option, Some, None}
+use Rattle.size_arith.specs.declared.names.Name.{Name}
+use Rattle.lift_tree.specs.Annotations.{Annotation, type_in}
+use Rattle.lift_tree.specs.Tree.{Tree}
+use Rattle.lift_tree.specs.Typing.{Declared}
+use Rattle.lift_ir.specs.AtLaunch.{shape_of}
+use Rattle.lift_ir.specs.Layouts.{Layout}
+use Rattle.lift_ir.specs.Types.{Shape, Ty, Scalar, PairOf, ArrayOf}
+use Rattle.lift_ir.specs.Terms.{LoadSet, Skip, Take, Each, Kind, Global, WorkGroup, Local, Sequential, Term, Bound, Source, Both, Project, Reshape, LetArray, LetElement, Map, Fold, Store, Copy, push}
+use Rattle.lift_ir.specs.Scalars.{by_side}
+use Rattle.index_expr.specs.Expression.{Expression, Literal, short_nodes}
+use Rattle.length_spelling.specs.Formulas.{spelled_length}
+use Rattle.printed_form.specs.MapForms.{MapForm, Looped, Guarded, Alone, MapForms, form_over_groups}
+use Rattle.printed_form.specs.Programs.{input_shape, lowered_root}
+use Rattle.array_views.specs.Arrays.{spelled_shape}
+use Rattle.array_views.specs.Layouts.{spelled_layout}
+use Rattle.array_views.specs.NodeCounts.{operand_nodes, result_nodes, placed_nodes}
+use Rattle.group_form.specs.ChosenForms.{forms_of}
+
+-- how many nodes the index of a scalar may have, by its pair choices and the nodes of the indices;
+-- none where no array holds it
+abbrev pub IndexNodes : Type 0
+IndexNodes = List Bool → List ℕ → Option ℕ
+
+abbrev pub no_index : IndexNodes
+no_index = λ cs ns. None
+
+-- of an element whose index is a variable or a number: one node
+abbrev pub at_one_node : IndexNodes → IndexNodes
+at_one_node x = λ cs ns. x cs (1 ∷ ns)
+
+-- of an element, these of whose scalars variables hold
+abbrev pub after_loads : LoadSet → IndexNodes → IndexNodes
+after_loads Skip x = x
+after_loads Take x = no_index
+after_loads (Each a b) x =
+    by_side (λ ns. None) (after_loads a (λ cs. x (false ∷ cs))) (after_loads b (λ cs. x (true ∷ cs)))
+
+-- the limit of a load or a store, and then these
+abbrev pub index_limit : Option ℕ → (after : List ℕ) → List ℕ
+index_limit None after = after
+index_limit (Some n) after = n ∷ after
+
+-- one store for each component
+abbrev pub store_limits : Ty → IndexNodes → (after : List ℕ) → List ℕ
+store_limits Scalar to after = index_limit (to [] []) after
+store_limits (PairOf a b) to after =
+    store_limits a (λ cs. to (false ∷ cs)) (store_limits b (λ cs. to (true ∷ cs)) after)
+store_limits (ArrayOf m t) to after = after
+
+-- one load for each of these components
+abbrev pub load_limits : LoadSet → IndexNodes → (after : List ℕ) → List ℕ
+load_limits Skip x after = after
+load_limits Take x after = index_limit (x [] []) after
+load_limits (Each a b) x after =
+    load_limits a (λ cs. x (false ∷ cs)) (load_limits b (λ cs. x (true ∷ cs)) after)
+
+-- a loop and an `if` have a bound
+abbrev pub bound_limit : MapForm → (length : ℕ) → (after : List ℕ) → List ℕ
+bound_limit Looped n after = n ∷ after
+bound_limit Guarded n after = n ∷ after
+bound_limit Alone n after = after
+
+-- of a map of a kind
+abbrev pub form_of_map : {A : Type 0} → MapForms A → Kind → A → MapForm
+form_of_map forms Sequential n = Looped
+form_of_map forms Global n = Looped
+form_of_map forms Local n = forms.local n
+form_of_map forms WorkGroup n = form_over_groups (forms.once n)
+
+-- in arrays of this type, where lengths are spelled so
+abbrev pub array_nodes : {A : Type 0} → (A → Expression) → Shape A → IndexNodes
+array_nodes spell t = λ cs ns. Some (placed_nodes short_nodes (spelled_shape spell t) ns)
+
+-- and through a layout, from its result to its operand and from its operand to its result
+abbrev pub read_through : {A : Type 0} → (A → Expression) → Layout A → IndexNodes → IndexNodes
+read_through spell y x = λ cs ns. x cs (operand_nodes short_nodes (spelled_layout spell y) ns)
+
+abbrev pub written_through : {A : Type 0} → (A → Expression) → Layout A → IndexNodes → IndexNodes
+written_through spell y to = λ cs ns. to cs (result_nodes short_nodes (spelled_layout spell y) ns)
+
+-- lengths are spelled so, maps have these forms, and inputs these types
+module _ {A : Type 0} (spell : A → Expression) (forms : MapForms A) (src : ℕ → Shape A) where
+  -- what an argument's scalars may have, where the binders' have these
+  abbrev pub argument_nodes : (ℕ → IndexNodes) → Term A → IndexNodes
+  argument_nodes env (Bound v) = env v
+  argument_nodes env (Source v) = array_nodes spell (src v)
+  argument_nodes env (Both zips x y) =
+      by_side (λ ns. None) (argument_nodes env x) (argument_nodes env y)
+  argument_nodes env (Project s x) = λ cs ns. argument_nodes env x (s ∷ cs) ns
+  argument_nodes env (Reshape y x) = read_through spell y (argument_nodes env x)
+  argument_nodes env (LetArray v b) = argument_nodes (push (argument_nodes env v) env) b
+  argument_nodes env (Copy space ty x) = array_nodes Literal ty
+  argument_nodes env _ = no_index
+
+  -- the element of an array at a turn of a map or a fold over it
+  abbrev pub element_nodes : (ℕ → IndexNodes) → (array : Term A) → IndexNodes
+  element_nodes env xs = at_one_node (argument_nodes env xs)
+
+  abbrev mutual
+    -- the limits of the statements of an argument, which are those of its copies, and then these
+    pub argument_limits : (ℕ → IndexNodes) → Term A → (after : List ℕ) → List ℕ
+    argument_limits env (Both zips x y) after =
+        argument_limits env x (argument_limits env y after)
+    argument_limits env (Project s x) after = argument_limits env x after
+    argument_limits env (Reshape y x) after = argument_limits env x after
+    argument_limits env (LetArray v b) after =
+        argument_limits env v (argument_limits (push (argument_nodes env v) env) b after)
+    argument_limits env (Copy space ty x) after = written_limits env x (array_nodes Literal ty) after
+    argument_limits env _ after = after
+
+    -- and of a term in writing position, whose scalars go there
+    pub written_limits : (ℕ → IndexNodes) → Term A → (to : IndexNodes) → (after : List ℕ) → List ℕ
+    written_limits env (Store ty x) to after = store_limits ty to after
+    written_limits env (Reshape y x) to after =
+        written_limits env x (written_through spell y to) after
+    written_limits env (LetArray v b) to after =
+        argument_limits env v (written_limits (push (argument_nodes env v) env) b to after)
+    written_limits env (LetElement ty v b) to after = written_limits (push no_index env) b to after
+    written_limits env (Map kind n loads xs b) to after =
+        argument_limits env xs
+        (bound_limit (form_of_map forms kind n) (short_nodes (spell n))
+        (load_limits loads (element_nodes env xs)
+        (written_limits (push (after_loads loads (element_nodes env xs)) env) b (at_one_node to)
+        after)))
+    written_limits env (Fold n loads ty xs s b) to after =
+        argument_limits env xs
+        (short_nodes (spell n)
+        ∷ load_limits loads (element_nodes env xs) (store_limits ty (at_one_node to) after))
+    written_limits env _ to after = after
+
+-- of a program's typed term, where this local size is fixed
+abbrev pub limits_of : Declared → (local : Option ℕ) → Tree → Annotation → List ℕ
+limits_of d local t a =
+    written_limits (spelled_length d.names) (forms_of d.names local) (input_shape d.inputs)
+    (λ v. no_index) (lowered_root d.names t a)
+    (array_nodes (spelled_length d.names) (shape_of (type_in a))) []
