@@ -1,32 +1,33 @@
 #!/usr/bin/env python3
 """How long `lift demo 7` takes, and how many events it makes in a second.
 
-usage: bench/demo.py
+usage: bench/demo.py [CALLS]
 
-The demo compiles the tiled stencil of 4,096 numbers and runs it by 256 work-items along a seed's schedule. Prints the least
-time of ten calls, and the instructions of one (valgrind --tool=callgrind), each also per event: reading, rewriting, printing
-and reading back are in it.
+The demo compiles the tiled stencil of 4,096 numbers and runs it by 256 work-items along a seed's schedule. Prints the line of
+`lift demo 7`; the least time of CALLS calls, 100 if not told, from the start of the process to its end, and the events that are in
+a second so; the instructions of a call an event (valgrind --tool=callgrind), and of them those of the device with its start. The
+others read, rewrite, judge, plan, print and read back.
 
-Counted once: 358 instructions an event. Timed once, beside other work, of an earlier state with 458: 6.3 ms, 11.5 million
-events a second.
+What was seen stands in README.md.
 """
 import re
+import sys
 import tempfile
 from pathlib import Path
 
-from programs import instructions, seconds
+from programs import on_device, seconds
 
 WORDS = ["demo", "7"]
 
 
-def main():
+def main(calls="100"):
     with tempfile.TemporaryDirectory() as name:
-        work, line = instructions(Path(name), WORDS)
+        device, rest, line = on_device(Path(name), WORDS)
     events = int(re.search(r"events (\d+)", line).group(1))
-    spent = seconds(WORDS, 10)
+    spent = seconds(WORDS, int(calls))
     print(line, end="")
-    print(f"{1e3 * spent:.1f} ms, {events / spent / 1e6:.2f} million events a second, {work / events:.0f} instructions an event")
+    print(f"{1e3 * spent:.1f} ms, {events / spent / 1e6:.1f} million events a second, {(device + rest) / events:.0f} instructions an event, {device / events:.0f} of them on the device")
 
 
 if __name__ == "__main__":
-    main()
+    main(*sys.argv[1:])

@@ -1,44 +1,49 @@
 #!/usr/bin/env python3
 """What an event of `lift run` costs as the work-items grow in number.
 
-usage: bench/items.py
+usage: bench/items.py [CALLS]
 
 Runs a map over the launch that adds 1 to each number, of 10^6 events in all, by 1, 64, 4,096 and 65,536 work-items, in order and
-along a seed's schedule. Prints the instructions (valgrind --tool=callgrind) of the device alone, with the start of each
-work-item, per event, and the events in a second of the whole call of `lift run`, the fastest of 5. A call reads the launch file
-and writes the result too, so the device alone is faster: its share of the call's instructions is told.
+along a seed's schedule: each item has three events for each of its numbers, and one that ends it. So 978,000 to 1,000,000 events
+go over 311,000 to 333,000 numbers, which a launch file of 10^6 bytes gives and a line of 670,000 bytes tells. Prints for each
 
-Counted once: in order 165 instructions an event by one work-item, 165 by 64, 171 by 4,096 and 278 by 65,536; from a seed 168,
-233, 300 and 437. Timed once, beside other work, of an earlier state with 276 to 546: 20.9, 22.6, 13.6 and 12 million events a
-second in order; from a seed 27.9, 11, 5.7 and 3.2.
+- the instructions of the device, with the start of each work-item, an event (valgrind --tool=callgrind);
+- those of all else in the same call, an event: reading the program, the script, the kernel and the launch file, and writing the
+  result;
+- the events in a second of the whole call of `lift run`, as its process is started and ended: the fastest of CALLS, 15 if not told.
+
+What was seen stands in README.md.
 """
 import json
+import sys
 import tempfile
 from pathlib import Path
 
-from programs import instructions, on_device, seconds
+from programs import on_device, seconds
 
 PROGRAM = "size N from 1 to 1000000;\ninput xs: [u32; N];\noutput map(\\x. add(x, 1), xs)"
 EVENTS = 10**6
+ITEMS = ((1, 1), (64, 64), (4096, 256), (65536, 256))
+SCHEDULES = (("in order", []), ("from a seed", {"seed": 7}))
 
 
-def main():
+def main(calls="15"):
     with tempfile.TemporaryDirectory() as name:
         folder = Path(name)
         program, script, launch = folder / "p", folder / "s", folder / "l"
         program.write_text(PROGRAM)
         script.write_text("at . to-glb\n")
-        for items, group in ((1, 1), (64, 64), (4096, 256), (65536, 256)):
+        for items, group in ITEMS:
             turns = (EVENTS - items) // 3
-            for told, schedule in (("in order", []), ("from a seed", {"seed": 7})):
+            for told, schedule in SCHEDULES:
                 given = {"global": items, "local": group, "sizes": {"N": turns}, "inputs": {"xs": [1] * turns}, "schedule": schedule}
                 launch.write_text(json.dumps(given))
                 run = ["run", program, script, launch]
-                work, line = on_device(folder, run)
-                whole, _ = instructions(folder, run)
+                device, rest, line = on_device(folder, run)
                 events = json.loads(line)["events"]
-                print(f"{items} work-items, {told}: {events} events, {work / events:.0f} instructions an event, {work / whole:.0%} of the call, {events / seconds(run, 5) / 1e6:.1f} million events a second", flush=True)
+                fastest = seconds(run, int(calls))
+                print(f"{items} work-items, {told}: {events} events, {device / events:.0f} instructions an event on the device and {rest / events:.0f} outside, {events / fastest / 1e6:.1f} million events a second", flush=True)
 
 
 if __name__ == "__main__":
-    main()
+    main(*sys.argv[1:])

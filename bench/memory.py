@@ -1,14 +1,17 @@
 #!/usr/bin/env python3
-"""What memory the machine of `lift run` takes at its start, by cells and by work-items.
+"""What memory `lift run` and `lift eval` take, by cells and by work-items.
 
 usage: bench/memory.py
 
-Runs a map over the launch, from one input number to 1,000 and to a million numbers, by 1 and by 65,536 work-items, and
-prints the most memory that each call took. After its start the machine takes none; the text of the value is made behind it,
-as in `lift eval`, whose peak stands beside.
+Runs and evaluates two maps that add 1, for a result of 1,000 and of a million numbers: over one input number padded with
+zeroes, so that the output's cells are all but one of those in memory; and over as many input numbers, each read from the launch
+file. The runs are by 1 and by 65,536 work-items over the launch. Prints the most memory that each call took, from its start to
+its end, of the whole process (GNU's time). The first line is a program of one number, which tells what all calls take.
 
-Taken once: for 10^6 cells `run` took 15 MB by one work-item and 26 by 65,536, `eval` 66. With 10^6 input cells too, each read
-from the launch file, `run` took 67 MB.
+The device takes its memory at its start, and none after. Before it the launch file is read as JSON; behind it the text of the
+value is made, as in `eval`.
+
+What was seen stands in README.md.
 """
 import json
 import tempfile
@@ -16,19 +19,39 @@ from pathlib import Path
 
 from programs import peak
 
+ITEMS = ((1, 1), (65536, 256))
+
+
+def padded(cells):
+    """A map over one input number and as many zeroes as are wanted, and its input."""
+    return f"input xs: [u32; 1];\noutput map(\\x. add(x, 1), pad({cells - 1}, 0, xs))", [1]
+
+
+def read(cells):
+    """A map over so many input numbers, and these."""
+    return f"input xs: [u32; {cells}];\noutput map(\\x. add(x, 1), xs)", [1] * cells
+
+
+def printed(folder, told, shape, items=ITEMS):
+    """Prints the memory of an evaluation and of runs by so many work-items."""
+    program, script, launch = folder / "p", folder / "s", folder / "l"
+    text, numbers = shape
+    program.write_text(text)
+    script.write_text("at . to-glb\n")
+    peaks = []
+    for count, group in items:
+        launch.write_text(json.dumps({"global": count, "local": group, "sizes": {}, "inputs": {"xs": numbers}}))
+        peaks.append(f"run by {count} {peak(['run', program, script, launch]) / 1e6:.1f} MB")
+    print(f"{told}: {', '.join(peaks)}, eval {peak(['eval', program, launch]) / 1e6:.1f} MB", flush=True)
+
 
 def main():
     with tempfile.TemporaryDirectory() as name:
         folder = Path(name)
-        program, script, launch = folder / "p", folder / "s", folder / "l"
-        script.write_text("at . to-glb\n")
+        printed(folder, "one input and one output cell", padded(1), ITEMS[:1])
         for cells in (1000, 10**6):
-            program.write_text(f"input xs: [u32; 1];\noutput map(\\x. add(x, 1), pad({cells - 1}, 0, xs))")
-            launch.write_text(json.dumps({"sizes": {}, "inputs": {"xs": [1]}}))
-            print(f"{cells} cells: eval {peak(['eval', program, launch]) / 1e6:.1f} MB")
-            for items, group in ((1, 1), (65536, 256)):
-                launch.write_text(json.dumps({"global": items, "local": group, "sizes": {}, "inputs": {"xs": [1]}}))
-                print(f"{cells} cells, {items} work-items: run {peak(['run', program, script, launch]) / 1e6:.1f} MB", flush=True)
+            printed(folder, f"one input cell, {cells} output cells", padded(cells))
+            printed(folder, f"{cells} input cells, {cells} output cells", read(cells))
 
 
 if __name__ == "__main__":

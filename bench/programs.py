@@ -29,10 +29,12 @@ def instructions(folder, words, status=0):
 
 
 def on_device(folder, words):
-    """The instructions of the device alone in one call of `lift run` or `lift demo`, with its start, and what the call wrote."""
-    _, wrote = instructions(folder, words)
+    """The instructions of the device in one call of `lift run` or `lift demo`, with its start; those of all else in the call; and
+    what the call wrote."""
+    whole, wrote = instructions(folder, words)
     told = subprocess.run(["callgrind_annotate", "--inclusive=yes", folder / "callgrind"], stdout=subprocess.PIPE, stderr=subprocess.DEVNULL, text=True, check=True)
-    return max(int(it.replace(",", "")) for it in re.findall(r"^ *([0-9,]+) .*ndrange_device::", told.stdout, re.M)), wrote
+    device = max(int(it.replace(",", "")) for it in re.findall(r"^ *([0-9,]+) .*ndrange_device::", told.stdout, re.M))
+    return device, whole - device, wrote
 
 
 def seconds(words, times=1, program=LIFT):
@@ -46,8 +48,8 @@ def seconds(words, times=1, program=LIFT):
 
 
 def peak(words):
-    """The most memory that one call took, in bytes."""
-    child = subprocess.Popen([LIFT, *words], stdout=subprocess.DEVNULL)
-    _, status, usage = os.wait4(child.pid, 0)
-    assert status == 0, status
-    return usage.ru_maxrss * 1024
+    """The most memory that one call took, in bytes. GNU's time starts it: of a child of this script the system tells what this
+    script takes itself, where that is more."""
+    words = ["/usr/bin/time", "-f", "%M", LIFT, *words]
+    done = subprocess.run(words, stdout=subprocess.DEVNULL, stderr=subprocess.PIPE, text=True, check=True)
+    return int(done.stderr.split()[-1]) * 1024

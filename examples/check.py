@@ -4,7 +4,8 @@
     examples/check.py [--store] [PROGRAM]      PROGRAM is ./lift where none is given
 
 Beside a script NAME.txt, NAME.cl is its kernel and NAME.result the line of its run on NAME.json, or
-on launch.json where there is none. The value in that line is compared with that of `lift eval`, and
+on launch.json where there is none; of a script with the rule `then` they are what `lift stages` and
+`lift run-stages` write. The value in that line is compared with that of `lift eval`, and
 with that of values.py, its counts with those that counts.py makes of the kernel's text. A launch
 file may say more, for this check alone:
 
@@ -46,6 +47,7 @@ class Example:
         self.kernel, self.result, launch = map(script.with_suffix, (".cl", ".result", ".json"))
         self.launch = launch if launch.exists() else script.parent / "launch.json"
         self.told = json.loads(self.launch.read_text())
+        self.compile, self.run = pages.commands(script)
 
     def made(self, command, *files):
         """What the program writes, or None where it refuses."""
@@ -55,29 +57,29 @@ class Example:
 
     @cached_property
     def of_kernel(self):
-        return self.made("compile", self.script)
+        return self.made(self.compile, self.script)
 
     @cached_property
     def of_run(self):
-        return self.made("run", self.script, self.launch)
+        return self.made(self.run, self.script, self.launch)
 
     def values_differ(self):
         """Which value isn't that of values.py: of the run, of `eval`, of the call before."""
         given = slice(self.told.get("given"))
         inputs = {name: value[given] for name, value in self.told["inputs"].items()}
         wanted = VALUES[self.script.parent.name](**inputs)
-        lines = {"run": self.of_run, "eval": self.made("eval", self.launch)}
+        lines = {self.run: self.of_run, "eval": self.made("eval", self.launch)}
         values = {command: value_in(line) for command, line in lines.items()}
         wrong = [name for name, value in values.items() if value is None or value[given] != wanted]
         return [f"value of {name}" for name in wrong + self.calls_before_differ()]
 
     def counts_differ(self):
         """Whether the run's counts aren't those of its kernel's text."""
-        kernel, line = self.of_kernel, self.of_run
-        if kernel is None or line is None:
+        text, line = self.of_kernel, self.of_run
+        if text is None or line is None:
             return ["counts"]
         run = json.loads(line)
-        same = (run["events"], run["releases"]) == counts(kernel, self.told)
+        same = (run["events"], run["releases"]) == counts(text, self.told)
         return [] if same else ["counts"]
 
     def calls_before_differ(self):
@@ -91,7 +93,7 @@ class Example:
 
     def differs(self):
         """What isn't as stored."""
-        texts = {"compile": (self.kernel, self.of_kernel), "run": (self.result, self.of_run)}
+        texts = {self.compile: (self.kernel, self.of_kernel), self.run: (self.result, self.of_run)}
         return [
             command
             for command, (file, text) in texts.items()
@@ -101,8 +103,8 @@ class Example:
     def store(self):
         """Writes the kernel and the result line anew, and says whether one of them changed."""
         changed = self.differs()
-        kernel, line = self.of_kernel, self.of_run
-        self.kernel.write_text(kernel)
+        text, line = self.of_kernel, self.of_run
+        self.kernel.write_text(text)
         self.result.write_text(line)
         return changed
 

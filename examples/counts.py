@@ -1,4 +1,4 @@
-"""How many events and releases a kernel's run has, counted from its text alone.
+"""How many events and releases the runs of a text's kernels have, counted from the text alone.
 
 docs/DEVICE.md says what an event is: an assignment, a load, a store, the entry of a loop, the end
 of a turn, the test of an `if`, and one release for each barrier that a group goes past. Which order
@@ -9,6 +9,16 @@ import re
 LOOP = re.compile(r"for \(uint (i\d+) = (.*); i\d+ < (.*); i\d+ \+= (.*)\) \{")
 TEST = re.compile(r"if \((.*) < (.*)\) \{")
 DECLARATION = re.compile(r"(__local )?uint \w+(\[\d+\])?;")
+
+
+def kernels_of(text):
+    """The kernels of a text, in order."""
+    return re.split(r"^(?=__kernel )", text, flags=re.M)[1:]
+
+
+def launches_of(launch):
+    """The launch of each kernel: those at `launches`, or the file's own alone."""
+    return [{**launch, **it} for it in launch.get("launches", [launch])]
 
 
 def statements(kernel):
@@ -62,15 +72,25 @@ def loop(variable, start, bound, step, inner, names):
     return events, barriers
 
 
-def counts(kernel, launch):
-    """Events, releases among them, and releases of a run under a launch file."""
+def names_of(item, launch):
+    """What an item's expressions may name, but for loop variables and private ones."""
     total, group = launch["global"], launch["local"]
     sizes = {f"s{k}": size for k, size in enumerate(launch["sizes"].values())}
     sizes |= {"global_size": total, "local_size": group, "num_groups": total // group}
+    return sizes | {"global_id": item, "local_id": item % group, "group_id": item // group}
+
+
+def counts_of(kernel, launch):
+    """Events, releases among them, and releases of a kernel's run."""
     body, events, releases = statements(kernel), 0, 0
-    for item in range(total):
-        ids = {"global_id": item, "local_id": item % group, "group_id": item // group}
-        taken, barriers = steps(body, sizes | ids)
+    for item in range(launch["global"]):
+        taken, barriers = steps(body, names_of(item, launch))
         events += taken
-        releases += barriers if item % group == 0 else 0
+        releases += barriers if item % launch["local"] == 0 else 0
     return events + releases, releases
+
+
+def counts(text, launch):
+    """Events, releases among them, and releases of the runs under a launch file, in all."""
+    runs = zip(kernels_of(text), launches_of(launch), strict=True)
+    return tuple(map(sum, zip(*(counts_of(*it) for it in runs))))

@@ -9,11 +9,15 @@ on NAME.json, or on launch.json where there is none, drawn by picture.py. A line
 a head from a comment on the first step. With --check nothing is written, and what isn't as it would
 be is named.
 """
+import json
 import os
 import subprocess
 import sys
 from pathlib import Path
 
+import inorder
+import pages
+from counts import kernels_of
 from picture import picture, run
 
 EXAMPLES = Path(__file__).resolve().parent
@@ -40,6 +44,10 @@ run` makes of it on the launch file beside the script, which gives the same valu
 schedule. [examples](../examples/README.md) has the files, `lift steps` shows the term behind each
 step, and [LESSON.md](LESSON.md) goes through one program step by step. `examples/gallery.py` writes
 this page.
+
+A script that cuts its term by `then` has several kernels in order, of which `lift stages` writes the
+text and each has a picture of its own run; those runs are made by `examples/inorder.py` from the
+text alone.
 
 A script `fixed` begins with `launch local K`: its kernel asks for groups of K, and has an `if` or no
 statement at all where the one beside it has a loop over items ([PRINTED.md](PRINTED.md)).
@@ -80,28 +88,53 @@ def last_term(program, script):
     return done.stdout.splitlines()[-1]
 
 
-def strategy(program, script):
-    """A strategy's part of the page, its picture's name and its picture."""
+def launch_of(script):
     launch = script.with_suffix(".json")
-    launch = launch if launch.exists() else script.parent / "launch.json"
-    started, events, result = run(program, script.parent / "program.lift", script, launch)
-    name, (told, steps) = f"{script.parent.name}-{script.stem}.svg", head_and_rest(script)
-    kernel = script.with_suffix(".cl").read_text()
-    counts = (
+    return launch if launch.exists() else script.parent / "launch.json"
+
+
+def runs_of(program, script):
+    """Each kernel with its run: its launch, its events and its counts."""
+    source, launch = script.parent / "program.lift", launch_of(script)
+    text = script.with_suffix(".cl").read_text()
+    if pages.commands(script)[0] == "compile":
+        return [(text, run(program, source, script, launch))]
+    told = json.loads(launch.read_text())
+    lists = inorder.input_lists(source.read_text(), told)
+    return list(zip(kernels_of(text), inorder.runs(text, told, lists), strict=True))
+
+
+def counted(kernel, started, result):
+    """The counts of a kernel's run, in words."""
+    return (
         f"{result['events']} events, {result['releases']} releases,"
         f" {kernel.count('barrier(')} barriers in the text, by {started['global']}"
         f" work-item{'s' if started['global'] > 1 else ''} in groups of {started['local']}."
     )
+
+
+def strategy(program, script):
+    """A strategy's part of the page, and its pictures by their names."""
+    told, steps = head_and_rest(script)
+    runs = runs_of(program, script)
     parts = [
         f"### {script.stem}\n\n{told}\n",
         block("", steps),
         "The last term:\n",
         block("", last_term(program, script)),
-        "Its kernel:\n",
-        block("c", kernel),
-        f"{counts}\n\n![{told or script.stem}](gallery/{name})\n",
+        "Its kernel:\n" if len(runs) == 1 else "Its kernels, in order:\n",
+        block("c", script.with_suffix(".cl").read_text()),
     ]
-    return "\n".join(parts), name, picture(started, events, result)
+    pictures = {}
+    for number, (kernel, (started, events, result)) in enumerate(runs):
+        which = "" if len(runs) == 1 else f"-{number}"
+        name = f"{script.parent.name}-{script.stem}{which}.svg"
+        first = f"`lift{number}`: " if which else ""
+        parts.append(
+            f"{first}{counted(kernel, started, result)}\n\n![{told or script.stem}](gallery/{name})\n"
+        )
+        pictures[name] = picture(started, events, result)
+    return "\n".join(parts), pictures
 
 
 def scripts_of(folder):
@@ -117,9 +150,9 @@ def made(program):
         told, source = head_and_rest(folder / "program.lift")
         page.append(f"## {folder.name}\n\n{told}\n\n{block('', source)}")
         for script in scripts_of(folder):
-            text, name, drawn = strategy(program, script)
+            text, pictures = strategy(program, script)
             page.append(text)
-            files[PICTURES / name] = drawn
+            files |= {PICTURES / name: drawn for name, drawn in pictures.items()}
     return {**files, DOCS / "GALLERY.md": "\n".join(page)}
 
 

@@ -4,7 +4,7 @@ A block of STRATEGIES that begins with three back quotes, a word and a file show
 whose word is `nest` the loop nest of that kernel. `FOLDER/NAME`: E events, R releases tells the
 counts of NAME.result. `python3 examples/pages.py KERNEL` prints a kernel's loop nest.
 
-Each rule but those of UNPRINTED has to stand in some script of an example.
+Each rule has to stand in some script of an example.
 """
 import json
 import re
@@ -15,8 +15,6 @@ EXAMPLES = Path(__file__).resolve().parent
 TOP = EXAMPLES.parent
 LOOP = re.compile(r"for \(uint (i\d+) = (.*); i\d+ < (.*); i\d+ \+= .*\) \{")
 TEST = re.compile(r"if \((.*) < (.*)\) \{")
-# rules whose form `compile` refuses, so that no example has them
-UNPRINTED = {"then"}
 TAKERS = {
     "(uint)get_global_id(0)": "all items",
     "(uint)get_group_id(0)": "groups",
@@ -36,17 +34,27 @@ def rules():
     return [name.split()[0] for cell in cells for name in re.findall("`([^`]*)`", cell)]
 
 
+def rules_of(script):
+    """The rules of a script."""
+    lines = map(str.split, script.read_text().splitlines())
+    return {words[2] for words in lines if words[:1] == ["at"]}
+
+
+def commands(script):
+    """The commands that write and run what a script makes: of one kernel, or of several in order."""
+    return ("stages", "run-stages") if "then" in rules_of(script) else ("compile", "run")
+
+
 def rules_used():
     """The rules of the examples' scripts."""
-    lines = [line for it in EXAMPLES.glob("*/*.txt") for line in it.read_text().splitlines()]
-    return {words[2] for words in map(str.split, lines) if words[:1] == ["at"]}
+    return set().union(*map(rules_of, EXAMPLES.glob("*/*.txt")))
 
 
 def rules_otherwise():
     """The rules that stand in no script, and those of scripts that the page doesn't name."""
     named, used = rules(), rules_used()
     unknown = sorted(used.difference(named))
-    return [it for it in named if it not in used | UNPRINTED], unknown
+    return [it for it in named if it not in used], unknown
 
 
 def accesses(statement):
@@ -95,6 +103,9 @@ class Nest:
 
     def take(self, statement):
         head = head_of(statement)
+        of_several = re.match(r"__kernel .*void (lift\d+)\(", statement)
+        if of_several:
+            self.line(of_several[1])
         if head and head.startswith("in turn"):
             self.begin_item()
             self.go_into(head)

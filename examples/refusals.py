@@ -40,6 +40,27 @@ def tree(levels):
     return "x" if levels == 0 else f"add({tree(levels - 1)}, {tree(levels - 1)})"
 
 
+# a program in two stages, the script that cuts it between them, and launches of its two kernels
+STAGED = "input xs: [u32; 4]; output map(\\x. add(x, 1), map(\\x. mul(x, 2), xs))"
+CUTS = "at 0 to-glb\nat 0 then\nat . to-glb"
+TWO = [{"global": 2, "local": 1}, {"global": 2, "local": 1}]
+UNDER = "input xs: [u32; 2]; output let y = map(\\x. x, xs) in map(\\z. fold(\\a b. add(a, b), z, y), xs)"
+
+
+def launches(each):
+    return launch(**{"global": None, "local": None, "sizes": {}, "inputs": {"xs": [1, 2, 3, 4]}, "launches": each})
+
+
+# a term in so many stages, each a kernel's
+def stages(count):
+    return "input xs: [u32; 2]; output " + "map(\\x. x, " * count + "xs" + ")" * count
+
+
+def cuts(count):
+    places = [".".join("0" * k) or "." for k in range(count)]
+    return "\n".join([f"at {it} to-seq" for it in places] + [f"at {it} then" for it in places[:0:-1]])
+
+
 # a step whose term has two kernels
 CUT = "at 0 copy\nat 0 to-glb\nat 0 then\n"
 # (program, script or None, launch file or None, status, line): without a script it is an evaluation
@@ -116,6 +137,15 @@ ROWS = [
     (ADDED, "at . to-seq", launch(inputs={"xs": [1, 2]}), 12, "lift: launch: shape xs"),
     ("#" * 65537, None, None, 10, "lift: limit bytes: 65537"),
 ]
+# the same of several kernels
+IN_ORDER = [
+    (UNDER, "at 0 then\nat . let-inline", None, 11, "lift: nest: N13 at 1.0"),
+    (stages(17), cuts(17), None, 10, "lift: limit kernels: 17"),
+    (STAGED, CUTS, launch(**{"global": 2, "sizes": {}, "inputs": {"xs": [1, 2, 3, 4]}}), 12, "lift: launch: missing launches"),
+    (STAGED, CUTS, launches(TWO[:1]), 12, "lift: launch: missing launches"),
+    (STAGED, CUTS, launches([TWO[0], {"local": 1}]), 12, "lift: launch: missing launches.1.global"),
+    (STAGED, CUTS, launches([{"global": 2}, {}]), 12, "lift: launch: missing launches.0.local"),
+]
 
 MULTIPLE = ADDED.replace("from 1", "multiple 4 from 4")
 TILED = "at . split-map 4\nat 0.1 to-lcl\nat 0 to-wrg"
@@ -125,8 +155,8 @@ ARRAY_3 = ARRAY.replace("from 1", "from 3")
 DOUBLED = ARRAY + "reduce(add, 0, map(\\x. mul(x, 2), xs))"
 LARGE = "input xs: [u32; 16386]; output map(\\x. x, xs)"
 LOCAL_COPY = "at . split-map {}\nat 0.1.0 local-copy\nat 0.1 to-lcl\nat 0 to-wrg"
-# (what the page says of it, program, script or None): with a script a kernel is made, but for one
-# that has a `then`, which is run, and without one the program is typed
+# (what the page says of it, program, script or None): with a script a kernel is made, or several for
+# one that has a `then`, and without one the program is typed
 MENDED = [
     ("operator", ARRAY + "map(\\x. add(x, 1), xs)", None),
     ("project", ARRAY + "map(\\p. first(p), zip(xs, xs))", None),
@@ -166,13 +196,16 @@ MENDED = [
     ("N12", ADDED, "launch local 2\nat . to-glb"),
     ("N12", ADDED, "launch local 1\nat . to-seq"),
     ("N13", ADDED, "at 0 copy\nat . fuse-map\nat . to-glb"),
+    ("N13", ADDED, CUT + "at . to-glb"),
+    ("N13", UNDER, "at 1.1 fold-seq\nat 0 to-glb\nat 0 then\nat 1 to-glb"),
+    ("kernels", stages(16), cuts(16)),
     ("layouts", LAYERS, "at 0 join-split\nat . to-seq"),
     ("local", LARGE, LOCAL_COPY.format(6)),
     ("private", LARGE.replace("16386", "257"), "at . to-seq"),
 ]
 
 
-def answer(folder, program, script, launch_text):
+def answer(folder, program, script, launch_text, commands=("compile", "run")):
     names = {"program.lift": program, "script.txt": script, "launch.json": launch_text}
     for name, text in names.items():
         with open(f"{folder}/{name}", "w") as file:
@@ -180,9 +213,9 @@ def answer(folder, program, script, launch_text):
     if script is None:
         words = ["eval", "program.lift", "launch.json"]
     elif launch_text is None:
-        words = ["compile", "program.lift", "script.txt"]
+        words = [commands[0], "program.lift", "script.txt"]
     else:
-        words = ["run", "program.lift", "script.txt", "launch.json"]
+        words = [commands[1], "program.lift", "script.txt", "launch.json"]
     return called(folder, words)
 
 
@@ -196,6 +229,9 @@ def answers(folder):
     """What is wanted, the status and the line, and what came, for each row and for what words and files are refused for."""
     for program, script, launch_text, status, line in ROWS:
         yield (status, line), answer(folder, program, script, launch_text)
+    for program, script, launch_text, status, line in IN_ORDER:
+        came = answer(folder, program, script, launch_text, ("stages", "run-stages"))
+        yield (status, line), came
     yield (2, "lift: words"), called(folder, ["compile", "p"])
     yield (2, "lift: words"), called(folder, ["demo", "07"])
     yield (3, "lift: read NAME"), called(folder, ["compile", "NAME", "NAME"])
@@ -213,9 +249,10 @@ def mended(folder):
         for name, text in {"program.lift": program, "script.txt": script}.items():
             with open(f"{folder}/{name}", "w") as file:
                 file.write(text or "")
-        typed = script is None or " then" in script
-        words = ["steps" if typed else "compile", "program.lift", "script.txt"]
-        yield what, called(folder, words)[1]
+        command = "steps" if script is None or what.startswith("side") else "compile"
+        if command == "compile" and " then" in script:
+            command = "stages"
+        yield what, called(folder, [command, "program.lift", "script.txt"])[1]
 
 
 def told():

@@ -1,8 +1,9 @@
-/* Runs a program's kernel on an OpenCL device, and compares with the program's value.
+/* Runs a program's kernel on an OpenCL device, or its kernels in order, and compares with the program's value.
  *
  *     host PROGRAM SCRIPT LAUNCH
  *
- * Prints the value. Exit status 0: the device gave the value that `lift eval` gives; 1: another; 2: it didn't come so
+ * A launch file with the key `launches` is for the kernels of `lift stages`; in it each kernel but the last has a key
+ * `cells` too, the length of its scratch arrays, which `lift` passes over. Prints the value. Exit status 0: the device gave the value that `lift eval` gives; 1: another; 2: it didn't come so
  * far. The environment's LIFT names the program `lift` (./lift where it isn't set); the device is the first one there.
  * docs/HOST.md explains each step. POSIX and OpenCL 1.2. */
 #include <CL/cl.h>
@@ -14,8 +15,8 @@
 #include <sys/wait.h>
 #include <unistd.h>
 
-/* A program has at most 8 sizes, 8 inputs, 32 bytes a name, and 4 components a type. */
-enum { NAMES = 8, NAME_BYTES = 33, BUFFERS = (NAMES + 1) * 4 };
+/* A program has at most 8 sizes, 8 inputs, 32 bytes a name, and 4 components a type; a script at most 16 kernels. */
+enum { NAMES = 8, NAME_BYTES = 33, KERNELS = 16, BUFFERS = (NAMES + KERNELS) * 4 };
 static const cl_uint UNWRITTEN = 0xDEADBEEF;
 
 static _Noreturn void fail(const char *format, ...) {
@@ -171,13 +172,36 @@ static cl_uint *numbers(const char *value, size_t *count) {
   return made;
 }
 
-static size_t work_items(const char *launch, const char *key) {
-  const char *at = member(launch, key);
+static size_t number_at(const char *object, const char *key, const char *why) {
+  const char *at = member(object, key);
   const char *end = at ? past(at, "0123456789") : NULL;
-  if (!at || end == at || !strchr(" \t\r\n,}", *end))
-    fail("the launch file has no number of work-items at the key %s: `lift eval` needs none, a kernel does", key);
+  if (!at || end == at || !strchr(" \t\r\n,}", *end)) fail("the launch file has no number at the key %s: %s", key, why);
   return (size_t)strtoull(at, NULL, 10);
 }
+
+static size_t work_items(const char *launch, const char *key) {
+  return number_at(launch, key, "`lift eval` needs none, a kernel does");
+}
+
+/* The members of a list, at most KERNELS; how many there are. */
+static int members(const char *list, const char *found[KERNELS]) {
+  int count = 0;
+  const char *at = past(past(list, " \t\r\n") + 1, " \t\r\n");
+  while (*at != ']') {
+    if (count == KERNELS) fail("more than %d launches", KERNELS);
+    found[count++] = at;
+    at = past(value_end(at), " \t\r\n,");
+  }
+  return count;
+}
+
+/* ---- kernels ---- */
+
+typedef struct {
+  char name[NAME_BYTES];
+  cl_uint outputs;
+  size_t global, local, length; /* of each output */
+} Stage;
 
 /* The local size that the kernel's first line asks for, 0 where it asks for none. */
 static size_t fixed_size(const char *kernel) {
@@ -185,21 +209,62 @@ static size_t fixed_size(const char *kernel) {
   return at ? (size_t)strtoull(at + strlen(word), NULL, 10) : 0;
 }
 
+/* What is told of a kernel by its own text and its launch. */
+static Stage stage_of(const char *kernel, const char *launch) {
+  Stage made = {0};
+  const char *name = strstr(kernel, " lift") + 1;
+  memcpy(made.name, name, strcspn(name, "("));
+  made.outputs = (cl_uint)count_of(kernel, "__global uint *");
+  made.global = work_items(launch, "global");
+  made.local = work_items(launch, "local");
+  if (made.local < 1 || made.local > 256 || made.global < 1 || made.global > 65536 || made.global % made.local != 0)
+    fail("global %zu, local %zu: local is 1 to 256, global 1 to 65536, and local divides global", made.global, made.local);
+  size_t fixed = fixed_size(kernel);
+  if (fixed && fixed != made.local) fail("local %zu: this kernel is for groups of %zu", made.local, fixed);
+  if (made.global != 1 && !strstr(kernel, "get_")) fail("global %zu: this kernel is for one work-item", made.global);
+  return made;
+}
+
+/* The kernels of a text in order; the last one's outputs have so many numbers in all. */
+static int stages(char *text, const char *launch, size_t numbers_in_all, Stage made[KERNELS]) {
+  const char *list = member(launch, "launches"), *launches[KERNELS] = {launch};
+  int count = list ? members(list, launches) : 1, found = 0;
+  if (count != count_of(text, "__kernel ")) fail("%d launches for %d kernels", count, count_of(text, "__kernel "));
+  for (char *at = text, *next; found < count; at = next) {
+    next = strstr(at + 1, "__kernel ");
+    if (next) next[-1] = 0;
+    made[found] = stage_of(at, launches[found]);
+    if (next) next[-1] = '\n';
+    found++;
+    made[found - 1].length = found < count
+        ? number_at(launches[found - 1], "cells", "a host has to know how long the arrays between kernels are")
+        : numbers_in_all / made[found - 1].outputs;
+  }
+  return count;
+}
+
 /* ---- buffers ---- */
 
 typedef struct {
   cl_context context;
-  cl_kernel kernel;
-  cl_uint parameters;
-  cl_mem buffer[BUFFERS]; /* the first parameters, in order */
+  cl_command_queue queue;
+  cl_uint buffers;
+  cl_mem buffer[BUFFERS]; /* the first parameters of the next kernel, in order */
 } Host;
 
-static void add_buffer(Host *host, cl_mem_flags access, cl_uint *cells, size_t length) {
+static void add_buffer(Host *host, cl_uint *cells, size_t length) {
   cl_int status;
-  cl_mem *it = &host->buffer[host->parameters];
-  *it = clCreateBuffer(host->context, access | CL_MEM_COPY_HOST_PTR, length * sizeof *cells, cells, &status);
+  cl_mem_flags access = CL_MEM_READ_WRITE | CL_MEM_COPY_HOST_PTR;
+  host->buffer[host->buffers++] = clCreateBuffer(host->context, access, length * sizeof *cells, cells, &status);
   check(status, "clCreateBuffer");
-  check(clSetKernelArg(host->kernel, host->parameters++, sizeof *it, it), "clSetKernelArg");
+}
+
+/* A kernel's outputs. What stands there at the start doesn't matter. */
+static void add_outputs(Host *host, const Stage *stage) {
+  cl_uint *cells = memory(stage->length, sizeof *cells);
+  for (size_t cell = 0; cell < stage->length; cell++) cells[cell] = UNWRITTEN;
+  for (cl_uint k = 0; k < stage->outputs; k++) add_buffer(host, cells, stage->length);
+  free(cells);
 }
 
 /* One buffer for each component: number k of the value is cell k / components of buffer k % components. */
@@ -209,7 +274,7 @@ static void add_input(Host *host, const char *value, int components) {
   size_t length = count / (size_t)components;
   for (int k = 0; k < components; k++) {
     for (size_t cell = 0; cell < length; cell++) cells[cell] = flat[cell * (size_t)components + (size_t)k];
-    add_buffer(host, CL_MEM_READ_ONLY, cells, length);
+    add_buffer(host, cells, length);
   }
   free(flat);
   free(cells);
@@ -258,51 +323,56 @@ static cl_program built(cl_context context, cl_device_id device, const char *tex
   return program;
 }
 
+/* Runs a kernel: its parameters are the buffers so far, its own outputs the last, and then the sizes. */
+static void run(Host *host, cl_program program, const Stage *stage, const cl_uint *sizes, int size_count) {
+  cl_int status;
+  cl_uint parameter = 0;
+  cl_kernel kernel = clCreateKernel(program, stage->name, &status);
+  check(status, "clCreateKernel");
+  add_outputs(host, stage);
+  for (; parameter < host->buffers; parameter++)
+    check(clSetKernelArg(kernel, parameter, sizeof(cl_mem), &host->buffer[parameter]), "clSetKernelArg");
+  for (int k = 0; k < size_count; k++)
+    check(clSetKernelArg(kernel, parameter++, sizeof sizes[k], &sizes[k]), "clSetKernelArg");
+  check(clEnqueueNDRangeKernel(host->queue, kernel, 1, NULL, &stage->global, &stage->local, 0, NULL, NULL),
+        "clEnqueueNDRangeKernel");
+  clReleaseKernel(kernel);
+}
+
 int main(int count, char **words) {
   if (count != 4) fail("the words are PROGRAM SCRIPT LAUNCH");
   /* `eval` refuses a program or a launch file that is none, so both are well formed below. */
   char *expected_line = lift("eval", words[1], words[3]);
-  char *text = lift("compile", words[1], words[2]);
   char *program_text = text_of(words[1]), *launch = text_of(words[3]);
+  char *text = lift(member(launch, "launches") ? "stages" : "compile", words[1], words[2]);
   Declarations declared = declarations(program_text);
-  size_t global = work_items(launch, "global"), local = work_items(launch, "local");
-  if (local < 1 || local > 256 || global < 1 || global > 65536 || global % local != 0)
-    fail("global %zu, local %zu: local is 1 to 256, global 1 to 65536, and local divides global", global, local);
-  size_t fixed = fixed_size(text);
-  if (fixed && fixed != local) fail("local %zu: this kernel is for groups of %zu", local, fixed);
-  if (global != 1 && !strstr(text, "get_")) fail("global %zu: this kernel is for one work-item", global);
+  size_t cells_in_all;
+  cl_uint *expected = numbers(member(expected_line, "value"), &cells_in_all);
+  Stage stage[KERNELS];
+  int kernels = stages(text, launch, cells_in_all, stage);
 
   cl_int status;
   Host host = {0};
   cl_device_id device = first_device();
   host.context = clCreateContext(NULL, 1, &device, NULL, NULL, &status);
   check(status, "clCreateContext");
-  cl_command_queue queue = clCreateCommandQueue(host.context, device, 0, &status);
+  host.queue = clCreateCommandQueue(host.context, device, 0, &status);
   check(status, "clCreateCommandQueue");
   cl_program program = built(host.context, device, text);
-  host.kernel = clCreateKernel(program, "lift", &status);
-  check(status, "clCreateKernel");
 
-  /* Inputs, then outputs, then sizes. What stands in an output at the start doesn't matter. */
+  /* Inputs, then what the kernels before made, then a kernel's own outputs, then sizes. */
+  cl_uint sizes[NAMES];
+  for (int k = 0; k < declared.sizes; k++)
+    sizes[k] = (cl_uint)strtoul(member(member(launch, "sizes"), declared.size[k]), NULL, 10);
   for (int k = 0; k < declared.inputs; k++)
     add_input(&host, member(member(launch, "inputs"), declared.input[k]), declared.components[k]);
-  size_t cells_in_all;
-  cl_uint *expected = numbers(member(expected_line, "value"), &cells_in_all);
-  cl_uint *found = memory(cells_in_all, sizeof *found);
-  cl_uint components = (cl_uint)count_of(text, "__global uint *"), first = host.parameters;
-  size_t length = cells_in_all / components;
-  cl_uint *cells = memory(length, sizeof *cells);
-  for (size_t cell = 0; cell < length; cell++) cells[cell] = UNWRITTEN;
-  for (cl_uint k = 0; k < components; k++) add_buffer(&host, CL_MEM_WRITE_ONLY, cells, length);
-  cl_uint parameter = host.parameters;
-  for (int k = 0; k < declared.sizes; k++) {
-    cl_uint size = (cl_uint)strtoul(member(member(launch, "sizes"), declared.size[k]), NULL, 10);
-    check(clSetKernelArg(host.kernel, parameter++, sizeof size, &size), "clSetKernelArg");
-  }
+  for (int k = 0; k < kernels; k++) run(&host, program, &stage[k], sizes, declared.sizes);
 
-  check(clEnqueueNDRangeKernel(queue, host.kernel, 1, NULL, &global, &local, 0, NULL, NULL), "clEnqueueNDRangeKernel");
+  cl_uint components = stage[kernels - 1].outputs, first = host.buffers - components;
+  size_t length = stage[kernels - 1].length;
+  cl_uint *found = memory(cells_in_all, sizeof *found), *cells = memory(length, sizeof *cells);
   for (cl_uint k = 0; k < components; k++) {
-    check(clEnqueueReadBuffer(queue, host.buffer[first + k], CL_TRUE, 0, length * sizeof *cells, cells, 0, NULL, NULL),
+    check(clEnqueueReadBuffer(host.queue, host.buffer[first + k], CL_TRUE, 0, length * sizeof *cells, cells, 0, NULL, NULL),
           "clEnqueueReadBuffer");
     for (size_t cell = 0; cell < length; cell++) found[cell * components + k] = cells[cell];
   }
@@ -312,10 +382,9 @@ int main(int count, char **words) {
   int equal = memcmp(found, expected, cells_in_all * sizeof *found) == 0;
   if (!equal) fprintf(stderr, "host: lift eval gives %s", expected_line);
 
-  for (cl_uint k = 0; k < host.parameters; k++) clReleaseMemObject(host.buffer[k]);
-  clReleaseKernel(host.kernel);
+  for (cl_uint k = 0; k < host.buffers; k++) clReleaseMemObject(host.buffer[k]);
   clReleaseProgram(program);
-  clReleaseCommandQueue(queue);
+  clReleaseCommandQueue(host.queue);
   clReleaseContext(host.context);
   free(cells);
   free(found);

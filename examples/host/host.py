@@ -1,9 +1,10 @@
 #!/usr/bin/env python3
-"""Runs a program's kernel on an OpenCL device, and compares with the program's value.
+"""Runs a program's kernel on an OpenCL device, or its kernels in order, and compares with the program's value.
 
     host.py PROGRAM SCRIPT LAUNCH
 
-Prints the value. Exit status 0: the device gave the value that `lift eval` gives; 1: another; 2: it didn't come so far.
+A launch file with the key `launches` is for the kernels of `lift stages`; in it each kernel but the last has a key
+`cells` too, the length of its scratch arrays, which `lift` passes over. Prints the value. Exit status 0: the device gave the value that `lift eval` gives; 1: another; 2: it didn't come so far.
 The environment's LIFT names the program `lift` (./lift where it isn't set), PYOPENCL_CTX the device. docs/HOST.md
 explains each step.
 """
@@ -103,6 +104,23 @@ def work_items(launch, kernel):
     return total, group
 
 
+def kernels_of(text):
+    """The kernels of a text, in order."""
+    return re.split(r"^(?=__kernel )", text, flags=re.M)[1:]
+
+
+def outputs_of(kernel):
+    """How many outputs a kernel has."""
+    return kernel.count("__global uint *")
+
+
+def scratch_cells(launch):
+    """How many cells each scratch array has that a kernel makes."""
+    if type(launch.get("cells")) is not int:
+        fail("the launch file has no number at the key cells: a host has to know how long the arrays between kernels are")
+    return launch["cells"]
+
+
 def device_context():
     try:
         return pyopencl.create_some_context(interactive=False)
@@ -117,28 +135,34 @@ def main():
     # `eval` refuses a program or a launch file that is none, so both are well formed below.
     expected_line = lift("eval", program, launch_path)
     expected = json.loads(expected_line)["value"]
-    kernel_text = lift("compile", program, script)
     sizes, inputs = declarations(text_of(program))
     launch = json.loads(text_of(launch_path))
-    total, group = work_items(launch, kernel_text)
+    text = lift("stages" if "launches" in launch else "compile", program, script)
+    kernels, launches = kernels_of(text), launch.get("launches", [launch])
+    if len(kernels) != len(launches):
+        fail(f"{len(launches)} launches for {len(kernels)} kernels")
+    started = [work_items(*it) for it in zip(launches, kernels)]
+    lengths = [scratch_cells(it) for it in launches[:-1]]
 
     context = device_context()
     queue = pyopencl.CommandQueue(context)
     print(f"host: {queue.device.name.strip()}", file=sys.stderr)
-    kernel = pyopencl.Program(context, kernel_text).build().lift
+    built = pyopencl.Program(context, text).build()
+    size_values = [numpy.uint32(launch["sizes"][name]) for name in sizes]
 
-    def buffer(access, contents):
-        return pyopencl.Buffer(context, access | pyopencl.mem_flags.COPY_HOST_PTR, hostbuf=contents)
+    def buffer(contents):
+        return pyopencl.Buffer(context, pyopencl.mem_flags.READ_WRITE | pyopencl.mem_flags.COPY_HOST_PTR, hostbuf=contents)
 
-    # Inputs, then outputs, then sizes. What stands in an output at the start doesn't matter.
-    ins = [cells for name, components in inputs for cells in buffers_of(launch["inputs"][name], components)]
-    outs = buffers_of(expected, kernel_text.count("__global uint *"))
-    for cells in outs:
-        cells.fill(UNWRITTEN)
-    in_buffers = [buffer(pyopencl.mem_flags.READ_ONLY, cells) for cells in ins]
-    out_buffers = [buffer(pyopencl.mem_flags.WRITE_ONLY, cells) for cells in outs]
-    kernel(queue, (total,), (group,), *in_buffers, *out_buffers, *(numpy.uint32(launch["sizes"][name]) for name in sizes))
-    for cells, it in zip(outs, out_buffers):
+    # For each kernel the inputs, then what the kernels before it made, then its outputs, then the sizes. What stands in
+    # an output at the start doesn't matter.
+    filled = [buffer(cells) for name, components in inputs for cells in buffers_of(launch["inputs"][name], components)]
+    outs = buffers_of(expected, outputs_of(kernels[-1]))
+    for kernel, (total, group), length in zip(kernels, started, [*lengths, len(outs[0])]):
+        name = re.search(r"void (\w+)\(", kernel)[1]
+        made = [buffer(numpy.full(length, UNWRITTEN, numpy.uint32)) for _ in range(outputs_of(kernel))]
+        getattr(built, name)(queue, (total,), (group,), *filled, *made, *size_values)
+        filled += made
+    for cells, it in zip(outs, made):
         pyopencl.enqueue_copy(queue, cells, it)
 
     line = json.dumps({"value": value_of(outs, expected)}, separators=(",", ":")) + "\n"

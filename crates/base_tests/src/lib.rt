@@ -1,4 +1,5 @@
-//! Tests of the crates at the base: files and sinks, the scalar operators, lengths, the command line,
+//! Tests of the crates at the base: files and sinks, the scalar operators, lengths, the command
+//! line,
 //! and terms.
 #![tactic(auto)]
 

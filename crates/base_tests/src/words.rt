@@ -26,6 +26,13 @@ fn is_pair(first: &String, second: &String, files: &[&str]) -> bool {
     }
 }
 
+fn are_three(first: &String, second: &String, third: &String, files: &[&str]) -> bool {
+    match files {
+        [a, rest @ ..] => first.as_str() == *a && is_pair(second, third, rest),
+        _ => false,
+    }
+}
+
 // The request is the command of this name, with these files.
 fn is_request(request: &Request, name: &str, files: &[&str]) -> bool {
     match request {
@@ -33,18 +40,19 @@ fn is_request(request: &Request, name: &str, files: &[&str]) -> bool {
             name == "compile" && is_pair(program, script, files)
         }
         Request::Steps { program, script } => name == "steps" && is_pair(program, script, files),
+        Request::Stages { program, script } => name == "stages" && is_pair(program, script, files),
         Request::Eval { program, launch } => name == "eval" && is_pair(program, launch, files),
         Request::Run {
             program,
             script,
             launch,
             trace: _,
-        } => match files {
-            [first, rest @ ..] => {
-                name == "run" && program.as_str() == *first && is_pair(script, launch, rest)
-            }
-            _ => false,
-        },
+        } => name == "run" && are_three(program, script, launch, files),
+        Request::RunStages {
+            program,
+            script,
+            launch,
+        } => name == "run-stages" && are_three(program, script, launch, files),
         Request::Demo { .. } => false,
     }
 }
@@ -107,6 +115,37 @@ fn reads_each_command(rt: HostRuntime) {
             three
         )
     );
+}
+
+#[test]
+fn reads_the_commands_of_kernels_in_order(rt: HostRuntime) {
+    let two = ["dot.lift", "tiles.script"].as_slice();
+    let three = ["dot.lift", "tiles.script", "one.json"].as_slice();
+    assert!(rt;
+        asks(
+            &rt,
+            ["stages", "dot.lift", "tiles.script"].as_slice(),
+            "stages",
+            two
+        )
+    );
+    assert!(rt;
+        asks(
+            &rt,
+            ["run-stages", "dot.lift", "tiles.script", "one.json"].as_slice(),
+            "run-stages",
+            three
+        )
+    );
+    assert!(rt; is_refused(&rt, ["stages", "p"].as_slice()));
+    assert!(rt; is_refused(&rt, ["stages", "p", "s", "l"].as_slice()));
+    assert!(rt; is_refused(&rt, ["run-stages", "p", "s"].as_slice()));
+    assert!(rt; is_refused(&rt, ["run-stages", "p", "s", "l", "x"].as_slice()));
+    assert!(rt; is_refused(&rt, ["run_stages", "p", "s", "l"].as_slice()));
+
+    // Neither has a flag.
+    assert!(rt; is_refused(&rt, ["stages", "p", "s", "--trace"].as_slice()));
+    assert!(rt; is_refused(&rt, ["run-stages", "p", "s", "l", "--trace"].as_slice()));
 }
 
 #[test]

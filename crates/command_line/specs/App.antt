@@ -47,13 +47,20 @@ bare_shape s = record s {
 abbrev pub bare_command : App
 bare_command = record (new_app (codes "lift")) { top = bare_shape (new_app (codes "lift")).top }
 
-abbrev pub subcommands : List App
-subcommands =
-    words_command (codes "compile") (program ∷ script ∷ [])
+-- a command with these subcommands
+abbrev pub with_subcommands : App → List App → App
+with_subcommands command subs = fold (λ all sub. with_subcommand all sub.top) command subs
+
+-- the command with the subcommands for one kernel, and for a program's value
+abbrev pub kernel_commands : App
+kernel_commands = with_subcommands bare_command
+    (words_command (codes "compile") (program ∷ script ∷ [])
     ∷ run_command
-    ∷ words_command (codes "eval") (program ∷ launch ∷ [])
-    ∷ words_command (codes "steps") (program ∷ script ∷ [])
-    ∷ words_command (codes "demo") (seed ∷ []) ∷ []
+    ∷ words_command (codes "eval") (program ∷ launch ∷ []) ∷ [])
 
 abbrev pub lift_command : App
-lift_command = fold (λ command sub. with_subcommand command sub.top) bare_command subcommands
+lift_command = with_subcommands kernel_commands
+    (words_command (codes "steps") (program ∷ script ∷ [])
+    ∷ words_command (codes "stages") (program ∷ script ∷ [])
+    ∷ words_command (codes "run-stages") (program ∷ script ∷ launch ∷ [])
+    ∷ words_command (codes "demo") (seed ∷ []) ∷ [])

@@ -7,7 +7,7 @@ use Rattle.std.specs.Option.{option_map_or}
 use Rattle.clap.specs.Words.{Row, Text, first_of, one_of, subcommand_of, fault_of}
 use Rattle.command_line.specs.App.{lift_command, program, script, launch, seed, trace}
 use Rattle.command_line.specs.declared.request.Request.{Request}
-use Rattle.command_line.specs.declared.request.Request.TheVariants.{Compile, Run, Eval, Steps, Demo}
+use Rattle.command_line.specs.declared.request.Request.TheVariants.{Compile, Run, Eval, Steps, Stages, RunStages, Demo}
 
 -- a request, with its file names as bytes, or its seed; a run is told with its events or without
 pub data CommandLine : Type 0 where
@@ -15,6 +15,8 @@ pub data CommandLine : Type 0 where
   run : Text → Text → Text → (traced : Bool) → CommandLine
   eval : Text → Text → CommandLine
   steps : Text → Text → CommandLine
+  stages : Text → Text → CommandLine
+  run_stages : Text → Text → Text → CommandLine
   demo : (seed : ℕ) → CommandLine
 
 abbrev pub line_of : Request → CommandLine
@@ -22,6 +24,8 @@ line_of (Compile p s) = compile (string_bytes p) (string_bytes s)
 line_of (Run p s l traced) = run (string_bytes p) (string_bytes s) (string_bytes l) traced
 line_of (Eval p l) = eval (string_bytes p) (string_bytes l)
 line_of (Steps p s) = steps (string_bytes p) (string_bytes s)
+line_of (Stages p s) = stages (string_bytes p) (string_bytes s)
+line_of (RunStages p s l) = run_stages (string_bytes p) (string_bytes s) (string_bytes l)
 line_of (Demo x) = demo x
 
 -- ---- the form of a command line
@@ -31,6 +35,8 @@ name_of (compile p s) = codes "compile"
 name_of (run p s l traced) = codes "run"
 name_of (eval p l) = codes "eval"
 name_of (steps p s) = codes "steps"
+name_of (stages p s) = codes "stages"
+name_of (run_stages p s l) = codes "run-stages"
 name_of (demo x) = codes "demo"
 
 -- the names of its files, or the seed's decimal
@@ -39,6 +45,8 @@ arguments_of (compile p s) = p ∷ s ∷ []
 arguments_of (run p s l traced) = p ∷ s ∷ l ∷ []
 arguments_of (eval p l) = p ∷ l ∷ []
 arguments_of (steps p s) = p ∷ s ∷ []
+arguments_of (stages p s) = p ∷ s ∷ []
+arguments_of (run_stages p s l) = p ∷ s ∷ l ∷ []
 arguments_of (demo x) = decimal x ∷ []
 
 abbrev pub flags_of : CommandLine → List Text
@@ -46,6 +54,8 @@ flags_of (compile p s) = []
 flags_of (run p s l traced) = if traced then codes "--trace" ∷ [] else []
 flags_of (eval p l) = []
 flags_of (steps p s) = []
+flags_of (stages p s) = []
+flags_of (run_stages p s l) = []
 flags_of (demo x) = []
 
 abbrev pub words_of : CommandLine → List Text
@@ -86,8 +96,10 @@ line_at name rows =
     else (if bytes_eq name (codes "run") then Some (run (value_of program rows) (value_of script rows) (value_of launch rows) (is_set trace rows))
     else (if bytes_eq name (codes "eval") then Some (eval (value_of program rows) (value_of launch rows))
     else (if bytes_eq name (codes "steps") then Some (steps (value_of program rows) (value_of script rows))
+    else (if bytes_eq name (codes "stages") then Some (stages (value_of program rows) (value_of script rows))
+    else (if bytes_eq name (codes "run-stages") then Some (run_stages (value_of program rows) (value_of script rows) (value_of launch rows))
     else (if bytes_eq name (codes "demo") then option_map demo (seed_of (value_of seed rows))
-    else None))))
+    else None))))))
 
 abbrev pub line_entered : Option (Text × List Row) → Option CommandLine
 line_entered = option_and_then (λ entered. line_at entered.0 entered.1)

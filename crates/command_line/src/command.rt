@@ -76,19 +76,40 @@ fn bare_command<'a>(alloc: Global) -> Command<'a>
         .subcommand_required(true)
 }
 
+// The command with one more subcommand, of this name and with a word for each id.
+fn with_words<'a>(
+    alloc: Global,
+    command: Command<'a>,
+    name: &'a str,
+    ids: &[&'a str],
+) -> Result<Command<'a>, AllocError>
+    requires { (out-Command command).has_globals ≡ false }
+    ensures app { IfOk result (λ c. app_of c ≡ with_subcommand (app_of command.entry)
+        (spec.words_command name.now (map (λ id. id.now) ids.now)).top) }
+    ensures local { IfOk result (λ c. (out-Command c).has_globals ≡ false) }
+{
+    with_subcommand(command, words_command(alloc, name, ids)?)
+}
+
+// The command with its first subcommands: those for one kernel, and that for a program's value.
+fn kernel_commands<'a>(alloc: Global) -> Result<Command<'a>, AllocError>
+    ensures app { IfOk result (λ c. app_of c ≡ spec.kernel_commands) }
+    ensures local { IfOk result (λ c. (out-Command c).has_globals ≡ false) }
+{
+    let sources = ["program", "script"].as_slice();
+    let command = with_words(alloc, bare_command(alloc), "compile", sources)?;
+    let command = with_subcommand(command, run_command(alloc)?)?;
+    with_words(alloc, command, "eval", ["program", "launch"].as_slice())
+}
+
 /// The command of `lift`: one level of subcommands, each with its words, and the flag of a run.
 pub fn lift_command<'a>(alloc: Global) -> Result<Command<'a>, AllocError>
     ensures { IfOk result (λ c. app_of c ≡ spec.lift_command) }
 {
-    let command = bare_command(alloc);
-    let compile = words_command(alloc, "compile", ["program", "script"].as_slice())?;
-    let command = with_subcommand(command, compile)?;
-    let run = run_command(alloc)?;
-    let command = with_subcommand(command, run)?;
-    let eval = words_command(alloc, "eval", ["program", "launch"].as_slice())?;
-    let command = with_subcommand(command, eval)?;
-    let steps = words_command(alloc, "steps", ["program", "script"].as_slice())?;
-    let command = with_subcommand(command, steps)?;
-    let demo = words_command(alloc, "demo", ["seed"].as_slice())?;
-    with_subcommand(command, demo)
+    let sources = ["program", "script"].as_slice();
+    let command = with_words(alloc, kernel_commands(alloc)?, "steps", sources)?;
+    let command = with_words(alloc, command, "stages", sources)?;
+    let files = ["program", "script", "launch"].as_slice();
+    let command = with_words(alloc, command, "run-stages", files)?;
+    with_words(alloc, command, "demo", ["seed"].as_slice())
 }

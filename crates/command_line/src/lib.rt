@@ -4,6 +4,8 @@
 //! - `lift run PROGRAM SCRIPT LAUNCH [--trace]`
 //! - `lift eval PROGRAM LAUNCH`
 //! - `lift steps PROGRAM SCRIPT`
+//! - `lift stages PROGRAM SCRIPT`
+//! - `lift run-stages PROGRAM SCRIPT LAUNCH`
 //! - `lift demo SEED`
 //!
 //! There is no help and no version.

@@ -3,6 +3,7 @@
 ghost use Rattle.std.specs.Prelude.{◌≡◌, ◌≢◌, ◌↔◌, IfOk, option_map, string_bytes};
 ghost use Rattle.clap.specs.Words.{found_of, kind_of, rows_of, subcommand_rows_of};
 ghost use Rattle.clap.specs.declared.error.kind.ErrorKind.TheVariants as kind;
+ghost use Rattle.command_line.specs.App as app;
 ghost use Rattle.command_line.specs.declared.request.WordsNo.TheVariants.{Memory, Refused};
 ghost use Rattle.command_line.specs.Requests.{is_set, line_at, line_entered, line_of, seed_of, value_of};
 
@@ -36,6 +37,17 @@ pub enum Request {
     Steps {
         program: String,
         script: String,
+    },
+    /// Write the kernels that the program is cut into under the script, which are run in order.
+    Stages {
+        program: String,
+        script: String,
+    },
+    /// Run those kernels, each as the launch file says.
+    RunStages {
+        program: String,
+        script: String,
+        launch: String,
     },
     /// Write what the run of a stencil by tiles makes of data that a generator gives, begun at this
     /// seed.
@@ -96,6 +108,18 @@ fn file_name(alloc: Global, matches: &ArgMatches<'_>, id: &str) -> Result<String
     String::from_str(alloc, value(matches, id))
 }
 
+// The names of a program and a script.
+fn sources(alloc: Global, matches: &ArgMatches<'_>) -> Result<(String, String), AllocError>
+    ensures program { IfOk result (λ names. string_bytes names.0
+        ≡ value_of app.program (rows_of (found_of matches.now))) }
+    ensures script { IfOk result (λ names. string_bytes names.1
+        ≡ value_of app.script (rows_of (found_of matches.now))) }
+{
+    let program = file_name(alloc, matches, "program")?;
+    let script = file_name(alloc, matches, "script")?;
+    Ok((program, script))
+}
+
 // The seed that the word is the decimal of.
 fn seed_of(word: &str) -> Option<u32>
     ensures { result ≡ seed_of word.now }
@@ -123,24 +147,39 @@ fn named_request(
         ≡ line_at name.now (rows_of (found_of matches.now))) }
 {
     let request = match name {
-        "compile" => Request::Compile {
-            program: file_name(alloc, matches, "program")?,
-            script: file_name(alloc, matches, "script")?,
-        },
-        "run" => Request::Run {
-            program: file_name(alloc, matches, "program")?,
-            script: file_name(alloc, matches, "script")?,
-            launch: file_name(alloc, matches, "launch")?,
-            trace: is_set(matches, "trace"),
-        },
+        "compile" => {
+            let (program, script) = sources(alloc, matches)?;
+            Request::Compile { program, script }
+        }
+        "run" => {
+            let (program, script) = sources(alloc, matches)?;
+            Request::Run {
+                program,
+                script,
+                launch: file_name(alloc, matches, "launch")?,
+                trace: is_set(matches, "trace"),
+            }
+        }
         "eval" => Request::Eval {
             program: file_name(alloc, matches, "program")?,
             launch: file_name(alloc, matches, "launch")?,
         },
-        "steps" => Request::Steps {
-            program: file_name(alloc, matches, "program")?,
-            script: file_name(alloc, matches, "script")?,
-        },
+        "steps" => {
+            let (program, script) = sources(alloc, matches)?;
+            Request::Steps { program, script }
+        }
+        "stages" => {
+            let (program, script) = sources(alloc, matches)?;
+            Request::Stages { program, script }
+        }
+        "run-stages" => {
+            let (program, script) = sources(alloc, matches)?;
+            Request::RunStages {
+                program,
+                script,
+                launch: file_name(alloc, matches, "launch")?,
+            }
+        }
         "demo" => match seed_of(value(matches, "seed")) {
             Some(seed) => Request::Demo { seed },
             None => return Ok(None),

@@ -1,10 +1,10 @@
 -- What is compiled of the last term of a program and a script.
-use Rattle.std.proofs.Common.{◌≡◌, ◌∙◌, List, ℕ, [], ◌∷◌, ◌++◌, Ok, Err, Option, Some, None, Bool, ap, length, map, subst, sym, inl, inr}
+use Rattle.std.proofs.Common.{◌≡◌, ◌∙◌, List, ℕ, [], Result, Ok, Option, Bool, ap, length, map, subst, sym, inl, inr}
 use Rattle.kernel_tree.specs.Code.{Kernel}
 use Rattle.kernel_tree.specs.KernelText.{IsKernelText, lift}
 use Rattle.kernel_tree.specs.Launch.{Launch, Cells}
 use Rattle.lift_tree.specs.Annotations.{annotation_of, type_in}
-use Rattle.lift_tree.specs.Launches.{Asks, lists_of}
+use Rattle.lift_tree.specs.Launches.{lists_of}
 use Rattle.lift_tree.specs.Meaning.{World, meaning}
 use Rattle.lift_tree.specs.Programs.{PlainProgram, program_of}
 use Rattle.lift_tree.specs.Tree.{tree_of}
@@ -12,17 +12,17 @@ use Rattle.lift_tree.specs.Types.{PlainTy}
 use Rattle.lift_tree.specs.Typing.{IsAdmissible, declared_by}
 use Rattle.lift_tree.specs.Values.{Value}
 use Rattle.lift_tree.specs.declared.typed.Typed.{Typed}
-use Rattle.lowered_tree.specs.Kinds.{IsLocalSize, asks_of, is_task}
+use Rattle.lowered_tree.specs.Kinds.{asks_of, is_task}
 use Rattle.printed_form.specs.Headline.{EveryRunKeeps}
 use Rattle.printed_form.specs.Programs.{AreBuffersOf, IsLaunchOf, cell_owner}
 use Rattle.rewriting.specs.Keeps.{Keeps}
 use Rattle.strategy_script.specs.LocalSize.{local_fixed}
-use Rattle.strategy_script.specs.Laws.{FixedSizesAreSmall}
 use Rattle.strategy_script.specs.Steps.{State, state_of}
 use Rattle.fault_lines.specs.declared.refusal.Refusal.{Refusal}
 use Rattle.program_source.specs.Program.{OnProgram, StopsFor, source_value}
 use Rattle.program_source.specs.SourceTerms.{IsLastTerm}
-use Rattle.program_source.specs.Terms.{TermsOf}
+use Rattle.program_source.specs.Terms.{LastOf, TermsOf}
+use Rattle.stages.specs.Stages.{Then}
 use Rattle.kernel_emit.specs.Kernels.{IsKernelFor}
 use Rattle.compilation.specs.Compiled.{IsCompiled, ServesAtAll}
 use Rattle.compilation.specs.Legal.{CompilesTerm, IsAccepted, LegalOf}
@@ -58,21 +58,21 @@ leaves p output local s k meets w l c a start es begins is = (meets w l c a star
 
 -- ---- what is compiled of the last term
 
-pub compiled_found : (program script : List ℕ) (t : Typed) (output : PlainTy) (task : Bool) (local : Option ℕ) (text : List ℕ) (k : Kernel) → output ≡ type_in (annotation_of t.types)
-    → is_task (tree_of t.term) ≡ task → IsLastTerm program script t → local ≡ local_fixed script → CompilesTerm local (state_of t) (Ok (state_of t)) → IsAccepted (program_of t.program) (tree_of t.term) (annotation_of t.types)
-    → IsKernelFor (declared_by (program_of t.program)) local (tree_of t.term) (annotation_of t.types) k → IsKernelText lift text k → IsCompiled program script (program_of t.program) output (asks_with task local) text
-compiled_found program script t output task local text k same alone last fixed compiles accepted for written =
+pub compiled_found : (program script : List ℕ) (t : Typed) (output : PlainTy) (task : Bool) (kept local : Option ℕ) (text : List ℕ) (k : Kernel) → output ≡ type_in (annotation_of t.types)
+    → is_task (tree_of t.term) ≡ task → IsLastTerm program script t → kept ≡ local → local ≡ local_fixed script → CompilesTerm local (state_of t) (Ok (state_of t)) → IsAccepted (program_of t.program) (tree_of t.term) (annotation_of t.types)
+    → IsKernelFor (declared_by (program_of t.program)) local (tree_of t.term) (annotation_of t.types) k → IsKernelText lift text k → IsCompiled program script (program_of t.program) output (asks_with task kept) text
+compiled_found program script t output task kept local text k same alone last is fixed compiles accepted for written =
     let p = program_of t.program in
     let own : IsKernelFor (declared_by p) (local_fixed script) (tree_of t.term) (annotation_of t.types) k =
     subst (λ (o : Option ℕ). IsKernelFor (declared_by p) o (tree_of t.term) (annotation_of t.types) k) fixed for in
-    subst (λ (a : PlainTy). IsCompiled program script p a (asks_with task local) text) (sym same)
+    subst (λ (a : PlainTy). IsCompiled program script p a (asks_with task kept) text) (sym same)
     (record {
       read = last.read;
       typed = last.output;
       last = state_of t;
       legal = (last.terms, last.made, (state_of t, last.is_last, subst (λ (o : Option ℕ). CompilesTerm o (state_of t) (Ok (state_of t))) fixed compiles));
       accepted = accepted;
-      asked = (λ i. asks_with (alone i) (sym fixed i));
+      asked = (λ i. asks_with (alone i) (sym (is ∙ fixed) i));
       keeps = last.term.keeps;
       kernel = k;
       written = written;
@@ -86,13 +86,14 @@ compiled_found program script t output task local text k same alone last fixed c
     })
 
 -- what a type keeps of it
-pub text_for : (program script : List ℕ) (t : Typed) (output : PlainTy) (task : Bool) (local : Option ℕ) (text : List ℕ) (k : Kernel) → output ≡ type_in (annotation_of t.types)
-    → is_task (tree_of t.term) ≡ task → IsLastTerm program script t → CanBeLaidOut (program_of t.program) (type_in (annotation_of t.types))
+pub text_for : (program script : List ℕ) (t : Typed) (output : PlainTy) (task : Bool) (kept local : Option ℕ) (text : List ℕ) (k : Kernel) → output ≡ type_in (annotation_of t.types)
+    → is_task (tree_of t.term) ≡ task → IsLastTerm program script t → kept ≡ local → CanBeLaidOut (declared_by (program_of t.program)).names (type_in (annotation_of t.types))
     → IsKernelFor (declared_by (program_of t.program)) local (tree_of t.term) (annotation_of t.types) k → IsKernelText lift text k
-    → IsTextFor (program_of t.program) output (asks_with task local) text
-text_for program script t output task local text k same told last laid_out for written =
+    → IsTextFor (program_of t.program) output (asks_with task kept) text
+text_for program script t output task kept local text k same told last is laid_out for written =
     let p = program_of t.program in
-    subst (λ (b : Bool). IsTextFor p output (asks_with b local) text) told
+    subst (λ (o : Option ℕ). IsTextFor p output (asks_with task o) text) (sym is)
+    (subst (λ (b : Bool). IsTextFor p output (asks_with b local) text) told
     (subst (λ (a : PlainTy). IsTextFor p a (asks_of local (tree_of t.term)) text) (sym same)
     (record {
       typed = last.output;
@@ -101,22 +102,28 @@ text_for program script t output task local text k same told last laid_out for w
       written = written;
       starts = starts p local (state_of t) k for last.term.keeps;
       leaves = leaves p (type_in (annotation_of t.types)) local (state_of t) k (meets p local (state_of t) k for last.term.keeps);
-    }))
+    })))
 
--- what stops the terms stops what is compiled of them
-pub terms_first : (text script : List ℕ) (why : Refusal) → StopsFor (OnProgram text (λ p. TermsOf p script)) why → StopsFor (OnProgram text (λ p. LegalOf p script)) why
-terms_first text script why (inl memory) = inl memory
-terms_first text script why (inr (inl h)) = inr (inl h)
-terms_first text script why (inr (inr (p, read, h))) = inr (inr (p, read, inl h))
+-- ---- why nothing is compiled
+
+-- what stops the terms stops what is made of them
+pub stopped_before : {A : Type 0} (S : PlainProgram → List State → Result A Refusal → Type 0) (program script : List ℕ) (why : Refusal) → StopsFor (OnProgram program (λ p. TermsOf p script)) why
+    → StopsFor (OnProgram program (λ p. Then (TermsOf p script) (S p))) why
+stopped_before S program script why (inl memory) = inl memory
+stopped_before S program script why (inr (inl h)) = inr (inl h)
+stopped_before S program script why (inr (inr (p, read, h))) = inr (inr (p, read, inl h))
+
+-- so does what stops behind the last of them
+pub stopped_behind : {A : Type 0} (S : PlainProgram → State → Result A Refusal → Type 0) (program script : List ℕ) (t : Typed) (why : Refusal) → IsLastTerm program script t
+    → StopsFor (S (program_of t.program) (state_of t)) why → StopsFor (OnProgram program (λ p. Then (TermsOf p script) (λ terms. Then (LastOf terms) (S p)))) why
+stopped_behind S program script t why last (inl memory) = inl memory
+stopped_behind S program script t why last (inr h) =
+    inr (inr (program_of t.program, last.read, inr (last.terms, last.made, inr (state_of t, last.is_last, h))))
+
+pub terms_first : (program script : List ℕ) (why : Refusal) → StopsFor (OnProgram program (λ p. TermsOf p script)) why → StopsFor (OnProgram program (λ p. LegalOf p script)) why
+terms_first program script = stopped_before (λ p terms. Then (LastOf terms) (CompilesTerm (local_fixed script))) program script
 
 pub last_stops : (program script : List ℕ) (t : Typed) (why : Refusal) → IsLastTerm program script t → (local : Option ℕ) → local ≡ local_fixed script
     → StopsFor (CompilesTerm local (state_of t)) why → StopsFor (OnProgram program (λ p. LegalOf p script)) why
-last_stops program script t why last local fixed (inl memory) = inl memory
-last_stops program script t why last local fixed (inr stops) =
-    let there = subst (λ (o : Option ℕ). CompilesTerm o (state_of t) (Err why)) fixed stops in
-    inr (inr (program_of t.program, last.read, inr (last.terms, last.made, inr (state_of t, last.is_last, there))))
-
--- a size that a script fixes is one
-pub size_is : FixedSizesAreSmall → (script : List ℕ) (local : Option ℕ) → local ≡ local_fixed script → IsLocalSize local
-size_is law script None fixed = tt
-size_is law script (Some k) fixed = law script k (sym fixed)
+last_stops program script t why last local fixed stops =
+    stopped_behind (λ p. CompilesTerm (local_fixed script)) program script t why last (subst (λ (o : Option ℕ). StopsFor (CompilesTerm o (state_of t)) why) fixed stops)

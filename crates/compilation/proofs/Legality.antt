@@ -1,16 +1,22 @@
--- Why a last term isn't compiled, and what is known of one that is.
-use Rattle.std.proofs.Common.{arith, ◌≡◌, ◌∙◌, ℕ, Option, None, Some, Ok, ap, inl, inr, refl, subst}
-use Rattle.lift_tree.specs.Annotations.{Annotation, annotation_of}
-use Rattle.lift_tree.specs.Programs.{program_of}
-use Rattle.lift_tree.specs.Typing.{declared_by}
+-- Why a lowered term isn't compiled, and what is known of one that is.
+use Rattle.std.proofs.Common.{arith, ◌≡◌, ℕ, Option, None, Some, Ok, Err, Result, inl, inr, refl, subst, sym}
+use Rattle.std.specs.Prelude.{IfOk, map}
+use Rattle.std.proofs.lemmas.List.{length-map}
+use Rattle.lift_tree.specs.Annotations.{annotation_of}
+use Rattle.lift_tree.specs.Programs.{PlainInput, PlainProgram, program_of}
+use Rattle.lift_tree.specs.Types.{ty_of}
+use Rattle.lift_tree.specs.Typing.{Declared, declared_by}
+use Rattle.lift_tree.specs.WorkedOut.{worked_out}
 use Rattle.lift_tree.proofs.Fitting.{limits_fit}
-use Rattle.lift_tree.specs.Tree.{Tree, tree_of}
+use Rattle.lift_tree.specs.Tree.{tree_of}
 use Rattle.lift_tree.specs.declared.typed.Typed.{Typed}
-use Rattle.strategy_script.specs.Steps.{State}
+use Rattle.strategy_script.specs.Steps.{State, state_of}
+use Rattle.lowered_tree.specs.Named.{declared_of}
 use Rattle.lowered_tree.specs.Nest.{IsLegalNest, IsLegalWith, LegalWithoutFault, nest_fault}
+use Rattle.lowered_tree.specs.Whole.{IsSoundTerm}
+use Rattle.lowered_tree.specs.Words.{FormsHaveWords}
 use Rattle.lowered_tree.specs.declared.lowered.Lowered.{Lowered}
 use Rattle.nest_premises.specs.Legal.{IsLegalTerm}
-use Rattle.lowered_tree.specs.Words.{FormsHaveWords}
 use Rattle.thread_mapping.specs.Found as nest
 use Rattle.thread_mapping.specs.declared.judging.NestNo.{NestNo}
 use Rattle.thread_mapping.specs.declared.judging.NestNo.TheVariants as nests
@@ -22,56 +28,87 @@ use Rattle.fault_lines.specs.declared.refusal.Refusal.{Refusal}
 use Rattle.fault_lines.specs.declared.refusal.Refusal.TheVariants as told
 use Rattle.program_source.specs.Program.{StopsFor}
 use Rattle.stages.specs.Stages.{As}
-use Rattle.compilation.specs.Legal.{BuffersOf, CompilesTerm, IsAccepted, IsTypedLast, NestOf}
+use Rattle.compilation.specs.Legal.{BuffersOf, CompilesTerm, IsAccepted, IsSoundLowered, IsTypedLast, NestOf, lowered_state}
 
-pub legal_term : (t : Typed) → IsTypedLast t → FormsHaveWords (tree_of t.term) → IsLegalNest (tree_of t.term) (annotation_of t.types) → IsLegalTerm (declared_by (program_of t.program)) (tree_of t.term) (annotation_of t.types)
-legal_term t last words legal = record {
-  declared = last.declared;
-  nodes = last.nodes;
-  output = last.output;
-  within = limits_fit (program_of t.program) (tree_of t.term) (annotation_of t.types) last.within;
-  words = words;
+-- ---- a last term is sound
+
+own_sound : (t : Typed) → IsTypedLast t → FormsHaveWords (tree_of t.term) → IsSoundTerm (declared_by (program_of t.program)) (tree_of t.term) (annotation_of t.types)
+own_sound t last words =
+    let few = last.few in
+    let same = length-map (program_of t.program).inputs (λ (i : PlainInput). worked_out (declared_by (program_of t.program)).names i.ty) in
+    record {
+      few = omega (arith, few, same);
+      first = λ cut. omega (arith, few, same);
+      declared = last.declared;
+      nodes = last.nodes;
+      output = last.output;
+      within = limits_fit (program_of t.program) (tree_of t.term) (annotation_of t.types) last.within;
+      low = last.low;
+      copies = last.copies;
+      words = words;
+    }
+
+-- a sound term with what it may name
+pub sound_as : (d e : Declared) (s r : State) → d ≡ e → s ≡ r → IsSoundTerm d s.tree s.types → IsSoundTerm e r.tree r.types
+sound_as d e s r declared state h =
+    subst (λ (z : Declared). IsSoundTerm z r.tree r.types) declared (subst (λ (z : State). IsSoundTerm d z.tree z.types) state h)
+
+-- a last term as it is lowered
+module _ (t : Typed) (last : IsTypedLast t) {E : Type 0} where
+  pub lowered_declared : (r : Result Lowered E) → IfOk r (λ l. l.names ≡ (declared_by (program_of t.program)).names) → IfOk r (λ l. map ty_of l.inputs.items ≡ (declared_by (program_of t.program)).inputs)
+      → IfOk r (λ l. declared_of l ≡ declared_by (program_of t.program))
+  lowered_declared (Ok l) names inputs = λ i. record { names = names i; inputs = inputs i }
+  lowered_declared (Err e) names inputs = tt
+
+  pub lowered_is : (r : Result Lowered E) → IfOk r (λ l. tree_of l.term ≡ tree_of t.term) → IfOk r (λ l. annotation_of l.types ≡ annotation_of t.types) → IfOk r (λ l. lowered_state l ≡ state_of t)
+  lowered_is (Ok l) term types = λ i. record { tree = term i; types = types i }
+  lowered_is (Err e) term types = tt
+
+  pub lowered_sound : (r : Result Lowered E) → IfOk r (λ l. declared_of l ≡ declared_by (program_of t.program)) → IfOk r (λ l. lowered_state l ≡ state_of t) → IfOk r (λ _. FormsHaveWords (tree_of t.term)) → IfOk r IsSoundLowered
+  lowered_sound (Ok l) declared state words =
+      sound_as (declared_by (program_of t.program)) (declared_of l) (state_of t) (lowered_state l) (sym declared) (sym state) (own_sound t last words)
+  lowered_sound (Err e) declared state words = tt
+
+-- ---- what is known of a legal one
+
+pub legal_term : (d : Declared) (s : State) → IsSoundTerm d s.tree s.types → IsLegalNest s.tree s.types → IsLegalTerm d s.tree s.types
+legal_term d s sound legal = record {
+  declared = sound.declared;
+  nodes = sound.nodes;
+  output = sound.output;
+  within = sound.within;
+  words = sound.words;
   legal = legal;
 }
 
-pub accepted_term : (t : Typed) → IsTypedLast t → FormsHaveWords (tree_of t.term) → IsLegalNest (tree_of t.term) (annotation_of t.types)
-    → limits.passed_limit (tree_of t.term) (annotation_of t.types) ≡ None → IsAccepted (program_of t.program) (tree_of t.term) (annotation_of t.types)
-accepted_term t last words legal within =
-    let low = last.low in
+pub accepted_term : (p : PlainProgram) (local : Option ℕ) (s : State) → IsSoundTerm (declared_by p) s.tree s.types → CompilesTerm local s (Ok s) → IsAccepted p s.tree s.types
+accepted_term p local s sound compiled =
+    let low = sound.low in
     record {
-      legal = legal_term t last words legal;
-      copies = last.copies;
-      within = within;
+      legal = legal_term (declared_by p) s sound (compiled.1.nest);
+      copies = sound.copies;
+      within = compiled.2.1;
       low = omega (arith, low);
     }
 
--- ---- each stage, over the term as it is lowered
+-- ---- each stage, over the term as it is handed on
 
-pub same_term : {l m : Lowered} {t : Tree} → m ≡ l → tree_of l.term ≡ t → tree_of m.term ≡ t
-same_term same is = ap (λ (x : Lowered). tree_of x.term) same ∙ is
+pub legal_nest : LegalWithoutFault → (local kept : Option ℕ) (l m : Lowered) → kept ≡ local → m ≡ l → nest_fault kept (tree_of m.term) (annotation_of m.types) ≡ None → IsLegalWith local (tree_of l.term) (annotation_of l.types)
+legal_nest law local kept l m size same h =
+    subst (λ (o : Option ℕ). IsLegalWith o (tree_of l.term) (annotation_of l.types)) size
+    (subst (λ (x : Lowered). IsLegalWith kept (tree_of x.term) (annotation_of x.types)) same ((law kept (tree_of m.term) (annotation_of m.types)).0 h))
 
-pub same_types : {l m : Lowered} {n : Annotation} → m ≡ l → annotation_of l.types ≡ n → annotation_of m.types ≡ n
-same_types same is = ap (λ (x : Lowered). annotation_of x.types) same ∙ is
+pub nest_stops : (local : Option ℕ) (l : Lowered) (why : NestNo) → nest.Refuses why local (tree_of l.term) (annotation_of l.types) → StopsFor (As told.Nest (NestOf local (lowered_state l))) (nest_refused why)
+nest_stops local l (nests.Nest place rule) h = inr (nests.Nest place rule, h, refl)
+nest_stops local l nests.Memory h = inl refl
 
-pub is_legal : LegalWithoutFault → (local : Option ℕ) (t u : Tree) (n m : Annotation) → t ≡ u → n ≡ m → nest_fault local t n ≡ None → IsLegalWith local u m
-is_legal law local t u n m term types h = subst (λ (k : Annotation). IsLegalWith local u k) types (subst (λ (v : Tree). IsLegalWith local v n) term ((law local t n).0 h))
+pub within_is : (l m : Lowered) → m ≡ l → limits.passed_limit (tree_of m.term) (annotation_of m.types) ≡ None → limits.passed_limit (tree_of l.term) (annotation_of l.types) ≡ None
+within_is l m same h = subst (λ (x : Lowered). limits.passed_limit (tree_of x.term) (annotation_of x.types) ≡ None) same h
 
-pub legal_nest : LegalWithoutFault → (local kept : Option ℕ) (s : State) (l m : Lowered) → kept ≡ local → m ≡ l → tree_of l.term ≡ s.tree → annotation_of l.types ≡ s.types → nest_fault kept (tree_of m.term) (annotation_of m.types) ≡ None → IsLegalWith local s.tree s.types
-legal_nest law local kept s l m size same term types h =
-    subst (λ (o : Option ℕ). IsLegalWith o s.tree s.types) size (is_legal law kept (tree_of m.term) s.tree (annotation_of m.types) s.types (same_term same term) (same_types same types) h)
-
-pub nest_stops : (local : Option ℕ) (s : State) (t : Tree) (n : Annotation) (why : NestNo) → t ≡ s.tree → n ≡ s.types → nest.Refuses why local t n → StopsFor (As told.Nest (NestOf local s)) (nest_refused why)
-nest_stops local s t n (nests.Nest place rule) term types h =
-    inr (nests.Nest place rule, subst (λ (m : Annotation). nest_fault local s.tree m ≡ Some (place, rule)) types (subst (λ (u : Tree). nest_fault local u n ≡ Some (place, rule)) term h), refl)
-nest_stops local s t n nests.Memory term types h = inl refl
-
-pub within_is : (t u : Tree) (n m : Annotation) → t ≡ u → n ≡ m → limits.passed_limit t n ≡ None → limits.passed_limit u m ≡ None
-within_is t u n m term types h = subst (λ (k : Annotation). limits.passed_limit u k ≡ None) types (subst (λ (v : Tree). limits.passed_limit v n ≡ None) term h)
-
-pub buffers_stop : (s : State) (t : Tree) (n : Annotation) (why : AllocNo) → t ≡ s.tree → n ≡ s.types → limits.Refuses why t n → StopsFor (As told.Alloc (BuffersOf s)) (alloc_refused why)
-buffers_stop s t n (allocations.Limit which count) term types h =
-    inr (allocations.Limit which count, subst (λ (m : Annotation). limits.passed_limit s.tree m ≡ Some (which, count)) types (subst (λ (u : Tree). limits.passed_limit u n ≡ Some (which, count)) term h), refl)
-buffers_stop s t n allocations.Memory term types h = inl refl
+pub buffers_stop : (l m : Lowered) (why : AllocNo) → m ≡ l → limits.Refuses why (tree_of m.term) (annotation_of m.types) → StopsFor (As told.Alloc (BuffersOf (lowered_state l))) (alloc_refused why)
+buffers_stop l m (allocations.Limit which count) same h =
+    inr (allocations.Limit which count, subst (λ (x : Lowered). limits.passed_limit (tree_of x.term) (annotation_of x.types) ≡ Some (which, count)) same h, refl)
+buffers_stop l m allocations.Memory same h = inl refl
 
 -- ---- all stages
 

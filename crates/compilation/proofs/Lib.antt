@@ -1,4 +1,6 @@
 pub mod Compiling
+pub mod Cutting
 pub mod Emitting
+pub mod InTurn
 pub mod Legality
 pub mod Once

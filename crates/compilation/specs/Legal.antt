@@ -6,7 +6,9 @@ use Rattle.lift_tree.specs.Typing.{declared_by}
 use Rattle.lift_tree.specs.Tree.{Tree, height, tree_of}
 use Rattle.lift_tree.specs.declared.typed.Typed.{Typed}
 use Rattle.lowered_tree.specs.Copies.{CopiesArrays}
-use Rattle.lowered_tree.specs.Whole.{IsTypedWithin}
+use Rattle.lowered_tree.specs.Named.{declared_of}
+use Rattle.lowered_tree.specs.Whole.{IsSoundTerm, IsTypedWithin}
+use Rattle.lowered_tree.specs.declared.lowered.Lowered.{Lowered}
 use Rattle.nest_premises.specs.Legal.{IsLegalTerm}
 use Rattle.strategy_script.specs.LocalSize.{local_fixed}
 use Rattle.strategy_script.specs.Steps.{State}
@@ -24,6 +26,14 @@ use Rattle.program_source.specs.Terms.{LastOf, TermsOf}
 -- a typed term of a proper program with few inputs, within the limits on types, which copies nothing but arrays
 abbrev pub IsTypedLast : Typed → Type 0
 IsTypedLast t = IsTypedWithin (program_of t.program) (tree_of t.term) (annotation_of t.types)
+
+-- a lowered term that is sound over what it may name
+abbrev pub IsSoundLowered : Lowered → Type 0
+IsSoundLowered l = IsSoundTerm (declared_of l) (tree_of l.term) (annotation_of l.types)
+
+-- a lowered term, as a script's terms are
+abbrev pub lowered_state : Lowered → State
+lowered_state l = record { tree = tree_of l.term; types = annotation_of l.types }
 
 -- a legal term within the limits, which copies nothing but arrays
 pub record IsAccepted (p : PlainProgram) (t : Tree) (n : Annotation) : Type 0 where

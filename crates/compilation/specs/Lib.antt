@@ -2,3 +2,4 @@ pub mod Compiled
 pub mod Laws
 pub mod Legal
 pub mod Meets
+pub mod Sequence

@@ -8,6 +8,7 @@ use Rattle.lift_tree.specs.Meaning.{World}
 use Rattle.lift_tree.specs.Programs.{PlainProgram}
 use Rattle.lift_tree.specs.Types.{PlainTy, HoldsElements}
 use Rattle.lift_tree.specs.Typing.{HasOutput, IsAdmissible, declared_by}
+use Rattle.size_arith.specs.declared.names.Name.{Name}
 use Rattle.size_arith.specs.Ranges.{Admissible}
 use Rattle.strategy_script.specs.Steps.{State}
 use Rattle.lowered_tree.specs.Kinds.{asks_of}
@@ -44,15 +45,15 @@ MeetsSource p output local last k = (w : World) (l : Launch) (c : Cells) → Adm
     → EveryRunKeeps k l c (cell_owner (declared_by p).names w.bases l last.tree last.types) (lists_of output (source_value p w))
 
 -- Values of the output's type can be laid out in lists, at all admissible sizes.
-pub record CanBeLaidOut (p : PlainProgram) (output : PlainTy) : Type 0 where
+pub record CanBeLaidOut (names : List Name) (output : PlainTy) : Type 0 where
   pub elements : HoldsElements output
   pub few : width output < 2 ^ 32
-  pub small : (bases : List ℕ) → Admissible (declared_by p).names bases → IsSmall bases 1 output
+  pub small : (bases : List ℕ) → Admissible names bases → IsSmall bases 1 output
 
 -- The text is of a kernel for the program: it may be started at every admissible launch, and every run of it there leaves the program's value, which is of the output's type.
 pub record IsTextFor (p : PlainProgram) (output : PlainTy) (asks : Asks) (text : List ℕ) : Type 0 where
   pub typed : HasOutput p p.body output
-  pub laid_out : CanBeLaidOut p output
+  pub laid_out : CanBeLaidOut (declared_by p).names output
   pub kernel : Kernel
   pub written : IsKernelText lift text kernel
   pub starts : Starts p output asks kernel

@@ -12,6 +12,7 @@ use crate::kernel::compiled_kernel;
 use crate::laws::compilation_ends_once;
 use fault_lines::Refusal;
 use kernel_printer::print;
+use lift_tree::local_size::LocalSize;
 use lift_tree::program::Program;
 use lift_tree::ty::Ty;
 use lift_tree::typed::NodeTypes;
@@ -19,7 +20,6 @@ use lowered_tree::around::is_task;
 use program_source::last_term;
 use program_source::laws::sources_end_once;
 use std::alloc::Global;
-use strategy_script::laws::fixed_sizes_are_small;
 
 /// The text of a kernel, with the program that it is compiled from.
 #[derive(Drop)]
@@ -39,8 +39,8 @@ pub struct Compiled {
         text.items ∥₁ },
 }
 
-// The type of the whole term.
-fn own_type(types: NodeTypes) -> Ty
+/// The type of the whole term.
+pub(crate) fn own_type(types: NodeTypes) -> Ty
     ensures { ty_of result ≡ type_in (annotation_of types) }
 {
     match types {
@@ -64,12 +64,11 @@ pub fn compile_text(alloc: Global, program: &[u8], script: &[u8]) -> Result<Comp
     ensures exact { IsRefusedFor (OnProgram program.now (λ p. LegalOf p script.now)) result }
 {
     compilation_ends_once();
-    fixed_sizes_are_small();
     sources_end_once();
     let found = last_term(alloc, program, script)?;
     let kernel = compiled_kernel(alloc, &found.typed, found.local)?;
     let text = print(alloc, &kernel)?;
-    let local = found.local;
+    let local = LocalSize::fixed(found.local);
     let last = found.typed;
     Ok(Compiled {
         is_task: is_task(&last.term),

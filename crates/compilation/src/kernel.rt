@@ -1,15 +1,22 @@
-//! The kernel of a last term.
+//! The kernel of a term.
 ghost use Rattle.std.specs.Prelude.{◌≡◌, ◌<◌, ◌^◌, IfErr, IfOk, Ok};
 ghost use Rattle.lift_tree.specs.Annotations.{annotation_of, type_in};
 ghost use Rattle.lift_tree.specs.Programs.{program_of};
 ghost use Rattle.lift_tree.specs.Tree.{tree_of};
 ghost use Rattle.lift_tree.specs.Typing.{declared_by};
+ghost use Rattle.lowered_tree.specs.Named.{declared_of};
 ghost use Rattle.kernel_tree.specs.Kernels.{kernel_of};
 ghost use Rattle.kernel_emit.specs.Kernels.{IsKernelFor};
-ghost use Rattle.lowered_tree.specs.Kinds.{IsLocalSize};
+ghost use Rattle.lift_tree.specs.FixedSizes.{size_fixed};
 ghost use Rattle.strategy_script.specs.Steps.{state_of};
 ghost use Rattle.program_source.specs.Program.{StopsFor};
-ghost use Rattle.compilation.specs.Legal.{CompilesTerm, IsAccepted, IsTypedLast};
+ghost use Rattle.compilation.specs.Legal.{
+  CompilesTerm,
+  IsAccepted,
+  IsSoundLowered,
+  IsTypedLast,
+  lowered_state,
+};
 ghost use Rattle.compilation.specs.Meets.{CanBeLaidOut};
 
 use address_spaces::spaces;
@@ -18,12 +25,14 @@ use fault_lines::Refusal;
 use kernel_emit::emit::emit;
 use kernel_emit::laws::plans_give_kernels;
 use kernel_tree::tree::Kernel;
+use lift_tree::local_size::LocalSize;
 use lift_tree::typed::Typed;
 use lowered_tree::laws::legal_without_fault;
+use lowered_tree::lowered::Lowered;
 use lowered_tree::typed::lowered;
 use nest_premises::laws::legal_terms_can_be_lowered;
 use phase_plan::planning::plan;
-use std::alloc::Global;
+use std::alloc::{AllocError, Global};
 use thread_mapping::judge;
 
 // Outputs have numbers of 32 bits.
@@ -33,26 +42,38 @@ fn has_few_outputs(kernel: &Kernel)
     let _count = kernel.outputs;
 }
 
-/// The kernel of a last term, printed for it at each admissible launch, which has groups of the local
-/// size that is fixed, where one is. `Nest` and `Alloc` come in this order, for the first rule or
-/// limit.
-pub fn compiled_kernel(alloc: Global, last: &Typed, local: Option<u32>) -> Result<Kernel, Refusal>
+/// The last term, with what it may name.
+pub fn lowered_last(alloc: Global, last: &Typed) -> Result<Lowered, AllocError>
     requires typed { IsTypedLast last.now }
-    requires sized { IsLocalSize local }
-    ensures kernel { IfOk result (λ k. IsKernelFor (declared_by (program_of last.now.program)) local
-        (tree_of last.now.term) (annotation_of last.now.types) (kernel_of k)) }
-    ensures accepted { IfOk result (λ _. IsAccepted (program_of last.now.program)
-        (tree_of last.now.term) (annotation_of last.now.types)) }
-    ensures compiles { IfOk result (λ _. CompilesTerm local (state_of last.now)
-        (Ok (state_of last.now))) }
-    ensures laid_out { IfOk result (λ _. CanBeLaidOut (program_of last.now.program)
-        (type_in (annotation_of last.now.types))) }
-    ensures refused { IfErr result (StopsFor (CompilesTerm local (state_of last.now))) }
+    ensures sound { IfOk result IsSoundLowered }
+    ensures state { IfOk result (λ l. lowered_state l ≡ state_of last.now) }
+    ensures declared { IfOk result
+        (λ l. declared_of l ≡ declared_by (program_of last.now.program)) }
+{
+    lowered(alloc, last)
+}
+
+/// The kernel of a lowered term, printed for it at each admissible launch, which has groups of the
+/// local size that is fixed, where one is. `Nest` and `Alloc` come in this order, for the first
+/// rule or limit.
+pub fn kernel_of_lowered(
+    alloc: Global,
+    lowered: Lowered,
+    local: Option<LocalSize>,
+) -> Result<Kernel, Refusal>
+    requires sound { IsSoundLowered lowered }
+    ensures kernel { IfOk result (λ k. IsKernelFor (declared_of lowered) (size_fixed local)
+        (tree_of lowered.term) (annotation_of lowered.types) (kernel_of k)) }
+    ensures compiles { IfOk result (λ _. CompilesTerm (size_fixed local) (lowered_state lowered)
+        (Ok (lowered_state lowered))) }
+    ensures laid_out { IfOk result (λ _. CanBeLaidOut lowered.names
+        (type_in (annotation_of lowered.types))) }
+    ensures refused { IfErr result
+        (StopsFor (CompilesTerm (size_fixed local) (lowered_state lowered))) }
 {
     legal_terms_can_be_lowered();
     legal_without_fault();
     plans_give_kernels();
-    let lowered = lowered(alloc, last)?;
     let mapped = judge(alloc, lowered, local)?;
     let spaced = spaces(alloc, mapped)?;
     let buffers = buffers(alloc, &spaced)?;
@@ -60,4 +81,27 @@ pub fn compiled_kernel(alloc: Global, last: &Typed, local: Option<u32>) -> Resul
     let kernel = emit(alloc, &plan)?;
     has_few_outputs(&kernel);
     Ok(kernel)
+}
+
+/// The kernel of a last term, printed for it at each admissible launch, as that of a lowered one.
+pub fn compiled_kernel(
+    alloc: Global,
+    last: &Typed,
+    local: Option<LocalSize>,
+) -> Result<Kernel, Refusal>
+    requires typed { IsTypedLast last.now }
+    ensures kernel { IfOk result (λ k. IsKernelFor (declared_by (program_of last.now.program))
+        (size_fixed local) (tree_of last.now.term) (annotation_of last.now.types) (kernel_of k)) }
+    ensures accepted { IfOk result (λ _. IsAccepted (program_of last.now.program)
+        (tree_of last.now.term) (annotation_of last.now.types)) }
+    ensures compiles { IfOk result (λ _. CompilesTerm (size_fixed local) (state_of last.now)
+        (Ok (state_of last.now))) }
+    ensures laid_out { IfOk result (λ _. CanBeLaidOut
+        (declared_by (program_of last.now.program)).names
+        (type_in (annotation_of last.now.types))) }
+    ensures refused { IfErr result
+        (StopsFor (CompilesTerm (size_fixed local) (state_of last.now))) }
+{
+    let lowered = lowered_last(alloc, last)?;
+    kernel_of_lowered(alloc, lowered, local)
 }

@@ -1,6 +1,6 @@
 //! The way down from the root to a flag.
 
-ghost use Rattle.std.specs.Prelude.{◌≡◌, ◌+◌, ◌-◌, ◌*◌, ◌^◌, ◌<◌, ◌≤◌, ℕ, length, drop, take, slice_index};
+ghost use Rattle.std.specs.Prelude.{◌≡◌, ◌+◌, ◌-◌, ◌*◌, ◌^◌, ◌<◌, ◌≤◌, ℕ, length, take, slice_index};
 ghost use Rattle.std.specs.List.{sum};
 ghost use Rattle.count_tree.specs.Nodes.{IsTree};
 
@@ -19,52 +19,56 @@ impl Way {
     // The part of the node in which the flag is, by one look.
     #[inline(always)]
     fn part<L: Ledger>(self, counts: &Counts, steps: &mut Steps<L>) -> Way
-        requires inside { 2 * self.node + 1 < length counts.now.counts }
-        requires small { length counts.now.counts ≤ 131072 }
-        ensures left { self.rest < slice_index counts.now.counts (2 * self.node)
-            → result ≡ record { node = 2 * self.node; rest = self.rest } }
-        ensures right { slice_index counts.now.counts (2 * self.node) ≤ self.rest
+        requires inside { self.node < length counts.now.lefts }
+        requires small { length counts.now.lefts ≤ 65536 }
+        ensures left { self.rest < slice_index counts.now.lefts self.node
+            → result ≡ record { node = 2 * self.node + 1; rest = self.rest } }
+        ensures right { slice_index counts.now.lefts self.node ≤ self.rest
             → result ≡ record {
-              node = 2 * self.node + 1;
-              rest = self.rest - slice_index counts.now.counts (2 * self.node);
+              node = 2 * self.node;
+              rest = self.rest - slice_index counts.now.lefts self.node;
             } }
         ensures cost { steps.new ≡ steps.old + 1 }
     {
-        let left = counts.look(2 * self.node, steps);
-        if self.rest < left {
-            Way {
-                node: 2 * self.node,
-                rest: self.rest,
-            }
-        } else {
-            Way {
-                node: 2 * self.node + 1,
-                rest: self.rest - left,
-            }
+        let left = counts.look(self.node, steps);
+        let on_the_left = if self.rest < left { 1 } else { 0 };
+        Way {
+            node: 2 * self.node + on_the_left,
+            rest: less_if_within(self.rest, left),
         }
     }
 }
 
-/// The place of the flag that comes after `k` others, in as many looks as the tree is high. Two
+// The difference, or the number itself where it is below the other. No branch is taken.
+#[inline(always)]
+fn less_if_within(rest: u32, left: u32) -> u32
+    ensures below { rest < left → result ≡ rest }
+    ensures within { left ≤ rest → result ≡ rest - left }
+{
+    rest.min(rest.wrapping_sub(left))
+}
+
+/// The place of the flag that comes after `k` others, in as many looks as the tree is high. Four
 /// levels are taken at a time.
 #[inline(always)]
 pub(crate) fn find<L: Ledger>(counts: &Counts, k: u32, steps: &mut Steps<L>) -> usize
-    requires small { counts.now.half ≤ 65536 }
-    requires tree { IsTree counts.now.half counts.now.counts }
-    requires within { k < slice_index counts.now.counts 1 }
-    ensures place { result < counts.now.half }
-    ensures others { sum (take result (drop counts.now.half counts.now.counts)) ≡ k }
-    ensures there { slice_index (drop counts.now.half counts.now.counts) result ≡ 1 }
-    ensures cost { (n : ℕ) → counts.now.half ≡ 2 ^ n → steps.new ≡ steps.old + n }
+    requires tree { IsTree counts.now }
+    requires within { k < counts.now.total }
+    ensures place { result < length counts.now.flags }
+    ensures others { sum (take result counts.now.flags) ≡ k }
+    ensures there { slice_index counts.now.flags result ≡ 1 }
+    ensures cost { (n : ℕ) → length counts.now.flags ≡ 2 ^ n → steps.new ≡ steps.old + n }
 {
-    let half = counts.half();
+    let leaves = counts.leaves();
     let mut at = Way { node: 1, rest: k };
-    while 2 * at.node + 1 < half {
+    while 8 * at.node + 7 < leaves {
+        at = at.part(counts, steps);
+        at = at.part(counts, steps);
         at = at.part(counts, steps);
         at = at.part(counts, steps);
     }
-    while at.node < half {
+    while at.node < leaves {
         at = at.part(counts, steps);
     }
-    at.node - half
+    2 * leaves - 1 - at.node
 }

@@ -1,8 +1,8 @@
 //! Places with flags.
 
-ghost use Rattle.std.specs.Prelude.{◌≡◌, ◌+◌, ◌^◌, ◌<◌, ◌≤◌, ℕ, List, length, drop, take, replicate, slice_index, slice_set, if◌then◌else◌, IfOk};
+ghost use Rattle.std.specs.Prelude.{◌≡◌, ◌+◌, ◌-◌, ◌^◌, ◌++◌, ◌<◌, ◌≤◌, ℕ, false, List, length, take, replicate, slice_index, slice_set, if◌then◌else◌, IfOk};
 ghost use Rattle.std.specs.List.{sum};
-ghost use Rattle.count_tree.specs.Nodes.{IsFirst, IsFirstAfter, IsHeld, HasRoom};
+ghost use Rattle.count_tree.specs.Nodes.{IsFirst, IsFirstAfter, IsTree, HasRoom};
 
 use crate::counts::Counts;
 use crate::nodes::find;
@@ -22,10 +22,9 @@ pub struct Places {
 impl Model for Places {
     ghost Value = { List ℕ };
 
-    ghost view = { λ p. drop p.counts.half p.counts.counts };
+    ghost view = { λ p. p.counts.flags };
 
-    ghost invariant = { λ p. IsHeld p.counts.half p.counts.counts
-        × IsFirst (drop p.counts.half p.counts.counts) p.first };
+    ghost invariant = { λ p. IsTree p.counts × IsFirst p.counts.flags p.first };
 }
 
 impl Places {
@@ -36,11 +35,29 @@ impl Places {
         ensures none { IfOk result (λ p. p ≡ replicate (length p) 0) }
         ensures room { IfOk result (λ p. HasRoom places (length p)) }
     {
-        let counts = Counts::new(alloc, room(places as usize))?;
-        Ok(Places {
-            counts,
-            first: u32::MAX,
-        })
+        Places::started(alloc, places, 0)
+    }
+
+    /// Room for so many places, each of which has a flag. All memory is taken here, in a time that
+    /// grows with the number of places alone.
+    pub fn filled(alloc: Global, places: u32) -> Result<Places, AllocError>
+        requires { places ≤ 65536 }
+        ensures flags { IfOk result (λ p. p ≡ replicate places 1 ++ replicate (length p - places) 0) }
+        ensures room { IfOk result (λ p. HasRoom places (length p)) }
+    {
+        Places::started(alloc, places, places)
+    }
+
+    // Room for so many places, of which the first so many have a flag.
+    fn started(alloc: Global, places: u32, flagged: u32) -> Result<Places, AllocError>
+        requires few { places ≤ 65536 }
+        requires within { flagged ≤ places }
+        ensures flags { IfOk result (λ p. p ≡ replicate flagged 1 ++ replicate (length p - flagged) 0) }
+        ensures room { IfOk result (λ p. HasRoom places (length p)) }
+    {
+        let counts = Counts::new(alloc, room(places as usize), flagged as usize)?;
+        let first = if flagged == 0 { u32::MAX } else { 0 };
+        Ok(Places { counts, first })
     }
 
     /// How many places have a flag.
@@ -89,15 +106,31 @@ fn first_after<L: Ledger>(counts: &Counts, first: u32, place: u32, on: bool, bla
     requires name { blank.name ≡ L.name }
     requires parts { blank.parts ≡ L.parts }
     requires some { 0 < blank.parts }
-    requires held { IsHeld counts.now.half counts.now.counts }
-    ensures { IsFirstAfter first place on (drop counts.now.half counts.now.counts) result }
+    requires tree { IsTree counts.now }
+    ensures { IsFirstAfter first place on counts.now.flags result }
 {
     if on {
         first.min(place)
     } else if place == first {
-        first_of::<L>(counts, blank)
+        next_first::<L>(counts, place, blank)
     } else {
         first
+    }
+}
+
+// The first flagged place after the first one's flag is taken away. The next place is tried before the
+// whole tree.
+fn next_first<L: Ledger>(counts: &Counts, place: u32, blank: Blank) -> u32
+    requires name { blank.name ≡ L.name }
+    requires parts { blank.parts ≡ L.parts }
+    requires some { 0 < blank.parts }
+    requires tree { IsTree counts.now }
+    ensures { IsFirstAfter place place false counts.now.flags result }
+{
+    if counts.has_flag(place as usize + 1) {
+        place + 1
+    } else {
+        first_of::<L>(counts, blank)
     }
 }
 
@@ -106,8 +139,8 @@ fn first_of<L: Ledger>(counts: &Counts, blank: Blank) -> u32
     requires name { blank.name ≡ L.name }
     requires parts { blank.parts ≡ L.parts }
     requires some { 0 < blank.parts }
-    requires held { IsHeld counts.now.half counts.now.counts }
-    ensures { IsFirst (drop counts.now.half counts.now.counts) result }
+    requires tree { IsTree counts.now }
+    ensures { IsFirst counts.now.flags result }
 {
     if counts.total() == 0 {
         u32::MAX
@@ -119,8 +152,7 @@ fn first_of<L: Ledger>(counts: &Counts, blank: Blank) -> u32
 
 // The least power of two that is not below this number.
 fn room(places: usize) -> usize
-    requires some { 0 < places }
-    requires few { places ≤ 65536 }
+    requires { places ≤ 65536 }
     ensures { HasRoom places result }
 {
     let mut room = 1;

@@ -242,7 +242,8 @@ pub fn past_a_private_array(alloc: Global) -> Result<Kernel, AllocError>
     })
 }
 
-/// `for (i0 = 0u; i0 < s0; i0 += 1u) { v0 = a0[i0]; o0[i0] = (v0 + addend); }`, of one input and one size
+/// `for (i0 = 0u; i0 < s0; i0 += 1u) { v0 = a0[i0]; o0[i0] = (v0 + addend); }`, of one input and
+/// one size
 pub fn sums(alloc: Global, addend: u32) -> Result<Kernel, AllocError>
     ensures inputs { IfOk result (λ kernel. kernel.inputs ≡ 1) }
     ensures outputs { IfOk result (λ kernel. kernel.outputs ≡ 1) }
@@ -272,7 +273,8 @@ pub fn sums(alloc: Global, addend: u32) -> Result<Kernel, AllocError>
     })
 }
 
-/// `for (i0 = 0u; i0 < s0; i0 += 1u) { for (i1 = 0u; i1 < s0; i1 += 1u) { o0[i0] = (i0 + i1); } v0 = 7u; }`, of one size
+/// `for (i0 = 0u; i0 < s0; i0 += 1u) { for (i1 = 0u; i1 < s0; i1 += 1u) { o0[i0] = (i0 + i1); } v0
+/// = 7u; }`, of one size
 pub fn nested(alloc: Global) -> Result<Kernel, AllocError>
     ensures inputs { IfOk result (λ kernel. kernel.inputs ≡ 0) }
     ensures outputs { IfOk result (λ kernel. kernel.outputs ≡ 1) }

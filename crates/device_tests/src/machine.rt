@@ -128,7 +128,8 @@ fn tells_accesses(rt: HostRuntime) {
     assert!(rt; machine.enabled() == 0 && machine.finished());
 }
 
-// Three events of the outer loop, and in each of its two turns three of the inner loop, two stores and an assignment.
+// Three events of the outer loop, and in each of its two turns three of the inner loop, two stores
+// and an assignment.
 #[test]
 fn nests_loops(rt: HostRuntime) {
     let alloc = rt.alloc();

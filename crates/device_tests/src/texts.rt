@@ -254,7 +254,8 @@ pub fn take(machine: &mut Machine, k: u32) -> Option<Seen> {
     }
 }
 
-/// Takes the first enabled event until one is a fault, and tells its number, from 1, and what is seen
+/// Takes the first enabled event until one is a fault, and tells its number, from 1, and what is
+/// seen
 /// of it.
 pub fn first_fault(machine: &mut Machine) -> Option<(u32, Seen)> {
     for number in 1..200_000 {

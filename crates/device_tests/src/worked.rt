@@ -1,4 +1,5 @@
-//! Runs of four work-items along schedules, event by event, worked out by hand: five words and 1, of which the first work-item has the first and the last.
+//! Runs of four work-items along schedules, event by event, worked out by hand: five words and 1,
+//! of which the first work-item has the first and the last.
 
 ghost use Rattle.std.specs.Prelude.{◌≡◌, ◌<◌, IfOk, length};
 

@@ -18,6 +18,7 @@ use item_emit::scope::Scope;
 use item_emit::statements::{Site, put_written};
 use kernel_reader::read_kernel;
 use kernel_tree::tree::{Kernel, Stmt};
+use lift_tree::local_size::LocalSize;
 use lowered_tree::lowered::Lowered;
 use lowering::lower::lower;
 use lowering::term::Term;
@@ -107,7 +108,8 @@ fn declares(
     )
 }
 
-// Whether what is emitted for the row, with these barriers where work-groups run it, is the kernel of its text.
+// Whether what is emitted for the row, with these barriers where work-groups run it, is the kernel
+// of its text.
 fn emits(alloc: Global, row: &Row, barriers: Option<&[Barrier]>) -> Result<bool, Fail> {
     let Some(LoweredLast { lowered, local }) = lowered_last(alloc, row.program, row.script)? else {
         return Ok(false);
@@ -115,6 +117,7 @@ fn emits(alloc: Global, row: &Row, barriers: Option<&[Barrier]>) -> Result<bool,
     let Ok(kernel) = read_kernel(alloc, row.kernel.as_bytes()) else {
         return Ok(false);
     };
+    let local = LocalSize::fixed(local);
     let term = lower(alloc, &lowered.names, &lowered.term, &lowered.types)?;
     if !has_short_copies(alloc, &term) {
         return Ok(false);

@@ -1,5 +1,6 @@
 //! Programs and scripts, run and lowered.
 
+use lift_tree::local_size::LocalSize;
 use lowered_tree::lowered::Lowered;
 use lowered_tree::typed::lowered;
 use program_source::last_term;
@@ -9,7 +10,7 @@ use std::test::Fail;
 /// The last term of the script, lowered, with the local size that the script fixes.
 pub struct LoweredLast {
     pub lowered: Lowered,
-    pub local: Option<u32>,
+    pub local: Option<LocalSize>,
 }
 
 /// The last term of the script; none where the program or the script is refused.

@@ -1,7 +1,5 @@
 //! Plans of terms of each kind, and the kernels that are emitted for them.
 
-ghost use Rattle.lowered_tree.specs.Kinds.{IsLocalSize};
-
 use crate::emission::Row;
 use crate::last_terms::{LoweredLast, lowered_last};
 use crate::sameness::is_same;
@@ -16,22 +14,12 @@ use std::alloc::Global;
 use std::test::Fail;
 use thread_mapping::judge;
 
-// The number, where groups may have that size.
-fn size_of_groups(number: Option<u32>) -> Option<u32>
-    ensures { IsLocalSize result }
-{
-    match number {
-        Some(size) if 1 <= size && size <= 256 => Some(size),
-        _ => None,
-    }
-}
-
 // A term's kernel, and how many phases and barriers its plan has over work-groups.
 fn emitted(alloc: Global, row: &Row) -> Result<Option<(Kernel, usize, usize)>, Fail> {
     let Some(LoweredLast { lowered, local }) = lowered_last(alloc, row.program, row.script)? else {
         return Ok(None);
     };
-    let Ok(mapped) = judge(alloc, lowered, size_of_groups(local)) else {
+    let Ok(mapped) = judge(alloc, lowered, local) else {
         return Ok(None);
     };
     let spaced = spaces(alloc, mapped)?;
@@ -115,7 +103,8 @@ const OVER_GROUPS: Row = Row {
 ",
 };
 
-// Pairs that are columns of two rows, each by a group of four items: two of them take an element, and
+// Pairs that are columns of two rows, each by a group of four items: two of them take an element,
+// and
 // the `if` tells that their ids are below 2.
 const COLUMNS: Row = Row {
     program: "input xs: [[u32; 3]; 2]; output join(map(\\r. map(\\x. add(x, 1), r), split(2, join(transpose(xs)))))",

@@ -1,4 +1,5 @@
-//! Tiles of two of six numbers are copied to local memory, and one is added to each number: join(mapWrg(\t. mapLcl(\x. add(x, 1), toLocal(mapLcl(\x. x, t))), split(2, xs))).
+//! Tiles of two of six numbers are copied to local memory, and one is added to each number:
+//! join(mapWrg(\t. mapLcl(\x. add(x, 1), toLocal(mapLcl(\x. x, t))), split(2, xs))).
 
 ghost use Rattle.std.specs.Prelude.{◌<◌, [], IfOk};
 ghost use Rattle.lift_tree.specs.Types.{ty_of};

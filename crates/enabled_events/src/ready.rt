@@ -1,6 +1,6 @@
 //! Flags of work-items and work-groups, and the events that they enable.
 
-ghost use Rattle.std.specs.Prelude.{◌≡◌, ◌↔◌, ◌+◌, ◌-◌, ◌^◌, ◌<◌, ◌≤◌, ℕ, false, Some, length, replicate, is_some, slice_get, slice_set, if◌then◌else◌, IfOk, IsTrue};
+ghost use Rattle.std.specs.Prelude.{◌≡◌, ◌↔◌, ◌+◌, ◌-◌, ◌^◌, ◌<◌, ◌≤◌, ℕ, true, false, Some, length, replicate, is_some, slice_get, slice_set, if◌then◌else◌, IfOk, IsTrue};
 ghost use Rattle.kernel_tree.specs.Launch.{item_count, group_count};
 ghost use Rattle.enabled_events.specs.Flags.{Counted, CountSteps, IsHeight, IsPlaceOf, NoneSteps};
 ghost use Rattle.enabled_events.specs.Grids.{laid, IsSmall};
@@ -56,6 +56,27 @@ impl Ready {
             groups: vec![in alloc; false; groups]?,
             places: Places::new(alloc, items.max(1))?,
             steps: vec![in alloc; 0u32; groups]?,
+        })
+    }
+
+    /// Each work-item of this grid can step, and no group may be released. All memory is taken here, in
+    /// a time that grows with the number of items alone.
+    pub fn all_stepping(alloc: Global, grid: Grid) -> Result<Ready, AllocError>
+        requires { IsSmall grid }
+        ensures { IfOk result (λ r. r ≡ record {
+          grid = grid;
+          items = replicate (item_count (laid grid)) true;
+          groups = replicate (group_count (laid grid)) false;
+        }) }
+    {
+        let items = grid.item_count();
+        let groups = grid.group_count() as usize;
+        Ok(Ready {
+            grid,
+            items: vec![in alloc; true; items as usize]?,
+            groups: vec![in alloc; false; groups]?,
+            places: Places::filled(alloc, items)?,
+            steps: vec![in alloc; grid.group_size(); groups]?,
         })
     }
 

@@ -5,6 +5,7 @@ use Rattle.lift_reader.specs.declared.refusal.ReadRefusal.TheVariants as reading
 use Rattle.pattern_types.specs.declared.refusal.TypeRefusal.TheVariants as typings
 use Rattle.strategy_script.specs.declared.script.ScriptNo.TheVariants as scripts
 use Rattle.strategy_script.specs.declared.faults.StepNo.TheVariants as stops
+use Rattle.kernel_sequence.specs.declared.no.CutNo.TheVariants as cuts
 use Rattle.thread_mapping.specs.declared.judging.NestNo.TheVariants as nests
 use Rattle.buffer_allocation.specs.declared.buffers.AllocNo.TheVariants as allocations
 use Rattle.launch_file.specs.Line as launches
@@ -63,6 +64,7 @@ source_failed (told.Program readings.Memory) = Memory
 source_failed (told.Typing typings.Memory) = Memory
 source_failed (told.Script scripts.Memory) = Memory
 source_failed (told.Step stops.Memory) = Memory
+source_failed (told.Cut cuts.Memory) = Memory
 source_failed (told.Nest nests.Memory) = Memory
 source_failed (told.Alloc allocations.Memory) = Memory
 source_failed told.Memory = Memory

@@ -11,6 +11,8 @@ use Rattle.fault_lines.specs.Lines.{line_of_texts, place_text}
 use Rattle.buffer_allocation.specs.declared.buffers.AllocNo.{AllocNo}
 use Rattle.buffer_allocation.specs.declared.buffers.AllocNo.TheVariants as allocations
 use Rattle.fault_lines.specs.Names.{alloc_limit_name, nest_rule_name, quantity_name, rule_name, step_limit_name, type_limit_name}
+use Rattle.kernel_sequence.specs.declared.no.CutNo.{CutNo}
+use Rattle.kernel_sequence.specs.declared.no.CutNo.TheVariants as cuts
 use Rattle.rewriting.specs.Conditions.{condition_name}
 use Rattle.strategy_script.specs.declared.faults.StepNo.{StepNo}
 use Rattle.strategy_script.specs.declared.faults.StepNo.TheVariants as stops
@@ -21,7 +23,7 @@ use Rattle.strategy_script.specs.declared.script.ScriptNo.TheVariants as scripts
 use Rattle.thread_mapping.specs.declared.judging.NestNo.{NestNo}
 use Rattle.thread_mapping.specs.declared.judging.NestNo.TheVariants as nests
 use Rattle.fault_lines.specs.declared.refusal.Refusal.{Refusal}
-use Rattle.fault_lines.specs.declared.refusal.Refusal.TheVariants.{Program, Typing, Script, Step, Nest, Alloc, Memory}
+use Rattle.fault_lines.specs.declared.refusal.Refusal.TheVariants.{Program, Typing, Script, Step, Cut, Nest, Alloc, Memory}
 
 abbrev pub status_of : Refusal → ℕ
 status_of (Program (readings.Syntax token offset)) = 6
@@ -36,6 +38,9 @@ status_of (Script scripts.Memory) = 13
 status_of (Step (stops.Inapplicable step why)) = 9
 status_of (Step (stops.Limit which step count)) = 10
 status_of (Step stops.Memory) = 13
+status_of (Cut (cuts.Nest place rule)) = 11
+status_of (Cut (cuts.Limit count)) = 10
+status_of (Cut cuts.Memory) = 13
 status_of (Nest (nests.Nest place rule)) = 11
 status_of (Nest nests.Memory) = 13
 status_of (Alloc (allocations.Limit which count)) = 10
@@ -77,6 +82,9 @@ line_of (Script scripts.Memory) = memory_line
 line_of (Step (stops.Inapplicable step why)) = step_line step why
 line_of (Step (stops.Limit which step count)) = limit_line (step_limit_name which) count
 line_of (Step stops.Memory) = memory_line
+line_of (Cut (cuts.Nest place rule)) = nest_line (nest_rule_name rule) place
+line_of (Cut (cuts.Limit count)) = limit_line (codes "kernels") count
+line_of (Cut cuts.Memory) = memory_line
 line_of (Nest (nests.Nest place rule)) = nest_line (nest_rule_name rule) place
 line_of (Nest nests.Memory) = memory_line
 line_of (Alloc (allocations.Limit which count)) = limit_line (alloc_limit_name which) count
@@ -100,6 +108,10 @@ script_refused why = Script why
 abbrev pub step_refused : StepNo → Refusal
 step_refused stops.Memory = Memory
 step_refused why = Step why
+
+abbrev pub cut_refused : CutNo → Refusal
+cut_refused cuts.Memory = Memory
+cut_refused why = Cut why
 
 abbrev pub nest_refused : NestNo → Refusal
 nest_refused nests.Memory = Memory

@@ -11,13 +11,14 @@ use crate::lines::{Piece, write_line};
 use crate::refusal::{Refusal, report_limit, report_memory};
 use buffer_allocation::buffers::AllocNo;
 use command_line::WordsNo;
+use kernel_sequence::CutNo;
 use launch_file::line::Detail;
 use launch_file::refusal::LaunchNo;
 use lift_io::Sink;
 use lift_reader::refusal::ReadRefusal;
 use lift_tree::program::Program;
 use pattern_types::TypeRefusal;
-use std::alloc::AllocError;
+use std::alloc::{AllocError, AllocFailed};
 use strategy_script::{ScriptNo, StepNo};
 use thread_mapping::NestNo;
 
@@ -134,6 +135,16 @@ impl From<AllocError> for Failure {
     }
 }
 
+impl<T: Drop> From<AllocFailed<T>> for Failure {
+    ghost use Rattle.fault_lines.specs.declared.failure.Failure.TheVariants.{Memory};
+
+    ghost from_gives = { λ _ e. e ≡ Memory };
+
+    fn from(_: AllocFailed<T>) -> Self {
+        Failure::Memory
+    }
+}
+
 impl From<WordsNo> for Failure {
     ghost use Rattle.fault_lines.specs.Shown.{failure_of, words_failed};
     ghost use Rattle.std.specs.Prelude.{◌≡◌};
@@ -161,6 +172,7 @@ impl From<Refusal> for Failure {
             | Refusal::Typing(TypeRefusal::Memory)
             | Refusal::Script(ScriptNo::Memory)
             | Refusal::Step(StepNo::Memory)
+            | Refusal::Cut(CutNo::Memory)
             | Refusal::Nest(NestNo::Memory)
             | Refusal::Alloc(AllocNo::Memory)
             | Refusal::Memory => Failure::Memory,

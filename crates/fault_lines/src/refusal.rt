@@ -18,6 +18,7 @@ use crate::names::{
     type_limit_name,
 };
 use buffer_allocation::buffers::AllocNo;
+use kernel_sequence::CutNo;
 use lift_io::Sink;
 use lift_reader::refusal::ReadRefusal;
 use lift_tree::place::Place;
@@ -37,6 +38,8 @@ pub enum Refusal {
     Script(ScriptNo),
     /// A step of the script can't be made, or passes a limit.
     Step(StepNo),
+    /// The term isn't cut into kernels: a binder is around a cut, or there are too many.
+    Cut(CutNo),
     /// The nest that the steps make of the program breaks a rule.
     Nest(NestNo),
     /// The term passes a limit on layouts or on memory.
@@ -217,6 +220,17 @@ fn report_place<E: Sink>(err: &mut E, rule: &'static [u8], place: &Place)
     );
 }
 
+fn report_cut<E: Sink>(err: &mut E, no: &CutNo)
+    ensures { TakesLine (E.taken err.old) (E.taken err.new)
+        (Rose (E.faults err.old) (E.faults err.new)) (line_of (Refusal.Cut no.now)) }
+{
+    match no {
+        CutNo::Nest { place, rule } => report_place(err, nest_rule_name(*rule), place),
+        CutNo::Limit { count } => report_limit(err, b"kernels", *count as u128),
+        CutNo::Memory => report_memory(err),
+    }
+}
+
 fn report_nest<E: Sink>(err: &mut E, no: &NestNo)
     ensures { TakesLine (E.taken err.old) (E.taken err.new)
         (Rose (E.faults err.old) (E.faults err.new)) (line_of (Refusal.Nest no.now)) }
@@ -253,12 +267,14 @@ impl Refusal {
             | Refusal::Typing(TypeRefusal::Limit { .. })
             | Refusal::Script(ScriptNo::Limit { .. })
             | Refusal::Step(StepNo::Limit { .. })
+            | Refusal::Cut(CutNo::Limit { .. })
             | Refusal::Alloc(AllocNo::Limit { .. }) => 10,
-            Refusal::Nest(NestNo::Nest { .. }) => 11,
+            Refusal::Cut(CutNo::Nest { .. }) | Refusal::Nest(NestNo::Nest { .. }) => 11,
             Refusal::Program(ReadRefusal::Memory)
             | Refusal::Typing(TypeRefusal::Memory)
             | Refusal::Script(ScriptNo::Memory)
             | Refusal::Step(StepNo::Memory)
+            | Refusal::Cut(CutNo::Memory)
             | Refusal::Nest(NestNo::Memory)
             | Refusal::Alloc(AllocNo::Memory)
             | Refusal::Memory => 13,
@@ -276,6 +292,7 @@ impl Refusal {
             Refusal::Typing(no) => report_typing(err, no),
             Refusal::Script(no) => report_script(err, *no),
             Refusal::Step(no) => report_step(err, *no),
+            Refusal::Cut(no) => report_cut(err, no),
             Refusal::Nest(no) => report_nest(err, no),
             Refusal::Alloc(no) => report_alloc(err, no),
             Refusal::Memory => report_memory(err),
@@ -341,6 +358,19 @@ impl From<StepNo> for Refusal {
         match no {
             StepNo::Memory => Refusal::Memory,
             no => Refusal::Step(no),
+        }
+    }
+}
+
+impl From<CutNo> for Refusal {
+    ghost use Rattle.fault_lines.specs.Refusal.{cut_refused};
+
+    ghost from_gives = { λ no e. e ≡ cut_refused no };
+
+    fn from(no: CutNo) -> Self {
+        match no {
+            CutNo::Memory => Refusal::Memory,
+            no => Refusal::Cut(no),
         }
     }
 }

@@ -1,5 +1,5 @@
-// Quotients and remainders of what stays below a length, and of cells whose rows are cut into
-// parts, worked by hand, each beside a neighbour that stays.
+//! Quotients and remainders of what stays below a length, and of cells whose rows are cut into
+//! parts, worked by hand, each beside a neighbour that stays.
 
 use crate::trees::{Tree, simplified_text};
 use index_expr::Operation::{Difference, Product, Quotient, Remainder, Sum};

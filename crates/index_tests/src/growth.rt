@@ -1,5 +1,5 @@
-// Indices through many layouts: a stride names its position twice, and past 262,144 nodes the
-// answer is want of memory.
+//! Indices through many layouts: a stride names its position twice, and past 262,144 nodes the
+//! answer is want of memory.
 
 use crate::kinds::{Form, input, loop_variables, read_through};
 use array_views::{PairStack, View};

@@ -1,4 +1,4 @@
-// Types, views and positions for tests.
+//! Types, views and positions for tests.
 
 ghost use Rattle.std.specs.Prelude.{◌≡◌, IfOk};
 ghost use Rattle.lift_tree.specs.Types.{ty_of};

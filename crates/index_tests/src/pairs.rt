@@ -1,4 +1,4 @@
-// The sides of pairs, elements, variables and copies.
+//! The sides of pairs, elements, variables and copies.
 
 ghost use Rattle.std.specs.Prelude.{◌≡◌, ◌+◌, IfOk};
 ghost use Rattle.lift_tree.specs.Types.{ty_of};

@@ -1,4 +1,4 @@
-// What expressions are simplified to, worked by hand, each beside a neighbour that stays.
+//! What expressions are simplified to, worked by hand, each beside a neighbour that stays.
 
 use crate::trees::{Tree, simplified_text};
 use index_expr::Operation::{Difference, Greatest, Least, Product, Quotient, Remainder, Sum};

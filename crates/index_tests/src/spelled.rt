@@ -1,4 +1,4 @@
-// Simplified indices and lengths as expressions of a kernel.
+//! Simplified indices and lengths as expressions of a kernel.
 
 use crate::trees::{Tree, index_of};
 use index_expr::Operation::{Product, Quotient, Remainder, Sum};

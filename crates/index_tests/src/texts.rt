@@ -1,4 +1,4 @@
-// Indices as they are spelled: the formulas put into one another.
+//! Indices as they are spelled: the formulas put into one another.
 
 use crate::kinds::{Form, arrays, input, loop_variables, read_through, written_through};
 use array_views::{ArrayKind, PairStack, View};

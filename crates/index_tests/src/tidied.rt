@@ -1,4 +1,4 @@
-// What indices and bounds of a kernel become, worked by hand, each beside a neighbour that stays.
+//! What indices and bounds of a kernel become, worked by hand, each beside a neighbour that stays.
 
 use crate::trees::{Tree, index_of};
 use index_expr::Operation::{Difference, Greatest, Least, Product, Quotient, Remainder, Sum};

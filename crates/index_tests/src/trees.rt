@@ -1,4 +1,4 @@
-// Index expressions as constants, and their texts.
+//! Index expressions as constants, and their texts.
 
 use index_expr::{Index, Operation};
 use index_simplify::{Ranges, simplified};

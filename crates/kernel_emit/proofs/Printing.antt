@@ -7,6 +7,7 @@ use Rattle.size_arith.specs.declared.names.Name.{Name}
 use Rattle.size_arith.specs.declared.poly.Monomial.{Monomial}
 use Rattle.size_arith.specs.Ranges.{Admissible, leasts, sizes_at}
 use Rattle.lift_tree.specs.Annotations.{Annotation}
+use Rattle.lift_tree.specs.LocalSizes.{IsLocalSize}
 use Rattle.lift_tree.specs.Tree.{Tree, height}
 use Rattle.lift_tree.specs.Typing.{Declared}
 use Rattle.kernel_tree.specs.Code.{Kernel}
@@ -37,7 +38,7 @@ use Rattle.group_form.specs.ChosenForms.{forms_of}
 use Rattle.group_form.specs.Form.{is_once}
 use Rattle.group_form.specs.Uses.{group_touches, phase_count}
 use Rattle.printed_form.specs.Counts.{copy_lengths}
-use Rattle.printed_form.specs.Programs.{IsGroupSize, IsLaunchOf, StandsAt, lowered_root}
+use Rattle.printed_form.specs.Programs.{IsLaunchOf, StandsAt, lowered_root}
 use Rattle.kernel_premises.specs.Arrays.{AllocatedAreDeclared, DeclaredAreFew}
 use Rattle.kernel_premises.specs.Groups.{AreNeeded, LegalGroupKernelsAreInTheGrammar, kernel_of_groups}
 use Rattle.kernel_premises.specs.Soundness.{LeastSizesAreAdmissible, LoweredTermsHaveSoundParts}
@@ -115,7 +116,7 @@ plain_items nest.Task h d local t n k is = is
 plain_items nest.OverLaunch h d local t n k is = is
 plain_items nest.OverGroups h d local t n k is = absurd (h refl)
 
-module _ (known : Known) (d : Declared) (local : Option ℕ) (t : Tree) (n : Annotation) (typed : IsSoundTerm d t n) (sized : IsGroupSize local) (nest_legal : IsLegalNest t n) (within : passed_limit t n ≡ None) where
+module _ (known : Known) (d : Declared) (local : Option ℕ) (t : Tree) (n : Annotation) (typed : IsSoundTerm d t n) (sized : IsLocalSize local) (nest_legal : IsLegalNest t n) (within : passed_limit t n ≡ None) where
   pub legal : IsLegalTerm d t n
   legal = record {
     declared = typed.declared;

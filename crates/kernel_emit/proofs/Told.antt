@@ -1,9 +1,7 @@
 -- What is printed for a plan, told of the plan.
-use Rattle.std.proofs.Common.{◌≡◌, ℕ, Option, None, Some, subst, sym}
+use Rattle.std.proofs.Common.{◌≡◌, subst, sym}
 use Rattle.lowering.specs.Terms.{term_of}
-use Rattle.lowered_tree.specs.Kinds.{IsLocalSize}
 use Rattle.lowered_tree.specs.Whole.{IsSoundTerm}
-use Rattle.printed_form.specs.Programs.{IsGroupSize}
 use Rattle.phase_plan.specs.declared.planned.Plan.{Plan}
 use Rattle.phase_plan.specs.Plans.{IsTold, declared_in, local_in, tree_in, types_in}
 use Rattle.std.proofs.Math.Logic.{∥∥₁_elim, ∥∥₁_prop}
@@ -13,15 +11,10 @@ use Rattle.kernel_emit.specs.Laws.{PlansCanBeEmitted, PlansGiveKernels}
 use Rattle.kernel_emit.specs.Plans.{kernel_for}
 use Rattle.kernel_emit.proofs.Printing.{IsPrintedWell, Known, printed_well}
 
--- a size that is fixed is one that the kernel grammar has
-is_group_size : (local : Option ℕ) → IsLocalSize local → IsGroupSize local
-is_group_size None h = tt
-is_group_size (Some size) h = h
-
 told_well : Known → (plan : Plan) → IsSoundTerm (declared_in plan) (tree_in plan) (types_in plan) → IsTold plan
     → IsPrintedWell (declared_in plan) (local_in plan) (tree_in plan) (types_in plan) plan.buffers.now.local.items plan.buffers.now.private.items (term_of plan.root) plan.kind
 told_well known plan is told =
-    printed_well known (declared_in plan) (local_in plan) (tree_in plan) (types_in plan) is (is_group_size (local_in plan) plan.spaced.now.mapped.sized) told.legal told.arrays.within plan.buffers.now.local.items plan.buffers.now.private.items (term_of plan.root) told.arrays told.lowered plan.kind told.kind
+    printed_well known (declared_in plan) (local_in plan) (tree_in plan) (types_in plan) is plan.spaced.now.mapped.sized told.legal told.arrays.within plan.buffers.now.local.items plan.buffers.now.private.items (term_of plan.root) told.arrays told.lowered plan.kind told.kind
 
 pub can_be_emitted : Known → PlansCanBeEmitted
 can_be_emitted known plan is told =

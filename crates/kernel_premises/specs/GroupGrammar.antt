@@ -3,6 +3,7 @@ use Rattle.std.specs.Prelude.{◌≡◌, ℕ, ◌+◌, ◌*◌, ◌≤◌, Bool,
 use Rattle.size_arith.specs.declared.poly.Monomial.{Monomial}
 use Rattle.lift_tree.specs.Tree.{Tree}
 use Rattle.lift_tree.specs.Annotations.{Annotation, type_in}
+use Rattle.lift_tree.specs.LocalSizes.{IsLocalSize}
 use Rattle.lift_tree.specs.Typing.{Declared}
 use Rattle.kernel_tree.specs.Formula.{Formula}
 use Rattle.kernel_tree.specs.Grammar.{is_kernel}
@@ -10,7 +11,7 @@ use Rattle.barrier_placement.specs.declared.touches.Touch.{Touch}
 use Rattle.barrier_placement.specs.Fencing.{Fencing, Open, Fenced}
 use Rattle.barrier_placement.specs.Needed.{Needed}
 use Rattle.lift_ir.specs.AtLaunch.{shape_of}
-use Rattle.printed_form.specs.Programs.{IsGroupSize, lowered_root}
+use Rattle.printed_form.specs.Programs.{lowered_root}
 use Rattle.printed_form.specs.Sound.{IsSpelledIn, AllLengths, IsWrittenWithin, dimensions, loop_depth, AreLow, CanBeWritten}
 use Rattle.printed_form.specs.KernelGrammar.{IsSoundIn}
 use Rattle.group_form.specs.Forms.{StandsOverGroups}
@@ -28,7 +29,7 @@ IsFlagged (Fenced on_local on_global) = (on_local || on_global) ≡ true
 -- terms and loops don't nest too deep; groups may have the size that is fixed.
 pub record IsGroupPrintedWithin (spell : List Monomial → Formula) (fence : ℕ → Fencing)
     (high most : ℕ) (d : Declared) (local : Option ℕ) (t : Tree) (a : Annotation) : Type 0 where
-  pub size : IsGroupSize local
+  pub size : IsLocalSize local
   pub some : 1 ≤ high
   pub fits : high + (8 + 3 * most) ≤ 1024
   pub stands : StandsOverGroups (lowered_root d.names t a)

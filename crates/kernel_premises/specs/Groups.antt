@@ -4,6 +4,7 @@ use Rattle.lift_tree.specs.Tree.{Tree, height}
 use Rattle.lift_tree.specs.Types.{IsOutput}
 use Rattle.lift_tree.specs.Typing.{Declared}
 use Rattle.lift_tree.specs.Annotations.{Annotation, Annotates, type_in}
+use Rattle.lift_tree.specs.LocalSizes.{IsLocalSize}
 use Rattle.kernel_tree.specs.Code.{Kernel}
 use Rattle.kernel_tree.specs.Grammar.{is_kernel}
 use Rattle.kernel_tree.specs.Launch.{Launch}
@@ -14,7 +15,7 @@ use Rattle.lift_ir.specs.Lowerable.{IsStaged}
 use Rattle.lift_ir.specs.Terms.{Term}
 use Rattle.lowered_tree.specs.Kinds.{asks_of}
 use Rattle.buffer_allocation.specs.Layouts.{layouts}
-use Rattle.printed_form.specs.Programs.{IsLaunchOf, IsGroupSize, lowered_root}
+use Rattle.printed_form.specs.Programs.{IsLaunchOf, lowered_root}
 use Rattle.printed_form.specs.Sound.{CanBeWritten}
 use Rattle.length_spelling.specs.Formulas.{length_formula}
 use Rattle.kernel_premises.specs.Sound.{HasSoundParts}
@@ -53,7 +54,7 @@ GroupsCanBeWritten A = (t : Term A) → StandsOverGroups t → CanBeWritten t
 abbrev pub GroupKernelsAreInTheGrammar : Type 0
 GroupKernelsAreInTheGrammar =
     (d : Declared) (local : Option ℕ) (fence : ℕ → Fencing) (t : Tree) (n : Annotation)
-    → IsGroupSize local → Annotates d [] t n → IsOutput (type_in n) → IsStaged Written t n
+    → IsLocalSize local → Annotates d [] t n → IsOutput (type_in n) → IsStaged Written t n
     → StandsOverGroups (lowered_root d.names t n) → AreNeeded d local fence t n
     → layouts t n ≤ 24 → height t ≤ 512 → HasSoundParts d t n
     → is_kernel (kernel_of_groups d local fence t n) ≡ true
@@ -70,7 +71,7 @@ GroupTermsArePrinted =
 abbrev pub LegalGroupKernelsAreInTheGrammar : Type 0
 LegalGroupKernelsAreInTheGrammar =
     (d : Declared) (local : Option ℕ) (fence : ℕ → Fencing) (t : Tree) (n : Annotation)
-    → IsGroupSize local → IsLegalTerm d t n → CopiesArrays t n → nest_kind t ≡ OverGroups
+    → IsLocalSize local → IsLegalTerm d t n → CopiesArrays t n → nest_kind t ≡ OverGroups
     → AreNeeded d local fence t n
     → layouts t n ≤ 24 → height t ≤ 512
     → is_kernel (kernel_of_groups d local fence t n) ≡ true

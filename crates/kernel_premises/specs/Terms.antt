@@ -6,6 +6,7 @@ use Rattle.lift_tree.specs.Tree.{Tree, height}
 use Rattle.lift_tree.specs.Types.{IsOutput}
 use Rattle.lift_tree.specs.Typing.{Declared}
 use Rattle.lift_tree.specs.Annotations.{Annotation, Annotates, type_in}
+use Rattle.lift_tree.specs.LocalSizes.{IsLocalSize}
 use Rattle.kernel_tree.specs.Code.{Kernel}
 use Rattle.kernel_tree.specs.Grammar.{is_kernel}
 use Rattle.kernel_tree.specs.Launch.{Launch}
@@ -13,7 +14,7 @@ use Rattle.lift_ir.specs.Lowering.{Written}
 use Rattle.lift_ir.specs.Lowerable.{IsStaged}
 use Rattle.lowered_tree.specs.Kinds.{asks_of}
 use Rattle.buffer_allocation.specs.Layouts.{layouts}
-use Rattle.printed_form.specs.Programs.{IsGroupSize, IsLaunchOf, IsSpelling, lowered_root, printed_kernel, Prints}
+use Rattle.printed_form.specs.Programs.{IsLaunchOf, IsSpelling, lowered_root, printed_kernel, Prints}
 use Rattle.printed_form.specs.Sound.{CanBeWritten}
 use Rattle.nest_premises.specs.Printable.{IsPrintable}
 use Rattle.length_spelling.specs.Formulas.{length_formula}
@@ -41,7 +42,7 @@ SoundPartsAreSpelled =
 abbrev pub KernelsAreInTheGrammar : Type 0
 KernelsAreInTheGrammar =
     (d : Declared) (local : Option ℕ) (t : Tree) (n : Annotation)
-    → IsGroupSize local → Annotates d [] t n → IsOutput (type_in n) → IsStaged Written t n
+    → IsLocalSize local → Annotates d [] t n → IsOutput (type_in n) → IsStaged Written t n
     → CanBeWritten (lowered_root d.names t n)
     → layouts t n ≤ 24 → height t ≤ 512 → HasSoundParts d t n
     → is_kernel (kernel_of_term d local t n) ≡ true

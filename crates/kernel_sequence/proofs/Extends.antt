@@ -1,8 +1,8 @@
 -- A cut adds kernels behind those that there are.
-use Rattle.std.proofs.Common.{◌≡◌, ℕ, ◌+◌, ◌≤◌, List, [], ◌∷◌, ◌++◌, length, length-append, append_assoc, append-nil, refl, sym, ap, ◌∙◌, subst, arith}
+use Rattle.std.proofs.Common.{◌≡◌, ℕ, ◌≤◌, List, [], ◌∷◌, ◌++◌, length, length-append, append_assoc, append-nil, sym, ap, ◌∙◌, subst, arith}
 use Rattle.lift_tree.specs.declared.term.UnaryForm.TheVariants.{Then}
-use Rattle.lift_tree.specs.Tree.{Tree, Variable, Number, Input, Unary, Binary, Select, Let, Map, Fold}
-use Rattle.lift_tree.specs.Annotations.{Annotation, Leaf, One, Two, Three}
+use Rattle.lift_tree.specs.Tree.{Tree, Unary, Binary, Select, Let, Map, Fold}
+use Rattle.lift_tree.specs.Annotations.{Annotation, One, Two, Three}
 use Rattle.kernel_sequence.specs.Cut.{Part, cut_off}
 
 -- so many are behind others

@@ -1,9 +1,8 @@
 -- Kernels run in turn: each sees the scratch arrays before its own alone.
-use Rattle.std.proofs.Common.{◌≡◌, ℕ, zero, suc, ◌+◌, ◌≤◌, List, [], ◌∷◌, ◌++◌, length, take, drop, length-append, append_assoc, refl, sym, ap, ◌∙◌, subst, arith}
+use Rattle.std.proofs.Common.{◌≡◌, ℕ, zero, suc, ◌+◌, ◌≤◌, List, [], ◌∷◌, ◌++◌, length, take, drop, length-append, append_assoc, refl, sym, ap, ◌∙◌, arith}
 use Rattle.lift_tree.specs.Tree.{Tree}
-use Rattle.lift_tree.specs.Annotations.{Annotation}
 use Rattle.lift_tree.specs.Belonging.{Belongs}
-use Rattle.lift_tree.specs.Values.{Value, nth}
+use Rattle.lift_tree.specs.Values.{Value}
 use Rattle.lift_tree.specs.Meaning.{World, meaning}
 use Rattle.kernel_sequence.specs.Cut.{Part, cut_off}
 use Rattle.kernel_sequence.specs.Values.{with_more, Hold, HoldInTurn}

@@ -1,8 +1,8 @@
 -- What is left of a term has the term's value, where each scratch array holds its kernel's.
-use Rattle.std.proofs.Common.{◌≡◌, ℕ, zero, suc, ◌+◌, List, [], ◌∷◌, ◌++◌, length, refl, sym, ap, ◌∙◌, subst, arith}
+use Rattle.std.proofs.Common.{◌≡◌, ℕ, suc, ◌+◌, List, [], ◌∷◌, ◌++◌, length, sym, ap, ◌∙◌, subst, arith}
 use Rattle.lift_tree.specs.declared.term.UnaryForm.TheVariants.{Then}
-use Rattle.lift_tree.specs.Tree.{Tree, Variable, Number, Input, Unary, Binary, Select, Let, Map, Fold}
-use Rattle.lift_tree.specs.Annotations.{Annotation, Leaf, One, Two, Three}
+use Rattle.lift_tree.specs.Tree.{Tree, Unary, Binary, Select, Let, Map, Fold}
+use Rattle.lift_tree.specs.Annotations.{Annotation, One, Two, Three}
 use Rattle.lift_tree.specs.Belonging.{Belongs}
 use Rattle.lift_tree.specs.Values.{Value, nth}
 use Rattle.lift_tree.specs.Meaning.{World, meaning, unary_value}

@@ -3,3 +3,11 @@ pub mod Extends
 pub mod Kept
 pub mod Names
 pub mod InTurn
+pub mod Sound
+pub mod Scalars
+pub mod Count
+pub mod Cutless
+pub mod Lengths
+pub mod Fits
+pub mod Whole
+pub mod Made

@@ -1,9 +1,9 @@
 -- What the kernels' terms name.
-use Rattle.std.proofs.Common.{◌≡◌, ℕ, zero, suc, ◌+◌, ◌<◌, ◌≤◌, List, [], ◌∷◌, ◌++◌, length, Option, Some, None, refl, sym, ap, ◌∙◌, subst, arith}
+use Rattle.std.proofs.Common.{◌≡◌, ℕ, zero, suc, ◌+◌, ◌<◌, ◌≤◌, List, [], ◌∷◌, ◌++◌, length, Some, subst, arith}
 use Rattle.std.specs.Prelude.{slice_get}
 use Rattle.lift_tree.specs.declared.term.UnaryForm.TheVariants.{Then}
 use Rattle.lift_tree.specs.Tree.{Tree, Variable, Number, Input, Unary, Binary, Select, Let, Map, Fold}
-use Rattle.lift_tree.specs.Annotations.{Annotation, Leaf, One, Two, Three}
+use Rattle.lift_tree.specs.Annotations.{Annotation, One, Two, Three}
 use Rattle.lift_tree.specs.Belonging.{Belongs}
 use Rattle.kernel_sequence.specs.Cut.{Part, cut_off, kernel_parts}
 use Rattle.kernel_sequence.specs.Laws.{KernelsNameEarlierArrays}

@@ -1,7 +1,7 @@
 -- The kernels of a term that is cut by `then`.
 use Rattle.std.specs.Prelude.{ℕ, ◌+◌, List, [], ◌∷◌, ◌++◌, length}
 use Rattle.lift_tree.specs.declared.term.UnaryForm.TheVariants.{Then}
-use Rattle.lift_tree.specs.Tree.{Tree, Variable, Number, Input, Unary, Binary, Select, Let, Map, Fold}
+use Rattle.lift_tree.specs.Tree.{Tree, Input, Unary, Binary, Select, Let, Map, Fold}
 use Rattle.lift_tree.specs.Types.{PlainTy}
 use Rattle.lift_tree.specs.Annotations.{Annotation, Leaf, One, Two, Three}
 

@@ -1,9 +1,11 @@
 -- The kernels of a lowered term, each with what it may name.
-use Rattle.std.specs.Prelude.{ℕ, ◌≤◌, ◌≡◌, false, List, [], ◌++◌, length, map, take, Some, None, slice_get}
+use Rattle.std.specs.Prelude.{ℕ, ◌≤◌, ◌≡◌, false, List, ◌++◌, length, map, take, Some, None, slice_get}
 use Rattle.lift_tree.specs.Tree.{tree_of}
 use Rattle.lift_tree.specs.Types.{PlainTy, ty_of}
 use Rattle.lift_tree.specs.Annotations.{annotation_of, type_in}
+use Rattle.lift_tree.specs.Typing.{Declared}
 use Rattle.lowered_tree.specs.declared.lowered.Lowered.{Lowered}
+use Rattle.lowered_tree.specs.Whole.{IsSoundTerm}
 use Rattle.kernel_sequence.specs.Cut.{Part, kernel_parts}
 use Rattle.kernel_sequence.specs.Bound.{first_bound}
 use Rattle.kernel_sequence.specs.Parts.{term_part}
@@ -18,6 +20,15 @@ scratch_of = map (λ (p : Part). type_in p.types)
 -- the inputs of a kernel behind those of these parts: the program's, then their scratch arrays
 abbrev pub inputs_behind : Lowered → List Part → List PlainTy
 inputs_behind l ps = map ty_of l.inputs.items ++ scratch_of ps
+
+-- what a kernel behind those of these parts may name
+abbrev pub declared_behind : Lowered → List Part → Declared
+declared_behind l ps = record { names = l.names; inputs = inputs_behind l ps }
+
+-- each part is sound over what its kernel may name
+abbrev pub AreSoundParts : Lowered → List Part → Type 0
+AreSoundParts l ps = (k : ℕ) (p : Part) → slice_get ps k ≡ Some p
+    → ∥ IsSoundTerm (declared_behind l (take k ps)) p.tree p.types ∥₁
 
 -- kernels of these parts, each with the inputs of those before it
 pub record AreKernels (l : Lowered) (ps : List Part) (ks : List Lowered) : Type 0 where

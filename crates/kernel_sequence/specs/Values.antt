@@ -1,5 +1,5 @@
 -- The values of scratch arrays.
-use Rattle.std.specs.Prelude.{ℕ, zero, suc, ◌≡◌, List, [], ◌∷◌, ◌++◌, take}
+use Rattle.std.specs.Prelude.{ℕ, suc, ◌≡◌, List, [], ◌∷◌, ◌++◌, take}
 use Rattle.lift_tree.specs.Values.{Value, nth}
 use Rattle.lift_tree.specs.Meaning.{World, meaning}
 use Rattle.kernel_sequence.specs.Cut.{Part}

@@ -1,6 +1,6 @@
 //! Laws of the cut.
 
-ghost use Rattle.kernel_sequence.specs.Laws.{CutsKeepTheValue, KernelsNameEarlierArrays, MoreInputsKeepTheValue, SequencesLeaveTheValue};
+ghost use Rattle.kernel_sequence.specs.Laws.{CutsKeepTheValue, KernelsAreCounted, KernelsAreSound, KernelsHaveNoCut, KernelsNameEarlierArrays, MoreInputsKeepTheValue, SequencesLeaveTheValue};
 
 /// A term has one value, whatever inputs stand behind those that it names.
 #[tactic(auto, using(crate::proofs::More::more_inputs_keep_the_value))]
@@ -24,4 +24,22 @@ pub fn kernels_name_earlier_arrays()
 #[tactic(auto, using(crate::proofs::InTurn::sequences_leave_the_value))]
 pub fn sequences_leave_the_value()
     ensures { SequencesLeaveTheValue }
+{}
+
+/// There is a kernel for each `then` that no binder is around, and one for the whole.
+#[tactic(auto, using(crate::proofs::Count::parts_count))]
+pub fn kernels_are_counted()
+    ensures { KernelsAreCounted }
+{}
+
+/// No `then` is left in a kernel's term.
+#[tactic(auto, using(crate::proofs::Whole::kernels_have_no_cut))]
+pub fn kernels_have_no_cut()
+    ensures { KernelsHaveNoCut }
+{}
+
+/// The kernels' terms of a sound term are sound, each over what its kernel may name.
+#[tactic(auto, using(crate::proofs::Whole::kernels_are_sound))]
+pub fn kernels_are_sound()
+    ensures { KernelsAreSound }
 {}

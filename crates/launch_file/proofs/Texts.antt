@@ -1,9 +1,9 @@
 -- Texts of values, with commas between.
-use Rattle.std.proofs.Common.{◌≡◌, ◌∙◌, ◌+◌, ◌++◌, ◌<◌, ◌≤◌, ℕ, List, [], ◌∷◌, ap, sym, length, take, get_or, map, append_assoc, append-nil, refl, arith}
+use Rattle.std.proofs.Common.{◌≡◌, ◌∙◌, ◌+◌, ◌^◌, ◌++◌, ◌<◌, ◌≤◌, ℕ, decimal, List, [], ◌∷◌, ap, sym, length, take, get_or, map, append_assoc, append-nil, refl, arith}
 use Rattle.std.specs.Prelude.{Vec}
 use Rattle.std.specs.Global.{Global}
 use Rattle.std.specs.List.{join_with_byte}
-use Rattle.std.proofs.lemmas.Fmt.{decimal_digit}
+use Rattle.std.proofs.lemmas.Fmt.{decimal_digit, length-decimal-le}
 use Rattle.std.proofs.lemmas.List.{take_all, take_more, map-append, length-map, length-take-le}
 use Rattle.lift_tree.specs.declared.value.Val as held
 use Rattle.lift_tree.specs.declared.value.Val.{Val}
@@ -32,6 +32,10 @@ value_text-List xs = ap value_text (value_of-List xs) ∙ value_text-array (map 
 pub ruleset value_texts = (value_text-List)
 
 pub ruleset one_digit = (decimal_digit)
+
+-- a number of 64 bits has at most so many digits
+pub most_digits : (n : ℕ) → n < 2 ^ 64 → length (decimal n) ≤ 20
+most_digits n h = length-decimal-le 20 n (omega arith) (omega (arith, h)) h
 
 -- a further piece stands behind the others and a byte
 pub join_with_byte-push : (c : ℕ) (pieces : List (List ℕ)) (piece : List ℕ) → 0 < length pieces

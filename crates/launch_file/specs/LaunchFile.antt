@@ -1,5 +1,5 @@
 -- Launch files.
-use Rattle.std.specs.Prelude.{◌≡◌, ◌<◌, ◌^◌, ℕ, List, [], ◌∷◌, Bool, false, Option, Some, None, codes, map, IsTrue}
+use Rattle.std.specs.Prelude.{◌≡◌, ◌<◌, ◌^◌, ℕ, List, [], ◌∷◌, false, Option, Some, None, codes, map, IsTrue}
 use Rattle.lift_tree.specs.Lists.{Every}
 use Rattle.serde_json.specs.Data.{Data, array}
 use Rattle.serde_json.specs.Find.{get}

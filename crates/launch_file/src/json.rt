@@ -55,7 +55,7 @@ pub fn words(alloc: Global, values: &[Value]) -> Result<Option<Vec<u32>>, AllocE
         let Some(number) = word(value) else {
             return Ok(None);
         };
-        numbers.push(number)?;
+        numbers.push_reserved(number);
     }
     Ok(Some(numbers))
 }

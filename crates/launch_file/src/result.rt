@@ -1,39 +1,61 @@
 //! The line that a run or an evaluation prints.
 
-ghost use Rattle.std.specs.Prelude.{◌≡◌, ◌+◌, ◌≤◌, ◌++◌, IfOk, OnOk, decimal, length, map};
+ghost use Rattle.std.specs.Prelude.{◌≡◌, ◌+◌, ◌<◌, ◌≤◌, ◌^◌, ◌++◌, IfOk, OnOk, decimal, get_or, length, map};
 ghost use Rattle.lift_tree.specs.Types.{ty_of};
-ghost use Rattle.lift_tree.specs.Values.{value_of};
-ghost use Rattle.value_lists.specs.Lists.{IsSmall, value_in, width};
+ghost use Rattle.lift_tree.specs.Values.{Word, array, value_of};
+ghost use Rattle.value_lists.specs.Lists.{IsSmall, members_from, row, value_in, width};
 ghost use Rattle.launch_file.specs.ResultLine.{counts_text, result_line, value_text};
 
-use itoa::Buffer;
+use itoa::write_digits;
 use lift_tree::ty::Ty;
 use lift_tree::value::Val;
 use size_arith::Sizes;
 use std::alloc::{AllocError, Global};
+use std::mem;
 use value_lists::laws::elements_are_small;
 use value_lists::{element_number, length_at, number_in, width};
 
-// Writes a number in decimal digits behind the text, by way of a buffer.
+// As many digits as a number of 64 bits has at most.
+const MOST_DIGITS: usize = 20;
+
+// A number in decimal digits, at the end of these bytes.
+#[inline(always)]
+#[tactic(auto, using(crate::proofs::Texts::most_digits))]
+fn digits_in(bytes: &mut [u8; MOST_DIGITS], number: u64) -> &[u8]
+    ensures { result.now ≡ decimal number }
+{
+    let start = write_digits(number, bytes, MOST_DIGITS);
+    &bytes[start..]
+}
+
+// Writes a number in decimal digits behind the text.
 #[inline(never)]
 fn push_digits(text: &mut Vec<u8>, number: u64) -> Result<(), AllocError>
     ensures { OnOk result (text.new.items ≡ text.old.items ++ decimal number) }
 {
-    let mut digits = Buffer::new();
-    text.extend_from_slice(digits.format(number).as_bytes())
+    text.extend_from_slice(digits_in(&mut [0; MOST_DIGITS], number))
+}
+
+// Writes a number of one digit behind the text.
+#[inline(always)]
+#[tactic(auto, using(crate::proofs::Texts::one_digit))]
+fn push_digit(text: &mut Vec<u8>, number: u64) -> Result<(), AllocError>
+    requires { number < 10 }
+    ensures { OnOk result (text.new.items ≡ text.old.items ++ decimal number) }
+{
+    text.push(b'0' + number as u8)?;
+    Ok(())
 }
 
 // Writes a number in decimal digits behind the text. One digit needs no buffer and no call.
 #[inline(always)]
-#[tactic(auto, using(crate::proofs::Texts::one_digit))]
 pub(crate) fn push_number(text: &mut Vec<u8>, number: u64) -> Result<(), AllocError>
     ensures { OnOk result (text.new.items ≡ text.old.items ++ decimal number) }
 {
     if number >= 10 {
         return push_digits(text, number);
     }
-    text.push(b'0' + number as u8)?;
-    Ok(())
+    push_digit(text, number)
 }
 
 // Writes a value behind the text.
@@ -65,32 +87,72 @@ fn push_value(text: &mut Vec<u8>, value: &Val) -> Result<(), AllocError>
     }
 }
 
-// Writes the value of this number among values of the type in lists behind the text: a number, of
-// which lists have most, without a call.
-#[inline(always)]
-#[cycle(listed)]
-fn push_member(
-    text: &mut Vec<u8>,
-    ty: &Ty,
-    sizes: &Sizes,
-    lists: &[Vec<u32>],
-    component: usize,
-    number: usize,
-) -> Result<(), AllocError>
-    requires small { IsSmall sizes.now (number + 1) (ty_of ty.now) }
-    requires within { component + width (ty_of ty.now) ≤ length lists.now }
-    ensures { OnOk result (text.new.items ≡ text.old.items ++ value_text
-        (value_in sizes.now (ty_of ty.now) (map (λ l. l.items) lists.now) component number)) }
+// The text with a number in decimal digits behind it.
+#[inline(never)]
+fn with_digits(text: Vec<u8>, number: u32) -> Result<Vec<u8>, AllocError>
+    ensures { IfOk result (λ longer. longer.items ≡ text.items ++ decimal number) }
 {
-    match ty {
-        Ty::Number => push_number(text, u64::from(number_in(lists, component, number))),
-        Ty::Pair(_, _) | Ty::Array(_, _) => push_listed(text, ty, sizes, lists, component, number),
+    let mut longer = text;
+    longer.extend_from_slice(digits_in(&mut [0; MOST_DIGITS], u64::from(number)))?;
+    Ok(longer)
+}
+
+// The text with a list of so many numbers behind it, from this one of a list on. It is moved, so
+// that the loop has its length and its place at hand. One digit needs no call.
+fn with_numbers(
+    text: Vec<u8>,
+    numbers: &[u32],
+    first: usize,
+    count: usize,
+) -> Result<Vec<u8>, AllocError>
+    requires { first + count ≤ length numbers.now }
+    ensures { IfOk result (λ longer. longer.items ≡ text.items ++ value_text
+        (array (members_from (λ j. Word (get_or numbers.now (first + j) 0)) 0 count))) }
+{
+    let mut longer = text;
+    longer.push(b'[')?;
+    for index in 0..count {
+        if index > 0 {
+            longer.push(b',')?;
+        }
+        let number = numbers[first + index];
+        if number >= 10 {
+            longer = with_digits(longer, number)?;
+        } else {
+            push_digit(&mut longer, u64::from(number))?;
+        }
     }
+    longer.push(b']')?;
+    Ok(longer)
+}
+
+// Writes a list of so many numbers behind the text, from this one of a list on.
+fn push_numbers(
+    text: &mut Vec<u8>,
+    numbers: &[u32],
+    first: usize,
+    count: usize,
+) -> Result<(), AllocError>
+    requires { first + count ≤ length numbers.now }
+    ensures { OnOk result (text.new.items ≡ text.old.items ++ value_text
+        (array (members_from (λ j. Word (get_or numbers.now (first + j) 0)) 0 count))) }
+{
+    let empty = Vec::new(*text.allocator());
+    let taken = mem::replace(text, empty);
+    *text = with_numbers(taken, numbers, first, count)?;
+    Ok(())
+}
+
+// The list of this component.
+fn list_of(lists: &[Vec<u32>], component: usize) -> &[u32]
+    requires { component < length lists.now }
+    ensures { result.now ≡ row (map (λ l. l.items) lists.entry.now) component }
+{
+    &lists[component]
 }
 
 // Writes the value of this number among values of the type, one after another in lists, the first
-// of which is this component's, behind the text.
-#[cycle(listed)]
+// of which is this component's, behind the text. A list of numbers is written by one loop.
 fn push_listed(
     text: &mut Vec<u8>,
     ty: &Ty,
@@ -117,13 +179,19 @@ fn push_listed(
         Ty::Array(element, length) => {
             elements_are_small();
             let count = length_at(length, sizes);
+            if let Ty::Number = **element {
+                let list = list_of(lists, component);
+                if number * count + count <= list.len() {
+                    return push_numbers(text, list, number * count, count);
+                }
+            }
             text.push(b'[')?;
             for index in 0..count {
                 if index > 0 {
                     text.push(b',')?;
                 }
                 let at = element_number(number, count, index);
-                push_member(text, element, sizes, lists, component, at)?;
+                push_listed(text, element, sizes, lists, component, at)?;
             }
             text.push(b']')?;
             Ok(())

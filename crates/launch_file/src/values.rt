@@ -48,7 +48,7 @@ fn numbers_in(alloc: Global, values: &[Value]) -> Result<Option<Vec<Val>>, Alloc
         let Some(number) = word(value) else {
             return Ok(None);
         };
-        numbers.push(Val::Number(number))?;
+        numbers.push_reserved(Val::Number(number));
     }
     Ok(Some(numbers))
 }

@@ -1,57 +1,66 @@
 -- Why calls end as they do: each cause excludes the others, and what is well formed.
-use Rattle.std.proofs.Common.{Bool, ◌≡◌, ◌≢◌, ◌⊎◌, ◌∙◌, ◌<◌, ◌≤◌, ℕ, List, [], ◌∷◌, ap, ap₂, sym, subst, length, inl, inr, refl, arith, Option, None, Some}
+use Rattle.std.proofs.Common.{Bool, ◌≡◌, ◌≢◌, ◌⊎◌, ◌∙◌, ◌<◌, ◌≤◌, ℕ, List, [], ◌∷◌, ap, ap₂, sym, subst, length, inl, inr, refl, arith, Option, None, Some, Err}
 use Rattle.std.specs.Prelude.{IfSome, option_map}
 use Rattle.std.proofs.lemmas.Option.{same_Some}
-use Rattle.command_line.specs.Requests.{Asks, CommandLine, IsRefused, compile, demo, eval, line_entered, run, steps}
+use Rattle.command_line.specs.Requests.{Asks, CommandLine, IsRefused, demo, line_entered}
 use Rattle.lift_tree.specs.Launches as launches
 use Rattle.lift_tree.specs.Programs.{PlainProgram}
 use Rattle.lift_reader.specs.declared.refusal.ReadRefusal.TheVariants as readings
 use Rattle.pattern_types.specs.declared.refusal.TypeRefusal.TheVariants as typings
 use Rattle.strategy_script.specs.declared.faults.StepNo.TheVariants as stops
 use Rattle.strategy_script.specs.declared.script.ScriptNo.TheVariants as scripts
+use Rattle.kernel_sequence.specs.declared.no.CutNo.TheVariants as cuts
 use Rattle.thread_mapping.specs.declared.judging.NestNo.TheVariants as nests
 use Rattle.buffer_allocation.specs.declared.buffers.AllocNo.TheVariants as allocations
 use Rattle.launch_file.specs.LaunchFile.{Given, IsLaunchFile}
-use Rattle.launch_file.specs.declared.file.Ask.TheVariants.{Run}
+use Rattle.launch_file.specs.Stages.{IsStagesFile}
+use Rattle.launch_file.specs.declared.file.Ask.TheVariants as asks
 use Rattle.launch_file.specs.declared.refusal.LaunchNo.{LaunchNo}
 use Rattle.launch_file.specs.declared.refusal.LaunchNo.TheVariants as no
 use Rattle.fault_lines.specs.Failure.{Failure, Memory, Read, TooLong, launch_failed, line_of, source_failed, status_of}
 use Rattle.fault_lines.specs.declared.refusal.Refusal.{Refusal}
 use Rattle.fault_lines.specs.declared.refusal.Refusal.TheVariants as told_of
-use Rattle.program_runs.specs.Started.{StagesEndOnce}
+use Rattle.program_source.specs.Ends.{OnSource}
+use Rattle.compilation.specs.Sequence.{Outline}
+use Rattle.program_runs.specs.Started.{asks_in_order}
+use Rattle.program_runs.specs.Table.{StagesEndOnce, Stops, Takes, Writes, stages_of, text_at}
+use Rattle.program_runs.specs.declared.command.Command.{Command}
+use Rattle.program_runs.specs.declared.command.Command.TheVariants.{Compile, Run, Eval, Steps, Stages, RunStages, Demo}
 use Rattle.lift_tool.specs.Files.{AllTold, AreTexts, File, HasText, IsUnread, NoneRose, StopsAtFile, Told}
 use Rattle.lift_tool.specs.Outcome.{Answers, IsAccepted, OnTexts, StopsAtText, StopsFor, WordsCause}
-use Rattle.lift_tool.specs.Request.{files_of}
+use Rattle.lift_tool.specs.Request.{command_of, files_of}
 
 -- ---- texts
 
-texts_cause : StagesEndOnce → (request : CommandLine) (texts : List (List ℕ)) (f g : Failure) → StopsAtText request texts f → StopsAtText request texts g → f ≡ g
-texts_cause law (compile p s) texts f g h k = (law.kernel _ _).cause f g h k
-texts_cause law (run p s l traced) texts f g h k = (law.run _ _ _).cause f g h k
-texts_cause law (steps p s) texts f g h k = (law.steps _ _).cause f g h k
-texts_cause law (eval p l) texts f g h k = (law.value _ _).cause f g h k
-texts_cause law (demo x) texts f g h k = absurd h
+texts_cause : StagesEndOnce → (command : Command) (texts : List (List ℕ)) (f g : Failure) → Stops command texts f → Stops command texts g → f ≡ g
+texts_cause law (Demo seed) texts f g h k = absurd h
+texts_cause law command texts f g h k = (law command texts).cause f g h k
 
-texts_accepted : StagesEndOnce → (request : CommandLine) (texts : List (List ℕ)) (f : Failure) → IsAccepted request texts → StopsAtText request texts f → ⊥
-texts_accepted law (compile p s) texts f ok h = (law.kernel _ _).none f ok h
-texts_accepted law (run p s l traced) texts f ok h = (law.run _ _ _).none f ok h
-texts_accepted law (steps p s) texts f ok h = (law.steps _ _).none f ok h
-texts_accepted law (eval p l) texts f ok h = (law.value _ _).none f ok h
-texts_accepted law (demo x) texts f ok h = h
+texts_accepted : StagesEndOnce → (command : Command) (texts : List (List ℕ)) (f : Failure) → Takes command texts → Stops command texts f → ⊥
+texts_accepted law (Demo seed) texts f ok h = h
+texts_accepted law command texts f ok h = (law command texts).none f ok h
 
 -- the launch file of what is asked
 as_asked :
-    (p : PlainProgram) (a b : Bool) (o q : Option ℕ) (launch : List ℕ) (g : Given) → a ≡ b → o ≡ q → IsLaunchFile p (Run b q) launch g
-    → IsLaunchFile p (Run a o) launch g
-as_asked p a b o q launch g alone local is = subst (λ x. IsLaunchFile p (Run a x) launch g) (sym local) (subst (λ x. IsLaunchFile p (Run x q) launch g) (sym alone) is)
+    (p : PlainProgram) (a b : Bool) (o q : Option ℕ) (launch : List ℕ) (g : Given) → a ≡ b → o ≡ q → IsLaunchFile p (asks.Run b q) launch g
+    → IsLaunchFile p (asks.Run a o) launch g
+as_asked p a b o q launch g alone local is = subst (λ x. IsLaunchFile p (asks.Run a x) launch g) (sym local) (subst (λ x. IsLaunchFile p (asks.Run x q) launch g) (sym alone) is)
+
+-- that of what is asked for kernels in order
+all_asked :
+    (p : PlainProgram) (os qs : List Outline) (o q : Option ℕ) (launch : List ℕ) (gs : List Given) → os ≡ qs → o ≡ q → IsStagesFile p (asks_in_order qs o) launch gs
+    → IsStagesFile p (asks_in_order os q) launch gs
+all_asked p os qs o q launch gs outlined local is = subst (λ x. IsStagesFile p (asks_in_order os x) launch gs) local (subst (λ x. IsStagesFile p (asks_in_order x o) launch gs) (sym outlined) is)
 
 -- what was written was accepted
-answer_accepted : (request : CommandLine) (texts : List (List ℕ)) (text : List ℕ) → Answers request texts text → IsAccepted request texts
-answer_accepted (compile p s) texts text h = let c = h.compiled in (h.source, c.read.is, c.read.within, (c.last, c.legal))
-answer_accepted (run p s l traced) texts text h = let c = h.compiled in (h.source, c.read.is, c.read.within, (h.given, (c.last, c.legal, as_asked h.source _ _ _ _ _ h.given (ap (λ (x : launches.Asks). x.alone) c.asked) (ap (λ (x : launches.Asks). x.local) c.asked) h.launch_file)))
-answer_accepted (steps p s) texts text h = (h.source, h.read.is, h.read.within, (h.terms, h.made))
-answer_accepted (eval p l) texts text h = (h.source, h.read.is, h.read.within, (h.given, h.started))
-answer_accepted (demo x) texts text h = tt
+written_accepted : (command : Command) (texts : List (List ℕ)) (text : List ℕ) → Writes command texts text → Takes command texts
+written_accepted Compile texts text h = let c = h.compiled in (h.source, c.read.is, c.read.within, (tt, (c.last, c.legal)))
+written_accepted (Run traced) texts text h = let c = h.compiled in (h.source, c.read.is, c.read.within, (tt, (h.given, (c.last, c.legal, as_asked h.source _ _ _ _ _ h.given (ap (λ (x : launches.Asks). x.alone) c.asked) (ap (λ (x : launches.Asks). x.local) c.asked) h.launch_file))))
+written_accepted Eval texts text h = (h.source, h.read.is, h.read.within, (tt, (h.given, h.started)))
+written_accepted Steps texts text h = (h.source, h.read.is, h.read.within, (tt, (h.terms, h.made)))
+written_accepted Stages texts text h = let c = h.compiled in (h.source, c.read.is, c.read.within, (tt, (c.parts, c.compiled)))
+written_accepted RunStages texts text h = let c = h.compiled in (h.source, c.read.is, c.read.within, (tt, (h.givens, (c.parts, c.compiled, all_asked h.source _ _ _ _ _ h.givens c.outlined c.fixed h.launch_file))))
+written_accepted (Demo seed) texts text h = tt
 
 -- ---- files
 
@@ -105,13 +114,13 @@ request_cause law told rose request f g is well (inl h) (inl k) = files_cause to
 request_cause law told rose request f g is well (inl h) (inr (texts, are, k)) = absurd (files_read told rose (files_of request) texts f is well are h)
 request_cause law told rose request f g is well (inr (texts, are, h)) (inl k) = absurd (files_read told rose (files_of request) texts g is well are k)
 request_cause law told rose request f g is well (inr (texts, are, h)) (inr (others, too, k)) =
-    texts_cause law request texts f g h (subst (λ us. StopsAtText request us g) (same_texts told (files_of request) texts others is are too) k)
+    texts_cause law (command_of request) texts f g h (subst (λ us. StopsAtText request us g) (same_texts told (files_of request) texts others is are too) k)
 
 request_accepted : StagesEndOnce → (told : Told) (rose : List ℕ → Type 0) (request : CommandLine) (texts : List (List ℕ)) (f : Failure) → AllTold told (files_of request) → NoneRose rose (files_of request)
     → AreTexts told (files_of request) texts → IsAccepted request texts → StopsFor told rose request f → ⊥
 request_accepted law told rose request texts f is well are ok (inl h) = files_read told rose (files_of request) texts f is well are h
 request_accepted law told rose request texts f is well are ok (inr (others, too, h)) =
-    texts_accepted law request texts f ok (subst (λ us. StopsAtText request us f) (same_texts told (files_of request) texts others is are too) h)
+    texts_accepted law (command_of request) texts f ok (subst (λ us. StopsAtText request us f) (same_texts told (files_of request) texts others is are too) h)
 
 -- ---- words
 
@@ -151,6 +160,9 @@ source_status (told_of.Script scripts.Memory) = omega arith
 source_status (told_of.Step (stops.Inapplicable step why)) = omega arith
 source_status (told_of.Step (stops.Limit which step count)) = omega arith
 source_status (told_of.Step stops.Memory) = omega arith
+source_status (told_of.Cut (cuts.Nest place rule)) = omega arith
+source_status (told_of.Cut (cuts.Limit count)) = omega arith
+source_status (told_of.Cut cuts.Memory) = omega arith
 source_status (told_of.Nest (nests.Nest place rule)) = omega arith
 source_status (told_of.Nest nests.Memory) = omega arith
 source_status (told_of.Alloc (allocations.Limit which count)) = omega arith
@@ -176,18 +188,26 @@ source_is f r e = inr (subst (λ (x : Failure). 6 ≤ status_of x) (sym e) (sour
 launch_is : (f : Failure) (p : PlainProgram) (why : LaunchNo) → f ≡ launch_failed p why → IsOfRequest f
 launch_is f p why e = inr (subst (λ (x : Failure). 6 ≤ status_of x) (sym e) (launch_refused p why))
 
-text_status : (request : CommandLine) (texts : List (List ℕ)) (f : Failure) → StopsAtText request texts f → IsOfRequest f
-text_status (compile p s) texts f (inl (why, h, e)) = source_is f (told_of.Program why) e
-text_status (compile p s) texts f (inr (q, read, (why, h, e))) = source_is f why e
-text_status (steps p s) texts f (inl (why, h, e)) = source_is f (told_of.Program why) e
-text_status (steps p s) texts f (inr (q, read, (why, h, e))) = source_is f why e
-text_status (run p s l traced) texts f (inl (why, h, e)) = source_is f (told_of.Program why) e
-text_status (run p s l traced) texts f (inr (q, read, inl (why, h, e))) = source_is f why e
-text_status (run p s l traced) texts f (inr (q, read, inr (form, is, (why, h, e)))) = launch_is f q why e
-text_status (eval p l) texts f (inl (why, h, e)) = source_is f (told_of.Program why) e
-text_status (eval p l) texts f (inr (q, read, inl (why, h, e))) = source_is f why e
-text_status (eval p l) texts f (inr (q, read, inr (types, is, (why, h, e)))) = launch_is f q why e
-text_status (demo x) texts f h = absurd h
+-- so have those of a command's stages on a program
+stage_status : (command : Command) (texts : List (List ℕ)) (p : PlainProgram) (f : Failure) → stages_of command texts p (Err f) → IsOfRequest f
+stage_status Compile texts p f (why, h, e) = source_is f why e
+stage_status (Run traced) texts p f (inl (why, h, e)) = source_is f why e
+stage_status (Run traced) texts p f (inr (last, is, (why, h, e))) = launch_is f p why e
+stage_status Eval texts p f (inl (why, h, e)) = source_is f why e
+stage_status Eval texts p f (inr (types, is, (why, h, e))) = launch_is f p why e
+stage_status Steps texts p f (why, h, e) = source_is f why e
+stage_status Stages texts p f (why, h, e) = source_is f why e
+stage_status RunStages texts p f (inl (why, h, e)) = source_is f why e
+stage_status RunStages texts p f (inr (parts, is, (why, h, e))) = launch_is f p why e
+stage_status (Demo seed) texts p f h = absurd (cc (h))
+
+source_stops : (command : Command) (texts : List (List ℕ)) (f : Failure) → OnSource (text_at texts 0) (stages_of command texts) (Err f) → IsOfRequest f
+source_stops command texts f (inl (why, h, e)) = source_is f (told_of.Program why) e
+source_stops command texts f (inr (p, read, h)) = stage_status command texts p f h
+
+text_status : (command : Command) (texts : List (List ℕ)) (f : Failure) → Stops command texts f → IsOfRequest f
+text_status (Demo seed) texts f h = absurd h
+text_status command texts f h = source_stops command texts f h
 
 unread_status : (told : Told) (rose : List ℕ → Type 0) (file : File) (f : Failure) → IsUnread told rose file f → IsOfRequest f
 unread_status told rose file (Read name) h = inl refl
@@ -203,7 +223,7 @@ words_status : (told : Told) (rose : List ℕ → Type 0) (words : List (List �
 words_status told rose words f (inl memory) = let s : status_of f ≡ 13 = ap status_of memory in inr (inr (omega (arith, s)))
 words_status told rose words f (inr (inl (is, none))) = inl (ap status_of is)
 words_status told rose words f (inr (inr (request, asks, inl h))) = inr (file_status told rose (files_of request) f h)
-words_status told rose words f (inr (inr (request, asks, inr (texts, are, h)))) = inr (text_status request texts f h)
+words_status told rose words f (inr (inr (request, asks, inr (texts, are, h)))) = inr (text_status (command_of request) texts f h)
 
 not_2 : (n : ℕ) → (n ≡ 3) ⊎ (6 ≤ n) → n ≢ 2
 not_2 n (inl three) e = omega (arith, three, e)
@@ -214,14 +234,15 @@ pub words_taken : (told : Told) (rose : List ℕ → Type 0) (words : List (List
 words_taken told rose words asked f (inl memory) taken e = let s : status_of f ≡ 13 = ap status_of memory in omega (arith, s, e)
 words_taken told rose words asked f (inr (inl (is, refused))) taken e = asked_stands words asked taken refused
 words_taken told rose words asked f (inr (inr (request, asks, inl h))) taken e = not_2 (status_of f) (file_status told rose (files_of request) f h) e
-words_taken told rose words asked f (inr (inr (request, asks, inr (texts, are, h)))) taken e = not_2 (status_of f) (text_status request texts f h) e
+words_taken told rose words asked f (inr (inr (request, asks, inr (texts, are, h)))) taken e = not_2 (status_of f) (text_status (command_of request) texts f h) e
 
 not_done_or_written : (n : ℕ) → (n ≡ 2) ⊎ ((n ≡ 3) ⊎ (6 ≤ n)) → (n ≢ 0) × (n ≢ 4)
 not_done_or_written n (inl two) = (λ e. omega (arith, two, e), λ e. omega (arith, two, e))
 not_done_or_written n (inr (inl three)) = (λ e. omega (arith, three, e), λ e. omega (arith, three, e))
 not_done_or_written n (inr (inr more)) = (λ e. omega (arith, more, e), λ e. omega (arith, more, e))
 
--- a call that fails before it writes has another status than one that is done, or one whose write failed
+-- a call that fails before it writes has another status than one that is done, or one whose write
+-- failed
 pub words_fail_before : (told : Told) (rose : List ℕ → Type 0) (words : List (List ℕ)) (f : Failure) → WordsCause told rose words f → (status_of f ≢ 0) × (status_of f ≢ 4)
 words_fail_before told rose words f h = not_done_or_written (status_of f) (words_status told rose words f h)
 
@@ -250,7 +271,7 @@ pub words_answered : StagesEndOnce → (told : Told) (rose : List ℕ → Type 0
 words_answered law told rose words request text g asks is well (other, too, (texts, are, h)) k =
     let same = one_request words request other asks too in
     let mine : AreTexts told (files_of request) texts × Answers request texts text = subst (λ q. AreTexts told (files_of q) texts × Answers q texts text) same (are, h) in
-    request_accepted law told rose request texts g is well mine.0 (answer_accepted request texts text mine.1) k
+    request_accepted law told rose request texts g is well mine.0 (written_accepted (command_of request) texts text mine.1) k
 
 -- a demo has no result for want of memory alone
 pub demo_stands : (told : Told) (rose : List ℕ → Type 0) (words : List (List ℕ)) (seed : ℕ) (f : Failure) → Asks words (demo seed) → WordsCause told rose words f → status_of f ≡ 13

@@ -1,4 +1,4 @@
 pub mod Alike
-pub mod Asked
 pub mod Ends
+pub mod Reading
 pub mod Unread

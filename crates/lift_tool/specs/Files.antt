@@ -21,7 +21,8 @@ AreTexts told [] [] = Unit {0}
 AreTexts told (file ∷ files) (text ∷ texts) = HasText told file text × AreTexts told files texts
 AreTexts told _ _ = ⊥
 
--- Why a file isn't read, where `rose` says of a name that a read of it failed: it did, or the text is too long, as it shows where it is told.
+-- Why a file isn't read, where `rose` says of a name that a read of it failed: it did, or the text
+-- is too long, as it shows where it is told.
 abbrev pub IsUnread : Told → (List ℕ → Type 0) → File → Failure → Type 0
 IsUnread told rose file (Read name) = (name ≡ file.0) × rose file.0
 IsUnread told rose file (TooLong count) = (count ≡ file.1 + 1) × IfSome (told file.0) (λ text. file.1 < length text)

@@ -40,7 +40,7 @@ mod files;
 mod requests;
 
 use command_line::read_words;
-pub use compilation::{Compiled, compile_text};
+pub use compilation::{Compiled, CompiledSequence, compile_sequence, compile_text};
 use fault_lines::Failure;
 pub use files::{LAUNCH_LIMIT, SOURCE_LIMIT};
 use lift_io::{Files, Sink, write_whole};
@@ -87,7 +87,10 @@ fn fail<E: Sink>(err: &mut E, failure: Failure) -> u8
 /// each term that the script's steps make, and `run PROGRAM SCRIPT LAUNCH [--trace]` the result
 /// line of the kernel's run, and before it, with `--trace`, a line for each event.
 /// `eval PROGRAM LAUNCH` writes the result line of the value of the program's source expression,
-/// and `demo SEED` the line of the demo, for which no file is read.
+/// and `demo SEED` the line of the demo, for which no file is read. `stages PROGRAM SCRIPT` writes
+/// the text of the kernels in order that the script's last term is cut into, and
+/// `run-stages PROGRAM SCRIPT LAUNCH` the result line of their runs, each on what those before it
+/// left.
 ///
 /// Each file is read, and then its length is judged; all are, before the first is looked at.
 /// Want of memory (status 13) may come at any point.
@@ -98,8 +101,9 @@ pub fn lift_tool<F: Files, O: Sink, E: Sink>(
     out: &mut O,
     err: &mut E,
 ) -> u8
-    // At 0 the output took just the text of the kernel, the lines of the terms, the lines of the
-    // run, the result line of the source value or the line of the demo, and nothing went to `err`.
+    // At 0 the output took just the text of the kernel or of the kernels in order, the lines of the
+    // terms, the lines of the run, the result line of the runs in order or of the source value, or
+    // the line of the demo, and nothing went to `err`.
     ensures done { result ≡ 0
         → OnTexts (F.told files.old) (map string_bytes words.now) (λ request texts.
         (text : List ℕ) × Answers request texts text

@@ -1,154 +1,85 @@
 //! What a request writes.
-ghost use Rattle.std.specs.Prelude.{
-  ◌≡◌,
-  ◌≤◌,
-  ◌∷◌,
-  [],
-  ℕ,
-  List,
-  IfErr,
-  IfOk,
-  string_bytes,
-};
+ghost use Rattle.std.specs.Prelude.{◌≡◌, IfErr, IfOk, List, map, string_bytes, ℕ};
 ghost use Rattle.lift_io.specs.Causes.{Rose};
-ghost use Rattle.command_line.specs.Requests as requests;
 ghost use Rattle.command_line.specs.Requests.{line_of};
 ghost use Rattle.fault_lines.specs.Shown.{failure_of};
-ghost use Rattle.lift_tool.specs.Files.{AreTexts, AreUnreadFor, AsksAll, AsksFirst};
+ghost use Rattle.lift_tool.specs.Files.{AsksAll, AsksFirst};
 ghost use Rattle.lift_tool.specs.Outcome.{FailsFor, IsAnswer};
-ghost use Rattle.lift_tool.specs.Request.{files_of, sources};
+ghost use Rattle.lift_tool.specs.Request as named;
+ghost use Rattle.lift_tool.specs.Request.{command_of, file_of, files_of};
 
-use crate::files::{LAUNCH_LIMIT, SOURCE_LIMIT, read_text};
+use crate::files::{File, read_texts};
 use command_line::Request;
-use compilation::compile_text;
 use fault_lines::Failure;
 use lift_io::Files;
-use program_runs::{demo_text, eval_text, run_text};
-use program_source::steps_text;
-use std::alloc::Global;
+use program_runs::{Command, command_text};
+use std::alloc::{AllocError, Global};
 
-// The texts of a program and of a script.
-fn read_sources<F: Files>(
-    alloc: Global,
-    files: &mut F,
-    program: String,
-    script: String,
-) -> Result<(Vec<u8>, Vec<u8>), Failure>
-    ensures texts { IfOk result (λ texts. AreTexts (F.told files.old)
-        (sources (string_bytes program) (string_bytes script))
-        (texts.0.items ∷ texts.1.items ∷ [])) }
-    ensures cause { IfErr result (λ no. AreUnreadFor (F.told files.old)
-        (λ n. Rose (F.faults files.old n) (F.faults files.new n))
-        (sources (string_bytes program) (string_bytes script)) (failure_of no)) }
-    ensures later { (n : List ℕ) → F.faults files.old n ≤ F.faults files.new n }
-    ensures same { (n : List ℕ) → F.told files.new n ≡ F.told files.old n }
-    ensures asks { AsksFirst (F.asked files.old) (F.asked files.new)
-        (sources (string_bytes program) (string_bytes script)) }
-    ensures asks_all { IfOk result (λ _. AsksAll (F.asked files.old) (F.asked files.new)
-        (sources (string_bytes program) (string_bytes script))) }
+// A program and a script.
+fn sources(alloc: Global, program: String, script: String) -> Result<Vec<File>, AllocError>
+    ensures { IfOk result (λ files. map file_of files.items
+        ≡ named.sources (string_bytes program) (string_bytes script)) }
 {
-    let program = read_text(alloc, files, program, SOURCE_LIMIT)?;
-    let script = read_text(alloc, files, script, SOURCE_LIMIT)?;
-    Ok((program, script))
+    Ok(Vec::from_array(alloc, [File::Source(program), File::Source(script)])?)
 }
 
-// The text of the kernel of the files that a request names.
-fn compile_files<F: Files>(
+// A program, a script and a launch file.
+fn launched(
     alloc: Global,
-    files: &mut F,
-    program: String,
-    script: String,
-) -> Result<Vec<u8>, Failure>
-    ensures ok { IfOk result (λ text. IsAnswer (F.told files.old)
-        (requests.compile (string_bytes program) (string_bytes script)) text.items) }
-    ensures refused { IfErr result (λ no. FailsFor (F.told files.old)
-        (λ n. Rose (F.faults files.old n) (F.faults files.new n))
-        (requests.compile (string_bytes program) (string_bytes script)) (failure_of no)) }
-    ensures asks { AsksFirst (F.asked files.old) (F.asked files.new)
-        (sources (string_bytes program) (string_bytes script)) }
-    ensures asks_all { IfOk result (λ _. AsksAll (F.asked files.old) (F.asked files.new)
-        (sources (string_bytes program) (string_bytes script))) }
-{
-    let (program, script) = read_sources(alloc, files, program, script)?;
-    let compiled = compile_text(alloc, program.as_slice(), script.as_slice())?;
-    Ok(compiled.text)
-}
-
-// The lines of the terms of the files that a request names.
-fn steps_files<F: Files>(
-    alloc: Global,
-    files: &mut F,
-    program: String,
-    script: String,
-) -> Result<Vec<u8>, Failure>
-    ensures ok { IfOk result (λ text. IsAnswer (F.told files.old)
-        (requests.steps (string_bytes program) (string_bytes script)) text.items) }
-    ensures refused { IfErr result (λ no. FailsFor (F.told files.old)
-        (λ n. Rose (F.faults files.old n) (F.faults files.new n))
-        (requests.steps (string_bytes program) (string_bytes script)) (failure_of no)) }
-    ensures asks { AsksFirst (F.asked files.old) (F.asked files.new)
-        (sources (string_bytes program) (string_bytes script)) }
-    ensures asks_all { IfOk result (λ _. AsksAll (F.asked files.old) (F.asked files.new)
-        (sources (string_bytes program) (string_bytes script))) }
-{
-    let (program, script) = read_sources(alloc, files, program, script)?;
-    Ok(steps_text(alloc, program.as_slice(), script.as_slice())?)
-}
-
-// The lines of the run of the files that a request names.
-fn run_files<F: Files>(
-    alloc: Global,
-    files: &mut F,
     program: String,
     script: String,
     launch: String,
-    trace: bool,
-) -> Result<Vec<u8>, Failure>
-    ensures ok { IfOk result (λ lines. IsAnswer (F.told files.old)
-        (requests.run (string_bytes program) (string_bytes script) (string_bytes launch) trace)
-        lines.items) }
-    ensures refused { IfErr result (λ no. FailsFor (F.told files.old)
-        (λ n. Rose (F.faults files.old n) (F.faults files.new n))
-        (requests.run (string_bytes program) (string_bytes script) (string_bytes launch) trace)
-        (failure_of no)) }
-    ensures asks { AsksFirst (F.asked files.old) (F.asked files.new)
-        (files_of (requests.run (string_bytes program) (string_bytes script)
-        (string_bytes launch) trace)) }
-    ensures asks_all { IfOk result (λ _. AsksAll (F.asked files.old) (F.asked files.new)
-        (files_of (requests.run (string_bytes program) (string_bytes script)
-        (string_bytes launch) trace))) }
+) -> Result<Vec<File>, AllocError>
+    ensures { IfOk result (λ files. map file_of files.items
+        ≡ named.launched (string_bytes program) (string_bytes script) (string_bytes launch)) }
 {
-    let (program, script) = read_sources(alloc, files, program, script)?;
-    let launch = read_text(alloc, files, launch, LAUNCH_LIMIT)?;
-    run_text(
-        alloc,
-        program.as_slice(),
-        script.as_slice(),
-        launch.as_slice(),
-        trace,
-    )
+    let files = [
+        File::Source(program),
+        File::Source(script),
+        File::Launch(launch),
+    ];
+    Ok(Vec::from_array(alloc, files)?)
 }
 
-// The result line of the value of the files that a request names.
-fn eval_files<F: Files>(
-    alloc: Global,
-    files: &mut F,
-    program: String,
-    launch: String,
-) -> Result<Vec<u8>, Failure>
-    ensures ok { IfOk result (λ line. IsAnswer (F.told files.old)
-        (requests.eval (string_bytes program) (string_bytes launch)) line.items) }
-    ensures refused { IfErr result (λ no. FailsFor (F.told files.old)
-        (λ n. Rose (F.faults files.old n) (F.faults files.new n))
-        (requests.eval (string_bytes program) (string_bytes launch)) (failure_of no)) }
-    ensures asks { AsksFirst (F.asked files.old) (F.asked files.new)
-        (files_of (requests.eval (string_bytes program) (string_bytes launch))) }
-    ensures asks_all { IfOk result (λ _. AsksAll (F.asked files.old) (F.asked files.new)
-        (files_of (requests.eval (string_bytes program) (string_bytes launch)))) }
+// The command of a request, and its files, in order.
+fn parted(alloc: Global, request: Request) -> Result<(Command, Vec<File>), AllocError>
+    ensures command { IfOk result (λ parts. parts.0 ≡ command_of (line_of request)) }
+    ensures files { IfOk result
+        (λ parts. map file_of parts.1.items ≡ files_of (line_of request)) }
 {
-    let program = read_text(alloc, files, program, SOURCE_LIMIT)?;
-    let launch = read_text(alloc, files, launch, LAUNCH_LIMIT)?;
-    eval_text(alloc, program.as_slice(), launch.as_slice())
+    match request {
+        Request::Compile { program, script } => {
+            Ok((Command::Compile, sources(alloc, program, script)?))
+        }
+        Request::Run {
+            program,
+            script,
+            launch,
+            trace,
+        } => Ok((
+            Command::Run { trace },
+            launched(alloc, program, script, launch)?,
+        )),
+        Request::Eval { program, launch } => {
+            let files = [File::Source(program), File::Launch(launch)];
+            Ok((Command::Eval, Vec::from_array(alloc, files)?))
+        }
+        Request::Steps { program, script } => {
+            Ok((Command::Steps, sources(alloc, program, script)?))
+        }
+        Request::Stages { program, script } => {
+            Ok((Command::Stages, sources(alloc, program, script)?))
+        }
+        Request::RunStages {
+            program,
+            script,
+            launch,
+        } => Ok((
+            Command::RunStages,
+            launched(alloc, program, script, launch)?,
+        )),
+        Request::Demo { seed } => Ok((Command::Demo { seed }, Vec::new(alloc))),
+    }
 }
 
 /// What a request writes.
@@ -167,16 +98,7 @@ pub fn answer_of<F: Files>(
     ensures asks_all { IfOk result (λ _. AsksAll (F.asked files.old) (F.asked files.new)
         (files_of (line_of request))) }
 {
-    match request {
-        Request::Compile { program, script } => compile_files(alloc, files, program, script),
-        Request::Steps { program, script } => steps_files(alloc, files, program, script),
-        Request::Run {
-            program,
-            script,
-            launch,
-            trace,
-        } => run_files(alloc, files, program, script, launch, trace),
-        Request::Eval { program, launch } => eval_files(alloc, files, program, launch),
-        Request::Demo { seed } => demo_text(alloc, seed),
-    }
+    let (command, wanted) = parted(alloc, request)?;
+    let texts = read_texts(alloc, files, wanted)?;
+    command_text(alloc, command, texts.as_slice())
 }

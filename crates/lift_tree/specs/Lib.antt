@@ -1,9 +1,11 @@
 pub mod Annotations
 pub mod Belonging
+pub mod FixedSizes
 pub mod InputTypes
 pub mod Launches
 pub mod Limits
 pub mod Lists
+pub mod LocalSizes
 pub mod Meaning
 pub mod Places
 pub mod Positions

@@ -7,6 +7,7 @@ pub mod input_type;
 pub mod laws;
 pub mod layout;
 pub mod length;
+pub mod local_size;
 pub mod place;
 pub mod program;
 pub mod renumber;

@@ -23,6 +23,7 @@ sound p t n typed words =
     let same = length-map p.inputs (λ (i : PlainInput). worked_out (declared_by p).names i.ty) in
     record {
       few = omega (arith, few, same);
+      first = λ h. omega (arith, few, same);
       declared = typed.declared;
       nodes = typed.nodes;
       output = typed.output;

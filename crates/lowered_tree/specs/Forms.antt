@@ -1,10 +1,10 @@
 -- What a nest rule looks at in a node itself.
-use Rattle.std.specs.Prelude.{Bool, true, false, not}
+use Rattle.std.specs.Prelude.{Bool, true, false, not, ◌||◌}
 use Rattle.lift_tree.specs.declared.term.UnaryForm.TheVariants as unary
 use Rattle.lift_tree.specs.declared.term.BinaryForm.TheVariants as binary
 use Rattle.lift_tree.specs.declared.term.MapKind.{MapKind}
 use Rattle.lift_tree.specs.declared.term.FoldKind.TheVariants as fold_kind
-use Rattle.lift_tree.specs.Tree.{Tree, Variable, Input, Unary, Binary, Let, Map, Fold}
+use Rattle.lift_tree.specs.Tree.{Tree, Variable, Number, Input, Unary, Binary, Select, Let, Map, Fold}
 use Rattle.lift_tree.specs.Annotations.{Annotation, Two, type_in}
 use Rattle.lift_tree.specs.Types.{is_element}
 use Rattle.lowered_tree.specs.Kinds.{is_plain, is_local}
@@ -40,6 +40,18 @@ is_private_copy _ = false
 abbrev pub is_then : Tree → Bool
 is_then (Unary unary.Then t) = true
 is_then _ = false
+
+-- a cut between two kernels is in the term
+abbrev pub has_then : Tree → Bool
+has_then (Variable v) = false
+has_then (Number n) = false
+has_then (Input i) = false
+has_then (Unary f t) = is_then (Unary f t) || has_then t
+has_then (Binary f t u) = has_then t || has_then u
+has_then (Select t u v) = has_then t || has_then u || has_then v
+has_then (Let v b) = has_then v || has_then b
+has_then (Map k xs b) = has_then xs || has_then b
+has_then (Fold k xs s b) = has_then xs || has_then s || has_then b
 
 -- seen through layouts that are written through and the bodies of lets, a map over a group's items
 abbrev pub shows_local_map : Tree → Bool

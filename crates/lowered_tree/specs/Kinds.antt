@@ -1,5 +1,5 @@
 -- Who does a map's work.
-use Rattle.std.specs.Prelude.{ℕ, ◌≤◌, Bool, true, false, not, ◌&&◌, Option, IfSome}
+use Rattle.std.specs.Prelude.{ℕ, Bool, true, false, not, ◌&&◌, Option}
 use Rattle.lift_tree.specs.declared.term.MapKind.{MapKind}
 use Rattle.lift_tree.specs.declared.term.MapKind.TheVariants.{Plain, Global, WorkGroup, Local, Sequential}
 use Rattle.lift_tree.specs.Launches.{Asks}
@@ -63,7 +63,3 @@ is_task (Fold k xs s b) = is_task xs && is_task s && is_task b
 -- what a term asks of a launch, with the local size that its script fixes
 abbrev pub asks_of : (local : Option ℕ) → Tree → Asks
 asks_of local t = record { alone = is_task t; local = local }
-
--- a local size that is fixed is from 1 to 256
-abbrev pub IsLocalSize : Option ℕ → Type 0
-IsLocalSize local = IfSome local (λ size. (1 ≤ size) × (size ≤ 256))

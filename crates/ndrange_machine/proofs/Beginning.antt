@@ -81,7 +81,7 @@ module _ (k : Kernel) (l : Launch) (c : Cells) (m : Machine) (ins : rows_of m.me
       by_array (Local a) h = words_are m.memory.locals.items (group_count l) c.rest k.locals locals d.home a d.index x h
       by_array (Private a) h = words_are m.memory.privates.items (item_count l) c.rest k.privates privates d.home a d.index x h
 
-  pub begun : is_kernel k ≡ true → IsWhole l → map text_of m.lines.items ≡ lines_at 0 k.code → m.launch ≡ l → m.items.items ≡ replicate (item_count l) (start_view (depth k.code) k.variables k.vectors c.rest) → MarksTell (device_of k l c) (start_state k c) [] m.marks → (n : Machine) → SameCore m n → n.marks ≡ m.marks → Begins m n → StandsFor k l c n []
+  pub begun : is_kernel k ≡ true → IsWhole l → map text_of m.lines.items ≡ lines_at 0 k.code → m.launch ≡ l → m.items ≡ replicate (item_count l) (start_view (depth k.code) k.variables k.vectors c.rest) → MarksTell (device_of k l c) (start_state k c) [] m.marks → (n : Machine) → SameCore m n → n.marks ≡ m.marks → Begins m n → StandsFor k l c n []
   begun grammar whole text launch items marks n core same begins = record {
     grammar = grammar;
     is_run = record { enabled = tt; none_after_fault = λ front last e. let n = ap length e in let a = length-append front (last ∷ []) in absurd (omega arith) };
@@ -92,7 +92,7 @@ module _ (k : Kernel) (l : Launch) (c : Cells) (m : Machine) (ins : rows_of m.me
     steady = λ _ v. alike_calm (device_of k l c) (start_state k c) v.0 whole (λ j q. (refl, refl)) v.1;
   }
     where
-      is : (j : ℕ) (it : ItemView) → slice_get m.items.items j ≡ Some it → start_view (depth k.code) k.variables k.vectors c.rest ≡ it
+      is : (j : ℕ) (it : ItemView) → slice_get m.items j ≡ Some it → start_view (depth k.code) k.variables k.vectors c.rest ≡ it
       is j it e = get_replicate (item_count l) j (start_view (depth k.code) k.variables k.vectors c.rest) it (ap (λ z. slice_get z j) (sym items) ∙ e)
 
       holds : Holds k l c m (start_state k c)

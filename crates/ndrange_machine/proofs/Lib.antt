@@ -2,6 +2,7 @@ mod Grids
 pub mod Beginning
 pub mod Cells
 pub mod Depth
+pub mod Flat
 pub mod Laying
 pub mod Next
 pub mod Numbers

@@ -17,7 +17,7 @@ use Rattle.kernel_tree.specs.Item as kernel_item
 use Rattle.kernel_tree.specs.Item.{Frame, Item, item, loop_variables, Wants, with_value, tested, next_turn, next_at}
 use Rattle.ndrange_machine.specs.declared.line.Line as held
 use Rattle.ndrange_machine.specs.declared.line.Line.TheVariants as held_line
-use Rattle.ndrange_machine.specs.declared.item.Change.TheVariants.{Sets, SetsFour, Begins, Repeats, Leaves, Keeps}
+use Rattle.ndrange_machine.specs.declared.change.Change.TheVariants.{Sets, SetsFour, Begins, Repeats, Leaves, Keeps}
 use Rattle.ndrange_machine.specs.declared.turn.Turn.{Turn}
 use Rattle.ndrange_machine.specs.declared.four.Four as held_words
 use Rattle.ndrange_machine.specs.declared.want.Want.{Want}

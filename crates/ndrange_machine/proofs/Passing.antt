@@ -7,7 +7,7 @@ use Rattle.kernel_tree.specs.Launch.{Launch, group_count, group_of, group_size, 
 use Rattle.kernel_tree.specs.Numbering.{member_at, number_in_group}
 use Rattle.ndrange_machine.specs.declared.line.Line as held
 use Rattle.ndrange_machine.specs.declared.machine.Machine.{Machine}
-use Rattle.ndrange_machine.specs.declared.item.Change.TheVariants.{Keeps}
+use Rattle.ndrange_machine.specs.declared.change.Change.TheVariants.{Keeps}
 use Rattle.ndrange_machine.specs.declared.want.Want.{Want}
 use Rattle.ndrange_machine.specs.declared.want.Want.TheVariants.{Ends, Waits, Fails, Changes, Reads, Writes, ReadsFour, WritesFour}
 use Rattle.ndrange_machine.specs.ItemView.{ItemView}
@@ -29,16 +29,16 @@ passes_one m n j to p q w cs mem marks ready = record {
   items = λ i. cs.items i ∙ by_test i (i == j) refl;
 }
   where
-    by_test : (i : ℕ) (b : Bool) → (i == j) ≡ b → (if b then option_map (λ it. changed it Keeps to) (slice_get m.items.items i) else slice_get m.items.items i) ≡ (if b then option_map (past m i) (slice_get m.items.items i) else slice_get m.items.items i)
-    by_test i true e = by_item (slice_get m.items.items i) refl
+    by_test : (i : ℕ) (b : Bool) → (i == j) ≡ b → (if b then option_map (λ it. changed it Keeps to) (slice_get m.items i) else slice_get m.items i) ≡ (if b then option_map (past m i) (slice_get m.items i) else slice_get m.items i)
+    by_test i true e = by_item (slice_get m.items i) refl
       where
         at : i ≡ j
         at = ⊎_elim (λ z. z.1) (λ z. let both : true ≡ false = sym e ∙ z.0 in cc) (eqb_tells i j)
 
-        by_item : (o : Option ItemView) → slice_get m.items.items i ≡ o → option_map (λ it. changed it Keeps to) o ≡ option_map (past m i) o
+        by_item : (o : Option ItemView) → slice_get m.items i ≡ o → option_map (λ it. changed it Keeps to) o ≡ option_map (past m i) o
         by_item None h = refl
         by_item (Some it) h =
-            let is : Waits p q to ≡ wanted m.lines.items (ids_of m.launch i) it = w it (ap (slice_get m.items.items) (sym at) ∙ h) ∙ ap (λ z. wanted m.lines.items (ids_of m.launch z) it) (sym at) in
+            let is : Waits p q to ≡ wanted m.lines.items (ids_of m.launch i) it = w it (ap (slice_get m.items) (sym at) ∙ h) ∙ ap (λ z. wanted m.lines.items (ids_of m.launch z) it) (sym at) in
             ap (λ z. Some (past_want it z)) is
     by_test i false e = refl
 
@@ -54,16 +54,16 @@ passes_not m j v w stays = record {
   items = λ i. by_test i (i == j) refl;
 }
   where
-    by_test : (i : ℕ) (b : Bool) → (i == j) ≡ b → slice_get m.items.items i ≡ (if b then option_map (past m i) (slice_get m.items.items i) else slice_get m.items.items i)
-    by_test i true e = by_item (slice_get m.items.items i) refl
+    by_test : (i : ℕ) (b : Bool) → (i == j) ≡ b → slice_get m.items i ≡ (if b then option_map (past m i) (slice_get m.items i) else slice_get m.items i)
+    by_test i true e = by_item (slice_get m.items i) refl
       where
         at : i ≡ j
         at = ⊎_elim (λ z. z.1) (λ z. let both : true ≡ false = sym e ∙ z.0 in cc) (eqb_tells i j)
 
-        by_item : (o : Option ItemView) → slice_get m.items.items i ≡ o → o ≡ option_map (past m i) o
+        by_item : (o : Option ItemView) → slice_get m.items i ≡ o → o ≡ option_map (past m i) o
         by_item None h = refl
         by_item (Some it) h =
-            let is : v ≡ wanted m.lines.items (ids_of m.launch i) it = w it (ap (slice_get m.items.items) (sym at) ∙ h) ∙ ap (λ z. wanted m.lines.items (ids_of m.launch z) it) (sym at) in
+            let is : v ≡ wanted m.lines.items (ids_of m.launch i) it = w it (ap (slice_get m.items) (sym at) ∙ h) ∙ ap (λ z. wanted m.lines.items (ids_of m.launch z) it) (sym at) in
             ap Some (sym (stays it) ∙ ap (past_want it) is)
     by_test i false e = refl
 
@@ -71,12 +71,12 @@ passes_not m j v w stays = record {
 pub record PassesUpTo (m n : Machine) (g i : ℕ) : Type 0 where
   pub lines : n.lines.items ≡ m.lines.items
   pub launch : n.launch ≡ m.launch
-  pub count : length n.items.items ≡ length m.items.items
+  pub count : length n.items ≡ length m.items
   pub memory : n.memory ≡ m.memory
   pub marks : n.marks ≡ m.marks
   pub ready : n.ready ≡ m.ready
-  pub kept : (k : ℕ) → ((j : ℕ) → j < i → k ≡ member_at m.launch g j → ⊥) → slice_get n.items.items k ≡ slice_get m.items.items k
-  pub moved : (j : ℕ) → j < i → slice_get n.items.items (member_at m.launch g j) ≡ option_map (past m (member_at m.launch g j)) (slice_get m.items.items (member_at m.launch g j))
+  pub kept : (k : ℕ) → ((j : ℕ) → j < i → k ≡ member_at m.launch g j → ⊥) → slice_get n.items k ≡ slice_get m.items k
+  pub moved : (j : ℕ) → j < i → slice_get n.items (member_at m.launch g j) ≡ option_map (past m (member_at m.launch g j)) (slice_get m.items (member_at m.launch g j))
 
 pub passes_none : (m : Machine) (g : ℕ) → PassesUpTo m m g 0
 passes_none m g = record {
@@ -102,7 +102,7 @@ module _ (m : Machine) (g : ℕ) (there : g < group_count m.launch) where
     ready = o.ready ∙ h.ready;
     kept = λ k out. other k (λ e. out i (omega arith) e) ∙ h.kept k (λ j lt e. out j (omega arith) e);
     moved = λ j lt. ⊎_elim
-        (λ same. subst (λ z. slice_get b.items.items (at z) ≡ option_map (past m (at z)) (slice_get m.items.items (at z))) (sym same) this)
+        (λ same. subst (λ z. slice_get b.items (at z) ≡ option_map (past m (at z)) (slice_get m.items (at z))) (sym same) this)
         (λ ne. let less : j < i = omega arith in other (at j) (λ e. ne ((group_members m g there).differ j i (omega arith) low e)) ∙ h.moved j less)
         (cases_eq j i);
   }
@@ -113,14 +113,14 @@ module _ (m : Machine) (g : ℕ) (there : g < group_count m.launch) where
       same_past : (x : ℕ) (it : Option ItemView) → option_map (past a x) it ≡ option_map (past m x) it
       same_past x it = ap (λ (ls : List held.Line). option_map (λ z. past_want z (wanted ls (ids_of a.launch x) z)) it) h.lines ∙ ap (λ (l : Launch). option_map (λ z. past_want z (wanted m.lines.items (ids_of l x) z)) it) h.launch
 
-      other : (k : ℕ) → k ≢ member_at m.launch g i → slice_get b.items.items k ≡ slice_get a.items.items k
-      other k ne = o.items k ∙ ap (λ t. if t then option_map (past a k) (slice_get a.items.items k) else slice_get a.items.items k) (ne_eqb k (member_at m.launch g i) ne)
+      other : (k : ℕ) → k ≢ member_at m.launch g i → slice_get b.items k ≡ slice_get a.items k
+      other k ne = o.items k ∙ ap (λ t. if t then option_map (past a k) (slice_get a.items k) else slice_get a.items k) (ne_eqb k (member_at m.launch g i) ne)
 
-      this : slice_get b.items.items (member_at m.launch g i) ≡ option_map (past m (member_at m.launch g i)) (slice_get m.items.items (member_at m.launch g i))
+      this : slice_get b.items (member_at m.launch g i) ≡ option_map (past m (member_at m.launch g i)) (slice_get m.items (member_at m.launch g i))
       this =
           let x = member_at m.launch g i in
-          o.items x ∙ ap (λ t. if t then option_map (past a x) (slice_get a.items.items x) else slice_get a.items.items x) (eq-eqb x x refl)
-          ∙ same_past x (slice_get a.items.items x)
+          o.items x ∙ ap (λ t. if t then option_map (past a x) (slice_get a.items x) else slice_get a.items x) (eq-eqb x x refl)
+          ∙ same_past x (slice_get a.items x)
           ∙ ap (option_map (past m x)) (h.kept x (λ j lt e. let same : i ≡ j = (group_members m g there).differ i j low (omega arith) e in omega arith))
 
   -- all of the group
@@ -133,15 +133,15 @@ module _ (m : Machine) (g : ℕ) (there : g < group_count m.launch) where
     marks = h.marks;
     ready = h.ready;
     items = λ k. ⊎_elim
-        (λ e. in_group k e.1 ∙ sym (ap (λ t. if t then option_map (past m k) (slice_get m.items.items k) else slice_get m.items.items k) e.0))
-        (λ e. h.kept k (λ j lt q. e.1 (ap (group_of m.launch) q ∙ (group_members m g there).inside j (omega arith))) ∙ sym (ap (λ t. if t then option_map (past m k) (slice_get m.items.items k) else slice_get m.items.items k) e.0))
+        (λ e. in_group k e.1 ∙ sym (ap (λ t. if t then option_map (past m k) (slice_get m.items k) else slice_get m.items k) e.0))
+        (λ e. h.kept k (λ j lt q. e.1 (ap (group_of m.launch) q ∙ (group_members m g there).inside j (omega arith))) ∙ sym (ap (λ t. if t then option_map (past m k) (slice_get m.items k) else slice_get m.items k) e.0))
         (eqb_tells (group_of m.launch k) g);
   }
     where
-      in_group : (k : ℕ) → group_of m.launch k ≡ g → slice_get n.items.items k ≡ option_map (past m k) (slice_get m.items.items k)
+      in_group : (k : ℕ) → group_of m.launch k ≡ g → slice_get n.items k ≡ option_map (past m k) (slice_get m.items k)
       in_group k e =
           let its = (group_members m g there).every k e in
-          subst (λ z. slice_get n.items.items z ≡ option_map (past m z) (slice_get m.items.items z)) (sym its.1) (h.moved (number_in_group m.launch k) (let low = its.0 in omega arith))
+          subst (λ z. slice_get n.items z ≡ option_map (past m z) (slice_get m.items z)) (sym its.1) (h.moved (number_in_group m.launch k) (let low = its.0 in omega arith))
 
 pub stays : (v : Want) → ((p q : Bool) (to : ℕ) → v ≡ Waits p q to → ⊥) → (it : ItemView) → past_want it v ≡ it
 stays Ends h it = refl

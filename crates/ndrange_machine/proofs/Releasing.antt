@@ -18,7 +18,7 @@ use Rattle.kernel_tree.specs.Faults.{accesses_of, failure_of, RacesAfter, SomeDi
 use Rattle.ndrange_machine.specs.declared.machine.Machine.{Machine}
 use Rattle.ndrange_machine.specs.declared.want.Want.{Want}
 use Rattle.ndrange_machine.specs.declared.want.Want.TheVariants as want
-use Rattle.ndrange_machine.specs.declared.item.Change.TheVariants.{Keeps}
+use Rattle.ndrange_machine.specs.declared.change.Change.TheVariants.{Keeps}
 use Rattle.ndrange_machine.specs.ItemView.{ItemView}
 use Rattle.ndrange_machine.specs.Changes.{changed}
 use Rattle.ndrange_machine.specs.Lines.{Line}
@@ -73,16 +73,16 @@ module _ (k : Kernel) (l : Launch) (c : Cells) (m : Machine) (es : List Event) (
   unfolding after
   memory_later = refl
 
-  new_items : (i : ℕ) → slice_get n.items.items i ≡ (if group_of l i == g then option_map (past m i) (slice_get m.items.items i) else slice_get m.items.items i)
-  new_items i = ps.items i ∙ ap (λ (z : Launch). if group_of z i == g then option_map (past m i) (slice_get m.items.items i) else slice_get m.items.items i) st.holds.launch
+  new_items : (i : ℕ) → slice_get n.items i ≡ (if group_of l i == g then option_map (past m i) (slice_get m.items i) else slice_get m.items i)
+  new_items i = ps.items i ∙ ap (λ (z : Launch). if group_of z i == g then option_map (past m i) (slice_get m.items i) else slice_get m.items i) st.holds.launch
 
-  stands_later : (i : ℕ) (x : ItemView) → slice_get n.items.items i ≡ Some x → Stands (map text_of m.lines.items) x (later.items i)
+  stands_later : (i : ℕ) (x : ItemView) → slice_get n.items i ≡ Some x → Stands (map text_of m.lines.items) x (later.items i)
   stands_later i x e = ⊎_elim (λ q. by_moved q.1 q.0) (λ q. by_kept q.1 q.0) (eqb_tells (group_of l i) g)
     where
       by_moved : group_of l i ≡ g → (group_of l i == g) ≡ true → Stands (map text_of m.lines.items) x (later.items i)
-      by_moved r t = of_old (slice_get m.items.items i) refl (sym (new_items i ∙ ap (λ z. if z then option_map (past m i) (slice_get m.items.items i) else slice_get m.items.items i) t) ∙ e)
+      by_moved r t = of_old (slice_get m.items i) refl (sym (new_items i ∙ ap (λ z. if z then option_map (past m i) (slice_get m.items i) else slice_get m.items i) t) ∙ e)
         where
-          of_old : (o : Option ItemView) → slice_get m.items.items i ≡ o → option_map (past m i) (slice_get m.items.items i) ≡ Some x → Stands (map text_of m.lines.items) x (later.items i)
+          of_old : (o : Option ItemView) → slice_get m.items i ≡ o → option_map (past m i) (slice_get m.items i) ≡ Some x → Stands (map text_of m.lines.items) x (later.items i)
           of_old None q h = let both : None ≡ Some x = sym (ap (option_map (past m i)) q) ∙ h in cc
           of_old (Some it) q h =
               let both : Some (past m i it) ≡ Some x = sym (ap (option_map (past m i)) q) ∙ h in
@@ -94,7 +94,7 @@ module _ (k : Kernel) (l : Launch) (c : Cells) (m : Machine) (es : List Event) (
 
       by_kept : (group_of l i ≡ g → ⊥) → (group_of l i == g) ≡ false → Stands (map text_of m.lines.items) x (later.items i)
       by_kept r t =
-          let old : slice_get m.items.items i ≡ Some x = sym (new_items i ∙ ap (λ z. if z then option_map (past m i) (slice_get m.items.items i) else slice_get m.items.items i) t) ∙ e in
+          let old : slice_get m.items i ≡ Some x = sym (new_items i ∙ ap (λ z. if z then option_map (past m i) (slice_get m.items i) else slice_get m.items i) t) ∙ e in
           let s : Stands (map text_of m.lines.items) x (now.items i) = record { holds = subst (λ z. HoldsItem z x (now.items i)) (sym st.holds.text) (st.holds.items i x old); vars = st.vars clean.no_failure i x old } in
           subst (Stands (map text_of m.lines.items) x) (sym (kept_later i r)) s
 
@@ -140,12 +140,12 @@ module _ (k : Kernel) (l : Launch) (c : Cells) (m : Machine) (es : List Event) (
     first_is : first_item m.launch g ≡ first_item l g
     first_is = ap (λ (x : Launch). first_item x g) st.holds.launch
 
-    its : (it : ItemView) × (slice_get m.items.items (first_item l g) ≡ Some it)
+    its : (it : ItemView) × (slice_get m.items (first_item l g) ≡ Some it)
     its = its_item k l c m now st.holds (first_item l g) (first_in_launch l st.holds.whole g en.0)
 
     next_first : IsNext (map text_of m.lines.items) its.0 want_now (wants (device_of k l c) now (first_item l g))
     next_first =
-        subst (λ v. IsNext (map text_of m.lines.items) its.0 v (wants (device_of k l c) now (first_item l g))) (sym (w its.0 (ap (slice_get m.items.items) first_is ∙ its.1) ∙ ap (λ x. wanted m.lines.items (ids_of m.launch x) its.0) first_is))
+        subst (λ v. IsNext (map text_of m.lines.items) its.0 v (wants (device_of k l c) now (first_item l g))) (sym (w its.0 (ap (slice_get m.items) first_is ∙ its.1) ∙ ap (λ x. wanted m.lines.items (ids_of m.launch x) its.0) first_is))
         (here k l c m now st.holds (first_item l g) its.0 its.1 (st.vars clean.no_failure (first_item l g) its.0 its.1))
 
     marks_later : MarksTell (device_of k l c) (start_state k c) (es ++ Release g ∷ []) z.marks

@@ -1,5 +1,5 @@
 -- Rows of cells, and lists of them.
-use Rattle.std.proofs.Common.{◌≡◌, ◌≢◌, ℕ, ◌<◌, ◌≤◌, zero, suc, List, [], ◌∷◌, length, Some, None, true, false, refl, sym, ap, ◌∙◌, ⊎_elim, arith}
+use Rattle.std.proofs.Common.{◌≡◌, ◌≢◌, ℕ, ◌<◌, ◌≤◌, zero, suc, List, [], ◌∷◌, length, Option, Some, None, true, false, refl, sym, ap, ◌∙◌, ⊎_elim, arith}
 use Rattle.std.specs.Global.{Global}
 use Rattle.std.specs.Prelude.{Vec, map, is_some, nat_lt, replicate, slice_get, slice_index, slice_index_or, slice_set, ◌==◌, if◌then◌else◌}
 use Rattle.std.proofs.lemmas.Bool.{cases_lt, lt-ltb, le-ltb}
@@ -29,12 +29,19 @@ get_or_is [] n x h e = absurd (omega arith)
 get_or_is (y ∷ xs) zero x h e = ap Some (sym e)
 get_or_is (y ∷ xs) (suc n) x h e = get_or_is xs n x (omega arith) e
 
-set_same : {A : Type 0} (xs : List A) (n : ℕ) (x : A) → n < length xs → slice_get (slice_set xs n x) n ≡ Some x
+pub some_is : {A : Type 0} (x y : A) → Some x ≡ Some y → x ≡ y
+some_is {A = A} x y e = ap (out x) e
+  where
+    out : A → Option A → A
+    out z (Some a) = a
+    out z None = z
+
+pub set_same : {A : Type 0} (xs : List A) (n : ℕ) (x : A) → n < length xs → slice_get (slice_set xs n x) n ≡ Some x
 set_same [] n x h = absurd (omega arith)
 set_same (y ∷ xs) zero x h = refl
 set_same (y ∷ xs) (suc n) x h = set_same xs n x (omega arith)
 
-set_other : {A : Type 0} (xs : List A) (n : ℕ) (x : A) (i : ℕ) → i ≢ n → slice_get (slice_set xs n x) i ≡ slice_get xs i
+pub set_other : {A : Type 0} (xs : List A) (n : ℕ) (x : A) (i : ℕ) → i ≢ n → slice_get (slice_set xs n x) i ≡ slice_get xs i
 set_other [] zero x i ne = refl
 set_other [] (suc n) x i ne = refl
 set_other (y ∷ xs) zero x zero ne = absurd (ne refl)

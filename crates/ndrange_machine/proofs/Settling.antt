@@ -2,7 +2,7 @@
 use Rattle.std.proofs.Common.{◌≡◌, ◌≢◌, ◌↔◌, ℕ, ◌+◌, ◌<◌, ◌≤◌, length, set, Some, Bool, true, false, refl, sym, ap, ◌∙◌, subst, ⊎_elim, arith}
 use Rattle.std.specs.Prelude.{not, slice_get, slice_index_or, IsTrue}
 use Rattle.std.proofs.lemmas.Bool.{cases_eq, cases_lt}
-use Rattle.std.proofs.lemmas.List.{get_or-set_same, get_or-set_other}
+use Rattle.std.proofs.lemmas.List.{get_or-replicate, get_or-set_same, get_or-set_other}
 use Rattle.kernel_tree.specs.declared.events.Event.TheVariants.{Step}
 use Rattle.kernel_tree.specs.Code.{Kernel}
 use Rattle.kernel_tree.specs.Launch.{Launch, Cells, item_count, group_count, group_of, group_size, first_item}
@@ -11,16 +11,18 @@ use Rattle.kernel_tree.specs.Device.{Device, State, device_of, wants, CanStep, A
 use Rattle.kernel_tree.proofs.Grouping.{first_of_group, first_in_launch, group_in_launch, in_launch}
 use Rattle.enabled_events.specs.Grids.{grid_of}
 use Rattle.enabled_events.specs.Laws.{FlagsFollow}
-use Rattle.enabled_events.specs.Listed.{Flags}
+use Rattle.enabled_events.specs.Listed.{Flags, AreFlags}
 use Rattle.enabled_events.specs.Flags.{NoneSteps}
 use Rattle.ndrange_machine.specs.declared.machine.Machine.{Machine}
 use Rattle.ndrange_machine.specs.ItemView.{ItemView}
 use Rattle.ndrange_machine.specs.Stands.{Holds}
 use Rattle.ndrange_machine.specs.Takes.{is_going, IsAtBarrier, IsGoing, SameCore}
-use Rattle.ndrange_machine.specs.Groups.{SamePlace, AllOver, TellsTogether, TellsEnded, SetsFlag, Refreshed, Refreshes, Begins, Met, Settled, Stepped, Settles}
+use Rattle.ndrange_machine.specs.Groups.{SamePlace, AllOver, TellsTogether, TellsEnded, SetsFlag, Refreshed, Refreshes, AtStart, Begins, Met, Settled, Stepped, Settles}
 use Rattle.ndrange_machine.proofs.Grids.{group_members, member_there}
 use Rattle.ndrange_machine.proofs.Standing.{its_item, going_is, waits_nowhere, ended_there, goes_on, stand_if, if_stand}
 use Rattle.ndrange_machine.proofs.Stepping.{same_holds}
+use Rattle.ndrange_machine.proofs.Telling.{going_at}
+use Rattle.ndrange_machine.proofs.Waiting.{not_both}
 use Rattle.ndrange_machine.proofs.Together.{first_waits, goes, some_go, met}
 
 no_true : {A : Type 0} → false ≡ true → A
@@ -33,10 +35,10 @@ module _ (m : Machine) (g : ℕ) (lt : g < group_count m.launch) where
   at j = member_at m.launch g j
 
   abbrev pub AlikeUpTo : ℕ → Type 0
-  AlikeUpTo i = (j : ℕ) (a b : ItemView) → j < i → slice_get m.items.items (first_item m.launch g) ≡ Some a → slice_get m.items.items (member_at m.launch g j) ≡ Some b → SamePlace a b
+  AlikeUpTo i = (j : ℕ) (a b : ItemView) → j < i → slice_get m.items (first_item m.launch g) ≡ Some a → slice_get m.items (member_at m.launch g j) ≡ Some b → SamePlace a b
 
   abbrev pub OverUpTo : ℕ → Type 0
-  OverUpTo i = (j : ℕ) (a : ItemView) → j < i → slice_get m.items.items (member_at m.launch g j) ≡ Some a → length m.lines.items ≤ a.line
+  OverUpTo i = (j : ℕ) (a : ItemView) → j < i → slice_get m.items (member_at m.launch g j) ≡ Some a → length m.lines.items ≤ a.line
 
   module _ (k : Kernel) (l : Launch) (c : Cells) (s : State) (h : Holds k l c m s) where
     there : g < group_count l
@@ -45,7 +47,7 @@ module _ (m : Machine) (g : ℕ) (lt : g < group_count m.launch) where
     first_is : first_item m.launch g ≡ first_item l g
     first_is = ap (λ (z : Launch). first_item z g) h.launch
 
-    first_there : (a : ItemView) × (slice_get m.items.items (first_item l g) ≡ Some a)
+    first_there : (a : ItemView) × (slice_get m.items (first_item l g) ≡ Some a)
     first_there = its_item k l c m s h (first_item l g) (first_in_launch l h.whole g there)
 
     -- the items of the group, by their numbers in it
@@ -60,14 +62,14 @@ module _ (m : Machine) (g : ℕ) (lt : g < group_count m.launch) where
     not_at_barrier : IsAtBarrier m (first_item m.launch g) false → IsTrue false ↔ AllTogether (device_of k l c) s g
     not_at_barrier told = (
       λ e. no_true e,
-      λ all. absurd (waits_nowhere k l c m s h (first_item l g) first_there.0 first_there.1 (sym (told first_there.0 (ap (slice_get m.items.items) first_is ∙ first_there.1))) (first_waits _ _ (all (first_item l g) (first_of_group l h.whole g)))),
+      λ all. absurd (waits_nowhere k l c m s h (first_item l g) first_there.0 first_there.1 (sym (told first_there.0 (ap (slice_get m.items) first_is ∙ first_there.1))) (first_waits _ _ (all (first_item l g) (first_of_group l h.whole g)))),
     )
 
-    not_alike : (j : ℕ) → j < group_size m.launch → ((a b : ItemView) → slice_get m.items.items (first_item m.launch g) ≡ Some a → slice_get m.items.items (at j) ≡ Some b → IsTrue false ↔ SamePlace a b) → IsTrue false ↔ AllTogether (device_of k l c) s g
+    not_alike : (j : ℕ) → j < group_size m.launch → ((a b : ItemView) → slice_get m.items (first_item m.launch g) ≡ Some a → slice_get m.items (at j) ≡ Some b → IsTrue false ↔ SamePlace a b) → IsTrue false ↔ AllTogether (device_of k l c) s g
     not_alike j low told =
         let other = its_item k l c m s h (at j) (in_launch l h.whole g (at j) there (mine j low)) in (
           λ e. no_true e,
-          λ all. (told first_there.0 other.0 (ap (slice_get m.items.items) first_is ∙ first_there.1) other.1).1 (if_stand k l c m s h (first_item l g) (at j) first_there.0 other.0 first_there.1 other.1 (all (at j) (mine j low))),
+          λ all. (told first_there.0 other.0 (ap (slice_get m.items) first_is ∙ first_there.1) other.1).1 (if_stand k l c m s h (first_item l g) (at j) first_there.0 other.0 first_there.1 other.1 (all (at j) (mine j low))),
         )
 
     all_alike : IsAtBarrier m (first_item m.launch g) true → (i : ℕ) → group_size m.launch ≤ i → AlikeUpTo i → IsTrue true ↔ AllTogether (device_of k l c) s g
@@ -76,14 +78,14 @@ module _ (m : Machine) (g : ℕ) (lt : g < group_count m.launch) where
           let other = its_item k l c m s h j (in_launch l h.whole g j there own) in
           let n = its_number j own in
           let low = n.1 in
-          let at_first = ap (slice_get m.items.items) first_is ∙ first_there.1 in
+          let at_first = ap (slice_get m.items) first_is ∙ first_there.1 in
           stand_if k l c m s h (first_item l g) j first_there.0 other.0 first_there.1 other.1
-          (alike n.0 first_there.0 other.0 (omega arith) at_first (ap (slice_get m.items.items) (sym n.2) ∙ other.1))
+          (alike n.0 first_there.0 other.0 (omega arith) at_first (ap (slice_get m.items) (sym n.2) ∙ other.1))
           (sym (told first_there.0 at_first)),
       λ all. refl,
     )
 
-    one_going : (j : ℕ) → j < group_size m.launch → ((a : ItemView) → slice_get m.items.items (at j) ≡ Some a → IsTrue false ↔ length m.lines.items ≤ a.line) → IsTrue false ↔ AllOver (device_of k l c) s g
+    one_going : (j : ℕ) → j < group_size m.launch → ((a : ItemView) → slice_get m.items (at j) ≡ Some a → IsTrue false ↔ length m.lines.items ≤ a.line) → IsTrue false ↔ AllOver (device_of k l c) s g
     one_going j low told =
         let it = its_item k l c m s h (at j) (in_launch l h.whole g (at j) there (mine j low)) in (
           λ e. no_true e,
@@ -96,32 +98,32 @@ module _ (m : Machine) (g : ℕ) (lt : g < group_count m.launch) where
           let it = its_item k l c m s h j (in_launch l h.whole g j there own) in
           let n = its_number j own in
           let low = n.1 in
-          ended_there k l c m s h j it.0 it.1 (over n.0 it.0 (omega arith) (ap (slice_get m.items.items) (sym n.2) ∙ it.1)),
+          ended_there k l c m s h j it.0 it.1 (over n.0 it.0 (omega arith) (ap (slice_get m.items) (sym n.2) ∙ it.1)),
       λ all. refl,
     )
 
   pub tells_no_barrier : IsAtBarrier m (first_item m.launch g) false → TellsTogether m g false
   tells_no_barrier told k l c s h = not_at_barrier k l c s h told
 
-  pub tells_apart : (j : ℕ) → j < group_size m.launch → ((a b : ItemView) → slice_get m.items.items (first_item m.launch g) ≡ Some a → slice_get m.items.items (member_at m.launch g j) ≡ Some b → IsTrue false ↔ SamePlace a b) → TellsTogether m g false
+  pub tells_apart : (j : ℕ) → j < group_size m.launch → ((a b : ItemView) → slice_get m.items (first_item m.launch g) ≡ Some a → slice_get m.items (member_at m.launch g j) ≡ Some b → IsTrue false ↔ SamePlace a b) → TellsTogether m g false
   tells_apart j low told k l c s h = not_alike k l c s h j low told
 
   pub tells_together : IsAtBarrier m (first_item m.launch g) true → (i : ℕ) → group_size m.launch ≤ i → AlikeUpTo i → TellsTogether m g true
   tells_together told i end alike k l c s h = all_alike k l c s h told i end alike
 
-  pub tells_going : (j : ℕ) → j < group_size m.launch → ((a : ItemView) → slice_get m.items.items (member_at m.launch g j) ≡ Some a → IsTrue false ↔ length m.lines.items ≤ a.line) → TellsEnded m g false
+  pub tells_going : (j : ℕ) → j < group_size m.launch → ((a : ItemView) → slice_get m.items (member_at m.launch g j) ≡ Some a → IsTrue false ↔ length m.lines.items ≤ a.line) → TellsEnded m g false
   tells_going j low told k l c s h = one_going k l c s h j low told
 
   pub tells_over : (i : ℕ) → group_size m.launch ≤ i → OverUpTo i → TellsEnded m g true
   tells_over i end over k l c s h = all_over k l c s h i end over
 
-  pub alike_more : (i : ℕ) → AlikeUpTo i → ((a b : ItemView) → slice_get m.items.items (first_item m.launch g) ≡ Some a → slice_get m.items.items (member_at m.launch g i) ≡ Some b → IsTrue true ↔ SamePlace a b) → AlikeUpTo (i + 1)
+  pub alike_more : (i : ℕ) → AlikeUpTo i → ((a b : ItemView) → slice_get m.items (first_item m.launch g) ≡ Some a → slice_get m.items (member_at m.launch g i) ≡ Some b → IsTrue true ↔ SamePlace a b) → AlikeUpTo (i + 1)
   alike_more i alike told j a b low first other =
-      ⊎_elim (λ less. alike j a b less first other) (λ le. let same : j ≡ i = omega arith in (told a b first (ap (λ z. slice_get m.items.items (at z)) (sym same) ∙ other)).0 refl) (cases_lt j i)
+      ⊎_elim (λ less. alike j a b less first other) (λ le. let same : j ≡ i = omega arith in (told a b first (ap (λ z. slice_get m.items (at z)) (sym same) ∙ other)).0 refl) (cases_lt j i)
 
-  pub over_more : (i : ℕ) → OverUpTo i → ((a : ItemView) → slice_get m.items.items (member_at m.launch g i) ≡ Some a → IsTrue true ↔ length m.lines.items ≤ a.line) → OverUpTo (i + 1)
+  pub over_more : (i : ℕ) → OverUpTo i → ((a : ItemView) → slice_get m.items (member_at m.launch g i) ≡ Some a → IsTrue true ↔ length m.lines.items ≤ a.line) → OverUpTo (i + 1)
   over_more i over told j a low other =
-      ⊎_elim (λ less. over j a less other) (λ le. let same : j ≡ i = omega arith in (told a (ap (λ z. slice_get m.items.items (at z)) (sym same) ∙ other)).0 refl) (cases_lt j i)
+      ⊎_elim (λ less. over j a less other) (λ le. let same : j ≡ i = omega arith in (told a (ap (λ z. slice_get m.items (at z)) (sym same) ∙ other)).0 refl) (cases_lt j i)
 
 -- The flags of one group
 
@@ -237,6 +239,32 @@ begins m n i h all k l c s holds =
       steps = λ j lt. told.steps j lt (let in_group = group_in_launch l holds.whole j lt in omega arith);
       releases = λ g lt. told.releases g (omega arith);
     }
+
+-- where all items can step from the first line
+module _ (m : Machine) (start : AtStart m true) (k : Kernel) (l : Launch) (c : Cells) (s : State) (h : Holds k l c m s) where
+  can_step : (j : ℕ) → j < item_count l → CanStep (wants (device_of k l c) s j)
+  can_step j lt =
+      let it = its_item k l c m s h j lt in
+      (going_is k l c m s h j true (going_at m j 0 true (start.stands j) start.going) it.0 it.1).0 refl
+
+  flags_set : (j : ℕ) → j < item_count m.launch → slice_index_or m.ready.items j false ≡ true
+  flags_set j lt = ap (λ (v : Flags). slice_index_or v.items j false) start.ready ∙ get_or-replicate (item_count m.launch) j true false lt
+
+  none_released : (g : ℕ) → g < group_count m.launch → slice_index_or m.ready.groups g false ≡ false
+  none_released g lt = ap (λ (v : Flags). slice_index_or v.groups g false) start.ready ∙ get_or-replicate (group_count m.launch) g false false lt
+
+  apart : (g : ℕ) → g < group_count l → AllTogether (device_of k l c) s g → ⊥
+  apart g lt all =
+      let first = first_item l g in
+      not_both _ (can_step first (first_in_launch l h.whole g lt)) (first_waits _ _ (all first (first_of_group l h.whole g)))
+
+  pub flags_at_start : AreFlags (device_of k l c) s m.ready
+  flags_at_start = record {
+    grid = m.ready_grid ∙ ap grid_of h.launch;
+    count = m.ready_items ∙ ap item_count h.launch;
+    steps = λ j lt. (λ _. can_step j lt, λ _. flags_set j (subst (λ (z : Launch). j < item_count z) (sym h.launch) lt));
+    releases = λ g lt. (λ e. no_true (sym (none_released g (subst (λ (z : Launch). g < group_count z) (sym h.launch) lt)) ∙ e), λ all. absurd (apart g lt all));
+  }
 
 -- A group whose items have all stopped
 

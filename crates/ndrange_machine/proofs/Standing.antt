@@ -1,6 +1,6 @@
 -- What the machine tells of the state that it holds: which events are enabled, and whether all items have ended.
 use Rattle.std.proofs.Common.{◌≡◌, ℕ, ◌+◌, ◌*◌, ◌/◌, ◌^◌, ◌<◌, ◌≤◌, List, length, Option, Some, None, Bool, true, false, refl, sym, ap, ◌∙◌, subst, ⊎_elim, arith, ◌↔◌}
-use Rattle.std.specs.Prelude.{map, not, slice_get, slice_index_or, nat_lt, if◌then◌else◌, IsTrue}
+use Rattle.std.specs.Prelude.{map, not, slice_get, nat_lt, if◌then◌else◌, IsTrue}
 use Rattle.std.proofs.lemmas.List.{length-map}
 use Rattle.std.proofs.lemmas.Bool.{cases_lt}
 use Rattle.kernel_tree.specs.Code.{Kernel, Stride, ByOne, ByGlobalSize, ByGroupCount, ByLocalSize, start_value, stride_value}
@@ -15,7 +15,7 @@ use Rattle.kernel_tree.specs.Device.{State, device_of, wants, CanStep, StandToge
 use Rattle.ndrange_machine.specs.declared.line.Line as held
 use Rattle.ndrange_machine.specs.declared.line.Line.TheVariants as line
 use Rattle.ndrange_machine.specs.declared.machine.Machine.{Machine}
-use Rattle.ndrange_machine.specs.declared.item.Change.TheVariants as change
+use Rattle.ndrange_machine.specs.declared.change.Change.TheVariants as change
 use Rattle.ndrange_machine.specs.declared.turn.Turn.{Turn}
 use Rattle.ndrange_machine.specs.Known.{held_four, variables, numbers}
 use Rattle.ndrange_machine.specs.declared.want.Want.{Want}
@@ -30,7 +30,7 @@ use Rattle.ndrange_machine.proofs.Next.{IsNext, next_is}
 use Rattle.ndrange_machine.proofs.Waiting.{IsWaiting, steps_or_not, not_both, stand_waits}
 use Rattle.ndrange_machine.proofs.Parsing.{same_rest, same_place}
 use Rattle.ndrange_machine.proofs.Together.{first_waits, rest_together, together_rest}
-use Rattle.ndrange_machine.proofs.Rows.{get_there, get_within, get_or_is}
+use Rattle.ndrange_machine.proofs.Rows.{get_there, get_within}
 
 abbrev pub is_waiting : Want → Bool
 is_waiting (want.Waits p q to) = true
@@ -171,14 +171,14 @@ strides_of l whole j lt c = by_form c
     by_form (ByLocalSize Y) = whole.y.positive
 
 module _ (k : Kernel) (l : Launch) (c : Cells) (m : Machine) (s : State) (h : Holds k l c m s) where
-  pub its_item : (j : ℕ) → j < item_count l → (it : ItemView) × (slice_get m.items.items j ≡ Some it)
-  its_item j lt = let n = h.count in get_there m.items.items j (omega arith)
+  pub its_item : (j : ℕ) → j < item_count l → (it : ItemView) × (slice_get m.items j ≡ Some it)
+  its_item j lt = let n = h.count in get_there m.items j (omega arith)
 
-  pub in_launch : (j : ℕ) (it : ItemView) → slice_get m.items.items j ≡ Some it → j < item_count l
-  in_launch j it e = let n = h.count in let lt = get_within m.items.items j it e in omega arith
+  pub in_launch : (j : ℕ) (it : ItemView) → slice_get m.items j ≡ Some it → j < item_count l
+  in_launch j it e = let n = h.count in let lt = get_within m.items j it e in omega arith
 
   -- where the machine has the private variables too
-  pub here : (j : ℕ) (it : ItemView) → slice_get m.items.items j ≡ Some it → it.vars ≡ (s.items j).vars → IsNext (map text_of m.lines.items) it (wanted m.lines.items (ids_of m.launch j) it) (wants (device_of k l c) s j)
+  pub here : (j : ℕ) (it : ItemView) → slice_get m.items j ≡ Some it → it.vars ≡ (s.items j).vars → IsNext (map text_of m.lines.items) it (wanted m.lines.items (ids_of m.launch j) it) (wants (device_of k l c) s j)
   unfolding next
   here j it e vars =
       let lt = in_launch j it e in
@@ -187,7 +187,7 @@ module _ (k : Kernel) (l : Launch) (c : Cells) (m : Machine) (s : State) (h : Ho
       (next_is m.lines.items (ids_of l j) (strides_of l h.whole j lt) it (s.items j) (record { holds = holds; vars = vars }))
 
   -- where it may have others
-  module _ (j : ℕ) (it : ItemView) (e : slice_get m.items.items j ≡ Some it) where
+  module _ (j : ℕ) (it : ItemView) (e : slice_get m.items j ≡ Some it) where
     abbrev true_view : ItemView
     true_view = record { line = it.line; turns = it.turns; room = it.room; vars = (s.items j).vars }
 
@@ -211,40 +211,38 @@ module _ (k : Kernel) (l : Launch) (c : Cells) (m : Machine) (s : State) (h : Ho
     pub waits_nowhere : is_barrier (slice_get m.lines.items it.line) ≡ false → IsWaiting (wants (device_of k l c) s j) → ⊥
     waits_nowhere b = waits_not (map text_of m.lines.items) true_view _ _ next_there (waits_at m.lines.items (ids_of l j) true_view ∙ b)
 
--- items looked at one after another, as a slice has them
-pub ended_item : (m : Machine) (seen : List ItemView) → seen ≡ m.items.items → (i : ℕ) (x : ItemView) → i < length seen → x ≡ slice_index_or seen i x → length m.lines.items ≤ x.line
-    → ((j : ℕ) (it : ItemView) → j < i → slice_get m.items.items j ≡ Some it → length m.lines.items ≤ it.line)
-    → (j : ℕ) (it : ItemView) → j < i + 1 → slice_get m.items.items j ≡ Some it → length m.lines.items ≤ it.line
-ended_item m seen same i x lt is past before j it low e =
+-- items looked at one after another
+pub ended_item : (m : Machine) (i : ℕ) → ((it : ItemView) → slice_get m.items i ≡ Some it → IsTrue true ↔ length m.lines.items ≤ it.line)
+    → ((j : ℕ) (it : ItemView) → j < i → slice_get m.items j ≡ Some it → length m.lines.items ≤ it.line)
+    → (j : ℕ) (it : ItemView) → j < i + 1 → slice_get m.items j ≡ Some it → length m.lines.items ≤ it.line
+ended_item m i ends before j it low e =
     ⊎_elim
     (λ less. before j it less e)
-    (λ le.
-    let at : j ≡ i = omega arith in
-    let got : slice_get m.items.items i ≡ Some x = ap (λ z. slice_get z i) (sym same) ∙ get_or_is seen i x lt is in
-    let both : Some it ≡ Some x = sym e ∙ ap (slice_get m.items.items) at ∙ got in
-    let item_is : it ≡ x = cc in
-    subst (λ z. length m.lines.items ≤ z.line) (sym item_is) past)
+    (λ le. let at : j ≡ i = omega arith in (ends it (ap (slice_get m.items) (sym at) ∙ e)).0 refl)
     (cases_lt j i)
 
-module _ (k : Kernel) (l : Launch) (c : Cells) (m : Machine) (s : State) (h : Holds k l c m s) (seen : List ItemView) (same : seen ≡ m.items.items) (i : ℕ) where
-  pub one_before : (x : ItemView) → i < length seen → x ≡ slice_index_or seen i x → x.line < length m.lines.items → IsTrue false ↔ AllEnded (device_of k l c) s
-  one_before x lt is before =
-      let got : slice_get m.items.items i ≡ Some x = ap (λ z. slice_get z i) (sym same) ∙ get_or_is seen i x lt is in
-      (λ e. absurd (let n : false ≡ true = e in let b : ⊥ = cc in b), λ all. absurd (goes_on k l c m s h i x got before (all i (in_launch k l c m s h i x got))))
+module _ (k : Kernel) (l : Launch) (c : Cells) (m : Machine) (s : State) (h : Holds k l c m s) (i : ℕ) where
+  pub one_before : i < item_count l → ((it : ItemView) → slice_get m.items i ≡ Some it → IsTrue false ↔ length m.lines.items ≤ it.line) → IsTrue false ↔ AllEnded (device_of k l c) s
+  one_before lt told =
+      let it = its_item k l c m s h i lt in (
+        λ e. absurd (let n : false ≡ true = e in let b : ⊥ = cc in b),
+        λ all. ⊎_elim
+            (λ before. absurd (goes_on k l c m s h i it.0 it.1 before (all i lt)))
+            (λ le. (told it.0 it.1).1 le)
+            (cases_lt it.0.line (length m.lines.items)),
+      )
 
-  pub all_past : length seen ≤ i → ((j : ℕ) (it : ItemView) → j < i → slice_get m.items.items j ≡ Some it → length m.lines.items ≤ it.line) → IsTrue true ↔ AllEnded (device_of k l c) s
+  pub all_past : item_count l ≤ i → ((j : ℕ) (it : ItemView) → j < i → slice_get m.items j ≡ Some it → length m.lines.items ≤ it.line) → IsTrue true ↔ AllEnded (device_of k l c) s
   all_past le past = (
     λ e j lt.
         let it = its_item k l c m s h j lt in
-        let n = ap length same in
-        let count = h.count in
         ended_there k l c m s h j it.0 it.1 (past j it.0 (omega arith) it.1),
     λ all. refl,
   )
 
 -- where the state that it holds lets an item step
 module _ (k : Kernel) (l : Launch) (c : Cells) (m : Machine) (s : State) (h : Holds k l c m s) (j : ℕ) where
-  pub going_is : (b : Bool) → IsGoing m j b → (it : ItemView) → slice_get m.items.items j ≡ Some it → IsTrue b ↔ CanStep (wants (device_of k l c) s j)
+  pub going_is : (b : Bool) → IsGoing m j b → (it : ItemView) → slice_get m.items j ≡ Some it → IsTrue b ↔ CanStep (wants (device_of k l c) s j)
   going_is b told it e = by_line (slice_get m.lines.items it.line) refl
     where
       w : Wants
@@ -275,7 +273,7 @@ module _ (k : Kernel) (l : Launch) (c : Cells) (m : Machine) (s : State) (h : Ho
           on_not false n = refl
 
 -- two items of one group
-module _ (k : Kernel) (l : Launch) (c : Cells) (m : Machine) (s : State) (h : Holds k l c m s) (i j : ℕ) (a b : ItemView) (at : slice_get m.items.items i ≡ Some a) (bt : slice_get m.items.items j ≡ Some b) where
+module _ (k : Kernel) (l : Launch) (c : Cells) (m : Machine) (s : State) (h : Holds k l c m s) (i j : ℕ) (a b : ItemView) (at : slice_get m.items i ≡ Some a) (bt : slice_get m.items j ≡ Some b) where
   pub stand_if : SamePlace a b → is_barrier (slice_get m.lines.items a.line) ≡ true → StandTogether (wants (device_of k l c) s i) (wants (device_of k l c) s j)
   stand_if same barrier =
       let x = h.items i a at in

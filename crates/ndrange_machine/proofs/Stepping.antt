@@ -29,8 +29,8 @@ use Rattle.ndrange_machine.specs.Groups.{Settles, Stepped, Settled, Stops}
 use Rattle.ndrange_machine.specs.Sights.{access_of_want, fault_in, kind_in, lane_of, raced_cell, touch_at}
 use Rattle.ndrange_machine.specs.declared.four.Four as held_words
 use Rattle.ndrange_machine.specs.declared.machine.Machine.{Machine}
-use Rattle.ndrange_machine.specs.declared.item.Change.{Change}
-use Rattle.ndrange_machine.specs.declared.item.Change.TheVariants.{Sets, SetsFour, Keeps}
+use Rattle.ndrange_machine.specs.declared.change.Change.{Change}
+use Rattle.ndrange_machine.specs.declared.change.Change.TheVariants.{Sets, SetsFour, Keeps}
 use Rattle.ndrange_machine.specs.declared.want.Want.{Want}
 use Rattle.ndrange_machine.specs.declared.want.Want.TheVariants as want
 use Rattle.ndrange_machine.specs.ItemView.{ItemView}
@@ -151,7 +151,7 @@ flags_same d s t v same f = record {
 module _ (k : Kernel) (l : Launch) (c : Cells) (m : Machine) (es : List Event) (st : StandsFor k l c m es) (clean : IsFaultless (device_of k l c) (start_state k c) es) (e : Event) (en : Enabled (device_of k l c) (state_after k l c es) e) where
   -- it stands for the run with the event, where it holds the state after that
   pub stands_on : (n : Machine) → Holds k l c n (after (device_of k l c) (state_after k l c es) e) → AreFlags (device_of k l c) (after (device_of k l c) (state_after k l c es) e) n.ready
-      → (failure_of (device_of k l c) (state_after k l c es) e ≡ None → (j : ℕ) (it : ItemView) → slice_get n.items.items j ≡ Some it → it.vars ≡ ((after (device_of k l c) (state_after k l c es) e).items j).vars)
+      → (failure_of (device_of k l c) (state_after k l c es) e ≡ None → (j : ℕ) (it : ItemView) → slice_get n.items j ≡ Some it → it.vars ≡ ((after (device_of k l c) (state_after k l c es) e).items j).vars)
       → (failure_of (device_of k l c) (state_after k l c es) e ≡ None → (RacesAfter (device_of k l c) (start_state k c) es e → ⊥) → MarksTell (device_of k l c) (start_state k c) (es ++ e ∷ []) n.marks) → StandsFor k l c n (es ++ e ∷ [])
   stands_on n h f v t = record {
     grammar = st.grammar;
@@ -179,7 +179,7 @@ module _ (k : Kernel) (l : Launch) (c : Cells) (m : Machine) (es : List Event) (
   abbrev next_wants : Wants
   next_wants = wants (device_of k l c) (state_after k l c es) j
 
-  pub its : (it : ItemView) × (slice_get m.items.items j ≡ Some it)
+  pub its : (it : ItemView) × (slice_get m.items j ≡ Some it)
   its = its_item k l c m now st.holds j en.0
 
   abbrev it : ItemView
@@ -228,11 +228,11 @@ module _ (k : Kernel) (l : Launch) (c : Cells) (m : Machine) (es : List Event) (
   }
 
   -- the item j of the new machine
-  new_item : (n : Machine) (ch : Change) (to : ℕ) → Changes m n j ch to → (i : ℕ) (x : ItemView) → slice_get n.items.items i ≡ Some x → ((i ≡ j) × (x ≡ changed its.0 ch to)) ⊎ ((i ≢ j) × (slice_get m.items.items i ≡ Some x))
+  new_item : (n : Machine) (ch : Change) (to : ℕ) → Changes m n j ch to → (i : ℕ) (x : ItemView) → slice_get n.items i ≡ Some x → ((i ≡ j) × (x ≡ changed its.0 ch to)) ⊎ ((i ≢ j) × (slice_get m.items i ≡ Some x))
   new_item n ch to cs i x e =
       ⊎_elim
-      (λ q. inl (q.1, (let a : Some (changed its.0 ch to) ≡ Some x = sym (cs.items i ∙ ap (λ t. if t then option_map (λ z. changed z ch to) (slice_get m.items.items i) else slice_get m.items.items i) q.0 ∙ ap (option_map (λ z. changed z ch to)) (ap (slice_get m.items.items) q.1 ∙ its.1)) ∙ e in let b : changed its.0 ch to ≡ x = cc in sym b)))
-      (λ q. inr (q.1, sym (cs.items i ∙ ap (λ t. if t then option_map (λ z. changed z ch to) (slice_get m.items.items i) else slice_get m.items.items i) q.0) ∙ e))
+      (λ q. inl (q.1, (let a : Some (changed its.0 ch to) ≡ Some x = sym (cs.items i ∙ ap (λ t. if t then option_map (λ z. changed z ch to) (slice_get m.items i) else slice_get m.items i) q.0 ∙ ap (option_map (λ z. changed z ch to)) (ap (slice_get m.items) q.1 ∙ its.1)) ∙ e in let b : changed its.0 ch to ≡ x = cc in sym b)))
+      (λ q. inr (q.1, sym (cs.items i ∙ ap (λ t. if t then option_map (λ z. changed z ch to) (slice_get m.items i) else slice_get m.items i) q.0) ∙ e))
       (eqb_tells i j)
 
   holds_on : (n : Machine) (ch : Change) (to : ℕ) → Changes m n j ch to → HoldsItem (map text_of m.lines.items) (changed its.0 ch to) (later.items j) → Remembers n → Holds k l c n later
@@ -250,7 +250,7 @@ module _ (k : Kernel) (l : Launch) (c : Cells) (m : Machine) (es : List Event) (
     outs = r.outs ∙ st.holds.outs;
   }
 
-  vars_on : (n : Machine) (ch : Change) (to : ℕ) → Changes m n j ch to → (changed its.0 ch to).vars ≡ (later.items j).vars → (i : ℕ) (x : ItemView) → slice_get n.items.items i ≡ Some x → x.vars ≡ (later.items i).vars
+  vars_on : (n : Machine) (ch : Change) (to : ℕ) → Changes m n j ch to → (changed its.0 ch to).vars ≡ (later.items j).vars → (i : ℕ) (x : ItemView) → slice_get n.items i ≡ Some x → x.vars ≡ (later.items i).vars
   vars_on n ch to cs v i x e =
       ⊎_elim
       (λ q. ap (λ z. z.vars) q.1 ∙ v ∙ ap (λ z. (later.items z).vars) (sym q.0))
@@ -274,7 +274,7 @@ module _ (k : Kernel) (l : Launch) (c : Cells) (m : Machine) (es : List Event) (
     holds_now : Holds k l c n later
     holds_now = same_holds k l c a n later core (holds_on a ch to cs held_on r)
 
-    vars_now_on : (changed its.0 ch to).vars ≡ (later.items j).vars → (i : ℕ) (x : ItemView) → slice_get n.items.items i ≡ Some x → x.vars ≡ (later.items i).vars
+    vars_now_on : (changed its.0 ch to).vars ≡ (later.items j).vars → (i : ℕ) (x : ItemView) → slice_get n.items i ≡ Some x → x.vars ≡ (later.items i).vars
     vars_now_on v i x e = vars_on a ch to cs v i x (ap (λ z. slice_get z i) (sym core.items) ∙ e)
 
     -- an event that doesn't fail
@@ -458,7 +458,7 @@ module _ (k : Kernel) (l : Launch) (c : Cells) (m : Machine) (es : List Event) (
 
   -- a write, of one cell or of four: what the machine wants, the item and the memory after it
   module _ (x : Item) (v : Want) (kept_to : ℕ) (of_next : HoldsItem (map text_of m.lines.items) (changed its.0 Keeps kept_to) x) (vars_next : its.0.vars ≡ x.vars) (item_is : later.items j ≡ x) (new : Machine) (remembers : Remembers new) where
-    pub took_write : (raced : Option ℕ) → failure (device_of k l c) next_wants ≡ None → (old touched b end : Machine) (diverges : Bool) → SameCore old touched → old.lines ≡ m.lines → old.launch ≡ m.launch → old.items.items ≡ m.items.items → old.memory ≡ new.memory → old.marks ≡ m.marks → old.ready ≡ m.ready → touched.ready ≡ old.ready
+    pub took_write : (raced : Option ℕ) → failure (device_of k l c) next_wants ≡ None → (old touched b end : Machine) (diverges : Bool) → SameCore old touched → old.lines ≡ m.lines → old.launch ≡ m.launch → old.items ≡ m.items → old.memory ≡ new.memory → old.marks ≡ m.marks → old.ready ≡ m.ready → touched.ready ≡ old.ready
         → TracksLanes (device_of k l c) (start_state k c) es j raced touched.marks
         → Changes touched b j Keeps kept_to → b.memory ≡ touched.memory → b.marks ≡ touched.marks → b.ready ≡ touched.ready → SameCore b end → end.marks ≡ b.marks → Settles b end j diverges
         → (cell : Option seen_cell.Cell) → ((lane : ℕ) → raced ≡ Some lane → cell ≡ cell_wanted next_wants lane) → Advanced k l c es (Step j) end (fault_in raced cell diverges)
@@ -474,7 +474,7 @@ module _ (k : Kernel) (l : Launch) (c : Cells) (m : Machine) (es : List Event) (
         (vars_next ∙ ap (λ z. z.vars) (sym item_is)) ok raced
         (subst (TracksLanes (device_of k l c) (start_state k c) es j raced) (sym marks ∙ sym same) tracks) cell seen
 
-    pub took_write_outside : failure (device_of k l c) next_wants ≡ Some OutOfRange → (old end : Machine) → old.lines ≡ m.lines → old.launch ≡ m.launch → old.items.items ≡ m.items.items → old.memory ≡ new.memory → old.ready ≡ m.ready → Stops old end j kept_to → Advanced k l c es (Step j) end (Some (record { kind = OutOfRange; cell = None }))
+    pub took_write_outside : failure (device_of k l c) next_wants ≡ Some OutOfRange → (old end : Machine) → old.lines ≡ m.lines → old.launch ≡ m.launch → old.items ≡ m.items → old.memory ≡ new.memory → old.ready ≡ m.ready → Stops old end j kept_to → Advanced k l c es (Step j) end (Some (record { kind = OutOfRange; cell = None }))
     took_write_outside f old end lines launch items mem0 ready0 s =
         let cs = s.changes in
         let all : Changes m s.between j Keeps kept_to = record {
@@ -506,7 +506,7 @@ module _ (k : Kernel) (l : Launch) (c : Cells) (m : Machine) (es : List Event) (
     pub write_fault : (t : Bool) → is_some (held m.memory (named g a i)) ≡ t → failure (device_of k l c) next_wants ≡ range_fault t
     write_fault t e = ap (failure (device_of k l c)) next_writes.1 ∙ ap range_fault (sym (there_at g g_is a i) ∙ e)
 
-    pub took_one : is_some (held m.memory (named g a i)) ≡ true → (old touched b end : Machine) (races diverges : Bool) → SameCore old touched → old.lines ≡ m.lines → old.launch ≡ m.launch → old.items.items ≡ m.items.items → old.memory ≡ n.memory → old.marks ≡ m.marks → old.ready ≡ m.ready → touched.ready ≡ old.ready
+    pub took_one : is_some (held m.memory (named g a i)) ≡ true → (old touched b end : Machine) (races diverges : Bool) → SameCore old touched → old.lines ≡ m.lines → old.launch ≡ m.launch → old.items ≡ m.items → old.memory ≡ n.memory → old.marks ≡ m.marks → old.ready ≡ m.ready → touched.ready ≡ old.ready
         → TracksAccess old.marks (array_of a) i (touch_at m.launch j true) races touched.marks
         → Changes touched b j Keeps to → b.memory ≡ touched.memory → b.marks ≡ touched.marks → b.ready ≡ touched.ready → SameCore b end → end.marks ≡ b.marks → Settles b end j diverges → Advanced k l c es (Step j) end (fault_in (lane_of races) (shared_cell (array_of a) i) diverges)
     took_one q old touched b end races diverges core1 lines launch items mem0 marks0 ready0 ready1 tracks cs mem marks ready core2 same settles =
@@ -514,7 +514,7 @@ module _ (k : Kernel) (l : Launch) (c : Cells) (m : Machine) (es : List Event) (
         (one_tracked g g_is a true i (accesses_are (Writes (array_of a) i y next_writes.0) next_writes.1) q old marks0 races touched tracks)
         cs mem marks ready core2 same settles (shared_cell (array_of a) i) (λ lane e. sym (ap (λ z. cell_wanted z lane) next_writes.1))
 
-    pub took_one_outside : is_some (held m.memory (named g a i)) ≡ false → (old end : Machine) → old.lines ≡ m.lines → old.launch ≡ m.launch → old.items.items ≡ m.items.items → old.memory ≡ n.memory → old.ready ≡ m.ready → Stops old end j to → Advanced k l c es (Step j) end (Some (record { kind = OutOfRange; cell = None }))
+    pub took_one_outside : is_some (held m.memory (named g a i)) ≡ false → (old end : Machine) → old.lines ≡ m.lines → old.launch ≡ m.launch → old.items ≡ m.items → old.memory ≡ n.memory → old.ready ≡ m.ready → Stops old end j to → Advanced k l c es (Step j) end (Some (record { kind = OutOfRange; cell = None }))
     took_one_outside q old end lines launch items mem0 ready0 s =
         took_write_outside next_writes.0 (want.Writes a i y to) to next_writes.2.holds next_writes.2.vars after_write n write_memory (write_fault false q) old end lines launch items mem0 ready0 s
 
@@ -539,7 +539,7 @@ module _ (k : Kernel) (l : Launch) (c : Cells) (m : Machine) (es : List Event) (
       outs = outs;
     }
 
-    pub took_stores : is_some (held m.memory (behind 3 first_named)) ≡ true → (old touched b end : Machine) (lane : Option ℕ) (diverges : Bool) → SameCore old touched → old.lines ≡ m.lines → old.launch ≡ m.launch → old.items.items ≡ m.items.items → old.memory ≡ n.memory → old.marks ≡ m.marks → old.ready ≡ m.ready → touched.ready ≡ old.ready
+    pub took_stores : is_some (held m.memory (behind 3 first_named)) ≡ true → (old touched b end : Machine) (lane : Option ℕ) (diverges : Bool) → SameCore old touched → old.lines ≡ m.lines → old.launch ≡ m.launch → old.items ≡ m.items → old.memory ≡ n.memory → old.marks ≡ m.marks → old.ready ≡ m.ready → touched.ready ≡ old.ready
         → TracksFour old.marks (array_of a) i (touch_at m.launch j true) lane touched.marks
         → Changes touched b j Keeps to → b.memory ≡ touched.memory → b.marks ≡ touched.marks → b.ready ≡ touched.ready → SameCore b end → end.marks ≡ b.marks → Settles b end j diverges → Advanced k l c es (Step j) end (fault_in lane (raced_cell (array_of a) i lane) diverges)
     took_stores q old touched b end lane diverges core1 lines launch items mem0 marks0 ready0 ready1 tracks cs mem marks ready core2 same settles =
@@ -548,7 +548,7 @@ module _ (k : Kernel) (l : Launch) (c : Cells) (m : Machine) (es : List Event) (
         (four_tracked g g_is a true i (accesses_are (WritesFour (array_of a) i (four_of u) next_stores.0) next_stores.1) here old marks0 lane touched tracks)
         cs mem marks ready core2 same settles (raced_cell (array_of a) i lane) (λ x e. ap (raced_cell (array_of a) i) e ∙ sym (ap (λ z. cell_wanted z x) next_stores.1))
 
-    pub took_stores_outside : is_some (held m.memory (behind 3 first_named)) ≡ false → (old end : Machine) → old.lines ≡ m.lines → old.launch ≡ m.launch → old.items.items ≡ m.items.items → old.memory ≡ n.memory → old.ready ≡ m.ready → Stops old end j to → Advanced k l c es (Step j) end (Some (record { kind = OutOfRange; cell = None }))
+    pub took_stores_outside : is_some (held m.memory (behind 3 first_named)) ≡ false → (old end : Machine) → old.lines ≡ m.lines → old.launch ≡ m.launch → old.items ≡ m.items → old.memory ≡ n.memory → old.ready ≡ m.ready → Stops old end j to → Advanced k l c es (Step j) end (Some (record { kind = OutOfRange; cell = None }))
     took_stores_outside q old end lines launch items mem0 ready0 s =
         took_write_outside next_stores.0 (want.WritesFour a i u to) to next_stores.2.holds next_stores.2.vars after_stores n store_memory
         (ap (failure (device_of k l c)) next_stores.1 ∙ ap range_fault (sym (there_at g g_is a (4 * i + 3)) ∙ q)) old end lines launch items mem0 ready0 s

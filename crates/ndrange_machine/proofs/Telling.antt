@@ -1,13 +1,13 @@
 -- A machine that tells the fault of its last event.
 use Rattle.std.proofs.Common.{◌≡◌, ◌∙◌, ℕ, List, [], ◌∷◌, ◌++◌, Bool, Option, Some, None, refl, sym, ap, subst, eq-eqb}
-use Rattle.std.specs.Prelude.{slice_get, option_map, ◌==◌, if◌then◌else◌}
+use Rattle.std.specs.Prelude.{slice_get, option_map, if◌then◌else◌}
 use Rattle.kernel_tree.specs.declared.events.Event.{Event}
 use Rattle.kernel_tree.specs.declared.events.Fault.{Fault}
 use Rattle.kernel_tree.specs.Code.{Kernel}
 use Rattle.kernel_tree.specs.Launch.{Launch, Cells}
 use Rattle.enabled_events.specs.Listed.{AreFlags}
 use Rattle.race_marks.specs.Marked.{MarksTell}
-use Rattle.ndrange_machine.specs.declared.item.Change.{Change}
+use Rattle.ndrange_machine.specs.declared.change.Change.{Change}
 use Rattle.ndrange_machine.specs.declared.machine.Machine.{Machine}
 use Rattle.ndrange_machine.specs.Changes.{changed}
 use Rattle.ndrange_machine.specs.ItemView.{ItemView}
@@ -41,8 +41,8 @@ line_or line None = line
 -- a work-item that has gone to a line stands there
 pub stands_at : (m n : Machine) (j : ℕ) (ch : Change) (to : ℕ) → Changes m n j ch to → StandsAt n j to
 stands_at m n j ch to cs it e =
-    went (slice_get m.items.items j)
-    (sym (cs.items j ∙ ap (λ t. if t then option_map (λ x. changed x ch to) (slice_get m.items.items j) else slice_get m.items.items j) (eq-eqb j j refl)) ∙ e)
+    went (slice_get m.items j)
+    (sym (cs.items j ∙ ap (λ t. if t then option_map (λ x. changed x ch to) (slice_get m.items j) else slice_get m.items j) (eq-eqb j j refl)) ∙ e)
   where
     went : (o : Option ItemView) → option_map (λ x. changed x ch to) o ≡ Some it → it.line ≡ to
     went (Some x) q = sym (ap (line_or to) q)

@@ -1,12 +1,12 @@
 -- What a work-item wants, by its line.
-use Rattle.std.proofs.Common.{◌≡◌, ◌∙◌, ℕ, ◌+◌, Option, Some, None, sym, ap}
-use Rattle.std.specs.Prelude.{slice_get}
+use Rattle.std.proofs.Common.{◌≡◌, ◌∙◌, ℕ, ◌+◌, Option, Some, None, refl, sym, ap}
+use Rattle.std.specs.Prelude.{option_map, slice_get}
 use Rattle.kernel_tree.specs.Formula.{value}
 use Rattle.kernel_tree.specs.Launch.{ids_of}
 use Rattle.kernel_tree.specs.Tree.{formula_of}
 use Rattle.kernel_tree.specs.declared.tree.Array.{Array}
 use Rattle.kernel_tree.specs.declared.tree.Expr.{Expr}
-use Rattle.ndrange_machine.specs.declared.item.Change.TheVariants.{Sets}
+use Rattle.ndrange_machine.specs.declared.change.Change.TheVariants.{Sets}
 use Rattle.ndrange_machine.specs.declared.line.Line.{Line}
 use Rattle.ndrange_machine.specs.declared.line.Line.TheVariants.{Assign, Load, Store, Tail}
 use Rattle.ndrange_machine.specs.declared.machine.Machine.{Machine}
@@ -17,21 +17,23 @@ use Rattle.ndrange_machine.specs.Known.{variables}
 use Rattle.kernel_tree.specs.declared.events.Event.{Event}
 use Rattle.kernel_tree.specs.declared.events.Fault.{Fault}
 use Rattle.ndrange_machine.specs.Takes.{Advances, IsWanted, SameCore}
+use Rattle.ndrange_machine.proofs.Rows.{some_is}
 use Rattle.ndrange_machine.proofs.Telling.{same_stands}
 use Rattle.ndrange_machine.specs.Wants.{want_if, want_in, want_tail, wanted}
 
 -- the j-th work-item, which stands at this line
 pub record IsAtLine (m : Machine) (j : ℕ) (it : ItemView) (at : ℕ) (l : Line) : Type 0 where
-  pub item : slice_get m.items.items j ≡ Some it
+  pub item : slice_get m.items j ≡ Some it
   pub place : at ≡ it.line
   pub line : slice_get m.lines.items at ≡ Some l
 
-some_is : (x y : ItemView) → Some x ≡ Some y → x ≡ y
-some_is x y e = ap (out x) e
+-- the work-item whose line was told
+pub line_told : (m : Machine) (j at : ℕ) → Some at ≡ option_map (λ (it : ItemView). it.line) (slice_get m.items j) → (it : ItemView) × (slice_get m.items j ≡ Some it) × (at ≡ it.line)
+line_told m j at = told (slice_get m.items j)
   where
-    out : ItemView → Option ItemView → ItemView
-    out z (Some a) = a
-    out z None = z
+    told : (o : Option ItemView) → Some at ≡ option_map (λ (it : ItemView). it.line) o → (it : ItemView) × (o ≡ Some it) × (at ≡ it.line)
+    told (Some it) e = (it, refl, some_is at it.line e)
+    told None e = absurd (let b : ⊥ = cc in b)
 
 wants : (m : Machine) (j : ℕ) (it : ItemView) (at : ℕ) (l : Line) (w : Want) → IsAtLine m j it at l → w ≡ want_in m.lines.items (ids_of m.launch j) at it.turns it.vars (Some l) → IsWanted m j w
 wants m j it at l w h is = λ other e.

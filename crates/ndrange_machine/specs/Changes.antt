@@ -1,8 +1,8 @@
 -- What an event changes in its work-item.
 use Rattle.std.specs.Prelude.{ℕ, ◌-◌, List, [], ◌∷◌, ◌++◌, length, take, replicate, slice_set, nat_lt, if◌then◌else◌}
 use Rattle.kernel_tree.specs.Formula.{Vars, set_word, set_vector, spread}
-use Rattle.ndrange_machine.specs.declared.item.Change.{Change}
-use Rattle.ndrange_machine.specs.declared.item.Change.TheVariants.{Sets, SetsFour, Begins, Repeats, Leaves, Keeps}
+use Rattle.ndrange_machine.specs.declared.change.Change.{Change}
+use Rattle.ndrange_machine.specs.declared.change.Change.TheVariants.{Sets, SetsFour, Begins, Repeats, Leaves, Keeps}
 use Rattle.ndrange_machine.specs.declared.turn.Turn.{Turn}
 use Rattle.ndrange_machine.specs.ItemView.{ItemView}
 use Rattle.ndrange_machine.specs.Known.{four_of}

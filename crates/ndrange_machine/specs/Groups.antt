@@ -1,12 +1,13 @@
 -- What the machine tells and keeps of its work-groups.
-use Rattle.std.specs.Prelude.{◌≡◌, ◌≢◌, ◌↔◌, ℕ, ◌<◌, Bool, true, false, List, ◌∷◌, ◌++◌, [], slice_index_or, slice_set, IsTrue}
+use Rattle.std.specs.Prelude.{◌≡◌, ◌≢◌, ◌↔◌, ℕ, ◌<◌, Bool, true, false, List, ◌∷◌, ◌++◌, [], replicate, slice_get, slice_index_or, slice_set, IsTrue}
 use Rattle.kernel_tree.specs.declared.events.Event.{Event}
 use Rattle.kernel_tree.specs.declared.events.Event.TheVariants.{Step, Release}
 use Rattle.kernel_tree.specs.Code.{Kernel}
 use Rattle.kernel_tree.specs.Item.{Ends}
-use Rattle.kernel_tree.specs.Launch.{Launch, Cells, item_count, group_of, first_item}
+use Rattle.kernel_tree.specs.Launch.{Launch, Cells, item_count, group_count, group_of, first_item}
 use Rattle.kernel_tree.specs.Device.{Device, Fence, State, device_of, wants, CanStep, AllTogether, has_flag, is_flagged, after, run}
 use Rattle.kernel_tree.specs.Faults.{SomeDiverges}
+use Rattle.enabled_events.specs.Grids.{grid_of}
 use Rattle.enabled_events.specs.Listed.{Flags, AreFlags}
 use Rattle.race_marks.specs.Marked.{MarksTell}
 use Rattle.ndrange_machine.specs.declared.machine.Machine.{Machine}
@@ -15,8 +16,8 @@ use Rattle.ndrange_machine.specs.declared.want.Want.TheVariants.{Waits}
 use Rattle.ndrange_machine.specs.ItemView.{ItemView}
 use Rattle.ndrange_machine.specs.Known.{numbers}
 use Rattle.ndrange_machine.specs.Stands.{Holds}
-use Rattle.ndrange_machine.specs.declared.item.Change.TheVariants.{Keeps}
-use Rattle.ndrange_machine.specs.Takes.{Changes, IsGoing, SameCore}
+use Rattle.ndrange_machine.specs.declared.change.Change.TheVariants.{Keeps}
+use Rattle.ndrange_machine.specs.Takes.{Changes, IsGoing, SameCore, StandsAt, is_going}
 
 -- at one line, in turns of the same numbers
 abbrev pub SamePlace : ItemView → ItemView → Type 0
@@ -48,6 +49,12 @@ pub record Refreshed (d : Device) (s : State) (g : ℕ) (v w : Flags) : Type 0 w
 
 abbrev pub Refreshes : (m n : Machine) → (group : ℕ) → Type 0
 Refreshes m n g = (k : Kernel) (l : Launch) (c : Cells) (s : State) → Holds k l c m s → Refreshed (device_of k l c) s g m.ready n.ready
+
+-- each item stands at the first line, and the flags have it whether they can step from there
+pub record AtStart (m : Machine) (steps : Bool) : Type 0 where
+  pub stands : (j : ℕ) → StandsAt m j 0
+  pub going : steps ≡ is_going (slice_get m.lines.items 0)
+  pub ready : m.ready ≡ record { grid = grid_of m.launch; items = replicate (item_count m.launch) steps; groups = replicate (group_count m.launch) false }
 
 abbrev pub Begins : (m n : Machine) → Type 0
 Begins m n = (k : Kernel) (l : Launch) (c : Cells) (s : State) → Holds k l c m s → AreFlags (device_of k l c) s n.ready

@@ -1,4 +1,5 @@
 pub mod Changes
+pub mod Flat
 pub mod Groups
 pub mod ItemView
 pub mod Known

@@ -35,8 +35,8 @@ pub record Holds (k : Kernel) (l : Launch) (c : Cells) (m : Machine) (s : State)
   pub text : map text_of m.lines.items ≡ lines_at 0 k.code
   pub launch : m.launch ≡ l
   pub whole : IsWhole l
-  pub count : length m.items.items ≡ item_count l
-  pub items : (j : ℕ) (it : ItemView) → slice_get m.items.items j ≡ Some it → HoldsItem (lines_at 0 k.code) it (s.items j)
+  pub count : length m.items ≡ item_count l
+  pub items : (j : ℕ) (it : ItemView) → slice_get m.items j ≡ Some it → HoldsItem (lines_at 0 k.code) it (s.items j)
   pub there : (a : Array) (h i : ℕ) → h < homes l a → is_some (held m.memory (record { array = a; home = h; index = i })) ≡ nat_lt i (length_in k c a)
   pub cells : (d : Cell) (x : ℕ) → held m.memory d ≡ Some x → s.memory d ≡ x
   pub outs : length m.memory.outs.items ≡ length c.outs
@@ -49,7 +49,7 @@ pub record StandsFor (k : Kernel) (l : Launch) (c : Cells) (m : Machine) (es : L
   pub is_run : Run (device_of k l c) (start_state k c) es
   pub holds : Holds k l c m (state_after k l c es)
   pub flags : AreFlags (device_of k l c) (state_after k l c es) m.ready
-  pub vars : NoFailure (device_of k l c) (start_state k c) es → (j : ℕ) (it : ItemView) → slice_get m.items.items j ≡ Some it → it.vars ≡ ((state_after k l c es).items j).vars
+  pub vars : NoFailure (device_of k l c) (start_state k c) es → (j : ℕ) (it : ItemView) → slice_get m.items j ≡ Some it → it.vars ≡ ((state_after k l c es).items j).vars
   pub marks : IsFaultless (device_of k l c) (start_state k c) es → MarksTell (device_of k l c) (start_state k c) es m.marks
   pub steady : IsFaultless (device_of k l c) (start_state k c) es → SomeDiverges (device_of k l c) (state_after k l c es) → ⊥
 

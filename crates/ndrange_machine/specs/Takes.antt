@@ -11,8 +11,8 @@ use Rattle.kernel_tree.specs.Device.{Device, State, device_of, start_state, run,
 use Rattle.kernel_tree.specs.Faults.{FaultIs, IsFaultless}
 use Rattle.kernel_tree.specs.Seen.{IsSeen, LaneIs, seen_of}
 use Rattle.ndrange_machine.specs.declared.machine.Machine.{Machine}
-use Rattle.ndrange_machine.specs.declared.item.Change.{Change}
-use Rattle.ndrange_machine.specs.declared.item.Change.TheVariants.{Keeps}
+use Rattle.ndrange_machine.specs.declared.change.Change.{Change}
+use Rattle.ndrange_machine.specs.declared.change.Change.TheVariants.{Keeps}
 use Rattle.ndrange_machine.specs.declared.line.Line.{Line}
 use Rattle.ndrange_machine.specs.declared.line.Line.TheVariants.{Barrier}
 use Rattle.ndrange_machine.specs.declared.want.Want.{Want}
@@ -59,7 +59,7 @@ TellsAccess m e access = OfRuns m e (λ k l c es. access ≡ (seen_of (device_of
 
 -- this is what the j-th work-item wants
 abbrev pub IsWanted : Machine → (j : ℕ) → Want → Type 0
-IsWanted m j w = (it : ItemView) → slice_get m.items.items j ≡ Some it → w ≡ wanted m.lines.items (ids_of m.launch j) it
+IsWanted m j w = (it : ItemView) → slice_get m.items j ≡ Some it → w ≡ wanted m.lines.items (ids_of m.launch j) it
 
 abbrev pub is_barrier : Option Line → Bool
 is_barrier (Some (Barrier on_local on_global)) = true
@@ -71,22 +71,22 @@ is_going (Some l) = not (is_barrier (Some l))
 
 -- whether the j-th work-item has neither ended nor stands at a barrier
 abbrev pub IsGoing : Machine → (j : ℕ) → Bool → Type 0
-IsGoing m j b = (it : ItemView) → slice_get m.items.items j ≡ Some it → b ≡ is_going (slice_get m.lines.items it.line)
+IsGoing m j b = (it : ItemView) → slice_get m.items j ≡ Some it → b ≡ is_going (slice_get m.lines.items it.line)
 
 -- the j-th work-item stands at this line
 abbrev pub StandsAt : Machine → (j line : ℕ) → Type 0
-StandsAt m j line = (it : ItemView) → slice_get m.items.items j ≡ Some it → it.line ≡ line
+StandsAt m j line = (it : ItemView) → slice_get m.items j ≡ Some it → it.line ≡ line
 
 -- whether the j-th work-item stands at a barrier
 abbrev pub IsAtBarrier : Machine → (j : ℕ) → Bool → Type 0
-IsAtBarrier m j b = (it : ItemView) → slice_get m.items.items j ≡ Some it → b ≡ is_barrier (slice_get m.lines.items it.line)
+IsAtBarrier m j b = (it : ItemView) → slice_get m.items j ≡ Some it → b ≡ is_barrier (slice_get m.lines.items it.line)
 
 -- the same machine but for flags and marks
 pub record SameCore (m n : Machine) : Type 0 where
   pub lines : n.lines ≡ m.lines
   pub launch : n.launch ≡ m.launch
   pub memory : n.memory ≡ m.memory
-  pub items : n.items.items ≡ m.items.items
+  pub items : n.items ≡ m.items
 
 -- the fault of the event after which the machine is this one, where that has one
 abbrev pub told_if : (fails : Bool) → Machine → Option Fault
@@ -103,8 +103,8 @@ pub record Tells (m n : Machine) (fails : Bool) (fault : Option Fault) : Type 0 
 pub record Changes (m n : Machine) (j : ℕ) (c : Change) (line : ℕ) : Type 0 where
   pub lines : n.lines.items ≡ m.lines.items
   pub launch : n.launch ≡ m.launch
-  pub count : length n.items.items ≡ length m.items.items
-  pub items : (i : ℕ) → slice_get n.items.items i ≡ (if i == j then option_map (λ it. changed it c line) (slice_get m.items.items i) else slice_get m.items.items i)
+  pub count : length n.items ≡ length m.items
+  pub items : (i : ℕ) → slice_get n.items i ≡ (if i == j then option_map (λ it. changed it c line) (slice_get m.items i) else slice_get m.items i)
 
 -- a work-item past the barrier at which it stands, if it does
 abbrev pub past_want : ItemView → Want → ItemView
@@ -124,11 +124,11 @@ past m j it = past_want it (wanted m.lines.items (ids_of m.launch j) it)
 pub record Passes (m n : Machine) (moved : ℕ → Bool) : Type 0 where
   pub lines : n.lines.items ≡ m.lines.items
   pub launch : n.launch ≡ m.launch
-  pub count : length n.items.items ≡ length m.items.items
+  pub count : length n.items ≡ length m.items
   pub memory : n.memory ≡ m.memory
   pub marks : n.marks ≡ m.marks
   pub ready : n.ready ≡ m.ready
-  pub items : (i : ℕ) → slice_get n.items.items i ≡ (if moved i then option_map (past m i) (slice_get m.items.items i) else slice_get m.items.items i)
+  pub items : (i : ℕ) → slice_get n.items i ≡ (if moved i then option_map (past m i) (slice_get m.items i) else slice_get m.items i)
 
 abbrev pub PassesOne : (m n : Machine) → (j : ℕ) → Type 0
 PassesOne m n j = Passes m n (λ i. i == j)

@@ -7,7 +7,7 @@ use Rattle.kernel_tree.specs.declared.events.FaultKind.TheVariants.{ZeroDivisor,
 use Rattle.kernel_tree.specs.declared.tree.Stride.{Stride}
 use Rattle.ndrange_machine.specs.declared.line.Line.{Line}
 use Rattle.ndrange_machine.specs.declared.line.Line.TheVariants.{Assign, Load, Store, AssignFour, LoadFour, StoreFour, Test, Head, Tail, Barrier}
-use Rattle.ndrange_machine.specs.declared.item.Change.TheVariants.{Sets, SetsFour, Begins, Repeats, Leaves, Keeps}
+use Rattle.ndrange_machine.specs.declared.change.Change.TheVariants.{Sets, SetsFour, Begins, Repeats, Leaves, Keeps}
 use Rattle.ndrange_machine.specs.declared.turn.Turn.{Turn}
 use Rattle.ndrange_machine.specs.declared.want.Want.{Want}
 use Rattle.ndrange_machine.specs.declared.want.Want.TheVariants.{Ends, Waits, Fails, Changes, Reads, Writes, ReadsFour, WritesFour}

@@ -6,9 +6,10 @@
 //! work-items have ended, and what is seen of an event that is added to the run.
 #![tactic(auto)]
 
+mod change;
 mod four;
 mod ids;
-mod item;
+mod items;
 mod line;
 mod machine;
 mod memory;

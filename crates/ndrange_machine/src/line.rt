@@ -1,9 +1,10 @@
 //! The kernel's text, line by line.
 
-ghost use Rattle.std.specs.Prelude.{◌≡◌, ◌+◌, ◌<◌, ◌^◌, ◌++◌, map, length, IfOk, OnOk};
+ghost use Rattle.std.specs.Prelude.{◌≡◌, ◌+◌, ◌<◌, ◌^◌, ◌++◌, map, length, slice_get, IfOk, OnOk};
 ghost use Rattle.kernel_tree.specs.Code.{Code, End};
 ghost use Rattle.kernel_tree.specs.Tree.{before, code_then};
 ghost use Rattle.ndrange_machine.specs.Lines.{lines_at, depth, past_line};
+ghost use Rattle.ndrange_machine.specs.Takes.{is_going};
 ghost use Rattle.ndrange_machine.specs.Wants.{text_of, with_exit};
 
 use kernel_tree::tree::{Array, Expr, Lanes, Start, Stmt, Stride};
@@ -129,5 +130,16 @@ fn loops_past(line: &Line, inside: usize) -> usize
         Line::Head(..) => inside + 1,
         Line::Tail(_) => inside.saturating_sub(1),
         _ => inside,
+    }
+}
+
+/// Whether a work-item that stands at this line has neither ended nor stands at a barrier.
+#[inline(always)]
+pub fn steps_from(lines: &[Line], line: usize) -> bool
+    ensures { result ≡ is_going (slice_get lines.now line) }
+{
+    match lines.get(line) {
+        None | Some(Line::Barrier { .. }) => false,
+        _ => true,
     }
 }

@@ -22,10 +22,11 @@ ghost use Rattle.ndrange_machine.specs.Known.{AreGroups};
 ghost use Rattle.ndrange_machine.specs.Memory.{rows_of};
 ghost use Rattle.ndrange_machine.specs.declared.want.Want.TheVariants as want_form;
 
+use crate::change::Change;
 use crate::four::Four;
 use crate::ids::Ids;
-use crate::item::{Change, Item};
-use crate::line::{Line, depth_of, lines_of};
+use crate::items::Items;
+use crate::line::{Line, depth_of, lines_of, steps_from};
 use crate::memory::Memory;
 use crate::want::Want;
 use count_tree::steps::Steps;
@@ -48,7 +49,7 @@ pub struct Machine {
     lines: Vec<Line>,
     launch: Launch,
     memory: Memory,
-    items: Vec<Item>,
+    items: Items,
     groups: Vec<u16>,
     marks: CellMarks,
     ready: Ready,
@@ -66,7 +67,7 @@ pub struct Machine {
 impl Machine {
     ghost use Rattle.ndrange_machine.specs.Stands.{StandsFor, CountsEnabled, AreOutputs, enabled_count, state_after};
     ghost use Rattle.ndrange_machine.specs.Takes.{Advances, TellsAccess, Takes, Changes, PassesOne, PassesGroup, IsWanted, IsAtBarrier, IsGoing, SameCore, StandsAt, Tells, is_going, told_if};
-    ghost use Rattle.ndrange_machine.specs.Groups.{SamePlace, TellsTogether, TellsEnded, SetsFlag, Refreshes, Meets, Settles, Stops, Begins, MarksRelease};
+    ghost use Rattle.ndrange_machine.specs.Groups.{SamePlace, TellsTogether, TellsEnded, SetsFlag, Refreshes, Meets, Settles, Stops, AtStart, Begins, MarksRelease};
 
     /// The machine at the start of the kernel's run. All its memory is taken here.
     pub fn start(
@@ -91,9 +92,10 @@ impl Machine {
             local: launch.local,
         };
         let rest = cells.rest;
-        let stores = Stores::start(alloc, grid, cells, locals, privates)?;
         let lines = lines_of(alloc, body)?;
-        let items = items_at_start(
+        let steps = steps_from(&lines, 0);
+        let stores = Stores::start(alloc, grid, cells, locals, privates, steps)?;
+        let items = Items::start(
             alloc,
             grid.item_count(),
             depth_of(&lines),
@@ -117,7 +119,7 @@ impl Machine {
             ready,
             fault: None,
         };
-        machine.begin();
+        machine.begin(steps);
         Ok(machine)
     }
 
@@ -172,9 +174,8 @@ impl Machine {
             → StandsFor k l c self.now es
             → IsTrue result ↔ AllEnded (device_of k l c) (state_after k l c es) }
     {
-        let end = self.lines.len();
-        for item in &self.items {
-            if item.line() < end {
+        for item in 0..self.grid().item_count() {
+            if !self.has_ended(item) {
                 return false;
             }
         }
@@ -266,8 +267,8 @@ impl Machine {
     fn is_at_barrier(&self, item: u32) -> bool
         ensures { IsAtBarrier self.now item result }
     {
-        match self.items.get(item as usize) {
-            Some(it) => matches!(self.lines.get(it.line()), Some(Line::Barrier { .. })),
+        match self.items.line(item) {
+            Some(line) => matches!(self.lines.get(line), Some(Line::Barrier { .. })),
             None => false,
         }
     }
@@ -277,11 +278,8 @@ impl Machine {
     fn can_step(&self, item: u32) -> bool
         ensures { IsGoing self.now item result }
     {
-        match self.items.get(item as usize) {
-            Some(it) => match self.lines.get(it.line()) {
-                None | Some(Line::Barrier { .. }) => false,
-                _ => true,
-            },
+        match self.items.line(item) {
+            Some(line) => self.goes_on(line),
             None => false,
         }
     }
@@ -291,20 +289,19 @@ impl Machine {
     fn goes_on(&self, line: usize) -> bool
         ensures { result ≡ is_going (slice_get self.now.lines.items line) }
     {
-        match self.lines.get(line) {
-            None | Some(Line::Barrier { .. }) => false,
-            _ => true,
-        }
+        steps_from(&self.lines, line)
     }
 
     // Whether the two work-items stand at one place, in turns of the same numbers.
     fn stand_together(&self, one: u32, other: u32) -> bool
-        ensures { (a b : ItemView) → slice_get self.now.items.items one ≡ Some a
-            → slice_get self.now.items.items other ≡ Some b → IsTrue result ↔ SamePlace a b }
+        ensures { (a b : ItemView) → slice_get self.now.items one ≡ Some a
+            → slice_get self.now.items other ≡ Some b → IsTrue result ↔ SamePlace a b }
     {
-        match (self.items.get(one as usize), self.items.get(other as usize)) {
-            (Some(a), Some(b)) => a.stands_with(b),
-            _ => true,
+        let count = self.items.count();
+        if (one as usize) < count && (other as usize) < count {
+            self.items.stand_together(one, other)
+        } else {
+            true
         }
     }
 
@@ -342,11 +339,11 @@ impl Machine {
 
     // Whether the work-item of this number has ended.
     fn has_ended(&self, item: u32) -> bool
-        ensures { (it : ItemView) → slice_get self.now.items.items item ≡ Some it
+        ensures { (it : ItemView) → slice_get self.now.items item ≡ Some it
             → IsTrue result ↔ length self.now.lines.items ≤ it.line }
     {
-        match self.items.get(item as usize) {
-            Some(it) => self.lines.len() <= it.line(),
+        match self.items.line(item) {
+            Some(line) => self.lines.len() <= line,
             None => true,
         }
     }
@@ -355,13 +352,15 @@ impl Machine {
     fn want(&self, item: u32) -> Want
         ensures { IsWanted self.now item result }
     {
-        match self.items.get(item as usize) {
-            Some(it) => it.want(
+        if (item as usize) < self.items.count() {
+            self.items.want(
+                item,
                 &self.lines,
                 Ids::of_item(&self.launch, item),
                 &self.launch.sizes,
-            ),
-            None => Want::Ends,
+            )
+        } else {
+            Want::Ends
         }
     }
 
@@ -415,12 +414,17 @@ impl Machine {
         self.ready.set_group(group, together);
     }
 
-    // Sets which events are enabled at the start.
-    fn begin(&mut self)
+    // Sets which events are enabled at the start, where the flags have it that all work-items can step,
+    // or none of them. Where all can step, they are right as they are.
+    fn begin(&mut self, steps: bool)
+        requires { AtStart self.old steps }
         ensures core { SameCore self.old self.new }
         ensures marks { self.new.marks ≡ self.old.marks }
         ensures flags { Begins self.old self.new }
     {
+        if steps {
+            return;
+        }
         for group in 0..self.grid().group_count() {
             self.refresh(group);
         }
@@ -498,48 +502,43 @@ impl Machine {
         requires { item < seen.item_count self.old.launch }
         ensures { Advances self.old (event_form.Step item) self.new (told_if result self.new) }
     {
-        match self.items.get(item as usize) {
-            Some(it) => {
-                let at = it.line();
-                match self.lines.get(at) {
-                    Some(Line::Assign(v, e)) => match it.value(&self.launch, item, e) {
-                        Some(word) => {
-                            let v = *v;
-                            self.keep(item, Change::Sets(v, word), at + 1)
-                        }
-                        None => self.take(item),
-                    },
-                    Some(Line::Load(v, array, i)) => match it.value(&self.launch, item, i) {
-                        Some(index) => {
-                            let v = *v;
-                            let array = *array;
-                            self.load(item, v, array, index, at + 1)
-                        }
-                        None => self.take(item),
-                    },
-                    Some(Line::Store(array, i, e)) => match it.value(&self.launch, item, i) {
-                        Some(index) => match it.value(&self.launch, item, e) {
-                            Some(word) => {
-                                let array = *array;
-                                self.store(item, array, index, word, at + 1)
-                            }
-                            None => self.take(item),
-                        },
-                        None => self.take(item),
-                    },
-                    Some(Line::Tail(head)) => match it.want_back(
-                        &self.lines,
-                        &self.launch,
-                        item,
-                        *head,
-                    ) {
-                        Want::Changes(change, line) => self.keep(item, change, line),
-                        _ => self.take(item),
-                    },
-                    Some(_) => self.take(item),
+        match self.items.line(item) {
+            Some(at) => match self.lines.get(at) {
+                Some(Line::Assign(v, e)) => match self.items.value(item, &self.launch, e) {
+                    Some(word) => {
+                        let v = *v;
+                        self.keep(item, Change::Sets(v, word), at + 1)
+                    }
                     None => self.take(item),
-                }
-            }
+                },
+                Some(Line::Load(v, array, i)) => match self.items.value(item, &self.launch, i) {
+                    Some(index) => {
+                        let v = *v;
+                        let array = *array;
+                        self.load(item, v, array, index, at + 1)
+                    }
+                    None => self.take(item),
+                },
+                Some(Line::Store(array, i, e)) => match self.items.value(item, &self.launch, i) {
+                    Some(index) => match self.items.value(item, &self.launch, e) {
+                        Some(word) => {
+                            let array = *array;
+                            self.store(item, array, index, word, at + 1)
+                        }
+                        None => self.take(item),
+                    },
+                    None => self.take(item),
+                },
+                Some(Line::Tail(head)) => match self
+                    .items
+                    .want_back(item, &self.lines, &self.launch, *head)
+                {
+                    Want::Changes(change, line) => self.keep(item, change, line),
+                    _ => self.take(item),
+                },
+                Some(_) => self.take(item),
+                None => self.take(item),
+            },
             None => self.take(item),
         }
     }
@@ -834,10 +833,7 @@ impl Machine {
         ensures marks { self.new.marks ≡ self.old.marks }
         ensures ready { self.new.ready ≡ self.old.ready }
     {
-        let place = item as usize;
-        if place < self.items.len() {
-            self.items[place].change(change, line);
-        }
+        self.items.change(item, change, line);
     }
 }
 
@@ -849,13 +845,15 @@ struct Stores {
 }
 
 impl Stores {
-    // With these cells at the start, and local and private arrays of these lengths.
+    // With these cells at the start, local and private arrays of these lengths, and work-items that
+    // can all step, or none of them.
     fn start(
         alloc: Global,
         grid: Grid,
         cells: Cells,
         locals: Vec<u32>,
         privates: Vec<u32>,
+        steps: bool,
     ) -> Result<Stores, AllocError>
         requires { IsSmall grid }
         ensures ins { IfOk result (λ s. rows_of s.memory.ins.items ≡ cells.ins) }
@@ -873,13 +871,13 @@ impl Stores {
             (seen.group_count (laid grid)) s.tables.marks) }
         ensures ready { IfOk result (λ s. s.tables.ready ≡ record {
           grid = grid;
-          items = replicate (seen.item_count (laid grid)) false;
+          items = replicate (seen.item_count (laid grid)) steps;
           groups = replicate (seen.group_count (laid grid)) false;
         }) }
     {
         let Cells { ins, outs, rest } = cells;
         let memory = Memory::start(alloc, grid, ins, outs, &locals, &privates, rest)?;
-        let tables = Tables::start(alloc, grid, &memory.outs, &locals)?;
+        let tables = Tables::start(alloc, grid, &memory.outs, &locals, steps)?;
         Ok(Stores { memory, tables })
     }
 }
@@ -894,13 +892,14 @@ struct Tables {
 }
 
 impl Tables {
-    // Of outputs with these cells and local arrays of these lengths, where nothing was touched and
-    // nothing is enabled.
+    // Of outputs with these cells and local arrays of these lengths, where nothing was touched, no
+    // group may be released, and all work-items can step, or none of them.
     fn start(
         alloc: Global,
         grid: Grid,
         outs: &[Vec<u32>],
         locals: &[u32],
+        steps: bool,
     ) -> Result<Tables, AllocError>
         requires { IsSmall grid }
         ensures groups { IfOk result
@@ -910,7 +909,7 @@ impl Tables {
             (seen.group_count (laid grid)) t.marks) }
         ensures ready { IfOk result (λ t. t.ready ≡ record {
           grid = grid;
-          items = replicate (seen.item_count (laid grid)) false;
+          items = replicate (seen.item_count (laid grid)) steps;
           groups = replicate (seen.group_count (laid grid)) false;
         }) }
     {
@@ -919,8 +918,24 @@ impl Tables {
         Ok(Tables {
             groups,
             marks,
-            ready: Ready::new(alloc, grid)?,
+            ready: ready_at_start(alloc, grid, steps)?,
         })
+    }
+}
+
+// The flags of the work-items of a grid that can all step, or none of them.
+fn ready_at_start(alloc: Global, grid: Grid, steps: bool) -> Result<Ready, AllocError>
+    requires { IsSmall grid }
+    ensures { IfOk result (λ r. r ≡ record {
+      grid = grid;
+      items = replicate (seen.item_count (laid grid)) steps;
+      groups = replicate (seen.group_count (laid grid)) false;
+    }) }
+{
+    if steps {
+        Ready::all_stepping(alloc, grid)
+    } else {
+        Ready::new(alloc, grid)
     }
 }
 
@@ -934,25 +949,6 @@ fn groups_of_items(alloc: Global, grid: Grid) -> Result<Vec<u16>, AllocError>
         groups.push(grid.group_of(item) as u16)?;
     }
     Ok(groups)
-}
-
-// So many work-items at the first line.
-fn items_at_start(
-    alloc: Global,
-    count: u32,
-    depth: usize,
-    variables: u32,
-    vectors: u32,
-    word: u32,
-) -> Result<Vec<Item>, AllocError>
-    ensures { IfOk result
-        (λ items. items.items ≡ replicate count (start_view depth variables vectors word)) }
-{
-    let mut items = Vec::new(alloc);
-    for _ in 0..count {
-        items.push(Item::start(alloc, depth, variables, vectors, word)?)?;
-    }
-    Ok(items)
 }
 
 // The cell as it is seen; a private array's isn't.

@@ -5,9 +5,9 @@ ghost use Rattle.ndrange_machine.specs.Known.{known, vars_of};
 ghost use Rattle.ndrange_machine.specs.Wants.{want_head, want_tail, want_test, want_line};
 ghost use Rattle.kernel_tree.specs.Tree.{formula_of, start_of};
 
+use crate::change::Change;
 use crate::four::Four;
 use crate::ids::Ids;
-use crate::item::Change;
 use crate::line::Line;
 use crate::turn::Turn;
 use crate::value::{bound_of, lanes_value_of, value_of};

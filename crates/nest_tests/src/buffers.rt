@@ -139,7 +139,8 @@ fn the_limit_that_is_passed_is_told(rt: HostRuntime) -> Result<(), Fail> {
     Ok(())
 }
 
-// The layouts of a term that has pads: the text before them, their number, the term in them, the text behind, a script, and the count where it is above 24.
+// The layouts of a term that has pads: the text before them, their number, the term in them, the
+// text behind, a script, and the count where it is above 24.
 const LAYOUTS: [(&str, u32, &str, &str, &str, Option<u64>); 12] = [
     ("map(\\x. x, ", 24, "xs", ")", "at . to-seq", None),
     ("map(\\x. x, ", 25, "xs", ")", "at . to-seq", Some(25)),

@@ -1,9 +1,8 @@
 //! Nests that are legal or not, and the address spaces of legal ones.
 
-ghost use Rattle.lowered_tree.specs.Kinds.{IsLocalSize};
-
 use crate::lowering::lowered_last;
 use address_spaces::spaces;
+use lift_tree::local_size::LocalSize;
 use lowered_tree::around::AddressSpace;
 use lowered_tree::kind::{NestKind, nest_kind};
 use lowered_tree::lowered::Mapped;
@@ -38,7 +37,8 @@ const TILED: &str =
 const SUMMED: &str =
     "at . split-reduce 2\nat . reduce-fold\nat 0.0.1 reduce-fold\nat 0.0.1 fold-seq\nat 0.0 to-seq\nat 0 private\nat . fold-seq";
 
-// A program, a script, and the first node at which a rule is broken: its place in digits, and the rule.
+// A program, a script, and the first node at which a rule is broken: its place in digits, and the
+// rule.
 const BROKEN: [(&str, &str, &str, NestRule); 23] = [
     (ADDED, "", "", NestRule::N1),
     (ADDED, "at . to-lcl", "", NestRule::N2),
@@ -122,7 +122,8 @@ const BROKEN: [(&str, &str, &str, NestRule); 23] = [
     ),
 ];
 
-// A program, a script, and the spaces of its last term's computing nodes in preorder: global, local or private.
+// A program, a script, and the spaces of its last term's computing nodes in preorder: global, local
+// or private.
 const LEGAL: [(&str, &str, &str); 10] = [
     (ADDED, "at . to-seq", "gg"),
     (ADDED, "at . to-glb", "gg"),
@@ -208,12 +209,10 @@ fn judged(
 }
 
 // The number, where groups may have that size.
-fn size_of_groups(number: Option<u32>) -> Option<u32>
-    ensures { IsLocalSize result }
-{
+fn size_of_groups(number: Option<u32>) -> Option<LocalSize> {
     match number {
-        Some(size) if 1 <= size && size <= 256 => Some(size),
-        _ => None,
+        Some(size) => LocalSize::new(size),
+        None => None,
     }
 }
 

@@ -4,10 +4,11 @@ use Rattle.std.proofs.lemmas.Bool.{lt-ltb, le-leb}
 use Rattle.kernel_tree.specs.Code.{Output, End}
 use Rattle.kernel_tree.specs.Grammar.{is_group_size, largest_group}
 use Rattle.lift_tree.specs.Annotations.{type_in}
+use Rattle.lift_tree.specs.LocalSizes.{IsLocalSize}
 use Rattle.lift_ir.specs.AtLaunch.{shape_of}
 use Rattle.printed_form.specs.Views.{placed_view}
 use Rattle.printed_form.specs.Printer.{no_view}
-use Rattle.printed_form.specs.Programs.{lowered_root, row_of, IsGroupSize, printed_kernel}
+use Rattle.printed_form.specs.Programs.{lowered_root, row_of, printed_kernel}
 use Rattle.printed_form.proofs.Lengths.{counted}
 use Rattle.printed_form.specs.KernelGrammar.{KernelsAreOfTheGrammar}
 use Rattle.printed_form.specs.GrammarPieces.{CanBePrinted}
@@ -16,7 +17,7 @@ use Rattle.printed_form.proofs.GrammarViews.{blank_good}
 use Rattle.printed_form.proofs.GrammarPieces.{terms_printed}
 
 -- groups of a size that can be fixed are such as the grammar has
-pub is_size : (local : Option ℕ) → IsGroupSize local → is_group_size (row_of local) ≡ true
+pub is_size : (local : Option ℕ) → IsLocalSize local → is_group_size (row_of local) ≡ true
 is_size None h = refl
 is_size (Some size) h =
     let few : size * 1 ≤ largest_group = omega arith in

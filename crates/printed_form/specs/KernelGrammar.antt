@@ -3,13 +3,14 @@ use Rattle.std.specs.Prelude.{◌≡◌, ℕ, ◌+◌, ◌*◌, ◌<◌, ◌≤�
 use Rattle.size_arith.specs.declared.poly.Monomial.{Monomial}
 use Rattle.lift_tree.specs.Tree.{Tree}
 use Rattle.lift_tree.specs.Annotations.{Annotation, type_in}
+use Rattle.lift_tree.specs.LocalSizes.{IsLocalSize}
 use Rattle.lift_tree.specs.Typing.{Declared}
 use Rattle.kernel_tree.specs.Formula.{Formula}
 use Rattle.kernel_tree.specs.Code.{Kernel}
 use Rattle.kernel_tree.specs.Grammar.{is_kernel}
 use Rattle.lift_ir.specs.Terms.{Term}
 use Rattle.lift_ir.specs.AtLaunch.{shape_of}
-use Rattle.printed_form.specs.Programs.{input_shape, lowered_root, IsGroupSize, printed_kernel}
+use Rattle.printed_form.specs.Programs.{input_shape, lowered_root, printed_kernel}
 use Rattle.printed_form.specs.Sound.{IsSpelledIn, AllLengths, IsSound, IsWrittenWithin, dimensions, loop_depth, AreLow, CanBeWritten}
 
 -- an input that is declared, whose lengths are spelled in the grammar
@@ -31,7 +32,7 @@ IsSoundIn k spell high d t =
 -- the size that is fixed.
 pub record IsPrintedWithin (spell : List Monomial → Formula) (high most : ℕ) (d : Declared)
     (local : Option ℕ) (t : Tree) (a : Annotation) : Type 0 where
-  pub size : IsGroupSize local
+  pub size : IsLocalSize local
   pub some : 1 ≤ high
   pub fits : high + (8 + 3 * most) ≤ 1024
   pub written : CanBeWritten (lowered_root d.names t a)

@@ -12,7 +12,6 @@ use Rattle.lift_tree.specs.Meaning.{World, meaning}
 use Rattle.lift_tree.specs.Launches.{Asks, IsAdmissibleLaunch, buffers_of, lists_of}
 use Rattle.kernel_tree.specs.Formula.{Formula}
 use Rattle.kernel_tree.specs.Code.{Kernel}
-use Rattle.kernel_tree.specs.Grammar.{largest_group}
 use Rattle.kernel_tree.specs.Launch.{Launch, Cells, IsFlat, MayStart, item_count}
 use Rattle.kernel_tree.specs.Device.{State, device_of, IsStart}
 use Rattle.kernel_tree.specs.Alike.{GoesAlike}
@@ -54,10 +53,6 @@ lowered_root names t a = lower names Written t a
 abbrev pub row_of : Option ℕ → Option (ℕ × ℕ)
 row_of None = None
 row_of (Some size) = Some (size, 1)
-
--- a size that can be fixed
-abbrev pub IsGroupSize : Option ℕ → Type 0
-IsGroupSize local = IfSome local (λ size. (1 ≤ size) × (size ≤ largest_group))
 
 -- The kernel is printed for the typed term at a launch, where the base names have these values: it
 -- has a parameter for each component of each input, then of the output, then for each size; private

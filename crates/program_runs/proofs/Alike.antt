@@ -1,4 +1,5 @@
--- Kernels that are printed for one term go alike, and so the texts of one program's kernels run alike.
+-- Kernels that are printed for one term go alike, and so the texts of one program's kernels run
+-- alike.
 use Rattle.std.proofs.Common.{◌≡◌, ◌∙◌, Bool, true, false, ℕ, zero, suc, List, [], ◌∷◌, ◌++◌, Option, Some, None, Result, Ok, Err, length, map, replicate, refl, sym, ap, ap₂, subst, arith, append_assoc}
 use Rattle.std.proofs.lemmas.Option.{none-some}
 use Rattle.kernel_tree.specs.Alike.{GoesAlike}

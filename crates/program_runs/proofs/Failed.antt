@@ -8,7 +8,7 @@ use Rattle.fault_lines.specs.declared.failure.Failure as code
 use Rattle.fault_lines.specs.declared.refusal.Refusal.{Refusal}
 use Rattle.program_source.specs.Ends.{FailsFor, HasOneEnd, OnSource}
 use Rattle.program_source.specs.Program.{OnProgram, StopsFor}
-use Rattle.stages.specs.Stages.{As, Then}
+use Rattle.stages.specs.Stages.{As, Passed, Then}
 
 -- what stops a program and a script stops a call for them
 pub source_fails : {A B : Type 0} (text : List ℕ) (S : PlainProgram → Result A Refusal → Type 0) (R : PlainProgram → A → Result B Failure → Type 0) (why : Refusal)
@@ -17,7 +17,14 @@ source_fails text S R why (inl memory) = inl (ap source_failed memory)
 source_fails text S R why (inr (inl (e, h, is))) = inr (inl (e, h, ap source_failed is))
 source_fails text S R why (inr (inr (p, read, h))) = inr (inr (p, read, inl (why, h, refl)))
 
-module _ {A : Type 0} (text : List ℕ) (S : PlainProgram → Result A Failure → Type 0) (ends : HasOneEnd text S) where
+-- where that is all of a command's stages, it stops these
+pub source_stops : {A : Type 0} (text : List ℕ) (S : PlainProgram → Result A Refusal → Type 0) (why : Refusal)
+    → StopsFor (OnProgram text S) why → FailsFor (OnSource text (λ p. Passed (As source_failed (S p)))) (source_failed why)
+source_stops text S why (inl memory) = inl (ap source_failed memory)
+source_stops text S why (inr (inl (e, h, is))) = inr (inl (e, h, ap source_failed is))
+source_stops text S why (inr (inr (p, read, h))) = inr (inr (p, read, (why, h, refl)))
+
+module _ {A : Type 0} (text : List ℕ) (S : PlainProgram → Result A Failure → Type 0) (ends : HasOneEnd text (λ p. Passed (S p))) where
   -- a failure for a cause is for just that cause
   pub failed_for : (e : Failure) → FailsFor (OnSource text S) e → (why : Failure) → OnSource text S (Err why) → (e ≡ why) ⊎ (e ≡ Memory)
   failed_for e (inl memory) why cause = inr memory

@@ -1,9 +1,12 @@
 pub mod Admitted
 pub mod Buffers
+pub mod Commands
 pub mod Failed
+pub mod InOrder
 pub mod LaidOut
 pub mod Once
 pub mod Running
 pub mod Stopped
+pub mod Turns
 pub mod Unrefused
 pub mod Alike

@@ -1,5 +1,5 @@
--- Runs and evaluations come to one end.
-use Rattle.std.proofs.Common.{◌≡◌, ◌∙◌, ℕ, List, ap, sym, subst, refl, arith, inl, inr, None, Result, Ok, Err}
+-- The stages of each command come to one end.
+use Rattle.std.proofs.Common.{◌≡◌, ◌∙◌, ℕ, List, ap, map, sym, subst, refl, arith, inl, inr, None, Result, Ok, Err}
 use Rattle.std.proofs.lemmas.Option.{none-some, same_Some}
 use Rattle.lift_reader.specs.ProgramText.{IsProgramText, first_limit}
 use Rattle.lift_reader.specs.declared.refusal.ReadRefusal.TheVariants as readings
@@ -7,7 +7,8 @@ use Rattle.lift_tree.specs.Limits.{HasProperInputs}
 use Rattle.lift_tree.specs.Programs.{PlainProgram}
 use Rattle.lowered_tree.specs.Kinds.{is_task}
 use Rattle.launch_file.specs.Judged as launches
-use Rattle.launch_file.specs.Laws.{FilesAreNotRefused, FilesGiveOneThing}
+use Rattle.launch_file.specs.Laws.{FilesAreNotRefused, FilesGiveOneThing, StagesFilesAreNotRefused, StagesFilesGiveOneThing}
+use Rattle.launch_file.specs.Stages as in_order
 use Rattle.launch_file.specs.declared.file.Ask.{Ask}
 use Rattle.launch_file.specs.declared.file.Ask.TheVariants as asks
 use Rattle.launch_file.specs.declared.refusal.LaunchNo.{LaunchNo}
@@ -15,27 +16,34 @@ use Rattle.launch_file.specs.declared.refusal.LaunchNo.TheVariants as no
 use Rattle.pattern_types.specs.declared.refusal.TypeRefusal.TheVariants as typings
 use Rattle.strategy_script.specs.declared.faults.StepNo.TheVariants as stops
 use Rattle.strategy_script.specs.declared.script.ScriptNo.TheVariants as scripts
+use Rattle.kernel_sequence.specs.declared.no.CutNo.TheVariants as cuts
 use Rattle.thread_mapping.specs.declared.judging.NestNo.TheVariants as nests
 use Rattle.buffer_allocation.specs.declared.buffers.AllocNo.TheVariants as allocations
 use Rattle.fault_lines.specs.Failure.{Failure, HidesNoMemory, launch_failed, source_failed}
 use Rattle.fault_lines.specs.declared.refusal.Refusal.{Refusal}
 use Rattle.fault_lines.specs.declared.refusal.Refusal.TheVariants as told
 use Rattle.strategy_script.specs.LocalSize.{local_fixed}
-use Rattle.stages.specs.Stages.{As, IsOne}
-use Rattle.stages.proofs.One.{as_one, err_same, then_one}
+use Rattle.stages.specs.Stages.{As, Gives, IsOne, Passed}
+use Rattle.stages.proofs.One.{as_one, err_same, gives_one, then_one}
 use Rattle.program_source.specs.Ends.{Accepts, HasOneEnd, OnSource}
 use Rattle.program_source.specs.Laws.{SourcesEndOnce, TypedProgramsAreProper}
 use Rattle.program_source.specs.Program.{IsRead, ReadsProgram, TypesOf}
 use Rattle.program_source.specs.Terms.{TermsOf}
-use Rattle.compilation.specs.Laws.{CompilationEndsOnce}
+use Rattle.compilation.specs.Laws.{CompilationEndsOnce, SequencesEndOnce}
 use Rattle.compilation.specs.Legal.{LegalOf}
-use Rattle.program_runs.specs.Started.{EvalOf, LaunchOf, RunOf}
+use Rattle.compilation.specs.Sequence.{SequenceOf, outline_in}
+use Rattle.program_runs.specs.Started.{EvalOf, LaunchOf, LaunchesOf, RunOf, RunStagesOf, asks_in_order}
+use Rattle.program_runs.specs.Table.{stages_of, text_at}
+use Rattle.program_runs.specs.declared.command.Command.{Command}
+use Rattle.program_runs.specs.declared.command.Command.TheVariants.{Compile, Run, Eval, Steps, Stages, RunStages, Demo}
 
 -- what is known of programs that are typed, and of their launch files
 pub record LaunchLaws : Type 0 where
   pub proper : TypedProgramsAreProper
   pub refused : FilesAreNotRefused
   pub one : FilesGiveOneThing
+  pub refused_in_order : StagesFilesAreNotRefused
+  pub one_in_order : StagesFilesGiveOneThing
 
 launch_one : FilesAreNotRefused → FilesGiveOneThing → (p : PlainProgram) (ask : Ask) (launch : List ℕ) → HasProperInputs p → IsOne (LaunchOf p ask launch)
 launch_one well one p ask launch proper (Ok g) (Ok h) a b = ap Ok (one p ask launch g h proper a b)
@@ -51,6 +59,22 @@ run_one : CompilationEndsOnce → LaunchLaws → (text : List ℕ) (p : PlainPro
 run_one compiled laws text p script launch read =
     then_one _ _ (as_one source_failed (LegalOf p script) (compiled p script)) (λ last is.
     as_one (launch_failed p) (LaunchOf p (asks.Run (is_task last.tree) (local_fixed script)) launch) (launch_one laws.refused laws.one p (asks.Run (is_task last.tree) (local_fixed script)) launch (laws.proper text p is.1.0 read is.1.1)))
+
+launches_one : StagesFilesAreNotRefused → StagesFilesGiveOneThing → (p : PlainProgram) (asks : List Ask) (launch : List ℕ) → HasProperInputs p → IsOne (LaunchesOf p asks launch)
+launches_one well one p asks launch proper (Ok g) (Ok h) a b = ap Ok (one p asks launch g h proper a b)
+launches_one well one p asks launch proper (Ok g) (Err e) a b = absurd (well p asks launch g e proper a b)
+launches_one well one p asks launch proper (Err e) (Ok g) a b = absurd (well p asks launch g e proper b a)
+launches_one well one p asks launch proper (Err e) (Err f) (inl a) (inl b) = ap Err (a.1 ∙ sym b.1)
+launches_one well one p asks launch proper (Err e) (Err f) (inl a) (inr b) = absurd (a.0 b.0 b.1)
+launches_one well one p asks launch proper (Err e) (Err f) (inr a) (inl b) = absurd (b.0 a.0 a.1)
+launches_one well one p asks launch proper (Err e) (Err f) (inr a) (inr b) =
+    sym a.2 ∙ ap (in_order.stages_judged p asks) (same_Some a.0 b.0 (sym a.1.1 ∙ b.1.1)) ∙ b.2
+
+run_stages_one : SequencesEndOnce → LaunchLaws → (text : List ℕ) (p : PlainProgram) (script launch : List ℕ) → IsRead text p → IsOne (RunStagesOf p script launch)
+run_stages_one compiled laws text p script launch read =
+    then_one _ _ (as_one source_failed (SequenceOf p script) (compiled p script)) (λ parts made.
+    as_one (launch_failed p) (LaunchesOf p (asks_in_order (map outline_in parts) (local_fixed script)) launch)
+    (launches_one laws.refused_in_order laws.one_in_order p (asks_in_order (map outline_in parts) (local_fixed script)) launch (laws.proper text p made.1.0 read made.1.1)))
 
 eval_one : SourcesEndOnce → LaunchLaws → (text : List ℕ) (p : PlainProgram) (launch : List ℕ) → IsRead text p → IsOne (EvalOf p launch)
 eval_one sources laws text p launch read =
@@ -76,6 +100,9 @@ refusal_whole (told.Nest (nests.Nest place rule)) = λ e. absurd (omega (arith, 
 refusal_whole (told.Nest nests.Memory) = λ e. refl
 refusal_whole (told.Alloc (allocations.Limit which count)) = λ e. absurd (omega (arith, e))
 refusal_whole (told.Alloc allocations.Memory) = λ e. refl
+refusal_whole (told.Cut (cuts.Nest place rule)) = λ e. absurd (omega (arith, e))
+refusal_whole (told.Cut (cuts.Limit count)) = λ e. absurd (omega (arith, e))
+refusal_whole (told.Cut cuts.Memory) = λ e. refl
 refusal_whole told.Memory = λ e. refl
 
 launch_whole : (p : PlainProgram) (why : LaunchNo) → HidesNoMemory (launch_failed p why)
@@ -97,6 +124,10 @@ source_whole R p f (why, h, is) = told_whole f why is
 run_whole : (script launch : List ℕ) (p : PlainProgram) (f : Failure) → RunOf p script launch (Err f) → HidesNoMemory f
 run_whole script launch p f (inl (why, h, is)) = told_whole f why is
 run_whole script launch p f (inr (last, legal, (why, h, is))) = subst HidesNoMemory (sym is) (launch_whole p why)
+
+run_stages_whole : (script launch : List ℕ) (p : PlainProgram) (f : Failure) → RunStagesOf p script launch (Err f) → HidesNoMemory f
+run_stages_whole script launch p f (inl (why, h, is)) = told_whole f why is
+run_stages_whole script launch p f (inr (parts, made, (why, h, is))) = subst HidesNoMemory (sym is) (launch_whole p why)
 
 eval_whole : (launch : List ℕ) (p : PlainProgram) (f : Failure) → EvalOf p launch (Err f) → HidesNoMemory f
 eval_whole launch p f (inl (why, h, is)) = told_whole f why is
@@ -130,14 +161,38 @@ one_end sources text S each whole =
     let one : IsOne (OnSource text S) = then_one _ S (as_one (λ why. source_failed (told.Program why)) (ReadsProgram text) (sources.read text)) each in
     record { cause = one_cause text S one; none = no_cause text S one; whole = all_whole text S whole }
 
-pub terms_end : SourcesEndOnce → (program script : List ℕ) → HasOneEnd program (λ p. As source_failed (TermsOf p script))
+-- ---- commands
+
+-- a stage of which it is told only that it passes comes to the same end
+passed_end : {A : Type 0} (text : List ℕ) (S : PlainProgram → Result A Failure → Type 0) → HasOneEnd text S → HasOneEnd text (λ p. Passed (S p))
+passed_end text S end = record { cause = end.cause; none = λ f ok. end.none f (ok.0, ok.1, ok.2, ok.3.1); whole = end.whole }
+
+terms_end : SourcesEndOnce → (program script : List ℕ) → HasOneEnd program (λ p. As source_failed (TermsOf p script))
 terms_end sources program script = one_end sources program (λ p. As source_failed (TermsOf p script)) (λ p read. as_one source_failed (TermsOf p script) (sources.terms p script)) (source_whole (λ p. TermsOf p script))
 
-pub kernel_end : SourcesEndOnce → CompilationEndsOnce → (program script : List ℕ) → HasOneEnd program (λ p. As source_failed (LegalOf p script))
+kernel_end : SourcesEndOnce → CompilationEndsOnce → (program script : List ℕ) → HasOneEnd program (λ p. As source_failed (LegalOf p script))
 kernel_end sources compiled program script = one_end sources program (λ p. As source_failed (LegalOf p script)) (λ p read. as_one source_failed (LegalOf p script) (compiled p script)) (source_whole (λ p. LegalOf p script))
 
-pub run_end : SourcesEndOnce → CompilationEndsOnce → LaunchLaws → (program script launch : List ℕ) → HasOneEnd program (λ p. RunOf p script launch)
+run_end : SourcesEndOnce → CompilationEndsOnce → LaunchLaws → (program script launch : List ℕ) → HasOneEnd program (λ p. RunOf p script launch)
 run_end sources compiled laws program script launch = one_end sources program (λ p. RunOf p script launch) (λ p read. run_one compiled laws program p script launch read) (run_whole script launch)
 
-pub eval_end : SourcesEndOnce → LaunchLaws → (program launch : List ℕ) → HasOneEnd program (λ p. EvalOf p launch)
+eval_end : SourcesEndOnce → LaunchLaws → (program launch : List ℕ) → HasOneEnd program (λ p. EvalOf p launch)
 eval_end sources laws program launch = one_end sources program (λ p. EvalOf p launch) (λ p read. eval_one sources laws program p launch read) (eval_whole launch)
+
+stages_end : SourcesEndOnce → SequencesEndOnce → (program script : List ℕ) → HasOneEnd program (λ p. As source_failed (SequenceOf p script))
+stages_end sources compiled program script = one_end sources program (λ p. As source_failed (SequenceOf p script)) (λ p read. as_one source_failed (SequenceOf p script) (compiled p script)) (source_whole (λ p. SequenceOf p script))
+
+run_stages_end : SourcesEndOnce → SequencesEndOnce → LaunchLaws → (program script launch : List ℕ) → HasOneEnd program (λ p. RunStagesOf p script launch)
+run_stages_end sources compiled laws program script launch = one_end sources program (λ p. RunStagesOf p script launch) (λ p read. run_stages_one compiled laws program p script launch read) (run_stages_whole script launch)
+
+demo_end : SourcesEndOnce → (program : List ℕ) → HasOneEnd program (λ p. Gives (tt {0}))
+demo_end sources program = one_end sources program (λ p. Gives (tt {0})) (λ p read. gives_one (tt {0})) (λ p f h. absurd (cc (h)))
+
+pub commands_end : SourcesEndOnce → CompilationEndsOnce → SequencesEndOnce → LaunchLaws → (command : Command) (texts : List (List ℕ)) → HasOneEnd (text_at texts 0) (stages_of command texts)
+commands_end sources compiled sequences laws Compile texts = passed_end _ _ (kernel_end sources compiled (text_at texts 0) (text_at texts 1))
+commands_end sources compiled sequences laws (Run traced) texts = passed_end _ _ (run_end sources compiled laws (text_at texts 0) (text_at texts 1) (text_at texts 2))
+commands_end sources compiled sequences laws Eval texts = passed_end _ _ (eval_end sources laws (text_at texts 0) (text_at texts 1))
+commands_end sources compiled sequences laws Steps texts = passed_end _ _ (terms_end sources (text_at texts 0) (text_at texts 1))
+commands_end sources compiled sequences laws Stages texts = passed_end _ _ (stages_end sources sequences (text_at texts 0) (text_at texts 1))
+commands_end sources compiled sequences laws RunStages texts = passed_end _ _ (run_stages_end sources sequences laws (text_at texts 0) (text_at texts 1) (text_at texts 2))
+commands_end sources compiled sequences laws (Demo seed) texts = demo_end sources (text_at texts 0)

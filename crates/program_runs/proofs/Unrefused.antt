@@ -1,5 +1,5 @@
 -- No stage refuses the demo, and its launch is admissible.
-use Rattle.std.proofs.Common.{◌≡◌, ◌∙◌, ap, ap₂, sym, subst, refl, inl, inr, Bool, ℕ, List, Option, None, false, Ok, Err}
+use Rattle.std.proofs.Common.{◌≡◌, ◌∙◌, ap, ap₂, sym, subst, refl, inl, inr, Bool, ℕ, List, [], ◌∷◌, Option, None, false, Ok, Err}
 use Rattle.lift_tree.specs.Launches.{Asks}
 use Rattle.lift_tree.specs.Programs.{PlainProgram}
 use Rattle.lift_tree.specs.Types.{PlainTy}
@@ -23,7 +23,8 @@ use Rattle.compilation.specs.Laws.{CompilationEndsOnce}
 use Rattle.compilation.specs.Legal.{LegalOf}
 use Rattle.compilation.specs.Meets.{asks_with}
 use Rattle.program_runs.specs.Runs.{IsAdmissibleFor}
-use Rattle.program_runs.specs.Started.{StagesEndOnce}
+use Rattle.program_runs.specs.Table.{StagesEndOnce}
+use Rattle.program_runs.specs.declared.command.Command.TheVariants.{Compile}
 
 -- no local size is fixed
 no_size : DemoIsAccepted → None ≡ local_fixed script_text
@@ -43,7 +44,7 @@ stopped why (inr (p, read, h)) = inr (p, read, (why, h, refl))
 -- the demo is refused for want of memory alone
 pub refused_for_memory : StagesEndOnce → LegalWithoutFault → DemoIsAccepted → (why : Refusal) → StopsFor (OnProgram program_text (λ p. LegalOf p script_text)) why → why ≡ told.Memory
 refused_for_memory ends law d why (inl memory) = memory
-refused_for_memory ends law d why (inr h) = absurd ((ends.kernel program_text script_text).none (source_failed why) (demo_program, d.read, d.within, (d.last, compiles law d)) (stopped why h))
+refused_for_memory ends law d why (inr h) = absurd ((ends Compile (program_text ∷ script_text ∷ [])).none (source_failed why) (demo_program, d.read, d.within, (tt, (d.last, compiles law d))) (stopped why h))
 
 -- the demo's launch is admissible for what is compiled
 pub admitted : CompilationEndsOnce → LegalWithoutFault → DemoIsAccepted → DemosMayRun → (p : PlainProgram) (output : PlainTy) (asks : Asks) (text : List ℕ) (seed : ℕ) → IsCompiled program_text script_text p output asks text → IsAdmissibleFor p asks (demo_given seed)

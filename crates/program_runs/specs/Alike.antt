@@ -23,7 +23,8 @@ use Rattle.compilation.specs.Compiled.{IsCompiled, PrintsAs}
 use Rattle.program_runs.specs.Runs.{AreLinesOfText}
 use Rattle.program_runs.specs.Started.{AreRunLines}
 
--- any two kernels that are printed for one legal term, as its kind says, with one local size or none, go alike at one launch and
+-- any two kernels that are printed for one legal term, as its kind says, with one local size or
+-- none, go alike at one launch and
 -- from the same contents: the same events can come, with the same accesses, and each schedule makes
 -- the same run of both
 abbrev pub PrintedKernelsGoAlike : Type 0

@@ -13,7 +13,9 @@ use Rattle.program_source.specs.Program.{source_value}
 use Rattle.compilation.specs.Compiled.{IsCompiled}
 use Rattle.program_runs.specs.Runs.{RunsAsGiven, world_given}
 
--- The line is that of the run of the text on the demo's data: the text is a kernel's, whose run at the demo's launch leaves the source's value, and has so many events, so many of them releases; and the sum is that of the source's value.
+-- The line is that of the run of the text on the demo's data: the text is a kernel's, whose run at
+-- the demo's launch leaves the source's value, and has so many events, so many of them releases;
+-- and the sum is that of the source's value.
 pub record IsLineOfDemo (p : PlainProgram) (output : PlainTy) (text : List ℕ) (seed : ℕ) (line : List ℕ) : Type 0 where
   pub kernel : Kernel
   pub read : IsKernelText lift text kernel

@@ -1,4 +1,6 @@
 pub mod Alike
 pub mod Demo
 pub mod Runs
+pub mod Sequences
 pub mod Started
+pub mod Table

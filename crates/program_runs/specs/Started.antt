@@ -1,31 +1,33 @@
 -- What a run and an evaluation are started from.
-use Rattle.std.specs.Prelude.{◌≡◌, ℕ, List, Option, None, Bool, Result, Ok, Err}
+use Rattle.std.specs.Prelude.{◌≡◌, ℕ, List, Option, None, Bool, map, Result, Ok, Err}
 use Rattle.lift_tree.specs.Programs.{PlainProgram}
 use Rattle.lift_tree.specs.Types.{PlainTy}
 use Rattle.lowered_tree.specs.Kinds.{is_task}
 use Rattle.launch_file.specs.Judged.{Refuses}
 use Rattle.launch_file.specs.LaunchFile.{Given, IsLaunchFile}
 use Rattle.launch_file.specs.ResultLine.{result_line}
+use Rattle.launch_file.specs.Stages.{IsStagesFile, RefusesStages}
 use Rattle.launch_file.specs.declared.file.Ask.{Ask}
 use Rattle.launch_file.specs.declared.file.Ask.TheVariants.{Eval, Run}
 use Rattle.launch_file.specs.declared.refusal.LaunchNo.{LaunchNo}
 use Rattle.fault_lines.specs.Failure.{Failure, launch_failed, source_failed}
-use Rattle.program_source.specs.Ends.{HasOneEnd}
 use Rattle.program_source.specs.Program.{IsRead, TypesOf, source_value}
 use Rattle.stages.specs.Stages.{As, Then}
 use Rattle.strategy_script.specs.LocalSize.{local_fixed}
-use Rattle.program_source.specs.Terms.{TermsOf}
 use Rattle.compilation.specs.Compiled.{IsCompiled}
 use Rattle.compilation.specs.Legal.{LegalOf}
 use Rattle.compilation.specs.Meets.{asks_with}
+use Rattle.compilation.specs.Sequence.{IsCompiledSequence, Outline, SequenceOf, outline_in}
 use Rattle.program_runs.specs.Runs.{AreLinesOfText, world_given}
+use Rattle.program_runs.specs.Sequences.{IsSequenceLine}
 
 -- what a launch file gives a program, or the first check that it fails
 abbrev pub LaunchOf : PlainProgram → Ask → (launch : List ℕ) → Result Given LaunchNo → Type 0
 LaunchOf p ask launch (Ok given) = IsLaunchFile p ask launch given
 LaunchOf p ask launch (Err why) = Refuses p ask launch why
 
--- what a run is given, or the first stage that stops: all of compilation, then the launch file, for a task where the last term has no parallel map, and for the local size that the script fixes
+-- what a run is given, or the first stage that stops: all of compilation, then the launch file, for
+-- a task where the last term has no parallel map, and for the local size that the script fixes
 abbrev pub RunOf : PlainProgram → (script launch : List ℕ) → Result Given Failure → Type 0
 RunOf p script launch = Then (As source_failed (LegalOf p script)) (λ last. As (launch_failed p) (LaunchOf p (Run (is_task last.tree) (local_fixed script)) launch))
 
@@ -33,14 +35,23 @@ RunOf p script launch = Then (As source_failed (LegalOf p script)) (λ last. As 
 abbrev pub EvalOf : PlainProgram → (launch : List ℕ) → Result Given Failure → Type 0
 EvalOf p launch = Then (As source_failed (TypesOf p)) (λ _. As (launch_failed p) (LaunchOf p Eval launch))
 
--- the stages of each kind of call come to one end
-pub record StagesEndOnce : Type 0 where
-  pub kernel : (program script : List ℕ) → HasOneEnd program (λ p. As source_failed (LegalOf p script))
-  pub steps : (program script : List ℕ) → HasOneEnd program (λ p. As source_failed (TermsOf p script))
-  pub run : (program script launch : List ℕ) → HasOneEnd program (λ p. RunOf p script launch)
-  pub value : (program launch : List ℕ) → HasOneEnd program (λ p. EvalOf p launch)
+-- how each kernel's launch is asked for: alone, where it is a task, and with the local size that
+-- the script fixes
+abbrev pub asks_in_order : List Outline → (local : Option ℕ) → List Ask
+asks_in_order outlines local = map (λ (o : Outline). Run o.alone local) outlines
 
--- The lines are those of the run of what is read back from the text of the program's kernel: its events, where it is traced, the source's value, and the counts of that run.
+-- what a launch file gives to each kernel in order, or the first check that it fails
+abbrev pub LaunchesOf : PlainProgram → List Ask → (launch : List ℕ) → Result (List Given) LaunchNo → Type 0
+LaunchesOf p asks launch (Ok givens) = IsStagesFile p asks launch givens
+LaunchesOf p asks launch (Err why) = RefusesStages p asks launch why
+
+-- what the runs of kernels in order are given, or the first stage that stops: all of their
+-- compilation, then the launch file
+abbrev pub RunStagesOf : PlainProgram → (script launch : List ℕ) → Result (List Given) Failure → Type 0
+RunStagesOf p script launch = Then (As source_failed (SequenceOf p script)) (λ parts. As (launch_failed p) (LaunchesOf p (asks_in_order (map outline_in parts) (local_fixed script)) launch))
+
+-- The lines are those of the run of what is read back from the text of the program's kernel: its
+-- events, where it is traced, the source's value, and the counts of that run.
 pub record AreRunLines (program script launch : List ℕ) (traced : Bool) (lines : List ℕ) : Type 0 where
   pub source : PlainProgram
   pub output : PlainTy
@@ -59,3 +70,16 @@ pub record IsValueLine (program launch line : List ℕ) : Type 0 where
   pub read : IsRead program source
   pub started : EvalOf source launch (Ok given)
   pub written : line ≡ result_line (source_value source (world_given given)) None
+
+-- The line is that of the runs in order of what is read back from the text of the program's
+-- kernels: the source's value, and the counts of those runs together.
+pub record IsRunStagesLine (program script launch line : List ℕ) : Type 0 where
+  pub source : PlainProgram
+  pub output : PlainTy
+  pub local : Option ℕ
+  pub outlines : List Outline
+  pub text : List ℕ
+  pub compiled : IsCompiledSequence program script source output local outlines text
+  pub givens : List Given
+  pub launch_file : IsStagesFile source (asks_in_order outlines local) launch givens
+  pub run : IsSequenceLine source outlines text givens line

@@ -1,20 +1,25 @@
 //! What memory begins with.
-ghost use Rattle.std.specs.Prelude.{◌≡◌, ◌++◌, List, IfOk, OnOk, map};
+ghost use Rattle.std.specs.Prelude.{◌≡◌, ◌<◌, ◌^◌, ◌++◌, List, IfOk, OnOk, map};
 ghost use Rattle.size_arith.specs.declared.names.Name.{Name};
 ghost use Rattle.lift_tree.specs.Launches.{buffers_of};
 ghost use Rattle.lift_tree.specs.Programs.{input_of, program_of};
-ghost use Rattle.lift_tree.specs.Types.{ty_of};
+ghost use Rattle.lift_tree.specs.Types.{HoldsElements, ty_of};
+ghost use Rattle.lift_tree.specs.Typing.{declared_by};
 ghost use Rattle.lift_tree.specs.Values.{value_of};
 ghost use Rattle.lift_tree.specs.WorkedOut.{worked_out};
+ghost use Rattle.value_lists.specs.Lists.{IsSmall, width};
 ghost use Rattle.launch_file.specs.LaunchFile.{given_by};
 ghost use Rattle.compilation.specs.Meets.{asks_with};
 ghost use Rattle.program_runs.specs.Runs.{IsAdmissibleFor, begun, world_given};
+ghost use Rattle.program_runs.specs.Sequences.{begun_from};
 
 use compilation::Compiled;
 use kernel_tree::launches::Cells;
 use launch_file::file::LaunchFile;
-use lift_tree::program::Input;
+use lift_tree::program::{Input, Program};
+use lift_tree::ty::Ty;
 use lift_tree::value::Val;
+use size_arith::Sizes;
 use std::alloc::{AllocError, Global};
 use value_lists::laws::ways_are_components;
 use value_lists::{add_lists, blank_lists};
@@ -42,6 +47,20 @@ fn add_inputs(
     }
 }
 
+/// The lists of a launch file's inputs, as their buffers hold them.
+pub fn input_lists(
+    alloc: Global,
+    program: &Program,
+    file: &LaunchFile,
+) -> Result<Vec<Vec<u32>>, AllocError>
+    ensures { IfOk result (λ lists. map (λ l. l.items) lists.items
+        ≡ buffers_of (declared_by (program_of program.now)).inputs (given_by file.now).inputs) }
+{
+    let mut lists = Vec::new(alloc);
+    add_inputs(alloc, &program.inputs, &file.inputs, &mut lists)?;
+    Ok(lists)
+}
+
 /// The inputs of a launch file in their buffers, the outputs' as long as their type says, and 0 in
 /// all other memory.
 pub fn begun(alloc: Global, compiled: &Compiled, file: &LaunchFile) -> Result<Cells, AllocError>
@@ -50,8 +69,37 @@ pub fn begun(alloc: Global, compiled: &Compiled, file: &LaunchFile) -> Result<Ce
     ensures { IfOk result (λ cells. cells ≡ begun (program_of compiled.now.program)
         (ty_of compiled.now.output) (world_given (given_by file.now))) }
 {
-    let mut ins = Vec::new(alloc);
-    add_inputs(alloc, &compiled.program.inputs, &file.inputs, &mut ins)?;
+    let ins = input_lists(alloc, &compiled.program, file)?;
     let outs = blank_lists(alloc, &compiled.output, &file.sizes)?;
+    Ok(Cells { ins, outs, rest: 0 })
+}
+
+// Equal lists in memory of their own.
+fn copied_lists(alloc: Global, lists: &[Vec<u32>]) -> Result<Vec<Vec<u32>>, AllocError>
+    ensures { IfOk result (λ copy. map (λ l. l.items) copy.items ≡ map (λ l. l.items) lists.now) }
+{
+    let mut copy = Vec::new(alloc);
+    for list in lists {
+        copy.push(list.as_slice().to_vec(alloc)?)?;
+    }
+    Ok(copy)
+}
+
+/// These inputs in their buffers, the outputs' as long as this type says, and 0 in all other
+/// memory.
+pub fn begun_from(
+    alloc: Global,
+    inputs: &[Vec<u32>],
+    output: &Ty,
+    sizes: &Sizes,
+) -> Result<Cells, AllocError>
+    requires elements { HoldsElements (ty_of output.now) }
+    requires small { IsSmall sizes.now 1 (ty_of output.now) }
+    requires few { width (ty_of output.now) < 2 ^ 32 }
+    ensures { IfOk result (λ cells. cells
+        ≡ begun_from (map (λ l. l.items) inputs.now) sizes.now (ty_of output.now)) }
+{
+    let ins = copied_lists(alloc, inputs)?;
+    let outs = blank_lists(alloc, output, sizes)?;
     Ok(Cells { ins, outs, rest: 0 })
 }

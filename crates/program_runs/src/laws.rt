@@ -1,25 +1,31 @@
 //! Laws of the stages, and of runs of the kernels of one program.
 ghost use Rattle.program_runs.specs.Alike.{PrintedKernelsGoAlike, TextsRunAlike};
-ghost use Rattle.program_runs.specs.Started.{StagesEndOnce};
+ghost use Rattle.program_runs.specs.Table.{StagesEndOnce};
 
-use compilation::laws::compilation_ends_once;
+use compilation::laws::{compilation_ends_once, sequences_end_once};
 use group_form::alike::printed_group_programs_go_alike;
 use kernel_spelling::one_kernel;
-use launch_file::laws::{files_are_not_refused, files_give_one_thing};
+use launch_file::laws::{
+    files_are_not_refused, files_give_one_thing, stages_files_are_not_refused,
+    stages_files_give_one_thing,
+};
 use lift_tree::laws::terms_have_one_type;
 use nest_premises::groups::legal_terms_are_printable;
 use printed_form::laws::printed_programs_go_alike;
 use program_source::laws::{sources_end_once, typed_programs_are_proper};
 
-/// The stages come to one end: to what they make, or to one cause for which one of them stops.
+/// The stages of each command come to one end: they pass, or one of them stops for one cause.
 pub fn one_end()
     ensures { StagesEndOnce }
 {
     sources_end_once();
     compilation_ends_once();
+    sequences_end_once();
     typed_programs_are_proper();
     files_are_not_refused();
     files_give_one_thing();
+    stages_files_are_not_refused();
+    stages_files_give_one_thing();
 }
 
 /// Any two kernels that are printed for one legal term, as its kind says, have at one launch and

@@ -1,13 +1,18 @@
-//! Runs of compiled programs, the demo's among them, and the value of a program without any kernel.
+//! Runs of compiled programs, the demo's and those of kernels in order among them, and the value of
+//! a program without any kernel.
 #![tactic(auto)]
 
 mod cells;
+mod command;
 mod demo;
 mod eval;
 mod laws;
 mod run;
+mod sequence;
 
+pub use command::{Command, command_text};
 pub use demo::demo_text;
 pub use eval::eval_text;
 pub use laws::{one_end, printed_kernels_go_alike, texts_run_alike};
 pub use run::{run_launch, run_text};
+pub use sequence::{run_sequence, run_stages_text};

@@ -51,7 +51,10 @@ fn read_back(alloc: Global, compiled: &Compiled) -> Result<Kernel, AllocError>
 }
 
 // The launch once more.
-fn copied(alloc: Global, launch: &launches::Launch) -> Result<launches::Launch, AllocError>
+pub(crate) fn copied(
+    alloc: Global,
+    launch: &launches::Launch,
+) -> Result<launches::Launch, AllocError>
     ensures { IfOk result (λ copy. copy ≡ launch.now) }
 {
     Ok(launches::Launch {

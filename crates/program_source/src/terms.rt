@@ -14,6 +14,7 @@ ghost use Rattle.program_source.specs.SourceTerms.{
 };
 ghost use Rattle.program_source.specs.StepsText.{IsStepsText};
 ghost use Rattle.program_source.specs.Terms.{TermsOf};
+ghost use Rattle.lift_tree.specs.FixedSizes.{size_fixed};
 ghost use Rattle.strategy_script.specs.LocalSize.{local_fixed};
 
 use crate::laws::sources_end_once;
@@ -21,6 +22,7 @@ use crate::source::typed_source;
 use copied_arrays::laws::scripts_copy_arrays;
 use fault_lines::Refusal;
 use lift_tree::laws::typed_nodes_type_the_term;
+use lift_tree::local_size::LocalSize;
 use lift_tree::typed::Typed;
 use pattern_types::laws::types_are_judged;
 use std::alloc::{AllocError, Global};
@@ -32,7 +34,7 @@ use term_texts::term_text;
 #[derive(Drop)]
 pub struct LastTerm {
     pub typed: Typed,
-    pub local: Option<u32>,
+    pub local: Option<LocalSize>,
 }
 
 // The typed source of a program, and the script.
@@ -66,7 +68,7 @@ pub fn source_terms(alloc: Global, program: &[u8], script: &[u8]) -> Result<Vec<
 /// time.
 pub fn last_term(alloc: Global, program: &[u8], script: &[u8]) -> Result<LastTerm, Refusal>
     ensures last { IfOk result (λ last. IsLastTerm program.now script.now last.typed) }
-    ensures local { IfOk result (λ last. last.local ≡ local_fixed script.now) }
+    ensures local { IfOk result (λ last. size_fixed last.local ≡ local_fixed script.now) }
     ensures within { IfOk result (λ last. IsTypedWithin (program_of last.typed.program)
         (tree_of last.typed.term) (annotation_of last.typed.types)) }
     ensures refused { IfErr result

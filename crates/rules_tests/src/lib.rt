@@ -1,4 +1,5 @@
-//! Tests of the rewrite rules, of scripts and of terms' texts: programs and scripts as texts, and what comes of them.
+//! Tests of the rewrite rules, of scripts and of terms' texts: programs and scripts as texts, and
+//! what comes of them.
 #![tactic(auto)]
 
 #[cfg(test)]

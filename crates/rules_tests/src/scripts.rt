@@ -1,5 +1,6 @@
 //! The text of a script.
 
+use lift_tree::local_size::LocalSize;
 use rules_algebra::Rule as Algebra;
 use rules_lower::Rule as Lower;
 use rules_split::Rule as Split;
@@ -159,7 +160,9 @@ fn has_steps(alloc: Global, text: &[u8], count: usize) -> Result<bool, Fail> {
 
 fn fixes(alloc: Global, text: &str, local: Option<u32>, count: usize) -> Result<bool, Fail> {
     match read_script(alloc, text.as_bytes()) {
-        Ok(script) => Ok(script.local() == local && script.steps().len() == count),
+        Ok(script) => Ok(
+            LocalSize::fixed(script.local()) == local && script.steps().len() == count,
+        ),
         Err(_) => Ok(false),
     }
 }

@@ -1,15 +1,16 @@
 -- What kernels in order owe.
 use Rattle.std.specs.Prelude.{◌≡◌, ℕ, List, [], ◌∷◌, Option}
 use Rattle.kernel_tree.specs.Code.{Kernel}
-use Rattle.lift_tree.specs.Annotations.{Annotates, annotation_of, type_in}
+use Rattle.lift_tree.specs.Annotations.{Annotates, Annotation, annotation_of, type_in}
 use Rattle.lift_tree.specs.Programs.{PlainProgram}
-use Rattle.lift_tree.specs.Tree.{tree_of}
+use Rattle.lift_tree.specs.Tree.{Tree, tree_of}
 use Rattle.lift_tree.specs.Types.{IsOutput}
 use Rattle.lift_tree.specs.Typing.{HasOutput, IsDeclared, declared_by}
 use Rattle.lowered_tree.specs.Named.{declared_of}
 use Rattle.lowered_tree.specs.declared.lowered.Lowered.{Lowered}
 use Rattle.rewriting.specs.Keeps.{Keeps}
 use Rattle.kernel_emit.specs.Kernels.{KeepsTerm, StartsTerm}
+use Rattle.kernel_sequence.specs.Cut.{cut_off}
 use Rattle.kernel_sequence.specs.Sequence.{AreKernelsOf}
 use Rattle.sequence_runs.specs.Runs.{SequenceKeeps, Stage}
 use Rattle.sequence_runs.specs.Stages.{AreKernelsOfEach, stages_of}
@@ -33,3 +34,7 @@ OneKernelKeepsTheHeadline =
     → SequenceKeeps k.declared local k.tree (type_in k.types) (k ∷ [])
     → StartsTerm k.declared local k.tree k.types k.kernel
     × KeepsTerm k.declared local k.tree k.types k.kernel
+
+-- the last kernel makes what the whole term does
+abbrev pub LastKernelsMakeTheOutput : Type 0
+LastKernelsMakeTheOutput = (i : ℕ) (t : Tree) (n : Annotation) → type_in (cut_off i [] t n).left.types ≡ type_in n

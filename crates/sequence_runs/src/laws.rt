@@ -1,6 +1,6 @@
 //! Laws of kernels in order, each carried by a function that does nothing.
 
-ghost use Rattle.sequence_runs.specs.Laws.{OneKernelKeepsTheHeadline, SequencesKeep};
+ghost use Rattle.sequence_runs.specs.Laws.{LastKernelsMakeTheOutput, OneKernelKeepsTheHeadline, SequencesKeep};
 
 use kernel_sequence::laws::{more_inputs_keep_the_value, sequences_leave_the_value};
 use kernel_tree::laws::inputs_stay;
@@ -35,3 +35,8 @@ pub fn one_kernel_keeps_the_headline()
     typed_nodes_type_the_term();
     values_have_their_types();
 }
+
+/// What the last kernel makes is of the type of the whole term.
+pub fn last_kernels_make_the_output()
+    ensures { LastKernelsMakeTheOutput }
+{}

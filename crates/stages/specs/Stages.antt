@@ -15,6 +15,11 @@ As {E = E} tell R (Err f) = (e : E) × R (Err e) × (f ≡ tell e)
 abbrev pub Gives : {A E : Type 0} → A → Result A E → Type 0
 Gives a r = r ≡ Ok a
 
+-- a stage of which it is told only that it passes, or why it stops
+abbrev pub Passed : {A E : Type 0} → (Result A E → Type 0) → Result (Unit {0}) E → Type 0
+Passed {A = A} R (Ok u) = (a : A) × R (Ok a)
+Passed R (Err e) = R (Err e)
+
 -- at most one answer
 abbrev pub IsOne : {A : Type 0} → (A → Type 0) → Type 0
 IsOne {A = A} P = (a b : A) → P a → P b → a ≡ b

@@ -5,7 +5,6 @@ pub mod Once
 pub mod Openings
 pub mod Parts
 pub mod Rewritten
-pub mod Sizes
 pub mod Small
 pub mod Stepping
 pub mod TextLines

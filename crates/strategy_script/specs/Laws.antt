@@ -1,11 +1,10 @@
 -- Which terms a script may be run from, and that a text is one script.
-use Rattle.std.specs.Prelude.{◌≡◌, ◌≤◌, ℕ, List, Result, Some}
+use Rattle.std.specs.Prelude.{◌≡◌, ◌≤◌, ℕ, List, Result}
 use Rattle.lift_tree.specs.declared.typed.Typed.{Typed}
 use Rattle.lift_tree.specs.Tree.{nodes, tree_of}
 use Rattle.lift_tree.specs.Annotations.{IsTyped}
 use Rattle.lift_tree.specs.Belonging.{IsProper}
 use Rattle.lift_tree.specs.Programs.{program_of}
-use Rattle.strategy_script.specs.LocalSize.{local_fixed}
 use Rattle.strategy_script.specs.ScriptText.{ReadsScript}
 use Rattle.strategy_script.specs.Steps.{IsReady}
 use Rattle.strategy_script.specs.declared.script.ScriptNo.{ScriptNo}
@@ -16,11 +15,6 @@ abbrev pub FewNodesAreReady : Type 0
 FewNodesAreReady =
     (t : Typed) → IsProper (program_of t.program) → IsTyped t → nodes (tree_of t.term) ≤ 4096
     → IsReady t
-
--- a local size that a text fixes is from 1 to 256
-abbrev pub FixedSizesAreSmall : Type 0
-FixedSizesAreSmall =
-    (text : List ℕ) (size : ℕ) → local_fixed text ≡ Some size → (1 ≤ size) × (size ≤ 256)
 
 -- a text is one script, or refused for one cause
 abbrev pub ScriptsEndOnce : Type 0

@@ -1,14 +1,11 @@
 -- The line that fixes the local size.
-use Rattle.std.specs.Prelude.{ℕ, List, [], ◌∷◌, Option, None, Some, if◌then◌else◌, ◌&&◌, nat_le, bytes_eq, codes, option_and_then}
+use Rattle.std.specs.Prelude.{ℕ, List, [], ◌∷◌, Option, None, if◌then◌else◌, bytes_eq, codes, option_and_then}
 use Rattle.std.specs.Str.Lines.{lines}
+use Rattle.lift_tree.specs.LocalSizes.{size_within}
 use Rattle.strategy_script.specs.Lines.{first_word, behind_word, is_no_step}
 use Rattle.strategy_script.specs.Numbers.{number_of}
 
--- a size that may be fixed
-abbrev pub size_within : ℕ → Option ℕ
-size_within k = if nat_le 1 k && nat_le k 256 then Some k else None
-
--- the size, where no word follows
+-- the size that may be fixed, where no word follows
 abbrev pub last_size : List ℕ → ℕ → Option ℕ
 last_size behind k = if bytes_eq (first_word behind) [] then size_within k else None
 

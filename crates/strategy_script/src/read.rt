@@ -3,6 +3,7 @@
 ghost use Rattle.std.specs.Prelude.{◌≡◌, ◌⊎◌, ◌+◌, ◌<◌, ◌≤◌, ◌^◌, Err, IfOk, IfErr, length};
 ghost use Rattle.std.specs.Result.{IsErrAnd};
 ghost use Rattle.std.specs.Str.Lines.{lines};
+ghost use Rattle.lift_tree.specs.FixedSizes.{size_fixed};
 ghost use Rattle.strategy_script.specs.LocalSize.{local_in};
 ghost use Rattle.strategy_script.specs.ScriptText.{
   AreSteps,
@@ -26,6 +27,7 @@ use crate::local_size::local_of;
 use crate::numbers::{number_of, place_of};
 use crate::rule::Rule;
 use crate::script::{Script, ScriptLimit, ScriptNo, Step};
+use lift_tree::local_size::LocalSize;
 use std::alloc::{AllocError, Global};
 
 /// The most steps that a script may have.
@@ -89,7 +91,7 @@ fn step_of(alloc: Global, line: &[u8]) -> Result<Option<Step>, AllocError>
 // How a text begins: the local size that it fixes, in how many lines, and what stands behind them.
 #[derive(Clone, Copy)]
 struct Opening<'a> {
-    local: Option<u32>,
+    local: Option<LocalSize>,
     lines: u64,
     rest: &'a [u8],
 }
@@ -97,7 +99,7 @@ struct Opening<'a> {
 // A text's lines of no step, and a line behind them that fixes the local size.
 #[tactic(auto, using(crate::proofs::Openings::no_step, crate::proofs::Openings::no_step_but_size, crate::proofs::Openings::steps_passed, crate::proofs::Openings::size_passed, crate::proofs::Openings::good_passed, crate::proofs::Openings::size_here, crate::proofs::Openings::good_sized, crate::proofs::Openings::good_unsized))]
 fn opening_of(text: &[u8]) -> Opening<'_>
-    ensures size { result.local ≡ local_in (lines text.now) }
+    ensures size { size_fixed result.local ≡ local_in (lines text.now) }
     ensures good { result.lines + step_lines (lines result.rest.now) ≡ good_lines text.now }
     ensures all { result.lines + length (lines result.rest.now) ≡ length (lines text.now) }
     ensures steps { steps_in result.rest.now ≡ steps_in text.now }
@@ -157,8 +159,8 @@ fn steps_in(alloc: Global, text: &[u8], before: u64) -> Result<Vec<Step>, Script
 }
 
 // The script of a local size and steps, where these aren't too many.
-fn script_of(local: Option<u32>, steps: Vec<Step>) -> Result<Script, ScriptNo>
-    ensures script { IfOk result (λ script. (script.local ≡ local)
+fn script_of(local: Option<LocalSize>, steps: Vec<Step>) -> Result<Script, ScriptNo>
+    ensures script { IfOk result (λ script. (script.local ≡ size_fixed local)
         × (script.steps ≡ steps.items) × (length steps.items ≤ 256)) }
     ensures refused { IfErr result (λ no. (no
         ≡ ScriptNo.Limit ScriptLimit.Steps (length steps.items)) × (256 < length steps.items)) }

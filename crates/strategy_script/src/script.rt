@@ -1,9 +1,11 @@
 //! Scripts, and why a text is none.
 
 ghost use Rattle.std.specs.Prelude.{◌≡◌};
+ghost use Rattle.lift_tree.specs.FixedSizes.{size_fixed};
 ghost use Rattle.strategy_script.specs.declared.script.ScriptNo.TheVariants.{Memory};
 
 use crate::rule::Rule;
+use lift_tree::local_size::LocalSize;
 use lift_tree::place::Place;
 use std::alloc::{AllocError, AllocFailed};
 use std::marker::Model;
@@ -19,30 +21,31 @@ pub struct Step {
 /// A script. Contracts see the local size that it fixes, and the list of its steps.
 #[derive(Drop)]
 pub struct Script {
-    local: Option<u32>,
+    local: Option<LocalSize>,
     steps: Vec<Step>,
 }
 
 impl Model for Script {
+    ghost use Rattle.lift_tree.specs.FixedSizes.{size_fixed};
     ghost use Rattle.strategy_script.specs.Scripts.{PlainScript};
 
     ghost Value = { PlainScript };
 
-    ghost view = { λ s. record { local = s.local; steps = s.steps.items } };
+    ghost view = { λ s. record { local = size_fixed s.local; steps = s.steps.items } };
 }
 
 impl Script {
     /// The script of these steps, with this local size where it fixes one.
-    pub fn new(local: Option<u32>, steps: Vec<Step>) -> Self
-        ensures size { result.local ≡ local }
+    pub fn new(local: Option<LocalSize>, steps: Vec<Step>) -> Self
+        ensures size { result.local ≡ size_fixed local }
         ensures steps { result.steps ≡ steps.items }
     {
         Script { local, steps }
     }
 
-    /// The local size of all launches, where the script fixes it: from 1 to 256 work-items.
-    pub fn local(&self) -> Option<u32>
-        ensures { result ≡ self.now.local }
+    /// The local size of all launches, where the script fixes it.
+    pub fn local(&self) -> Option<LocalSize>
+        ensures { size_fixed result ≡ self.now.local }
     {
         self.local
     }

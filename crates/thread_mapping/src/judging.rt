@@ -3,12 +3,13 @@
 ghost use Rattle.std.specs.Prelude.{◌≡◌, [], IfErr, IfOk};
 ghost use Rattle.lift_tree.specs.Tree.{tree_of};
 ghost use Rattle.lift_tree.specs.Annotations.{annotation_of};
-ghost use Rattle.lowered_tree.specs.Kinds.{IsLocalSize};
+ghost use Rattle.lift_tree.specs.FixedSizes.{size_fixed};
 ghost use Rattle.lowered_tree.specs.Nest.{at_place, earliest_rules, first_broken, first_broken_with, first_of, later_rules, nest_fault, size_rule};
 ghost use Rattle.lowered_tree.specs.Nodes.{sites_of, sites_among};
 ghost use Rattle.thread_mapping.specs.Found.{found, from_child, Refuses};
 
 use crate::rules::{lowest, size_rule};
+use lift_tree::local_size::LocalSize;
 use lift_tree::place::Place;
 use lowered_tree::lowered::{Lowered, Mapped};
 use lowered_tree::node::{Children, Node};
@@ -138,19 +139,18 @@ fn fault(alloc: Global, lowered: &Lowered, local: Option<u32>) -> Result<Option<
     Ok(earlier(cut, other))
 }
 
-/// Judges the nest of a lowered term, with the local size of all launches, from 1 to 256, where one is
-/// fixed: whether
+/// Judges the nest of a lowered term, with the local size of all launches, where one is fixed: whether
 /// it has a cut between two kernels, then by eleven rules at each node, and by one of that size at the
 /// root, behind the root's own and before all nodes below it. `Nest` comes exactly where there is a
 /// cut, with the first in preorder, or where another rule is broken, with the first node in preorder
 /// and the lowest rule there.
-pub fn judge(alloc: Global, lowered: Lowered, local: Option<u32>) -> Result<Mapped, NestNo>
-    requires { IsLocalSize local }
+pub fn judge(alloc: Global, lowered: Lowered, local: Option<LocalSize>) -> Result<Mapped, NestNo>
     ensures legal { IfOk result (λ m. m.lowered ≡ lowered) }
-    ensures size { IfOk result (λ m. m.local ≡ local) }
+    ensures size { IfOk result (λ m. m.local ≡ size_fixed local) }
     ensures refused { IfErr result
-        (λ e. Refuses e local (tree_of lowered.term) (annotation_of lowered.types)) }
+        (λ e. Refuses e (size_fixed local) (tree_of lowered.term) (annotation_of lowered.types)) }
 {
+    let local = LocalSize::fixed(local);
     match fault(alloc, &lowered, local)? {
         Some(Broken { place, rule }) => Err(NestNo::Nest { place, rule }),
         None => Ok(Mapped { lowered, local }),

@@ -63,7 +63,8 @@ fn tiles_of_a_stencil_run_alike_under_each_schedule(rt: HostRuntime) -> Result<(
     Ok(())
 }
 
-// Two tiles by five groups of three: three groups have no turn, and in each other one the last work-item has no window.
+// Two tiles by five groups of three: three groups have no turn, and in each other one the last
+// work-item has no window.
 #[test]
 fn work_items_without_a_window_meet_the_barriers(rt: HostRuntime) -> Result<(), Fail> {
     let call = Call {

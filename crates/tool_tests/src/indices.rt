@@ -3,7 +3,8 @@ use crate::call::{COMPILE, Call, FIRST, RUN};
 use std::alloc::{AllocError, Global};
 use std::test::Fail;
 
-// A program, what its kernel declares behind the output, its bound, and where it reads. In the last one the layouts don't undo one another.
+// A program, what its kernel declares behind the output, its bound, and where it reads. In the last
+// one the layouts don't undo one another.
 const COPIES: [(&str, &str, &str, &str); 4] = [
     (
         "input xs: [[u32; 3]; 2]; output map(\\x. x, join(xs))",

@@ -14,6 +14,8 @@ mod indices;
 #[cfg(test)]
 mod kernels;
 #[cfg(test)]
+mod kernels_in_order;
+#[cfg(test)]
 mod limits;
 #[cfg(test)]
 mod local_sizes;

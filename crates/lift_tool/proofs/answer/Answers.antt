@@ -5,9 +5,9 @@ use Rattle.fault_lines.specs.Shown.{failure_of}
 use Rattle.lift_tool.specs.Files.{AsksAll, AsksFirst, Told}
 use Rattle.lift_tool.specs.Outcome.{Answers, FailsFor, IsAnswer, OnTexts, WordsCause}
 use Rattle.lift_tool.specs.Request.{files_of}
-use Rattle.lift_tool.proofs.Asked.{asks_none}
+use Rattle.lift_tool.proofs.Reading.{asks_none, rose_between}
 use Rattle.lift_tool.proofs.Ends.{asked_stands, one_request}
-use Rattle.lift_tool.proofs.Unread.{if_err, if_ok, request_fails, rose_between, words_fail}
+use Rattle.lift_tool.proofs.Unread.{if_err, if_ok, request_fails, words_fail}
 use Rattle.lift_tool.proofs.answer.Goals as goal
 
 pub returns-in_err-request-clause-refused : goal.returns-in_err-request-clause-refused

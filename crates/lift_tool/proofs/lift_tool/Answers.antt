@@ -8,7 +8,7 @@ use Rattle.fault_lines.specs.Shown.{failure_of}
 use Rattle.lift_tool.specs.Files.{Told}
 use Rattle.lift_tool.proofs.Alike.{lines_of_written}
 use Rattle.lift_tool.proofs.Ends.{asked_stands, demo_stands, words_answered, words_cause, words_fail_before, words_refused, words_stand, words_taken}
-use Rattle.lift_tool.proofs.Unread.{rose_between}
+use Rattle.lift_tool.proofs.Reading.{rose_between}
 use Rattle.lift_tool.proofs.lift_tool.Goals as goal
 
 pub returns-clause-complete : goal.returns-clause-complete

@@ -1,21 +1,22 @@
-use Rattle.std.proofs.Common.{ap, ap₂, ◌≡◌, ◌∙◌, rules}
+use Rattle.std.proofs.Common.{ap₂, ◌≡◌, ◌∙◌, Bor, List, [], ◌∷◌, map, rules}
 use Rattle.std.proofs.lemmas.Result.{IfOk-weaker}
-use Rattle.std.specs.Prelude.{codes, [], ◌∷◌}
-use Rattle.clap.specs.Words.{App, app_of, with_subcommand}
-use Rattle.command_line.specs.App.{words_command, program, script, launch, seed}
+use Rattle.std.specs.Prelude.{codes}
+use Rattle.clap.specs.Words.{App, Text, app_of, with_subcommand}
+use Rattle.command_line.specs.App.{kernel_commands, launch, program, script, seed, words_command}
 use Rattle.command_line.proofs.command.lift_command.Goals as goal
 
-both : (a b outer inner : App) → a ≡ outer → b ≡ inner → with_subcommand a b.top ≡ with_subcommand outer inner.top
-both a b outer inner p q = ap₂ with_subcommand p (ap (λ (x : App). x.top) q)
+one_more : (a outer : App) (name : Text) (ids words : List Text) → a ≡ outer → ids ≡ words → with_subcommand a (words_command name ids).top ≡ with_subcommand outer (words_command name words).top
+one_more a outer name ids words p q = ap₂ (λ (x : App) (ws : List Text). with_subcommand x (words_command name ws).top) p q
+
+abbrev texts_of : List (Bor Text) → List Text
+texts_of ids = map (λ (id : Bor Text). id.now) ids
 
 pub returns : goal.returns
 returns c =
-    let compile : app_of c.in_ok-compile.compile ≡ words_command (codes "compile") (program ∷ script ∷ []) = search rules in
-    let eval : app_of c.in_ok-eval.eval ≡ words_command (codes "eval") (program ∷ launch ∷ []) = search rules in
-    let steps : app_of c.in_ok-steps.steps ≡ words_command (codes "steps") (program ∷ script ∷ []) = search rules in
-    let demo : app_of c.in_ok-demo.demo ≡ words_command (codes "demo") (seed ∷ []) = search rules in
-    let one = c.in_ok-command.ensures.app ∙ both _ _ _ _ c.bare_command-command.ensures.app compile in
-    let two = c.in_ok-command-2.ensures.app ∙ both _ _ _ _ one c.in_ok-run.ensures.app in
-    let three = c.in_ok-command-3.ensures.app ∙ both _ _ _ _ two eval in
-    let four = c.in_ok-command-4.ensures.app ∙ both _ _ _ _ three steps in
-    IfOk-weaker c.with_subcommand-5.result _ _ (λ m h. h ∙ both _ _ _ _ four demo) c.with_subcommand-5.ensures.app
+    let sources : texts_of c.as_slice-sources.result.now ≡ program ∷ script ∷ [] = search rules in
+    let files : texts_of c.as_slice-files.result.now ≡ program ∷ script ∷ launch ∷ [] = search rules in
+    let number : texts_of c.as_slice.result.now ≡ seed ∷ [] = search rules in
+    let steps = c.in_ok-command.ensures.app ∙ one_more _ kernel_commands (codes "steps") _ _ c.in_ok-kernel_commands.ensures.app sources in
+    let stages = c.in_ok-command-2.ensures.app ∙ one_more _ _ (codes "stages") _ _ steps sources in
+    let run = c.in_ok-command-3.ensures.app ∙ one_more _ _ (codes "run-stages") _ _ stages files in
+    IfOk-weaker c.with_words-4.result _ _ (λ m h. h ∙ one_more _ _ (codes "demo") _ _ run number) c.with_words-4.ensures.app

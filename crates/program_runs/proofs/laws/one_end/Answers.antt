@@ -1,4 +1,4 @@
-use Rattle.program_runs.proofs.Once.{LaunchLaws, eval_end, kernel_end, run_end, terms_end}
+use Rattle.program_runs.proofs.Once.{LaunchLaws, commands_end}
 use Rattle.program_runs.proofs.laws.one_end.Goals as goal
 
 pub returns : goal.returns
@@ -9,5 +9,7 @@ returns c =
       proper = c.typed_programs_are_proper.ensures;
       refused = c.files_are_not_refused.ensures;
       one = c.files_give_one_thing.ensures;
+      refused_in_order = c.stages_files_are_not_refused.ensures;
+      one_in_order = c.stages_files_give_one_thing.ensures;
     } in
-    record { kernel = kernel_end sources compiled; steps = terms_end sources; run = run_end sources compiled laws; value = eval_end sources laws }
+    commands_end sources compiled c.sequences_end_once.ensures laws

@@ -1,4 +1,4 @@
-use Rattle.std.proofs.Common.{Ok, ap, inl, refl, subst, sym}
+use Rattle.std.proofs.Common.{Ok, [], ◌∷◌, ap, inl, refl, subst, sym}
 use Rattle.lift_tree.specs.Launches.{Asks}
 use Rattle.lift_tree.specs.Programs.{program_of}
 use Rattle.lift_tree.specs.Types.{ty_of}
@@ -12,6 +12,7 @@ use Rattle.program_runs.proofs.Admitted.{given_is_admissible}
 use Rattle.program_runs.proofs.Failed.{failed_for, handed_for, source_fails, told_for}
 use Rattle.program_runs.proofs.Stopped.{launch_fails}
 use Rattle.program_runs.specs.Started.{LaunchOf, RunOf}
+use Rattle.program_runs.specs.declared.command.Command.TheVariants.{Run}
 use Rattle.fault_lines.specs.Failure.{launch_failed}
 use Rattle.fault_lines.specs.Shown.{failure_of}
 use Rattle.program_source.specs.Ends.{FailsFor, OnSource}
@@ -66,7 +67,7 @@ returns-in_err-compiled-clause-exact c =
     let text = c.args.program.now in
     let script = c.args.script.now in
     let launch = c.args.launch.now in
-    told_for text (λ p. RunOf p script launch) (c.one_end.ensures.run text script launch) _ _ c.from_residual.ensures.1
+    told_for text (λ p. RunOf p script launch) (c.one_end.ensures (Run c.args.trace) (text ∷ script ∷ launch ∷ [])) _ _ c.from_residual.ensures.1
     (source_fails text (λ p. LegalOf p script) (λ p last. As (launch_failed p) (LaunchOf p (asks.Run (is_task last.tree) (local_fixed script)) launch)) _ c.in_err-compiled.ensures.refused)
 
 pub returns-in_err-run_launch-in-Ok-clause-exact : goal.returns-in_err-run_launch-in-Ok-clause-exact
@@ -74,7 +75,7 @@ returns-in_err-run_launch-in-Ok-clause-exact c =
     let text = c.args.program.now in
     let script = c.args.script.now in
     let launch = c.args.launch.now in
-    handed_for text (λ p. RunOf p script launch) (c.one_end.ensures.run text script launch) _ _ c.from_residual-in_err-run_launch-in-Ok.ensures.1 (inl refl)
+    handed_for text (λ p. RunOf p script launch) (c.one_end.ensures (Run c.args.trace) (text ∷ script ∷ launch ∷ [])) _ _ c.from_residual-in_err-run_launch-in-Ok.ensures.1 (inl refl)
 
 pub returns-in-Err-clause-exact : goal.returns-in-Err-clause-exact
 returns-in-Err-clause-exact c =
@@ -82,7 +83,7 @@ returns-in-Err-clause-exact c =
     let launch = c.args.launch.now in
     let p = program_of c.in_ok-compiled.compiled.program in
     let found = c.in_ok-compiled.ensures.found in
-    failed_for c.args.program.now (λ q. RunOf q script launch) (c.one_end.ensures.run c.args.program.now script launch) (failure_of c.for_launch.result)
+    failed_for c.args.program.now (λ q. RunOf q script launch) (c.one_end.ensures (Run c.args.trace) (c.args.program.now ∷ script ∷ launch ∷ [])) (failure_of c.for_launch.result)
     (subst (FailsFor (OnSource c.args.program.now (λ q. RunOf q script launch))) (sym c.for_launch.ensures)
     (launch_fails c.args.program.now p (λ last. asks.Run (is_task last.tree) (local_fixed script)) launch (λ q. LegalOf q script) _ c.in-Err.no found.read found.legal
     (λ well. subst (λ b. Refuses p (asks.Run b (local_fixed script)) launch c.in-Err.no) (sym (ap (λ (a : Asks). a.alone) found.asked))
@@ -95,4 +96,4 @@ returns-in_ok-run_launch-in-Ok-clause-exact c = λ why cause.
     let p = program_of c.in_ok-compiled.compiled.program in
     let started = subst (λ b. LaunchOf p (asks.Run b (local_fixed c.args.script.now)) c.args.launch.now (Ok given)) (sym (ap (λ (a : Asks). a.alone) found.asked))
     (subst (λ o. LaunchOf p (asks.Run c.in_ok-compiled.compiled.is_task o) c.args.launch.now (Ok given)) (sym (ap (λ (a : Asks). a.local) found.asked)) c.in-Ok.ensures.ok) in
-    (c.one_end.ensures.run c.args.program.now c.args.script.now c.args.launch.now).none why (_, found.read.is, found.read.within, (given, (found.last, found.legal, started))) cause
+    (c.one_end.ensures (Run c.args.trace) (c.args.program.now ∷ c.args.script.now ∷ c.args.launch.now ∷ [])).none why (_, found.read.is, found.read.within, (tt, (given, (found.last, found.legal, started)))) cause

@@ -11,7 +11,7 @@ use Rattle.ndrange_machine.proofs.Settling.{tells_no_barrier, tells_apart, tells
 use Rattle.ndrange_machine.proofs.machine.Machine.are_together.Goals as goal
 
 abbrev Compares : Machine → (first item : ℕ) → Bool → Type 0
-Compares m first item t = (a b : ItemView) → slice_get m.items.items first ≡ Some a → slice_get m.items.items item ≡ Some b → IsTrue t ↔ SamePlace a b
+Compares m first item t = (a b : ItemView) → slice_get m.items first ≡ Some a → slice_get m.items item ≡ Some b → IsTrue t ↔ SamePlace a b
 
 pub returns-then-not-is_at_barrier : goal.returns-then-not-is_at_barrier
 returns-then-not-is_at_barrier c =

@@ -8,4 +8,4 @@ use Rattle.ndrange_machine.proofs.machine.Machine.are_together.Given as goal
 
 -- the items so far stand with the first
 abbrev pub invariant-loop-number : goal.invariant-loop-number
-invariant-loop-number l = (j : ℕ) (a b : ItemView) → j < l.number → slice_get l.self.items.items (first_item l.self.launch l.group) ≡ Some a → slice_get l.self.items.items (member_at l.self.launch l.group j) ≡ Some b → SamePlace a b
+invariant-loop-number l = (j : ℕ) (a b : ItemView) → j < l.number → slice_get l.self.items (first_item l.self.launch l.group) ≡ Some a → slice_get l.self.items (member_at l.self.launch l.group j) ≡ Some b → SamePlace a b

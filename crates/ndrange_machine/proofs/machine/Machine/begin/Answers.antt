@@ -1,7 +1,8 @@
-use Rattle.std.proofs.Common.{◌∙◌, ap, arith}
+use Rattle.std.proofs.Common.{◌∙◌, ap, arith, subst}
+use Rattle.ndrange_machine.specs.Groups.{AtStart}
 use Rattle.kernel_tree.specs.Launch.{group_count}
 use Rattle.enabled_events.specs.Grids.{laid}
-use Rattle.ndrange_machine.proofs.Settling.{begun_none, begun_more, begins}
+use Rattle.ndrange_machine.proofs.Settling.{begun_none, begun_more, begins, flags_at_start}
 use Rattle.ndrange_machine.proofs.machine.Machine.begin.Goals as goal
 
 pub loop-group-init : goal.loop-group-init
@@ -21,3 +22,7 @@ returns-clause-flags c =
     let count = c.group_count-group-end.ensures ∙ ap (λ z. group_count (laid z)) c.grid.ensures in
     let far = c.loop-group-test.false in
     begins c.args.self.now c.loop-group.self c.loop-group.group c.loop-group.invariant (omega arith)
+
+pub returns-then-steps-clause-flags : goal.returns-then-steps-clause-flags
+returns-then-steps-clause-flags c = λ k l d s holds.
+    flags_at_start c.args.self.now (subst (AtStart c.args.self.now) c.if-steps.true c.requires) k l d s holds

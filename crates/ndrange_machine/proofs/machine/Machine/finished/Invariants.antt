@@ -5,4 +5,4 @@ use Rattle.ndrange_machine.proofs.machine.Machine.finished.Given as goal
 
 -- the items so far have ended
 abbrev pub invariant-loop-item : goal.invariant-loop-item
-invariant-loop-item l = (j : ℕ) (it : ItemView) → j < l.item-index → slice_get l.self.items.items j ≡ Some it → length l.self.lines.items ≤ it.line
+invariant-loop-item l = (j : ℕ) (it : ItemView) → j < l.item → slice_get l.self.items j ≡ Some it → length l.self.lines.items ≤ it.line

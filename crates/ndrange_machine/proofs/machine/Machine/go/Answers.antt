@@ -1,4 +1,4 @@
-use Rattle.std.proofs.Common.{◌≡◌, ◌∙◌, ℕ, ◌+◌, Some, refl, sym, ap, subst}
+use Rattle.std.proofs.Common.{◌≡◌, ◌∙◌, Some, refl, sym, ap, subst}
 use Rattle.std.specs.Prelude.{slice_get}
 use Rattle.std.proofs.lemmas.Bool.{ltb-true}
 use Rattle.kernel_tree.specs.declared.events.Event.TheVariants.{Step}
@@ -7,24 +7,22 @@ use Rattle.ndrange_machine.specs.declared.line.Line.TheVariants.{Assign, Load, S
 use Rattle.ndrange_machine.specs.Takes.{IsWanted}
 use Rattle.ndrange_machine.specs.Wants.{want_tail}
 use Rattle.ndrange_machine.proofs.Rows.{get_or_is}
-use Rattle.ndrange_machine.proofs.Wanting.{value_in, wants_to_set, wants_to_read, wants_to_write, wants_to_repeat, advances_same}
+use Rattle.ndrange_machine.proofs.Wanting.{line_told, wants_to_set, wants_to_read, wants_to_write, wants_to_repeat, advances_same}
 use Rattle.ndrange_machine.proofs.machine.Machine.go.Goals as goal
 
 pub returns-in-Some-value : goal.returns-in-Some-value
 returns-in-Some-value c =
     let m = c.args.self.now in
     let j = c.args.item in
-    let it = c.in-Some.it.now in
-    let at = c.line-at.result in
+    let at = c.in-Some.at in
+    let told = line_told m j at (sym c.in-Some.is ∙ c.line.ensures) in
+    let it = told.0 in
     let w = c.in-Some-Assign in
-    let items = c.deref.ensures.value in
-    let lines = c.deref-in-Some.ensures.value in
-    let got = get_or_is c.deref.result.now j it (ltb-true j _ (sym c.in-Some.ensures.lookup.0)) c.in-Some.ensures.lookup.1 in
-    let read = get_or_is c.deref-in-Some.result.now at w.field-0.now (ltb-true at _ (sym w.ensures.lookup.0)) w.ensures.lookup.1 in
-    let item_is : slice_get m.items.items j ≡ Some it = ap (λ z. slice_get z j) (sym items) ∙ got in
+    let lines = c.deref.ensures.value in
+    let read = get_or_is c.deref.result.now at w.field-0.now (ltb-true at _ (sym w.ensures.lookup.0)) w.ensures.lookup.1 in
     let is = w.field-0-is in
     let line_is : slice_get m.lines.items at ≡ Some (Assign w.v w.e) = ap (λ z. slice_get z at) (sym lines) ∙ read ∙ ap Some is in
-    advances_same m (Step j) _ _ (c.keep.ensures (wants_to_set m j it at w.v w.e c.in-Some-value.word (record { item = item_is; place = c.line-at.ensures; line = line_is }) (sym c.value.ensures ∙ c.in-Some-value.is))) (record { lines = refl; launch = refl; memory = refl; items = refl }) refl refl
+    advances_same m (Step j) _ _ (c.keep.ensures (wants_to_set m j it at w.v w.e c.in-Some-value.word (record { item = told.1; place = told.2; line = line_is }) (sym (c.value.ensures it told.1) ∙ c.in-Some-value.is))) (record { lines = refl; launch = refl; memory = refl; items = refl }) refl refl
 
 pub returns-in-None-value : goal.returns-in-None-value
 returns-in-None-value c = advances_same c.args.self.now (Step c.args.item) _ _ c.take.ensures (record { lines = refl; launch = refl; memory = refl; items = refl }) refl refl
@@ -33,17 +31,15 @@ pub returns-in-Some-value-2 : goal.returns-in-Some-value-2
 returns-in-Some-value-2 c =
     let m = c.args.self.now in
     let j = c.args.item in
-    let it = c.in-Some.it.now in
-    let at = c.line-at.result in
+    let at = c.in-Some.at in
+    let told = line_told m j at (sym c.in-Some.is ∙ c.line.ensures) in
+    let it = told.0 in
     let w = c.in-Some-Load in
-    let items = c.deref.ensures.value in
-    let lines = c.deref-in-Some.ensures.value in
-    let got = get_or_is c.deref.result.now j it (ltb-true j _ (sym c.in-Some.ensures.lookup.0)) c.in-Some.ensures.lookup.1 in
-    let read = get_or_is c.deref-in-Some.result.now at w.field-0.now (ltb-true at _ (sym w.ensures.lookup.0)) w.ensures.lookup.1 in
-    let item_is : slice_get m.items.items j ≡ Some it = ap (λ z. slice_get z j) (sym items) ∙ got in
+    let lines = c.deref.ensures.value in
+    let read = get_or_is c.deref.result.now at w.field-0.now (ltb-true at _ (sym w.ensures.lookup.0)) w.ensures.lookup.1 in
     let is = w.field-0-is in
     let line_is : slice_get m.lines.items at ≡ Some (Load w.v w.array w.i) = ap (λ z. slice_get z at) (sym lines) ∙ read ∙ ap Some is in
-    advances_same m (Step j) _ _ (c.load.ensures (wants_to_read m j it at w.v w.array w.i c.in-Some-value-2.index (record { item = item_is; place = c.line-at.ensures; line = line_is }) (sym c.value-in-Some-Load.ensures ∙ c.in-Some-value-2.is))) (record { lines = refl; launch = refl; memory = refl; items = refl }) refl refl
+    advances_same m (Step j) _ _ (c.load.ensures (wants_to_read m j it at w.v w.array w.i c.in-Some-value-2.index (record { item = told.1; place = told.2; line = line_is }) (sym (c.value-in-Some-Load.ensures it told.1) ∙ c.in-Some-value-2.is))) (record { lines = refl; launch = refl; memory = refl; items = refl }) refl refl
 
 pub returns-in-None-value-2 : goal.returns-in-None-value-2
 returns-in-None-value-2 c = advances_same c.args.self.now (Step c.args.item) _ _ c.take-in-None-value-2.ensures (record { lines = refl; launch = refl; memory = refl; items = refl }) refl refl
@@ -52,17 +48,15 @@ pub returns-in-Some-value-4 : goal.returns-in-Some-value-4
 returns-in-Some-value-4 c =
     let m = c.args.self.now in
     let j = c.args.item in
-    let it = c.in-Some.it.now in
-    let at = c.line-at.result in
+    let at = c.in-Some.at in
+    let told = line_told m j at (sym c.in-Some.is ∙ c.line.ensures) in
+    let it = told.0 in
     let w = c.in-Some-Store in
-    let items = c.deref.ensures.value in
-    let lines = c.deref-in-Some.ensures.value in
-    let got = get_or_is c.deref.result.now j it (ltb-true j _ (sym c.in-Some.ensures.lookup.0)) c.in-Some.ensures.lookup.1 in
-    let read = get_or_is c.deref-in-Some.result.now at w.field-0.now (ltb-true at _ (sym w.ensures.lookup.0)) w.ensures.lookup.1 in
-    let item_is : slice_get m.items.items j ≡ Some it = ap (λ z. slice_get z j) (sym items) ∙ got in
+    let lines = c.deref.ensures.value in
+    let read = get_or_is c.deref.result.now at w.field-0.now (ltb-true at _ (sym w.ensures.lookup.0)) w.ensures.lookup.1 in
     let is = w.field-0-is in
     let line_is : slice_get m.lines.items at ≡ Some (Store w.array w.i w.e) = ap (λ z. slice_get z at) (sym lines) ∙ read ∙ ap Some is in
-    advances_same m (Step j) _ _ (c.store.ensures (wants_to_write m j it at w.array w.i w.e c.in-Some-value-3.index c.in-Some-value-4.word (record { item = item_is; place = c.line-at.ensures; line = line_is }) (sym c.value-in-Some-Store.ensures ∙ c.in-Some-value-3.is) (sym c.value-in-Some-value-3.ensures ∙ c.in-Some-value-4.is))) (record { lines = refl; launch = refl; memory = refl; items = refl }) refl refl
+    advances_same m (Step j) _ _ (c.store.ensures (wants_to_write m j it at w.array w.i w.e c.in-Some-value-3.index c.in-Some-value-4.word (record { item = told.1; place = told.2; line = line_is }) (sym (c.value-in-Some-Store.ensures it told.1) ∙ c.in-Some-value-3.is) (sym (c.value-in-Some-value-3.ensures it told.1) ∙ c.in-Some-value-4.is))) (record { lines = refl; launch = refl; memory = refl; items = refl }) refl refl
 
 pub returns-in-None-value-4 : goal.returns-in-None-value-4
 returns-in-None-value-4 c = advances_same c.args.self.now (Step c.args.item) _ _ c.take-in-None-value-4.ensures (record { lines = refl; launch = refl; memory = refl; items = refl }) refl refl
@@ -74,18 +68,16 @@ pub returns-in-Changes : goal.returns-in-Changes
 returns-in-Changes c =
     let m = c.args.self.now in
     let j = c.args.item in
-    let it = c.in-Some.it.now in
-    let at = c.line-at.result in
+    let at = c.in-Some.at in
+    let told = line_told m j at (sym c.in-Some.is ∙ c.line.ensures) in
+    let it = told.0 in
     let w = c.in-Some-Tail in
-    let items = c.deref.ensures.value in
-    let lines = c.deref-in-Some.ensures.value in
-    let got = get_or_is c.deref.result.now j it (ltb-true j _ (sym c.in-Some.ensures.lookup.0)) c.in-Some.ensures.lookup.1 in
-    let read = get_or_is c.deref-in-Some.result.now at w.field-0.now (ltb-true at _ (sym w.ensures.lookup.0)) w.ensures.lookup.1 in
-    let item_is : slice_get m.items.items j ≡ Some it = ap (λ z. slice_get z j) (sym items) ∙ got in
+    let lines = c.deref.ensures.value in
+    let read = get_or_is c.deref.result.now at w.field-0.now (ltb-true at _ (sym w.ensures.lookup.0)) w.ensures.lookup.1 in
     let is = w.field-0-is in
     let line_is : slice_get m.lines.items at ≡ Some (Tail w.head) = ap (λ z. slice_get z at) (sym lines) ∙ read ∙ ap Some is in
-    let back : c.want_back.result ≡ want_tail m.lines.items (ids_of m.launch j) w.head it.turns = c.want_back.ensures ∙ ap (λ z. want_tail z (ids_of m.launch j) w.head it.turns) c.deref-in-Some-Tail.ensures.value in
-    advances_same m (Step j) _ _ (c.keep-in-Changes.ensures (subst (IsWanted m j) c.in-Changes.is (wants_to_repeat m j it at w.head c.want_back.result (record { item = item_is; place = c.line-at.ensures; line = line_is }) back))) (record { lines = refl; launch = refl; memory = refl; items = refl }) refl refl
+    let back : c.want_back.result ≡ want_tail m.lines.items (ids_of m.launch j) w.head it.turns = c.want_back.ensures it told.1 ∙ ap (λ z. want_tail z (ids_of m.launch j) w.head it.turns) c.deref-in-Some-Tail.ensures.value in
+    advances_same m (Step j) _ _ (c.keep-in-Changes.ensures (subst (IsWanted m j) c.in-Changes.is (wants_to_repeat m j it at w.head c.want_back.result (record { item = told.1; place = told.2; line = line_is }) back))) (record { lines = refl; launch = refl; memory = refl; items = refl }) refl refl
 
 pub returns-in_default : goal.returns-in_default
 returns-in_default c = advances_same c.args.self.now (Step c.args.item) _ _ c.take-in_default.ensures (record { lines = refl; launch = refl; memory = refl; items = refl }) refl refl

@@ -9,7 +9,7 @@ use Rattle.ndrange_machine.proofs.Settling.{tells_going, tells_over, over_more}
 use Rattle.ndrange_machine.proofs.machine.Machine.have_ended.Goals as goal
 
 abbrev Over : Machine → (item : ℕ) → Bool → Type 0
-Over m item t = (a : ItemView) → slice_get m.items.items item ≡ Some a → IsTrue t ↔ length m.lines.items ≤ a.line
+Over m item t = (a : ItemView) → slice_get m.items item ≡ Some a → IsTrue t ↔ length m.lines.items ≤ a.line
 
 pub loop-number-preserved : goal.loop-number-preserved
 loop-number-preserved c =

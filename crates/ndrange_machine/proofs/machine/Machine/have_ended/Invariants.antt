@@ -6,4 +6,4 @@ use Rattle.ndrange_machine.proofs.machine.Machine.have_ended.Given as goal
 
 -- the items so far have ended
 abbrev pub invariant-loop-number : goal.invariant-loop-number
-invariant-loop-number l = (j : ℕ) (a : ItemView) → j < l.number → slice_get l.self.items.items (member_at l.self.launch l.group j) ≡ Some a → length l.self.lines.items ≤ a.line
+invariant-loop-number l = (j : ℕ) (a : ItemView) → j < l.number → slice_get l.self.items (member_at l.self.launch l.group j) ≡ Some a → length l.self.lines.items ≤ a.line

@@ -1,4 +1,4 @@
-use Rattle.std.proofs.Common.{◌∙◌, sym, ap, subst}
+use Rattle.std.proofs.Common.{◌∙◌, sym, subst}
 use Rattle.kernel_tree.specs.declared.events.Event.TheVariants.{Step}
 use Rattle.ndrange_machine.specs.Takes.{Advanced}
 use Rattle.ndrange_machine.proofs.Stepping.{took_read, took_read_outside}

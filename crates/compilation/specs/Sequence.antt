@@ -1,0 +1,122 @@
+-- A program and a script, compiled to kernels in order.
+use Rattle.std.specs.Prelude.{◌≡◌, ℕ, List, [], ◌∷◌, ◌++◌, map, length, Bool, false, Option, Some, None, Result, Ok, Err}
+use Rattle.kernel_spelling.specs.SequenceText.{IsSequenceText}
+use Rattle.lift_tree.specs.Annotations.{type_in}
+use Rattle.lift_tree.specs.Lists.{Every}
+use Rattle.lift_tree.specs.Programs.{PlainProgram}
+use Rattle.lift_tree.specs.Types.{PlainTy, ty_of}
+use Rattle.lift_tree.specs.Typing.{Declared, HasOutput, declared_by}
+use Rattle.lowered_tree.specs.Kinds.{is_task}
+use Rattle.lowered_tree.specs.declared.rule.NestRule.TheVariants.{N13}
+use Rattle.kernel_sequence.specs.Bound.{first_bound}
+use Rattle.kernel_sequence.specs.Cut.{Part, kernel_parts, part}
+use Rattle.kernel_sequence.specs.Refused.{passed_count}
+use Rattle.kernel_sequence.specs.declared.no.CutNo.{CutNo}
+use Rattle.kernel_sequence.specs.declared.no.CutNo.TheVariants as cuts
+use Rattle.kernel_emit.specs.Kernels.{IsKernelFor}
+use Rattle.sequence_runs.specs.Runs.{SequenceKeeps, Stage}
+use Rattle.strategy_script.specs.LocalSize.{local_fixed}
+use Rattle.strategy_script.specs.Steps.{State}
+use Rattle.fault_lines.specs.declared.refusal.Refusal.{Refusal}
+use Rattle.fault_lines.specs.declared.refusal.Refusal.TheVariants as told
+use Rattle.stages.specs.Stages.{As, Gives, Then}
+use Rattle.program_source.specs.Program.{IsRead}
+use Rattle.program_source.specs.Terms.{LastOf, TermsOf}
+use Rattle.compilation.specs.Legal.{CompilesTerm}
+use Rattle.compilation.specs.Meets.{CanBeLaidOut}
+use Rattle.compilation.specs.declared.sequence.KernelOutline.{KernelOutline}
+
+-- ---- which programs are compiled
+
+-- a term with the types of its nodes, as a script's terms are
+abbrev pub state_in : Part → State
+state_in x = record { tree = x.tree; types = x.types }
+
+-- the terms of the kernels that a term over so many inputs is cut into; or the first `then` in preorder that a binder is around, or where there is none how many kernels there are, if more than sixteen
+abbrev pub CutOf : (inputs : ℕ) → State → Result (List Part) CutNo → Type 0
+CutOf i s (Ok parts) = (first_bound false s.tree ≡ None) × (passed_count s.tree s.types ≡ None) × (parts ≡ kernel_parts i s.tree s.types)
+CutOf i s (Err (cuts.Nest place rule)) = (first_bound false s.tree ≡ Some place) × (rule ≡ N13)
+CutOf i s (Err (cuts.Limit count)) = (first_bound false s.tree ≡ None) × (passed_count s.tree s.types ≡ Some count)
+CutOf i s (Err cuts.Memory) = ⊥
+
+-- each kernel's own stages in turn: its nest, then its buffers; only then the next kernel's
+abbrev pub CompilesInTurn : Option ℕ → List Part → Result (Unit {0}) Refusal → Type 0
+CompilesInTurn local [] = Gives tt
+CompilesInTurn local (x ∷ xs) = Then (CompilesTerm local (state_in x)) (λ _. CompilesInTurn local xs)
+
+-- the terms of a last term's kernels, where all are compiled; or the first stage that stops: the cut, then each kernel's
+abbrev pub CompilesParts : (inputs : ℕ) → Option ℕ → State → Result (List Part) Refusal → Type 0
+CompilesParts i local last =
+    Then (As told.Cut (CutOf i last)) (λ parts. Then (CompilesInTurn local parts) (λ _. Gives parts))
+
+-- the terms of the kernels of a program along a script, where all are compiled; or the first stage that stops
+abbrev pub SequenceOf : PlainProgram → (script : List ℕ) → Result (List Part) Refusal → Type 0
+SequenceOf p script =
+    Then (TermsOf p script) (λ terms. Then (LastOf terms) (CompilesParts (length p.inputs) (local_fixed script)))
+
+-- ---- what is compiled
+
+-- what is to be known of a kernel before it is run: whether one work-item runs it, and the type of what it makes
+pub record Outline : Type 0 where
+  pub alone : Bool
+  pub output : PlainTy
+
+abbrev pub outline_in : Part → Outline
+outline_in x = record { alone = is_task x.tree; output = type_in x.types }
+
+abbrev pub outline_of : KernelOutline → Outline
+outline_of k = record { alone = k.is_task; output = ty_of k.output }
+
+-- the term of a kernel of a sequence
+abbrev pub part_of : Stage → Part
+part_of k = part k.tree k.types
+
+-- the same with one input more
+abbrev pub with_input : Declared → PlainTy → Declared
+with_input d a = record d { inputs = d.inputs ++ a ∷ [] }
+
+-- each kernel may name the sizes and inputs of the first, and behind these what each kernel before it makes
+abbrev pub HaveInputsBehind : (first : Declared) → List Stage → Type 0
+HaveInputsBehind d [] = Unit {0}
+HaveInputsBehind d (k ∷ ks) = (k.declared ≡ d) × HaveInputsBehind (with_input d (type_in k.types)) ks
+
+-- each kernel is its own term's, with groups of the local size that is fixed
+abbrev pub AreKernelsFor : Option ℕ → List Stage → Type 0
+AreKernelsFor local = Every (λ (k : Stage). IsKernelFor k.declared local k.tree k.types k.kernel)
+
+-- The text is that of kernels in order, of the terms that the script's last term is cut into. Each is
+-- printed for its term, and has a buffer for each component of the program's inputs, of what each
+-- kernel before it makes and of what it makes itself, as one that is compiled alone. And at every
+-- list of admissible launches with one valuation, on all inputs, whatever scratch and other memory
+-- hold, when the kernels are run in order, each from the buffers that the one before left after it
+-- stopped: every run has no fault and at most its bound's events, and writes each cell of its
+-- kernel's output at most once, by its owner; and the last kernel's can stop only with the program's
+-- value, which is of the output's type.
+pub record IsCompiledSequence (program script : List ℕ) (p : PlainProgram) (output : PlainTy) (local : Option ℕ) (outlines : List Outline) (text : List ℕ) : Type 0 where
+  pub read : IsRead program p
+  pub typed : HasOutput p p.body output
+  pub fixed : local ≡ local_fixed script
+  pub parts : List Part
+  pub compiled : SequenceOf p script (Ok parts)
+  pub outlined : map outline_in parts ≡ outlines
+  pub kernels : List Stage
+  pub terms : map part_of kernels ≡ parts
+  pub inputs : HaveInputsBehind (declared_by p) kernels
+  pub each : AreKernelsFor local kernels
+  pub written : IsSequenceText text (map (λ (k : Stage). k.kernel) kernels)
+  pub keep : SequenceKeeps (declared_by p) local p.body output kernels
+
+-- this is the last of them
+abbrev pub EndsWith : List Outline → PlainTy → Type 0
+EndsWith outlines a = (front : List Outline) × (last : Outline) × (outlines ≡ front ++ last ∷ []) × (last.output ≡ a)
+
+-- The text is of kernels for the program in order: over its sizes, and run in order they keep the program's value, which is of the output's type, the last kernel's.
+pub record IsSequenceFor (p : PlainProgram) (output : PlainTy) (local : Option ℕ) (outlines : List Outline) (text : List ℕ) : Type 0 where
+  pub typed : HasOutput p p.body output
+  pub laid_out : Every (λ (o : Outline). CanBeLaidOut (declared_by p).names o.output) outlines
+  pub last : EndsWith outlines output
+  pub kernels : List Stage
+  pub outlined : map (λ (k : Stage). outline_in (part_of k)) kernels ≡ outlines
+  pub names : Every (λ (k : Stage). k.declared.names ≡ (declared_by p).names) kernels
+  pub written : IsSequenceText text (map (λ (k : Stage). k.kernel) kernels)
+  pub keep : SequenceKeeps (declared_by p) local p.body output kernels

@@ -1,0 +1,155 @@
+use Rattle.std.proofs.Common.{◌≡◌, ◌∙◌, ◌+◌, ◌-◌, ◌<◌, ◌≤◌, Some, refl, ap, subst, set, arith, length}
+use Rattle.std.specs.Prelude.{option_map, slice_get, ◌==◌, if◌then◌else◌}
+use Rattle.std.specs.Vec.{with_item}
+use Rattle.ndrange_machine.specs.declared.items.Items.TheInside.{Inside}
+use Rattle.ndrange_machine.specs.declared.items.Place.{Place}
+use Rattle.ndrange_machine.specs.declared.change.Change.TheVariants.{Sets, SetsFour, Begins, Repeats}
+use Rattle.ndrange_machine.specs.Changes.{changed}
+use Rattle.ndrange_machine.specs.ItemView.{ItemView}
+use Rattle.ndrange_machine.proofs.Flat.{Moves, Moved, cell_put, counted, count_on, has_part, items_changed, laid_on, moved_as, moves_word, moves_four, moves_begin, moves_full, moves_again, moves_nowhere, moves_out, moves_not, nothing_there}
+use Rattle.ndrange_machine.proofs.Rows.{get_or_is}
+use Rattle.ndrange_machine.proofs.items.Items.change.Goals.{in-Sets, in-SetsFour, in-Begins+then-inside-self, in-Begins+else-inside-self, in-Repeats+then-inside-gt0, in-Repeats+else-inside-gt0, in-Leaves, in-Keeps}
+use Rattle.ndrange_machine.proofs.items.Items.change.Goals as goal
+
+-- the place that the item has then
+after : goal.After-self-2-1 → Place
+after c = record { line = c.args.line; inside = c.match-change.inside }
+
+there : (c : goal.After-self-2-1) → c.args.item < length c.self.inside.places.items
+there c = omega (arith, c.if-item-len.false, c.len.ensures, c.self.inside.places.ok.0)
+
+stood : (c : goal.After-self-2-1) → slice_get c.self.inside.places.items c.args.item ≡ Some c.index.result.now
+stood c = get_or_is c.self.inside.places.items c.args.item c.index.result.now (there c) c.index.ensures
+
+moved : (c : goal.After-self-2-1) → Moved c.self.inside c.match-change.self-inside c.args.item c.index.result.now (after c) c.args.change
+unfolding after
+moved c =
+    let x = c.self.inside in
+    let z = c.match-change.self-inside in
+    let j = c.args.item in
+    let p = c.index.result.now in
+    let line = c.args.line in
+    let inside = c.match-change.inside in
+    let change = c.args.change in
+    let laid = c.self.invariant in
+    let low : p.inside ≤ x.depth = laid.inside j p (stood c) in
+    let n = counted x c.args.self.now c.self.view_is in
+    let in_now : j < length c.args.self.now = let lt = there c in omega (arith, lt, n) in
+    let words = has_part x c.args.self.now c.self.view_is x.words.items x.variables j laid.words in_now in
+    let vectors = has_part x c.args.self.now c.self.view_is x.vectors.items x.fours j laid.vectors in_now in
+    let turns = has_part x c.args.self.now c.self.view_is x.turns.items x.depth j laid.turns in_now in
+    elim c.match-change.branch as (λ v. Moved x z j p (record { line = line; inside = inside }) change) [
+      | in-Sets w ↦
+          let v = w.in-Sets.variable in
+          let word = w.in-Sets.word in
+          moved_as x z j p line inside change w.self-inside-is w.inside-is w.in-Sets.is (record {
+            depth = refl;
+            variables = refl;
+            fours = refl;
+            places = refl;
+            moves = subst (λ ws. Moves x j p (record { line = line; inside = p.inside }) (Sets v word) x.turns.items ws x.vectors.items)
+                (cell_put x.words w.deref_mut.result.now w.put.new.cells x.variables j v word w.deref_mut.ensures.value w.put.ensures)
+                (moves_word x j line p low v word words);
+          })
+      | in-SetsFour w ↦
+          let v = w.in-SetsFour.variable in
+          let four = w.in-SetsFour.four in
+          moved_as x z j p line inside change w.self-inside-is w.inside-is w.in-SetsFour.is (record {
+            depth = refl;
+            variables = refl;
+            fours = refl;
+            places = refl;
+            moves = subst (λ us. Moves x j p (record { line = line; inside = p.inside }) (SetsFour v four) x.turns.items x.words.items us)
+                (cell_put x.vectors w.deref_mut-in-SetsFour.result.now w.put-in-SetsFour.new.cells x.fours j v four w.deref_mut-in-SetsFour.ensures.value w.put-in-SetsFour.ensures)
+                (moves_four x j line p low v four vectors);
+          })
+      | in-Begins+then-inside-self w ↦
+          let turn = w.in-Begins.turn in
+          moved_as x z j p line inside change w.self-inside-is w.inside-is w.in-Begins.is (record {
+            depth = refl;
+            variables = refl;
+            fours = refl;
+            places = refl;
+            moves = subst (λ ts. Moves x j p (record { line = line; inside = p.inside + 1 }) (Begins turn) ts x.words.items x.vectors.items)
+                (cell_put x.turns w.deref_mut-then-inside-self.result.now w.put-then-inside-self.new.cells x.depth j p.inside turn w.deref_mut-then-inside-self.ensures.value w.put-then-inside-self.ensures)
+                (moves_begin x j line p low turns turn w.if-inside-self.true);
+          })
+      | in-Begins+else-inside-self w ↦
+          moved_as x z j p line inside change w.self-inside-is w.inside-is w.in-Begins.is (record {
+            depth = refl;
+            variables = refl;
+            fours = refl;
+            places = refl;
+            moves = moves_full x j line p low turns w.in-Begins.turn w.if-inside-self.false;
+          })
+      | in-Repeats+then-inside-gt0 w ↦
+          let turn = w.in-Repeats.turn in
+          moved_as x z j p line inside change w.self-inside-is w.inside-is w.in-Repeats.is (record {
+            depth = refl;
+            variables = refl;
+            fours = refl;
+            places = refl;
+            moves = subst (λ ts. Moves x j p (record { line = line; inside = p.inside }) (Repeats turn) ts x.words.items x.vectors.items)
+                (cell_put x.turns w.deref_mut-then-inside-gt0.result.now w.put-then-inside-gt0.new.cells x.depth j (p.inside - 1) turn w.deref_mut-then-inside-gt0.ensures.value w.put-then-inside-gt0.ensures)
+                (moves_again x j line p low turns turn w.if-inside-gt0.true);
+          })
+      | in-Repeats+else-inside-gt0 w ↦
+          moved_as x z j p line inside change w.self-inside-is w.inside-is w.in-Repeats.is (record {
+            depth = refl;
+            variables = refl;
+            fours = refl;
+            places = refl;
+            moves = moves_nowhere x j line p low turns w.in-Repeats.turn w.if-inside-gt0.false;
+          })
+      | in-Leaves w ↦
+          moved_as x z j p line inside change w.self-inside-is (w.inside-is ∙ w.saturating_sub-inside.ensures) w.in-Leaves.is (record {
+            depth = refl;
+            variables = refl;
+            fours = refl;
+            places = refl;
+            moves = moves_out x j line p low turns;
+          })
+      | in-Keeps w ↦
+          moved_as x z j p line inside change w.self-inside-is w.inside-is w.in-Keeps.is (record {
+            depth = refl;
+            variables = refl;
+            fours = refl;
+            places = refl;
+            moves = moves_not x j line p low turns;
+          })
+    ]
+
+-- what the items are then
+made : goal.After-self-2-1 → Inside
+made c =
+    let z = c.match-change.self-inside in
+    record { depth = z.depth; variables = z.variables; fours = z.fours; places = with_item z.places c.args.item (record { line = c.args.line; inside = c.match-change.inside }); turns = z.turns; words = z.words; vectors = z.vectors }
+
+places_are : (c : goal.After-self-2-1) → (made c).places.items ≡ set c.self.inside.places.items c.args.item (after c)
+unfolding after made
+places_are c = ap (λ ps. set ps c.args.item (after c)) (moved c).places
+
+pub invariant_of-self : goal.invariant_of-self
+unfolding after made
+invariant_of-self c =
+    let m = moved c in
+    laid_on c.self.inside (made c) c.args.item c.index.result.now (after c) c.args.change (stood c) (places_are c) m.depth m.variables m.fours m.moves c.self.invariant
+
+pub returns-then-item-len-clause-items : goal.returns-then-item-len-clause-items
+returns-then-item-len-clause-items c =
+    let n = counted c.self.inside c.args.self.now c.self.view_is in
+    nothing_there c.args.self.now c.args.item (λ it. changed it c.args.change c.args.line) (omega (arith, n, c.if-item-len.true, c.len.ensures, c.self.inside.places.ok.0))
+
+pub returns-clause-count : goal.returns-clause-count
+unfolding after made
+returns-clause-count c =
+    let m = moved c in
+    count_on c.self.inside (made c) c.args.item c.index.result.now (after c) c.args.change (stood c) (places_are c) m.depth m.variables m.fours m.moves ∙ ap length c.self.view_is
+
+pub returns-clause-items : goal.returns-clause-items
+unfolding after made
+returns-clause-items c = λ i.
+    let m = moved c in
+    let change : ItemView → ItemView = λ it. changed it c.args.change c.args.line in
+    items_changed c.self.inside (made c) c.args.item c.index.result.now (after c) c.args.change (stood c) (places_are c) m.depth m.variables m.fours m.moves i
+    ∙ ap (λ z. if i == c.args.item then option_map change (slice_get z i) else slice_get z i) c.self.view_is
