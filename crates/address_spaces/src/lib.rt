@@ -53,7 +53,8 @@ fn add_spaces(node: Node<'_>, spaces: &mut Vec<AddressSpace>) -> Result<(), Allo
     add_children(node.children(), spaces)
 }
 
-/// Gives each computing node of a legal term its address space: that of the nearest copy around it, else the output's.
+/// Gives each computing node of a legal term its address space: that of the nearest
+/// copy around it, else the output's.
 pub fn spaces(alloc: Global, mapped: Mapped) -> Result<Spaced, AllocError>
     ensures { IfOk result (λ s. s.mapped ≡ mapped) }
 {

@@ -20,14 +20,17 @@ pub data PlainAccess : Type 0 where
   Variable : (number : ℕ) → PlainAccess
   InCell : (array : Array) → (index : Expression) → PlainAccess
 
+-- a cell of an array
 abbrev pub cell_of : Cell → PlainAccess
 cell_of c = InCell (array_with c.kind c.array) (expression_of c.index)
 
+-- what stands for a scalar
 abbrev pub access_of : Access → PlainAccess
 access_of access.Nothing = Nothing
 access_of (access.Variable n) = Variable n
 access_of (access.InCell c) = cell_of c
 
+-- where a scalar goes: a cell, or nowhere
 abbrev pub target_of : Option Cell → PlainAccess
 target_of None = Nothing
 target_of (Some c) = cell_of c
@@ -54,16 +57,19 @@ row_major (ArrayOf n t) (i ∷ q) = row_major_from i t q
 row_major _ _ = Literal 0
 
 -- the side that is chosen
-abbrev pub chosen : List Bool → (nothing : PlainAccess) → (left right : List Bool → PlainAccess) → PlainAccess
+abbrev pub chosen : List Bool → (nothing : PlainAccess) → (left right : List Bool → PlainAccess)
+    → PlainAccess
 chosen [] n f g = n
 chosen (false ∷ cs) n f g = f cs
 chosen (true ∷ cs) n f g = g cs
 
+-- what the view has at pair choices and indices
 abbrev pub access_at : PlainView → List Bool → List Expression → PlainAccess
 access_at view.Nothing cs is = Nothing
 access_at (view.Variable n) cs is = Variable n
 access_at (view.Placed k n t) cs is = InCell (array_with k (n + component t cs)) (row_major t is)
-access_at (view.Both x y) cs is = chosen cs Nothing (λ cs. access_at x cs is) (λ cs. access_at y cs is)
+access_at (view.Both x y) cs is =
+    chosen cs Nothing (λ cs. access_at x cs is) (λ cs. access_at y cs is)
 access_at (view.Component s x) cs is = access_at x (s ∷ cs) is
 access_at (view.At i x) cs is = access_at x cs (i ∷ is)
 access_at (view.Reading y x) cs is = access_at x cs (to_operand y is)

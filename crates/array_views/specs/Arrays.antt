@@ -16,6 +16,7 @@ array_with kind.Output n = code.Output n
 array_with kind.Local n = code.Local n
 array_with kind.Private n = code.Private n
 
+-- the type that an extent stands for
 abbrev pub extent_of : Extent → Shape Expression
 extent_of extent.Scalar = Scalar
 extent_of (extent.Pair' p a q b) = PairOf (extent_of a) (extent_of b)

@@ -33,6 +33,7 @@ IsWholeGoal _ = ⊥
 
 -- the values of sizes and of loop variables
 module _ (sizes variables : List ℕ) where
+  -- the value of a length
   abbrev pub number_at : Expression → ℕ
   number_at e = natural (exact sizes variables e)
 
@@ -42,19 +43,23 @@ module _ (sizes variables : List ℕ) where
     pub ranged : IsRangedAt sizes variables e
     pub divisors : HasNoZeroDivisorAt sizes variables e
 
+  -- indices of these values, one each
   abbrev pub AreIndices : List Expression → List ℕ → Type 0
   AreIndices [] [] = Unit {0}
   AreIndices (e ∷ es) (n ∷ q) = IsIndex e n × AreIndices es q
   AreIndices _ _ = ⊥
 
+  -- a length has its value without a wrap
   abbrev pub IsLength : Expression → Type 0
   IsLength e = IsIndex e (number_at e)
 
+  -- so have all lengths of a type
   abbrev pub HasLengths : Shape Expression → Type 0
   HasLengths Scalar = Unit {0}
   HasLengths (PairOf a b) = HasLengths a × HasLengths b
   HasLengths (ArrayOf n t) = IsLength n × HasLengths t
 
+  -- and those of a layout
   abbrev pub KeepsLengths : Layout Expression → Type 0
   KeepsLengths (Split m) = IsLength m
   KeepsLengths (Join m) = IsLength m
@@ -77,7 +82,9 @@ module _ (sizes variables : List ℕ) where
   IsViewOf (Placed k n s) t = (t ≡ measured number_at s) × IsPlaced number_at s × HasLengths s
   IsViewOf (Both x y) t =
       ((a b : Ty) × (t ≡ PairOf a b) × IsViewOf x a × IsViewOf y b)
-      ⊎ ((n : ℕ) × (a b : Ty) × (t ≡ ArrayOf n (PairOf a b)) × IsViewOf x (ArrayOf n a) × IsViewOf y (ArrayOf n b))
+      ⊎
+      ((n : ℕ) × (a b : Ty) × (t ≡ ArrayOf n (PairOf a b)) × IsViewOf x (ArrayOf n a)
+      × IsViewOf y (ArrayOf n b))
   IsViewOf (Component false x) t = (u : Ty) × IsViewOf x (PairOf t u)
   IsViewOf (Component true x) t = (u : Ty) × IsViewOf x (PairOf u t)
   IsViewOf (At i x) t = (n : ℕ) × IsViewOf x (ArrayOf n t) × IsLength i × (number_at i < n)
@@ -103,7 +110,8 @@ module _ (sizes variables : List ℕ) where
 
   -- the arrays are as long as their values
   abbrev pub HasArrays : (Array → ℕ) → PlainView → Type 0
-  HasArrays long (Placed k n s) = (c : ℕ) → c < width s → long (array_with k (n + c)) ≡ size (measured number_at s)
+  HasArrays long (Placed k n s) =
+      (c : ℕ) → c < width s → long (array_with k (n + c)) ≡ size (measured number_at s)
   HasArrays long (Both x y) = HasArrays long x × HasArrays long y
   HasArrays long (Component s x) = HasArrays long x
   HasArrays long (At i x) = HasArrays long x
@@ -113,6 +121,8 @@ module _ (sizes variables : List ℕ) where
 
   -- a cell of its arrays
   abbrev pub IsCellOf : PlainView → Mark → Type 0
-  IsCellOf (Placed k n s) m = (c i : ℕ) × (c < width s) × (i < size (measured number_at s)) × (m ≡ Spot (array_with k (n + c)) i)
+  IsCellOf (Placed k n s) m =
+      (c i : ℕ) × (c < width s) × (i < size (measured number_at s))
+      × (m ≡ Spot (array_with k (n + c)) i)
   IsCellOf (Writing y x) m = IsCellOf x m
   IsCellOf _ m = ⊥

@@ -8,6 +8,7 @@ use Rattle.index_simplify.specs.Tests.{same}
 use Rattle.array_views.specs.declared.layout.Layout.{Layout}
 use Rattle.array_views.specs.declared.layout.Layout.TheVariants as layout
 
+-- the layout that is held
 abbrev pub layout_in : Layout → ir.Layout Expression
 layout_in (layout.Split m) = ir.Split (expression_of m)
 layout_in (layout.Join m) = ir.Join (expression_of m)
@@ -30,7 +31,8 @@ abbrev pub are_parts : (row length column : Expression) → Bool
 are_parts (Binary Quotient e n) m (Binary Remainder f k) = same e f && same n m && same k m
 are_parts _ _ _ = false
 
--- the index of a column in a row of this length; the row and the column of one index are that index again
+-- the index of a column in a row of this length; the row and the column of
+-- one index are that index again
 abbrev pub cell_in_rows : (row length column : Expression) → Expression
 cell_in_rows i m j = if are_parts i m j then first_part i else Binary Sum (Binary Product i m) j
 
@@ -44,6 +46,7 @@ abbrev pub parted : (length : Expression) → List Expression → List Expressio
 parted m (i ∷ p) = Binary Quotient i m ∷ Binary Remainder i m ∷ p
 parted m p = p
 
+-- the first two indices change places
 abbrev pub swapped : List Expression → List Expression
 swapped (i ∷ j ∷ p) = j ∷ i ∷ p
 swapped p = p
@@ -55,7 +58,8 @@ turned n p = p
 
 -- the index without so many in front, and not past the last
 abbrev pub clamped : (left length : Expression) → List Expression → List Expression
-clamped l n (i ∷ p) = Binary Least (Binary Difference (Binary Greatest i l) l) (Binary Difference n (Literal 1)) ∷ p
+clamped l n (i ∷ p) =
+    Binary Least (Binary Difference (Binary Greatest i l) l) (Binary Difference n (Literal 1)) ∷ p
 clamped l n p = p
 
 -- the indices in the operand of indices in the result

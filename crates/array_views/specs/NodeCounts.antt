@@ -17,6 +17,7 @@ abbrev pub parted_nodes : (length : ℕ) → List ℕ → List ℕ
 parted_nodes m (i ∷ p) = (i + m + 1) ∷ (i + m + 1) ∷ p
 parted_nodes m p = p
 
+-- j and i
 abbrev pub swapped_nodes : List ℕ → List ℕ
 swapped_nodes (i ∷ j ∷ p) = j ∷ i ∷ p
 swapped_nodes p = p
@@ -33,6 +34,7 @@ clamped_nodes n p = p
 
 -- lengths and indices at elements are counted so
 module _ (count : Expression → ℕ) where
+  -- in the operand, from those in the result
   abbrev pub operand_nodes : Layout Expression → List ℕ → List ℕ
   operand_nodes (Split m) ns = flattened_nodes (count m) ns
   operand_nodes (Join m) ns = parted_nodes (count m) ns
@@ -41,6 +43,7 @@ module _ (count : Expression → ℕ) where
   operand_nodes (Slide s t) ns = flattened_nodes 1 ns
   operand_nodes (Pad l r n) ns = clamped_nodes (count n) ns
 
+  -- in the result, from those in the operand
   abbrev pub result_nodes : Layout Expression → List ℕ → List ℕ
   result_nodes (Split m) ns = parted_nodes (count m) ns
   result_nodes (Join m) ns = flattened_nodes (count m) ns
@@ -53,10 +56,12 @@ module _ (count : Expression → ℕ) where
   row_major_nodes i (ArrayOf m t) (j ∷ q) = row_major_nodes (i + count m + 1 + j + 1) t q
   row_major_nodes i _ _ = i
 
+  -- of the index in row-major order, which for an array of one dimension is the index alone
   abbrev pub placed_nodes : Shape Expression → List ℕ → ℕ
   placed_nodes (ArrayOf n t) (i ∷ q) = row_major_nodes i t q
   placed_nodes _ _ = 1
 
+  -- of a view's index at pair choices
   abbrev pub nodes_at : PlainView → List Bool → List ℕ → ℕ
   nodes_at (Placed k n t) cs ns = placed_nodes t ns
   nodes_at (Both x y) (false ∷ cs) ns = nodes_at x cs ns
@@ -72,8 +77,11 @@ module _ (count : Expression → ℕ) where
   index_nodes (access.InCell a e) = count e
   index_nodes _ = 0
 
+  -- no view's index has more nodes, so counted
   abbrev pub HaveNoMoreNodes : Type 0
-  HaveNoMoreNodes = (v : PlainView) (cs : List Bool) (is : List Expression) → index_nodes (access_at v cs is) ≤ nodes_at v cs (map count is)
+  HaveNoMoreNodes =
+      (v : PlainView) (cs : List Bool) (is : List Expression)
+      → index_nodes (access_at v cs is) ≤ nodes_at v cs (map count is)
 
 -- an index has no more nodes than the formulas put into one another, counted in full and in short
 abbrev pub IndicesHaveNoMoreNodes : Type 0

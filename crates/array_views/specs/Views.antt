@@ -16,6 +16,7 @@ use Rattle.length_spelling.specs.Formulas.{index_formula}
 use Rattle.array_views.specs.Arrays.{array_with, extent_of}
 use Rattle.array_views.specs.Layouts.{layout_in}
 
+-- what stands for each scalar of a value, by pair choices and indices
 pub data PlainView : Type 0 where
   Nothing : PlainView
   Variable : (number : ℕ) → PlainView
@@ -26,6 +27,7 @@ pub data PlainView : Type 0 where
   Reading : Layout Expression → PlainView → PlainView
   Writing : Layout Expression → PlainView → PlainView
 
+-- the view of a node and of all below it
 abbrev pub plain_of : Node → PlainView
 plain_of node.Nothing = Nothing
 plain_of (node.Variable n) = Variable n
@@ -47,12 +49,15 @@ view_of (At i x) = view_at (index_formula i) (view_of x)
 view_of (Reading y x) = λ cs is. view_of x cs (operand_indices index_formula y is)
 view_of (Writing y x) = λ cs is. view_of x cs (result_indices index_formula y is)
 
+-- the view that is held
 abbrev pub plain_in : held.View → PlainView
 plain_in v = plain_of v.node.value
 
+-- that view in the printed form
 abbrev pub view_in : held.View → View
 view_in v = view_of (plain_in v)
 
+-- which scalars of a bound element are loaded
 abbrev pub loads_of : LoadSet → ir.LoadSet
 loads_of load.Skip = ir.Skip
 loads_of load.Take = ir.Take

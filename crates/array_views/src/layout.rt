@@ -37,7 +37,8 @@ pub enum Layout {
         size: u32,
         step: u32,
     },
-    /// So many copies of the first element before, and of the last after; the operand has this length.
+    /// So many copies of the first element before, and of the last
+    /// after; the operand has this length.
     Pad {
         left: u32,
         right: u32,
@@ -46,7 +47,8 @@ pub enum Layout {
 }
 
 impl Layout {
-    /// The layout of a form, of a type over an operand's; any form that is no layout of its own is taken for transpose, a stride too, which is lowered to three.
+    /// The layout of a form, of a type over an operand's; any form that is no layout of its own is
+    /// taken for transpose, a stride too, which is lowered to three.
     pub fn of_form(
         alloc: Global,
         names: &Names,
@@ -188,8 +190,9 @@ fn divided(quotient: Index) -> Index
     }
 }
 
-// The most nodes of an index that is put in two places. Each of many layouts can double an index, so
-// that a term of some thirty nodes would have one of 2^24; past this the answer is want of memory.
+// The most nodes of an index that is put in two places. Each of many layouts can
+// double an index, so that a term of some thirty nodes would have one of 2^24; past
+// this the answer is want of memory.
 const MOST_PARTED: u64 = 262_144;
 
 // An index becomes the row and the index in it.

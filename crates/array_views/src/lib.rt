@@ -1,6 +1,8 @@
-//! Views of arrays: what stands for each scalar of a value, and where each scalar of it goes, a private variable or a cell of an array.
+//! Views of arrays: what stands for each scalar of a value, and where each scalar of it goes, a
+//! private variable or a cell of an array.
 //!
-//! The views are those of Lift's code generator (Steuwer, Remmelg and Dubach, CGO 2017): a layout isn't carried out, it changes the indices with which what it stands on is read or written.
+//! The views are those of Lift's code generator (Steuwer, Remmelg and Dubach, CGO 2017): a layout
+//! isn't carried out, it changes the indices with which what it stands on is read or written.
 #![tactic(auto)]
 
 pub mod access;

@@ -33,7 +33,9 @@ use std::rc::Rc;
 
 /// What stands for each scalar of a value, or where each scalar of it goes.
 ///
-/// What a view is made of is shared and never copied: to make one takes room for one node and its index or lengths (for a value in arrays, its type's lengths; for variables, a node each), and `share` takes none.
+/// What a view is made of is shared and never copied: to make one takes room for one node and
+/// its index or lengths (for a value in arrays, its type's lengths; for variables, a node
+/// each), and `share` takes none.
 #[derive(Drop)]
 pub struct View {
     node: Rc<Node>,
@@ -65,7 +67,8 @@ impl View {
         View::new(alloc, Node::Nothing)
     }
 
-    /// A value in buffers of this kind, one a component, the first of which has this number. Its lengths are spelled over the sizes.
+    /// A value in buffers of this kind, one a component, the first of which has this number. Its
+    /// lengths are spelled over the sizes.
     #[tactic(auto, using(crate::proofs::Shapes::width_spelled))]
     pub fn placed(
         alloc: Global,
@@ -129,7 +132,8 @@ impl View {
         }
     }
 
-    /// An element, once these of its scalars are loaded into private variables, the first of which has this number.
+    /// An element, once these of its scalars are loaded into private variables, the
+    /// first of which has this number.
     pub fn loaded(&self, alloc: Global, loads: &LoadSet, first: u32) -> Result<Self, AllocError>
         requires { first + load_count (loads_of loads.now) < 2 ^ 32 }
         ensures { IfOk result (λ v. view_in v
@@ -175,9 +179,11 @@ impl View {
         View::new(alloc, Node::At(index, self.node.clone()?))
     }
 
-    /// A layout of this type over the operand, an array of that type, which this view stands for: to be read.
+    /// A layout of this type over the operand, an array of that type, which
+    /// this view stands for: to be read.
     ///
-    /// Any form that is no layout of its own is taken for transpose, a stride too, which is lowered to three.
+    /// Any form that is no layout of its own is taken for transpose, a stride
+    /// too, which is lowered to three.
     pub fn reading(
         &self,
         alloc: Global,
@@ -197,7 +203,8 @@ impl View {
         View::new(alloc, Node::Reading(layout, self.node.clone()?))
     }
 
-    /// Where the operand of a layout goes, where what the layout makes goes to this view: join, split, transpose and reverse write by their inverses.
+    /// Where the operand of a layout goes, where what the layout makes goes to this view: join,
+    /// split, transpose and reverse write by their inverses.
     pub fn writing(
         &self,
         alloc: Global,
@@ -219,7 +226,8 @@ impl View {
 
     /// What stands for the scalar at these pair choices and indices.
     ///
-    /// Where a layout would put an index of more than 262,144 nodes in two places, the answer is want of memory.
+    /// Where a layout would put an index of more than 262,144 nodes in two
+    /// places, the answer is want of memory.
     #[tactic(auto, using(crate::proofs::Signs::sign_is))]
     pub fn access(
         &self,
@@ -235,7 +243,8 @@ impl View {
         self.node.access(alloc, &mut choices, &mut indices)
     }
 
-    /// The cell that the scalar at these pair choices and indices goes to; none where no cell stands there.
+    /// The cell that the scalar at these pair choices and indices goes to;
+    /// none where no cell stands there.
     pub fn target(
         &self,
         alloc: Global,

@@ -14,7 +14,8 @@ use Rattle.barrier_placement.proofs.Clashes.{conflict_turned}
 use Rattle.barrier_placement.proofs.Determined.{needs_before}
 use Rattle.barrier_placement.proofs.Listing.{NoneAt, fence_none, fence_besides, fence_added}
 
--- what stands before the first q of n phases is as it is needed; first and last tell where the first and the last of these barriers stand
+-- what stands before the first q of n phases is as it is needed; first and last tell where the
+-- first and the last of these barriers stand
 pub record Done (touches : List Touch) (n q first last : ℕ) (fencing : ℕ → Fencing) : Type 0 where
   pub before : (space : Space) (r : ℕ) → r < q → (orders space (fencing r) ≡ true) ↔ ((p : ℕ) × NeedsBefore touches fencing space p r)
   pub flagged : (r : ℕ) → r < q → stands (fencing r) ≡ true → (space : Space) × (orders space (fencing r) ≡ true)
@@ -277,7 +278,8 @@ module _ (touches : List Touch) (once : Bool) (n first last : ℕ) (f g : ℕ �
         (cases_lt q n);
   }
 
-  -- a pair that stands the other way round and has its later phase first: there is no barrier at all
+  -- a pair that stands the other way round and has its later phase
+  -- first: there is no barrier at all
   closes_turned : once ≡ false → (space : Space) (p q : ℕ) → q ≤ p → Across touches space (stretch last n) (stretch 0 first) q p → NeedsClosing touches once n g space p q
   closes_turned more space p q le a =
       let most = done.first_most in

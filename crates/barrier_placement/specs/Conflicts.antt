@@ -6,6 +6,7 @@ use Rattle.barrier_placement.specs.declared.touches.Touch.{Touch}
 pub data Space : Type 0 where
   Local Global : Space
 
+-- by the flag of a touch
 abbrev pub space_of : (local : Bool) → Space
 space_of true = Local
 space_of false = Global

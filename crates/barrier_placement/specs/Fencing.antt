@@ -8,6 +8,7 @@ pub data Fencing : Type 0 where
   Open : Fencing
   Fenced : (on_local on_global : Bool) → Fencing
 
+-- there is a barrier
 abbrev pub stands : Fencing → Bool
 stands Open = false
 stands (Fenced on_local on_global) = true
@@ -18,6 +19,7 @@ orders space Open = false
 orders Local (Fenced on_local on_global) = on_local
 orders Global (Fenced on_local on_global) = on_global
 
+-- a barrier with its flags, wherever it stands
 abbrev pub fencing_of : Barrier → Fencing
 fencing_of b = Fenced b.local b.global
 

@@ -2,12 +2,14 @@
 
 ghost use Rattle.barrier_placement.specs.Laws.{NeededBarriersSeparate, NeededBarriersAreFewest, NeededBarriersAreDetermined};
 
-/// Where all arrays lie in one space, the needed barriers keep conflicting phases apart, in a turn and, where there are more, from one turn to the next.
+/// Where all arrays lie in one space, the needed barriers keep conflicting phases apart, in a turn
+/// and, where there are more, from one turn to the next.
 pub fn needed_barriers_separate()
     ensures { NeededBarriersSeparate }
 {}
 
-/// No set of places that separates all conflicting phases of a turn has fewer members than there are needed barriers, but for the one that closes the body.
+/// No set of places that separates all conflicting phases of a turn has fewer members than there
+/// are needed barriers, but for the one that closes the body.
 pub fn needed_barriers_are_fewest()
     ensures { NeededBarriersAreFewest }
 {}

@@ -1,4 +1,5 @@
-//! Where barriers stand between the phases of a work-group's body, so that conflicting phases are kept apart.
+//! Where barriers stand between the phases of a work-group's body, so that
+//! conflicting phases are kept apart.
 #![tactic(auto)]
 
 mod conflicts;

@@ -18,7 +18,8 @@ pub struct Barrier {
     pub local: bool,
     /// Whether it has the flag for global memory.
     pub global: bool,
-    /// Two phases in conflict that need it; of a barrier that closes the body, the later phase comes first.
+    /// Two phases in conflict that need it; of a barrier that closes the
+    /// body, the later phase comes first.
     pub pair: (u32, u32),
 }
 
@@ -62,7 +63,8 @@ fn barrier_before(touches: &[Touch], last: u32, phase: u32) -> Option<Barrier>
     barrier_between(touches, Some(phase), since_last, here)
 }
 
-// The barrier that closes the body, where the first one stands before `first` and the last before `last`.
+// The barrier that closes the body, where the first one stands before
+// `first` and the last before `last`.
 #[tactic(auto, using(crate::proofs::Parts::closes_as_found, crate::proofs::Parts::closes_the_other_way))]
 fn closing_barrier(touches: &[Touch], phases: u32, first: u32, last: u32) -> Option<Barrier>
     ensures found { Finds touches.now (stretch last phases) (stretch 0 first)
@@ -104,9 +106,13 @@ fn last_barrier(
     }
 }
 
-/// The needed barriers of a body with so many phases, which has these uses of arrays. `once` says that an item goes through it once at most; else it takes any number of turns.
+/// The needed barriers of a body with so many phases, which has these uses of arrays. `once` says
+/// that an item goes through it once at most; else it takes any number of turns.
 ///
-/// Going forward, a barrier stands just before a phase that conflicts with a phase since the last barrier. One more closes the body, unless it has one turn at most, where a phase after the last barrier conflicts with one before the first; where there is no barrier, where any two phases conflict, or one with itself.
+/// Going forward, a barrier stands just before a phase that conflicts with a phase since the last
+/// barrier. One more closes the body, unless it has one turn at most, where a phase after the last
+/// barrier conflicts with one before the first; where there is no barrier, where any two phases
+/// conflict, or one with itself.
 pub fn place(
     alloc: Global,
     touches: &[Touch],

@@ -1,3 +1,5 @@
+//! Files and sinks, of the host and in memory.
+
 use lift_io::{
     AskedText, Files, HostFiles, HostSink, MemoryFiles, MemorySink, NamedText, NeverFails, ReadNo,
     Sink, WriteFailed, write_whole,

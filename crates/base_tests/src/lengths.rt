@@ -1,3 +1,5 @@
+//! Lengths as polynomials in the sizes: what is shown of them, their values, and what is refused.
+
 ghost use Rattle.std.specs.Prelude.{◌<◌, ◌≤◌};
 
 use size_arith::{

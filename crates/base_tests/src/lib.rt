@@ -1,6 +1,5 @@
 //! Tests of the crates at the base: files and sinks, the scalar operators, lengths, the command
-//! line,
-//! and terms.
+//! line, and terms.
 #![tactic(auto)]
 
 #[cfg(test)]

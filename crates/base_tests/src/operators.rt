@@ -1,3 +1,5 @@
+//! The scalar operators on words, and their neutral elements.
+
 use scalar_ops::regroup::{Add, And, Max, Min, Mul, Or, Xor, operators_are_named, regroups};
 use scalar_ops::{Op, Reducer, Regroup, apply, choose};
 

@@ -1,3 +1,5 @@
+//! Terms: their places, their variables renumbered, their counts and their copies.
+
 ghost use Rattle.std.specs.Prelude.{◌≤◌, unsigned_abs};
 
 use lift_tree::input_type::InputType;

@@ -1,3 +1,5 @@
+//! The words of a command line, and what they ask for.
+
 use command_line::{Request, WordsNo, read_words};
 use std::alloc::{AllocError, Global};
 

@@ -18,6 +18,7 @@ held n = min n 18446744073709551615
 abbrev pub buffers_for : PlainTy → List ℕ
 buffers_for a = replicate (width a) (held (scalars [] a))
 
+-- a copy to that memory
 abbrev pub is_kept : Memory → UnaryForm → Bool
 is_kept m (Div n) = false
 is_kept m (Rem n) = false

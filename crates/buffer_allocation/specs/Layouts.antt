@@ -14,7 +14,8 @@ use Rattle.buffer_allocation.specs.declared.layouts.Position.TheVariants.{Writte
 abbrev pub raised : ℕ → ℕ
 raised h = min (h + 1) 18446744073709551615
 
--- A form over a buffer at this height: layouts, first and second stand on it, a copy is a buffer of its own, and what is left makes elements.
+-- A form over a buffer at this height: layouts, first and second stand on it, a copy is a buffer of
+-- its own, and what is left makes elements.
 abbrev pub on_form : UnaryForm → ℕ → ℕ
 on_form (Div n) h = 0
 on_form (Rem n) h = 0
@@ -27,13 +28,15 @@ on_form ToLocal h = 0
 on_form ToPrivate h = 0
 on_form Then h = 0
 
+-- A form of two parts: a zip stands on the higher one, and what is left makes elements.
 abbrev pub on_both : BinaryForm → ℕ → ℕ → ℕ
 on_both (Operator o) h k = 0
 on_both Pair h k = 0
 on_both Zip h k = raised (max h k)
 on_both (Reduce r) h k = 0
 
--- The layouts that stand one on another over a buffer in an argument, where binders stand at these heights, the nearest first. In an element term none is counted.
+-- The layouts that stand one on another over a buffer in an argument, where binders stand at these
+-- heights, the nearest first. In an element term none is counted.
 abbrev pub height_of : List ℕ → Tree → Annotation → ℕ
 height_of g (Variable v) n = get_or g v 0
 height_of g (Unary f t) (One a n) = if is_element a then 0 else on_form f (height_of g t n)
@@ -54,6 +57,7 @@ is_written_through ToLocal = false
 is_written_through ToPrivate = false
 is_written_through Then = false
 
+-- a copy to local or to private memory
 abbrev pub is_copy : UnaryForm → Bool
 is_copy (Div n) = false
 is_copy (Rem n) = false
@@ -66,6 +70,7 @@ is_copy ToLocal = true
 is_copy ToPrivate = true
 is_copy Then = false
 
+-- first and second
 abbrev pub is_projection : UnaryForm → Bool
 is_projection (Div n) = false
 is_projection (Rem n) = false
@@ -84,11 +89,13 @@ above (Written h) = h
 above Argument = 0
 above Element = 0
 
+-- in an element term
 abbrev pub is_in_element : Position → Bool
 is_in_element (Written h) = false
 is_in_element Argument = false
 is_in_element Element = true
 
+-- below a form: one layout more where writing goes through it, and else an argument
 abbrev pub written_below : Position → (through : Bool) → Position
 written_below (Written h) true = Written (raised h)
 written_below _ _ = Argument
@@ -100,11 +107,15 @@ read_height _ f k = k
 
 -- in an element term first and second count nothing
 abbrev pub at_form : Position → UnaryForm → PlainTy → ℕ → ℕ
-at_form p f a h = if is_copy f || (is_projection f && (is_in_element p || is_element a)) then above p else read_height p f h
+at_form p f a h =
+    if is_copy f
+    || (is_projection f && (is_in_element p || is_element a)) then above p else read_height p f h
 
--- the position of what is below a form of this type: an element's operands are in the element term; writing goes through some layouts; all else is read
+-- the position of what is below a form of this type: an element's operands are in the element term;
+-- writing goes through some layouts; all else is read
 abbrev pub below : Position → UnaryForm → PlainTy → Position
-below p f a = if is_in_element p || is_element a then Element else written_below p (is_written_through f)
+below p f a =
+    if is_in_element p || is_element a then Element else written_below p (is_written_through f)
 
 -- a zip's parts are read where it is; all other forms of two parts are elements
 abbrev pub below_both : Position → PlainTy → Position
@@ -114,19 +125,27 @@ below_both p a = if is_in_element p || is_element a then Element else Argument
 abbrev pub let_below : Position → PlainTy → Position
 let_below p a = if is_element a then Element else p
 
--- The greatest number of layouts one on another in a term and in the copies in it. What is written is counted where something is computed: at maps, at folds and at elements.
+-- The greatest number of layouts one on another in a term and in the copies in it. What is written
+-- is counted where something is computed: at maps, at folds and at elements.
 abbrev pub most : Position → List ℕ → Tree → Annotation → ℕ
 most p g (Variable v) n = max (above p) (get_or g v 0)
 most p g (Unary f t) (One a n) =
-    max (at_form p f a (height_of g (Unary f t) (One a n))) (most (if is_copy f then Written 0 else below p f a) g t n)
+    max (at_form p f a (height_of g (Unary f t) (One a n)))
+    (most (if is_copy f then Written 0 else below p f a) g t n)
 most p g (Binary f t u) (Two a n m) =
-    max (max (above p) (height_of g (Binary f t u) (Two a n m))) (max (most (below_both p a) g t n) (most (below_both p a) g u m))
-most p g (Select t u v) (Three a n m k) = max (above p) (max (most Element g t n) (max (most Element g u m) (most Element g v k)))
+    max (max (above p) (height_of g (Binary f t u) (Two a n m)))
+    (max (most (below_both p a) g t n) (most (below_both p a) g u m))
+most p g (Select t u v) (Three a n m k) =
+    max (above p) (max (most Element g t n) (max (most Element g u m) (most Element g v k)))
 most p g (Let v b) (Two a n m) =
-    max (if is_element a then above p else 0) (max (most Argument g v n) (most (let_below p a) (height_of g v n ∷ g) b m))
-most p g (Map h xs b) (Two a n m) = max (above p) (max (most Argument g xs n) (most (Written (above p)) (height_of g xs n ∷ g) b m))
+    max (if is_element a then above p else 0)
+    (max (most Argument g v n) (most (let_below p a) (height_of g v n ∷ g) b m))
+most p g (Map h xs b) (Two a n m) =
+    max (above p) (max (most Argument g xs n) (most (Written (above p)) (height_of g xs n ∷ g) b m))
 most p g (Fold h xs s b) (Three a n m k) =
-    max (above p) (max (most Argument g xs n) (max (most Element g s m) (most Element (height_of g xs n ∷ 0 ∷ g) b k)))
+    max (above p)
+    (max (most Argument g xs n)
+    (max (most Element g s m) (most Element (height_of g xs n ∷ 0 ∷ g) b k)))
 most p g t n = above p
 
 -- the greatest number of layouts that stand one on another over a buffer, in reading or in writing

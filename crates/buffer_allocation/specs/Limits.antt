@@ -22,8 +22,10 @@ counted Local t n = local_bytes t n
 counted Private t n = private_cells t n
 
 -- the limit with its count, where that is above it, else what follows
-abbrev pub unless_above : AllocLimit → Tree → Annotation → Option (AllocLimit × ℕ) → Option (AllocLimit × ℕ)
-unless_above l t n rest = if nat_lt (greatest l) (counted l t n) then Some (l, counted l t n) else rest
+abbrev pub unless_above : AllocLimit → Tree → Annotation → Option (AllocLimit × ℕ)
+    → Option (AllocLimit × ℕ)
+unless_above l t n rest =
+    if nat_lt (greatest l) (counted l t n) then Some (l, counted l t n) else rest
 
 -- the first limit that is passed, and its count
 abbrev pub passed_limit : Tree → Annotation → Option (AllocLimit × ℕ)

@@ -1,5 +1,6 @@
 //! How many layouts stand one on another over a buffer: split, join, transpose, reverse, stride,
-//! zip, slide and pad, and first and second of what isn't an element. Each is one more operation in an index.
+//! zip, slide and pad, and first and second of what isn't an element. Each is
+//! one more operation in an index.
 
 ghost use Rattle.std.specs.Prelude.{◌≡◌, ◌∷◌, get_or, max, reverse, IfOk, OnOk};
 ghost use Rattle.lift_tree.specs.Tree as tree;

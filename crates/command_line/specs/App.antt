@@ -1,4 +1,5 @@
--- The command of `lift`, as clap sees it: one level of subcommands, whose arguments are file names or a seed, and a flag of one of them.
+-- The command of `lift`, as clap sees it: one level of subcommands, whose arguments are file names
+-- or a seed, and a flag of one of them.
 use Rattle.std.specs.Prelude.{Some, true, codes, List, [], ◌∷◌, fold}
 use Rattle.clap.specs.Words.{App, Rule, Shape, Text, new_app, new_rule, with_rule, with_subcommand}
 use Rattle.clap.specs.declared.builder.ArgAction.TheVariants.{Set, SetTrue}
@@ -11,18 +12,23 @@ word_rule id = record (new_rule id) { required = true; action = Some Set }
 abbrev pub words_command : Text → List Text → App
 words_command name ids = fold (λ command id. with_rule command (word_rule id)) (new_app name) ids
 
+-- the name of the argument for a program's file
 abbrev pub program : Text
 program = codes "program"
 
+-- the name of the argument for a script's file
 abbrev pub script : Text
 script = codes "script"
 
+-- the name of the argument for a launch file
 abbrev pub launch : Text
 launch = codes "launch"
 
+-- the name of the argument for a demo's seed
 abbrev pub seed : Text
 seed = codes "seed"
 
+-- the name of the flag that asks for a run's events
 abbrev pub trace : Text
 trace = codes "trace"
 
@@ -44,6 +50,7 @@ bare_shape s = record s {
   subcommand_required = true;
 }
 
+-- `lift` without its subcommands
 abbrev pub bare_command : App
 bare_command = record (new_app (codes "lift")) { top = bare_shape (new_app (codes "lift")).top }
 
@@ -58,6 +65,7 @@ kernel_commands = with_subcommands bare_command
     ∷ run_command
     ∷ words_command (codes "eval") (program ∷ launch ∷ []) ∷ [])
 
+-- the whole command: also a script's steps, kernels in order, and demos
 abbrev pub lift_command : App
 lift_command = with_subcommands kernel_commands
     (words_command (codes "steps") (program ∷ script ∷ [])

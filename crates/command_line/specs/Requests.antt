@@ -19,6 +19,7 @@ pub data CommandLine : Type 0 where
   run_stages : Text → Text → Text → CommandLine
   demo : (seed : ℕ) → CommandLine
 
+-- the request that lies in memory, its file names as their bytes
 abbrev pub line_of : Request → CommandLine
 line_of (Compile p s) = compile (string_bytes p) (string_bytes s)
 line_of (Run p s l traced) = run (string_bytes p) (string_bytes s) (string_bytes l) traced
@@ -30,6 +31,7 @@ line_of (Demo x) = demo x
 
 -- ---- the form of a command line
 
+-- the name of its subcommand
 abbrev pub name_of : CommandLine → Text
 name_of (compile p s) = codes "compile"
 name_of (run p s l traced) = codes "run"
@@ -49,6 +51,7 @@ arguments_of (stages p s) = p ∷ s ∷ []
 arguments_of (run_stages p s l) = p ∷ s ∷ l ∷ []
 arguments_of (demo x) = decimal x ∷ []
 
+-- `--trace` for a run that is told with its events; no other request has a flag
 abbrev pub flags_of : CommandLine → List Text
 flags_of (compile p s) = []
 flags_of (run p s l traced) = if traced then codes "--trace" ∷ [] else []
@@ -58,6 +61,7 @@ flags_of (stages p s) = []
 flags_of (run_stages p s l) = []
 flags_of (demo x) = []
 
+-- the words that ask for it: its subcommand, its arguments, its flags
 abbrev pub words_of : CommandLine → List Text
 words_of line = name_of line ∷ arguments_of line ++ flags_of line
 
@@ -87,20 +91,35 @@ is_set id rows = option_map_or (bytes_eq (codes "true")) (one_of id rows) false
 
 -- the seed that the word is the decimal of: digits without a leading zero, at most the limit
 unfoldable pub seed_of : Text → Option ℕ
-seed_of word = let x = digits_value 10 word in if nat_le x seed_limit && bytes_eq (decimal x) word then Some x else None
+seed_of word =
+    let x = digits_value 10 word in if nat_le x seed_limit
+    && bytes_eq (decimal x) word then Some x else None
 
 -- the subcommand of this name, with these matches
 abbrev pub line_at : Text → List Row → Option CommandLine
 line_at name rows =
-    if bytes_eq name (codes "compile") then Some (compile (value_of program rows) (value_of script rows))
-    else (if bytes_eq name (codes "run") then Some (run (value_of program rows) (value_of script rows) (value_of launch rows) (is_set trace rows))
-    else (if bytes_eq name (codes "eval") then Some (eval (value_of program rows) (value_of launch rows))
-    else (if bytes_eq name (codes "steps") then Some (steps (value_of program rows) (value_of script rows))
-    else (if bytes_eq name (codes "stages") then Some (stages (value_of program rows) (value_of script rows))
-    else (if bytes_eq name (codes "run-stages") then Some (run_stages (value_of program rows) (value_of script rows) (value_of launch rows))
+    if bytes_eq name (codes "compile") then Some
+    (compile (value_of program rows) (value_of script rows))
+    else
+    (if bytes_eq name (codes "run") then Some
+    (run (value_of program rows) (value_of script rows) (value_of launch rows)
+    (is_set trace rows))
+    else
+    (if bytes_eq name (codes "eval") then Some
+    (eval (value_of program rows) (value_of launch rows))
+    else
+    (if bytes_eq name (codes "steps") then Some
+    (steps (value_of program rows) (value_of script rows))
+    else
+    (if bytes_eq name (codes "stages") then Some
+    (stages (value_of program rows) (value_of script rows))
+    else
+    (if bytes_eq name (codes "run-stages") then Some
+    (run_stages (value_of program rows) (value_of script rows) (value_of launch rows))
     else (if bytes_eq name (codes "demo") then option_map demo (seed_of (value_of seed rows))
     else None))))))
 
+-- the request of the subcommand that clap entered, if it entered one
 abbrev pub line_entered : Option (Text × List Row) → Option CommandLine
 line_entered = option_and_then (λ entered. line_at entered.0 entered.1)
 

@@ -25,23 +25,28 @@ use Rattle.compilation.specs.Meets.{Admits, MeetsSource, Starts}
 abbrev pub PrintsAtAll : PlainProgram → (local : Option ℕ) → State → Kernel → Type 0
 PrintsAtAll p local s k = kernels.PrintsAtAll (declared_by p) local s.tree s.types k
 
--- its barriers serve at every launch and on all cells at which the program may run: the items of a group meet the same barriers with the same turn numbers, and between two releases with the local flag each cell of a local array that is written is one item's
-abbrev pub ServesAtAll : PlainProgram → (output : PlainTy) → (local : Option ℕ) → (last : State) → Kernel → Type 0
-ServesAtAll p output local last k = (w : World) (l : Launch) (c : Cells) → Admits p output (asks_of local last.tree) w l c
+-- its barriers serve at every launch and on all cells at which the program may run: the items of a
+-- group meet the same barriers with the same turn numbers, and between two releases with the local
+-- flag each cell of a local array that is written is one item's
+abbrev pub ServesAtAll : PlainProgram → (output : PlainTy) → (local : Option ℕ) → (last : State)
+    → Kernel → Type 0
+ServesAtAll p output local last k =
+    (w : World) (l : Launch) (c : Cells) → Admits p output (asks_of local last.tree) w l c
     → (filler : Cell → ℕ) × BarriersServeAll k l c filler
 
 -- The text is that of a kernel of the grammar, which is printed for the script's last term: a
 -- legal one within the limits, of the program's type and value. Its parameters are a buffer for
 -- each component of the program's inputs and of its output, and its sizes: at every admissible
--- launch the launch's, in order. An admissible launch has groups of the local size that the script fixes, where
--- it does. Its local arrays take at most 32,768 bytes, and an item's private
--- ones have at most 256 cells. And at every admissible launch, on all inputs, whatever other
--- memory holds, every run of it has no fault and at most the bound's events, writes each output
--- cell at most once, by its owner, and can stop only with the program's value, which is of the
--- output's type. The items of a group meet the same barriers with the same turn numbers, and
--- between them use local arrays apart. No part of an index or a bound is redundant, and none has
--- more nodes than the layouts' formulas put into one another.
-pub record IsCompiled (program script : List ℕ) (p : PlainProgram) (output : PlainTy) (asks : Asks) (text : List ℕ) : Type 0 where
+-- launch the launch's, in order. An admissible launch has groups of the local size that the script
+-- fixes, where it does. Its local arrays take at most 32,768 bytes, and an item's private ones have
+-- at most 256 cells. And at every admissible launch, on all inputs, whatever other memory holds,
+-- every run of it has no fault and at most the bound's events, writes each output cell at most
+-- once, by its owner, and can stop only with the program's value, which is of the output's type.
+-- The items of a group meet the same barriers with the same turn numbers, and between them use
+-- local arrays apart. No part of an index or a bound is redundant, and none has more nodes than the
+-- layouts' formulas put into one another.
+pub record IsCompiled (program script : List ℕ) (p : PlainProgram) (output : PlainTy) (asks : Asks)
+    (text : List ℕ) : Type 0 where
   pub read : IsRead program p
   pub typed : HasOutput p p.body output
   pub last : State

@@ -23,7 +23,8 @@ use Rattle.fault_lines.specs.declared.refusal.Refusal.TheVariants as told
 use Rattle.stages.specs.Stages.{As, Gives, Then}
 use Rattle.program_source.specs.Terms.{LastOf, TermsOf}
 
--- a typed term of a proper program with few inputs, within the limits on types, which copies nothing but arrays
+-- a typed term of a proper program with few inputs, within the limits on types,
+-- which copies nothing but arrays
 abbrev pub IsTypedLast : Typed → Type 0
 IsTypedLast t = IsTypedWithin (program_of t.program) (tree_of t.term) (annotation_of t.types)
 
@@ -42,23 +43,28 @@ pub record IsAccepted (p : PlainProgram) (t : Tree) (n : Annotation) : Type 0 wh
   pub within : passed_limit t n ≡ None
   pub low : height t ≤ 512
 
--- the nest is legal with the local size that is fixed, where one is; or this is the first node in preorder at which a rule is broken, and the lowest such rule
+-- the nest is legal with the local size that is fixed, where one is; or this is the first node in
+-- preorder at which a rule is broken, and the lowest such rule
 abbrev pub NestOf : Option ℕ → State → Result (Unit {0}) NestNo → Type 0
 NestOf local s (Ok legal) = IsLegalWith local s.tree s.types
 NestOf local s (Err (nests.Nest place rule)) = nest_fault local s.tree s.types ≡ Some (place, rule)
 NestOf local s (Err nests.Memory) = ⊥
 
--- layouts and memory are within their limits, or this is the first limit that is passed, and the count
+-- layouts and memory are within their limits, or this is the first
+-- limit that is passed, and the count
 abbrev pub BuffersOf : State → Result (Unit {0}) AllocNo → Type 0
 BuffersOf s (Ok within) = passed_limit s.tree s.types ≡ None
-BuffersOf s (Err (allocations.Limit which count)) = passed_limit s.tree s.types ≡ Some (which, count)
+BuffersOf s (Err (allocations.Limit which count)) =
+    passed_limit s.tree s.types ≡ Some (which, count)
 BuffersOf s (Err allocations.Memory) = ⊥
 
 -- the term is compiled, or the first stage that stops: its nest, its buffers
 abbrev pub CompilesTerm : Option ℕ → State → Result State Refusal → Type 0
 CompilesTerm local last =
-    Then (As told.Nest (NestOf local last)) (λ _. Then (As told.Alloc (BuffersOf last)) (λ _. Gives last))
+    Then (As told.Nest (NestOf local last))
+    (λ _. Then (As told.Alloc (BuffersOf last)) (λ _. Gives last))
 
 -- the last term of a program along a script, where it is compiled; or the first stage that stops
 abbrev pub LegalOf : PlainProgram → (script : List ℕ) → Result State Refusal → Type 0
-LegalOf p script = Then (TermsOf p script) (λ terms. Then (LastOf terms) (CompilesTerm (local_fixed script)))
+LegalOf p script =
+    Then (TermsOf p script) (λ terms. Then (LastOf terms) (CompilesTerm (local_fixed script)))

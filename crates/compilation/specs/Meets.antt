@@ -21,8 +21,12 @@ use Rattle.program_source.specs.Program.{source_value}
 abbrev pub asks_with : Bool → Option ℕ → Asks
 asks_with alone local = record { alone = alone; local = local }
 
--- A launch and cells at which a program may run, where the world has its sizes and inputs: the launch is one row, the sizes are within their ranges and the inputs of their types, the buffers hold the inputs, and there is one for each component of the output, of its length. Outputs hold anything.
-pub record Admits (p : PlainProgram) (output : PlainTy) (asks : Asks) (w : World) (l : Launch) (c : Cells) : Type 0 where
+-- A launch and cells at which a program may run, where the world has its sizes and inputs:
+-- the launch is one row, the sizes are within their ranges and the inputs of their types,
+-- the buffers hold the inputs, and there is one for each component of the output, of its
+-- length. Outputs hold anything.
+pub record Admits (p : PlainProgram) (output : PlainTy) (asks : Asks) (w : World) (l : Launch)
+    (c : Cells) : Type 0 where
   pub world : IsAdmissible (declared_by p) w
   pub flat : IsFlat l
   pub launch : IsAdmissibleLaunch (declared_by p).names asks w.bases l.global.0 l.local.0
@@ -30,19 +34,26 @@ pub record Admits (p : PlainProgram) (output : PlainTy) (asks : Asks) (w : World
   pub inputs : c.ins ≡ buffers_of (declared_by p).inputs w.inputs
   pub outputs : map length c.outs ≡ map length (lists_of output (source_value p w))
 
--- The kernel may be started at every admissible launch: its parameters are the inputs' components, the output's, and the sizes, in order.
+-- The kernel may be started at every admissible launch: its parameters are the inputs' components,
+-- the output's, and the sizes, in order.
 abbrev pub Starts : PlainProgram → (output : PlainTy) → (asks : Asks) → Kernel → Type 0
-Starts p output asks k = (w : World) (l : Launch) (c : Cells) → Admits p output asks w l c → MayStart k l c
+Starts p output asks k =
+    (w : World) (l : Launch) (c : Cells) → Admits p output asks w l c → MayStart k l c
 
--- At every admissible launch, on all inputs, whatever other memory holds, every run of the kernel has no fault and at most the bound's events, writes each output cell at most once, and can stop only with the source's value in the output buffers.
+-- At every admissible launch, on all inputs, whatever other memory holds, every run of the kernel
+-- has no fault and at most the bound's events, writes each output cell at most once, and can stop
+-- only with the source's value in the output buffers.
 abbrev pub LeavesSource : PlainProgram → (output : PlainTy) → (asks : Asks) → Kernel → Type 0
 LeavesSource p output asks k = (w : World) (l : Launch) (c : Cells) → Admits p output asks w l c
     → EveryRunLeaves k l c (lists_of output (source_value p w))
 
 -- And each cell is written by its owner, which the last term tells.
-abbrev pub MeetsSource : PlainProgram → (output : PlainTy) → (local : Option ℕ) → (last : State) → Kernel → Type 0
-MeetsSource p output local last k = (w : World) (l : Launch) (c : Cells) → Admits p output (asks_of local last.tree) w l c
-    → EveryRunKeeps k l c (cell_owner (declared_by p).names w.bases l last.tree last.types) (lists_of output (source_value p w))
+abbrev pub MeetsSource : PlainProgram → (output : PlainTy) → (local : Option ℕ) → (last : State)
+    → Kernel → Type 0
+MeetsSource p output local last k =
+    (w : World) (l : Launch) (c : Cells) → Admits p output (asks_of local last.tree) w l c
+    → EveryRunKeeps k l c (cell_owner (declared_by p).names w.bases l last.tree last.types)
+    (lists_of output (source_value p w))
 
 -- Values of the output's type can be laid out in lists, at all admissible sizes.
 pub record CanBeLaidOut (names : List Name) (output : PlainTy) : Type 0 where
@@ -50,8 +61,10 @@ pub record CanBeLaidOut (names : List Name) (output : PlainTy) : Type 0 where
   pub few : width output < 2 ^ 32
   pub small : (bases : List ℕ) → Admissible names bases → IsSmall bases 1 output
 
--- The text is of a kernel for the program: it may be started at every admissible launch, and every run of it there leaves the program's value, which is of the output's type.
-pub record IsTextFor (p : PlainProgram) (output : PlainTy) (asks : Asks) (text : List ℕ) : Type 0 where
+-- The text is of a kernel for the program: it may be started at every admissible launch, and every
+-- run of it there leaves the program's value, which is of the output's type.
+pub record IsTextFor (p : PlainProgram) (output : PlainTy) (asks : Asks)
+    (text : List ℕ) : Type 0 where
   pub typed : HasOutput p p.body output
   pub laid_out : CanBeLaidOut (declared_by p).names output
   pub kernel : Kernel

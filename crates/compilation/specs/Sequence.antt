@@ -32,38 +32,51 @@ use Rattle.compilation.specs.declared.sequence.KernelOutline.{KernelOutline}
 abbrev pub state_in : Part → State
 state_in x = record { tree = x.tree; types = x.types }
 
--- the terms of the kernels that a term over so many inputs is cut into; or the first `then` in preorder that a binder is around, or where there is none how many kernels there are, if more than sixteen
+-- the terms of the kernels that a term over so many inputs is cut into; or the first
+-- `then` in preorder that a binder is around, or where there is none how many kernels
+-- there are, if more than sixteen
 abbrev pub CutOf : (inputs : ℕ) → State → Result (List Part) CutNo → Type 0
-CutOf i s (Ok parts) = (first_bound false s.tree ≡ None) × (passed_count s.tree s.types ≡ None) × (parts ≡ kernel_parts i s.tree s.types)
+CutOf i s (Ok parts) =
+    (first_bound false s.tree ≡ None) × (passed_count s.tree s.types ≡ None)
+    × (parts ≡ kernel_parts i s.tree s.types)
 CutOf i s (Err (cuts.Nest place rule)) = (first_bound false s.tree ≡ Some place) × (rule ≡ N13)
-CutOf i s (Err (cuts.Limit count)) = (first_bound false s.tree ≡ None) × (passed_count s.tree s.types ≡ Some count)
+CutOf i s (Err (cuts.Limit count)) =
+    (first_bound false s.tree ≡ None) × (passed_count s.tree s.types ≡ Some count)
 CutOf i s (Err cuts.Memory) = ⊥
 
 -- each kernel's own stages in turn: its nest, then its buffers; only then the next kernel's
 abbrev pub CompilesInTurn : Option ℕ → List Part → Result (Unit {0}) Refusal → Type 0
 CompilesInTurn local [] = Gives tt
-CompilesInTurn local (x ∷ xs) = Then (CompilesTerm local (state_in x)) (λ _. CompilesInTurn local xs)
+CompilesInTurn local (x ∷ xs) =
+    Then (CompilesTerm local (state_in x)) (λ _. CompilesInTurn local xs)
 
--- the terms of a last term's kernels, where all are compiled; or the first stage that stops: the cut, then each kernel's
+-- the terms of a last term's kernels, where all are compiled; or the first stage that
+-- stops: the cut, then each kernel's
 abbrev pub CompilesParts : (inputs : ℕ) → Option ℕ → State → Result (List Part) Refusal → Type 0
 CompilesParts i local last =
-    Then (As told.Cut (CutOf i last)) (λ parts. Then (CompilesInTurn local parts) (λ _. Gives parts))
+    Then (As told.Cut (CutOf i last))
+    (λ parts. Then (CompilesInTurn local parts) (λ _. Gives parts))
 
--- the terms of the kernels of a program along a script, where all are compiled; or the first stage that stops
+-- the terms of the kernels of a program along a script, where all are
+-- compiled; or the first stage that stops
 abbrev pub SequenceOf : PlainProgram → (script : List ℕ) → Result (List Part) Refusal → Type 0
 SequenceOf p script =
-    Then (TermsOf p script) (λ terms. Then (LastOf terms) (CompilesParts (length p.inputs) (local_fixed script)))
+    Then (TermsOf p script)
+    (λ terms. Then (LastOf terms) (CompilesParts (length p.inputs) (local_fixed script)))
 
 -- ---- what is compiled
 
--- what is to be known of a kernel before it is run: whether one work-item runs it, and the type of what it makes
+-- what is to be known of a kernel before it is run: whether one work-item runs
+-- it, and the type of what it makes
 pub record Outline : Type 0 where
   pub alone : Bool
   pub output : PlainTy
 
+-- the outline of a term and its types
 abbrev pub outline_in : Part → Outline
 outline_in x = record { alone = is_task x.tree; output = type_in x.types }
 
+-- the outline of a kernel, as code holds it
 abbrev pub outline_of : KernelOutline → Outline
 outline_of k = record { alone = k.is_task; output = ty_of k.output }
 
@@ -75,24 +88,27 @@ part_of k = part k.tree k.types
 abbrev pub with_input : Declared → PlainTy → Declared
 with_input d a = record d { inputs = d.inputs ++ a ∷ [] }
 
--- each kernel may name the sizes and inputs of the first, and behind these what each kernel before it makes
+-- each kernel may name the sizes and inputs of the first, and behind these
+-- what each kernel before it makes
 abbrev pub HaveInputsBehind : (first : Declared) → List Stage → Type 0
 HaveInputsBehind d [] = Unit {0}
-HaveInputsBehind d (k ∷ ks) = (k.declared ≡ d) × HaveInputsBehind (with_input d (type_in k.types)) ks
+HaveInputsBehind d (k ∷ ks) =
+    (k.declared ≡ d) × HaveInputsBehind (with_input d (type_in k.types)) ks
 
 -- each kernel is its own term's, with groups of the local size that is fixed
 abbrev pub AreKernelsFor : Option ℕ → List Stage → Type 0
 AreKernelsFor local = Every (λ (k : Stage). IsKernelFor k.declared local k.tree k.types k.kernel)
 
--- The text is that of kernels in order, of the terms that the script's last term is cut into. Each is
--- printed for its term, and has a buffer for each component of the program's inputs, of what each
--- kernel before it makes and of what it makes itself, as one that is compiled alone. And at every
--- list of admissible launches with one valuation, on all inputs, whatever scratch and other memory
--- hold, when the kernels are run in order, each from the buffers that the one before left after it
--- stopped: every run has no fault and at most its bound's events, and writes each cell of its
--- kernel's output at most once, by its owner; and the last kernel's can stop only with the program's
--- value, which is of the output's type.
-pub record IsCompiledSequence (program script : List ℕ) (p : PlainProgram) (output : PlainTy) (local : Option ℕ) (outlines : List Outline) (text : List ℕ) : Type 0 where
+-- The text is that of kernels in order, of the terms that the script's last term is cut into. Each
+-- is printed for its term, and has a buffer for each component of the program's inputs, of what
+-- each kernel before it makes and of what it makes itself, as one that is compiled alone. And at
+-- every list of admissible launches with one valuation, on all inputs, whatever scratch and other
+-- memory hold, when the kernels are run in order, each from the buffers that the one before left
+-- after it stopped: every run has no fault and at most its bound's events, and writes each cell of
+-- its kernel's output at most once, by its owner; and the last kernel's can stop only with the
+-- program's value, which is of the output's type.
+pub record IsCompiledSequence (program script : List ℕ) (p : PlainProgram) (output : PlainTy)
+    (local : Option ℕ) (outlines : List Outline) (text : List ℕ) : Type 0 where
   pub read : IsRead program p
   pub typed : HasOutput p p.body output
   pub fixed : local ≡ local_fixed script
@@ -108,10 +124,13 @@ pub record IsCompiledSequence (program script : List ℕ) (p : PlainProgram) (ou
 
 -- this is the last of them
 abbrev pub EndsWith : List Outline → PlainTy → Type 0
-EndsWith outlines a = (front : List Outline) × (last : Outline) × (outlines ≡ front ++ last ∷ []) × (last.output ≡ a)
+EndsWith outlines a =
+    (front : List Outline) × (last : Outline) × (outlines ≡ front ++ last ∷ []) × (last.output ≡ a)
 
--- The text is of kernels for the program in order: over its sizes, and run in order they keep the program's value, which is of the output's type, the last kernel's.
-pub record IsSequenceFor (p : PlainProgram) (output : PlainTy) (local : Option ℕ) (outlines : List Outline) (text : List ℕ) : Type 0 where
+-- The text is of kernels for the program in order: over its sizes, and run in order they keep the
+-- program's value, which is of the output's type, the last kernel's.
+pub record IsSequenceFor (p : PlainProgram) (output : PlainTy) (local : Option ℕ)
+    (outlines : List Outline) (text : List ℕ) : Type 0 where
   pub typed : HasOutput p p.body output
   pub laid_out : Every (λ (o : Outline). CanBeLaidOut (declared_by p).names o.output) outlines
   pub last : EndsWith outlines output

@@ -1,6 +1,6 @@
 //! A program and a script, compiled: the script's last term, where its nest is legal and within
-//! the limits, and the text of its kernel; or, where it is cut into the terms of several kernels, the
-//! text of these in order.
+//! the limits, and the text of its kernel; or, where it is cut into the terms of several kernels,
+//! the text of these in order.
 #![tactic(auto)]
 
 mod compile;

@@ -1,6 +1,6 @@
-//! The counts of a tree's nodes, each of which tells how many flags the left part of its node has. The
-//! root is node 1, and the parts of node i are 2 * i + 1, on the left, and 2 * i. Only `look` tells the
-//! count of a node, at one step.
+//! The counts of a tree's nodes, each of which tells how many flags the left part of its node has.
+//! The root is node 1, and the parts of node i are 2 * i + 1, on the left, and 2 * i. Only `look`
+//! tells the count of a node, at one step.
 
 ghost use Rattle.std.specs.Prelude.{◌≡◌, ◌+◌, ◌-◌, ◌*◌, ◌^◌, ◌++◌, ◌<◌, ◌≤◌, ℕ, true, false, length, min, replicate, slice_index, slice_set, if◌then◌else◌, IfOk};
 ghost use Rattle.count_tree.specs.Nodes.{AreCounts, IsPower, IsTree, Nodes, turned};
@@ -10,8 +10,8 @@ use std::alloc::{AllocError, Global};
 use std::marker::Model;
 use std::sync::ledger::Ledger;
 
-/// Flags of leaves, each 1 or 0, and how many of them there are: in the left part of each node, and in
-/// all.
+/// Flags of leaves, each 1 or 0, and how many of them there are: in the left part of each node, and
+/// in all.
 #[derive(Drop)]
 pub(crate) struct Counts {
     flags: Vec<u8>,

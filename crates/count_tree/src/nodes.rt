@@ -3,6 +3,7 @@
 ghost use Rattle.std.specs.Prelude.{◌≡◌, ◌+◌, ◌-◌, ◌*◌, ◌^◌, ◌<◌, ◌≤◌, ℕ, length, take, slice_index};
 ghost use Rattle.std.specs.List.{sum};
 ghost use Rattle.count_tree.specs.Nodes.{IsTree};
+ghost use Rattle.count_tree.specs.Ways.{IsLeft, IsRight};
 
 use crate::counts::Counts;
 use crate::steps::Steps;
@@ -21,31 +22,31 @@ impl Way {
     fn part<L: Ledger>(self, counts: &Counts, steps: &mut Steps<L>) -> Way
         requires inside { self.node < length counts.now.lefts }
         requires small { length counts.now.lefts ≤ 65536 }
-        ensures left { self.rest < slice_index counts.now.lefts self.node
-            → result ≡ record { node = 2 * self.node + 1; rest = self.rest } }
-        ensures right { slice_index counts.now.lefts self.node ≤ self.rest
-            → result ≡ record {
-              node = 2 * self.node;
-              rest = self.rest - slice_index counts.now.lefts self.node;
-            } }
+        ensures below { (2 * self.node ≤ result.node) × (result.node ≤ 2 * self.node + 1) }
+        ensures left { IsLeft self (slice_index counts.now.lefts self.node) result }
+        ensures right { IsRight self (slice_index counts.now.lefts self.node) result }
         ensures cost { steps.new ≡ steps.old + 1 }
     {
         let left = counts.look(self.node, steps);
+        let rest = less_if_within(self.rest, left);
         let on_the_left = if self.rest < left { 1 } else { 0 };
         Way {
             node: 2 * self.node + on_the_left,
-            rest: less_if_within(self.rest, left),
+            rest,
         }
     }
 }
 
-// The difference, or the number itself where it is below the other. No branch is taken.
+// The difference, or the number itself where it is below the other. Of numbers up to 2^31 the
+// difference has its highest bit just where it wraps: so that, after one subtraction that also
+// tells the part, no branch is taken and nothing is compared again.
 #[inline(always)]
 fn less_if_within(rest: u32, left: u32) -> u32
-    ensures below { rest < left → result ≡ rest }
-    ensures within { left ≤ rest → result ≡ rest - left }
+    ensures below { left ≤ 2 ^ 31 → rest < left → result ≡ rest }
+    ensures within { rest < 2 ^ 31 → left ≤ rest → result ≡ rest - left }
 {
-    rest.min(rest.wrapping_sub(left))
+    let less = rest.wrapping_sub(left);
+    if less < 1 << 31 { less } else { rest }
 }
 
 /// The place of the flag that comes after `k` others, in as many looks as the tree is high. Four

@@ -11,8 +11,8 @@ use std::alloc::{AllocError, Global};
 use std::marker::{Brand, Model};
 use std::sync::ledger::{Blank, Ledger};
 
-/// Places, each with a flag or none: 1 or 0. Their number is a power of two. The first flagged place
-/// is kept, so that it takes no look at the counts.
+/// Places, each with a flag or none: 1 or 0. Their number is a power of two. The first flagged
+/// place is kept, so that it takes no look at the counts.
 #[derive(Drop)]
 pub struct Places {
     counts: Counts,
@@ -68,7 +68,8 @@ impl Places {
         self.counts.total()
     }
 
-    /// The place whose flag comes after `k` others. A step is a look at one count: of 2 ^ n places n.
+    /// The place whose flag comes after `k` others. A step is a look at one count: of 2 ^ n places
+    /// n.
     #[inline(always)]
     pub fn nth_flagged<L: Ledger>(&self, k: u32, steps: &mut Steps<L>) -> u32
         requires { k < sum self.now }
@@ -118,8 +119,8 @@ fn first_after<L: Ledger>(counts: &Counts, first: u32, place: u32, on: bool, bla
     }
 }
 
-// The first flagged place after the first one's flag is taken away. The next place is tried before the
-// whole tree.
+// The first flagged place after the first one's flag is taken away. The next place is tried before
+// the whole tree.
 fn next_first<L: Ledger>(counts: &Counts, place: u32, blank: Blank) -> u32
     requires name { blank.name ≡ L.name }
     requires parts { blank.parts ≡ L.parts }

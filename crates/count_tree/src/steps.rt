@@ -1,4 +1,5 @@
-//! A count of steps that takes no bytes: a bound on them is stated and proved, and nothing is counted when the program runs.
+//! A count of steps that takes no bytes: a bound on them is stated and proved, and nothing is
+//! counted when the program runs.
 
 ghost use Rattle.std.specs.Prelude.{◌≡◌, ◌+◌, ◌<◌, ℕ};
 

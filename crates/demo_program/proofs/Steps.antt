@@ -63,7 +63,8 @@ few = omega arith
 
 -- ---- the terms
 
--- join(join(mapWrg(\t. mapLcl(\w. foldSeq(\a x. add(a, x), 0, w), slide(3, 1, toLocal(mapLcl(\x. x, t)))), slide(66, 64, pad(1, 1, xs)))))
+-- join(join(mapWrg(\t. mapLcl(\w. foldSeq(\a x. add(a, x), 0, w), slide(3, 1, toLocal(mapLcl(\x. x,
+-- t)))), slide(66, 64, pad(1, 1, xs)))))
 copied_tile : Tree
 copied_tile = trees.Unary unary.ToLocal (trees.Map map_kind.Local (trees.Variable 0) (trees.Variable 0))
 

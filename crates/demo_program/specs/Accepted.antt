@@ -24,17 +24,28 @@ use Rattle.demo_program.specs.Texts.{program_text, script_text}
 
 -- join(map(\w. reduce(add, 0, w), slide(3, 1, pad(1, 1, xs))))
 abbrev pub sums : Tree
-sums = trees.Unary (unary.Layout layouts.Join) (trees.Map map_kind.Plain (trees.Unary (unary.Slide 3 1) (trees.Unary (unary.Pad 1 1) (trees.Input 0))) (trees.Binary (binary.Reduce reducer.Add) (trees.Variable 0) (trees.Number 0)))
+sums =
+    trees.Unary (unary.Layout layouts.Join)
+    (trees.Map map_kind.Plain
+    (trees.Unary (unary.Slide 3 1) (trees.Unary (unary.Pad 1 1) (trees.Input 0)))
+    (trees.Binary (binary.Reduce reducer.Add) (trees.Variable 0) (trees.Number 0)))
 
 -- the program that the demo's text is
 abbrev pub demo_program : PlainProgram
 demo_program = record {
   sizes = record { name = codes "N"; multiple = 64; from = 64; to = 65536 } ∷ [];
-  inputs = record { name = codes "xs"; ty = written.Array written.Number (record { sign = sign.Plus; product = factor.Size 0 ∷ [] } ∷ []) } ∷ [];
+  inputs =
+      record {
+        name = codes "xs";
+        ty = written.Array written.Number
+            (record { sign = sign.Plus; product = factor.Size 0 ∷ [] } ∷ []);
+      }
+      ∷ [];
   body = sums;
 }
 
--- the texts are read, typed and rewritten within their limits, no local size is fixed, and the last term is a legal nest within its limits, with a parallel map
+-- the texts are read, typed and rewritten within their limits, no local size is fixed, and the last
+-- term is a legal nest within its limits, with a parallel map
 pub record DemoIsAccepted : Type 0 where
   pub read : IsProgramText program_text demo_program
   pub within : first_limit demo_program ≡ None
@@ -45,7 +56,8 @@ pub record DemoIsAccepted : Type 0 where
   pub few : length steps ≤ 256
   pub front : List State
   pub last : State
-  pub made : terms_of demo_program steps (record { tree = demo_program.body; types = types }) ≡ Ok (front ++ last ∷ [])
+  pub made : terms_of demo_program steps (record { tree = demo_program.body; types = types })
+      ≡ Ok (front ++ last ∷ [])
   pub legal : nest_fault None last.tree last.types ≡ None
   pub fits : passed_limit last.tree last.types ≡ None
   pub parallel : is_task last.tree ≡ false

@@ -5,7 +5,8 @@ use Rattle.kernel_tree.specs.Schedule.{Seed, generated}
 use Rattle.lift_tree.specs.Values.{Value, Word, array}
 use Rattle.launch_file.specs.LaunchFile.{Given}
 
--- the states of the generator begun at the seed, in turn: so many of them, from the one behind these on
+-- the states of the generator begun at the seed, in turn: so many of
+-- them, from the one behind these on
 unfoldable pub words_from : (seed behind count : ℕ) → List Value
 words_from seed n zero = []
 words_from seed n (suc count) = Word (generated seed (suc n)) ∷ words_from seed (suc n) count

@@ -86,8 +86,8 @@ const WRITES_PAST_THE_OUTPUT: Option<Access> = Some(Access::Write(Cell {
     index: 1,
 }));
 
-// A run in order, the number of the event that is its first fault, the work-item, and what is seen
-// of it.
+// A run in order, the number of the event that is its first fault, the work-item, and what
+// is seen of it.
 const FAULTS: [(Run, u32, u32, Option<Access>, FaultKind, Option<Cell>); 5] = [
     (RACE, 2, 1, WRITES_THE_OUTPUT, FaultKind::Race, Some(OUTPUT)),
     (

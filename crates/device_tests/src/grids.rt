@@ -1,8 +1,7 @@
 //! Work-items in two dimensions: two by two groups, each of two columns and three rows.
 //!
 //! The 24 items stand in rows of four: group 0 has items 0, 1, 4, 5, 8 and 9, group 1 items 2, 3,
-//! 6,
-//! 7, 10 and 11, and groups 2 and 3 the same three rows below, from item 12 and item 14 on.
+//! 6, 7, 10 and 11, and groups 2 and 3 the same three rows below, from item 12 and item 14 on.
 
 use crate::texts::{Run, enables, ends, leaves, started, take, traced};
 use kernel_tree::events::{Access, Event, Seen};

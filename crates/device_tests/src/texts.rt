@@ -207,8 +207,8 @@ pub fn leaves(alloc: Global, run: &Run, words: &[u32], events: u64, releases: u6
     }
 }
 
-/// Whether a text, with all but the text as the run says, leaves this word in order after so many
-/// events.
+/// Whether a text, with all but the text as the run says, leaves this word in order
+/// after so many events.
 pub fn text_leaves(alloc: Global, text: &[u8], run: &Run, word: u32, events: u64) -> bool {
     let Some(
         Task {
@@ -255,8 +255,7 @@ pub fn take(machine: &mut Machine, k: u32) -> Option<Seen> {
 }
 
 /// Takes the first enabled event until one is a fault, and tells its number, from 1, and what is
-/// seen
-/// of it.
+/// seen of it.
 pub fn first_fault(machine: &mut Machine) -> Option<(u32, Seen)> {
     for number in 1..200_000 {
         if machine.enabled() == 0 {

@@ -66,8 +66,8 @@ fn one_phase_in_conflict_with_itself(rt: HostRuntime) -> Result<(), Fail> {
     Ok(())
 }
 
-// Without a barrier for the global conflict of phases 0 and 2: the local one before phase 1 is the
-// last.
+// Without a barrier for the global conflict of phases 0 and 2: the local one before phase
+// 1 is the last.
 #[test]
 fn any_barrier_is_the_last(rt: HostRuntime) -> Result<(), Fail> {
     let touches = [

@@ -1,6 +1,5 @@
 //! Tests of printed kernels' code, over public items alone: whole kernels by their texts, for
-//! programs
-//! along scripts, and one that is built by hand; and of what plans are made of.
+//! programs along scripts, and one that is built by hand; and of what plans are made of.
 #![tactic(auto)]
 
 #[cfg(test)]

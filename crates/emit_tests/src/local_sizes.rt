@@ -1,5 +1,5 @@
-//! Maps over work-groups where the script fixes a local size: those that need no loop are `if`s, or
-//! turns alone.
+//! Maps over work-groups where the script fixes a local size: those that need no loop are
+//! `if`s, or turns alone.
 
 use crate::emission::{Row, all_are_emitted, all_are_emitted_with};
 use barrier_placement::Barrier;

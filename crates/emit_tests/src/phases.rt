@@ -1,5 +1,5 @@
-//! The phases of maps over work-groups, their uses of local arrays, and the barriers that they
-//! need.
+//! The phases of maps over work-groups, their uses of local arrays, and the
+//! barriers that they need.
 
 ghost use Rattle.std.specs.Prelude.{IfOk, false, true};
 ghost use Rattle.lift_ir.specs.Forms.{Stands};

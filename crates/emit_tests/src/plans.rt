@@ -104,8 +104,7 @@ const OVER_GROUPS: Row = Row {
 };
 
 // Pairs that are columns of two rows, each by a group of four items: two of them take an element,
-// and
-// the `if` tells that their ids are below 2.
+// and the `if` tells that their ids are below 2.
 const COLUMNS: Row = Row {
     program: "input xs: [[u32; 3]; 2]; output join(map(\\r. map(\\x. add(x, 1), r), split(2, join(transpose(xs)))))",
     script: "launch local 4\nat 0.1 to-lcl\nat 0 to-wrg",

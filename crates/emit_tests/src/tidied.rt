@@ -1,6 +1,5 @@
 //! Kernels tidied by hand: indices of loads and stores, offsets of fours, and bounds of loops and
-//! ifs;
-//! indices of loops' variables and of ids.
+//! ifs; indices of loops' variables and of ids.
 
 use crate::sameness::is_same;
 use kernel_reader::read_kernel;
@@ -133,8 +132,8 @@ const IDS_OF_ANY_SIZE: Row = Row {
 ",
 };
 
-// In the `if` an item's id is below 2, behind it below 4; a group's id is below 1 in the `if` on
-// it.
+// In the `if` an item's id is below 2, behind it below 4; a group's id is below 1 in
+// the `if` on it.
 const IDS_IN_IFS: Row = Row {
     plain: "__kernel __attribute__((reqd_work_group_size(4, 1, 1))) void lift(__global const uint *a0, __global uint *o0, const uint s0)
 {

@@ -7,6 +7,7 @@ use Rattle.enabled_events.specs.declared.grid.Grid.{Grid}
 abbrev pub laid : Grid → Launch
 laid grid = record { global = grid.global; local = grid.local; sizes = [] }
 
+-- the grid of a launch, without its sizes
 abbrev pub grid_of : Launch → Grid
 grid_of l = record { global = l.global; local = l.local }
 

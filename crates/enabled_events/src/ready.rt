@@ -59,8 +59,8 @@ impl Ready {
         })
     }
 
-    /// Each work-item of this grid can step, and no group may be released. All memory is taken here, in
-    /// a time that grows with the number of items alone.
+    /// Each work-item of this grid can step, and no group may be released. All memory is taken
+    /// here, in a time that grows with the number of items alone.
     pub fn all_stepping(alloc: Global, grid: Grid) -> Result<Ready, AllocError>
         requires { IsSmall grid }
         ensures { IfOk result (λ r. r ≡ record {
@@ -99,8 +99,8 @@ impl Ready {
         self.event_of(place, k)
     }
 
-    /// The enabled event of this number, in the order of the items, from 0. The first takes no look at
-    /// the counts.
+    /// The enabled event of this number, in the order of the items, from 0. The first takes no look
+    /// at the counts.
     #[inline(always)]
     pub fn nth_enabled(&self, k: u32) -> Event
         requires { k < length (flagged_events self.now) }

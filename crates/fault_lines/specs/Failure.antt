@@ -17,6 +17,7 @@ use Rattle.fault_lines.specs.Refusal as refusals
 use Rattle.fault_lines.specs.Lines.{line_of_texts}
 use Rattle.fault_lines.specs.Refusal.{limit_line, memory_line}
 
+-- what ended a call
 pub data Failure : Type 0 where
   -- the words are no command
   Words : Failure
@@ -38,6 +39,7 @@ abbrev pub launch_status : LaunchNo → ℕ
 launch_status no.Memory = 13
 launch_status _ = 12
 
+-- the status that the call ends with
 abbrev pub status_of : Failure → ℕ
 status_of Words = 2
 status_of (Read name) = 3
@@ -47,6 +49,7 @@ status_of (Source why) = refusals.status_of why
 status_of (Launch p why) = launch_status why
 status_of Memory = 13
 
+-- the line on the error output
 abbrev pub line_of : Failure → List ℕ
 line_of Words = line_of_texts (codes "lift: words" ∷ [])
 line_of (Read name) = line_of_texts (codes "lift: read " ∷ name ∷ [])

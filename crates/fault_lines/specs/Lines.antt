@@ -19,11 +19,13 @@ abbrev pub line_of_texts : List (List ℕ) → List ℕ
 line_of_texts [] = codes "\n"
 line_of_texts (text ∷ texts) = text ++ line_of_texts texts
 
+-- a piece of a line: a text, a number or a place
 abbrev pub piece_text : Piece → List ℕ
 piece_text (Text text) = text.now
 piece_text (Number n) = decimal n
 piece_text (Place numbers) = place_text numbers.now
 
+-- the line that pieces make, with its end
 abbrev pub line_in_pieces : List Piece → List ℕ
 line_in_pieces pieces = line_of_texts (map piece_text pieces)
 
@@ -34,6 +36,7 @@ abbrev pub TakesPrefix : Option (List ℕ) → Option (List ℕ) → List ℕ �
 TakesPrefix before after bytes = (k : ℕ) × (k ≤ length bytes) × Appends before after (take k bytes)
 
 -- a prefix of the bytes was taken, and the whole where no write failed
-pub record TakesLine (before after : Option (List ℕ)) (rose : Type 0) (bytes : List ℕ) : Type 0 where
+pub record TakesLine (before after : Option (List ℕ)) (rose : Type 0)
+    (bytes : List ℕ) : Type 0 where
   pub prefix : TakesPrefix before after bytes
   pub whole : ¬ rose → Appends before after bytes

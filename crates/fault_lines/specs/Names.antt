@@ -13,11 +13,13 @@ use Rattle.pattern_types.specs.declared.refusal.TypeLimit.TheVariants as limits
 use Rattle.strategy_script.specs.declared.faults.StepLimit.{StepLimit}
 use Rattle.strategy_script.specs.declared.faults.StepLimit.TheVariants as after
 
+-- the name of a limit on programs
 abbrev pub quantity_name : Quantity → List ℕ
 quantity_name counted.Sizes = codes "sizes"
 quantity_name counted.Inputs = codes "inputs"
 quantity_name counted.Nodes = codes "nodes"
 
+-- the name of a limit on types
 abbrev pub type_limit_name : TypeLimit → List ℕ
 type_limit_name limits.Arrays = codes "arrays"
 type_limit_name limits.Components = codes "components"
@@ -26,11 +28,13 @@ type_limit_name limits.Degree = codes "degree"
 type_limit_name limits.Coefficient = codes "coefficient"
 type_limit_name limits.Scalars = codes "scalars"
 
+-- the name of a limit on the term after a step
 abbrev pub step_limit_name : StepLimit → List ℕ
 step_limit_name after.Nodes = codes "nodes"
 step_limit_name after.Depth = codes "depth"
 step_limit_name (after.Types which) = type_limit_name which
 
+-- the name of a rule of typing
 abbrev pub rule_name : Rule → List ℕ
 rule_name rules.Operator = codes "operator"
 rule_name rules.Pair = codes "pair"
@@ -49,6 +53,7 @@ rule_name rules.Pad = codes "pad"
 rule_name rules.Output = codes "output"
 rule_name rules.Length = codes "length"
 
+-- the name of a rule of the nest
 abbrev pub nest_rule_name : NestRule → List ℕ
 nest_rule_name nest.N1 = codes "N1"
 nest_rule_name nest.N2 = codes "N2"
@@ -64,6 +69,7 @@ nest_rule_name nest.N11 = codes "N11"
 nest_rule_name nest.N12 = codes "N12"
 nest_rule_name nest.N13 = codes "N13"
 
+-- the name of a limit on a term's arrays
 abbrev pub alloc_limit_name : AllocLimit → List ℕ
 alloc_limit_name allocated.Layouts = codes "layouts"
 alloc_limit_name allocated.Local = codes "local"

@@ -7,6 +7,7 @@ use Rattle.fault_lines.specs.Failure as plain
 use Rattle.fault_lines.specs.declared.failure.Failure.{Failure}
 use Rattle.fault_lines.specs.declared.failure.Failure.TheVariants as failures
 
+-- what ended a call, as code holds it
 abbrev pub failure_of : Failure → plain.Failure
 failure_of failures.Words = plain.Words
 failure_of (failures.Read name) = plain.Read (string_bytes name)

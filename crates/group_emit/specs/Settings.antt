@@ -10,9 +10,11 @@ use Rattle.group_form.specs.ChosenForms.{forms_of}
 use Rattle.item_emit.specs.Inputs.{inputs_in, spell_in}
 use Rattle.group_emit.specs.declared.setting.Setting.{Setting}
 
+-- a length over the sizes, as an expression of the kernel
 abbrev pub spell_of : Setting → List Monomial → Formula
 spell_of s = spell_in s.declared
 
+-- what stands for the input of each number
 abbrev pub inputs_of : Setting → ℕ → View
 inputs_of s = inputs_in s.declared
 

@@ -3,4 +3,5 @@ use Rattle.group_form.specs.Form as form
 use Rattle.group_emit.specs.declared.counts.Used.{Used}
 
 abbrev pub used_of : Used → form.Used
-used_of u = record { locals = u.locals; privates = u.privates; variables = u.variables; phases = u.phases }
+used_of u =
+    record { locals = u.locals; privates = u.privates; variables = u.variables; phases = u.phases }

@@ -1,4 +1,5 @@
-//! What stands for arguments outside local maps: inputs, copies to local memory, bound elements, and layouts of them.
+//! What stands for arguments outside local maps: inputs, copies to local memory, bound
+//! elements, and layouts of them.
 
 ghost use Rattle.std.specs.Prelude.{◌≡◌, [], IfOk};
 ghost use Rattle.kernel_tree.specs.Code.{Local};

@@ -1,4 +1,5 @@
-//! What the code of a map over work-groups uses. A count that would pass 2^32 - 1 is answered as want of memory: what it counts takes more.
+//! What the code of a map over work-groups uses. A count that would pass 2^32 - 1 is answered as
+//! want of memory: what it counts takes more.
 
 ghost use Rattle.std.specs.Prelude.{◌≡◌, IfOk};
 ghost use Rattle.group_form.specs.Form as form;
@@ -83,7 +84,8 @@ pub fn phase_count(term: &Term) -> Result<u32, AllocError>
     }
 }
 
-/// How many local arrays, private arrays, private variables and phases stand before a part of the code.
+/// How many local arrays, private arrays, private variables and phases
+/// stand before a part of the code.
 #[derive(Clone, Copy)]
 pub struct Used {
     pub locals: u32,

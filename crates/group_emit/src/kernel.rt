@@ -22,7 +22,8 @@ use std::alloc::{AllocError, Global};
 
 /// The statements of a term of this type, a map over work-groups, which is written to the output.
 ///
-/// A barrier is a call of `barrier` by each item of a group (OpenCL C 1.2, section 6.12.8); those that the phases need are of `barrier_placement::place`.
+/// A barrier is a call of `barrier` by each item of a group (OpenCL C 1.2, section 6.12.8); those
+/// that the phases need are of `barrier_placement::place`.
 pub fn statements(
     alloc: Global,
     setting: &Setting,

@@ -15,8 +15,8 @@ use kernel_tree::tree::Stmt;
 use size_arith::Poly;
 use std::alloc::AllocError;
 
-/// What a program's terms name, the barriers of a work-group's body with so many phases, and the size
-/// that groups have.
+/// What a program's terms name, the barriers of a work-group's body with so many phases,
+/// and the size that groups have.
 #[derive(Clone, Copy)]
 pub struct Setting<'p> {
     pub declared: Declared<'p>,
@@ -57,7 +57,8 @@ impl<'p> Setting<'p> {
         is_over_one(self.declared.names, self.local, length)
     }
 
-    /// Puts the barrier, if any, that stands just before a phase or, where there is none of that number, that closes the body.
+    /// Puts the barrier, if any, that stands just before a phase or, where there is none of that
+    /// number, that closes the body.
     pub fn put_barrier(&self, phase: u32, block: &mut Block) -> Result<(), AllocError>
         ensures { OnOk result (code_in block.new
             ≡ printer.print_fence (fence_in self.now phase) (code_in block.old)) }

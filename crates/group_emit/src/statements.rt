@@ -1,4 +1,5 @@
-//! The code of the items of a group together: local maps, and the copies to local memory that they fill.
+//! The code of the items of a group together: local maps, and the copies
+//! to local memory that they fill.
 
 ghost use Rattle.std.specs.Prelude.{◌≡◌, IfOk, OnOk};
 ghost use Rattle.group_form.specs.ChosenForms.{form_of};
@@ -31,8 +32,8 @@ use lowering::term::{Kind, LoadSet, Term};
 use size_arith::Poly;
 use std::alloc::{AllocError, Global};
 
-/// Where code stands: within so many loops, with these binders in scope, and behind code that uses so
-/// much.
+/// Where code stands: within so many loops, with these binders in scope, and
+/// behind code that uses so much.
 #[derive(Clone, Copy)]
 pub struct Site<'s> {
     pub depth: u32,

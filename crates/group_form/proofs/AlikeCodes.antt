@@ -1,5 +1,5 @@
--- Any two codes printed for one map over work-groups match.
-use Rattle.std.proofs.Common.{◌≡◌, ℕ, ◌+◌, ◌*◌, ◌<◌, ◌≤◌, Bool, true, false, List, [], ◌∷◌, ◌++◌, refl, sym, ◌∙◌, subst, arith}
+-- Any two codes printed for one map over work-groups are alike.
+use Rattle.std.proofs.Common.{◌≡◌, ℕ, ◌+◌, ◌*◌, ◌<◌, ◌≤◌, Bool, true, false, List, [], ◌∷◌, ◌++◌, refl, sym, subst, arith}
 use Rattle.std.proofs.Math.Nat.{mod-lt}
 use Rattle.kernel_tree.specs.Formula.{Formula}
 use Rattle.kernel_tree.specs.Code.{Local as LocalArray, Code, End, Loops, Guards, Syncs, start_value, stride_value}
@@ -12,53 +12,41 @@ use Rattle.printed_form.specs.Counts.{load_count}
 use Rattle.printed_form.specs.Form.{start_of, stride_of, IsTurnOf, IsLength, IsLoaded, argument_marks}
 use Rattle.printed_form.specs.MapForms.{MapForm, Looped, Guarded, Alone, MapForms, TurnCode, form_over_groups, statement_over_groups, variables_in, AreTurns}
 use Rattle.printed_form.specs.Marks.{Marks, laid_in, loaded_marks}
-use Rattle.printed_form.proofs.Alike.{IsByStatements, alike_loaded, alike_written}
+use Rattle.printed_form.specs.Alike.{Alike}
+use Rattle.printed_form.proofs.Alike.{alike_by, alike_loaded, alike_written}
 use Rattle.group_phases.specs.Epochs.{IsPast}
 use Rattle.group_form.specs.Form.{Used, used_after, IsLocalMap, IsGroupArgument, IsGroupWritten, IsGroupTurn, IsOverGroups}
 use Rattle.group_form.specs.Origins.{local_count}
 use Rattle.group_form.specs.Stages.{marks_of}
 use Rattle.group_form.specs.Uses.{phases_in, phase_count}
-use Rattle.group_form.proofs.AlikeMatches.{Matches}
 
 -- an item's number in its group is below the group's size
 local_below : (l : Launch) (item : ℕ) → IsWhole l → start_value (ids_of l item) (start_of Local) < l.local.0
 local_below l item whole = mod-lt (column_of l item) whole.x.positive
 
 module _ (l : Launch) (item : ℕ) where
-  matches_by_statements : IsByStatements l item (Matches l item)
-  matches_by_statements = record {
-    ends = λ ts. tt;
-    assigns = λ ts v e f r q same h. (refl, same, h);
-    loads = λ ts v a b i j r q same h. (refl, same.0, same.1, h);
-    stores = λ ts a b i j e f r q same equal h. (same.0, same.1, equal, h);
-    loops = λ ts s c b d body other r q n one two within h. (refl, refl, n, one, two, within, h);
-  }
-
-  matching_by : (ts : List ℕ) (a b c d : Code) → a ≡ c → b ≡ d → Matches l item ts c d → Matches l item ts a b
-  matching_by ts a b c d p q h = subst (λ x. Matches l item ts x b) (sym p) (subst (λ x. Matches l item ts c x) (sym q) h)
-
   -- what stands before a phase
-  past : (ts : List ℕ) (f g : Fencing) (a b c d : Code) → f ≡ g → IsPast f a c → IsPast g b d → Matches l item ts c d → Matches l item ts a b
+  past : (ts : List ℕ) (f g : Fencing) (a b c d : Code) → f ≡ g → IsPast f a c → IsPast g b d → Alike true l item ts c d → Alike true l item ts a b
   past ts f g a b c d same x y h = go f x (subst (λ z. IsPast z b d) (sym same) y)
     where
-      go : (f : Fencing) → IsPast f a c → IsPast f b d → Matches l item ts a b
-      go Open x y = matching_by ts a b c d x y h
-      go (Fenced on_local on_global) x y = matching_by ts a b (Syncs on_local on_global c) (Syncs on_local on_global d) x y (refl, refl, h)
+      go : (f : Fencing) → IsPast f a c → IsPast f b d → Alike true l item ts a b
+      go Open x y = alike_by true l item ts a b c d x y h
+      go (Fenced on_local on_global) x y = alike_by true l item ts a b (Syncs on_local on_global c) (Syncs on_local on_global d) x y (refl, refl, refl, h)
 
   module _ (ins : ℕ → Marks) where
-    loaded : (ts : List ℕ) (loads : LoadSet) (e : Marks) (n : ℕ) (a b c d : Code) → IsLoaded l item ins ts loads e n a c → IsLoaded l item ins ts loads e n b d → Matches l item ts c d → Matches l item ts a b
-    loaded = alike_loaded l item ins (Matches l item) matches_by_statements
+    loaded : (ts : List ℕ) (loads : LoadSet) (e : Marks) (n : ℕ) (a b c d : Code) → IsLoaded l item ins ts loads e n a c → IsLoaded l item ins ts loads e n b d → Alike true l item ts c d → Alike true l item ts a b
+    loaded = alike_loaded true l item ins
 
     -- a map in a form, of which the item takes a turn where it is the turn alone
     in_turns : (form : MapForm) (ts : List ℕ) (k : Kind) (len : ℕ) (B : TurnCode) (a b c d : Code) → (form ≡ Alone → start_value (ids_of l item) (start_of k) < len) → AreTurns l item ins form k ts len B a c → AreTurns l item ins form k ts len B b d
-        → ((us : List ℕ) (i : ℕ) (x y m n : Code) → B us i x m → B us i y n → Matches l item us m n → Matches l item us x y) → Matches l item ts c d → Matches l item ts a b
+        → ((us : List ℕ) (i : ℕ) (x y m n : Code) → B us i x m → B us i y n → Alike true l item us m n → Alike true l item us x y) → Alike true l item ts c d → Alike true l item ts a b
     in_turns Looped ts k len B a b c d alone x y rec h =
-        matching_by ts a b (Loops (start_of k) x.0 (stride_of k) x.1 c) (Loops (start_of k) y.0 (stride_of k) y.1 d) x.2 y.2
+        alike_by true l item ts a b (Loops (start_of k) x.0 (stride_of k) x.1 c) (Loops (start_of k) y.0 (stride_of k) y.1 d) x.2 y.2
         (refl, refl, len, x.3, y.3, (λ i lt own. rec (ts ++ i ∷ []) i x.1 y.1 End End (x.4 i lt own) (y.4 i lt own) tt), h)
     in_turns Guarded ts k len B a b c d alone x y rec h =
         let i = start_value (ids_of l item) (start_of k) in
-        matching_by ts a b (Guards (start_of k) x.0 x.1 c) (Guards (start_of k) y.0 y.1 d) x.2 y.2
-        (refl, len, x.3, y.3, (λ lt. rec ts i x.1 y.1 End End (x.4 i lt refl) (y.4 i lt refl) tt), h)
+        alike_by true l item ts a b (Guards (start_of k) x.0 x.1 c) (Guards (start_of k) y.0 y.1 d) x.2 y.2
+        (refl, refl, len, x.3, y.3, (λ lt. rec ts i x.1 y.1 End End (x.4 i lt refl) (y.4 i lt refl) tt), h)
     in_turns Alone ts k len B a b c d alone x y rec h =
         let i = start_value (ids_of l item) (start_of k) in
         rec ts i a b c d (x i (alone refl) refl) (y i (alone refl) refl) h
@@ -73,18 +61,18 @@ module _ (l : Launch) (item : ℕ) where
         around = variables_in outer [] i
 
         local_map : (env : (turn var : ℕ) → Marks) (u : Used) (len : A) (loads : LoadSet) (marks : ℕ → Marks) (t : Term A) (w : ℕ → Marks) (a b c d : Code)
-            → IsLocalMap num forms l ins one outer turns env u len loads marks t w a c → IsLocalMap num forms l ins other outer turns env u len loads marks t w b d → Matches l item around c d → Matches l item around a b
+            → IsLocalMap num forms l ins one outer turns env u len loads marks t w a c → IsLocalMap num forms l ins other outer turns env u len loads marks t w b d → Alike true l item around c d → Alike true l item around a b
         local_map env u len loads marks t w a b c d x y h =
             in_turns (forms.local len) around Local (num len) _ a b c d (takes_its_turn len) (x item i here it own) (y item i here it own)
             (λ us j p q m k r s rest. loaded us loads (at_index j (marks i)) u.variables p q r.0 s.0 r.1 s.1
-            (alike_written l item ins (Matches l item) matches_by_statements num t us (push (loaded_marks loads (at_index j (marks i)) u.variables) (env i)) u.privates (u.variables + load_count loads) (at_index j (w i)) r.0 s.0 m k r.2 s.2 rest))
+            (alike_written true l item ins num t us (push (loaded_marks loads (at_index j (marks i)) u.variables) (env i)) u.privates (u.variables + load_count loads) (at_index j (w i)) r.0 s.0 m k r.2 s.2 rest))
             h
 
         mutual
           argument : (t : Term A) (env : (turn var : ℕ) → Marks) (u : Used) (a b c d : Code) → u.phases + phases_in t ≤ n
-              → IsGroupArgument num forms l ins one outer turns env u t a c → IsGroupArgument num forms l ins other outer turns env u t b d → Matches l item around c d → Matches l item around a b
-          argument (Bound v) env u a b c d few x y h = matching_by around a b c d x y h
-          argument (Source v) env u a b c d few x y h = matching_by around a b c d x y h
+              → IsGroupArgument num forms l ins one outer turns env u t a c → IsGroupArgument num forms l ins other outer turns env u t b d → Alike true l item around c d → Alike true l item around a b
+          argument (Bound v) env u a b c d few x y h = alike_by true l item around a b c d x y h
+          argument (Source v) env u a b c d few x y h = alike_by true l item around a b c d x y h
           argument (Both true t s) env u a b c d few x y h =
               argument t env u a b x.0 y.0 (omega (arith, few)) x.1 y.1 (argument s env (used_after u t) x.0 y.0 c d (omega (arith, few)) x.2 y.2 h)
           argument (Project s t) env u a b c d few x y h = argument t env u a b c d few x y h
@@ -96,7 +84,7 @@ module _ (l : Launch) (item : ℕ) where
           argument _ env u a b c d few x y h = absurd x
 
           written : (t : Term A) (env : (turn var : ℕ) → Marks) (u : Used) (w : ℕ → Marks) (a b c d : Code) → u.phases + phases_in t ≤ n
-              → IsGroupWritten num forms l ins one outer turns env u t w a c → IsGroupWritten num forms l ins other outer turns env u t w b d → Matches l item around c d → Matches l item around a b
+              → IsGroupWritten num forms l ins one outer turns env u t w a c → IsGroupWritten num forms l ins other outer turns env u t w b d → Alike true l item around c d → Alike true l item around a b
           written (Reshape m t) env u w a b c d few x y h = written t env u (λ j cs p. w j cs (result_position num m p)) a b c d few x.1 y.1 h
           written (LetArray v t) env u w a b c d few x y h =
               argument v env u a b x.0 y.0 (omega (arith, few)) x.1 y.1
@@ -108,7 +96,7 @@ module _ (l : Launch) (item : ℕ) where
           written _ env u w a b c d few x y h = absurd x
 
       turn : (outer : MapForm) (turns i : ℕ) (env : ℕ → Marks) (loads : LoadSet) (marks : Marks) (t : Term A) (w : Marks) (a b : Code) → i < turns → IsTurnOf l item WorkGroup i → ((q : ℕ) → q ≤ phases_in t → one q ≡ other q)
-          → IsGroupTurn num forms l ins one outer turns env loads marks t w a → IsGroupTurn num forms l ins other outer turns env loads marks t w b → Matches l item (variables_in outer [] i) a b
+          → IsGroupTurn num forms l ins one outer turns env loads marks t w a → IsGroupTurn num forms l ins other outer turns env loads marks t w b → Alike true l item (variables_in outer [] i) a b
       turn outer turns i env loads marks t w a b it own same x y =
           loaded (variables_in outer [] i) loads (at_index i marks) 0 a b x.0 y.0 (x.2 item i here it own) (y.2 item i here it own)
           (written outer (phases_in t) same turns i it own t (λ j. push (loaded_marks loads (at_index j marks) 0) env) (record { locals = 0; privates = 0; variables = load_count loads; phases = 0 }) (λ j. at_index j w) x.0 y.0 x.1 y.1 (omega arith) x.3 y.3
@@ -116,15 +104,15 @@ module _ (l : Launch) (item : ℕ) where
 
       -- the map over groups: a loop, or an `if`
       statement : (once : Bool) (len : ℕ) (body inner a b : Code) (c d : Formula) → a ≡ statement_over_groups once c body → b ≡ statement_over_groups once d inner → IsLength l ins c len → IsLength l ins d len
-          → ((i : ℕ) → i < len → IsTurnOf l item WorkGroup i → Matches l item (variables_in (form_over_groups once) [] i) body inner) → Matches l item [] a b
+          → ((i : ℕ) → i < len → IsTurnOf l item WorkGroup i → Alike true l item (variables_in (form_over_groups once) [] i) body inner) → Alike true l item [] a b
       statement false len body inner a b c d x y m n within =
-          matching_by [] a b (Loops (start_of WorkGroup) c (stride_of WorkGroup) body End) (Loops (start_of WorkGroup) d (stride_of WorkGroup) inner End) x y (refl, refl, len, m, n, within, tt)
+          alike_by true l item [] a b (Loops (start_of WorkGroup) c (stride_of WorkGroup) body End) (Loops (start_of WorkGroup) d (stride_of WorkGroup) inner End) x y (refl, refl, len, m, n, within, tt)
       statement true len body inner a b c d x y m n within =
           let i = start_value (ids_of l item) (start_of WorkGroup) in
-          matching_by [] a b (Guards (start_of WorkGroup) c body End) (Guards (start_of WorkGroup) d inner End) x y
-          (refl, len, m, n, (λ lt. within i lt (0, let z : i + 0 * stride_value (ids_of l item) (stride_of WorkGroup) ≡ i = omega arith in sym z)), tt)
+          alike_by true l item [] a b (Guards (start_of WorkGroup) c body End) (Guards (start_of WorkGroup) d inner End) x y
+          (refl, refl, len, m, n, (λ lt. within i lt (0, let z : i + 0 * stride_value (ids_of l item) (stride_of WorkGroup) ≡ i = omega arith in sym z)), tt)
 
-      pub over_groups : (t : Term A) (env : ℕ → Marks) (w : Marks) (a b : Code) → ((q : ℕ) → q ≤ phase_count t → one q ≡ other q) → IsOverGroups num forms l ins one env t w a → IsOverGroups num forms l ins other env t w b → Matches l item [] a b
+      pub over_groups : (t : Term A) (env : ℕ → Marks) (w : Marks) (a b : Code) → ((q : ℕ) → q ≤ phase_count t → one q ≡ other q) → IsOverGroups num forms l ins one env t w a → IsOverGroups num forms l ins other env t w b → Alike true l item [] a b
       over_groups (Reshape m t) env w a b same x y = over_groups t env (λ cs p. w cs (result_position num m p)) a b same x.1 y.1
       over_groups (LetArray v t) env w a b same x y = over_groups t (push (argument_marks l ins num env 0 v) env) w a b same x y
       over_groups (Map WorkGroup len loads xs t) env w a b same x y =

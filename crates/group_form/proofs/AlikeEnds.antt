@@ -11,7 +11,7 @@ use Rattle.kernel_tree.specs.Device.{Device, State, wants, CanStep, AllTogether,
 use Rattle.kernel_tree.specs.Meets.{IsWaiting, MeetTogether}
 use Rattle.kernel_tree.proofs.EveryRun.{is_run-append}
 use Rattle.kernel_tree.proofs.Grouping.{first_of_group, first_in_launch, in_launch}
-use Rattle.group_form.proofs.AlikeRuns.{waits_too}
+use Rattle.printed_form.proofs.SameRuns.{waits_too}
 
 abbrev Decided : Type 0 → Type 0
 Decided P = P ⊎ (P → ⊥)

@@ -14,12 +14,11 @@ pub mod Needed
 pub mod Programs
 pub mod Shown
 pub mod ChosenForms
-pub mod Typing
 pub mod Printer
 pub mod Placed
-mod AlikeMatches
-mod AlikeWants
-mod AlikeRuns
 mod AlikeEnds
 mod AlikeCodes
 mod AlikeTheorem
+mod InRange
+mod PrivateCopies
+mod BarrierFree

@@ -1,14 +1,12 @@
 -- What the printer prints for a map over work-groups is printed for it.
-use Rattle.std.proofs.Common.{◌≡◌, ℕ, zero, suc, ◌+◌, ◌<◌, ◌^◌, Bool, true, false, List, [], ◌∷◌, ◌++◌, ◌*◌, length, length-append, Some, refl, sym, subst, arith}
+use Rattle.std.proofs.Common.{◌≡◌, ℕ, suc, ◌+◌, ◌<◌, ◌^◌, Bool, true, false, List, [], ◌∷◌, ◌++◌, ◌*◌, length, length-append, Some, refl, sym, subst, arith}
 use Rattle.size_arith.specs.declared.poly.Monomial.{Monomial}
-use Rattle.lift_tree.specs.Lists.{Every}
-use Rattle.lift_tree.specs.Types.{PlainTy}
 use Rattle.lift_tree.specs.Annotations.{type_in}
 use Rattle.kernel_tree.specs.Formula.{Formula, LoopVariable}
 use Rattle.kernel_tree.specs.Code.{Input, Output, Local as LocalArray, Code, End, start_value, stride_value}
 use Rattle.kernel_tree.specs.Launch.{Launch, ids_of}
 use Rattle.barrier_placement.specs.Fencing.{Fencing, Open, Fenced}
-use Rattle.lift_ir.specs.Types.{Ty, PairOf, ArrayOf, IsPosition, IsPlaced, measured}
+use Rattle.lift_ir.specs.Types.{Ty, PairOf, ArrayOf, IsPosition, measured}
 use Rattle.lift_ir.specs.Layouts.{result_position}
 use Rattle.lift_ir.specs.Terms.{LoadSet, LoadsScalars, WorkGroup, Local, LocalMemory, Term, Bound, Source, Both, Project, Reshape, LetArray, Map, Copy, push, HasType, no_type}
 use Rattle.lift_ir.specs.Scalars.{at_index}
@@ -39,7 +37,7 @@ use Rattle.group_form.specs.Uses.{phases_in}
 use Rattle.group_form.specs.Printer.{print_fence, group_view, print_local_map, turn_formula, depth_in, id_of, print_turns, print_group_argument, print_group_written, print_groups, group_kernel_code, GroupPrinterPrints, GroupProgramsArePrinted}
 use Rattle.group_form.proofs.Shown.{all_within, all_around, all_push, turned_cells, own_cells, held_push, loaded_held, loaded_is, loaded_shows, back_cells, moved_shows, zip_cells}
 use Rattle.group_form.proofs.ChosenForms.{forms_make_turns}
-use Rattle.group_form.proofs.Typing.{lowered_has}
+use Rattle.printed_form.proofs.Programs.{declares_so, inputs_placed, lowered_has}
 
 past_fence : (f : Fencing) (rest : Code) → IsPast f (print_fence f rest) rest
 past_fence Open rest = refl
@@ -297,11 +295,6 @@ group_code_is A l num forms makes spell spelled first src fence t ty stands ok n
     let place = λ (item : ℕ). placed_cells l item num spell spelled [] Output 0 ty out.flat out.short out.small in
     over_groups_is l num forms spell spelled (λ v. measured num (src v)) (input_marks num first src) (input_views spell first src) fence makes t no_type no_view no_marks (λ v. none) (measured num ty) (placed_view spell Output 0 ty) (output_marks (measured num ty)) ok nm stands (nothing_shown l) shown (nothing_held l) place
 
-inputs_placed : (num : List Monomial → ℕ) (tys : List PlainTy) → Every (λ b. IsPlaced num (shape_of b)) tys → num [] ≡ 0 → (v : ℕ) → IsPlaced num (input_shape tys v)
-inputs_placed num [] all z v = record { flat = tt; short = (omega arith, tt); small = omega arith }
-inputs_placed num (a ∷ tys) all z zero = all.0
-inputs_placed num (a ∷ tys) all z (suc v) = inputs_placed num tys all.1 z v
-
 pub group_programs_are_printed : GroupProgramsArePrinted
 group_programs_are_printed d asks bases t a l spell fence program launch staged placed spelled needed =
     let num = length_at bases in
@@ -310,18 +303,11 @@ group_programs_are_printed d asks bases t a l spell fence program launch staged 
     let forms = forms_of d.names asks.local in
     let makes = forms_make_turns d.names bases program.lowerable.declared.names launch.admissible.sizes l asks.local launch.admissible.fixed in
     record {
-      inputs = refl;
-      outputs = refl;
-      sizes = refl;
-      locals = refl;
-      privates = refl;
-      variables = refl;
-      vectors = refl;
-      local = refl;
+      declares = declares_so d asks.local t a (group_kernel_code spell forms (first_buffer d.inputs) (input_shape d.inputs) fence low (shape_of (type_in a)));
       fence = fence;
       needed = needed;
       code =
           subst (λ z. IsOverGroups num forms l (input_marks num (first_buffer d.inputs) (input_shape d.inputs)) fence no_marks low (output_marks z) (group_kernel_code spell forms (first_buffer d.inputs) (input_shape d.inputs) fence low (shape_of (type_in a)))) same
           (group_code_is (List Monomial) l num forms makes spell spelled (first_buffer d.inputs) (input_shape d.inputs) fence low (shape_of (type_in a)) program.stands
-          (subst (λ z. HasType num (λ v. measured num (input_shape d.inputs v)) no_type low z) (sym same) (lowered_has d asks bases t a l program launch)) (names_suffice d bases t a program.lowerable.nodes program.lowerable.lowerable staged) placed.0 (inputs_placed num d.inputs placed.1 refl));
+          (subst (λ z. HasType num (λ v. measured num (input_shape d.inputs v)) no_type low z) (sym same) (lowered_has d asks bases t a l program.lowerable launch)) (names_suffice d bases t a program.lowerable.nodes program.lowerable.lowerable staged) placed.0 (inputs_placed bases d.inputs placed.1));
     }

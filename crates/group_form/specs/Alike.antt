@@ -17,6 +17,10 @@ use Rattle.group_form.specs.Programs.{PrintsGroups, IsGroupProgram}
 -- of both
 abbrev pub PrintedGroupProgramsGoAlike : Type 0
 PrintedGroupProgramsGoAlike =
-    (d : Declared) (asks : Asks) (w : World) (t : Tree) (a : Annotation) (l : Launch) (k m : Kernel) (c : Cells) (s r : State)
-    → IsGroupProgram d w.bases t a → IsAdmissible d w → IsLaunchOf d asks w.bases l → AreBuffersOf d w t a c → PrintsGroups d asks.local w.bases t a l k → PrintsGroups d asks.local w.bases t a l m
-    → IsStart k l c s → IsStart m l c r → SameContents l s r → GoesAlike (device_of k l c) s (device_of m l c) r
+    (d : Declared) (asks : Asks) (w : World) (t : Tree) (a : Annotation) (l : Launch) (k m : Kernel)
+    (c : Cells) (s r : State)
+    → IsGroupProgram d w.bases t a → IsAdmissible d w → IsLaunchOf d asks w.bases l
+    → AreBuffersOf d w t a c → PrintsGroups d asks.local w.bases t a l k
+    → PrintsGroups d asks.local w.bases t a l m
+    → IsStart k l c s → IsStart m l c r → SameContents l s r
+    → GoesAlike (device_of k l c) s (device_of m l c) r

@@ -27,13 +27,16 @@ pub record GroupBody (A : Type 0) : Type 0 where
   pub result : Ty
   pub stages : List (Stage A)
 
+-- the cells of a destination, in a turn of the map over groups
 abbrev pub destination_marks : (out : Marks) → (turn : ℕ) → Destination → Marks
 destination_marks out i (Locals first ty) = laid_in LocalArray first ty
 destination_marks out i Outputs = at_index i out
 
+-- where the value of a phase goes in a turn, through the layouts around it
 abbrev pub goes_to : {A : Type 0} → (out : Marks) → (turn : ℕ) → Stage A → Marks
 goes_to out i s = λ cs p. destination_marks out i s.destination cs (s.outer p)
 
+-- what stands for a phase's values in a turn, and where they go
 abbrev pub place_of : {A : Type 0} → (out : Marks) → (turn : ℕ) → Stage A → Place
 place_of out i s = record {
   env = s.env i;
@@ -60,26 +63,32 @@ choices_at (PairOf a b) c =
 choices_at (ArrayOf n t) c = choices_at t c
 choices_at Scalar c = []
 
+-- the first index of a position, or 0
 abbrev pub first_index : List ℕ → ℕ
 first_index [] = 0
 first_index (i ∷ p) = i
 
--- the component and the position of a phase's value that a cell of a local array holds
+-- the component of a phase's value that a local array holds
 abbrev pub held_choices : Destination → (array : ℕ) → List Bool
 held_choices (Locals first ty) a = choices_at ty (a - first)
 held_choices Outputs a = []
 
+-- and the position in it that a cell holds
 abbrev pub held_position : {A : Type 0} → Stage A → Destination → (index : ℕ) → List ℕ
 held_position s (Locals first ty) n = s.path (unflat ty n)
 held_position s Outputs n = []
 
-module _ {A : Type 0} (num : A → ℕ) (l : Launch) (c : Cells) (wanted : List (List ℕ)) (b : GroupBody A) where
+module _ {A : Type 0} (num : A → ℕ) (l : Launch) (c : Cells) (wanted : List (List ℕ))
+    (b : GroupBody A) where
+  -- the phase that fills a local array
   abbrev pub filling : (array : ℕ) → Stage A
   filling a = stage_at b.stages (home_in b.stages a)
 
+  -- of the component that it holds
   abbrev pub choices_in : (array : ℕ) → List Bool
   choices_in a = held_choices (filling a).destination a
 
+  -- of what a cell of it holds
   abbrev pub position_in : (array index : ℕ) → List ℕ
   position_in a n = held_position (filling a) (filling a).destination n
 
@@ -91,6 +100,7 @@ module _ {A : Type 0} (num : A → ℕ) (l : Launch) (c : Cells) (wanted : List 
       value_in num b.sources (g + t * groups_across l) (filling a) (choices_in a) (position_in a n)
   content g t (Private a) n = 0
 
+  -- the row of its phase's value that a cell lies in; 0 in arrays that aren't local
   abbrev pub row_in : Array → ℕ → ℕ
   row_in (LocalArray a) n = first_index (position_in a n)
   row_in _ n = 0
@@ -99,6 +109,7 @@ module _ {A : Type 0} (num : A → ℕ) (l : Launch) (c : Cells) (wanted : List 
   abbrev pub filler : Cell → ℕ
   filler x = x.home * l.local.0 + row_in x.array x.index % l.local.0
 
+  -- the phases, with their cells and contents
   abbrev pub phase_list : PhaseList A
   phase_list = record {
     once = b.once;

@@ -89,11 +89,13 @@ module _ {A : Type 0} (num : A → ℕ) (forms : MapForms A) (l : Launch) (ins :
       IsGroupWritten env u (Map Local n loads xs b) w code rest =
           (mid mid2 : Code) × IsGroupArgument env u xs code mid
           × IsPast (fence (u.phases + phases_in xs)) mid mid2
-          × IsLocalMap env (used_after u xs) n loads (marks_of num ins env u.locals xs) b w mid2 rest
+          × IsLocalMap env (used_after u xs) n loads
+          (marks_of num ins env u.locals xs) b w mid2 rest
       IsGroupWritten env u _ w code rest = ⊥
 
     -- a turn: the loads of its element, the body's phases, and what closes
-    abbrev pub IsGroupTurn : (ℕ → Marks) → LoadSet → (marks : Marks) → (body : Term A) → (to : Marks)
+    abbrev pub IsGroupTurn : (ℕ → Marks) → LoadSet → (marks : Marks) → (body : Term A)
+        → (to : Marks)
         → Code → Type 0
     IsGroupTurn env loads marks b w code =
         (first last : Code)

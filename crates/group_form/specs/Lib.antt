@@ -11,3 +11,4 @@ pub mod Theorem
 pub mod Programs
 pub mod Printer
 pub mod Alike
+pub mod BarrierFree

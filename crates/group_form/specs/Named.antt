@@ -14,10 +14,12 @@ pub record Component : Type 0 where
 abbrev pub whole : List (List Bool)
 whole = [] ∷ []
 
+-- components of a variable, by the ways to them
 abbrev pub components_of : ℕ → List (List Bool) → List Component
 components_of v [] = []
 components_of v (w ∷ ws) = record { var = v; way = w } ∷ components_of v ws
 
+-- a component outside a binder; none of the binder's own
 abbrev pub beneath : ℕ → List Bool → List Component
 beneath zero w = []
 beneath (suc v) w = record { var = v; way = w } ∷ []
@@ -78,6 +80,7 @@ element_ways loads b = taken loads ++ ways 0 (named b whole)
 abbrev pub named_outside : {A : Type 0} → (body : Term A) → List Component
 named_outside b = outside (named b whole)
 
+-- one of the ways ends here
 abbrev pub ends : List (List Bool) → Bool
 ends [] = false
 ends ([] ∷ ws) = true

@@ -10,6 +10,7 @@ pub data Origin : Type 0 where
   Within : (array : ℕ) → (plainly : Bool) → Origin
   BySide : (left right : Origin) → Origin
 
+-- the origin of a side of a pair
 abbrev pub on_side : Bool → Origin → Origin
 on_side false (BySide a b) = a
 on_side true (BySide a b) = b

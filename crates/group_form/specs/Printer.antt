@@ -1,5 +1,5 @@
 -- A printer of maps over work-groups, each map in its form: its code is one for all launches.
-use Rattle.std.specs.Prelude.{ℕ, suc, ◌+◌, ◌<◌, ◌^◌, Bool, List, ◌∷◌, length, Option}
+use Rattle.std.specs.Prelude.{ℕ, suc, ◌+◌, ◌<◌, ◌^◌, List, ◌∷◌, Option}
 use Rattle.size_arith.specs.declared.poly.Monomial.{Monomial}
 use Rattle.lift_tree.specs.Launches.{Asks}
 use Rattle.lift_tree.specs.Tree.{Tree}
@@ -11,18 +11,18 @@ use Rattle.kernel_tree.specs.Code.{Output, Local as LocalArray, Code, End, Loops
 use Rattle.kernel_tree.specs.Launch.{Launch}
 use Rattle.barrier_placement.specs.Fencing.{Fencing, Open, Fenced}
 use Rattle.barrier_placement.specs.Needed.{Needed}
-use Rattle.lift_ir.specs.Types.{Shape, measured, width, IsPlaced}
-use Rattle.lift_ir.specs.Terms.{Kind, Global, WorkGroup, Local, Sequential, LoadSet, LocalMemory, PrivateMemory, Term, Bound, Source, Both, Project, Reshape, LetArray, Map, Copy, push, HasType, no_type}
+use Rattle.lift_ir.specs.Types.{Shape, measured, IsPlaced}
+use Rattle.lift_ir.specs.Terms.{Kind, Global, WorkGroup, Local, Sequential, LoadSet, Term, Bound, Source, Both, Project, Reshape, LetArray, Map, Copy, push, HasType, no_type}
 use Rattle.lift_ir.specs.Scalars.{by_side}
 use Rattle.lift_ir.specs.AtLaunch.{shape_of}
 use Rattle.lift_ir.specs.Lowering.{Written}
 use Rattle.lift_ir.specs.Lowerable.{IsStaged}
 use Rattle.lift_ir.specs.Loads.{none, LoadsSuffice}
-use Rattle.printed_form.specs.Counts.{load_count, variable_count, copy_lengths}
+use Rattle.printed_form.specs.Counts.{load_count}
 use Rattle.printed_form.specs.Form.{start_of, stride_of}
 use Rattle.printed_form.specs.MapForms.{MapForm, Looped, Guarded, Alone, MapForms, MakeTurns, form_over_groups, statement_over_groups}
 use Rattle.printed_form.specs.Means.{IsSpelled}
-use Rattle.printed_form.specs.Programs.{input_shape, first_buffer, buffer_count, lowered_root, row_of, IsLaunchOf, IsSpelling, FitsBuffers}
+use Rattle.printed_form.specs.Programs.{input_shape, first_buffer, declared_kernel, lowered_root, IsLaunchOf, IsSpelling, FitsBuffers}
 use Rattle.printed_form.specs.Printer.{print_loaded, print_written, argument_view, no_view, input_views, input_marks}
 use Rattle.printed_form.specs.Views.{View, Blank, loaded_view, view_at, operand_indices, result_indices, placed_view, laid_view}
 use Rattle.printed_form.specs.Whole.{no_marks, output_marks}
@@ -33,6 +33,7 @@ use Rattle.group_form.specs.Origins.{local_count}
 use Rattle.group_form.specs.Programs.{PrintsGroups, IsGroupProgram}
 use Rattle.group_form.specs.Uses.{phases_in, phase_count, group_touches}
 
+-- a barrier, where one stands
 abbrev pub print_fence : Fencing → (rest : Code) → Code
 print_fence Open rest = rest
 print_fence (Fenced on_local on_global) rest = Syncs on_local on_global rest
@@ -90,6 +91,7 @@ module _ {A : Type 0} (spell : A → Formula) (forms : MapForms A) (ins : ℕ �
       (push (loaded_view loads (view_at turn x) u.variables) env) u.privates
       (u.variables + load_count loads) b (view_at turn w) rest)
 
+  -- a local map in its form, in so many loops, and then the rest
   abbrev pub print_local_map : (depth : ℕ) → (ℕ → View) → Used → A → LoadSet → (array : View)
       → (body : Term A) → (to : View) → (rest : Code) → Code
   print_local_map depth env u n loads x b w rest =
@@ -136,6 +138,7 @@ module _ {A : Type 0} (spell : A → Formula) (forms : MapForms A) (ins : ℕ �
       (record { locals = 0; privates = 0; variables = load_count loads; phases = 0 }) b w
       (print_fence (fence (phases_in b)) End))
 
+  -- a map over work-groups, through layouts and lets of arrays, whose value goes there
   abbrev pub print_groups : (ℕ → View) → Term A → (to : View) → Code
   print_groups env (Reshape l t) w =
       print_groups env t (λ cs is. w cs (result_indices spell l is))
@@ -162,7 +165,8 @@ abbrev pub GroupPrinterPrints : Type 0 → Type 0
 GroupPrinterPrints A =
     (l : Launch) (num : A → ℕ) (forms : MapForms A) → MakeTurns forms num l
     → (spell : A → Formula) → ((n : A) → num n < 2 ^ 31 → IsSpelled l (spell n) (num n))
-    → (first : ℕ → ℕ) (src : ℕ → Shape A) (fence : ℕ → Fencing) (t : Term A) (ty : Shape A) → StandsOverGroups t
+    → (first : ℕ → ℕ) (src : ℕ → Shape A) (fence : ℕ → Fencing) (t : Term A) (ty : Shape A)
+    → StandsOverGroups t
     → HasType num (λ v. measured num (src v)) no_type t (measured num ty)
     → LoadsSuffice (λ v. none) t → IsPlaced num ty → ((v : ℕ) → IsPlaced num (src v))
     → IsOverGroups num forms l (input_marks num first src) fence no_marks t
@@ -171,19 +175,10 @@ GroupPrinterPrints A =
 -- the kernel that the printer makes of a program's typed term
 abbrev pub printed_group_kernel : (List Monomial → Formula) → (fence : ℕ → Fencing) → Declared
     → (size : Option ℕ) → Tree → Annotation → Kernel
-printed_group_kernel spell fence d size t a = record {
-  inputs = buffer_count d.inputs;
-  outputs = width (shape_of (type_in a));
-  sizes = length d.names;
-  locals = copy_lengths LocalMemory (lowered_root d.names t a);
-  privates = copy_lengths PrivateMemory (lowered_root d.names t a);
-  variables = variable_count (lowered_root d.names t a);
-  vectors = 0;
-  local = row_of size;
-  code =
-      group_kernel_code spell (forms_of d.names size) (first_buffer d.inputs)
-      (input_shape d.inputs) fence (lowered_root d.names t a) (shape_of (type_in a));
-}
+printed_group_kernel spell fence d size t a =
+    declared_kernel d size t a
+    (group_kernel_code spell (forms_of d.names size) (first_buffer d.inputs) (input_shape d.inputs)
+    fence (lowered_root d.names t a) (shape_of (type_in a)))
 
 -- with the needed barriers it is printed for the term, at each admissible launch
 abbrev pub GroupProgramsArePrinted : Type 0

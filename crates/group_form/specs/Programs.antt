@@ -1,5 +1,5 @@
 -- A kernel printed for a whole program's typed term that is a map over work-groups.
-use Rattle.std.specs.Prelude.{◌≡◌, ℕ, List, [], length, Option}
+use Rattle.std.specs.Prelude.{ℕ, List, [], Option}
 use Rattle.lift_tree.specs.Tree.{Tree}
 use Rattle.lift_tree.specs.Typing.{Declared, IsAdmissible}
 use Rattle.lift_tree.specs.Annotations.{Annotation, type_in}
@@ -10,13 +10,10 @@ use Rattle.kernel_tree.specs.Launch.{Launch, Cells, MayStart}
 use Rattle.kernel_tree.specs.Device.{Cell}
 use Rattle.barrier_placement.specs.Fencing.{Fencing}
 use Rattle.barrier_placement.specs.Needed.{Needed}
-use Rattle.lift_ir.specs.Types.{width}
-use Rattle.lift_ir.specs.Terms.{LocalMemory, PrivateMemory}
-use Rattle.lift_ir.specs.AtLaunch.{length_at, ty_at, shape_of}
+use Rattle.lift_ir.specs.AtLaunch.{length_at, ty_at}
 use Rattle.printed_form.specs.Headline.{EveryRunKeeps}
-use Rattle.printed_form.specs.Counts.{variable_count, copy_lengths}
 use Rattle.printed_form.specs.Printer.{input_marks}
-use Rattle.printed_form.specs.Programs.{input_shape, first_buffer, buffer_count, lowered_root, row_of, cell_owner, IsLaunchOf, AreBuffersOf, IsLowerableProgram}
+use Rattle.printed_form.specs.Programs.{input_shape, first_buffer, lowered_root, cell_owner, DeclaresFor, IsLaunchOf, AreBuffersOf, IsLowerableProgram}
 use Rattle.printed_form.specs.Whole.{no_marks, output_marks}
 use Rattle.group_phases.specs.Outcome.{BarriersServeAll}
 use Rattle.group_form.specs.Forms.{StandsOverGroups}
@@ -24,21 +21,11 @@ use Rattle.group_form.specs.Uses.{phase_count, group_touches}
 use Rattle.group_form.specs.ChosenForms.{forms_of}
 use Rattle.group_form.specs.Form.{is_once, IsOverGroups}
 
--- The kernel is printed for the typed term at a launch, where the base names have these values: its
--- parameters, private variables and arrays are as for any term, its local arrays as the term needs
--- them; it has no variable of four words and asks for the size of groups that the script fixes; and
--- its code is printed for a map over groups, each map in the form that this size gives it, with the
--- needed barriers.
+-- the kernel is printed for the typed term at a launch, where the base names have these values, as
+-- a map over groups, each map in the form that the fixed size gives it, with the needed barriers
 pub record PrintsGroups (d : Declared) (size : Option ℕ) (bases : List ℕ) (t : Tree)
     (a : Annotation) (l : Launch) (k : Kernel) : Type 0 where
-  pub inputs : k.inputs ≡ buffer_count d.inputs
-  pub outputs : k.outputs ≡ width (shape_of (type_in a))
-  pub sizes : k.sizes ≡ length d.names
-  pub locals : k.locals ≡ copy_lengths LocalMemory (lowered_root d.names t a)
-  pub privates : k.privates ≡ copy_lengths PrivateMemory (lowered_root d.names t a)
-  pub variables : k.variables ≡ variable_count (lowered_root d.names t a)
-  pub vectors : k.vectors ≡ 0
-  pub local : k.local ≡ row_of size
+  pub declares : DeclaresFor d size t a k
   pub fence : ℕ → Fencing
   pub needed : Needed (group_touches (lowered_root d.names t a))
       (is_once (forms_of d.names size) (lowered_root d.names t a))

@@ -142,12 +142,26 @@ module _ {A : Type 0} (num : A → ℕ) (forms : MapForms A) (ins : ℕ → Mark
 
 -- a list of phases
 
+-- the uses of local arrays by a phase
 abbrev pub uses_in : {A : Type 0} → Stage A → List Use
 uses_in s = loop_uses s.origins s.origin s.phase.loads s.phase.body s.destination s.direct
 
+-- a phase that does nothing
 abbrev pub no_stage : {A : Type 0} → Stage A
 no_stage = record {
-  phase = record { form = Looped; len = 0; loads = Skip; body = Literal 0; element = Scalar; result = Scalar; types = no_type; variables = 0; privates = 0; locals = 0 };
+  phase =
+      record {
+        form = Looped;
+        len = 0;
+        loads = Skip;
+        body = Literal 0;
+        element = Scalar;
+        result = Scalar;
+        types = no_type;
+        variables = 0;
+        privates = 0;
+        locals = 0;
+      };
   env = λ i v cs p. Nowhere;
   sems = λ i v cs p. 0;
   marks = λ i cs p. Nowhere;
@@ -160,11 +174,13 @@ no_stage = record {
   origin = Elsewhere;
 }
 
+-- the phase with this number; behind the last it does nothing
 abbrev pub stage_at : {A : Type 0} → List (Stage A) → ℕ → Stage A
 stage_at [] q = no_stage
 stage_at (s ∷ ss) zero = s
 stage_at (s ∷ ss) (suc q) = stage_at ss q
 
+-- the uses of local arrays by each
 abbrev pub uses_of : {A : Type 0} → List (Stage A) → List (List Use)
 uses_of stages = map uses_in stages
 

@@ -30,10 +30,11 @@ use Rattle.group_form.specs.Uses.{phase_count, group_touches}
 use Rattle.group_form.specs.Form.{is_once, IsOverGroups}
 
 -- the kernel is printed for the term of this type, which is a map over work-groups, at this launch
--- of one row and with these cells, each map in a form that makes its turns there. What stands before
--- each phase, and closes the body, is `fence`
+-- of one row and with these cells, each map in a form that makes its turns there. What stands
+-- before each phase, and closes the body, is `fence`
 pub record IsPrintedOverGroups {A : Type 0} (l : Launch) (num : A → ℕ) (forms : MapForms A)
-    (src : ℕ → Ty) (ins : ℕ → Marks) (sources : ℕ → Scalars) (fence : ℕ → Fencing) (t : Term A) (ty : Ty)
+    (src : ℕ → Ty) (ins : ℕ → Marks) (sources : ℕ → Scalars) (fence : ℕ → Fencing) (t : Term A)
+    (ty : Ty)
     (k : Kernel) (c : Cells) : Type 0 where
   pub whole : IsWhole l
   pub flat : launch.IsFlat l
@@ -63,6 +64,7 @@ pub record CanBePlaced {A : Type 0} (t : Term A) : Type 0 where
   pub within : All (λ x. x.phase < phase_count t) (group_touches t)
   pub local : All (λ x. space_of x.local ≡ placed.Local) (group_touches t)
 
+-- so it is in a map over work-groups
 abbrev pub GroupUsesCanBePlaced : Type 0 → Type 0
 GroupUsesCanBePlaced A = (t : Term A) → StandsOverGroups t → CanBePlaced t
 
@@ -92,7 +94,8 @@ SeparatedGroupsServe A =
 abbrev pub NeededGroupsKeep : Type 0 → Type 0
 NeededGroupsKeep A =
     (num : A → ℕ) (forms : MapForms A) (l : Launch) (w : World) (source : Tree) (inputs : ℕ)
-    (src : ℕ → Ty) (ins : ℕ → Marks) (sources : ℕ → Scalars) (fence : ℕ → Fencing) (t : Term A) (ty : Ty)
+    (src : ℕ → Ty) (ins : ℕ → Marks) (sources : ℕ → Scalars) (fence : ℕ → Fencing) (t : Term A)
+    (ty : Ty)
     (k : Kernel) (c : Cells)
     → Lowers num w 0 inputs source t
     → ((a : ℕ) → a < inputs → HasScalars (src a) (nth w.inputs a) (sources a))

@@ -41,6 +41,7 @@ writes_from f direct zero = []
 writes_from f direct (suc n) =
     record { array = f + n; writes = true; aligned = direct } ∷ writes_from f direct n
 
+-- of the arrays of a destination; an output isn't local
 abbrev pub writes_to : Destination → (direct : Bool) → List Use
 writes_to (Locals f ty) direct = writes_from f direct (width ty)
 writes_to Outputs direct = []
@@ -76,6 +77,7 @@ abbrev mutual
       argument_uses env k xs ++ loop_uses env (origin_of env k xs) loads b d direct ∷ []
   written_uses env k _ d direct = []
 
+-- a use of a local array by the phase with this number
 abbrev pub touch_of : (phase : ℕ) → Use → Touch
 touch_of q u = record {
   phase = q;
@@ -85,6 +87,7 @@ touch_of q u = record {
   local = true;
 }
 
+-- and all of that phase
 abbrev pub touches_in : (phase : ℕ) → List Use → List Touch
 touches_in q [] = []
 touches_in q (u ∷ us) = touch_of q u ∷ touches_in q us
@@ -115,11 +118,13 @@ phases_in (Map kind n loads xs b) = phases_in xs + 1
 phases_in (Copy space ty a) = phases_in a
 phases_in _ = 0
 
+-- how many phases a whole term has
 abbrev pub phase_count : {A : Type 0} → Term A → ℕ
 phase_count (Reshape l t) = phase_count t
 phase_count (LetArray v b) = phase_count b
 phase_count (Map kind n loads xs b) = phases_in b
 phase_count _ = 0
 
+-- the uses by all its phases
 abbrev pub group_touches : {A : Type 0} → Term A → List Touch
 group_touches t = numbered 0 (group_uses t)

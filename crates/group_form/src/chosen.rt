@@ -43,8 +43,8 @@ fn is_literal(number: u32, length: &Poly) -> bool
     }
 }
 
-/// The form of a local map of this length: its turn alone where the length is the local size that is
-/// fixed, an `if` where it is shown to be no longer, else a loop.
+/// The form of a local map of this length: its turn alone where the length is the local size that
+/// is fixed, an `if` where it is shown to be no longer, else a loop.
 pub fn local_form(names: &Names, local: Option<u32>, length: &Poly) -> MapForm
     ensures { form_of result ≡ (forms_of names.now local).local length.now }
 {
@@ -62,8 +62,8 @@ pub fn local_form(names: &Names, local: Option<u32>, length: &Poly) -> MapForm
     }
 }
 
-/// Whether a map over so many work-groups is an `if`, where a loop has no other turn: over one, where
-/// a local size is fixed.
+/// Whether a map over so many work-groups is an `if`, where a loop has no other turn: over one,
+/// where a local size is fixed.
 pub fn is_over_one(names: &Names, local: Option<u32>, length: &Poly) -> bool
     ensures { result ≡ (forms_of names.now local).once length.now }
 {

@@ -1,4 +1,5 @@
--- Code that writes no cell that others may reach, as the loads of a turn's own scalars, and then more code.
+-- Code that writes no cell that others may reach, as the loads of a turn's
+-- own scalars, and then more code.
 use Rattle.std.proofs.Common.{◌≡◌, ℕ, List, ◌++◌, ap, ◌∙◌, arith}
 use Rattle.kernel_tree.specs.Formula.{Vars}
 use Rattle.kernel_tree.specs.Code.{Code}

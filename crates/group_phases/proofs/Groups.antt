@@ -106,7 +106,8 @@ module _ (kernel : Kernel) (l : Launch) (c : Cells) (owner : (array index : ℕ)
       go (Output m) hm ix x = absurd (true≢false (sym x.0))
       go (Local m) hm ix x = absurd (true≢false (sym x.0))
 
-  -- a read of a local cell is of a cell that nobody writes in the epoch, or of the item's work.filler
+  -- a read of a local cell is of a cell that nobody writes in the
+  -- epoch, or of the item's work.filler
   kept_may : (t q k : ℕ) (b : Cell) → t < body.turns (group_of l k) → q < n → IsFilledEarlier l work t q k b → MayRead (owns (epoch_in body.fence n t q)) k b
   kept_may t q k b tl below x = subst (MayRead (owns (epoch_in body.fence n t q)) k) (sym x.is) (by_uses (x.writer.aligned && x.reader.aligned) refl)
     where
@@ -331,7 +332,8 @@ module _ (kernel : Kernel) (l : Launch) (c : Cells) (owner : (array index : ℕ)
         filled : Filled g t q m
         mine : (i : ℕ) (b : Cell) → i < j → work.targets t q (at i) b → m b ≡ work.value g t b
 
-      -- another item's work.targets of this phase, and those of earlier phases, are no work.targets of this item
+      -- another item's work.targets of this phase, and those of earlier phases,
+      -- are no work.targets of this item
       other_item : (i j : ℕ) (b : Cell) → i < j → i < ms.size → j < ms.size → work.targets t q (at i) b → work.targets t q (at j) b → ⊥
       other_item i j b lt il jl x y =
           never i j lt (ms.differ i j il jl (some_is (at i) (at j) (sym (target_owned t q (at i) b (in_turn (at i) (ms.inside i il)) ql (in_range i il) x) ∙ target_owned t q (at j) b (in_turn (at j) (ms.inside j jl)) ql (in_range j jl) y)))

@@ -1,4 +1,5 @@
--- A map over the items of a group, as one item takes its rows: by a loop, by a test, or as the turn alone. Of its argument it reads its own rows alone.
+-- A map over the items of a group, as one item takes its rows: by a loop, by a test, or as the turn
+-- alone. Of its argument it reads its own rows alone.
 use Rattle.std.proofs.Common.{◌≡◌, ℕ, ◌+◌, ◌*◌, ◌/◌, ◌%◌, ◌-◌, ◌<◌, ◌≤◌, ◌^◌, suc, List, [], ◌∷◌, ◌++◌, length, Some, refl, sym, ap, ◌∙◌, subst, ⊎_elim, arith}
 use Rattle.std.proofs.lemmas.Bool.{cases_lt}
 use Rattle.std.proofs.lemmas.Nat.{div-mul-add}
@@ -131,7 +132,8 @@ module _ (st : Setting) {A : Type 0} (num : A → ℕ) (ins : ℕ → Marks) (sr
       pub few_turns : len ≤ st.device.launch.local.0 → count ≤ 1
       few_turns short = ⊎_elim (λ more. absurd (let z = turn_below len st.device.launch.local.0 id 1 (mod-lt st.item positive) more in omega arith)) (λ few. few) (cases_lt 1 count)
 
-      -- by a statement that tests, as an `if` from the local id: the index of a turn is the local id
+      -- by a statement that tests, as an `if` from the local id: the
+      -- index of a turn is the local id
       module _ (into : Code) (tests : Tests st.device st.item fs code into rest count)
           (h : 0 < count → (inner : Code) × IsLoaded st.device.launch st.item ins ts loads (at_index id e) x.count into inner
           × IsWritten st.device.launch st.item ins num ts (push (loaded_marks loads (at_index id e) x.count) env) x.arrays (x.count + load_count loads) b (at_index id w) inner rest) where

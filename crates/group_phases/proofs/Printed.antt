@@ -1,4 +1,5 @@
--- Phases that are printed terms do the work of their turns, and so every kernel that is printed for them keeps the headline.
+-- Phases that are printed terms do the work of their turns, and so every kernel that is printed for
+-- them keeps the headline.
 use Rattle.std.proofs.Common.{◌≡◌, ℕ, zero, suc, ◌+◌, ◌*◌, ◌%◌, ◌<◌, ◌≤◌, true, List, [], ◌∷◌, length, All, refl, sym, ap, ◌∙◌, subst, inl, ⊎_elim, arith}
 use Rattle.std.proofs.lemmas.Bool.{cases_lt}
 use Rattle.std.proofs.Math.Nat.{mod-lt, mul-le-mul_right}

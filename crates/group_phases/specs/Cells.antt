@@ -4,12 +4,15 @@ use Rattle.kernel_tree.specs.Code.{Input, Output, Local}
 use Rattle.kernel_tree.specs.Launch.{Cells}
 use Rattle.kernel_tree.specs.Device.{Cell, row}
 
+-- a cell of an input, by their numbers
 abbrev pub input_cell : (array index : ℕ) → Cell
 input_cell a i = record { array = Input a; home = 0; index = i }
 
+-- of an output
 abbrev pub output_cell : (array index : ℕ) → Cell
 output_cell a i = record { array = Output a; home = 0; index = i }
 
+-- of a local array of a group
 abbrev pub local_cell : (group array index : ℕ) → Cell
 local_cell g a i = record { array = Local a; home = g; index = i }
 

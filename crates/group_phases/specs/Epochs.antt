@@ -1,4 +1,5 @@
--- In which of a group's epochs each phase of a body runs, by what stands before each phase; `fence n` closes a body of n phases.
+-- In which of a group's epochs each phase of a body runs, by what stands before each phase; `fence
+-- n` closes a body of n phases.
 use Rattle.std.specs.Prelude.{◌≡◌, ℕ, zero, suc, ◌+◌, ◌*◌, ◌%◌, ◌==◌, ◌<◌, Bool, true, false, List}
 use Rattle.kernel_tree.specs.Code.{Code, Syncs}
 use Rattle.barrier_placement.specs.declared.touches.Touch.{Touch}
@@ -24,10 +25,13 @@ each_turn fence n = passed fence (suc n)
 abbrev pub epoch_in : (ℕ → Fencing) → (n t q : ℕ) → ℕ
 epoch_in fence n t q = t * each_turn fence n + passed fence (suc q)
 
--- `runs_in e q` holds in each epoch e in which phase q runs, and in none in which a later phase in conflict with it does; `turns g` is how many turns group g has
-pub record KeepsApart (touches : List Touch) (n : ℕ) (fence : ℕ → Fencing) (turns : ℕ → ℕ) (runs_in : (epoch phase : ℕ) → Bool) : Type 0 where
+-- `runs_in e q` holds in each epoch e in which phase q runs, and in none in which a later phase in
+-- conflict with it does; `turns g` is how many turns group g has
+pub record KeepsApart (touches : List Touch) (n : ℕ) (fence : ℕ → Fencing) (turns : ℕ → ℕ)
+    (runs_in : (epoch phase : ℕ) → Bool) : Type 0 where
   pub runs : (g t q : ℕ) → t < turns g → q < n → runs_in (epoch_in fence n t q) q ≡ true
-  pub apart : (g t w q : ℕ) → t < turns g → w < q → q < n → Conflict touches Local w q → runs_in (epoch_in fence n t q) w ≡ false
+  pub apart : (g t w q : ℕ) → t < turns g → w < q → q < n → Conflict touches Local w q
+      → runs_in (epoch_in fence n t q) w ≡ false
 
 -- of many turns
 abbrev pub runs_by_turns : (ℕ → Fencing) → (n : ℕ) → (epoch phase : ℕ) → Bool

@@ -39,7 +39,9 @@ module _ {A : Type 0} (p : PhaseList A) where
     pub rows : (q : ℕ) → q < p.count → (p.phase q).len + l.local.0 ≤ 2 ^ 32
     pub forms : (q : ℕ) → q < p.count → MakesTurns (p.phase q).form (p.phase q).len l
     pub variables : p.variables ≤ k.variables
-    pub fits : (q : ℕ) → q < p.count → (p.phase q).variables + load_count (p.phase q).loads + variable_count (p.phase q).body ≤ p.variables
+    pub fits : (q : ℕ) → q < p.count
+        → (p.phase q).variables + load_count (p.phase q).loads
+        + variable_count (p.phase q).body ≤ p.variables
     pub after_top : (q : ℕ) → q < p.count → load_count p.top.loads ≤ (p.phase q).variables
 
   module _ (num : A → ℕ) (k : Kernel) (l : Launch) (c : Cells) where
@@ -47,29 +49,52 @@ module _ {A : Type 0} (p : PhaseList A) where
     pub record AreTyped : Type 0 where
       pub top_loads : LoadsScalars p.top.loads p.top.type
       pub loads : (q : ℕ) → q < p.count → LoadsScalars (p.phase q).loads (p.phase q).element
-      pub typed : (q : ℕ) → q < p.count → HasType num p.src (push (p.phase q).element (p.phase q).types) (p.phase q).body (p.phase q).result
-      pub declares : (q : ℕ) → q < p.count → Declares (length_in k c) (p.phase q).privates (p.phase q).body
+      pub typed : (q : ℕ) → q < p.count
+          → HasType num p.src (push (p.phase q).element (p.phase q).types) (p.phase q).body
+          (p.phase q).result
+      pub declares : (q : ℕ) → q < p.count
+          → Declares (length_in k c) (p.phase q).privates (p.phase q).body
 
-    -- what a phase reads is known by then, and holds its scalars; of its argument an item reads its own rows alone
+    -- what a phase reads is known by then, and holds its scalars; of its argument
+    -- an item reads its own rows alone
     pub record ReadsKnown : Type 0 where
       pub given : (g t a i : ℕ) → p.value g t (input_cell a i) ≡ slice_index (row c.ins a) i
-      pub top : (i : ℕ) → i < p.turns → (cs : List Bool) (r : List ℕ) → IsPosition p.top.type cs r → IsGiven c (p.top.marks i cs r) (p.top.scalars i cs r)
-      pub inputs : (t q j v : ℕ) → turn_of l t j < p.turns → q < p.count → j < item_count l → AreRead num k l c p t q j (p.src v) (p.ins v) (p.sources v)
-      pub envs : (t q j v : ℕ) → turn_of l t j < p.turns → q < p.count → j < item_count l → AreRead num k l c p t q j ((p.phase q).types v) ((p.place (turn_of l t j) q).env v) ((p.place (turn_of l t j) q).sems v)
-      pub elements : (t q j u : ℕ) → turn_of l t j < p.turns → q < p.count → j < item_count l → u < turns_of (p.phase q).len l.local.0 (j % l.local.0)
-          → AreRead num k l c p t q j (p.phase q).element (at_index (row_of l j u) (p.place (turn_of l t j) q).marks) (at_index (row_of l j u) (p.place (turn_of l t j) q).scalars)
+      pub top : (i : ℕ) → i < p.turns → (cs : List Bool) (r : List ℕ) → IsPosition p.top.type cs r
+          → IsGiven c (p.top.marks i cs r) (p.top.scalars i cs r)
+      pub inputs : (t q j v : ℕ) → turn_of l t j < p.turns → q < p.count → j < item_count l
+          → AreRead num k l c p t q j (p.src v) (p.ins v) (p.sources v)
+      pub envs : (t q j v : ℕ) → turn_of l t j < p.turns → q < p.count → j < item_count l
+          → AreRead num k l c p t q j ((p.phase q).types v) ((p.place (turn_of l t j) q).env v)
+          ((p.place (turn_of l t j) q).sems v)
+      pub elements : (t q j u : ℕ) → turn_of l t j < p.turns → q < p.count → j < item_count l
+          → u < turns_of (p.phase q).len l.local.0 (j % l.local.0)
+          → AreRead num k l c p t q j (p.phase q).element
+          (at_index (row_of l j u) (p.place (turn_of l t j) q).marks)
+          (at_index (row_of l j u) (p.place (turn_of l t j) q).scalars)
 
-    -- each scalar of a phase goes to a cell of its own, of an array that is still to be filled, and is the cell's value
+    -- each scalar of a phase goes to a cell of its own, of an array that is still to be
+    -- filled, and is the cell's value
     pub record FillsCells : Type 0 where
-      pub fillable : (i q : ℕ) → i < p.turns → q < p.count → (cs : List Bool) (r : List ℕ) → IsResult q cs r → IsFillable k c p q ((p.place i q).to cs r)
-      pub choices : (i q j : ℕ) → i < p.turns → q < p.count → (cs ds : List Bool) (r s : List ℕ) → IsResult q cs r → IsResult q ds s → cell_of l j ((p.place i q).to cs r) ≡ cell_of l j ((p.place i q).to ds s) → cs ≡ ds
-      pub places : (i q j : ℕ) → i < p.turns → q < p.count → (cs ds : List Bool) (r s : List ℕ) → IsResult q cs r → IsResult q ds s → cell_of l j ((p.place i q).to cs r) ≡ cell_of l j ((p.place i q).to ds s) → r ≡ s
-      pub valued : (t q j : ℕ) → turn_of l t j < p.turns → q < p.count → j < item_count l → (cs : List Bool) (r : List ℕ) → IsResult q cs r → p.value (group_of l j) t (cell_of l j ((p.place (turn_of l t j) q).to cs r)) ≡ phase_scalars num l p (turn_of l t j) q cs r
+      pub fillable : (i q : ℕ) → i < p.turns → q < p.count → (cs : List Bool) (r : List ℕ)
+          → IsResult q cs r → IsFillable k c p q ((p.place i q).to cs r)
+      pub choices : (i q j : ℕ) → i < p.turns → q < p.count → (cs ds : List Bool) (r s : List ℕ)
+          → IsResult q cs r → IsResult q ds s
+          → cell_of l j ((p.place i q).to cs r) ≡ cell_of l j ((p.place i q).to ds s) → cs ≡ ds
+      pub places : (i q j : ℕ) → i < p.turns → q < p.count → (cs ds : List Bool) (r s : List ℕ)
+          → IsResult q cs r → IsResult q ds s
+          → cell_of l j ((p.place i q).to cs r) ≡ cell_of l j ((p.place i q).to ds s) → r ≡ s
+      pub valued : (t q j : ℕ) → turn_of l t j < p.turns → q < p.count → j < item_count l
+          → (cs : List Bool) (r : List ℕ) → IsResult q cs r
+          → p.value (group_of l j) t (cell_of l j ((p.place (turn_of l t j) q).to cs r))
+          ≡ phase_scalars num l p (turn_of l t j) q cs r
 
     -- what an item writes is its own, and output cells are written in one phase of one turn
     pub record WritesOwn (owner : (array index : ℕ) → ℕ) : Type 0 where
-      pub due : (t q j : ℕ) (b : Cell) → q < p.count → j < item_count l → targets num l p t q j b → IsOwnOutput owner j b ⊎ IsOwnLocal l (work_of num l p) q j b
-      pub differ : (a i t q j u r m : ℕ) → q < p.count → r < p.count → j < item_count l → m < item_count l → targets num l p t q j (output_cell a i) → targets num l p u r m (output_cell a i) → (t ≡ u) × (q ≡ r)
+      pub due : (t q j : ℕ) (b : Cell) → q < p.count → j < item_count l → targets num l p t q j b
+          → IsOwnOutput owner j b ⊎ IsOwnLocal l (work_of num l p) q j b
+      pub differ : (a i t q j u r m : ℕ) → q < p.count → r < p.count → j < item_count l
+          → m < item_count l → targets num l p t q j (output_cell a i)
+          → targets num l p u r m (output_cell a i) → (t ≡ u) × (q ≡ r)
 
     -- the phases are a map over groups that leaves what is wanted, each cell by its owner
     pub record IsPhased (owner : (array index : ℕ) → ℕ) (wanted : List (List ℕ)) : Type 0 where
@@ -81,20 +106,31 @@ module _ {A : Type 0} (p : PhaseList A) where
       pub shape : map length wanted ≡ map length c.outs
       pub outputs : GroupOutputs l owner wanted p.count (loop_turns l p.turns) (work_of num l p)
 
--- every run of every kernel that is printed for such phases keeps the headline, whatever barriers separate the conflicting ones
+-- every run of every kernel that is printed for such phases keeps the headline, whatever barriers
+-- separate the conflicting ones
 abbrev pub PhasesKeep : Type 0 → Type 0
 PhasesKeep A =
-    (num : A → ℕ) (k : Kernel) (l : Launch) (c : Cells) (owner : (array index : ℕ) → ℕ) (wanted : List (List ℕ)) (p : PhaseList A) (fence : ℕ → Fencing)
-    → IsPhased p num k l c owner wanted → Separates p.touches placed.Local p.once p.count fence → IsGroupKernel k l p.once p.turns p.count fence (IsPhase num l p) → EveryRunKeeps k l c owner wanted
+    (num : A → ℕ) (k : Kernel) (l : Launch) (c : Cells) (owner : (array index : ℕ) → ℕ)
+    (wanted : List (List ℕ)) (p : PhaseList A) (fence : ℕ → Fencing)
+    → IsPhased p num k l c owner wanted → Separates p.touches placed.Local p.once p.count fence
+    → IsGroupKernel k l p.once p.turns p.count fence (IsPhase num l p)
+    → EveryRunKeeps k l c owner wanted
 
 -- and its barriers serve
 abbrev pub PhasesServe : Type 0 → Type 0
 PhasesServe A =
-    (num : A → ℕ) (k : Kernel) (l : Launch) (c : Cells) (owner : (array index : ℕ) → ℕ) (wanted : List (List ℕ)) (p : PhaseList A) (fence : ℕ → Fencing)
-    → IsPhased p num k l c owner wanted → Separates p.touches placed.Local p.once p.count fence → IsGroupKernel k l p.once p.turns p.count fence (IsPhase num l p) → BarriersServeAll k l c p.filler
+    (num : A → ℕ) (k : Kernel) (l : Launch) (c : Cells) (owner : (array index : ℕ) → ℕ)
+    (wanted : List (List ℕ)) (p : PhaseList A) (fence : ℕ → Fencing)
+    → IsPhased p num k l c owner wanted → Separates p.touches placed.Local p.once p.count fence
+    → IsGroupKernel k l p.once p.turns p.count fence (IsPhase num l p)
+    → BarriersServeAll k l c p.filler
 
 -- so it is with the needed barriers, where all uses are of local arrays
 abbrev pub NeededBarriersKeep : Type 0 → Type 0
 NeededBarriersKeep A =
-    (num : A → ℕ) (k : Kernel) (l : Launch) (c : Cells) (owner : (array index : ℕ) → ℕ) (wanted : List (List ℕ)) (p : PhaseList A) (fence : ℕ → Fencing)
-    → IsPhased p num k l c owner wanted → All (λ x. space_of x.local ≡ placed.Local) p.touches → Needed p.touches p.once p.count fence → IsGroupKernel k l p.once p.turns p.count fence (IsPhase num l p) → EveryRunKeeps k l c owner wanted
+    (num : A → ℕ) (k : Kernel) (l : Launch) (c : Cells) (owner : (array index : ℕ) → ℕ)
+    (wanted : List (List ℕ)) (p : PhaseList A) (fence : ℕ → Fencing)
+    → IsPhased p num k l c owner wanted → All (λ x. space_of x.local ≡ placed.Local) p.touches
+    → Needed p.touches p.once p.count fence
+    → IsGroupKernel k l p.once p.turns p.count fence (IsPhase num l p)
+    → EveryRunKeeps k l c owner wanted

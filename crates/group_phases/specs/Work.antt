@@ -8,7 +8,10 @@ use Rattle.kernel_tree.specs.Independent.{Owners}
 use Rattle.barrier_placement.specs.declared.touches.Touch.{Touch}
 use Rattle.group_phases.specs.Cells.{local_cell, IsGivenInput}
 
--- In phase q of turn t the k-th item writes just the cells `targets t q k`; in turn t of group g a cell is to hold `value g t`. The local array a is filled in phase `filled_in a`, each cell by one item, its filler. Before the phase `knows t q k` holds of the item's variables. `touches` are the phases' uses of arrays.
+-- In phase q of turn t the k-th item writes just the cells `targets t q k`; in turn t of group g a
+-- cell is to hold `value g t`. The local array a is filled in phase `filled_in a`, each cell by
+-- one item, its filler. Before the phase `knows t q k` holds of the item's variables. `touches`
+-- are the phases' uses of arrays.
 pub record Work : Type 1 where
   pub touches : List Touch
   pub filled_in : (array : ℕ) → ℕ
@@ -25,7 +28,9 @@ pub record IsOwnLocal (l : Launch) (w : Work) (q k : ℕ) (b : Cell) : Type 0 wh
   pub in_phase : w.filled_in array ≡ q
   pub owned : w.filler b ≡ k
 
--- a local cell that the k-th item reads in phase q of turn t: an item of its group has filled it in an earlier phase, both phases' uses of the array are told, and where both are aligned the k-th item itself is the filler
+-- a local cell that the k-th item reads in phase q of turn t: an item of its group has filled it in
+-- an earlier phase, both phases' uses of the array are told, and where both are aligned the k-th
+-- item itself is the filler
 pub record IsFilledEarlier (l : Launch) (w : Work) (t q k : ℕ) (b : Cell) : Type 0 where
   pub array : ℕ
   pub index : ℕ
@@ -50,8 +55,10 @@ pub record IsFilledEarlier (l : Launch) (w : Work) (t q k : ℕ) (b : Cell) : Ty
 abbrev pub IsKnown : Launch → Cells → Work → (t q k : ℕ) → Cell → Type 0
 IsKnown l c w t q k b = IsGivenInput c (w.value (group_of l k) t) b ⊎ IsFilledEarlier l w t q k b
 
--- in each epoch an input's cell is nobody's, an output's cell its owner's, a private array its item's, and a local cell its filler's where the phase that fills it runs in this epoch
-abbrev pub owners_in : Work → (owner : (array index : ℕ) → ℕ) → (runs_in : (epoch phase : ℕ) → Bool) → ℕ → Owners
+-- in each epoch an input's cell is nobody's, an output's cell its owner's, a private array its
+-- item's, and a local cell its filler's where the phase that fills it runs in this epoch
+abbrev pub owners_in : Work → (owner : (array index : ℕ) → ℕ) → (runs_in : (epoch phase : ℕ) → Bool)
+    → ℕ → Owners
 owners_in w owner runs_in e c = by c.array
   where
     by : Array → Option ℕ

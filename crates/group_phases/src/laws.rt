@@ -27,8 +27,9 @@ pub fn conflicting_phases_are_apart()
         KeepsApart touches n fence turns (runs_once fence) }
 {}
 
-/// Loops, statements that test, as an `if` does, and nests of two forms are forms of turns: one item
-/// takes each turn, in order, and comes to the rest; a nest's turns are pairs, numbered row by row.
+/// Loops, statements that test, as an `if` does, and nests of two forms are forms of
+/// turns: one item takes each turn, in order, and comes to the rest; a nest's turns
+/// are pairs, numbered row by row.
 pub fn forms_of_turns()
     ensures loops { LoopsAreForms }
     ensures tests { TestsAreForms }

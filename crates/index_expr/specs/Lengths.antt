@@ -24,11 +24,13 @@ repeated e (suc n) rest = Some (joined Product e (repeated e n rest))
 abbrev pub product_expression : ℕ → List Name → List ℕ → Option Expression
 product_expression k [] ms = None
 product_expression k (n ∷ names) [] = None
-product_expression k (n ∷ names) (m ∷ ms) = repeated (base_expression k n.multiple) m (product_expression (suc k) names ms)
+product_expression k (n ∷ names) (m ∷ ms) =
+    repeated (base_expression k n.multiple) m (product_expression (suc k) names ms)
 
 -- the greatest number that a coefficient may be is no word
 abbrev pub number_expression : ℕ → Expression
-number_expression c = if c == 4294967296 then Binary Product (Literal 65536) (Literal 65536) else Literal c
+number_expression c =
+    if c == 4294967296 then Binary Product (Literal 65536) (Literal 65536) else Literal c
 
 -- a coefficient of 1 is left out where there is a name
 abbrev pub with_coefficient : ℕ → Option Expression → Expression
@@ -37,25 +39,34 @@ with_coefficient c (Some e) = if c == 1 then e else Binary Product (number_expre
 
 -- without its sign
 abbrev pub monomial_expression : List Name → Monomial → Expression
-monomial_expression names m = with_coefficient (unsigned_abs m.coefficient) (product_expression 0 names m.powers)
+monomial_expression names m =
+    with_coefficient (unsigned_abs m.coefficient) (product_expression 0 names m.powers)
 
+-- whether a coefficient is below 0
 abbrev pub is_negative : ℤ → Bool
 is_negative (pos n) = false
 is_negative (negsuc n) = true
 
--- the sum of the positive monomials, and that of the negative ones without their signs
+-- the sum of the positive monomials; none where there are none
 abbrev pub positive_sum : List Name → List Monomial → Option Expression
 positive_sum names [] = None
-positive_sum names (m ∷ p) = if is_negative m.coefficient then positive_sum names p else Some (joined Sum (monomial_expression names m) (positive_sum names p))
+positive_sum names (m ∷ p) =
+    if is_negative m.coefficient then positive_sum names p else Some
+    (joined Sum (monomial_expression names m) (positive_sum names p))
 
+-- the sum of the negative monomials without their signs; none where there are none
 abbrev pub negative_sum : List Name → List Monomial → Option Expression
 negative_sum names [] = None
-negative_sum names (m ∷ p) = if is_negative m.coefficient then Some (joined Sum (monomial_expression names m) (negative_sum names p)) else negative_sum names p
+negative_sum names (m ∷ p) =
+    if is_negative m.coefficient then Some
+    (joined Sum (monomial_expression names m) (negative_sum names p)) else negative_sum names p
 
+-- an expression less another, if there is another
 abbrev pub difference_of : Expression → Option Expression → Expression
 difference_of e None = e
 difference_of e (Some taken) = Binary Difference e taken
 
 -- the positive monomials, less the negative ones
 abbrev pub length_expression : List Name → List Monomial → Expression
-length_expression names p = difference_of (unwrap_or (positive_sum names p) (Literal 0)) (negative_sum names p)
+length_expression names p =
+    difference_of (unwrap_or (positive_sum names p) (Literal 0)) (negative_sum names p)

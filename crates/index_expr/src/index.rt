@@ -1,4 +1,4 @@
-// Index expressions as a tree.
+//! Index expressions as a tree.
 
 ghost use Rattle.std.specs.Prelude.{◌≡◌, ◌<◌, ◌^◌, ◌↔◌, min, unsigned_abs, IsTrue, IfOk, MatchOption};
 
@@ -90,7 +90,8 @@ impl Index {
         }
     }
 
-    /// The value on words of 32 bits: sums, differences and products wrap. Where the expression is ranged it is the exact value.
+    /// The value on words of 32 bits: sums, differences and products wrap. Where the expression is
+    /// ranged it is the exact value.
     pub fn wrapped(&self, point: &Point) -> u32
         requires { HasNoZeroDivisorInWords point.now (expression_of self.now) }
         ensures { result ≡ wrapped_at point.now (expression_of self.now) }
@@ -126,7 +127,8 @@ impl Index {
         }
     }
 
-    /// Whether the arguments of each quotient, remainder, least and greatest number have exact values from 0 to 4,294,967,295, and so has the whole.
+    /// Whether the arguments of each quotient, remainder, least and greatest number have exact
+    /// values from 0 to 4,294,967,295, and so has the whole.
     ///
     /// Where this is so the value on words is the exact value.
     pub fn is_ranged(&self, point: &Point) -> bool

@@ -1,4 +1,4 @@
-// Laws of index expressions, each carried by a function that does nothing.
+//! Laws of index expressions, each carried by a function that does nothing.
 
 ghost use Rattle.std.specs.Prelude.{◌≡◌, ◌≤◌, ℕ, List};
 ghost use Rattle.size_arith.specs.declared.names.Name.{Name};
@@ -10,13 +10,15 @@ ghost use Rattle.index_expr.specs.Values.{exact, IsRangedAt, IsWord, HasNoZeroDi
 ghost use Rattle.index_expr.specs.Lengths.{length_expression};
 ghost use Rattle.index_expr.specs.Laws.{RangedValuesAreExact, RangedDivisorsStay};
 
-/// Where an expression is ranged, its value on words is the exact value, and no divisor's value on words is 0 where none is over the whole numbers.
+/// Where an expression is ranged, its value on words is the exact value, and no divisor's value on
+/// words is 0 where none is over the whole numbers.
 pub fn ranged_values_are_exact()
     ensures value { RangedValuesAreExact }
     ensures divisors { RangedDivisorsStay }
 {}
 
-/// The expression of a length has its value at all admissible sizes, is ranged where this is a word, and divides by no 0.
+/// The expression of a length has its value at all admissible sizes, is ranged where this is a
+/// word, and divides by no 0.
 pub fn lengths_are_exact()
     ensures value { (names : List Name) (bases variables : List ℕ) (length : List Monomial) →
         AreNames names → Admissible names bases →

@@ -1,4 +1,4 @@
-// Lengths as index expressions.
+//! Lengths as index expressions.
 
 ghost use Rattle.std.specs.Prelude.{◌≡◌, ◌+◌, ◌≤◌, ◌<◌, ◌^◌, IfOk, length, option_map, unsigned_abs};
 ghost use Rattle.size_arith.specs.Polynomial.{AllSmall};
@@ -165,7 +165,8 @@ fn negatives_index(
     }
 }
 
-/// The expression of a length over the sizes: the positive monomials, less the negative ones. The base name of a size with divisor d is printed as the size over d, and as the size where d is 1.
+/// The expression of a length over the sizes: the positive monomials, less the negative ones. The
+/// base name of a size with divisor d is printed as the size over d, and as the size where d is 1.
 ///
 /// It has the length's value at all admissible sizes.
 #[tactic(auto, using(crate::proofs::LengthValues::coefficients_are_small))]

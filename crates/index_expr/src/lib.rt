@@ -1,4 +1,5 @@
-//! Index expressions: their exact values, their values on words of 32 bits, and the expressions of lengths.
+//! Index expressions: their exact values, their values on words of 32 bits,
+//! and the expressions of lengths.
 #![tactic(auto)]
 
 pub mod index;

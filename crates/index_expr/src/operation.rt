@@ -1,4 +1,4 @@
-// The operations of index expressions.
+//! The operations of index expressions.
 
 ghost use Rattle.std.specs.Prelude.{◌≡◌, ◌≢◌, ◌<◌, ◌^◌, ◌↔◌, pos, unsigned_abs, IsTrue};
 
@@ -54,7 +54,8 @@ impl Operation {
         }
     }
 
-    /// Whether the operation is asked of words alone: what it gives on words that wrapped tells nothing of the exact result.
+    /// Whether the operation is asked of words alone: what it gives on words that wrapped tells
+    /// nothing of the exact result.
     pub fn wants_words(self) -> bool
         ensures { IsTrue result ↔ WantsWords self }
     {

@@ -1,4 +1,4 @@
-// Where an index expression is worked out.
+//! Where an index expression is worked out.
 
 ghost use Rattle.std.specs.Prelude.{◌≡◌, slice_index};
 

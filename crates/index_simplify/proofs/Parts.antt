@@ -149,8 +149,8 @@ joined_small o a b c d x y = record {
   names = λ v s h. let parts = both (names_are v s a) (names_are v s b) h in and_both (names_are v s c) (names_are v s d) (x.names v s parts.0) (y.names v s parts.1);
 }
 
--- ---- what a law leaves is a part of what is simple, a literal, or a number of at least 2 times a size
--- the shapes of a product of a literal and a size: 1 or 0 times it
+-- ---- what a law leaves is a part of what is simple, a literal, or a number of at least 2 times a
+--   size the shapes of a product of a literal and a size: 1 or 0 times it
 abbrev IsSmall : Expression → Type 0
 IsSmall (Binary Product (Literal q) (Size k)) = q ≤ 1
 IsSmall _ = Unit {0}

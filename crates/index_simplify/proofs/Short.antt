@@ -1,4 +1,5 @@
--- Where the divisors of sizes are as they are declared, a simplified expression has no more nodes than the expression counted in short.
+-- Where the divisors of sizes are as they are declared, a simplified expression has no more nodes
+-- than the expression counted in short.
 use Rattle.std.proofs.Common.{◌≡◌, ℕ, zero, suc, ◌+◌, ◌*◌, ◌/◌, ◌%◌, ◌<◌, ◌≤◌, Bool, true, false, Option, Some, None, refl, sym, ap, ◌∙◌, subst, arith}
 use Rattle.std.specs.Prelude.{◌==◌, ◌&&◌, nat_lt, if◌then◌else◌}
 use Rattle.std.proofs.Common.{⊎_elim}

@@ -26,12 +26,15 @@ is_greatest_below g _ n = false
 
 -- the variable of a loop of a known length, over a divisor: by its own range, or by that length
 abbrev pub is_quotient_below : PlainRanges → (dividend divisor length : Expression) → Bool
-is_quotient_below r (Variable k l g) d n = is_passed (λ known. is_greatest_below g d n || is_passed (is_part_within d n) (over known d)) (slice_get r.lengths k)
+is_quotient_below r (Variable k l g) d n =
+    is_passed (λ known. is_greatest_below g d n || is_passed (is_part_within d n) (over known d))
+    (slice_get r.lengths k)
 is_quotient_below r _ d n = false
 
 -- the remainder by a literal, in loops
 abbrev pub is_remainder_below : PlainRanges → (dividend divisor length : Expression) → Bool
-is_remainder_below r e (Literal d) n = nat_lt 0 d && is_some (slice_get r.lengths 0) && is_natural e && is_at_least n d
+is_remainder_below r e (Literal d) n =
+    nat_lt 0 d && is_some (slice_get r.lengths 0) && is_natural e && is_at_least n d
 is_remainder_below r e _ n = false
 
 -- a variable, one over a divisor, or a remainder
@@ -47,7 +50,8 @@ rows_within r width column n = if is_digit_below r column width then over n widt
 
 -- a row of as many, times the width of rows, and a column in it
 abbrev pub is_sum_below : PlainRanges → (begin column length : Expression) → Bool
-is_sum_below r (Binary Product row width) column n = is_passed (λ rows. is_digit_below r row rows) (rows_within r width column n)
+is_sum_below r (Binary Product row width) column n =
+    is_passed (λ rows. is_digit_below r row rows) (rows_within r width column n)
 is_sum_below r _ column n = false
 
 -- one of these, or the cell of a row and a column each of which is one

@@ -13,6 +13,7 @@ abbrev pub number_over : ℕ → Expression → Option Expression
 number_over c (Literal d) = if nat_lt 0 d && (c % d == 0) then Some (Literal (c / d)) else None
 number_over c _ = None
 
+-- 1, where what is left is of a factor without itself
 abbrev pub one_where : Bool → Option Expression
 one_where b = if b then Some (Literal 1) else None
 

@@ -9,10 +9,12 @@ use Rattle.index_simplify.specs.declared.law.Law.TheVariants.{Computed, PlusZero
 use Rattle.index_simplify.specs.Literals.{computed}
 use Rattle.index_simplify.specs.Tests.{same_operation, is_number, same, is_cell, are_parts, is_whole_size, is_scaled_size}
 
+-- the first argument of an operation; any other expression itself
 abbrev pub first_part : Expression → Expression
 first_part (Binary o a b) = a
 first_part e = e
 
+-- the second argument of an operation; any other expression itself
 abbrev pub second_part : Expression → Expression
 second_part (Binary o a b) = b
 second_part e = e

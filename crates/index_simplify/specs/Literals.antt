@@ -22,6 +22,7 @@ computed_from Remainder m n = Some (m % n)
 computed_from Least m n = Some (min m n)
 computed_from Greatest m n = Some (max m n)
 
+-- the result on a number and an expression, where this is a literal
 abbrev pub computed_with : Operation → ℕ → Expression → Option ℕ
 computed_with o m (Literal n) = computed_from o m n
 computed_with o m _ = None

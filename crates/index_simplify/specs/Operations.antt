@@ -13,6 +13,7 @@ abbrev pub first_law : PlainRanges → Operation → Expression → Expression �
 first_law r o a b [] = None
 first_law r o a b (law ∷ laws) = if applies r law o a b then Some law else first_law r o a b laws
 
+-- what the law leaves of an operation; itself where there is no law
 abbrev pub by_law : Option Law → Operation → Expression → Expression → Expression
 by_law None o a b = Binary o a b
 by_law (Some law) o a b = applied law o a b

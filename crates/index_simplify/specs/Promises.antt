@@ -25,6 +25,7 @@ FoundLawsApply =
     (r : PlainRanges) (o : Operation) (a b : Expression) (laws : List Law) (law : Law)
     → first_law r o a b laws ≡ Some law → applies r law o a b ≡ true
 
+-- operations that the test finds the same are one
 abbrev pub SameOperationsAreEqual : Type 0
 SameOperationsAreEqual = (o p : Operation) → same_operation o p ≡ true → o ≡ p
 
@@ -38,9 +39,21 @@ SameExpressionsHaveOneValue =
 abbrev pub CellsComeApart : Type 0
 CellsComeApart =
     (r : PlainRanges) (k l g j m h n : ℕ) → h < n → 2 ≤ n
-    → (simple r (Binary Quotient (Binary Sum (Binary Product (Variable k l g) (Literal n)) (Variable j m h)) (Literal n)) ≡ Variable k l g)
-    × (simple r (Binary Remainder (Binary Sum (Binary Product (Variable k l g) (Literal n)) (Variable j m h)) (Literal n)) ≡ Variable j m h)
+    →
+    (simple r
+    (Binary Quotient
+    (Binary Sum (Binary Product (Variable k l g) (Literal n)) (Variable j m h))
+    (Literal n))
+    ≡ Variable k l g)
+    ×
+    (simple r
+    (Binary Remainder
+    (Binary Sum (Binary Product (Variable k l g) (Literal n)) (Variable j m h))
+    (Literal n))
+    ≡ Variable j m h)
 
 -- a variable whose range is 0 alone is nothing to a sum
 abbrev pub NothingIsAdded : Type 0
-NothingIsAdded = (r : PlainRanges) (k l g j m : ℕ) → simple r (Binary Sum (Variable k l g) (Variable j m 0)) ≡ Variable k l g
+NothingIsAdded =
+    (r : PlainRanges) (k l g j m : ℕ)
+    → simple r (Binary Sum (Variable k l g) (Variable j m 0)) ≡ Variable k l g

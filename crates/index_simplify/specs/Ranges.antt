@@ -6,7 +6,9 @@ use Rattle.index_simplify.specs.PlainRanges.{PlainRanges}
 
 -- the variable of each loop is below the loop's length
 abbrev pub AreBelowLengths : PlainRanges → (sizes variables : List ℕ) → Type 0
-AreBelowLengths r sizes variables = (k : ℕ) (n : Expression) → slice_get r.lengths k ≡ Some n → pos (slice_index variables k) <ℤ exact sizes variables n
+AreBelowLengths r sizes variables =
+    (k : ℕ) (n : Expression) → slice_get r.lengths k ≡ Some n
+    → pos (slice_index variables k) <ℤ exact sizes variables n
 
 -- each size is a multiple of its number
 abbrev pub AreMultiples : PlainRanges → (sizes : List ℕ) → Type 0

@@ -6,9 +6,12 @@ use Rattle.index_expr.specs.Expression.{Expression, Variable, Literal, Size, Bin
 -- the shapes that tell by themselves that something simpler has their value
 pub data IsRedundant : Expression → Type 0 where
   SumOfLiterals : (m n : ℕ) → m + n < 2 ^ 32 → IsRedundant (Binary Sum (Literal m) (Literal n))
-  ProductOfLiterals : (m n : ℕ) → m * n < 2 ^ 32 → IsRedundant (Binary Product (Literal m) (Literal n))
-  LeastOfLiterals : (m n : ℕ) → min m n < 2 ^ 32 → IsRedundant (Binary Least (Literal m) (Literal n))
-  GreatestOfLiterals : (m n : ℕ) → max m n < 2 ^ 32 → IsRedundant (Binary Greatest (Literal m) (Literal n))
+  ProductOfLiterals : (m n : ℕ) → m * n < 2 ^ 32
+      → IsRedundant (Binary Product (Literal m) (Literal n))
+  LeastOfLiterals : (m n : ℕ) → min m n < 2 ^ 32
+      → IsRedundant (Binary Least (Literal m) (Literal n))
+  GreatestOfLiterals : (m n : ℕ) → max m n < 2 ^ 32
+      → IsRedundant (Binary Greatest (Literal m) (Literal n))
   QuotientOfLiterals : (m n : ℕ) → IsRedundant (Binary Quotient (Literal m) (Literal n))
   RemainderOfLiterals : (m n : ℕ) → IsRedundant (Binary Remainder (Literal m) (Literal n))
   PlusZero : (e : Expression) → IsRedundant (Binary Sum e (Literal 0))
@@ -20,12 +23,23 @@ pub data IsRedundant : Expression → Type 0 where
   ZeroTimes : (e : Expression) → IsRedundant (Binary Product (Literal 0) e)
   OverOne : (e : Expression) → IsRedundant (Binary Quotient e (Literal 1))
   ModuloOne : (e : Expression) → IsRedundant (Binary Remainder e (Literal 1))
-  CellOfParts : (k l g l' g' n : ℕ) → IsRedundant (Binary Sum (Binary Product (Binary Quotient (Variable k l g) (Literal n)) (Literal n)) (Binary Remainder (Variable k l' g') (Literal n)))
+  CellOfParts : (k l g l' g' n : ℕ)
+      → IsRedundant
+      (Binary Sum (Binary Product (Binary Quotient (Variable k l g) (Literal n)) (Literal n))
+      (Binary Remainder (Variable k l' g') (Literal n)))
 
 -- (x * n + y) over n and modulo n, where the range of y lies within 0 to n - 1
 pub data UndoesCell : Expression → Type 0 where
-  RowOfCell : (k l g j m h n : ℕ) → h < n → UndoesCell (Binary Quotient (Binary Sum (Binary Product (Variable k l g) (Literal n)) (Variable j m h)) (Literal n))
-  ColumnOfCell : (k l g j m h n : ℕ) → h < n → UndoesCell (Binary Remainder (Binary Sum (Binary Product (Variable k l g) (Literal n)) (Variable j m h)) (Literal n))
+  RowOfCell : (k l g j m h n : ℕ) → h < n
+      → UndoesCell
+      (Binary Quotient
+      (Binary Sum (Binary Product (Variable k l g) (Literal n)) (Variable j m h))
+      (Literal n))
+  ColumnOfCell : (k l g j m h n : ℕ) → h < n
+      → UndoesCell
+      (Binary Remainder
+      (Binary Sum (Binary Product (Variable k l g) (Literal n)) (Variable j m h))
+      (Literal n))
 
 -- it holds of each operation of the expression
 abbrev pub EachNode : (Expression → Type 0) → Expression → Type 0

@@ -42,18 +42,22 @@ pub record StandsFor (sizes variables : List ℕ) (e s : Expression) : Type 0 wh
 pub record IsNoLarger (e s : Expression) : Type 0 where
   pub nodes : nodes s ≤ nodes e
   pub height : height s ≤ height e
-  pub names : (variable size : ℕ → Bool) → names_are variable size e ≡ true → names_are variable size s ≡ true
+  pub names : (variable size : ℕ → Bool) → names_are variable size e ≡ true
+      → names_are variable size s ≡ true
 
 -- sizes are divided by the numbers that they are known to be multiples of
 abbrev pub is_declared : PlainRanges → Operation → Expression → Expression → Bool
 is_declared r Quotient (Size k) (Literal d) = is_multiple r (Size k) (Literal d)
 is_declared r _ _ _ = true
 
+-- all its sizes over literals are over such numbers
 abbrev pub AreDeclared : PlainRanges → Expression → Type 0
 AreDeclared r e = EachOperation (λ o a b. is_declared r o a b ≡ true) e
 
+-- the second is simple, no larger than the first, and stands for it at each point of the ranges
 pub record IsSimplified (r : PlainRanges) (e s : Expression) : Type 0 where
-  pub stands : (sizes variables : List ℕ) → IsPoint r sizes variables e → StandsFor sizes variables e s
+  pub stands : (sizes variables : List ℕ) → IsPoint r sizes variables e
+      → StandsFor sizes variables e s
   pub small : IsNoLarger e s
   pub literals : HasWordLiterals e → HasWordLiterals s
   pub short : AreDeclared r e → nodes s ≤ short_nodes e

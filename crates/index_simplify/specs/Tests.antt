@@ -5,6 +5,7 @@ use Rattle.index_expr.specs.declared.operation.Operation.TheVariants.{Sum, Diffe
 use Rattle.index_expr.specs.Expression.{Expression, Variable, Literal, Size, Binary}
 use Rattle.index_simplify.specs.PlainRanges.{PlainRanges}
 
+-- they are one operation
 abbrev pub same_operation : Operation → Operation → Bool
 same_operation Sum Sum = true
 same_operation Difference Difference = true
@@ -15,14 +16,17 @@ same_operation Least Least = true
 same_operation Greatest Greatest = true
 same_operation _ _ = false
 
+-- the variable of this number, whatever range it carries
 abbrev pub same_variable : ℕ → Expression → Bool
 same_variable k (Variable j l g) = k == j
 same_variable k _ = false
 
+-- the literal of this number
 abbrev pub is_number : ℕ → Expression → Bool
 is_number n (Literal m) = n == m
 is_number n _ = false
 
+-- the size of this number
 abbrev pub same_size : ℕ → Expression → Bool
 same_size k (Size j) = k == j
 same_size k _ = false
@@ -50,6 +54,7 @@ abbrev pub is_no_longer : (known length : Expression) → Bool
 is_no_longer (Literal m) n = is_at_least n m
 is_no_longer known n = same known n
 
+-- a length is known, and it is no longer than the other
 abbrev pub is_known_within : Option Expression → Expression → Bool
 is_known_within None n = false
 is_known_within (Some known) n = is_no_longer known n
@@ -58,15 +63,18 @@ is_known_within (Some known) n = is_no_longer known n
 abbrev pub is_loop_within : PlainRanges → ℕ → Expression → Bool
 is_loop_within r k n = is_known_within (slice_get r.lengths k) n
 
--- a variable that stays below a length: by its own range below a number, or because its loop is no longer
+-- a variable that stays below a length: by its own range below a number,
+-- or because its loop is no longer
 abbrev pub is_below : PlainRanges → (column length : Expression) → Bool
 is_below r (Variable k l g) n = is_above n g || is_loop_within r k n
 is_below r _ n = false
 
+-- a number is known, and it is this one
 abbrev pub is_known_multiple : Option ℕ → Expression → Bool
 is_known_multiple None n = false
 is_known_multiple (Some m) n = is_number m n
 
+-- the size of this number is known to be a multiple of this one
 abbrev pub is_multiple_at : PlainRanges → ℕ → Expression → Bool
 is_multiple_at r k n = is_known_multiple (slice_get r.multiples k) n
 

@@ -1,4 +1,4 @@
-// Which expressions stay below a length.
+//! Which expressions stay below a length.
 
 ghost use Rattle.std.specs.Prelude.{◌≡◌, IfOk, option_map};
 ghost use Rattle.index_expr.specs.Expression.{expression_of};

@@ -1,4 +1,4 @@
-// The laws of what stays below a length, and of cells whose rows are cut into parts.
+//! The laws of what stays below a length, and of cells whose rows are cut into parts.
 
 ghost use Rattle.std.specs.Prelude.{◌≡◌, IfOk, option_map};
 ghost use Rattle.index_expr.specs.Expression.{expression_of};

@@ -1,4 +1,4 @@
-// What is left of a length without one of its factors.
+//! What is left of a length without one of its factors.
 
 ghost use Rattle.std.specs.Prelude.{◌≡◌, IfOk, option_map};
 ghost use Rattle.index_expr.specs.Expression.{expression_of};

@@ -1,4 +1,4 @@
-// The table of laws.
+//! The table of laws.
 
 ghost use Rattle.std.specs.Prelude.{◌≡◌};
 ghost use Rattle.index_expr.specs.Expression.{expression_of};
@@ -11,7 +11,8 @@ use crate::ranges::Ranges;
 use crate::same::{is_number, same, same_operation};
 use index_expr::{Index, Operation};
 
-/// A law of the whole numbers: an operation on two expressions of a certain shape has the value of a part of them, or of a number.
+/// A law of the whole numbers: an operation on two expressions of a certain shape has the value of
+/// a part of them, or of a number.
 #[derive(Clone, Copy)]
 pub enum Law {
     /// An operation on two literals, where its result is a word.
@@ -68,10 +69,12 @@ pub const LAWS: [Law; 16] = [
     Law::CellOfParts,
 ];
 
-// How many operations deep a row is looked into, so that the work at each node stays within a bound.
+// How many operations deep a row is looked into, so that the work at
+// each node stays within a bound.
 const DEEPEST: u32 = 3;
 
-// Whether nothing is taken away in it, as far as so many operations deep tell. Then it is never below 0.
+// Whether nothing is taken away in it, as far as so many operations deep
+// tell. Then it is never below 0.
 fn is_count(e: &Index, depth: u32) -> bool
     ensures { result ≡ tests.is_count depth (expression_of e.now) }
 {
@@ -82,7 +85,8 @@ fn is_count(e: &Index, depth: u32) -> bool
     }
 }
 
-/// Whether nothing is taken away in it, as far as three operations deep tell: then it is never below 0.
+/// Whether nothing is taken away in it, as far as three operations deep
+/// tell: then it is never below 0.
 pub fn is_natural(e: &Index) -> bool
     ensures { result ≡ tests.is_count 3 (expression_of e.now) }
 {

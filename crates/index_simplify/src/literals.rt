@@ -1,4 +1,4 @@
-// Operations on two numbers.
+//! Operations on two numbers.
 
 ghost use Rattle.std.specs.Prelude.{◌≡◌};
 ghost use Rattle.index_expr.specs.Expression.{expression_of};
@@ -6,7 +6,8 @@ ghost use Rattle.index_simplify.specs.Literals as spec;
 
 use index_expr::{Index, Operation};
 
-// The result on two numbers, where it is a word. Over 0 a quotient is 0 and the remainder is the dividend, as over the whole numbers.
+// The result on two numbers, where it is a word. Over 0 a quotient is 0 and the remainder is the
+// dividend, as over the whole numbers.
 fn computed_from(operation: Operation, m: u32, n: u32) -> Option<u32>
     ensures { result ≡ spec.computed_from operation m n }
 {

@@ -1,4 +1,4 @@
-// What is known at a place in a kernel.
+//! What is known at a place in a kernel.
 
 ghost use Rattle.std.specs.Prelude.{◌≡◌};
 ghost use Rattle.index_expr.specs.Expression.{expression_of};
@@ -30,7 +30,8 @@ impl Ranges {
         }
     }
 
-    /// Whether an expression is a variable that stays below a length: by its own range below a number, or because its loop is no longer.
+    /// Whether an expression is a variable that stays below a length: by its own range below a
+    /// number, or because its loop is no longer.
     pub fn is_below(&self, column: &Index, length: &Index) -> bool
         ensures { result
             ≡ spec.is_below (ranges_of self.now) (expression_of column.now)

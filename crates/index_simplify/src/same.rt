@@ -1,4 +1,4 @@
-// When two expressions are the same but for the ranges that their variables carry.
+//! When two expressions are the same but for the ranges that their variables carry.
 
 ghost use Rattle.std.specs.Prelude.{◌≡◌};
 ghost use Rattle.index_expr.specs.Expression.{expression_of};

@@ -1,4 +1,4 @@
-// Simplified index expressions.
+//! Simplified index expressions.
 
 ghost use Rattle.std.specs.Prelude.{◌≡◌, IfOk};
 ghost use Rattle.index_expr.specs.Expression.{expression_of};

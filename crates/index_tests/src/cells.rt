@@ -162,8 +162,8 @@ const LITERALS: [Row; 7] = [
     ),
 ];
 
-// Ten rows of a tile, in a row of them for each of the tiles, which are as many as two sizes'
-// product.
+// Ten rows of a tile, in a row of them for each of the tiles, which are as many
+// as two sizes' product.
 const TILES: Tree = Tree::Binary(Product, &Tree::Size(0), &Tree::Size(1));
 
 const TILE_ROW: Tree = Tree::Binary(

@@ -59,8 +59,8 @@ pub fn input(alloc: Global, lengths: &[u32]) -> Result<View, AllocError> {
     View::placed(alloc, &Names::new(alloc), ArrayKind::Input, 0, &ty)
 }
 
-/// A view read through layouts, each with the lengths of its result; the first is of an array of
-/// these lengths.
+/// A view read through layouts, each with the lengths of its result; the first is of an
+/// array of these lengths.
 pub fn read_through(
     alloc: Global,
     view: View,
@@ -79,8 +79,8 @@ pub fn read_through(
     }
 }
 
-/// A view of an array of these lengths, written through layouts, each with the lengths of its
-/// operand.
+/// A view of an array of these lengths, written through layouts, each with the
+/// lengths of its operand.
 pub fn written_through(
     alloc: Global,
     view: View,

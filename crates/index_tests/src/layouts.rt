@@ -1,4 +1,4 @@
-//! The cells of positions through layouts, by the formulas of the papers, worked out by hand.
+//! The cells of positions through layouts, worked out by hand.
 
 use crate::kinds::{Form, has_cell, input, read_through, written_through};
 use array_views::View;

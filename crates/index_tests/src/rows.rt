@@ -94,8 +94,8 @@ const LITERALS: [(Tree, &str); 14] = [
     (Tree::Binary(Greatest, &I, &Tree::Number(0)), "max(i0, 0)"),
 ];
 
-// A row, or a column below the row's length, of their cell; a column that may reach the length, and
-// two lengths.
+// A row, or a column below the row's length, of their cell; a column that may reach the
+// length, and two lengths.
 const CELLS: [(Tree, &str); 9] = [
     (
         Tree::Binary(
@@ -211,8 +211,8 @@ const CELLS: [(Tree, &str); 9] = [
     ),
 ];
 
-// What a join reads of rows of 3: a number from its two parts; parts of two numbers, or of two
-// lengths.
+// What a join reads of rows of 3: a number from its two parts; parts of two numbers,
+// or of two lengths.
 const PARTS: [(Tree, &str); 5] = [
     (
         Tree::Binary(

@@ -10,5 +10,6 @@ abbrev pub code_from : List Stmt → Code → Code
 code_from [] rest = rest
 code_from (s ∷ ss) rest = code_from ss (before s rest)
 
+-- the code of all statements of the block
 abbrev pub code_in : Block → Code
 code_in b = code_from b.reversed.items End

@@ -10,11 +10,16 @@ use Rattle.printed_form.specs.Programs.{first_buffer, input_shape}
 use Rattle.length_spelling.specs.Formulas.{length_formula}
 use Rattle.item_emit.specs.declared.arguments.Declared.{Declared}
 
+-- a length over the sizes, as an expression of the kernel
 abbrev pub spell_in : Declared → List Monomial → Formula
 spell_in d = length_formula d.names.now
 
+-- what stands for the input of each number: its buffers
 abbrev pub inputs_in : Declared → ℕ → View
-inputs_in d = input_views (length_formula d.names.now) (first_buffer (map ty_of d.inputs.now)) (input_shape (map ty_of d.inputs.now))
+inputs_in d =
+    input_views (length_formula d.names.now) (first_buffer (map ty_of d.inputs.now))
+    (input_shape (map ty_of d.inputs.now))
 
+-- the ranges of the sizes, and the inputs' types
 abbrev pub declared_in : Declared → typing.Declared
 declared_in d = record { names = d.names.now; inputs = map ty_of d.inputs.now }

@@ -2,6 +2,7 @@
 use Rattle.std.specs.Prelude.{ℕ, ◌+◌}
 use Rattle.lift_ir.specs.Terms.{Term, Literal, Bound, Source, Apply, ApplyNumber, Select, Both, Project, Reshape, LetArray, LetElement, Map, Fold, Store, Copy}
 
+-- the term itself and all terms in it
 abbrev pub nodes : {A : Type 0} → Term A → ℕ
 nodes (Literal c) = 1
 nodes (Bound v) = 1

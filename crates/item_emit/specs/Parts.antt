@@ -7,6 +7,7 @@ use Rattle.item_emit.specs.Scopes.{scope_of}
 use Rattle.item_emit.specs.declared.expressions.Part.{Part}
 use Rattle.item_emit.specs.declared.expressions.Part as part
 
+-- the expression at pair choices, where the part has a scalar there
 abbrev pub parts_of : Part → List Bool → Option Formula
 parts_of (part.Whole scope first term) = sign_exprs (scope_of scope.now) first (term_of term.now)
 parts_of (part.First' p whole) = λ cs. parts_of whole (false ∷ cs)

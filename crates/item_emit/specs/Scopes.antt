@@ -7,6 +7,7 @@ use Rattle.array_views.specs.Views.{view_in}
 use Rattle.item_emit.specs.declared.scope.Scope.{Scope}
 use Rattle.item_emit.specs.declared.scope.Scope as scope
 
+-- the view of each binder, counted from the nearest
 abbrev pub scope_of : Scope → ℕ → View
 scope_of scope.Empty = no_view
 scope_of (scope.Bound' x p outer) = push (view_in x.now) (scope_of outer)

@@ -54,7 +54,8 @@ pub fn output(alloc: Global, names: &Names, ty: &Ty) -> Result<View, AllocError>
     placed(alloc, names, ArrayKind::Output, 0, ty)
 }
 
-/// What stands for the input of this number, where the first buffer of the first input has that one.
+/// What stands for the input of this number, where the first buffer
+/// of the first input has that one.
 pub fn input(
     alloc: Global,
     names: &Names,

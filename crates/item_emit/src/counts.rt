@@ -1,4 +1,5 @@
-//! How many private variables and arrays a term needs. A count that would pass 2^32 - 1 is answered as want of memory: what it counts takes more.
+//! How many private variables and arrays a term needs. A count that would pass 2^32 - 1 is answered
+//! as want of memory: what it counts takes more.
 
 ghost use Rattle.std.specs.Prelude.{◌≡◌, ◌+◌, [], IfOk};
 ghost use Rattle.lift_tree.specs.Types.{ty_of};

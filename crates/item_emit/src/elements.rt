@@ -74,7 +74,8 @@ pub fn put_moved(
     )
 }
 
-/// Assigns a new accumulator, of a pair through temporaries, the first of which is variable `temporary`.
+/// Assigns a new accumulator, of a pair through temporaries, the first of
+/// which is variable `temporary`.
 pub fn put_reassigned(
     alloc: Global,
     ty: &Ty,

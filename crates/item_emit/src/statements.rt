@@ -37,7 +37,8 @@ use lowering::term::{Kind, LoadSet, Space, Term};
 use size_arith::Poly;
 use std::alloc::{AllocError, Global};
 
-/// Where code stands: within so many loops, with these binders in scope, and with the numbers of the first private array and of the first private variable that aren't taken.
+/// Where code stands: within so many loops, with these binders in scope, and with the numbers of
+/// the first private array and of the first private variable that aren't taken.
 #[derive(Clone, Copy)]
 pub struct Site<'s> {
     pub depth: u32,
@@ -136,7 +137,8 @@ fn put_bound_element(
     put_element(alloc, site.scope, site.variable, value, block)
 }
 
-// A fold's code in one turn, over this element, where the accumulator is held from that variable on.
+// A fold's code in one turn, over this element, where the accumulator
+// is held from that variable on.
 fn put_fold_turn(
     alloc: Global,
     scope: &Scope,

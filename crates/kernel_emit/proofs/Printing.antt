@@ -94,7 +94,8 @@ pub record Known : Type 0 where
   pub written : TermsCanBeWritten (List Monomial)
   pub ungrouped : UngroupedTermsArePrintable
 
--- what is printed is of the grammar, with few arrays and short copies, and made by the printer of the term's kind
+-- what is printed is of the grammar, with few arrays and short copies, and made by
+-- the printer of the term's kind
 pub record IsPrintedWell (d : Declared) (local : Option ℕ) (t : Tree) (n : Annotation) (ls ps : List ℕ) (root : Lowered) (kind : Kind) : Type 0 where
   pub grammar : is_kernel (printed_with d local n ls ps root kind) ≡ true
   pub copies : HasShortCopies root

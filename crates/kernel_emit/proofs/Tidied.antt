@@ -20,7 +20,7 @@ use Rattle.nest_premises.specs.Stands.{IsGroupPrintable, StandsAs}
 use Rattle.group_form.specs.Programs.{PrintedGroupProgramsKeep, PrintedGroupProgramsServe, PrintedGroupProgramsStart, PrintsGroups}
 use Rattle.printed_form.specs.Programs.{IsLaunchOf, PrintedProgramsKeep, PrintedProgramsStart, Prints, lowered_root, row_of}
 use Rattle.printed_form.proofs.Programs.{has_local, whole}
-use Rattle.barrier_free.specs.Laws.{PrintedProgramsServe}
+use Rattle.group_form.specs.BarrierFree.{PrintedProgramsServe}
 use Rattle.kernel_premises.specs.Terms.{TermsArePrinted, kernel_of_term}
 use Rattle.kernel_premises.specs.Groups.{AreNeeded, GroupTermsArePrinted, kernel_of_groups}
 use Rattle.tidy_indices.specs.Laws.{IsLaunchFor, KeepsValues, TidyFormulasKeepValues}

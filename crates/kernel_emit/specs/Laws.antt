@@ -9,8 +9,15 @@ use Rattle.kernel_emit.specs.Plans.{kernel_for, printed_for}
 
 -- what is printed for a plan can be, and is what the printers make of its term
 abbrev pub PlansCanBeEmitted : Type 0
-PlansCanBeEmitted = (plan : Plan) → IsSoundTerm (declared_in plan) (tree_in plan) (types_in plan) → IsTold plan → IsEmittable plan × IsPlainFor (declared_in plan) (local_in plan) (tree_in plan) (types_in plan) (printed_for plan)
+PlansCanBeEmitted =
+    (plan : Plan) → IsSoundTerm (declared_in plan) (tree_in plan) (types_in plan) → IsTold plan
+    → IsEmittable plan
+    × IsPlainFor (declared_in plan) (local_in plan) (tree_in plan) (types_in plan)
+    (printed_for plan)
 
 -- the kernel of a plan is the term's
 abbrev pub PlansGiveKernels : Type 0
-PlansGiveKernels = (plan : Plan) → IsSoundTerm (declared_in plan) (tree_in plan) (types_in plan) → IsTold plan → IsKernelFor (declared_in plan) (local_in plan) (tree_in plan) (types_in plan) (kernel_for plan)
+PlansGiveKernels =
+    (plan : Plan) → IsSoundTerm (declared_in plan) (tree_in plan) (types_in plan) → IsTold plan
+    → IsKernelFor (declared_in plan) (local_in plan) (tree_in plan) (types_in plan)
+    (kernel_for plan)

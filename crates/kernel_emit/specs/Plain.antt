@@ -12,10 +12,13 @@ use Rattle.kernel_premises.specs.Terms.{kernel_of_term}
 use Rattle.kernel_premises.specs.Groups.{AreNeeded, kernel_of_groups}
 
 -- of a term of this kind, with needed barriers
-abbrev pub IsPlainAs : NestKind → Declared → (local : Option ℕ) → Tree → Annotation → Kernel → Type 0
+abbrev pub IsPlainAs : NestKind → Declared → (local : Option ℕ) → Tree → Annotation → Kernel
+    → Type 0
 IsPlainAs Task d local t n k = k ≡ kernel_of_term d local t n
 IsPlainAs OverLaunch d local t n k = k ≡ kernel_of_term d local t n
-IsPlainAs OverGroups d local t n k = (fence : ℕ → Fencing) × AreNeeded d local fence t n × (k ≡ kernel_of_groups d local fence t n)
+IsPlainAs OverGroups d local t n k =
+    (fence : ℕ → Fencing) × AreNeeded d local fence t n × (k ≡ kernel_of_groups d local fence t n)
 
+-- of any term, as its nest says who runs it
 abbrev pub IsPlainFor : Declared → (local : Option ℕ) → Tree → Annotation → Kernel → Type 0
 IsPlainFor d local t n k = IsPlainAs (nest_kind t) d local t n k

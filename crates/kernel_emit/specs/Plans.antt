@@ -22,16 +22,24 @@ use Rattle.phase_plan.specs.declared.kind.Kind.{Kind}
 use Rattle.phase_plan.specs.declared.kind.Kind.TheVariants.{Task, OverLaunch, OverGroups}
 use Rattle.phase_plan.specs.declared.planned.Plan.{Plan}
 
--- the code of what a term of this type is lowered to, as its kind says: over work-groups with the barriers of its phases
+-- the code of what a term of this type is lowered to, as its kind says: over work-groups
+-- with the barriers of its phases
 abbrev pub code_for : Declared → (local : Option ℕ) → Lowered → PlainTy → Kind → Code
-code_for d local root a Task = kernel_code (length_formula d.names) (first_buffer d.inputs) (input_shape d.inputs) root (shape_of a)
-code_for d local root a OverLaunch = kernel_code (length_formula d.names) (first_buffer d.inputs) (input_shape d.inputs) root (shape_of a)
+code_for d local root a Task =
+    kernel_code (length_formula d.names) (first_buffer d.inputs) (input_shape d.inputs) root
+    (shape_of a)
+code_for d local root a OverLaunch =
+    kernel_code (length_formula d.names) (first_buffer d.inputs) (input_shape d.inputs) root
+    (shape_of a)
 code_for d local root a (OverGroups phases) =
-    group_kernel_code (length_formula d.names) (forms_of d.names local) (first_buffer d.inputs) (input_shape d.inputs)
+    group_kernel_code (length_formula d.names) (forms_of d.names local) (first_buffer d.inputs)
+    (input_shape d.inputs)
     (fence phases.count phases.barriers.items) root (shape_of a)
 
--- it has a parameter for each component of the inputs, then of the output, then for each size; these arrays; and that code
-abbrev pub printed_with : Declared → (local : Option ℕ) → Annotation → (locals privates : List ℕ) → Lowered → Kind → Kernel
+-- it has a parameter for each component of the inputs, then of the output, then for each size;
+-- these arrays; and that code
+abbrev pub printed_with : Declared → (local : Option ℕ) → Annotation → (locals privates : List ℕ)
+    → Lowered → Kind → Kernel
 printed_with d local n locals privates root kind = record {
   inputs = buffer_count d.inputs;
   outputs = width (shape_of (type_in n));
@@ -44,6 +52,7 @@ printed_with d local n locals privates root kind = record {
   code = code_for d local root (type_in n) kind;
 }
 
+-- the kernel that is printed for a plan, with indices as they arise
 abbrev pub printed_for : Plan → Kernel
 printed_for plan =
     printed_with (declared_in plan) (local_in plan) (types_in plan) plan.buffers.now.local.items
@@ -51,4 +60,6 @@ printed_for plan =
 
 -- with simplified indices and bounds
 abbrev pub kernel_for : Plan → Kernel
-kernel_for plan = tidied_kernel (tidy_formula (declared_in plan).names (row_of (local_in plan))) (printed_for plan)
+kernel_for plan =
+    tidied_kernel (tidy_formula (declared_in plan).names (row_of (local_in plan)))
+    (printed_for plan)

@@ -14,8 +14,9 @@ use std::alloc::{AllocError, Global};
 use tidy_kernels::pass::tidied;
 
 /// The kernel of a plan: what is printed as its kind says, over work-groups with its barriers, and
-/// simplified. It is printed for the plan's term at each admissible launch, of groups of the local size
-/// that is fixed; every run there keeps what it owes with the term's value, and its barriers serve.
+/// simplified. It is printed for the plan's term at each admissible launch, of groups of
+/// the local size that is fixed; every run there keeps what it owes with the term's
+/// value, and its barriers serve.
 pub fn emit(alloc: Global, plan: &Plan<'_>) -> Result<Kernel, AllocError>
     ensures printed { IfOk result (λ k. kernel_of k ≡ kernel_for plan.now) }
     ensures meets { IfOk result (λ k. ∥ IsKernelFor (declared_in plan.now) (local_in plan.now)

@@ -2,7 +2,7 @@
 
 ghost use Rattle.kernel_emit.specs.Laws.{PlansCanBeEmitted, PlansGiveKernels};
 
-use barrier_free::laws::printed_programs_serve;
+use group_form::barrier_free::printed_programs_serve;
 use group_form::laws::{printed_group_programs_keep, printed_group_programs_start};
 use item_emit::laws::copies_are_short;
 use kernel_premises::arrays::{allocated_are_declared, declared_are_few};
@@ -21,7 +21,8 @@ use tidy_printed::indices::{
 };
 use tidy_printed::terms::tidied_kernels_are_printed;
 
-/// What is printed for a plan is what the printers make of its term, which is of the kernel grammar.
+/// What is printed for a plan is what the printers make of its term,
+/// which is of the kernel grammar.
 pub fn plans_can_be_emitted()
     ensures { PlansCanBeEmitted }
 {

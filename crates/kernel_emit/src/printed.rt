@@ -72,9 +72,9 @@ fn row(local: Option<u32>) -> Option<(u32, u32)>
     }
 }
 
-/// The kernel that is printed for a plan: for each component of each input a parameter, then for each
-/// of the output and for each size; private variables as the term needs them, the plan's arrays, the
-/// local size that is fixed, and the code as its kind says.
+/// The kernel that is printed for a plan: for each component of each input a parameter, then for
+/// each of the output and for each size; private variables as the term needs them, the plan's
+/// arrays, the local size that is fixed, and the code as its kind says.
 pub fn printed(alloc: Global, plan: &Plan<'_>) -> Result<Kernel, AllocError>
     requires { IsEmittable plan.now }
     ensures { IfOk result (λ k. kernel_of k ≡ printed_for plan.now) }

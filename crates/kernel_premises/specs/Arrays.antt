@@ -15,6 +15,7 @@ use Rattle.printed_form.specs.Counts.{copy_lengths}
 use Rattle.printed_form.specs.Programs.{lowered_root}
 use Rattle.kernel_premises.specs.Sound.{HasSoundParts}
 
+-- a memory's name in lowered terms
 abbrev pub space_of : Memory → Space
 space_of Local = LocalMemory
 space_of Private = PrivateMemory

@@ -45,6 +45,7 @@ pub record IsGroupPrintedWithin (spell : List Monomial → Formula) (fence : ℕ
       (shape_of (type_in a))
   pub few : dimensions (shape_of (type_in a)) ≤ 4
 
+-- the kernel printed for such a term is of the grammar
 abbrev pub GroupKernelsAreOfTheGrammar : Type 0
 GroupKernelsAreOfTheGrammar =
     (spell : List Monomial → Formula) (fence : ℕ → Fencing) (high most : ℕ) (d : Declared)

@@ -7,8 +7,8 @@ use printed_form::grammar::{maps_are_of_the_grammar, terms_are_printed_within, v
 
 /// What the printer makes of a typed term that is a map over work-groups is a kernel of the kernel
 /// grammar, where the term's numbers are words, its lengths are spelled in the grammar, barriers
-/// have flags, layouts, elements and loops don't nest too deep, and groups may have the size that is
-/// fixed.
+/// have flags, layouts, elements and loops don't nest too deep, and groups
+/// may have the size that is fixed.
 pub fn group_kernels_are_of_the_grammar()
     ensures { GroupKernelsAreOfTheGrammar }
 {

@@ -61,9 +61,15 @@ write_expression front (Variable k) = front ++ named 118 k
 write_expression front (LoopVariable k) = front ++ named 105 k
 write_expression front (Size k) = front ++ named 115 k
 write_expression front (Id d form) = front ++ id_text d form
-write_expression front (Binary op a b) = write_expression (write_expression (front ++ opening op) a ++ between op) b ++ codes ")"
+write_expression front (Binary op a b) =
+    write_expression (write_expression (front ++ opening op) a ++ between op) b ++ codes ")"
 write_expression front (Choose c a b x y) =
-    write_expression (write_expression (write_expression (write_expression (front ++ codes "(") a ++ comparing c) b ++ codes " ? ") x ++ codes " : ") y ++ codes ")"
+    write_expression
+    (write_expression
+    (write_expression (write_expression (front ++ codes "(") a ++ comparing c) b
+    ++ codes " ? ") x
+    ++ codes " : ") y
+    ++ codes ")"
 
 -- an expression of four words
 abbrev pub write_lanes : List ℕ → Lanes → List ℕ
@@ -94,7 +100,9 @@ stride_text (ByLocalSize d) = id_text d LocalSize
 -- a loop's line
 abbrev pub write_loop : (loops nest : ℕ) → List ℕ → Start → Formula → Stride → List ℕ
 write_loop l nest front s b c =
-    write_expression (front ++ indent (suc nest) ++ codes "for (uint " ++ named 105 l ++ codes " = " ++ start_text s ++ codes "; " ++ named 105 l ++ codes " < ") b
+    write_expression
+    (front ++ indent (suc nest) ++ codes "for (uint " ++ named 105 l ++ codes " = "
+    ++ start_text s ++ codes "; " ++ named 105 l ++ codes " < ") b
     ++ codes "; " ++ named 105 l ++ codes " += " ++ stride_text c ++ codes ") {\n"
 
 -- an if's line
@@ -113,29 +121,62 @@ flags_text false false = []
 -- the statements within l loops, at this depth in loops and ifs, and the end of their block
 abbrev pub write_code : (loops nest : ℕ) → List ℕ → Code → List ℕ
 write_code l nest front End = write_end nest front
-write_code l nest front (Assigns k e after) = write_code l nest (write_expression (front ++ indent (suc nest) ++ named 118 k ++ codes " = ") e ++ codes ";\n") after
-write_code l nest front (Loads k array i after) = write_code l nest (write_expression (front ++ indent (suc nest) ++ named 118 k ++ codes " = " ++ array_name array ++ codes "[") i ++ codes "];\n") after
-write_code l nest front (Stores array i e after) = write_code l nest (write_expression (write_expression (front ++ indent (suc nest) ++ array_name array ++ codes "[") i ++ codes "] = ") e ++ codes ";\n") after
-write_code l nest front (AssignsFour k e after) = write_code l nest (write_lanes (front ++ indent (suc nest) ++ named 119 k ++ codes " = ") e ++ codes ";\n") after
-write_code l nest front (LoadsFour k array i after) = write_code l nest (write_expression (front ++ indent (suc nest) ++ named 119 k ++ codes " = vload4(") i ++ codes ", " ++ array_name array ++ codes ");\n") after
-write_code l nest front (StoresFour array i e after) = write_code l nest (write_expression (write_lanes (front ++ indent (suc nest) ++ codes "vstore4(") e ++ codes ", ") i ++ codes ", " ++ array_name array ++ codes ");\n") after
-write_code l nest front (Loops start b stride body after) = write_code l nest (write_code (suc l) (suc nest) (write_loop l nest front start b stride) body) after
-write_code l nest front (Guards start b body after) = write_code l nest (write_code l (suc nest) (write_guard nest front start b) body) after
-write_code l nest front (Syncs on_local on_global after) = write_code l nest (front ++ indent (suc nest) ++ codes "barrier(" ++ flags_text on_local on_global ++ codes ");\n") after
+write_code l nest front (Assigns k e after) =
+    write_code l nest
+    (write_expression (front ++ indent (suc nest) ++ named 118 k ++ codes " = ") e
+    ++ codes ";\n") after
+write_code l nest front (Loads k array i after) =
+    write_code l nest
+    (write_expression
+    (front ++ indent (suc nest) ++ named 118 k ++ codes " = " ++ array_name array
+    ++ codes "[") i
+    ++ codes "];\n") after
+write_code l nest front (Stores array i e after) =
+    write_code l nest
+    (write_expression
+    (write_expression (front ++ indent (suc nest) ++ array_name array ++ codes "[") i
+    ++ codes "] = ") e
+    ++ codes ";\n") after
+write_code l nest front (AssignsFour k e after) =
+    write_code l nest
+    (write_lanes (front ++ indent (suc nest) ++ named 119 k ++ codes " = ") e
+    ++ codes ";\n") after
+write_code l nest front (LoadsFour k array i after) =
+    write_code l nest
+    (write_expression (front ++ indent (suc nest) ++ named 119 k ++ codes " = vload4(") i
+    ++ codes ", " ++ array_name array ++ codes ");\n") after
+write_code l nest front (StoresFour array i e after) =
+    write_code l nest
+    (write_expression
+    (write_lanes (front ++ indent (suc nest) ++ codes "vstore4(") e ++ codes ", ") i
+    ++ codes ", " ++ array_name array ++ codes ");\n") after
+write_code l nest front (Loops start b stride body after) =
+    write_code l nest
+    (write_code (suc l) (suc nest) (write_loop l nest front start b stride) body) after
+write_code l nest front (Guards start b body after) =
+    write_code l nest (write_code l (suc nest) (write_guard nest front start b) body) after
+write_code l nest front (Syncs on_local on_global after) =
+    write_code l nest
+    (front ++ indent (suc nest) ++ codes "barrier(" ++ flags_text on_local on_global
+    ++ codes ");\n") after
 
 -- `written` is `front` and then these statements, whatever comes after them in their block
 abbrev pub IsPut : (loops nest : ℕ) → (statements : Code → Code) → (front written : List ℕ) → Type 0
-IsPut loops nest statements front written = (after : Code) → write_code loops nest front (statements after) ≡ write_code loops nest written after
+IsPut loops nest statements front written =
+    (after : Code)
+    → write_code loops nest front (statements after) ≡ write_code loops nest written after
 
 -- the first inputs
 abbrev pub write_inputs : List ℕ → ℕ → List ℕ
 write_inputs front zero = front
-write_inputs front (suc i) = write_inputs front i ++ codes "__global const uint *" ++ named 97 i ++ codes ", "
+write_inputs front (suc i) =
+    write_inputs front i ++ codes "__global const uint *" ++ named 97 i ++ codes ", "
 
 -- the first output, and so many more
 abbrev pub write_outputs : List ℕ → ℕ → List ℕ
 write_outputs front zero = front ++ codes "__global uint *" ++ named 111 0
-write_outputs front (suc i) = write_outputs front i ++ codes ", __global uint *" ++ named 111 (suc i)
+write_outputs front (suc i) =
+    write_outputs front i ++ codes ", __global uint *" ++ named 111 (suc i)
 
 -- the first sizes
 abbrev pub write_sizes : List ℕ → ℕ → List ℕ
@@ -145,17 +186,22 @@ write_sizes front (suc i) = write_sizes front i ++ codes ", const uint " ++ name
 -- declarations of arrays of these lengths, from the i-th on, each with its type before its letter
 abbrev pub write_arrays : (before : List ℕ) → (letter : ℕ) → List ℕ → ℕ → List ℕ → List ℕ
 write_arrays before letter front i [] = front
-write_arrays before letter front i (n ∷ ns) = write_arrays before letter (front ++ indent 1 ++ before ++ named letter i ++ codes "[" ++ decimal n ++ codes "];\n") (suc i) ns
+write_arrays before letter front i (n ∷ ns) =
+    write_arrays before letter
+    (front ++ indent 1 ++ before ++ named letter i ++ codes "[" ++ decimal n ++ codes "];\n")
+    (suc i) ns
 
 -- the first variables
 abbrev pub write_variables : List ℕ → ℕ → List ℕ
 write_variables front zero = front
-write_variables front (suc i) = write_variables front i ++ indent 1 ++ codes "uint " ++ named 118 i ++ codes ";\n"
+write_variables front (suc i) =
+    write_variables front i ++ indent 1 ++ codes "uint " ++ named 118 i ++ codes ";\n"
 
 -- the first variables of four words
 abbrev pub write_vectors : List ℕ → ℕ → List ℕ
 write_vectors front zero = front
-write_vectors front (suc i) = write_vectors front i ++ indent 1 ++ codes "uint4 " ++ named 119 i ++ codes ";\n"
+write_vectors front (suc i) =
+    write_vectors front i ++ indent 1 ++ codes "uint4 " ++ named 119 i ++ codes ";\n"
 
 -- local arrays of these lengths
 abbrev pub write_locals : List ℕ → List ℕ → List ℕ
@@ -174,11 +220,17 @@ write_launching front (Some size) =
 
 -- what stands before the parameters
 abbrev pub write_head : (name : List ℕ) → Option (ℕ × ℕ) → List ℕ
-write_head name size = write_launching (codes "__kernel ") size ++ codes "void " ++ name ++ codes "("
+write_head name size =
+    write_launching (codes "__kernel ") size ++ codes "void " ++ name ++ codes "("
 
 -- all of a kernel with suc `more` outputs
 abbrev pub write_kernel : (name : List ℕ) → Kernel → ℕ → List ℕ
 write_kernel name k more =
-    let parameters = write_sizes (write_outputs (write_inputs (write_head name k.local) k.inputs) more) k.sizes in
-    let variables = write_variables (write_privates (write_locals (parameters ++ codes ")\n{\n") k.locals) k.privates) k.variables in
+    let parameters =
+    write_sizes
+    (write_outputs (write_inputs (write_head name k.local) k.inputs) more) k.sizes in
+    let variables =
+    write_variables
+    (write_privates
+    (write_locals (parameters ++ codes ")\n{\n") k.locals) k.privates) k.variables in
     write_code 0 0 (write_vectors variables k.vectors) k.code

@@ -103,5 +103,6 @@ abbrev pub owed_by : List (Owed (Bor (List ℕ)) Form Mark) → List text.Item
 owed_by items = items_of bytes_of part_of note_of items
 
 -- the alternative, where there is one, was put before all that was owed
-abbrev pub Gave : Result Bool AllocError → (old new : List (Owed (Bor (List ℕ)) Form Mark)) → Option (List text.Item) → Type 0
+abbrev pub Gave : Result Bool AllocError → (old new : List (Owed (Bor (List ℕ)) Form Mark))
+    → Option (List text.Item) → Type 0
 Gave result old new alternative = given.Gave owed_by result old new alternative

@@ -1,4 +1,5 @@
--- Where no binder is around a `then`, none is left in the kernels' terms; and a term without one is cut nowhere.
+-- Where no binder is around a `then`, none is left in the kernels' terms; and a
+-- term without one is cut nowhere.
 use Rattle.std.proofs.Common.{◌≡◌, ℕ, Bool, true, false, ◌||◌, List, [], ◌∷◌, ◌++◌, Option, None, Some, refl, sym, ap, ◌∙◌, arith}
 use Rattle.lift_tree.specs.declared.term.UnaryForm.TheVariants.{Then}
 use Rattle.lift_tree.specs.Annotations.{Annotates, Annotation, Leaf, One, Two, Three}

@@ -1,4 +1,5 @@
--- Where no map's or fold's binder is around, an array has few scalars: it is an input, or some form made it within the limits.
+-- Where no map's or fold's binder is around, an array has few scalars: it is an input, or some form
+-- made it within the limits.
 use Rattle.std.proofs.Common.{◌≡◌, ℕ, zero, suc, List, [], ◌∷◌, Some, sym, subst}
 use Rattle.std.specs.Prelude.{slice_get}
 use Rattle.size_arith.specs.declared.poly.Monomial.{Monomial}

@@ -1,4 +1,5 @@
--- The kernels' terms are typed over what they may name, and their nodes pass no limit that the whole's don't.
+-- The kernels' terms are typed over what they may name, and their nodes pass
+-- no limit that the whole's don't.
 use Rattle.std.proofs.Common.{◌≡◌, ℕ, zero, suc, ◌+◌, ◌≤◌, List, [], ◌∷◌, ◌++◌, append-nil, append_assoc, length, length-append, Some, refl, sym, ap, ◌∙◌, subst, arith}
 use Rattle.std.specs.Prelude.{slice_get}
 use Rattle.lift_tree.specs.declared.term.UnaryForm.TheVariants.{Then}

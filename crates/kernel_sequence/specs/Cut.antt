@@ -10,6 +10,7 @@ pub record Part : Type 0 where
   pub tree : Tree
   pub types : Annotation
 
+-- the part of this term, whose nodes have these types
 abbrev pub part : Tree → Annotation → Part
 part t n = record { tree = t; types = n }
 
@@ -34,8 +35,9 @@ abbrev pub made_next : (inputs : ℕ) → Cutting → PlainTy → Cutting
 made_next i c a =
     record { made = c.made ++ (c.left ∷ []); left = part (Input (i + length c.made)) (Leaf a) }
 
--- each outermost `then` with no binder around is cut off, in postorder: its operand is the term of the
--- next kernel, and it is the input that this kernel makes, behind the program's and those made before
+-- each outermost `then` with no binder around is cut off, in postorder: its operand is the
+-- term of the next kernel, and it is the input that this kernel makes, behind the
+-- program's and those made before
 abbrev pub cut_off : (inputs : ℕ) → (made : List Part) → Tree → Annotation → Cutting
 cut_off i made (Unary Then t) (One a n) = made_next i (cut_off i made t n) a
 cut_off i made (Unary f t) (One a n) =
@@ -44,12 +46,20 @@ cut_off i made (Unary f t) (One a n) =
 cut_off i made (Binary f t u) (Two a n m) =
     let c = cut_off i made t n in
     let d = cut_off i c.made u m in
-    record { made = d.made; left = part (Binary f c.left.tree d.left.tree) (Two a c.left.types d.left.types) }
+    record {
+      made = d.made;
+      left = part (Binary f c.left.tree d.left.tree)
+          (Two a c.left.types d.left.types);
+    }
 cut_off i made (Select t u v) (Three a n m k) =
     let c = cut_off i made t n in
     let d = cut_off i c.made u m in
     let e = cut_off i d.made v k in
-    record { made = e.made; left = part (Select c.left.tree d.left.tree e.left.tree) (Three a c.left.types d.left.types e.left.types) }
+    record {
+      made = e.made;
+      left = part (Select c.left.tree d.left.tree e.left.tree)
+          (Three a c.left.types d.left.types e.left.types);
+    }
 cut_off i made (Let v b) (Two a n m) =
     let c = cut_off i made v n in
     record { made = c.made; left = part (Let c.left.tree b) (Two a c.left.types m) }
@@ -59,7 +69,11 @@ cut_off i made (Map h xs b) (Two a n m) =
 cut_off i made (Fold h xs s b) (Three a n m k) =
     let c = cut_off i made xs n in
     let d = cut_off i c.made s m in
-    record { made = d.made; left = part (Fold h c.left.tree d.left.tree b) (Three a c.left.types d.left.types k) }
+    record {
+      made = d.made;
+      left = part (Fold h c.left.tree d.left.tree b)
+          (Three a c.left.types d.left.types k);
+    }
 cut_off i made t n = record { made = made; left = part t n }
 
 -- the kernels' terms in order, last what is left of the whole

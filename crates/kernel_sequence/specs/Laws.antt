@@ -21,7 +21,8 @@ CutsKeepTheValue =
     → Hold (with_more w us) us 0 (cut_off i [] t n).made
     → meaning (with_more w us) [] (cut_off i [] t n).left.tree ≡ meaning w [] t
 
--- each kernel's term names the program's inputs and the scratch arrays of the kernels before it alone
+-- each kernel's term names the program's inputs and the scratch arrays
+-- of the kernels before it alone
 abbrev pub KernelsNameEarlierArrays : Type 0
 KernelsNameEarlierArrays =
     (sizes i k : ℕ) (t : Tree) (n : Annotation) (p : Part)
@@ -35,7 +36,8 @@ MoreInputsKeepTheValue =
     → length w.inputs ≡ i → Belongs sizes i b t
     → meaning (with_more w us) vs t ≡ meaning w vs t
 
--- so where the kernels are run in turn, each after those before it, the last leaves the term's value
+-- so where the kernels are run in turn, each after those before it,
+-- the last leaves the term's value
 abbrev pub SequencesLeaveTheValue : Type 0
 SequencesLeaveTheValue =
     (w : World) (us : List Value) (sizes i : ℕ) (t : Tree) (n : Annotation)

@@ -8,9 +8,11 @@ use Rattle.kernel_sequence.specs.Cut.{Cutting}
 use Rattle.kernel_sequence.specs.declared.parts.Part.{Part}
 use Rattle.kernel_sequence.specs.declared.cutting.Cutting as held
 
+-- the term and the types of a part
 abbrev pub part_of : Part → cut.Part
 part_of p = cut.part (tree_of p.term) (annotation_of p.types)
 
+-- the kernels' terms so far, and what is left
 abbrev pub cutting_of : held.Cutting → Cutting
 cutting_of c = record { made = map part_of c.made.items; left = part_of c.left }
 

@@ -10,6 +10,7 @@ use Rattle.kernel_sequence.specs.Cut.{Part, kernel_parts}
 use Rattle.kernel_sequence.specs.Bound.{first_bound}
 use Rattle.kernel_sequence.specs.Parts.{term_part}
 
+-- the terms of a lowered term's kernels, in order
 abbrev pub parts_of : Lowered → List Part
 parts_of l = kernel_parts (length l.inputs.items) (tree_of l.term) (annotation_of l.types)
 
@@ -34,7 +35,8 @@ AreSoundParts l ps = (k : ℕ) (p : Part) → slice_get ps k ≡ Some p
 pub record AreKernels (l : Lowered) (ps : List Part) (ks : List Lowered) : Type 0 where
   pub terms : map term_part ks ≡ ps
   pub names : (k : ℕ) (x : Lowered) → slice_get ks k ≡ Some x → x.names ≡ l.names
-  pub inputs : (k : ℕ) (x : Lowered) → slice_get ks k ≡ Some x → map ty_of x.inputs.items ≡ inputs_behind l (take k ps)
+  pub inputs : (k : ℕ) (x : Lowered) → slice_get ks k ≡ Some x
+      → map ty_of x.inputs.items ≡ inputs_behind l (take k ps)
 
 -- the kernels of a lowered term
 pub record AreKernelsOf (l : Lowered) (ks : List Lowered) : Type 0 where

@@ -27,7 +27,8 @@ fn earlier(first: Option<Vec<u32>>, second: Option<Vec<u32>>) -> Option<Vec<u32>
     if first.is_some() { first } else { second }
 }
 
-/// The place of the first `then` in preorder that a binder is around, where one is around the whole or isn't.
+/// The place of the first `then` in preorder that a binder is around, where
+/// one is around the whole or isn't.
 pub fn first_bound(alloc: Global, bound: bool, term: &Term) -> Result<Option<Vec<u32>>, AllocError>
     ensures { IfOk result (λ p. option_map (λ v. v.items) p ≡ first_bound bound (tree_of term.now)) }
 {

@@ -14,7 +14,8 @@ pub fn cuts_keep_the_value()
     ensures { CutsKeepTheValue }
 {}
 
-/// A kernel's term names the program's inputs and the scratch arrays of the kernels before it alone.
+/// A kernel's term names the program's inputs and the scratch arrays
+/// of the kernels before it alone.
 #[tactic(auto, using(crate::proofs::Names::kernels_name_earlier_arrays))]
 pub fn kernels_name_earlier_arrays()
     ensures { KernelsNameEarlierArrays }

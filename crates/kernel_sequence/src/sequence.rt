@@ -46,7 +46,8 @@ fn joined(alloc: Global, first: &[Ty], second: &[Ty]) -> Result<Vec<Ty>, AllocEr
     Ok(all)
 }
 
-// A kernel's term with what it may name: the program's inputs, then what the kernels before it made.
+// A kernel's term with what it may name: the program's inputs, then
+// what the kernels before it made.
 fn kernel(alloc: Global, whole: &Lowered, scratch: &[Ty], part: Part) -> Result<Lowered, AllocError>
     requires { ∥ IsSoundTerm (record {
       names = whole.now.names;
@@ -104,11 +105,11 @@ fn judge(alloc: Global, lowered: &Lowered) -> Result<(), CutNo>
     Ok(())
 }
 
-/// The kernels of a lowered term, in the order in which they are run: the operands of its `then`s in
-/// postorder, last the whole, each with an input for the array of each kernel before it.
+/// The kernels of a lowered term, in the order in which they are run: the operands of its `then`s
+/// in postorder, last the whole, each with an input for the array of each kernel before it.
 ///
-/// `Nest` comes exactly where a binder is around a `then`, with the first in preorder; `Limit` exactly
-/// where there is none and there are more than sixteen kernels.
+/// `Nest` comes exactly where a binder is around a `then`, with the first in preorder; `Limit`
+/// exactly where there is none and there are more than sixteen kernels.
 pub fn cut(alloc: Global, lowered: &Lowered) -> Result<Vec<Lowered>, CutNo>
     ensures kernels { IfOk result (λ ks. AreKernelsOf lowered.now ks.items) }
     ensures refused { IfErr result (λ no. Refuses no (tree_of lowered.now.term)

@@ -6,7 +6,7 @@ use Rattle.std.proofs.lemmas.Bool.{lt-ltb, le-leb, and_from}
 use Rattle.std.proofs.lemmas.List.{append_assoc, append-nil, length-append}
 use Rattle.std.proofs.lemmas.Option.{same_Some}
 use Rattle.readings.specs.Readings.{Token, Form, Mark}
-use Rattle.readings.specs.Meanings.{AllMean, split}
+use Rattle.readings.proofs.Meanings.{AllMean, split}
 use Rattle.scalar_ops.specs.declared.op.Op.{Op}
 use Rattle.scalar_ops.specs.declared.op.Op.TheVariants.{Min, Max, Shl, Shr}
 use Rattle.kernel_tree.specs.declared.tree.Dimension.{Dimension}

@@ -1,7 +1,7 @@
 -- A text is of one kernel.
 use Rattle.std.proofs.Common.{◌≡◌, ℕ, List, [], ◌∷◌, ap, ◌∙◌, subst}
 use Rattle.readings.specs.Readings.{Reads}
-use Rattle.readings.specs.OneReading.{one_reading}
+use Rattle.readings.proofs.OneReading.{one_reading}
 use Rattle.kernel_tree.specs.Code.{Code, End, Kernel}
 use Rattle.kernel_tree.specs.KernelText.{Piece, Notes, all_of, kernels, start, nothing, IsKernelText}
 use Rattle.kernel_spelling.specs.Rows.{table}

@@ -7,7 +7,7 @@ use Rattle.std.proofs.lemmas.Fmt.{decimal_is_IsNumeral}
 use Rattle.kernel_tree.specs.Code.{Kernel}
 use Rattle.kernel_tree.specs.Pieces.{ArePieces, is_word, joined}
 use Rattle.readings.specs.Readings.{Reads}
-use Rattle.readings.specs.OneReading.{one_reading}
+use Rattle.readings.proofs.OneReading.{one_reading}
 use Rattle.readings.proofs.Fronts.{refused_behind, same_front}
 use Rattle.kernel_tree.specs.KernelText.{IsKernelText, Piece, kernels, nothing, start}
 use Rattle.kernel_tree.specs.KernelText.{all_of as notes_of}

@@ -198,7 +198,8 @@ stride_stands (ByGlobalSize d) ps apart stood = id_stands d GlobalSize ps stood
 stride_stands (ByGroupCount d) ps apart stood = id_stands d GroupCount ps stood
 stride_stands (ByLocalSize d) ps apart stood = id_stands d LocalSize ps stood
 
--- a loop's line, before what its variable begins with, before its bound, before its step and behind that
+-- a loop's line, before what its variable begins with, before its bound,
+-- before its step and behind that
 loop_stands : (l : ℕ) (ps : List Piece) → l < number_limit → NoBlank ps → Stand ps → Stand (loop_line l ps)
 loop_stands l ps small apart stood =
     let begin = turn_stands l _ small refl (a_space _ refl (single 61 _ refl refl (a_space ps apart stood))) in

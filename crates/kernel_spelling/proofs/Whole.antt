@@ -3,7 +3,7 @@ use Rattle.std.proofs.Common.{◌≡◌, ℕ, zero, suc, ◌+◌, List, [], ◌�
 use Rattle.std.specs.Prelude.{nat_lt, nat_le, ◌&&◌, ◌||◌, codes}
 use Rattle.std.proofs.lemmas.Bool.{and_from, and_parts, lt-ltb}
 use Rattle.readings.specs.Readings.{Form, Reads}
-use Rattle.readings.specs.Meanings.{read_means}
+use Rattle.readings.proofs.Meanings.{read_means}
 use Rattle.kernel_tree.specs.Formula.{Formula, Number, Variable, LoopVariable, Size, Id, Binary, Choose, Lanes, Vector, Spread, Each}
 use Rattle.kernel_tree.specs.Code.{Array, Input, Output, Local, Private, Code, End, Assigns, Loads, Stores, AssignsFour, LoadsFour, StoresFour, Loops, Guards, Syncs, Kernel}
 use Rattle.kernel_tree.specs.Grammar.{deepest, height, lanes_height, is_operator, is_constant, names_declared, is_expression, names_declared_in_lanes, are_lanes, is_readable, is_writable, is_shared, has_statement, are_statements, are_lengths, is_group_size, is_kernel}

@@ -13,7 +13,9 @@ use Rattle.kernel_spelling.specs.declared.kinds.Kind.TheVariants.{Array, Size, V
 
 -- the number whose decimal this is
 abbrev pub number_in : List ℕ → Option ℕ
-number_in ds = let n = digits_value 10 ds in cond (nat_lt n number_limit && bytes_eq (decimal n) ds) (Some n) None
+number_in ds =
+    let n = digits_value 10 ds in cond (nat_lt n number_limit && bytes_eq (decimal n) ds)
+    (Some n) None
 
 -- the number behind a letter
 abbrev pub named_in : ℕ → List ℕ → Option ℕ
@@ -21,7 +23,8 @@ named_in letter p = cond (bytes_eq (take 1 p) (letter ∷ [])) (number_in (drop 
 
 -- the number before u
 abbrev pub literal_in : List ℕ → Option ℕ
-literal_in p = cond (bytes_eq (drop (length p - 1) p) (codes "u")) (number_in (take (length p - 1) p)) None
+literal_in p =
+    cond (bytes_eq (drop (length p - 1) p) (codes "u")) (number_in (take (length p - 1) p)) None
 
 -- the kind of this number, or else the rest
 abbrev pub kind_or : (ℕ → Kind) → Option ℕ → Kind → Kind
@@ -59,11 +62,16 @@ beside (x ∷ xs) p = cond (bytes_eq p x.0) (Some x.1) (beside xs p)
 
 -- the names of the ids
 abbrev pub ids : List (Piece × IdForm)
-ids = (id_name GlobalId, GlobalId) ∷ (id_name GroupId, GroupId) ∷ (id_name LocalId, LocalId) ∷ (id_name GlobalSize, GlobalSize) ∷ (id_name GroupCount, GroupCount) ∷ (id_name LocalSize, LocalSize) ∷ []
+ids =
+    (id_name GlobalId, GlobalId) ∷ (id_name GroupId, GroupId) ∷ (id_name LocalId, LocalId)
+    ∷ (id_name GlobalSize, GlobalSize) ∷ (id_name GroupCount, GroupCount)
+    ∷ (id_name LocalSize, LocalSize) ∷ []
 
 -- the signs of one piece
 abbrev pub signs : List (Piece × Op)
-signs = (plus, Add) ∷ (minus, Sub) ∷ (star, Mul) ∷ (slash, Div) ∷ (percent, Rem) ∷ (ampersand, And) ∷ (bar, Or) ∷ (caret, Xor) ∷ []
+signs =
+    (plus, Add) ∷ (minus, Sub) ∷ (star, Mul) ∷ (slash, Div) ∷ (percent, Rem) ∷ (ampersand, And)
+    ∷ (bar, Or) ∷ (caret, Xor) ∷ []
 
 -- the operators that are called
 abbrev pub calls : List (Piece × Op)

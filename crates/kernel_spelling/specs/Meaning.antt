@@ -20,41 +20,58 @@ pub record CountsFit (n : Notes) : Type 0 where
 
 -- ---- expressions
 
+-- the expression is of declared names, in a bound of sizes and numbers alone, and not too deep
 abbrev pub FitsAt : Notes → (bound : Bool) → (loops depth : ℕ) → Formula → Type 0
-FitsAt n b l d e = (names_declared (counted n) l e ≡ true) × (b ≡ true → is_constant e ≡ true) × (height e + d ≤ suc deepest)
+FitsAt n b l d e =
+    (names_declared (counted n) l e ≡ true) × (b ≡ true → is_constant e ≡ true)
+    × (height e + d ≤ suc deepest)
 
 -- first: what stands before it
-pub record IsValue (first : List Piece → List Piece) (n : Notes) (b : Bool) (l d : ℕ) (ts : List Piece) (n1 : Notes) (back : List Piece) : Type 0 where
+pub record IsValue (first : List Piece → List Piece) (n : Notes) (b : Bool) (l d : ℕ)
+    (ts : List Piece) (n1 : Notes) (back : List Piece) : Type 0 where
   pub value : Formula
   pub fits : FitsAt n b l d value
   pub spelled : first ts ≡ spell value back
   pub noted : n1 ≡ noted n (value ∷ n.values) n.blocks
 
--- what follows the left part of an expression in parentheses: an operator and its right part, or a comparison with that and the choices
+-- what follows the left part of an expression in parentheses: an operator and its right part, or a
+-- comparison with that and the choices
 pub data Tail : Type 0 where
   Operated : Op → Formula → Tail
   Compared : Comparison → (right yes no : Formula) → Tail
 
+-- the expression whose left part this is, and what follows it
 abbrev pub with_tail : Formula → Tail → Formula
 with_tail a (Operated op b) = Binary op a b
 with_tail a (Compared c b x y) = Choose c a b x y
 
+-- the pieces of what follows a left part, up to the closing parenthesis
 abbrev pub spell_tail : Tail → List Piece → List Piece
 spell_tail (Operated op b) back = spell_sign op (space ∷ spell b (closes ∷ back))
-spell_tail (Compared c b x y) back = spell_comparison c (space ∷ spell b (space ∷ question ∷ space ∷ spell x (space ∷ colon ∷ space ∷ spell y (closes ∷ back))))
+spell_tail (Compared c b x y) back =
+    spell_comparison c
+    (space
+    ∷ spell b
+    (space ∷ question ∷ space ∷ spell x (space ∷ colon ∷ space ∷ spell y (closes ∷ back))))
 
+-- its parts may stand here, and its operator is one that stands between them
 abbrev pub TailFits : Notes → (bound : Bool) → (loops depth : ℕ) → Tail → Type 0
-TailFits n b l d (Operated op e) = (is_operator op ≡ true) × (is_called op ≡ false) × FitsAt n b l d e
+TailFits n b l d (Operated op e) =
+    (is_operator op ≡ true) × (is_called op ≡ false) × FitsAt n b l d e
 TailFits n b l d (Compared c e x y) = FitsAt n b l d e × FitsAt n b l d x × FitsAt n b l d y
 
-pub record IsTail (first : List Piece → List Piece) (n : Notes) (b : Bool) (l d : ℕ) (ts : List Piece) (n1 : Notes) (back : List Piece) : Type 0 where
+-- what follows a left part, which was noted as the last expression
+pub record IsTail (first : List Piece → List Piece) (n : Notes) (b : Bool) (l d : ℕ)
+    (ts : List Piece) (n1 : Notes) (back : List Piece) : Type 0 where
   pub tail : Tail
   pub fits : TailFits n b l d tail
   pub spelled : first ts ≡ spell_tail tail back
-  pub noted : (a : Formula) (values : List Formula) → n.values ≡ a ∷ values → n1 ≡ noted n (with_tail a tail ∷ values) n.blocks
+  pub noted : (a : Formula) (values : List Formula) → n.values ≡ a ∷ values
+      → n1 ≡ noted n (with_tail a tail ∷ values) n.blocks
 
 -- an id in a dimension
-pub record IsId (first : List Piece → List Piece) (n : Notes) (ts : List Piece) (n1 : Notes) (back : List Piece) : Type 0 where
+pub record IsId (first : List Piece → List Piece) (n : Notes) (ts : List Piece) (n1 : Notes)
+    (back : List Piece) : Type 0 where
   pub along : Dimension
   pub form : IdForm
   pub spelled : first ts ≡ id_name form ∷ opens ∷ dimension along ∷ closes ∷ back
@@ -68,50 +85,59 @@ LanesFit n l d e =
     (names_declared_in_lanes (counted n) l e ≡ true) × (lanes_height e + d ≤ suc deepest)
 
 -- first: what stands before it
-pub record AreLanes (first : List Piece → List Piece) (n : Notes) (l d : ℕ) (ts : List Piece) (n1 : Notes) (back : List Piece) : Type 0 where
+pub record AreLanes (first : List Piece → List Piece) (n : Notes) (l d : ℕ) (ts : List Piece)
+    (n1 : Notes) (back : List Piece) : Type 0 where
   pub value : Lanes
   pub fits : LanesFit n l d value
   pub spelled : first ts ≡ spell_lanes value back
   pub noted : n1 ≡ with_lanes n n.values (value ∷ n.lanes) n.blocks
 
 -- an operator and its right part
-pub record IsLanesTail (first : List Piece → List Piece) (n : Notes) (l d : ℕ) (ts : List Piece) (n1 : Notes) (back : List Piece) : Type 0 where
+pub record IsLanesTail (first : List Piece → List Piece) (n : Notes) (l d : ℕ) (ts : List Piece)
+    (n1 : Notes) (back : List Piece) : Type 0 where
   pub op : Op
   pub right : Lanes
   pub operator : is_operator op ≡ true
   pub between : is_called op ≡ false
   pub fits : LanesFit n l d right
   pub spelled : first ts ≡ spell_sign op (space ∷ spell_lanes right (closes ∷ back))
-  pub noted : (a : Lanes) (lanes : List Lanes) → n.lanes ≡ a ∷ lanes → n1 ≡ with_lanes n n.values (Each op a right ∷ lanes) n.blocks
+  pub noted : (a : Lanes) (lanes : List Lanes) → n.lanes ≡ a ∷ lanes
+      → n1 ≡ with_lanes n n.values (Each op a right ∷ lanes) n.blocks
 
 -- ---- statements
 
 -- what is left of a block
-pub record IsCode (first : List Piece → List Piece) (n : Notes) (l nest : ℕ) (ts : List Piece) (n1 : Notes) (back : List Piece) : Type 0 where
+pub record IsCode (first : List Piece → List Piece) (n : Notes) (l nest : ℕ) (ts : List Piece)
+    (n1 : Notes) (back : List Piece) : Type 0 where
   pub code : Code
   pub fits : are_statements (counted n) l nest code ≡ true
   pub spelled : first ts ≡ spell_code l nest code back
   pub noted : n1 ≡ noted n n.values (code ∷ n.blocks)
 
 -- the same, and not its end
-abbrev pub IsStatement : (List Piece → List Piece) → Notes → (loops nest : ℕ) → List Piece → Notes → List Piece → Type 0
+abbrev pub IsStatement : (List Piece → List Piece) → Notes → (loops nest : ℕ) → List Piece → Notes
+    → List Piece → Type 0
 IsStatement first n l nest ts n1 back =
     (c : IsCode first n l nest ts n1 back) × (has_statement c.code ≡ true)
 
 -- what is added to a loop's variable, its body, and what follows in the block
-pub record IsRound (first : List Piece → List Piece) (n : Notes) (l nest : ℕ) (s : Start) (ts : List Piece) (n1 : Notes) (back : List Piece) : Type 0 where
+pub record IsRound (first : List Piece → List Piece) (n : Notes) (l nest : ℕ) (s : Start)
+    (ts : List Piece) (n1 : Notes) (back : List Piece) : Type 0 where
   pub stride : Stride
   pub body : Code
   pub after : Code
   pub some : has_statement body ≡ true
   pub body_fits : are_statements (counted n) (suc l) (suc nest) body ≡ true
   pub after_fits : are_statements (counted n) l nest after ≡ true
-  pub spelled : first ts ≡ spell_stride stride (block_line (spell_code (suc l) (suc nest) body (spell_code l nest after back)))
+  pub spelled : first ts
+      ≡ spell_stride stride
+      (block_line (spell_code (suc l) (suc nest) body (spell_code l nest after back)))
   pub noted : loop_of n s stride n.values (after ∷ body ∷ n.blocks) ≡ Some n1
 
 -- the array of which four cells are loaded or to which four are stored, where it may be, and what
 -- follows in the block
-pub record IsShared (may : Kernel → Array → Bool) (made : Array → List Code → Option Notes) (n : Notes) (l nest : ℕ) (ts : List Piece) (n1 : Notes) (back : List Piece) : Type 0 where
+pub record IsShared (may : Kernel → Array → Bool) (made : Array → List Code → Option Notes)
+    (n : Notes) (l nest : ℕ) (ts : List Piece) (n1 : Notes) (back : List Piece) : Type 0 where
   pub array : Array
   pub after : Code
   pub shared : is_shared array ≡ true
@@ -122,7 +148,9 @@ pub record IsShared (may : Kernel → Array → Bool) (made : Array → List Cod
 
 -- ---- declarations, and then statements
 
-pub record AreVectors (first : List Piece → List Piece) (n : Notes) (ts : List Piece) (n1 : Notes) (back : List Piece) : Type 0 where
+-- variables of four words, and then statements
+pub record AreVectors (first : List Piece → List Piece) (n : Notes) (ts : List Piece) (n1 : Notes)
+    (back : List Piece) : Type 0 where
   pub vectors : ℕ
   pub code : Code
   pub fits : are_statements (counted n1) 0 0 code ≡ true
@@ -132,18 +160,28 @@ pub record AreVectors (first : List Piece → List Piece) (n : Notes) (ts : List
   pub few : CountsFit n → CountsFit n1
 
 -- variables, and then vectors
-pub record AreVariables (first : List Piece → List Piece) (n : Notes) (ts : List Piece) (n1 : Notes) (back : List Piece) : Type 0 where
+pub record AreVariables (first : List Piece → List Piece) (n : Notes) (ts : List Piece) (n1 : Notes)
+    (back : List Piece) : Type 0 where
   pub more : ℕ
   pub vectors : ℕ
   pub code : Code
   pub fits : are_statements (counted n1) 0 0 code ≡ true
   pub some : has_statement code ≡ true
-  pub spelled : first ts ≡ spell_variables n.variables more (spell_vectors n.vectors vectors (spell_code 0 0 code back))
-  pub noted : n1 ≡ record n { variables = n.variables + more; vectors = n.vectors + vectors; blocks = code ∷ n.blocks }
+  pub spelled : first ts
+      ≡ spell_variables n.variables more
+      (spell_vectors n.vectors vectors (spell_code 0 0 code back))
+  pub noted : n1
+      ≡ record n {
+        variables = n.variables + more;
+        vectors = n.vectors + vectors;
+        blocks = code
+            ∷ n.blocks;
+      }
   pub few : CountsFit n → CountsFit n1
 
 -- private arrays, and then variables
-pub record ArePrivates (first : List Piece → List Piece) (n : Notes) (ts : List Piece) (n1 : Notes) (back : List Piece) : Type 0 where
+pub record ArePrivates (first : List Piece → List Piece) (n : Notes) (ts : List Piece) (n1 : Notes)
+    (back : List Piece) : Type 0 where
   pub privates : List ℕ
   pub more : ℕ
   pub vectors : ℕ
@@ -151,12 +189,24 @@ pub record ArePrivates (first : List Piece → List Piece) (n : Notes) (ts : Lis
   pub fits : are_statements (counted n1) 0 0 code ≡ true
   pub some : has_statement code ≡ true
   pub lengths : are_lengths privates ≡ true
-  pub spelled : first ts ≡ spell_privates (length n.privates) privates (spell_variables n.variables more (spell_vectors n.vectors vectors (spell_code 0 0 code back)))
-  pub noted : n1 ≡ record n { privates = n.privates ++ privates; variables = n.variables + more; vectors = n.vectors + vectors; blocks = code ∷ n.blocks }
+  pub spelled : first ts
+      ≡ spell_privates (length n.privates) privates
+      (spell_variables n.variables more
+      (spell_vectors n.vectors vectors (spell_code 0 0 code back)))
+  pub noted : n1
+      ≡ record n {
+        privates = n.privates
+            ++ privates;
+        variables = n.variables + more;
+        vectors = n.vectors + vectors;
+        blocks = code
+            ∷ n.blocks;
+      }
   pub few : CountsFit n → CountsFit n1
 
 -- local arrays, and then private arrays
-pub record AreLocals (first : List Piece → List Piece) (n : Notes) (ts : List Piece) (n1 : Notes) (back : List Piece) : Type 0 where
+pub record AreLocals (first : List Piece → List Piece) (n : Notes) (ts : List Piece) (n1 : Notes)
+    (back : List Piece) : Type 0 where
   pub locals : List ℕ
   pub privates : List ℕ
   pub more : ℕ
@@ -166,19 +216,36 @@ pub record AreLocals (first : List Piece → List Piece) (n : Notes) (ts : List 
   pub some : has_statement code ≡ true
   pub local_lengths : are_lengths locals ≡ true
   pub private_lengths : are_lengths privates ≡ true
-  pub spelled : first ts ≡ spell_locals (length n.locals) locals (spell_privates (length n.privates) privates (spell_variables n.variables more (spell_vectors n.vectors vectors (spell_code 0 0 code back))))
-  pub noted : n1 ≡ record n { locals = n.locals ++ locals; privates = n.privates ++ privates; variables = n.variables + more; vectors = n.vectors + vectors; blocks = code ∷ n.blocks }
+  pub spelled : first ts
+      ≡ spell_locals (length n.locals) locals
+      (spell_privates (length n.privates) privates
+      (spell_variables n.variables more
+      (spell_vectors n.vectors vectors (spell_code 0 0 code back))))
+  pub noted : n1
+      ≡ record n {
+        locals = n.locals ++ locals;
+        privates = n.privates
+            ++ privates;
+        variables = n.variables + more;
+        vectors = n.vectors + vectors;
+        blocks = code
+            ∷ n.blocks;
+      }
   pub few : CountsFit n → CountsFit n1
 
 -- ---- sizes, outputs and inputs, each behind what stands before it
 
-pub record AreSizes (first : List Piece → List Piece) (n : Notes) (ts : List Piece) (n1 : Notes) (back : List Piece) : Type 0 where
+-- the sizes
+pub record AreSizes (first : List Piece → List Piece) (n : Notes) (ts : List Piece) (n1 : Notes)
+    (back : List Piece) : Type 0 where
   pub sizes : ℕ
   pub spelled : first ts ≡ spell_sizes n.sizes sizes back
   pub noted : n1 ≡ record n { sizes = n.sizes + sizes }
   pub few : CountsFit n → CountsFit n1
 
-pub record AreOutputs (first : List Piece → List Piece) (n : Notes) (ts : List Piece) (n1 : Notes) (back : List Piece) : Type 0 where
+-- further outputs, and then sizes
+pub record AreOutputs (first : List Piece → List Piece) (n : Notes) (ts : List Piece) (n1 : Notes)
+    (back : List Piece) : Type 0 where
   pub outputs : ℕ
   pub sizes : ℕ
   pub spelled : first ts ≡ spell_outputs n.outputs outputs (spell_sizes n.sizes sizes back)
@@ -189,16 +256,28 @@ pub record AreOutputs (first : List Piece → List Piece) (n : Notes) (ts : List
 pub record IsNewOutput (n : Notes) (ts : List Piece) (n1 : Notes) (back : List Piece) : Type 0 where
   pub outputs : ℕ
   pub sizes : ℕ
-  pub spelled : ts ≡ array_name (Output n.outputs) ∷ spell_outputs (suc n.outputs) outputs (spell_sizes n.sizes sizes back)
+  pub spelled : ts ≡ array_name (Output n.outputs)
+      ∷ spell_outputs (suc n.outputs) outputs (spell_sizes n.sizes sizes back)
   pub noted : n1 ≡ record n { outputs = n.outputs + suc outputs; sizes = n.sizes + sizes }
   pub few : CountsFit n → CountsFit n1
 
-pub record AreParameters (first : List Piece → List Piece) (n : Notes) (ts : List Piece) (n1 : Notes) (back : List Piece) : Type 0 where
+-- inputs, at least one output, and then sizes
+pub record AreParameters (first : List Piece → List Piece) (n : Notes) (ts : List Piece)
+    (n1 : Notes) (back : List Piece) : Type 0 where
   pub inputs : ℕ
   pub outputs : ℕ
   pub sizes : ℕ
-  pub spelled : first ts ≡ spell_inputs n.inputs inputs (first_output n.outputs (spell_outputs (suc n.outputs) outputs (spell_sizes n.sizes sizes back)))
-  pub noted : n1 ≡ record n { inputs = n.inputs + inputs; outputs = n.outputs + suc outputs; sizes = n.sizes + sizes }
+  pub spelled : first ts
+      ≡ spell_inputs n.inputs inputs
+      (first_output n.outputs
+      (spell_outputs (suc n.outputs) outputs (spell_sizes n.sizes sizes back)))
+  pub noted : n1
+      ≡ record n {
+        inputs = n.inputs + inputs;
+        outputs = n.outputs + suc outputs;
+        sizes = n.sizes
+            + sizes;
+      }
   pub few : CountsFit n → CountsFit n1
 
 -- ---- the groups' size
@@ -209,7 +288,8 @@ fixed n None = n
 fixed n (Some size) = record n { local = Some size }
 
 -- the size of the groups, where there is one, and void
-pub record IsLaunching (first : List Piece → List Piece) (n : Notes) (ts : List Piece) (n1 : Notes) (back : List Piece) : Type 0 where
+pub record IsLaunching (first : List Piece → List Piece) (n : Notes) (ts : List Piece) (n1 : Notes)
+    (back : List Piece) : Type 0 where
   pub local : Option (ℕ × ℕ)
   pub fits : is_group_size local ≡ true
   pub spelled : first ts ≡ spell_launching local back
@@ -223,48 +303,77 @@ width_line back = attribute ∷ opens ∷ opens ∷ group_size ∷ opens ∷ bac
 
 -- what stands before the length of a new array
 abbrev pub local_line : Notes → List Piece → List Piece
-local_line n back = indent 1 ∷ local ∷ space ∷ uint ∷ space ∷ array_name (Local (length n.locals)) ∷ index_begins ∷ back
+local_line n back =
+    indent 1 ∷ local ∷ space ∷ uint ∷ space ∷ array_name (Local (length n.locals)) ∷ index_begins
+    ∷ back
 
+-- what stands before the length of a new private array
 abbrev pub private_line : Notes → List Piece → List Piece
-private_line n back = indent 1 ∷ uint ∷ space ∷ array_name (Private (length n.privates)) ∷ index_begins ∷ back
+private_line n back =
+    indent 1 ∷ uint ∷ space ∷ array_name (Private (length n.privates)) ∷ index_begins ∷ back
 
 -- what a form means: with the notes n it takes the pieces ts up to back, and then the notes are n1
 abbrev pub Means : Notes → Part → List Piece → Notes → List Piece → Type 0
 Means n Launching ts n1 back = IsLaunching (λ z. z) n ts n1 back
 Means n GroupWidth ts n1 back = IsLaunching width_line n ts n1 back
-Means n (GroupHeight v) ts n1 back = nat_lt 0 v ≡ true → IsLaunching (λ z. width_line (decimal v ∷ comma ∷ space ∷ z)) n ts n1 back
+Means n (GroupHeight v) ts n1 back =
+    nat_lt 0 v ≡ true → IsLaunching (λ z. width_line (decimal v ∷ comma ∷ space ∷ z)) n ts n1 back
 Means n Parameter ts n1 back = AreParameters (λ z. z) n ts n1 back
 Means n Pointer ts n1 back = AreParameters (λ z. global ∷ space ∷ z) n ts n1 back
-Means n NewInput ts n1 back = AreParameters (λ z. global ∷ space ∷ const ∷ space ∷ uint ∷ space ∷ star ∷ z) n ts n1 back
+Means n NewInput ts n1 back =
+    AreParameters (λ z. global ∷ space ∷ const ∷ space ∷ uint ∷ space ∷ star ∷ z) n ts n1 back
 Means n NewOutput ts n1 back = IsNewOutput n ts n1 back
 Means n AfterOutput ts n1 back = AreOutputs (λ z. z) n ts n1 back
 Means n OutputOrSize ts n1 back = AreOutputs (λ z. comma ∷ space ∷ z) n ts n1 back
-Means n NewSize ts n1 back = AreSizes (λ z. comma ∷ space ∷ const ∷ space ∷ uint ∷ space ∷ z) n ts n1 back
+Means n NewSize ts n1 back =
+    AreSizes (λ z. comma ∷ space ∷ const ∷ space ∷ uint ∷ space ∷ z) n ts n1 back
 Means n AfterSize ts n1 back = AreSizes (λ z. z) n ts n1 back
 Means n Locals ts n1 back = AreLocals (λ z. indent 1 ∷ z) n ts n1 back
-Means n NewLocal ts n1 back = AreLocals (λ z. indent 1 ∷ local ∷ space ∷ uint ∷ space ∷ z) n ts n1 back
-Means n LocalLength ts n1 back = suc (length n.locals) < number_limit → AreLocals (local_line n) n ts n1 back
+Means n NewLocal ts n1 back =
+    AreLocals (λ z. indent 1 ∷ local ∷ space ∷ uint ∷ space ∷ z) n ts n1 back
+Means n LocalLength ts n1 back =
+    suc (length n.locals) < number_limit → AreLocals (local_line n) n ts n1 back
 Means n Privates ts n1 back = ArePrivates (λ z. indent 1 ∷ z) n ts n1 back
 Means n Declared ts n1 back = ArePrivates (λ z. indent 1 ∷ uint ∷ space ∷ z) n ts n1 back
-Means n PrivateLength ts n1 back = suc (length n.privates) < number_limit → ArePrivates (private_line n) n ts n1 back
+Means n PrivateLength ts n1 back =
+    suc (length n.privates) < number_limit → ArePrivates (private_line n) n ts n1 back
 Means n Variables ts n1 back = AreVariables (λ z. indent 1 ∷ z) n ts n1 back
 Means n NewVariable ts n1 back = AreVariables (λ z. indent 1 ∷ uint ∷ space ∷ z) n ts n1 back
 Means n Vectors ts n1 back = AreVectors (λ z. indent 1 ∷ z) n ts n1 back
 Means n NewVector ts n1 back = AreVectors (λ z. indent 1 ∷ uint4 ∷ space ∷ z) n ts n1 back
 Means n (Statement l nest) ts n1 back = IsStatement (λ z. indent (suc nest) ∷ z) n l nest ts n1 back
 Means n (Next l nest) ts n1 back = IsCode (λ z. z) n l nest ts n1 back
-Means n (Source l nest k) ts n1 back = nat_lt k n.variables ≡ true → IsStatement (λ z. indent (suc nest) ∷ assign_line k z) n l nest ts n1 back
-Means n (SourceOfFour l nest k) ts n1 back = nat_lt k n.vectors ≡ true → IsStatement (λ z. indent (suc nest) ∷ assign_four_line k z) n l nest ts n1 back
-Means n (LoadedFour l nest k) ts n1 back = IsShared is_readable (λ a blocks. load_four_of n k a n.values blocks) n l nest ts n1 back
-Means n (StoredFour l nest) ts n1 back = IsShared is_writable (λ a blocks. store_four_of n a n.values n.lanes blocks) n l nest ts n1 back
-Means n (Fence l nest) ts n1 back = IsStatement (λ z. indent (suc nest) ∷ barrier ∷ opens ∷ z) n l nest ts n1 back
-Means n (AfterLocal l nest) ts n1 back = IsStatement (λ z. indent (suc nest) ∷ barrier ∷ opens ∷ local_flag ∷ z) n l nest ts n1 back
-Means n (Beginning g l nest) ts n1 back = nat_lt nest deepest ≡ true → IsStatement (λ z. indent (suc nest) ∷ start_line g l z) n l nest ts n1 back
-Means n (BeginningId g l nest) ts n1 back = nat_lt nest deepest ≡ true → IsStatement (λ z. indent (suc nest) ∷ start_line g l (opens ∷ uint ∷ closes ∷ z)) n l nest ts n1 back
-Means n (BeginningAlong g l nest form) ts n1 back = nat_lt nest deepest ≡ true → IsStatement (λ z. indent (suc nest) ∷ start_line g l (opens ∷ uint ∷ closes ∷ id_name form ∷ opens ∷ z)) n l nest ts n1 back
+Means n (Source l nest k) ts n1 back =
+    nat_lt k n.variables ≡ true
+    → IsStatement (λ z. indent (suc nest) ∷ assign_line k z) n l nest ts n1 back
+Means n (SourceOfFour l nest k) ts n1 back =
+    nat_lt k n.vectors ≡ true
+    → IsStatement (λ z. indent (suc nest) ∷ assign_four_line k z) n l nest ts n1 back
+Means n (LoadedFour l nest k) ts n1 back =
+    IsShared is_readable (λ a blocks. load_four_of n k a n.values blocks) n l nest ts n1 back
+Means n (StoredFour l nest) ts n1 back =
+    IsShared is_writable (λ a blocks. store_four_of n a n.values n.lanes blocks) n l nest ts n1 back
+Means n (Fence l nest) ts n1 back =
+    IsStatement (λ z. indent (suc nest) ∷ barrier ∷ opens ∷ z) n l nest ts n1 back
+Means n (AfterLocal l nest) ts n1 back =
+    IsStatement (λ z. indent (suc nest) ∷ barrier ∷ opens ∷ local_flag ∷ z) n l nest ts n1 back
+Means n (Beginning g l nest) ts n1 back =
+    nat_lt nest deepest ≡ true
+    → IsStatement (λ z. indent (suc nest) ∷ start_line g l z) n l nest ts n1 back
+Means n (BeginningId g l nest) ts n1 back =
+    nat_lt nest deepest ≡ true
+    → IsStatement
+    (λ z. indent (suc nest) ∷ start_line g l (opens ∷ uint ∷ closes ∷ z)) n l nest ts n1 back
+Means n (BeginningAlong g l nest form) ts n1 back =
+    nat_lt nest deepest ≡ true
+    → IsStatement
+    (λ z. indent (suc nest)
+    ∷ start_line g l (opens ∷ uint ∷ closes ∷ id_name form ∷ opens ∷ z)) n l nest ts n1 back
 Means n (Step l nest s) ts n1 back = IsRound (λ z. z) n l nest s ts n1 back
-Means n (StepId l nest s) ts n1 back = IsRound (λ z. opens ∷ uint ∷ closes ∷ z) n l nest s ts n1 back
-Means n (StepAlong l nest s form) ts n1 back = IsRound (λ z. opens ∷ uint ∷ closes ∷ id_name form ∷ opens ∷ z) n l nest s ts n1 back
+Means n (StepId l nest s) ts n1 back =
+    IsRound (λ z. opens ∷ uint ∷ closes ∷ z) n l nest s ts n1 back
+Means n (StepAlong l nest s form) ts n1 back =
+    IsRound (λ z. opens ∷ uint ∷ closes ∷ id_name form ∷ opens ∷ z) n l nest s ts n1 back
 Means n (Turn l) ts n1 back = (ts ≡ loop_variable l ∷ back) × (n ≡ n1)
 Means n (Indent l) ts n1 back = (ts ≡ indent l ∷ back) × (n ≡ n1)
 Means n (Value b l d) ts n1 back = IsValue (λ z. z) n b l d ts n1 back

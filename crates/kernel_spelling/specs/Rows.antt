@@ -49,16 +49,26 @@ height_row v _ = None
 abbrev pub is_next : (k count : ℕ) → Bool
 is_next k count = nat_eq k count && nat_lt (suc count) number_limit
 
+-- the next input's name, and what follows it
 abbrev pub new_input_row : Notes → Kind → Option (List Item)
-new_input_row n (Array (array.Input k)) = cond (is_next k n.inputs) (Some (Mark (DeclareInput (suc n.inputs)) ∷ texts (comma ∷ space ∷ []) ++ Form Parameter ∷ [])) None
+new_input_row n (Array (array.Input k)) =
+    cond (is_next k n.inputs)
+    (Some
+    (Mark (DeclareInput (suc n.inputs)) ∷ texts (comma ∷ space ∷ [])
+    ++ Form Parameter ∷ [])) None
 new_input_row n _ = None
 
+-- the next output's name, and what follows it
 abbrev pub new_output_row : Notes → Kind → Option (List Item)
-new_output_row n (Array (array.Output k)) = cond (is_next k n.outputs) (Some (Mark (DeclareOutput (suc n.outputs)) ∷ Form AfterOutput ∷ [])) None
+new_output_row n (Array (array.Output k)) =
+    cond (is_next k n.outputs)
+    (Some (Mark (DeclareOutput (suc n.outputs)) ∷ Form AfterOutput ∷ [])) None
 new_output_row n _ = None
 
+-- the next size's name, and what follows it
 abbrev pub new_size_row : Notes → Kind → Option (List Item)
-new_size_row n (Size k) = cond (is_next k n.sizes) (Some (Mark (DeclareSize (suc n.sizes)) ∷ Form AfterSize ∷ [])) None
+new_size_row n (Size k) =
+    cond (is_next k n.sizes) (Some (Mark (DeclareSize (suc n.sizes)) ∷ Form AfterSize ∷ [])) None
 new_size_row n _ = None
 
 -- the forms before the body
@@ -67,38 +77,60 @@ head_row n Launching p = launching_row p
 head_row n GroupWidth p = width_row (kind_of p)
 head_row n (GroupHeight v) p = height_row v (kind_of p)
 head_row n Parameter p = cond (bytes_eq p global) (Some (Token space ∷ Form Pointer ∷ [])) None
-head_row n Pointer p = cond (bytes_eq p const) (Some (texts (space ∷ uint ∷ space ∷ star ∷ []) ++ Form NewInput ∷ [])) (cond (bytes_eq p uint) (Some (texts (space ∷ star ∷ []) ++ Form NewOutput ∷ [])) None)
+head_row n Pointer p =
+    cond (bytes_eq p const) (Some (texts (space ∷ uint ∷ space ∷ star ∷ []) ++ Form NewInput ∷ []))
+    (cond (bytes_eq p uint) (Some (texts (space ∷ star ∷ []) ++ Form NewOutput ∷ [])) None)
 head_row n NewInput p = new_input_row n (kind_of p)
 head_row n NewOutput p = new_output_row n (kind_of p)
-head_row n AfterOutput p = cond (bytes_eq p closes) (Some []) (cond (bytes_eq p comma) (Some (Token space ∷ Form OutputOrSize ∷ [])) None)
-head_row n OutputOrSize p = cond (bytes_eq p global) (Some (texts (space ∷ uint ∷ space ∷ star ∷ []) ++ Form NewOutput ∷ [])) (cond (bytes_eq p const) (Some (texts (space ∷ uint ∷ space ∷ []) ++ Form NewSize ∷ [])) None)
+head_row n AfterOutput p =
+    cond (bytes_eq p closes) (Some [])
+    (cond (bytes_eq p comma) (Some (Token space ∷ Form OutputOrSize ∷ [])) None)
+head_row n OutputOrSize p =
+    cond (bytes_eq p global)
+    (Some (texts (space ∷ uint ∷ space ∷ star ∷ []) ++ Form NewOutput ∷ []))
+    (cond (bytes_eq p const)
+    (Some (texts (space ∷ uint ∷ space ∷ []) ++ Form NewSize ∷ [])) None)
 head_row n NewSize p = new_size_row n (kind_of p)
-head_row n AfterSize p = cond (bytes_eq p closes) (Some []) (cond (bytes_eq p comma) (Some (texts (space ∷ const ∷ space ∷ uint ∷ space ∷ []) ++ Form NewSize ∷ [])) None)
+head_row n AfterSize p =
+    cond (bytes_eq p closes) (Some [])
+    (cond (bytes_eq p comma)
+    (Some (texts (space ∷ const ∷ space ∷ uint ∷ space ∷ []) ++ Form NewSize ∷ [])) None)
 head_row n _ p = None
 
 -- ---- expressions
 
+-- an expression of one piece, where it may stand
 abbrev pub leaf : Bool → Formula → Option (List Item)
 leaf may e = cond may (Some (Mark (Leaf e) ∷ [])) None
 
+-- the operands of an operator that is called
 abbrev pub calling : Bool → ℕ → ℕ → Op → List Item
-calling b l d op = Token opens ∷ Form (Value b l d) ∷ texts (comma ∷ space ∷ []) ++ operated b l d op
+calling b l d op =
+    Token opens ∷ Form (Value b l d) ∷ texts (comma ∷ space ∷ []) ++ operated b l d op
 
 -- an expression at the depth d that has parts
 abbrev pub whole_row : Bool → ℕ → ℕ → Piece → Option (List Item)
-whole_row b l d p = cond (bytes_eq p opens) (Some (Form (Opened b l d) ∷ [])) (option_map (calling b l (suc d)) (call_in p))
+whole_row b l d p =
+    cond (bytes_eq p opens) (Some (Form (Opened b l d) ∷ []))
+    (option_map (calling b l (suc d)) (call_in p))
 
+-- an expression at the depth d, in a bound or not, in l loops
 abbrev pub value_row : Notes → Bool → ℕ → ℕ → Piece → Kind → Option (List Item)
-value_row n b l d p (Variable k) = leaf (not b && (nat_lt k n.variables && nat_le d deepest)) (formula.Variable k)
-value_row n b l d p (LoopVariable k) = leaf (not b && (nat_lt k l && nat_le d deepest)) (formula.LoopVariable k)
+value_row n b l d p (Variable k) =
+    leaf (not b && (nat_lt k n.variables && nat_le d deepest)) (formula.Variable k)
+value_row n b l d p (LoopVariable k) =
+    leaf (not b && (nat_lt k l && nat_le d deepest)) (formula.LoopVariable k)
 value_row n b l d p (Size k) = leaf (nat_lt k n.sizes && nat_le d deepest) (formula.Size k)
 value_row n b l d p (Literal v) = leaf (nat_le d deepest) (formula.Number v)
 value_row n b l d p Other = cond (nat_le d deepest) (whole_row b l d p) None
 value_row n b l d p _ = None
 
+-- what follows the parenthesis: an id, or a left part and the rest
 abbrev pub opened_row : Notes → Bool → ℕ → ℕ → Piece → Kind → Option (List Item)
 opened_row n b l d p kind =
-    cond (bytes_eq p uint) (cond b None (Some (Token closes ∷ Form IdName ∷ []))) (option_map (λ given. given ++ Token space ∷ Form (Rest b l (suc d)) ∷ []) (value_row n b l (suc d) p kind))
+    cond (bytes_eq p uint) (cond b None (Some (Token closes ∷ Form IdName ∷ [])))
+    (option_map (λ given. given ++ Token space ∷ Form (Rest b l (suc d)) ∷ [])
+    (value_row n b l (suc d) p kind))
 
 -- an id's name, and its dimension
 abbrev pub id_row : Piece → Option (List Item)
@@ -109,6 +141,7 @@ abbrev pub id_along_row : IdForm → Piece → Option (List Item)
 id_along_row form p =
     option_map (λ d. Token closes ∷ Mark (Leaf (Id d form)) ∷ []) (dimension_in p)
 
+-- what follows the left part
 abbrev pub rest_row : Bool → ℕ → ℕ → Piece → Option (List Item)
 rest_row b l d p =
     cond (bytes_eq p less) (Some (Form (AfterLess b l d) ∷ [])) (
@@ -116,8 +149,11 @@ rest_row b l d p =
     cond (bytes_eq p equals) (Some (texts (equals ∷ space ∷ []) ++ compared b l d Equal)) (
     option_map (λ op. Token space ∷ operated b l d op) (sign_in p))))
 
+-- the same behind <
 abbrev pub after_less_row : Bool → ℕ → ℕ → Piece → Option (List Item)
-after_less_row b l d p = cond (bytes_eq p less) (Some (Token space ∷ operated b l d Shl)) (cond (bytes_eq p space) (Some (compared b l d Less)) None)
+after_less_row b l d p =
+    cond (bytes_eq p less) (Some (Token space ∷ operated b l d Shl))
+    (cond (bytes_eq p space) (Some (compared b l d Less)) None)
 
 -- ---- expressions of four words
 
@@ -160,7 +196,8 @@ lanes_rest_row l d p =
 
 -- the same behind <
 abbrev pub lanes_after_less_row : ℕ → ℕ → Piece → Option (List Item)
-lanes_after_less_row l d p = cond (bytes_eq p less) (Some (Token space ∷ operated_each l d Shl)) None
+lanes_after_less_row l d p =
+    cond (bytes_eq p less) (Some (Token space ∷ operated_each l d Shl)) None
 
 -- ---- statements
 
@@ -313,21 +350,29 @@ step_along_row l nest s form p =
 
 -- ---- declarations
 
+-- the next variable's name, and another line
 abbrev pub new_variable_row : Notes → Kind → Option (List Item)
-new_variable_row n (Variable k) = cond (is_next k n.variables) (Some (Mark (DeclareVariable (suc n.variables)) ∷ another_line Variables)) None
+new_variable_row n (Variable k) =
+    cond (is_next k n.variables)
+    (Some (Mark (DeclareVariable (suc n.variables)) ∷ another_line Variables)) None
 new_variable_row n _ = None
 
+-- the next local array's name, and its length
 abbrev pub new_local_row : Notes → Kind → Option (List Item)
-new_local_row n (Array (array.Local k)) = cond (is_next k (length n.locals)) (Some (Token index_begins ∷ Form LocalLength ∷ [])) None
+new_local_row n (Array (array.Local k)) =
+    cond (is_next k (length n.locals)) (Some (Token index_begins ∷ Form LocalLength ∷ [])) None
 new_local_row n _ = None
 
+-- the next private array's name, and its length; or a variable's name
 abbrev pub declared_row : Notes → Kind → Option (List Item)
-declared_row n (Array (array.Private k)) = cond (is_next k (length n.privates)) (Some (Token index_begins ∷ Form PrivateLength ∷ [])) None
+declared_row n (Array (array.Private k)) =
+    cond (is_next k (length n.privates)) (Some (Token index_begins ∷ Form PrivateLength ∷ [])) None
 declared_row n kind = new_variable_row n kind
 
 -- a length, and what is noted of it
 abbrev pub length_row : (ℕ → Note) → Part → Kind → Option (List Item)
-length_row note f (Decimal v) = cond (nat_lt 0 v) (Some (Mark (note v) ∷ Token index_ends ∷ another_line f)) None
+length_row note f (Decimal v) =
+    cond (nat_lt 0 v) (Some (Mark (note v) ∷ Token index_ends ∷ another_line f)) None
 length_row note f _ = None
 
 -- a new variable of four words
@@ -345,15 +390,19 @@ vectors_row n p =
 
 -- a variable, or what follows the variables
 abbrev pub variables_row : Notes → Piece → Option (List Item)
-variables_row n p = cond (bytes_eq p uint) (Some (Token space ∷ Form NewVariable ∷ [])) (vectors_row n p)
+variables_row n p =
+    cond (bytes_eq p uint) (Some (Token space ∷ Form NewVariable ∷ [])) (vectors_row n p)
 
 -- a private array or a variable, or what follows
 abbrev pub privates_row : Notes → Piece → Option (List Item)
-privates_row n p = cond (bytes_eq p uint) (Some (Token space ∷ Form Declared ∷ [])) (vectors_row n p)
+privates_row n p =
+    cond (bytes_eq p uint) (Some (Token space ∷ Form Declared ∷ [])) (vectors_row n p)
 
 -- a local array, or what follows
 abbrev pub locals_row : Notes → Piece → Option (List Item)
-locals_row n p = cond (bytes_eq p local) (Some (texts (space ∷ uint ∷ space ∷ []) ++ Form NewLocal ∷ [])) (privates_row n p)
+locals_row n p =
+    cond (bytes_eq p local) (Some (texts (space ∷ uint ∷ space ∷ []) ++ Form NewLocal ∷ []))
+    (privates_row n p)
 
 -- the forms of declarations
 abbrev pub declaration_row : Notes → Part → Piece → Option (List Item)

@@ -1,4 +1,5 @@
--- The text of several kernels in order: their texts, one after another, by the names lift0, lift1 and so on.
+-- The text of several kernels in order: their texts, one after another, by
+-- the names lift0, lift1 and so on.
 use Rattle.std.specs.Prelude.{◌≡◌, ℕ, zero, suc, ◌+◌, ◌<◌, ◌⊎◌, ◌↔◌, List, [], ◌∷◌, ◌++◌, decimal, length}
 use Rattle.readings.specs.Readings.{Reads}
 use Rattle.readings.specs.Exactly.{StopsAt}
@@ -15,7 +16,8 @@ name_of k = lift ++ decimal k
 abbrev pub AreTexts : (k : ℕ) → List ℕ → List Kernel → Type 0
 AreTexts k bytes [] = bytes ≡ []
 AreTexts k bytes (x ∷ xs) =
-    (own rest : List ℕ) × (bytes ≡ own ++ rest) × IsKernelText (name_of k) own x × AreTexts (suc k) rest xs
+    (own rest : List ℕ) × (bytes ≡ own ++ rest) × IsKernelText (name_of k) own x
+    × AreTexts (suc k) rest xs
 
 -- the bytes are the text of these kernels in order, of which there is at least one
 pub record IsSequenceText (bytes : List ℕ) (ks : List Kernel) : Type 0 where
@@ -57,13 +59,16 @@ StopsAfter (suc n) k pieces i =
 
 -- ---- laws
 
--- kernels in order have one text, and a text is of one list of kernels
+-- kernels in order have one text
 abbrev pub SequencesHaveOneText : Type 0
-SequencesHaveOneText = (bytes : List ℕ) (ks : List Kernel) → AreTexts 0 bytes ks → bytes ≡ texts_of 0 ks
+SequencesHaveOneText =
+    (bytes : List ℕ) (ks : List Kernel) → AreTexts 0 bytes ks → bytes ≡ texts_of 0 ks
 
+-- a text is of one list of kernels
 abbrev pub TextsAreOfOneSequence : Type 0
 TextsAreOfOneSequence =
-    (bytes : List ℕ) (ks ls : List Kernel) → IsSequenceText bytes ks → IsSequenceText bytes ls → ks ≡ ls
+    (bytes : List ℕ) (ks ls : List Kernel) → IsSequenceText bytes ks → IsSequenceText bytes ls
+    → ks ≡ ls
 
 -- a text is of kernels exactly where its pieces are theirs, one kernel after another
 abbrev pub TextsAreWhole : Type 0

@@ -63,9 +63,17 @@ spell (Size k) back = size k ∷ back
 spell (Id d form) back = spell_id d form back
 spell (Binary Min a b) back = least ∷ opens ∷ spell a (comma ∷ space ∷ spell b (closes ∷ back))
 spell (Binary Max a b) back = greatest ∷ opens ∷ spell a (comma ∷ space ∷ spell b (closes ∷ back))
-spell (Binary op a b) back = opens ∷ spell a (space ∷ spell_sign op (space ∷ spell b (closes ∷ back)))
+spell (Binary op a b) back =
+    opens ∷ spell a (space ∷ spell_sign op (space ∷ spell b (closes ∷ back)))
 spell (Choose c a b x y) back =
-    opens ∷ spell a (space ∷ spell_comparison c (space ∷ spell b (space ∷ question ∷ space ∷ spell x (space ∷ colon ∷ space ∷ spell y (closes ∷ back)))))
+    opens
+    ∷ spell a
+    (space
+    ∷ spell_comparison c
+    (space
+    ∷ spell b
+    (space ∷ question ∷ space
+    ∷ spell x (space ∷ colon ∷ space ∷ spell y (closes ∷ back)))))
 
 -- an expression of four words
 abbrev pub spell_lanes : Lanes → List Piece → List Piece
@@ -187,17 +195,22 @@ spell_code l nest (Syncs on_local on_global after) back =
 -- arrays of these lengths, from the i-th on
 abbrev pub spell_locals : ℕ → List ℕ → List Piece → List Piece
 spell_locals i [] back = back
-spell_locals i (n ∷ ns) back = indent 1 ∷ local ∷ space ∷ uint ∷ space ∷ array_name (Local i) ∷ index_begins ∷ decimal n ∷ index_ends ∷ semicolon ∷ line ∷ spell_locals (suc i) ns back
+spell_locals i (n ∷ ns) back =
+    indent 1 ∷ local ∷ space ∷ uint ∷ space ∷ array_name (Local i) ∷ index_begins ∷ decimal n
+    ∷ index_ends ∷ semicolon ∷ line ∷ spell_locals (suc i) ns back
 
 -- private arrays of these lengths, from the i-th on
 abbrev pub spell_privates : ℕ → List ℕ → List Piece → List Piece
 spell_privates i [] back = back
-spell_privates i (n ∷ ns) back = indent 1 ∷ uint ∷ space ∷ array_name (Private i) ∷ index_begins ∷ decimal n ∷ index_ends ∷ semicolon ∷ line ∷ spell_privates (suc i) ns back
+spell_privates i (n ∷ ns) back =
+    indent 1 ∷ uint ∷ space ∷ array_name (Private i) ∷ index_begins ∷ decimal n ∷ index_ends
+    ∷ semicolon ∷ line ∷ spell_privates (suc i) ns back
 
 -- this many variables, from the i-th on
 abbrev pub spell_variables : ℕ → ℕ → List Piece → List Piece
 spell_variables i zero back = back
-spell_variables i (suc more) back = indent 1 ∷ uint ∷ space ∷ variable i ∷ semicolon ∷ line ∷ spell_variables (suc i) more back
+spell_variables i (suc more) back =
+    indent 1 ∷ uint ∷ space ∷ variable i ∷ semicolon ∷ line ∷ spell_variables (suc i) more back
 
 -- this many variables of four words, from the i-th on
 abbrev pub spell_vectors : ℕ → ℕ → List Piece → List Piece
@@ -210,17 +223,22 @@ spell_vectors i (suc more) back =
 -- this many sizes from the i-th on, behind another parameter, and the end of the parameters
 abbrev pub spell_sizes : ℕ → ℕ → List Piece → List Piece
 spell_sizes i zero back = closes ∷ back
-spell_sizes i (suc more) back = comma ∷ space ∷ const ∷ space ∷ uint ∷ space ∷ size i ∷ spell_sizes (suc i) more back
+spell_sizes i (suc more) back =
+    comma ∷ space ∷ const ∷ space ∷ uint ∷ space ∷ size i ∷ spell_sizes (suc i) more back
 
 -- this many outputs from the i-th on, behind another
 abbrev pub spell_outputs : ℕ → ℕ → List Piece → List Piece
 spell_outputs i zero back = back
-spell_outputs i (suc more) back = comma ∷ space ∷ global ∷ space ∷ uint ∷ space ∷ star ∷ array_name (Output i) ∷ spell_outputs (suc i) more back
+spell_outputs i (suc more) back =
+    comma ∷ space ∷ global ∷ space ∷ uint ∷ space ∷ star ∷ array_name (Output i)
+    ∷ spell_outputs (suc i) more back
 
 -- this many inputs from the i-th on, before another parameter
 abbrev pub spell_inputs : ℕ → ℕ → List Piece → List Piece
 spell_inputs i zero back = back
-spell_inputs i (suc more) back = global ∷ space ∷ const ∷ space ∷ uint ∷ space ∷ star ∷ array_name (Input i) ∷ comma ∷ space ∷ spell_inputs (suc i) more back
+spell_inputs i (suc more) back =
+    global ∷ space ∷ const ∷ space ∷ uint ∷ space ∷ star ∷ array_name (Input i) ∷ comma ∷ space
+    ∷ spell_inputs (suc i) more back
 
 -- the first output, which ends the inputs
 abbrev pub first_output : ℕ → List Piece → List Piece

@@ -29,8 +29,8 @@ pub const ENDS: [usize; 101] = [
     161, 162, 163, 164, 166, 167, 168, 169, 171, 172, 173, 174, 176, 177, 178, 179,
 ];
 
-/// Four words are loaded, shifted and stored in loops and `if`s of a kernel for groups of four by
-/// two.
+/// Four words are loaded, shifted and stored in loops and `if`s of a kernel for groups
+/// of four by two.
 const FOURS: &[u8] =
     b"__kernel __attribute__((reqd_work_group_size(4, 2, 1))) void lift(__global const uint *a0, __global uint *o0, const uint s0)
 {

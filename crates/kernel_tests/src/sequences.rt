@@ -60,8 +60,8 @@ fn with_number(end: usize) -> usize {
     }
 }
 
-/// The first cut of the second text, behind one of its pieces, that isn't refused at its end behind
-/// the first.
+/// The first cut of the second text, behind one of its pieces, that isn't refused at its
+/// end behind the first.
 fn first_wrong_cut(
     alloc: Global,
     first: &[u8],

@@ -1,4 +1,5 @@
--- How work-items and work-groups lie in a launch. What follows of the device rests on these laws alone.
+-- How work-items and work-groups lie in a launch. What follows of the
+-- device rests on these laws alone.
 use Rattle.std.proofs.Common.{◌≡◌, ℕ, ◌+◌, ◌*◌, ◌/◌, ◌%◌, ◌<◌, ◌≤◌, List, refl, sym, ap, ◌∙◌, subst, ⊎_elim, arith}
 use Rattle.std.proofs.Math.Nat.{mul-div_cancel, div-lt_iff_lt-mul, mul-le-mul_right, mod-lt, mod-zero, mod-eq_of_lt, div-eq_of_lt, add-mul-div_right, add-mul-mod_self_right, mod-add-div', div-mul-le_self}
 use Rattle.std.proofs.lemmas.Nat.{div-mul-add}

@@ -1,4 +1,5 @@
--- Where every run goes on to a state in which all items have ended, the items of a group meet the same barriers.
+-- Where every run goes on to a state in which all items have ended, the items of
+-- a group meet the same barriers.
 use Rattle.std.proofs.Common.{◌≡◌, ℕ, List, [], ◌∷◌, sym, ◌∙◌, subst, ⊎_elim}
 use Rattle.std.proofs.lemmas.Bool.{cases_eq, ne_eqb}
 use Rattle.kernel_tree.specs.declared.events.Event.{Event}

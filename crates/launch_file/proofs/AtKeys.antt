@@ -143,8 +143,8 @@ enough_gives Eval global h = refl
 
 pub items_are : (ask : Ask) (global local : ℕ) (u : Unit {0}) → items_judged ask global local ≡ Ok u → AreGrouped ask global local
 items_are ask global local u h =
-    let a = and_ok (demand (is_grouped global local && is_asked_size ask local) (no.Local global local)) _ u h in
-    let t = and_parts (is_grouped global local) _ (demand_is (is_grouped global local && is_asked_size ask local) (no.Local global local) a.0 a.1) in
+    let a = and_ok (demand (is_grouped global local && is_asked_size ask local) _) _ u h in
+    let t = and_parts (is_grouped global local) _ (demand_is (is_grouped global local && is_asked_size ask local) _ a.0 a.1) in
     let p = and_parts (nat_le 1 local) _ t.0 in
     let q = and_parts (nat_le local 256) _ p.1 in
     let r = and_parts (nat_le 1 global) _ q.1 in
@@ -156,11 +156,11 @@ items_are ask global local u h =
       global_most = le_of global 65536 s.0;
       divides = eq_of (global % local) 0 s.1;
       fixed = asked_is ask local t.1;
-      alone = enough_is ask global (demand_is (is_enough ask global) (no.NotTask global) u a.2);
+      alone = enough_is ask global (demand_is (is_enough ask global) _ u a.2);
     }
 
 pub items_give : (ask : Ask) (global local : ℕ) → AreGrouped ask global local → items_judged ask global local ≡ Ok tt
 items_give ask global local h =
     let t = and_both (nat_le 1 local) _ (le_to 1 local h.local_least) (and_both (nat_le local 256) _ (le_to local 256 h.local_most)
     (and_both (nat_le 1 global) _ (le_to 1 global h.global_least) (and_both (nat_le global 65536) _ (le_to global 65536 h.global_most) (eq_to (global % local) 0 h.divides)))) in
-    then_ok _ _ tt tt (demand_gives (is_grouped global local && is_asked_size ask local) (no.Local global local) (and_both (is_grouped global local) _ t (asked_gives ask local h.fixed))) (demand_gives (is_enough ask global) (no.NotTask global) (enough_gives ask global h.alone))
+    then_ok _ _ tt tt (demand_gives (is_grouped global local && is_asked_size ask local) _ (and_both (is_grouped global local) _ t (asked_gives ask local h.fixed))) (demand_gives (is_enough ask global) _ (enough_gives ask global h.alone))

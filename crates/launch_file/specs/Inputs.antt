@@ -13,23 +13,28 @@ use Rattle.lift_tree.specs.Values.{Value, Word, Both, array}
 use Rattle.launch_file.specs.Json.{word_in}
 
 -- ---- lengths, where the declared sizes have these values
+
+-- the number, where the sign adds it, or nothing
 abbrev pub if_added : Sign → ℕ → ℕ
 if_added Plus n = n
 if_added Minus n = 0
 
+-- the number, where the sign takes it away, or nothing
 abbrev pub if_taken : Sign → ℕ → ℕ
 if_taken Plus n = 0
 if_taken Minus n = n
 
--- what the parts add, and what they take away
+-- what all parts of a length add
 abbrev pub added_at : List ℕ → List Part → ℕ
 added_at sizes [] = 0
 added_at sizes (p ∷ ps) = if_added p.sign (product_at sizes p.product) + added_at sizes ps
 
+-- what all parts of a length take away
 abbrev pub taken_at : List ℕ → List Part → ℕ
 taken_at sizes [] = 0
 taken_at sizes (p ∷ ps) = if_taken p.sign (product_at sizes p.product) + taken_at sizes ps
 
+-- a length: what its parts add, less what they take away
 abbrev pub length_at : List ℕ → List Part → ℕ
 length_at sizes parts = added_at sizes parts - taken_at sizes parts
 
@@ -38,6 +43,7 @@ pub record LengthFits (sizes : List ℕ) (parts : List Part) : Type 0 where
   pub positive : taken_at sizes parts ≤ added_at sizes parts
   pub small : length_at sizes parts < 2 ^ 64
 
+-- each length in a type fits
 abbrev pub LengthsFit : List ℕ → Written → Type 0
 LengthsFit sizes Number = Unit {0}
 LengthsFit sizes (Pair a b) = LengthsFit sizes a × LengthsFit sizes b
@@ -47,11 +53,14 @@ LengthsFit sizes (Array a parts) = LengthFits sizes parts × LengthsFit sizes a
 pub record TypeFits (sizes : List ℕ) (ty : Written) : Type 0 where
   pub lengths : LengthsFit sizes ty
 
+-- the type of each input fits
 abbrev pub InputsFit : List ℕ → List PlainInput → Type 0
 InputsFit sizes [] = Unit {0}
 InputsFit sizes (i ∷ is) = TypeFits sizes i.ty × InputsFit sizes is
 
 -- ---- values
+
+-- the values that a list gives, where each item gives one
 abbrev pub read_all : (Data → Option Value) → Items → Option (List Value)
 read_all f no_items = Some []
 read_all f (item d ds) = option_and_then (λ v. option_map (λ vs. v ∷ vs) (read_all f ds)) (f d)
@@ -68,5 +77,7 @@ read_many f n ds = if items_len ds == n then option_map array (read_all f ds) el
 -- the value of a type that JSON gives, where the declared sizes have these values
 abbrev pub read_value : List ℕ → Written → Data → Option Value
 read_value sizes Number d = option_map Word (word_in d)
-read_value sizes (Pair a b) d = option_and_then (read_two (read_value sizes a) (read_value sizes b)) (as_array d)
-read_value sizes (Array a parts) d = option_and_then (read_many (read_value sizes a) (length_at sizes parts)) (as_array d)
+read_value sizes (Pair a b) d =
+    option_and_then (read_two (read_value sizes a) (read_value sizes b)) (as_array d)
+read_value sizes (Array a parts) d =
+    option_and_then (read_many (read_value sizes a) (length_at sizes parts)) (as_array d)

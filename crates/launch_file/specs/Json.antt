@@ -9,6 +9,7 @@ use Rattle.lift_tree.specs.Values.{Value, Word, Both, Nil, More}
 abbrev pub IsJson : List ℕ → Data → Type 0
 IsJson bytes d = IsUtf8 bytes × (read bytes ≡ Some d)
 
+-- a value is an object
 abbrev pub is_object : Data → Bool
 is_object d = is_some (as_object d)
 
@@ -16,6 +17,7 @@ is_object d = is_some (as_object d)
 abbrev pub whole : Data → Option ℕ
 whole d = option_and_then as_u64 (as_number d)
 
+-- the whole number at a key
 abbrev pub whole_at : List ℕ → Data → Option ℕ
 whole_at key d = option_and_then whole (get key d)
 
@@ -33,9 +35,12 @@ words_in no_items = Some []
 words_in (item d ds) = option_and_then (λ n. option_map (λ ns. n ∷ ns) (words_in ds)) (word_in d)
 
 -- ---- written
+
+-- a whole number
 abbrev pub number_data : ℕ → Data
 number_data n = number (unsigned n)
 
+-- numbers as the items of a list
 abbrev pub items_data : List ℕ → Items
 items_data [] = no_items
 items_data (n ∷ ns) = item (number_data n) (items_data ns)

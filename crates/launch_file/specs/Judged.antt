@@ -17,10 +17,12 @@ use Rattle.launch_file.specs.Json.{IsJson, is_object, whole_at, object_at, word_
 use Rattle.launch_file.specs.Inputs.{read_value}
 use Rattle.launch_file.specs.LaunchFile.{Given}
 
+-- one check after another: the first that fails says why
 abbrev pub and_then : {A B E : Type 0} → Result A E → (A → Result B E) → Result B E
 and_then (Ok a) f = f a
 and_then (Err e) f = Err e
 
+-- the check passes, or fails for this cause
 abbrev pub demand : Bool → LaunchNo → Result (Unit {0}) LaunchNo
 demand true e = Ok tt
 demand false e = Err e
@@ -31,13 +33,16 @@ abbrev pub schedule_from : Option Items → Option ℕ → Option Schedule
 schedule_from (Some ds) seed = option_map Numbers (words_in ds)
 schedule_from None seed = option_map Seed seed
 
+-- the schedule that a value is: a list of numbers, or an object with a seed
 abbrev pub schedule_in : Data → Option Schedule
 schedule_in d = schedule_from (as_array d) (option_and_then word_in (get (codes "seed") d))
 
+-- the schedule at its key; work-items go in order where there is none
 abbrev pub schedule_at : Option Data → Result Schedule LaunchNo
 schedule_at None = Ok in_order
 schedule_at (Some d) = ok_or (schedule_in d) (no.Missing key.Schedule)
 
+-- the schedule of a file; an evaluation has none to read
 abbrev pub schedule_judged : Ask → Data → Result Schedule LaunchNo
 schedule_judged (Run task local) d = schedule_at (get (codes "schedule") d)
 schedule_judged Eval d = Ok in_order
@@ -55,6 +60,7 @@ pub record Keyed : Type 0 where
   pub inputs : Data
   pub schedule : Schedule
 
+-- what stands at the keys, looked for in this order
 abbrev pub keys_judged : Ask → Data → Result Keyed LaunchNo
 keys_judged ask d =
     and_then (count_judged ask (codes "global") (no.Missing key.Global) d) (λ global.
@@ -62,9 +68,17 @@ keys_judged ask d =
     and_then (ok_or (object_at (codes "sizes") d) (no.Missing key.Sizes)) (λ sizes.
     and_then (ok_or (object_at (codes "inputs") d) (no.Missing key.Inputs)) (λ inputs.
     and_then (schedule_judged ask d) (λ schedule.
-    Ok (record { global = global; local = local; sizes = sizes; inputs = inputs; schedule = schedule }))))))
+    Ok (record {
+      global = global;
+      local = local;
+      sizes = sizes;
+      inputs = inputs;
+      schedule = schedule;
+    }))))))
 
 -- ---- the sizes
+
+-- a size is a multiple of what is declared, within its bounds
 abbrev pub is_in_range : Size → ℕ → Bool
 is_in_range s n = nat_le s.from n && (nat_le n s.to && (n % s.multiple == 0))
 
@@ -77,7 +91,8 @@ size_judged i s d =
 -- the sizes in turn, of which the first has this number
 abbrev pub sizes_judged : ℕ → List Size → Data → Result (List ℕ) LaunchNo
 sizes_judged i [] d = Ok []
-sizes_judged i (s ∷ ss) d = and_then (size_judged i s d) (λ n. and_then (sizes_judged (suc i) ss d) (λ ns. Ok (n ∷ ns)))
+sizes_judged i (s ∷ ss) d =
+    and_then (size_judged i s d) (λ n. and_then (sizes_judged (suc i) ss d) (λ ns. Ok (n ∷ ns)))
 
 -- the values of their base names
 abbrev pub bases_of : List Size → List ℕ → List ℕ
@@ -91,12 +106,17 @@ AreInRange [] [] = Unit {0}
 AreInRange (s ∷ ss) (n ∷ ns) = IsTrue (is_in_range s n) × AreInRange ss ns
 AreInRange _ _ = ⊥
 
+-- sizes that lie in the ranges of their declarations
 pub record AllInRange (sizes : List Size) (given : List ℕ) : Type 0 where
   pub each : AreInRange sizes given
 
 -- ---- the work-items
+
+-- 1 to 256 work-items a group, and 1 to 65536 in all, in whole groups
 abbrev pub is_grouped : (global local : ℕ) → Bool
-is_grouped global local = nat_le 1 local && (nat_le local 256 && (nat_le 1 global && (nat_le global 65536 && (global % local == 0))))
+is_grouped global local =
+    nat_le 1 local
+    && (nat_le local 256 && (nat_le 1 global && (nat_le global 65536 && (global % local == 0))))
 
 -- a group has the size that is asked for, where one is
 abbrev pub is_asked_size : Ask → (local : ℕ) → Bool
@@ -110,21 +130,30 @@ is_enough (Run true asked) global = global == 1
 is_enough (Run false asked) global = true
 is_enough Eval global = true
 
+-- whole groups, of the size that is asked for, and one work-item where no more are needed
 abbrev pub items_judged : Ask → (global local : ℕ) → Result (Unit {0}) LaunchNo
 items_judged ask global local =
     and_then (demand (is_grouped global local && is_asked_size ask local) (no.Local global local))
     (λ _. demand (is_enough ask global) (no.NotTask global))
 
 -- ---- the inputs
+
+-- the input of this number
 abbrev pub input_judged : List ℕ → ℕ → PlainInput → Data → Result Value LaunchNo
 input_judged sizes i x d =
-    and_then (ok_or (get x.name d) (no.Missing (key.InputAt i))) (λ e. ok_or (read_value sizes x.ty e) (no.Shape i))
+    and_then (ok_or (get x.name d) (no.Missing (key.InputAt i)))
+    (λ e. ok_or (read_value sizes x.ty e) (no.Shape i))
 
+-- the inputs in turn, of which the first has this number
 abbrev pub inputs_judged : List ℕ → ℕ → List PlainInput → Data → Result (List Value) LaunchNo
 inputs_judged sizes i [] d = Ok []
-inputs_judged sizes i (x ∷ xs) d = and_then (input_judged sizes i x d) (λ v. and_then (inputs_judged sizes (suc i) xs d) (λ vs. Ok (v ∷ vs)))
+inputs_judged sizes i (x ∷ xs) d =
+    and_then (input_judged sizes i x d)
+    (λ v. and_then (inputs_judged sizes (suc i) xs d) (λ vs. Ok (v ∷ vs)))
 
 -- ---- the whole
+
+-- what a launch file gives, or the first check that it fails
 abbrev pub judged : PlainProgram → Ask → Data → Result Given LaunchNo
 judged p ask d =
     and_then (demand (is_object d) no.NotJson) (λ _.
@@ -132,8 +161,15 @@ judged p ask d =
     and_then (sizes_judged 0 p.sizes at.sizes) (λ sizes.
     and_then (items_judged ask at.global at.local) (λ _.
     and_then (inputs_judged sizes 0 p.inputs at.inputs) (λ inputs.
-    Ok (record { launch = in_a_row at.global at.local sizes; bases = bases_of p.sizes sizes; inputs = inputs; schedule = at.schedule }))))))
+    Ok (record {
+      launch = in_a_row at.global at.local sizes;
+      bases = bases_of p.sizes sizes;
+      inputs = inputs;
+      schedule = at.schedule;
+    }))))))
 
 -- what the bytes are refused for: they are no JSON, or their value fails this check first
 abbrev pub Refuses : PlainProgram → Ask → List ℕ → LaunchNo → Type 0
-Refuses p ask bytes e = (((d : Data) → ¬ IsJson bytes d) × (e ≡ no.NotJson)) ⊎ ((d : Data) × IsJson bytes d × (judged p ask d ≡ Err e))
+Refuses p ask bytes e =
+    (((d : Data) → ¬ IsJson bytes d) × (e ≡ no.NotJson))
+    ⊎ ((d : Data) × IsJson bytes d × (judged p ask d ≡ Err e))

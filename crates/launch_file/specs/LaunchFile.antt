@@ -17,15 +17,22 @@ use Rattle.launch_file.specs.declared.file.Ask.TheVariants.{Run, Eval}
 use Rattle.launch_file.specs.declared.file.LaunchFile as held
 use Rattle.launch_file.specs.Json.{IsJson, is_object, number_data, items_data, data_of}
 
--- what a launch file gives: the launch, the values of the base names, the inputs in order, and the schedule
+-- what a launch file gives: the launch, the values of the base names, the
+-- inputs in order, and the schedule
 pub record Given : Type 0 where
   pub launch : Launch
   pub bases : List ℕ
   pub inputs : List Value
   pub schedule : Schedule
 
+-- what a launch file gives, as code holds it
 abbrev pub given_by : held.LaunchFile → Given
-given_by f = record { launch = f.launch; bases = f.sizes; inputs = map value_of f.inputs.items; schedule = schedule_of f.schedule }
+given_by f = record {
+  launch = f.launch;
+  bases = f.sizes;
+  inputs = map value_of f.inputs.items;
+  schedule = schedule_of f.schedule;
+}
 
 -- what is asked of the launch; of an evaluation's nothing
 abbrev pub asks_in : Ask → Asks
@@ -38,7 +45,8 @@ StandsAt key d n = get key d ≡ Some (number_data n)
 
 -- the work-items in all and in a group, along the row; an evaluation has one
 abbrev pub GivesItems : Ask → Data → Launch → Type 0
-GivesItems (Run task asked) d l = StandsAt (codes "global") d l.global.0 × StandsAt (codes "local") d l.local.0
+GivesItems (Run task asked) d l =
+    StandsAt (codes "global") d l.global.0 × StandsAt (codes "local") d l.local.0
 GivesItems Eval d l = (l.global.0 ≡ 1) × (l.local.0 ≡ 1)
 
 -- each declared size stands at its name
@@ -68,16 +76,20 @@ abbrev pub GivesSchedule : Ask → Data → Schedule → Type 0
 GivesSchedule (Run task local) d s = IsSchedule (get (codes "schedule") d) s
 GivesSchedule Eval d s = s ≡ in_order
 
--- A value is a launch file of the program, and this is what it gives: an admissible launch, and inputs of their types.
+-- A value is a launch file of the program, and this is what it gives: an admissible
+-- launch, and inputs of their types.
 pub record Gives (p : PlainProgram) (ask : Ask) (d : Data) (g : Given) : Type 0 where
   pub object : IsTrue (is_object d)
   pub flat : IsFlat g.launch
   pub items : GivesItems ask d g.launch
-  pub sizes : (e : Data) × (get (codes "sizes") d ≡ Some e) × IsTrue (is_object e) × GivesSizes p.sizes e g.launch.sizes
-  pub inputs : (e : Data) × (get (codes "inputs") d ≡ Some e) × IsTrue (is_object e) × GivesInputs p.inputs e g.inputs
+  pub sizes : (e : Data) × (get (codes "sizes") d ≡ Some e) × IsTrue (is_object e)
+      × GivesSizes p.sizes e g.launch.sizes
+  pub inputs : (e : Data) × (get (codes "inputs") d ≡ Some e) × IsTrue (is_object e)
+      × GivesInputs p.inputs e g.inputs
   pub schedule : GivesSchedule ask d g.schedule
   pub bases : g.launch.sizes ≡ sizes_at (declared_by p).names g.bases
-  pub admissible : IsAdmissibleLaunch (declared_by p).names (asks_in ask) g.bases g.launch.global.0 g.launch.local.0
+  pub admissible : IsAdmissibleLaunch (declared_by p).names
+      (asks_in ask) g.bases g.launch.global.0 g.launch.local.0
   pub typed : HaveTypes g.bases (declared_by p).inputs g.inputs
 
 -- the bytes are a launch file of the program

@@ -37,11 +37,14 @@ StagesChecksAreExact =
     (p : PlainProgram) (asks : List Ask) (d : Data) (gs : List Given) → HasProperInputs p
     → (stages_judged p asks d ≡ Ok gs) ↔ GivesAll p asks d gs
 
+-- a launch file of kernels in order is refused for nothing
 abbrev pub StagesFilesAreNotRefused : Type 0
 StagesFilesAreNotRefused =
-    (p : PlainProgram) (asks : List Ask) (bytes : List ℕ) (gs : List Given) (e : LaunchNo) → HasProperInputs p
+    (p : PlainProgram) (asks : List Ask) (bytes : List ℕ) (gs : List Given) (e : LaunchNo)
+    → HasProperInputs p
     → IsStagesFile p asks bytes gs → ¬ RefusesStages p asks bytes e
 
+-- a launch file of kernels in order gives one thing
 abbrev pub StagesFilesGiveOneThing : Type 0
 StagesFilesGiveOneThing =
     (p : PlainProgram) (asks : List Ask) (bytes : List ℕ) (gs hs : List Given) → HasProperInputs p

@@ -9,17 +9,21 @@ use Rattle.launch_file.specs.declared.refusal.Key.TheVariants as key
 use Rattle.launch_file.specs.declared.refusal.LaunchNo.{LaunchNo}
 use Rattle.launch_file.specs.declared.refusal.LaunchNo.TheVariants as no
 
+-- the name at this number, or no name behind the last
 abbrev pub nth_name : List (List ℕ) → ℕ → List ℕ
 nth_name [] n = []
 nth_name (name ∷ names) zero = name
 nth_name (name ∷ names) (suc n) = nth_name names n
 
+-- the name of the size of this number
 abbrev pub size_name : PlainProgram → ℕ → List ℕ
 size_name p i = nth_name (map (λ s. s.name) p.sizes) i
 
+-- the name of the input of this number
 abbrev pub input_name : PlainProgram → ℕ → List ℕ
 input_name p i = nth_name (map (λ x. x.name) p.inputs) i
 
+-- the way to a key from the root of the file, with `.` between
 abbrev pub key_text : PlainProgram → Key → List ℕ
 key_text p key.Global = codes "global"
 key_text p key.Local = codes "local"
@@ -32,20 +36,26 @@ key_text p key.Launches = codes "launches"
 key_text p (key.GlobalOf k) = codes "launches." ++ decimal k ++ codes ".global"
 key_text p (key.LocalOf k) = codes "launches." ++ decimal k ++ codes ".local"
 
+-- the line of a refusal
 abbrev pub line_of : PlainProgram → LaunchNo → List ℕ
 line_of p no.NotJson = codes "lift: launch: not json\n"
 line_of p (no.Missing k) = codes "lift: launch: missing " ++ key_text p k ++ codes "\n"
-line_of p (no.Size i n) = codes "lift: launch: size " ++ size_name p i ++ codes " is " ++ decimal n ++ codes "\n"
-line_of p (no.Local g l) = codes "lift: launch: global " ++ decimal g ++ codes ", local " ++ decimal l ++ codes "\n"
+line_of p (no.Size i n) =
+    codes "lift: launch: size " ++ size_name p i ++ codes " is " ++ decimal n ++ codes "\n"
+line_of p (no.Local g l) =
+    codes "lift: launch: global " ++ decimal g ++ codes ", local " ++ decimal l ++ codes "\n"
 line_of p (no.NotTask g) = codes "lift: launch: global " ++ decimal g ++ codes " for one item\n"
 line_of p (no.Shape i) = codes "lift: launch: shape " ++ input_name p i ++ codes "\n"
 line_of p no.Memory = codes "lift: memory\n"
 
 -- ---- a line in parts, without its end
+
+-- a name or a number of a line, or nothing
 abbrev pub detail_text : Detail → List ℕ
 detail_text detail.Nothing = []
 detail_text (detail.Name name) = name.now
 detail_text (detail.Number n) = decimal n
 
+-- the line that its parts make
 abbrev pub line_text : Line → List ℕ
 line_text l = l.head.now ++ detail_text l.first ++ l.between.now ++ detail_text l.second

@@ -24,7 +24,8 @@ abbrev mutual
 -- the counts of events and of releases, where there are any
 abbrev pub counts_text : Option (ℕ × ℕ) → List ℕ
 counts_text None = []
-counts_text (Some counts) = codes ",\"events\":" ++ decimal counts.0 ++ codes ",\"releases\":" ++ decimal counts.1
+counts_text (Some counts) =
+    codes ",\"events\":" ++ decimal counts.0 ++ codes ",\"releases\":" ++ decimal counts.1
 
 -- the value and the counts, as JSON on a line
 abbrev pub result_line : Value → Option (ℕ × ℕ) → List ℕ

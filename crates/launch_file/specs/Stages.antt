@@ -1,4 +1,5 @@
--- Launch files of several kernels in order: what such a file is, the checks in their order, and what each gives.
+-- Launch files of several kernels in order: what such a file is, the checks in
+-- their order, and what each gives.
 use Rattle.std.specs.Prelude.{◌≡◌, ℕ, suc, ◌==◌, ◌&&◌, ◌⊎◌, Bool, true, IsTrue, List, [], ◌∷◌, Option, Some, None, option_and_then, Result, Ok, Err, codes, length, map, if◌then◌else◌}
 use Rattle.std.specs.Option.{ok_or}
 use Rattle.serde_json.specs.Data.{Data, Items, no_items, item, array}
@@ -35,29 +36,40 @@ pub record Count : Type 0 where
 
 -- a kernel's launch of so many work-items in a row, with what all kernels share
 abbrev pub launched : Shared → Count → Given
-launched s c = record { launch = in_a_row c.global c.local s.sizes; bases = s.bases; inputs = s.inputs; schedule = s.schedule }
+launched s c = record {
+  launch = in_a_row c.global c.local s.sizes;
+  bases = s.bases;
+  inputs = s.inputs;
+  schedule = s.schedule;
+}
 
+-- the sizes, the inputs and the schedule that a file gives to all kernels
 pub record GivesShared (p : PlainProgram) (d : Data) (s : Shared) : Type 0 where
-  pub sizes : (e : Data) × (get (codes "sizes") d ≡ Some e) × IsTrue (is_object e) × GivesSizes p.sizes e s.sizes
-  pub inputs : (e : Data) × (get (codes "inputs") d ≡ Some e) × IsTrue (is_object e) × GivesInputs p.inputs e s.inputs
+  pub sizes : (e : Data) × (get (codes "sizes") d ≡ Some e) × IsTrue (is_object e)
+      × GivesSizes p.sizes e s.sizes
+  pub inputs : (e : Data) × (get (codes "inputs") d ≡ Some e) × IsTrue (is_object e)
+      × GivesInputs p.inputs e s.inputs
   pub schedule : IsSchedule (get (codes "schedule") d) s.schedule
   pub bases : s.sizes ≡ sizes_at (declared_by p).names s.bases
   pub admissible : Admissible (declared_by p).names s.bases
   pub typed : HaveTypes s.bases (declared_by p).inputs s.inputs
 
 -- a kernel's own object gives how many work-items it has, and these may run it
-pub record GivesStage (p : PlainProgram) (s : Shared) (ask : Ask) (own : Data) (g : Given) : Type 0 where
+pub record GivesStage (p : PlainProgram) (s : Shared) (ask : Ask) (own : Data)
+    (g : Given) : Type 0 where
   pub object : IsTrue (is_object own)
   pub count : Count
   pub global : StandsAt (codes "global") own count.global
   pub local : StandsAt (codes "local") own count.local
-  pub admissible : IsAdmissibleLaunch (declared_by p).names (asks_in ask) s.bases count.global count.local
+  pub admissible : IsAdmissibleLaunch (declared_by p).names
+      (asks_in ask) s.bases count.global count.local
   pub launch : g ≡ launched s count
 
 -- one object a kernel, in order
 abbrev pub GiveStages : PlainProgram → Shared → List Ask → List Data → List Given → Type 0
 GiveStages p s [] [] [] = Unit {0}
-GiveStages p s (ask ∷ asks) (own ∷ owns) (g ∷ gs) = GivesStage p s ask own g × GiveStages p s asks owns gs
+GiveStages p s (ask ∷ asks) (own ∷ owns) (g ∷ gs) =
+    GivesStage p s ask own g × GiveStages p s asks owns gs
 GiveStages p s _ _ _ = ⊥
 
 -- a list's members
@@ -70,7 +82,8 @@ pub record GivesAll (p : PlainProgram) (asks : List Ask) (d : Data) (gs : List G
   pub object : IsTrue (is_object d)
   pub shared : Shared
   pub gives : GivesShared p d shared
-  pub launches : (ds : Items) × (get (codes "launches") d ≡ Some (array ds)) × GiveStages p shared asks (members ds) gs
+  pub launches : (ds : Items) × (get (codes "launches") d ≡ Some (array ds))
+      × GiveStages p shared asks (members ds) gs
 
 -- the bytes are a launch file of kernels in order
 abbrev pub IsStagesFile : PlainProgram → List Ask → List ℕ → List Given → Type 0
@@ -78,6 +91,7 @@ IsStagesFile p asks bytes gs = (d : Data) × IsJson bytes d × GivesAll p asks d
 
 -- ---- the checks in their order
 
+-- each value is an object
 abbrev pub all_objects : List Data → Bool
 all_objects [] = true
 all_objects (d ∷ ds) = is_object d && all_objects ds
@@ -86,6 +100,7 @@ all_objects (d ∷ ds) = is_object d && all_objects ds
 abbrev pub objects_in : (count : ℕ) → List Data → Option (List Data)
 objects_in count ds = if (length ds == count) && all_objects ds then Some ds else None
 
+-- the kernels' own objects in the list at their key
 abbrev pub launches_at : (count : ℕ) → Data → Option (List Data)
 launches_at count d =
     option_and_then (λ (ds : Items). objects_in count (members ds))
@@ -98,6 +113,7 @@ pub record StageKeys : Type 0 where
   pub inputs : Data
   pub schedule : Schedule
 
+-- what stands at the keys, looked for in this order, for so many kernels
 abbrev pub stage_keys_judged : (count : ℕ) → Data → Result StageKeys LaunchNo
 stage_keys_judged count d =
     and_then (ok_or (launches_at count d) (no.Missing key.Launches)) (λ launches.
@@ -122,17 +138,26 @@ stages_judged_from k (ask ∷ asks) (d ∷ ds) =
     and_then (stages_judged_from (suc k) asks ds) (λ cs. Ok (c ∷ cs)))
 
 -- what all kernels share, as the checks find it
-abbrev pub shared_given : PlainProgram → (sizes : List ℕ) → Schedule → (inputs : List Value) → Shared
-shared_given p sizes schedule inputs = record { sizes = sizes; bases = bases_of p.sizes sizes; inputs = inputs; schedule = schedule }
+abbrev pub shared_given : PlainProgram → (sizes : List ℕ) → Schedule → (inputs : List Value)
+    → Shared
+shared_given p sizes schedule inputs =
+    record { sizes = sizes; bases = bases_of p.sizes sizes; inputs = inputs; schedule = schedule }
 
-abbrev pub stage_file_judged : PlainProgram → (sizes : List ℕ) → StageKeys → Count → Result Given LaunchNo
+-- what the file gives to a kernel of so many work-items, or the first input that it lacks
+abbrev pub stage_file_judged : PlainProgram → (sizes : List ℕ) → StageKeys → Count
+    → Result Given LaunchNo
 stage_file_judged p sizes at c =
-    and_then (inputs_judged sizes 0 p.inputs at.inputs) (λ inputs. Ok (launched (shared_given p sizes at.schedule inputs) c))
+    and_then (inputs_judged sizes 0 p.inputs at.inputs)
+    (λ inputs. Ok (launched (shared_given p sizes at.schedule inputs) c))
 
-abbrev pub files_judged : PlainProgram → (sizes : List ℕ) → StageKeys → List Count → Result (List Given) LaunchNo
+-- what the file gives to kernels of so many work-items, or the first input that it lacks
+abbrev pub files_judged : PlainProgram → (sizes : List ℕ) → StageKeys → List Count
+    → Result (List Given) LaunchNo
 files_judged p sizes at counts =
-    and_then (inputs_judged sizes 0 p.inputs at.inputs) (λ inputs. Ok (map (launched (shared_given p sizes at.schedule inputs)) counts))
+    and_then (inputs_judged sizes 0 p.inputs at.inputs)
+    (λ inputs. Ok (map (launched (shared_given p sizes at.schedule inputs)) counts))
 
+-- what such a file gives to each kernel, or the first check that it fails
 abbrev pub stages_judged : PlainProgram → List Ask → Data → Result (List Given) LaunchNo
 stages_judged p asks d =
     and_then (demand (is_object d) no.NotJson) (λ _.
@@ -143,4 +168,6 @@ stages_judged p asks d =
 
 -- what the bytes are refused for: they are no JSON, or their value fails this check first
 abbrev pub RefusesStages : PlainProgram → List Ask → List ℕ → LaunchNo → Type 0
-RefusesStages p asks bytes e = (((d : Data) → ¬ IsJson bytes d) × (e ≡ no.NotJson)) ⊎ ((d : Data) × IsJson bytes d × (stages_judged p asks d ≡ Err e))
+RefusesStages p asks bytes e =
+    (((d : Data) → ¬ IsJson bytes d) × (e ≡ no.NotJson))
+    ⊎ ((d : Data) × IsJson bytes d × (stages_judged p asks d ≡ Err e))

@@ -15,13 +15,15 @@ use Rattle.kernel_tree.specs.Tree.{array_of}
 abbrev pub cell_text : Cell → List ℕ
 cell_text c = array_name (array_of c.array) ++ codes " " ++ decimal c.index
 
--- what follows the number of the work-item, for an access of this array; an array of the work-item's own is not told
+-- what follows the number of the work-item, for an access of this array; an array of the
+-- work-item's own is not told
 abbrev pub told : Array → List ℕ → List ℕ
 told (Input k) text = text
 told (Output k) text = text
 told (Local k) text = text
 told (Private k) text = []
 
+-- an access of shared memory: what it does, and its cell
 abbrev pub access_text : Option Access → List ℕ
 access_text None = []
 access_text (Some (Read c)) = told c.array (codes " reads " ++ cell_text c)
@@ -34,6 +36,7 @@ abbrev pub event_text : Event → Option Access → List ℕ
 event_text (Step item) access = codes "step " ++ decimal item ++ access_text access
 event_text (Release group) access = codes "release " ++ decimal group
 
+-- the line of one event
 abbrev pub trace_line : Seen → List ℕ
 trace_line seen = event_text seen.event seen.access ++ codes "\n"
 

@@ -140,9 +140,9 @@ fn launch_in(
 /// isn't there (`schedule` alone needn't be), or its value isn't of its kind. For each declared
 /// size in turn `Missing`, where it isn't there or is no whole number, and at once `Size`.
 /// `Local`: the work-items are too few or too many, or make up no whole groups, or a group isn't of
-/// the size that is asked for. `NotTask`. For each input in turn `Missing`, where its key isn't there, and at once
-/// `Shape`. For an evaluation `global`, `local` and `schedule` are passed over. Of two values at
-/// one key the last counts. Want of memory may come at any point.
+/// the size that is asked for. `NotTask`. For each input in turn `Missing`, where its key isn't
+/// there, and at once `Shape`. For an evaluation `global`, `local` and `schedule` are passed over.
+/// Of two values at one key the last counts. Want of memory may come at any point.
 ///
 /// The inputs are those that typing takes: their lengths are shown at least 1, and they have at
 /// most 2147483647 scalars in each component.

@@ -217,11 +217,12 @@ fn stages_of(
 /// The launch file that the bytes are for the kernels of a program in order: for each an admissible
 /// launch, and for all the inputs, of their types, and the schedule, which each begins anew.
 ///
-/// The checks are those of `read_launch`, in its order, but for these. `Missing(launches)` stands in
-/// place of `global` and `local`: the list isn't there, or hasn't just one object for each kernel.
-/// In place of `Local` and `NotTask` come, for each kernel in turn, `Missing` for its `global` and
-/// its `local`, then `Local` and `NotTask`. `global` and `local` beside `launches` are passed over.
-/// Want of memory may come at any point.
+/// The checks are those of `read_launch`, in its order, but for these.
+/// `Missing(launches)` stands in place of `global` and `local`: the list isn't there, or
+/// hasn't just one object for each kernel.
+/// In place of the checks of the work-items come those of each kernel in turn: `Missing` for its
+/// `global` and its `local`, then [`work_items`]. `global` and `local` beside `launches` are passed
+/// over. Want of memory may come at any point.
 ///
 /// The inputs are those that typing takes, as for `read_launch`.
 #[tactic(auto, using(crate::proofs::InOrder::stages_file_is))]

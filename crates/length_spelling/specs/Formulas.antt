@@ -12,6 +12,7 @@ use Rattle.index_expr.specs.Lengths.{length_expression}
 use Rattle.kernel_tree.specs.Formula.{Formula, Number, Size, Binary}
 use Rattle.length_spelling.specs.Turns.{turn_formula}
 
+-- the operator of kernels for an operation
 abbrev pub operator_of : Operation → Op
 operator_of Sum = Add
 operator_of Difference = Sub
@@ -35,9 +36,11 @@ in_words (index.Literal n) = index.Literal (n % 2 ^ 32)
 in_words (index.Size k) = index.Size k
 in_words (index.Binary o a b) = index.Binary o (in_words a) (in_words b)
 
--- a length over the sizes: the expression of a length, which has no literal that isn't a word where it is within the limits of polynomials
+-- a length over the sizes: the expression of a length, which has no literal that isn't a word where
+-- it is within the limits of polynomials
 abbrev pub spelled_length : List Name → List Monomial → Expression
 spelled_length names p = in_words (length_expression names p)
 
+-- the spelled length as an expression of a kernel
 abbrev pub length_formula : List Name → List Monomial → Formula
 length_formula names p = index_formula (spelled_length names p)

@@ -1,4 +1,5 @@
--- What a spelled index expression, and a spelled length, are worth, and that they are of the kernel grammar.
+-- What a spelled index expression, and a spelled length, are worth, and that
+-- they are of the kernel grammar.
 use Rattle.std.specs.Prelude.{ℕ, ◌≡◌, ◌<◌, ◌≤◌, ◌^◌, true, pos, List, Some, length, slice_index}
 use Rattle.size_arith.specs.declared.names.Name.{Name}
 use Rattle.size_arith.specs.declared.poly.Monomial.{Monomial}
@@ -13,6 +14,7 @@ use Rattle.kernel_tree.specs.Grammar.{height, is_constant, names_declared}
 use Rattle.length_spelling.specs.Turns.{turns_of}
 use Rattle.length_spelling.specs.Formulas.{in_words, index_formula, length_formula, spelled_length}
 
+-- all of them are words
 abbrev pub AreWords : List ℕ → Type 0
 AreWords xs = (k : ℕ) → slice_index xs k < 2 ^ 32
 
@@ -28,7 +30,8 @@ IndicesAreSpelled =
 -- at admissible sizes a length is spelled with its value, in whatever loops
 abbrev pub LengthsAreSpelled : Type 0
 LengthsAreSpelled =
-    (names : List Name) (bases : List ℕ) (ids : Ids) (loops : List ℕ) (variables : Vars) (p : List Monomial) (n : ℕ)
+    (names : List Name) (bases : List ℕ) (ids : Ids) (loops : List ℕ) (variables : Vars)
+    (p : List Monomial) (n : ℕ)
     → AreNames names → Admissible names bases → ids.sizes ≡ sizes_at names bases
     → value_at bases p ≡ pos n → n < 2 ^ 32
     → value ids loops variables (length_formula names p) ≡ Some n

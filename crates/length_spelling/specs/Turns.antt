@@ -1,4 +1,5 @@
--- The turns that a work-item is in, and the numbers that they have as variables of index expressions.
+-- The turns that a work-item is in, and the numbers that they have as
+-- variables of index expressions.
 use Rattle.std.specs.Prelude.{ℕ, zero, suc, ◌^◌, nat_lt, if◌then◌else◌, List, ◌∷◌, Option, Some, None}
 use Rattle.kernel_tree.specs.declared.tree.Dimension.TheVariants.{X}
 use Rattle.kernel_tree.specs.Formula.{Formula, LoopVariable, Id, GroupId, LocalId, Ids}
@@ -14,6 +15,7 @@ turns_of ids loops = ids.x.group_id ∷ ids.x.local_id ∷ loops
 abbrev pub loop_turn : ℕ → ℕ
 loop_turn k = suc (suc k)
 
+-- the number of a turn
 abbrev pub number_of : Turn → ℕ
 number_of Group = 0
 number_of Local = 1

@@ -18,7 +18,8 @@ pub fn lengths_are_spelled()
     ranged_values_are_exact();
 }
 
-/// A length's spelling is of the kernel grammar, may stand in a loop's bound, and is at most 40 high.
+/// A length's spelling is of the kernel grammar, may stand in a loop's
+/// bound, and is at most 40 high.
 pub fn lengths_are_bounds()
     ensures { LengthsAreBounds }
 {}

@@ -11,7 +11,8 @@ use Rattle.lift_io.specs.declared.memory_files.MemoryFiles.{MemoryFiles}
 
 -- the text under a name: that of the first with it
 abbrev pub text_under_name : List NamedText → List ℕ → Option (List ℕ)
-text_under_name texts name = option_map (λ t. t.text.items) (find (λ t. bytes_eq (string_bytes t.name) name) texts)
+text_under_name texts name =
+    option_map (λ t. t.text.items) (find (λ t. bytes_eq (string_bytes t.name) name) texts)
 
 -- a read that was asked for, as it is kept
 abbrev pub asked_of : AskedText → Asked
@@ -23,7 +24,9 @@ reads_asked files = option_map (λ reads. map asked_of reads.items) files.asked
 
 -- the next read of this name fails: its number is listed, or there is no text of that name
 abbrev pub NextFails : MemoryFiles → List ℕ → Type 0
-NextFails files name = Contains files.failing.items (one_more files.calls) ⊎ (text_under_name files.texts.items name ≡ None)
+NextFails files name =
+    Contains files.failing.items (one_more files.calls)
+    ⊎ (text_under_name files.texts.items name ≡ None)
 
 -- the count of faults after a read with this result: just a failure is a fault
 abbrev pub faults_after : {T : Type 0} → ℕ → Result T ReadNo → ℕ

@@ -16,9 +16,12 @@ pub record IsNew (sink : MemorySink) (given_room given_most : ℕ) (listed : Lis
 abbrev pub next_count : MemorySink → List ℕ → ℕ
 next_count sink piece = min (min sink.most (length piece)) (sink.room - vec_len sink.bytes)
 
--- the next write of this piece fails: it isn't empty, and its number is listed or there is no room for a byte
+-- the next write of this piece fails: it isn't empty, and its number is listed
+-- or there is no room for a byte
 abbrev pub NextFails : MemorySink → List ℕ → Type 0
-NextFails sink piece = (0 < length piece) × (Contains sink.failing.items (one_more sink.calls) ⊎ (next_count sink piece ≡ 0))
+NextFails sink piece =
+    (0 < length piece)
+    × (Contains sink.failing.items (one_more sink.calls) ⊎ (next_count sink piece ≡ 0))
 
 -- the count of faults after a write with this result: just an error is a fault
 abbrev pub faults_after : {T E : Type 0} → ℕ → Result T E → ℕ

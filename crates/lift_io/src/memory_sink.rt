@@ -21,8 +21,8 @@ use crate::sinks::{Sink, WriteFailed};
 use std::alloc::{AllocError, Global};
 
 /// A sink in memory. It takes at most `most` bytes a call, and `room` bytes in all; the calls whose
-/// numbers are listed fail (the first call is number 1), and so does a call without room. A call with
-/// an empty piece takes nothing, and doesn't fail.
+/// numbers are listed fail (the first call is number 1), and so does a call without room. A call
+/// with an empty piece takes nothing, and doesn't fail.
 #[derive(Drop)]
 pub struct MemorySink {
     bytes: Vec<u8>,

@@ -32,16 +32,18 @@ ty_at ys types.U32 = Scalar
 ty_at ys (types.PairOf a b) = PairOf (ty_at ys a) (ty_at ys b)
 ty_at ys (types.ArrayOf a n) = ArrayOf (length_at ys n) (ty_at ys a)
 
--- the lengths of an array's rows, and its own
+-- the length of an array's rows
 abbrev pub inner_of : PlainTy → List Monomial
 inner_of (types.ArrayOf (types.ArrayOf a m) n) = m
 inner_of _ = []
 
+-- the length of an array
 abbrev pub outer_of : PlainTy → List Monomial
 outer_of (types.ArrayOf a n) = n
 outer_of _ = []
 
--- the layout of a form of type a over an operand of type b, its lengths polynomials; a default for forms that are no layouts
+-- the layout of a form of type a over an operand of type b, its lengths polynomials; a default for
+-- forms that are no layouts
 abbrev pub layout_of : UnaryForm → (a b : PlainTy) → Layout (List Monomial)
 layout_of (unary.Layout (layout.Split fs)) a b = Split (inner_of a)
 layout_of (unary.Layout layout.Join) a b = Join (inner_of b)

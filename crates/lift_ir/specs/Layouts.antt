@@ -1,4 +1,5 @@
--- Layouts, as functions on positions: for reading from the result to the operand, for writing the other way.
+-- Layouts, as functions on positions: for reading from the result to the
+-- operand, for writing the other way.
 use Rattle.std.specs.Prelude.{◌≡◌, ℕ, ◌+◌, ◌-◌, ◌*◌, ◌/◌, ◌%◌, ◌<◌, ◌≤◌, ◌^◌, min, max, List, ◌∷◌}
 use Rattle.lift_ir.specs.Types.{Ty, ArrayOf}
 
@@ -39,11 +40,14 @@ IsInvertible _ = ⊥
 
 -- the layout makes an array of the second type of one of the first
 abbrev pub Reshapes : {A : Type 0} → (A → ℕ) → Layout A → Ty → Ty → Type 0
-Reshapes num (Split m) (ArrayOf n t) u = (0 < num m) × (n / num m * num m ≡ n) × (u ≡ ArrayOf (n / num m) (ArrayOf (num m) t))
-Reshapes num (Join m) (ArrayOf n (ArrayOf k t)) u = (0 < num m) × (k ≡ num m) × (u ≡ ArrayOf (n * num m) t)
+Reshapes num (Split m) (ArrayOf n t) u =
+    (0 < num m) × (n / num m * num m ≡ n) × (u ≡ ArrayOf (n / num m) (ArrayOf (num m) t))
+Reshapes num (Join m) (ArrayOf n (ArrayOf k t)) u =
+    (0 < num m) × (k ≡ num m) × (u ≡ ArrayOf (n * num m) t)
 Reshapes num Transpose (ArrayOf n (ArrayOf m t)) u = (0 < n) × (u ≡ ArrayOf m (ArrayOf n t))
 Reshapes num (Reverse k) (ArrayOf n t) u = (num k ≡ n) × (u ≡ ArrayOf n t)
-Reshapes num (Slide s k) (ArrayOf n t) u = (0 < k) × (s ≤ n) × ((n - s) / k * k ≡ n - s) × (u ≡ ArrayOf ((n - s) / k + 1) (ArrayOf s t))
+Reshapes num (Slide s k) (ArrayOf n t) u =
+    (0 < k) × (s ≤ n) × ((n - s) / k * k ≡ n - s) × (u ≡ ArrayOf ((n - s) / k + 1) (ArrayOf s t))
 Reshapes num (Pad l r k) (ArrayOf n t) u = (0 < n) × (num k ≡ n) × (u ≡ ArrayOf (l + n + r) t)
 Reshapes num _ _ u = ⊥
 

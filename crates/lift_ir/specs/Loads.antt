@@ -4,6 +4,7 @@ use Rattle.lift_ir.specs.Types.{Ty, IsPosition, size, IsShort}
 use Rattle.lift_ir.specs.Terms.{LoadSet, Skip, Take, Each, Term, Literal, Bound, Apply, ApplyNumber, Select, Both, Project, Reshape, LetArray, LetElement, Map, Fold, Store, Copy, push}
 use Rattle.lift_ir.specs.Scalars.{by_side}
 
+-- the scalar at these pair choices is loaded
 abbrev pub covers : LoadSet → List Bool → Bool
 covers Skip cs = false
 covers Take cs = true
@@ -11,9 +12,11 @@ covers (Each a b) [] = false
 covers (Each a b) (false ∷ cs) = covers a cs
 covers (Each a b) (true ∷ cs) = covers b cs
 
+-- each scalar is in a variable
 abbrev pub all : List Bool → Bool
 all cs = true
 
+-- no scalar is in a variable
 abbrev pub none : List Bool → Bool
 none cs = false
 
@@ -31,6 +34,7 @@ IsHeld h (Project s a) cs = IsHeld h a (s ∷ cs)
 IsHeld h (LetElement ty v b) cs = IsHeld (push all h) b cs
 IsHeld h _ cs = ⊥
 
+-- each component of an element term of this type hangs on variables alone
 abbrev pub AllHeld : {A : Type 0} → (ℕ → List Bool → Bool) → Ty → Term A → Type 0
 AllHeld h ty t = (cs : List Bool) → IsPosition ty cs [] → IsHeld h t cs
 
@@ -63,7 +67,9 @@ LoadsSuffice h (LetArray v b) = LoadsSuffice h v × LoadsSuffice (push (held_sca
 LoadsSuffice h (LetElement ty v b) = AllHeld h ty v × AreLetsHeld h v × LoadsSuffice (push all h) b
 LoadsSuffice h (Map k n loads xs b) = LoadsSuffice h xs × LoadsSuffice (push (covers loads) h) b
 LoadsSuffice h (Fold n loads ty xs s b) =
-    LoadsSuffice h xs × AllHeld h ty s × AreLetsHeld h s × AllHeld (push (covers loads) (push all h)) ty b × AreLetsHeld (push (covers loads) (push all h)) b
+    LoadsSuffice h xs × AllHeld h ty s × AreLetsHeld h s
+    × AllHeld (push (covers loads) (push all h)) ty b
+    × AreLetsHeld (push (covers loads) (push all h)) b
 LoadsSuffice h (Store ty a) = AllHeld h ty a × AreLetsHeld h a
 LoadsSuffice h (Copy space ty a) = (size ty < 2 ^ 31) × IsShort ty × LoadsSuffice h a
 LoadsSuffice h _ = Unit {0}

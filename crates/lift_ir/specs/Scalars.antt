@@ -1,4 +1,5 @@
--- Values by position: the scalar at each pair choice and index, of terms, and of values on nested lists.
+-- Values by position: the scalar at each pair choice and index, of terms,
+-- and of values on nested lists.
 use Rattle.std.specs.Prelude.{◌≡◌, ℕ, zero, suc, ◌<◌, Bool, true, false, List, [], ◌∷◌, length, map, get_or, slice_index}
 use Rattle.scalar_ops.specs.Operators.{apply_op, choose}
 use Rattle.kernel_tree.specs.Device.{row}
@@ -42,16 +43,28 @@ abbrev pub scalars_of : {A : Type 0} → (A → ℕ) → (ℕ → Scalars) → (
 scalars_of num ins env (Literal n) = λ cs p. n
 scalars_of num ins env (Bound v) = env v
 scalars_of num ins env (Source a) = ins a
-scalars_of num ins env (Apply o a b) = λ cs p. apply_op o (scalars_of num ins env a [] []) (scalars_of num ins env b [] [])
+scalars_of num ins env (Apply o a b) =
+    λ cs p. apply_op o (scalars_of num ins env a [] []) (scalars_of num ins env b [] [])
 scalars_of num ins env (ApplyNumber o n a) = λ cs p. apply_op o (scalars_of num ins env a [] []) n
-scalars_of num ins env (Select c a b) = λ cs p. choose (scalars_of num ins env c [] []) (scalars_of num ins env a [] []) (scalars_of num ins env b [] [])
-scalars_of num ins env (Both zips a b) = by_side (λ p. 0) (scalars_of num ins env a) (scalars_of num ins env b)
+scalars_of num ins env (Select c a b) =
+    λ cs p. choose (scalars_of num ins env c [] []) (scalars_of num ins env a [] [])
+    (scalars_of num ins env b [] [])
+scalars_of num ins env (Both zips a b) =
+    by_side (λ p. 0) (scalars_of num ins env a) (scalars_of num ins env b)
 scalars_of num ins env (Project s a) = λ cs p. scalars_of num ins env a (s ∷ cs) p
-scalars_of num ins env (Reshape l a) = λ cs p. scalars_of num ins env a cs (operand_position num l p)
+scalars_of num ins env (Reshape l a) =
+    λ cs p. scalars_of num ins env a cs (operand_position num l p)
 scalars_of num ins env (LetArray v b) = scalars_of num ins (push (scalars_of num ins env v) env) b
-scalars_of num ins env (LetElement ty v b) = scalars_of num ins (push (scalars_of num ins env v) env) b
-scalars_of num ins env (Map k n loads xs b) = mapped (λ x. scalars_of num ins (push x env) b) (scalars_of num ins env xs)
-scalars_of num ins env (Fold n loads ty xs s b) = single (folded (λ t acc. scalars_of num ins (push (at_index t (scalars_of num ins env xs)) (push acc env)) b) (scalars_of num ins env s) (num n))
+scalars_of num ins env (LetElement ty v b) =
+    scalars_of num ins (push (scalars_of num ins env v) env) b
+scalars_of num ins env (Map k n loads xs b) =
+    mapped (λ x. scalars_of num ins (push x env) b) (scalars_of num ins env xs)
+scalars_of num ins env (Fold n loads ty xs s b) =
+    single
+    (folded
+    (λ t acc. scalars_of num ins
+    (push (at_index t (scalars_of num ins env xs)) (push acc env)) b)
+    (scalars_of num ins env s) (num n))
 scalars_of num ins env (Store ty a) = scalars_of num ins env a
 scalars_of num ins env (Copy space ty a) = scalars_of num ins env a
 
@@ -62,8 +75,12 @@ no_scalars v = λ cs q. 0
 -- a value on nested lists is of this type, and has these scalars
 abbrev pub HasScalars : Ty → Value → Scalars → Type 0
 HasScalars Scalar v s = v ≡ Word (s [] [])
-HasScalars (PairOf a b) v s = (x y : Value) × (v ≡ value.Both x y) × HasScalars a x (λ cs. s (false ∷ cs)) × HasScalars b y (λ cs. s (true ∷ cs))
-HasScalars (ArrayOf n t) v s = (xs : List Value) × (v ≡ array xs) × (length xs ≡ n) × ((i : ℕ) → i < n → HasScalars t (get_or xs i (Word 0)) (at_index i s))
+HasScalars (PairOf a b) v s =
+    (x y : Value) × (v ≡ value.Both x y) × HasScalars a x (λ cs. s (false ∷ cs))
+    × HasScalars b y (λ cs. s (true ∷ cs))
+HasScalars (ArrayOf n t) v s =
+    (xs : List Value) × (v ≡ array xs) × (length xs ≡ n)
+    × ((i : ℕ) → i < n → HasScalars t (get_or xs i (Word 0)) (at_index i s))
 
 -- an array of these elements
 abbrev pub array_of : (ℕ → Scalars) → Scalars
@@ -76,6 +93,7 @@ scalars_in Scalar v = λ cs q. word v
 scalars_in (PairOf a b) v = by_side (λ q. 0) (scalars_in a (first v)) (scalars_in b (second v))
 scalars_in (ArrayOf n t) v = array_of (λ i. scalars_in t (get_or (members v) i (Word 0)))
 
+-- the side of a pair that is chosen
 abbrev pub side_of : Bool → value.Side
 side_of false = value.Left
 side_of true = value.Right
@@ -86,4 +104,7 @@ lists_of ty v = map (λ cs. list_of v (map side_of cs)) (choices_of ty)
 
 -- the lists hold the value, one for each component
 abbrev pub AreLists : Ty → Scalars → List (List ℕ) → Type 0
-AreLists ty s lists = (a i : ℕ) → i < length (row lists a) → (cs : List Bool) × (q : List ℕ) × IsPosition ty cs q × (component ty cs ≡ a) × (flat ty q ≡ i) × (slice_index (row lists a) i ≡ s cs q)
+AreLists ty s lists =
+    (a i : ℕ) → i < length (row lists a)
+    → (cs : List Bool) × (q : List ℕ) × IsPosition ty cs q × (component ty cs ≡ a) × (flat ty q ≡ i)
+    × (slice_index (row lists a) i ≡ s cs q)

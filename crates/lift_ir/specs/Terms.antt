@@ -1,4 +1,5 @@
--- The intermediate representation (Lift IR, CGO 2017): terms whose lengths are of any kind, and their types at one launch.
+-- The intermediate representation (Lift IR, CGO 2017): terms whose lengths are of any kind, and
+-- their types at one launch.
 use Rattle.std.specs.Prelude.{◌≡◌, ℕ, zero, suc, ◌<◌, ◌^◌, Bool, true, false}
 use Rattle.scalar_ops.specs.declared.op.Op.{Op}
 use Rattle.kernel_tree.specs.Formula.{divides}
@@ -10,7 +11,8 @@ pub data LoadSet : Type 0 where
   Skip Take : LoadSet
   Each : (left right : LoadSet) → LoadSet
 
--- how a map is run: over the launch, over its work-groups, over the work-items of a group, or by one work-item
+-- how a map is run: over the launch, over its work-groups, over the work-items
+-- of a group, or by one work-item
 pub data Kind : Type 0 where
   Global WorkGroup Local Sequential : Kind
 
@@ -18,7 +20,8 @@ pub data Kind : Type 0 where
 pub data Space : Type 0 where
   LocalMemory PrivateMemory : Space
 
--- a term, whose lengths are of A. Binders are counted from the nearest; a fold binds the element, then the accumulator
+-- a term, whose lengths are of A. Binders are counted from the nearest; a fold binds
+-- the element, then the accumulator
 pub data Term (A : Type 0) : Type 0 where
   Literal : ℕ → Term A
   Bound : (binder : ℕ) → Term A
@@ -56,19 +59,33 @@ abbrev pub HasType : {A : Type 0} → (A → ℕ) → (ℕ → Ty) → (ℕ → 
 HasType num src g (Literal n) t = t ≡ Scalar
 HasType num src g (Bound v) t = t ≡ g v
 HasType num src g (Source a) t = t ≡ src a
-HasType num src g (Apply o a b) t = (t ≡ Scalar) × (divides o ≡ false) × HasType num src g a Scalar × HasType num src g b Scalar
+HasType num src g (Apply o a b) t =
+    (t ≡ Scalar) × (divides o ≡ false) × HasType num src g a Scalar × HasType num src g b Scalar
 HasType num src g (ApplyNumber o n a) t = (t ≡ Scalar) × (0 < n) × HasType num src g a Scalar
-HasType num src g (Select c a b) t = (t ≡ Scalar) × HasType num src g c Scalar × HasType num src g a Scalar × HasType num src g b Scalar
-HasType num src g (Both false a b) t = (x y : Ty) × (t ≡ PairOf x y) × IsElement x × IsElement y × HasType num src g a x × HasType num src g b y
-HasType num src g (Both true a b) t = (n : ℕ) × (x y : Ty) × (t ≡ ArrayOf n (PairOf x y)) × HasType num src g a (ArrayOf n x) × HasType num src g b (ArrayOf n y)
+HasType num src g (Select c a b) t =
+    (t ≡ Scalar) × HasType num src g c Scalar × HasType num src g a Scalar
+    × HasType num src g b Scalar
+HasType num src g (Both false a b) t =
+    (x y : Ty) × (t ≡ PairOf x y) × IsElement x × IsElement y × HasType num src g a x
+    × HasType num src g b y
+HasType num src g (Both true a b) t =
+    (n : ℕ) × (x y : Ty) × (t ≡ ArrayOf n (PairOf x y)) × HasType num src g a (ArrayOf n x)
+    × HasType num src g b (ArrayOf n y)
 HasType num src g (Project false a) t = (u : Ty) × HasType num src g a (PairOf t u)
 HasType num src g (Project true a) t = (u : Ty) × HasType num src g a (PairOf u t)
-HasType num src g (Reshape l a) t = (u : Ty) × HasType num src g a u × Reshapes num l u t × IsShort u × IsShort t × HasWordStep l
-HasType num src g (LetArray v b) t = (u : Ty) × HasType num src g v u × HasType num src (push u g) b t
-HasType num src g (LetElement u v b) t = IsElement u × HasType num src g v u × HasType num src (push u g) b t
-HasType num src g (Map k n loads xs b) t = (x y : Ty) × (num n < 2 ^ 31) × LoadsScalars loads x × HasType num src g xs (ArrayOf (num n) x) × HasType num src (push x g) b y × (t ≡ ArrayOf (num n) y)
+HasType num src g (Reshape l a) t =
+    (u : Ty) × HasType num src g a u × Reshapes num l u t × IsShort u × IsShort t × HasWordStep l
+HasType num src g (LetArray v b) t =
+    (u : Ty) × HasType num src g v u × HasType num src (push u g) b t
+HasType num src g (LetElement u v b) t =
+    IsElement u × HasType num src g v u × HasType num src (push u g) b t
+HasType num src g (Map k n loads xs b) t =
+    (x y : Ty) × (num n < 2 ^ 31) × LoadsScalars loads x × HasType num src g xs (ArrayOf (num n) x)
+    × HasType num src (push x g) b y × (t ≡ ArrayOf (num n) y)
 HasType num src g (Fold n loads y xs s b) t =
-    (x : Ty) × (num n < 2 ^ 31) × LoadsScalars loads x × IsElement y × HasType num src g xs (ArrayOf (num n) x) × HasType num src g s y × HasType num src (push x (push y g)) b y × (t ≡ ArrayOf 1 y)
+    (x : Ty) × (num n < 2 ^ 31) × LoadsScalars loads x × IsElement y
+    × HasType num src g xs (ArrayOf (num n) x) × HasType num src g s y
+    × HasType num src (push x (push y g)) b y × (t ≡ ArrayOf 1 y)
 HasType num src g (Store u a) t = (t ≡ u) × IsElement u × HasType num src g a t
 HasType num src g (Copy space u a) t = (t ≡ u) × IsFlat u × HasType num src g a t
 

@@ -1,4 +1,5 @@
--- Types whose lengths are of any kind: polynomials, or numbers at one launch; and the positions of their scalars.
+-- Types whose lengths are of any kind: polynomials, or numbers at one launch; and
+-- the positions of their scalars.
 use Rattle.std.specs.Prelude.{ℕ, ◌+◌, ◌*◌, ◌/◌, ◌%◌, ◌<◌, ◌^◌, Bool, true, false, List, [], ◌∷◌, ◌++◌, map}
 
 -- a type whose lengths are of A
@@ -30,10 +31,12 @@ component (PairOf a b) (true ∷ cs) = width a + component b cs
 component (ArrayOf n t) cs = component t cs
 component _ cs = 0
 
--- the pair choices of a type's components, from left to right; the second is chosen where it is true
+-- the pair choices of a type's components, from left to right; the
+-- second is chosen where it is true
 abbrev pub choices_of : {A : Type 0} → Shape A → List (List Bool)
 choices_of Scalar = [] ∷ []
-choices_of (PairOf a b) = map (λ cs. false ∷ cs) (choices_of a) ++ map (λ cs. true ∷ cs) (choices_of b)
+choices_of (PairOf a b) =
+    map (λ cs. false ∷ cs) (choices_of a) ++ map (λ cs. true ∷ cs) (choices_of b)
 choices_of (ArrayOf n t) = choices_of t
 
 -- a type's scalars are at these pair choices and indices

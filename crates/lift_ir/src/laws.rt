@@ -2,7 +2,8 @@
 
 ghost use Rattle.lift_ir.specs.Promises.{LayoutsLeadPositions, LayoutsAreByPosition, TermsHaveTheSourceValue, ValuesAreByPosition, LoweredTermsServe, OwnersAreOfTheLaunch};
 
-/// Layouts are functions on positions: each leads the result's to the operand's, and join, split, transpose and reverse back again.
+/// Layouts are functions on positions: each leads the result's to the operand's, and join, split,
+/// transpose and reverse back again.
 pub fn layouts_lead_positions()
     ensures { LayoutsLeadPositions }
 {}
@@ -17,12 +18,14 @@ pub fn terms_have_the_source_value()
     ensures { TermsHaveTheSourceValue }
 {}
 
-/// A value of a type has its scalars by position, and its lists, one for each component, hold them in row-major order.
+/// A value of a type has its scalars by position, and its lists, one for each
+/// component, hold them in row-major order.
 pub fn values_are_by_position()
     ensures { ValuesAreByPosition }
 {}
 
-/// What a typed term is lowered to has the source's value, has its type at each admissible launch, and loads all that its element terms name.
+/// What a typed term is lowered to has the source's value, has its type at each admissible launch,
+/// and loads all that its element terms name.
 pub fn lowered_terms_serve()
     ensures { LoweredTermsServe }
 {}

@@ -31,6 +31,7 @@ use Rattle.lift_reader.specs.Meant.{split_by, stride_by}
 use Rattle.lift_reader.specs.Shown.{lexeme}
 use Rattle.lift_reader.specs.Grammar as grammar
 
+-- the form of a node with one child
 abbrev pub form_of : Single → UnaryForm
 form_of (single.Div n) = unaries.Div n
 form_of (single.Rem n) = unaries.Rem n
@@ -42,32 +43,39 @@ form_of single.Reverse = unaries.Layout layouts.Reverse
 form_of (single.Slide s t) = unaries.Slide s t
 form_of (single.Pad l r) = unaries.Pad l r
 
+-- the term that is made of the last two, in the order in which they are written
 abbrev pub double_of : Double → trees.Tree → trees.Tree → trees.Tree
 double_of (double.Binary f) a b = trees.Binary f a b
 double_of (double.Reduce r) start array = trees.Binary (binaries.Reduce r) array start
 double_of double.Let value body = trees.Let value body
 double_of double.Map body array = trees.Map maps.Plain array body
 
+-- the term that is made of the last three, in the order in which they are written
 abbrev pub triple_of : Triple → trees.Tree → trees.Tree → trees.Tree → trees.Tree
 triple_of triple.Select a b c = trees.Select a b c
 triple_of triple.Fold body start array = trees.Fold folds.Plain array start body
 
+-- the form of a division by a number, or of its remainder
 abbrev pub division_form : Division → ℕ → UnaryForm
 division_form division.Div n = unaries.Div n
 division_form division.Rem n = unaries.Rem n
 
+-- the form of slide or pad with its two numbers
 abbrev pub window_form : Window → ℕ → ℕ → UnaryForm
 window_form window.Slide s t = unaries.Slide s t
 window_form window.Pad l r = unaries.Pad l r
 
+-- the form of split or stride by a product
 abbrev pub grouping_form : Grouping → List Factor → UnaryForm
 grouping_form grouping.Split product = split_by product
 grouping_form grouping.Stride product = stride_by product
 
+-- the least number that slide or pad may be given
 abbrev pub window_least : Window → ℕ
 window_least window.Slide = 1
 window_least window.Pad = 0
 
+-- a form of the code, as the grammar's
 abbrev pub nonterminal_of : Nonterminal → grammar.Nonterminal
 nonterminal_of form.Sizes = grammar.Sizes
 nonterminal_of form.Inputs = grammar.Inputs
@@ -93,8 +101,10 @@ nonterminal_of (form.FoldSecondName d x) = grammar.FoldSecondName d x.now
 nonterminal_of (form.ReduceOperator d) = grammar.ReduceOperator d
 nonterminal_of (form.ProductRest g d) = grammar.ProductRest (grouping_form g) d
 
+-- a mark of the code, as the grammar's
 abbrev pub action_of : Action → grammar.Action
-action_of (action.DeclareSize x m a b) = grammar.DeclareSize (record { name = x.now; multiple = m; from = a; to = b })
+action_of (action.DeclareSize x m a b) =
+    grammar.DeclareSize (record { name = x.now; multiple = m; from = a; to = b })
 action_of (action.DeclareInput x) = grammar.DeclareInput x.now
 action_of action.NumberType = grammar.NumberType
 action_of action.PairType = grammar.PairType
@@ -113,5 +123,6 @@ action_of (action.Make3 f) = grammar.Make3 (triple_of f)
 action_of (action.MakeByProduct g) = grammar.MakeByProduct (grouping_form g)
 action_of action.Finish = grammar.Finish
 
+-- what the code owes, as the grammar's items
 abbrev pub items : List (Owed Kind Nonterminal Action) → List grammar.Item
 items owed = items_of lexeme nonterminal_of action_of owed

@@ -9,3 +9,4 @@ pub mod Noted
 pub mod Spelled
 pub mod Decided
 pub mod ProgramText
+pub mod TextTerms

@@ -50,9 +50,10 @@ unary_of word.Transpose = Some (unary.Layout layouts.Transpose)
 unary_of word.Reverse = Some (unary.Layout layouts.Reverse)
 unary_of _ = None
 
--- what is written before a product and a term
+-- a split by the product that is written before its term
 abbrev pub split_by : List Factor → UnaryForm
 split_by product = unary.Layout (layouts.Split product)
 
+-- a stride by the product that is written before its term
 abbrev pub stride_by : List Factor → UnaryForm
 stride_by product = unary.Layout (layouts.Stride product)

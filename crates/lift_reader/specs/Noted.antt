@@ -11,13 +11,15 @@ use Rattle.lift_reader.specs.declared.reader.Range.{Range}
 use Rattle.lift_reader.specs.declared.reader.Reader.{Reader}
 use Rattle.lift_reader.specs.Grammar.{Noted}
 
--- the size and the input that a name declares
+-- the size that a name declares with its range
 abbrev pub declared_size : Vec ℕ × Range → Size
 declared_size e = record { name = e.0.items; multiple = e.1.multiple; from = e.1.from; to = e.1.to }
 
+-- the input that a name declares with its type
 abbrev pub declared_input : Vec ℕ × InputType → Input
 declared_input e = record { name = e.0.items; ty = e.1 }
 
+-- the grammar's notes that a reader's state holds
 abbrev pub noted_by : Reader → Noted
 noted_by r = record {
   sizes = map declared_size r.sizes.entries;

@@ -15,6 +15,7 @@ use Rattle.lift_reader.specs.declared.refusal.ReadRefusal.TheVariants.{Syntax, L
 use Rattle.lift_reader.specs.Tokens.{Lexeme, AreTokens}
 use Rattle.lift_reader.specs.Grammar.{programs, start, nothing, IsProgram, Noted, with_first}
 
+-- the tokens without their places
 abbrev pub lexemes : List (ℕ × Lexeme) → List Lexeme
 lexemes tokens = map (λ t. t.1) tokens
 
@@ -28,7 +29,8 @@ pub record IsProgramText (text : List ℕ) (p : PlainProgram) : Type 0 where
 abbrev pub place_of : List (ℕ × Lexeme) → ℕ → (end : ℕ) → ℕ
 place_of tokens before end = option_map_or (λ t. t.0) (slice_get tokens before) end
 
--- The text goes on up to this token, counted from 1, and not at it; it begins at this byte. The end counts as a token.
+-- The text goes on up to this token, counted from 1, and not at it; it begins at this
+-- byte. The end counts as a token.
 pub record StopsAtToken (text : List ℕ) (token offset : ℕ) : Type 0 where
   pub tokens : List (ℕ × Lexeme)
   pub are : AreTokens 0 text tokens
@@ -52,7 +54,8 @@ first_limit p =
 -- why a text is refused
 abbrev pub Refuses : List ℕ → ReadRefusal → Type 0
 Refuses text (Syntax token offset) = StopsAtToken text token offset
-Refuses text (Limit which count) = (p : PlainProgram) × IsProgramText text p × (first_limit p ≡ Some (which, count))
+Refuses text (Limit which count) =
+    (p : PlainProgram) × IsProgramText text p × (first_limit p ≡ Some (which, count))
 Refuses text Memory = Unit {0}
 
 -- what a text of this program is answered: the program, or its limit, unless memory ran out
@@ -70,8 +73,11 @@ Gives p (Err reading.Memory) = Unit {0}
 
 -- the program that was noted
 abbrev pub program_noted : Noted → Option PlainProgram
-program_noted n = with_first (λ t made. record { sizes = n.sizes; inputs = n.inputs; body = t }) n.made
+program_noted n =
+    with_first (λ t made. record { sizes = n.sizes; inputs = n.inputs; body = t }) n.made
 
 -- a text's program within its limits is proper, and its body is a term of it
 abbrev pub ProgramsMayBeTyped : Type 0
-ProgramsMayBeTyped = (text : List ℕ) (p : PlainProgram) → IsProgramText text p → first_limit p ≡ None → IsProper p × IsTermOf p p.body
+ProgramsMayBeTyped =
+    (text : List ℕ) (p : PlainProgram) → IsProgramText text p → first_limit p ≡ None
+    → IsProper p × IsTermOf p p.body

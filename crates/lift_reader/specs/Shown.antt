@@ -5,6 +5,7 @@ use Rattle.lift_reader.specs.declared.token.Kind.TheVariants as kinds
 use Rattle.lift_reader.specs.declared.token.Token.{Token}
 use Rattle.lift_reader.specs.Tokens.{Lexeme, AWord, AName, ANumber, ASymbol, Wrong}
 
+-- the token that a kind of token shows
 abbrev pub lexeme : Kind → Lexeme
 lexeme (kinds.Word w) = AWord w
 lexeme (kinds.Name x) = AName x.now

@@ -1,4 +1,4 @@
--- A word is told by its spelling.
+-- A word is told by its spelling. The proof that the rows are the grammar's (Decided) rests on it.
 use Rattle.std.proofs.Common.{◌≡◌, ℕ, List, [], ◌∷◌, Some, true, refl, ap, sym, ◌∙◌}
 use Rattle.std.specs.Prelude.{bytes_eq, nat_eq}
 use Rattle.std.specs.Cmp.Lexicographic.{same_text}
@@ -8,6 +8,7 @@ use Rattle.lift_reader.specs.declared.word.Word.{Word}
 use Rattle.lift_reader.specs.declared.word.Word.TheVariants.{Size, Multiple, From, To, Input, Output, U32, Add, Mul, Min, Max, And, Or, Xor, Sub, Shl, Shr, Lt, Eq, Div, Rem, Select, Pair, First, Second, Let, In, Map, Reduce, Fold, Zip, Join, Transpose, Split, Reverse, Stride, Slide, Pad, MapGlb, MapWrg, MapLcl, MapSeq, FoldSeq, ToLocal, ToPrivate}
 use Rattle.lift_reader.specs.Words.{spelling, word_of}
 
+-- bytes are equal to themselves
 pub itself : (x : List ℕ) → bytes_eq x x ≡ true
 itself [] = refl
 itself (b ∷ x) = and_from (nat_eq b b) (bytes_eq x x) (eq-eqb b b refl) (itself x)
@@ -60,5 +61,8 @@ again FoldSeq = refl
 again ToLocal = refl
 again ToPrivate = refl
 
+-- words of one spelling are one
 pub same_word : (a b : Word) → bytes_eq (spelling a) (spelling b) ≡ true → a ≡ b
-same_word a b e = same_Some a b (sym (again a) ∙ ap word_of (same_text (spelling a) (spelling b) (sym e)) ∙ again b)
+same_word a b e =
+    same_Some a b
+    (sym (again a) ∙ ap word_of (same_text (spelling a) (spelling b) (sym e)) ∙ again b)

@@ -24,7 +24,9 @@ is_inner b = is_ascii_alphabetic b || is_ascii_digit b || (b == 95)
 
 -- ( ) [ ] , ; : = . \ + - *
 abbrev pub is_symbol : ℕ → Bool
-is_symbol b = (b == 40) || (b == 41) || (b == 91) || (b == 93) || (b == 44) || (b == 59) || (b == 58) || (b == 61) || (b == 46) || (b == 92) || (b == 43) || (b == 45) || (b == 42)
+is_symbol b =
+    (b == 40) || (b == 41) || (b == 91) || (b == 93) || (b == 44) || (b == 59) || (b == 58)
+    || (b == 61) || (b == 46) || (b == 92) || (b == 43) || (b == 45) || (b == 42)
 
 -- how long the spaces and comments at the front are; a comment begins with # and ends with its line
 abbrev mutual
@@ -36,10 +38,14 @@ abbrev mutual
   comment_len [] = 0
   comment_len (b ∷ bs) = suc (cond (b == 10) (gap_len bs) (comment_len bs))
 
--- how long the longest run at the front is: a letter with letters, digits and _; digits; or one byte
+-- how long the longest run at the front is: a letter with letters,
+-- digits and _; digits; or one byte
 abbrev pub run_len : List ℕ → ℕ
 run_len [] = 0
-run_len (b ∷ bs) = suc (cond (is_ascii_alphabetic b) (prefix_len is_inner bs) (cond (is_ascii_digit b) (prefix_len is_ascii_digit bs) 0))
+run_len (b ∷ bs) =
+    suc
+    (cond (is_ascii_alphabetic b) (prefix_len is_inner bs)
+    (cond (is_ascii_digit b) (prefix_len is_ascii_digit bs) 0))
 
 -- the number that digits write after those of n
 abbrev pub value_after : ℕ → List ℕ → ℕ
@@ -60,14 +66,18 @@ number_of (d ∷ e ∷ ds) = cond (d == 48) None (within (value_after 0 (d ∷ e
 abbrev pub lexeme_of : List ℕ → Lexeme
 lexeme_of [] = Wrong
 lexeme_of (b ∷ bs) =
-    cond (is_ascii_alphabetic b) (cond (nat_le (length (b ∷ bs)) 32) (option_map_or AWord (word_of (b ∷ bs)) (AName (b ∷ bs))) Wrong)
+    cond (is_ascii_alphabetic b)
+    (cond (nat_le (length (b ∷ bs)) 32)
+    (option_map_or AWord (word_of (b ∷ bs)) (AName (b ∷ bs))) Wrong)
     (cond (is_ascii_digit b) (option_map_or ANumber (number_of (b ∷ bs)) Wrong)
     (cond (is_symbol b) (ASymbol b) Wrong))
 
--- From the byte `at` on the text's tokens are these, each with the byte at which it begins: gaps stand before and between
--- them and behind the last.
+-- From the byte `at` on the text's tokens are these, each with the byte at which it begins: gaps
+-- stand before and between them and behind the last.
 abbrev pub AreTokens : ℕ → List ℕ → List (ℕ × Lexeme) → Type 0
 AreTokens at text [] = length text ≡ gap_len text
 AreTokens at text (token ∷ tokens) =
     let rest = drop (gap_len text) text in
-    (0 < length rest) × (token.0 ≡ at + gap_len text) × (token.1 ≡ lexeme_of (take (run_len rest) rest)) × AreTokens (token.0 + run_len rest) (drop (run_len rest) rest) tokens
+    (0 < length rest) × (token.0 ≡ at + gap_len text)
+    × (token.1 ≡ lexeme_of (take (run_len rest) rest))
+    × AreTokens (token.0 + run_len rest) (drop (run_len rest) rest) tokens

@@ -51,8 +51,13 @@ spelling FoldSeq = codes "foldSeq"
 spelling ToLocal = codes "toLocal"
 spelling ToPrivate = codes "toPrivate"
 
+-- all reserved words
 abbrev pub words : List Word
-words = Size ∷ Multiple ∷ From ∷ To ∷ Input ∷ Output ∷ U32 ∷ Add ∷ Mul ∷ Min ∷ Max ∷ And ∷ Or ∷ Xor ∷ Sub ∷ Shl ∷ Shr ∷ Lt ∷ Eq ∷ Div ∷ Rem ∷ Select ∷ Pair ∷ First ∷ Second ∷ Let ∷ In ∷ Map ∷ Reduce ∷ Fold ∷ Zip ∷ Join ∷ Transpose ∷ Split ∷ Reverse ∷ Stride ∷ Slide ∷ Pad ∷ MapGlb ∷ MapWrg ∷ MapLcl ∷ MapSeq ∷ FoldSeq ∷ ToLocal ∷ ToPrivate ∷ []
+words =
+    Size ∷ Multiple ∷ From ∷ To ∷ Input ∷ Output ∷ U32 ∷ Add ∷ Mul ∷ Min ∷ Max ∷ And ∷ Or ∷ Xor
+    ∷ Sub ∷ Shl ∷ Shr ∷ Lt ∷ Eq ∷ Div ∷ Rem ∷ Select ∷ Pair ∷ First ∷ Second ∷ Let ∷ In ∷ Map
+    ∷ Reduce ∷ Fold ∷ Zip ∷ Join ∷ Transpose ∷ Split ∷ Reverse ∷ Stride ∷ Slide ∷ Pad ∷ MapGlb
+    ∷ MapWrg ∷ MapLcl ∷ MapSeq ∷ FoldSeq ∷ ToLocal ∷ ToPrivate ∷ []
 
 -- the word that a text writes by these bytes
 unfoldable pub word_of : List ℕ → Option Word

@@ -9,6 +9,7 @@ ghost use Rattle.lift_reader.specs.Shown.{lexeme, placed};
 ghost use Rattle.lift_reader.specs.Grammar.{IsProgram, programs, start, nothing};
 ghost use Rattle.lift_reader.specs.ProgramText.{IsProgramText, ProgramsMayBeTyped, Refuses};
 ghost use Rattle.lift_reader.specs.ProgramText.{Answers, Gives, first_limit, place_of};
+ghost use Rattle.lift_reader.specs.TextTerms.{BodiesAreTextTerms};
 
 use crate::grammar::{Action, Nonterminal};
 use crate::reader::Reader;
@@ -113,4 +114,10 @@ pub fn read_program(alloc: Global, text: &[u8]) -> Result<Program, ReadRefusal>
 /// body name what it declares.
 pub fn programs_may_be_typed()
     ensures { ProgramsMayBeTyped }
+{}
+
+/// The term of a text's program is one that a text may have: it names its binders and what the
+/// program declares alone, copies nothing, and at most 256 terms stand in one another.
+pub fn bodies_are_text_terms()
+    ensures { BodiesAreTextTerms }
 {}

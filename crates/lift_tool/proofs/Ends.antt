@@ -148,35 +148,19 @@ words_refused told rose words f (inr (inr (request, asks, h))) refused = absurd 
 
 -- the causes of a program, a script and a launch file have statuses of their own
 source_status : (r : Refusal) → 6 ≤ status_of (source_failed r)
-source_status (told_of.Program (readings.Syntax token offset)) = omega arith
-source_status (told_of.Program (readings.Limit which count)) = omega arith
 source_status (told_of.Program readings.Memory) = omega arith
-source_status (told_of.Typing (typings.IllTyped spot rule)) = omega arith
-source_status (told_of.Typing (typings.Limit which spot count)) = omega arith
 source_status (told_of.Typing typings.Memory) = omega arith
-source_status (told_of.Script (scripts.Syntax line)) = omega arith
-source_status (told_of.Script (scripts.Limit which count)) = omega arith
 source_status (told_of.Script scripts.Memory) = omega arith
-source_status (told_of.Step (stops.Inapplicable step why)) = omega arith
-source_status (told_of.Step (stops.Limit which step count)) = omega arith
 source_status (told_of.Step stops.Memory) = omega arith
-source_status (told_of.Cut (cuts.Nest place rule)) = omega arith
-source_status (told_of.Cut (cuts.Limit count)) = omega arith
 source_status (told_of.Cut cuts.Memory) = omega arith
-source_status (told_of.Nest (nests.Nest place rule)) = omega arith
 source_status (told_of.Nest nests.Memory) = omega arith
-source_status (told_of.Alloc (allocations.Limit which count)) = omega arith
 source_status (told_of.Alloc allocations.Memory) = omega arith
 source_status told_of.Memory = omega arith
+source_status _ = omega arith
 
 launch_refused : (p : PlainProgram) (why : LaunchNo) → 6 ≤ status_of (launch_failed p why)
-launch_refused p no.NotJson = omega arith
-launch_refused p (no.Missing key) = omega arith
-launch_refused p (no.Size size given) = omega arith
-launch_refused p (no.Local global local) = omega arith
-launch_refused p (no.NotTask global) = omega arith
-launch_refused p (no.Shape input) = omega arith
 launch_refused p no.Memory = omega arith
+launch_refused p _ = omega arith
 
 -- a failed read has the status 3, and the causes behind the reads have 6 and above
 abbrev IsOfRequest : Failure → Type 0

@@ -13,7 +13,8 @@ File = List ℕ × ℕ
 
 -- a file may have this text: the one that is told, where one is, and no longer than it may be
 abbrev pub HasText : Told → File → List ℕ → Type 0
-HasText told file text = IfSome (told file.0) (λ told_text. text ≡ told_text) × (length text ≤ file.1)
+HasText told file text =
+    IfSome (told file.0) (λ told_text. text ≡ told_text) × (length text ≤ file.1)
 
 -- files may have these texts
 abbrev pub AreTexts : Told → List File → List (List ℕ) → Type 0
@@ -25,14 +26,16 @@ AreTexts told _ _ = ⊥
 -- is too long, as it shows where it is told.
 abbrev pub IsUnread : Told → (List ℕ → Type 0) → File → Failure → Type 0
 IsUnread told rose file (Read name) = (name ≡ file.0) × rose file.0
-IsUnread told rose file (TooLong count) = (count ≡ file.1 + 1) × IfSome (told file.0) (λ text. file.1 < length text)
+IsUnread told rose file (TooLong count) =
+    (count ≡ file.1 + 1) × IfSome (told file.0) (λ text. file.1 < length text)
 IsUnread told rose file _ = ⊥
 
 -- the first of the files that isn't read, and why
 abbrev pub StopsAtFile : Told → (List ℕ → Type 0) → List File → Failure → Type 0
 StopsAtFile told rose [] failure = ⊥
 StopsAtFile told rose (file ∷ files) failure =
-    IsUnread told rose file failure ⊎ ((text : List ℕ) × HasText told file text × StopsAtFile told rose files failure)
+    IsUnread told rose file failure
+    ⊎ ((text : List ℕ) × HasText told file text × StopsAtFile told rose files failure)
 
 -- or for want of memory
 abbrev pub AreUnreadFor : Told → (List ℕ → Type 0) → List File → Failure → Type 0

@@ -21,11 +21,13 @@ AreLinesOfWritten _ texts lines = Unit {0}
 -- the words ask for this, and its files may have texts that are so
 abbrev pub OnTexts : Told → List (List ℕ) → (CommandLine → List (List ℕ) → Type 0) → Type 0
 OnTexts told words P =
-    (request : CommandLine) × Asks words request × ((texts : List (List ℕ)) × AreTexts told (files_of request) texts × P request texts)
+    (request : CommandLine) × Asks words request
+    × ((texts : List (List ℕ)) × AreTexts told (files_of request) texts × P request texts)
 
 -- a request for these files may write this
 abbrev pub IsAnswer : Told → CommandLine → List ℕ → Type 0
-IsAnswer told request text = (texts : List (List ℕ)) × AreTexts told (files_of request) texts × Answers request texts text
+IsAnswer told request text =
+    (texts : List (List ℕ)) × AreTexts told (files_of request) texts × Answers request texts text
 
 -- ---- the stages
 
@@ -42,7 +44,9 @@ StopsAtText request texts failure = Stops (command_of request) texts failure
 abbrev pub StopsFor : Told → (List ℕ → Type 0) → CommandLine → Failure → Type 0
 StopsFor told rose request failure =
     StopsAtFile told rose (files_of request) failure
-    ⊎ ((texts : List (List ℕ)) × AreTexts told (files_of request) texts × StopsAtText request texts failure)
+    ⊎
+    ((texts : List (List ℕ)) × AreTexts told (files_of request) texts
+    × StopsAtText request texts failure)
 
 -- or for want of memory, which is free
 abbrev pub FailsFor : Told → (List ℕ → Type 0) → CommandLine → Failure → Type 0
@@ -62,4 +66,6 @@ WordsCause told rose words failure =
 abbrev pub Cause : Told → (List ℕ → Type 0) → Type 0 → List (List ℕ) → Failure → Type 0
 Cause told rose out_rose words failure =
     WordsCause told rose words failure
-    ⊎ ((failure ≡ Write) × out_rose × OnTexts told words (λ request texts. (text : List ℕ) × Answers request texts text))
+    ⊎
+    ((failure ≡ Write) × out_rose
+    × OnTexts told words (λ request texts. (text : List ℕ) × Answers request texts text))

@@ -1,4 +1,5 @@
--- What all layouts that are written through have in common: they go from an array to an array of the same elements.
+-- What all layouts that are written through have in common: they go from an array to
+-- an array of the same elements.
 use Rattle.std.proofs.Common.{◌≡◌, List, refl, sym, ap, ◌∙◌, subst}
 use Rattle.size_arith.specs.declared.names.Name.{Name}
 use Rattle.size_arith.specs.declared.poly.Monomial.{Monomial}

@@ -1,4 +1,5 @@
 pub mod Annotated
+pub mod Copies
 pub mod Fitting
 pub mod Formed
 pub mod Layouts

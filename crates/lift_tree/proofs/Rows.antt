@@ -6,7 +6,7 @@ use Rattle.std.proofs.lemmas.Int.{ints}
 use Rattle.std.proofs.Math.Nat.{mul-div_cancel_left, add-div_right}
 use Rattle.scalar_ops.specs.declared.op.Op.TheVariants as op
 use Rattle.scalar_ops.specs.Operators.{apply_op, combine, op_of}
-use Rattle.scalar_ops.specs.Laws.{apply_op-fits}
+use Rattle.scalar_ops.proofs.Fits.{apply_op-fits}
 use Rattle.size_arith.specs.declared.poly.Monomial.{Monomial}
 use Rattle.size_arith.specs.Polynomial.{value_at, monomial_at, number, of_monomial, plus, minus, times, quotient}
 use Rattle.size_arith.specs.Shown.{ShownAtLeast}

@@ -20,19 +20,23 @@ abbrev pub IsNamed : (sizes least : ℕ) → Factor → Type 0
 IsNamed s k (factor.Number n) = k ≤ n
 IsNamed s k (factor.Size i) = i < s
 
+-- each factor of a product is such a one
 abbrev pub AreNamed : (sizes least : ℕ) → List Factor → Type 0
 AreNamed s k [] = Unit {0}
 AreNamed s k (f ∷ fs) = IsNamed s k f × AreNamed s k fs
 
+-- a length's sizes are of so many
 abbrev pub PartsAreNamed : (sizes : ℕ) → List Part → Type 0
 PartsAreNamed s [] = Unit {0}
 PartsAreNamed s (p ∷ ps) = AreNamed s 0 p.product × PartsAreNamed s ps
 
+-- the sizes in a type's lengths are of so many
 abbrev pub TypeIsNamed : (sizes : ℕ) → Written → Type 0
 TypeIsNamed s written.Number = Unit {0}
 TypeIsNamed s (written.Pair a b) = TypeIsNamed s a × TypeIsNamed s b
 TypeIsNamed s (written.Array a n) = TypeIsNamed s a × PartsAreNamed s n
 
+-- the sizes in the inputs' types are of so many
 abbrev pub InputsAreNamed : (sizes : ℕ) → List PlainInput → Type 0
 InputsAreNamed s [] = Unit {0}
 InputsAreNamed s (i ∷ is) = TypeIsNamed s i.ty × InputsAreNamed s is
@@ -76,7 +80,8 @@ FormIsNamed s ToLocal = Unit {0}
 FormIsNamed s ToPrivate = Unit {0}
 FormIsNamed s Then = Unit {0}
 
--- each variable has its binder, where there are so many around, and each input and size is one of so many
+-- each variable has its binder, where there are so many around, and each
+-- input and size is one of so many
 abbrev pub Belongs : (sizes inputs binders : ℕ) → Tree → Type 0
 Belongs s i b (Variable n) = n < b
 Belongs s i b (Number n) = Unit {0}

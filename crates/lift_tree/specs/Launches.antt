@@ -6,7 +6,8 @@ use Rattle.lift_tree.specs.Types.{PlainTy}
 use Rattle.lift_tree.specs.Limits.{components}
 use Rattle.lift_tree.specs.Values.{Value, list_of}
 
--- what a term and its script ask of each launch: one work-item alone, and the local size that is fixed
+-- what a term and its script ask of each launch: one work-item alone,
+-- and the local size that is fixed
 pub record Asks : Type 0 where
   pub alone : Bool
   pub local : Option ℕ
@@ -17,7 +18,8 @@ IsFixedSize None local = Unit {0}
 IsFixedSize (Some size) local = local ≡ size
 
 -- the sizes lie in their ranges, the local size divides the global size, and what is asked is met
-pub record IsAdmissibleLaunch (names : List Name) (asks : Asks) (bases : List ℕ) (global local : ℕ) : Type 0 where
+pub record IsAdmissibleLaunch (names : List Name) (asks : Asks) (bases : List ℕ)
+    (global local : ℕ) : Type 0 where
   pub sizes : Admissible names bases
   pub local_least : 1 ≤ local
   pub local_most : local ≤ 256

@@ -1,5 +1,6 @@
 pub mod Annotations
 pub mod Belonging
+pub mod Copies
 pub mod FixedSizes
 pub mod InputTypes
 pub mod Launches

@@ -40,13 +40,14 @@ pub record IsSmall (p : List Monomial) : Type 0 where
   pub degree : degree p ≤ 4
   pub coefficients : greatest p ≤ 4294967296
 
--- each product and each sum as it arises, from left to right
+-- each product as it arises, from left to right
 abbrev pub ProductFits : List Name → (so_far : List Monomial) → List Factor → Type 0
 ProductFits names p [] = Unit {0}
 ProductFits names p (f ∷ fs) =
     let q = times p (of_monomial (factor_monomial names f)) in
     IsSmall q × ProductFits names q fs
 
+-- each product of a length, and each sum as it arises, from left to right
 abbrev pub SumFits : List Name → (so_far : List Monomial) → List Part → Type 0
 SumFits names s [] = Unit {0}
 SumFits names s (p ∷ ps) =
@@ -86,7 +87,7 @@ HasFewScalars names (PairOf a b) = HasFewScalars names a × HasFewScalars names 
 HasFewScalars names (ArrayOf a n) = ScalarsAreFew names n a
 
 -- ---- terms
--- what a form whose child is an array of elements a, n of them, works out and forms
+-- what a split of n elements a works out and forms: pieces, and the array of them
 abbrev pub SplitFits : List Name → List Factor → PlainTy → Type 0
 SplitFits names fs (ArrayOf a n) =
     let m = product_of names fs in
@@ -95,6 +96,7 @@ SplitFits names fs (ArrayOf a n) =
     × ArrayFits names (ArrayOf a (of_monomial m)) (quotient m n)
 SplitFits names fs _ = ⊥
 
+-- what a slide works out and forms: windows, how many there are, and the array of them
 abbrev pub SlideFits : List Name → (size step : ℕ) → PlainTy → Type 0
 SlideFits names s t (ArrayOf a n) =
     let left = minus n (constant s) in
@@ -103,17 +105,20 @@ SlideFits names s t (ArrayOf a n) =
     × ArrayFits names (ArrayOf a (constant s)) count
 SlideFits names s t _ = ⊥
 
+-- what a pad works out and forms: the length with what stands before, then with both
 abbrev pub PadFits : List Name → (before after : ℕ) → PlainTy → Type 0
 PadFits names l r (ArrayOf a n) =
     let m = plus (constant l) n in
     IsSmall m × IsSmall (plus m (constant r)) × ArrayFits names a (plus m (constant r))
 PadFits names l r _ = ⊥
 
+-- what a join works out and forms: the product of both lengths, and the array of it
 abbrev pub JoinFits : List Name → PlainTy → Type 0
 JoinFits names (ArrayOf (ArrayOf a m) n) =
     IsSmall (times n m) × ArrayFits names a (times n m)
 JoinFits names _ = ⊥
 
+-- what a transposition forms: the new rows, and the array of them
 abbrev pub TransposeFits : List Name → PlainTy → Type 0
 TransposeFits names (ArrayOf (ArrayOf a m) n) =
     ArrayFits names a n × ArrayFits names (ArrayOf a n) m
@@ -190,7 +195,9 @@ pub record TypesFit (d : Declared) (t : Tree) (n : Annotation) : Type 0 where
 
 -- those of a program within its limits don't
 abbrev pub LimitsFit : Type 0
-LimitsFit = (p : PlainProgram) (t : Tree) (n : Annotation) → IsWithinLimits p t n → TypesFit (declared_by p) t n
+LimitsFit =
+    (p : PlainProgram) (t : Tree) (n : Annotation) → IsWithinLimits p t n
+    → TypesFit (declared_by p) t n
 
 -- the program is declared, and the scalars of its inputs are few: what a launch file is read for
 pub record HasProperInputs (p : PlainProgram) : Type 0 where

@@ -2,14 +2,17 @@
 use Rattle.std.specs.Prelude.{ℕ, zero, suc, ◌+◌, ◌-◌, ◌/◌, List, [], ◌∷◌, ◌++◌, length, take, drop, map, replicate}
 use Rattle.lift_tree.specs.Values.{Value, Word}
 
+-- a start joined with each element in turn, from the left
 abbrev pub fold_left : {A B : Type 0} → (A → B → A) → A → List B → A
 fold_left f a [] = a
 fold_left f a (x ∷ xs) = fold_left f (f a x) xs
 
+-- the lists one after another
 abbrev pub concat : {A : Type 0} → List (List A) → List A
 concat [] = []
 concat (xs ∷ xss) = xs ++ concat xss
 
+-- the elements of two lists joined one by one, as far as both go
 abbrev pub zip_with : {A B C : Type 0} → (A → B → C) → List A → List B → List C
 zip_with f [] ys = []
 zip_with f (x ∷ xs) [] = []
@@ -24,14 +27,17 @@ pieces (suc count) size step xs = take size xs ∷ pieces count size step (drop 
 abbrev pub pieces_that_fit : (size step length : ℕ) → ℕ
 pieces_that_fit size step length = (length + step - size) / step
 
+-- the first value, or 0 where there is none
 abbrev pub first_of : List Value → Value
 first_of [] = Word 0
 first_of (x ∷ xs) = x
 
+-- all values but the first
 abbrev pub rest_of : List Value → List Value
 rest_of [] = []
 rest_of (x ∷ xs) = xs
 
+-- the last value, or 0 where there is none
 abbrev pub last_of : List Value → Value
 last_of [] = Word 0
 last_of (x ∷ []) = x

@@ -14,11 +14,13 @@ children (Let v b) = v ∷ b ∷ []
 children (Map k xs b) = xs ∷ b ∷ []
 children (Fold k xs s b) = xs ∷ s ∷ b ∷ []
 
+-- the child of this number, if there is one
 abbrev pub nth_child : List Tree → ℕ → Option Tree
 nth_child [] i = None
 nth_child (t ∷ ts) zero = Some t
 nth_child (t ∷ ts) (suc i) = nth_child ts i
 
+-- a term's child of this number, if it has one
 abbrev pub child_at : Tree → ℕ → Option Tree
 child_at t i = nth_child (children t) i
 
@@ -55,4 +57,5 @@ with_child (Fold k xs t b) (suc (suc (suc i))) s = Fold k xs t b
 -- the term with another node at a place; none where there is no such place
 abbrev pub with_at : Tree → List ℕ → Tree → Option Tree
 with_at t [] s = Some s
-with_at t (i ∷ is) s = option_and_then (λ c. option_map (with_child t i) (with_at c is s)) (child_at t i)
+with_at t (i ∷ is) s =
+    option_and_then (λ c. option_map (with_child t i) (with_at c is s)) (child_at t i)

@@ -18,7 +18,8 @@ shift more k (Binary f t u) = Binary f (shift more k t) (shift more k u)
 shift more k (Select t u v) = Select (shift more k t) (shift more k u) (shift more k v)
 shift more k (Let v b) = Let (shift more k v) (shift more (suc k) b)
 shift more k (Map h xs b) = Map h (shift more k xs) (shift more (suc k) b)
-shift more k (Fold h xs s b) = Fold h (shift more k xs) (shift more k s) (shift more (suc (suc k)) b)
+shift more k (Fold h xs s b) =
+    Fold h (shift more k xs) (shift more k s) (shift more (suc (suc k)) b)
 
 -- the term after one more binder at k
 abbrev pub raise : ℕ → Tree → Tree

@@ -7,6 +7,7 @@ use Rattle.lift_tree.specs.declared.term.FoldKind.{FoldKind}
 use Rattle.lift_tree.specs.declared.term.Term as held
 use Rattle.lift_tree.specs.declared.term.Term.{Term}
 
+-- a form and its children; a variable is told by how many binders are nearer than its own
 pub data Tree : Type 0 where
   Variable : ℕ → Tree
   Number : ℕ → Tree
@@ -18,6 +19,7 @@ pub data Tree : Type 0 where
   Map : MapKind → (array body : Tree) → Tree
   Fold : FoldKind → (array start body : Tree) → Tree
 
+-- the term that lies in memory
 abbrev pub tree_of : Term → Tree
 tree_of (held.Variable n) = Variable n
 tree_of (held.Number n) = Number n

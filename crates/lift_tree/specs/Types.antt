@@ -9,16 +9,19 @@ use Rattle.lift_tree.specs.declared.ty.Ty.{Ty}
 use Rattle.lift_tree.specs.Lists.{Every}
 use Rattle.lift_tree.specs.Values.{Value, Word, Both, array, nth}
 
+-- u32, a pair, or an array with its length over the base names
 pub data PlainTy : Type 0 where
   U32 : PlainTy
   PairOf : PlainTy → PlainTy → PlainTy
   ArrayOf : PlainTy → List Monomial → PlainTy
 
+-- the type that lies in memory
 abbrev pub ty_of : Ty → PlainTy
 ty_of held.Number = U32
 ty_of (held.Pair' p a q b) = PairOf (ty_of a) (ty_of b)
 ty_of (held.Array' p a n) = ArrayOf (ty_of a) n
 
+-- it is an array
 abbrev pub is_array : PlainTy → Bool
 is_array U32 = false
 is_array (PairOf a b) = false
@@ -36,12 +39,13 @@ HoldsElements U32 = Unit {0}
 HoldsElements (PairOf a b) = IsElement a × IsElement b
 HoldsElements (ArrayOf a n) = HoldsElements a
 
--- the same as tests
+-- an element type, as a test
 abbrev pub is_element : PlainTy → Bool
 is_element U32 = true
 is_element (PairOf a b) = is_element a && is_element b
 is_element (ArrayOf a n) = false
 
+-- its pairs hold elements only, as a test
 abbrev pub holds_elements : PlainTy → Bool
 holds_elements U32 = true
 holds_elements (PairOf a b) = is_element a && is_element b
@@ -67,7 +71,8 @@ IsFormed names (ArrayOf a n) = ShownAtLeast 1 names n × IsFormed names a
 abbrev pub HasType : List ℕ → PlainTy → Value → Type 0
 HasType ys U32 v = (n : ℕ) × (v ≡ Word n) × (n < 2 ^ 32)
 HasType ys (PairOf a b) v = (x y : Value) × (v ≡ Both x y) × HasType ys a x × HasType ys b y
-HasType ys (ArrayOf a n) v = (xs : List Value) × (v ≡ array xs) × (pos (length xs) ≡ value_at ys n) × Every (HasType ys a) xs
+HasType ys (ArrayOf a n) v =
+    (xs : List Value) × (v ≡ array xs) × (pos (length xs) ≡ value_at ys n) × Every (HasType ys a) xs
 
 -- the values have these types one by one
 abbrev pub HaveTypes : List ℕ → List PlainTy → List Value → Type 0

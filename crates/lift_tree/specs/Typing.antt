@@ -24,18 +24,27 @@ pub record Declared : Type 0 where
   pub names : List Name
   pub inputs : List PlainTy
 
+-- a number as a length
 abbrev pub constant : ℕ → List Monomial
 constant k = of_monomial (number (pos k))
 
 -- a layout of an array of type b has type a; the arrays that it forms have lengths shown at least 1
 abbrev pub LayoutRow : List Name → layout.Layout → (b a : PlainTy) → Type 0
-LayoutRow names Join b a = (x : PlainTy) × (m n : List Monomial) × (b ≡ ArrayOf (ArrayOf x m) n) × (a ≡ ArrayOf x (times n m)) × IsFormed names a
-LayoutRow names Transpose b a = (x : PlainTy) × (m n : List Monomial) × (b ≡ ArrayOf (ArrayOf x m) n) × (a ≡ ArrayOf (ArrayOf x n) m) × IsFormed names a
+LayoutRow names Join b a =
+    (x : PlainTy) × (m n : List Monomial) × (b ≡ ArrayOf (ArrayOf x m) n)
+    × (a ≡ ArrayOf x (times n m)) × IsFormed names a
+LayoutRow names Transpose b a =
+    (x : PlainTy) × (m n : List Monomial) × (b ≡ ArrayOf (ArrayOf x m) n)
+    × (a ≡ ArrayOf (ArrayOf x n) m) × IsFormed names a
 LayoutRow names (Split fs) b a =
     let m = product_of names fs in
-    (x : PlainTy) × (n : List Monomial) × (b ≡ ArrayOf x n) × AllDivide m n × (a ≡ ArrayOf (ArrayOf x (of_monomial m)) (quotient m n)) × IsFormed names a
-LayoutRow names Reverse b a = (x : PlainTy) × (n : List Monomial) × (b ≡ ArrayOf x n) × (a ≡ ArrayOf x n)
-LayoutRow names (Stride fs) b a = (x : PlainTy) × (n : List Monomial) × (b ≡ ArrayOf x n) × AllDivide (product_of names fs) n × (a ≡ ArrayOf x n)
+    (x : PlainTy) × (n : List Monomial) × (b ≡ ArrayOf x n) × AllDivide m n
+    × (a ≡ ArrayOf (ArrayOf x (of_monomial m)) (quotient m n)) × IsFormed names a
+LayoutRow names Reverse b a =
+    (x : PlainTy) × (n : List Monomial) × (b ≡ ArrayOf x n) × (a ≡ ArrayOf x n)
+LayoutRow names (Stride fs) b a =
+    (x : PlainTy) × (n : List Monomial) × (b ≡ ArrayOf x n) × AllDivide (product_of names fs) n
+    × (a ≡ ArrayOf x n)
 
 -- a form with one child of type b has type a; its arrays have lengths shown at least 1
 abbrev pub UnaryRow : List Name → UnaryForm → (b a : PlainTy) → Type 0
@@ -45,9 +54,17 @@ UnaryRow names First b a = (c : PlainTy) × (b ≡ PairOf a c)
 UnaryRow names Second b a = (c : PlainTy) × (b ≡ PairOf c a)
 UnaryRow names (Layout l) b a = LayoutRow names l b a
 UnaryRow names (Slide s t) b a =
-    (x : PlainTy) × (n : List Monomial) × (b ≡ ArrayOf x n) × (0 < t) × ShownAtLeast 0 names (minus n (constant s)) × AllDivide (number (pos t)) (minus n (constant s))
-    × (a ≡ ArrayOf (ArrayOf x (constant s)) (plus (quotient (number (pos t)) (minus n (constant s))) (constant 1))) × IsFormed names a
-UnaryRow names (Pad l r) b a = (x : PlainTy) × (n : List Monomial) × (b ≡ ArrayOf x n) × (a ≡ ArrayOf x (plus (plus (constant l) n) (constant r))) × IsFormed names a
+    (x : PlainTy) × (n : List Monomial) × (b ≡ ArrayOf x n) × (0 < t)
+    × ShownAtLeast 0 names (minus n (constant s))
+    × AllDivide (number (pos t)) (minus n (constant s))
+    ×
+    (a
+    ≡ ArrayOf (ArrayOf x (constant s))
+    (plus (quotient (number (pos t)) (minus n (constant s))) (constant 1)))
+    × IsFormed names a
+UnaryRow names (Pad l r) b a =
+    (x : PlainTy) × (n : List Monomial) × (b ≡ ArrayOf x n)
+    × (a ≡ ArrayOf x (plus (plus (constant l) n) (constant r))) × IsFormed names a
 UnaryRow names ToLocal b a = b ≡ a
 UnaryRow names ToPrivate b a = b ≡ a
 UnaryRow names Then b a = b ≡ a
@@ -56,10 +73,14 @@ UnaryRow names Then b a = b ≡ a
 abbrev pub BinaryRow : BinaryForm → (b c a : PlainTy) → Type 0
 BinaryRow (binary.Operator o) b c a = (b ≡ U32) × (c ≡ U32) × (a ≡ U32)
 BinaryRow binary.Pair b c a = IsElement b × IsElement c × (a ≡ PairOf b c)
-BinaryRow binary.Zip b c a = (x y : PlainTy) × (n : List Monomial) × (b ≡ ArrayOf x n) × (c ≡ ArrayOf y n) × (a ≡ ArrayOf (PairOf x y) n)
-BinaryRow (binary.Reduce r) b c a = (n : List Monomial) × (b ≡ ArrayOf U32 n) × (c ≡ U32) × (a ≡ ArrayOf U32 (constant 1))
+BinaryRow binary.Zip b c a =
+    (x y : PlainTy) × (n : List Monomial) × (b ≡ ArrayOf x n) × (c ≡ ArrayOf y n)
+    × (a ≡ ArrayOf (PairOf x y) n)
+BinaryRow (binary.Reduce r) b c a =
+    (n : List Monomial) × (b ≡ ArrayOf U32 n) × (c ≡ U32) × (a ≡ ArrayOf U32 (constant 1))
 
--- the term has this type, where the binders have these, the nearest first; maps and folds however they are run
+-- the term has this type, where the binders have these, the nearest first; maps
+-- and folds however they are run
 abbrev pub Types : Declared → List PlainTy → Tree → PlainTy → Type 0
 Types d g (Variable n) a = slice_get g n ≡ Some a
 Types d g (Number n) a = (n < 2 ^ 32) × (a ≡ U32)
@@ -68,19 +89,30 @@ Types d g (Unary f t) a = (b : PlainTy) × Types d g t b × UnaryRow d.names f b
 Types d g (Binary f t u) a = (b c : PlainTy) × Types d g t b × Types d g u c × BinaryRow f b c a
 Types d g (Select t u v) a = Types d g t U32 × Types d g u U32 × Types d g v U32 × (a ≡ U32)
 Types d g (Let v b) a = (c : PlainTy) × Types d g v c × Types d (c ∷ g) b a
-Types d g (Map k xs b) a = (x y : PlainTy) × (n : List Monomial) × Types d g xs (ArrayOf x n) × Types d (x ∷ g) b y × (a ≡ ArrayOf y n)
-Types d g (Fold k xs s b) a = (x y : PlainTy) × (n : List Monomial) × Types d g xs (ArrayOf x n) × Types d g s y × IsElement y × Types d (x ∷ y ∷ g) b y × (a ≡ ArrayOf y (constant 1))
+Types d g (Map k xs b) a =
+    (x y : PlainTy) × (n : List Monomial) × Types d g xs (ArrayOf x n) × Types d (x ∷ g) b y
+    × (a ≡ ArrayOf y n)
+Types d g (Fold k xs s b) a =
+    (x y : PlainTy) × (n : List Monomial) × Types d g xs (ArrayOf x n) × Types d g s y × IsElement y
+    × Types d (x ∷ y ∷ g) b y × (a ≡ ArrayOf y (constant 1))
 
 -- ---- programs
--- at most eight sizes, each with its range, and inputs: arrays whose pairs hold elements only, and whose lengths are shown at least 1
+-- at most eight sizes, each with its range, and inputs: arrays whose pairs hold elements only, and
+-- whose lengths are shown at least 1
 pub record IsDeclared (d : Declared) : Type 0 where
   pub few : length d.names ≤ 8
   pub names : AreNames d.names
   pub arrays : Every IsInput d.inputs
   pub inputs : Every (IsFormed d.names) d.inputs
 
+-- what a program declares, its inputs' types worked out
 abbrev pub declared_by : PlainProgram → Declared
-declared_by p = let names = map range_of p.sizes in record { names = names; inputs = map (λ i. worked_out names i.ty) p.inputs }
+declared_by p =
+    let names = map range_of p.sizes in record {
+      names = names;
+      inputs = map
+          (λ i. worked_out names i.ty) p.inputs;
+    }
 
 -- the program, with this term in its body's place, has the output's type
 pub record HasOutput (p : PlainProgram) (t : Tree) (a : PlainTy) : Type 0 where
@@ -98,8 +130,11 @@ pub record IsAdmissible (d : Declared) (w : World) : Type 0 where
 abbrev pub ValuesHaveTypes : Type 0
 ValuesHaveTypes =
     (d : Declared) (w : World) (g : List PlainTy) (vs : List Value) (t : Tree) (a : PlainTy)
-    → IsDeclared d → IsAdmissible d w → Every (IsFormed d.names) g → HaveTypes w.bases g vs → Types d g t a → HasType w.bases a (meaning w vs t)
+    → IsDeclared d → IsAdmissible d w → Every (IsFormed d.names) g → HaveTypes w.bases g vs
+    → Types d g t a → HasType w.bases a (meaning w vs t)
 
 -- a term has one type
 abbrev pub OneType : Type 0
-OneType = (d : Declared) (g : List PlainTy) (t : Tree) (a b : PlainTy) → Types d g t a → Types d g t b → a ≡ b
+OneType =
+    (d : Declared) (g : List PlainTy) (t : Tree) (a b : PlainTy) → Types d g t a → Types d g t b
+    → a ≡ b

@@ -3,6 +3,7 @@ use Rattle.std.specs.Prelude.{ℕ, zero, suc, List, [], ◌∷◌, ◌++◌}
 use Rattle.lift_tree.specs.declared.value.Val as held
 use Rattle.lift_tree.specs.declared.value.Val.{Val, Row_of-Val, end_of-Val, more_of-Val}
 
+-- a number, a pair, or a list: none, or a first value and the rest
 pub data Value : Type 0 where
   Word : ℕ → Value
   Both : Value → Value → Value
@@ -19,27 +20,31 @@ abbrev mutual
   row_value end_of-Val = Nil
   row_value (more_of-Val v rest) = More (value_of v) (row_value rest)
 
+-- the list of these values
 abbrev pub array : List Value → Value
 array [] = Nil
 array (v ∷ vs) = More v (array vs)
 
--- what a value holds; a default where it is of another kind
+-- the values of a list; none for any other value
 abbrev pub members : Value → List Value
 members (Word n) = []
 members (Both v w) = []
 members Nil = []
 members (More v rest) = v ∷ members rest
 
+-- the number; 0 for any other value
 abbrev pub word : Value → ℕ
 word (Word n) = n
 word (Both v w) = 0
 word Nil = 0
 word (More v rest) = 0
 
+-- the first of a pair; 0 for any other value
 abbrev pub first : Value → Value
 first (Both v w) = v
 first v = Word 0
 
+-- the second of a pair; 0 for any other value
 abbrev pub second : Value → Value
 second (Both v w) = w
 second v = Word 0

@@ -19,17 +19,23 @@ nth_name i before [] = number (pos 0)
 nth_name zero before (n ∷ ns) = size n.multiple before
 nth_name (suc i) before (n ∷ ns) = nth_name i (suc before) ns
 
+-- a factor as a monomial: a number, or a declared size
 abbrev pub factor_monomial : List Name → Factor → Monomial
 factor_monomial names (factor.Number n) = number (pos n)
 factor_monomial names (factor.Size i) = nth_name i 0 names
 
+-- the product of factors as a monomial
 abbrev pub product_of : List Name → List Factor → Monomial
 product_of names [] = number (pos 1)
 product_of names (f ∷ fs) =
     let m = factor_monomial names f in
     let rest = product_of names fs in
-    record { coefficient = m.coefficient *ℤ rest.coefficient; powers = add_powers m.powers rest.powers }
+    record {
+      coefficient = m.coefficient *ℤ rest.coefficient;
+      powers = add_powers m.powers rest.powers;
+    }
 
+-- a sum with a part added or taken away, as the part's sign says
 abbrev pub with_part : Sign → List Monomial → List Monomial → List Monomial
 with_part Plus sum p = plus sum p
 with_part Minus sum p = minus sum p
@@ -37,11 +43,14 @@ with_part Minus sum p = minus sum p
 -- the parts added to a sum, from left to right
 abbrev pub sum_of : List Name → List Monomial → List Part → List Monomial
 sum_of names sum [] = sum
-sum_of names sum (p ∷ ps) = sum_of names (with_part p.sign sum (of_monomial (product_of names p.product))) ps
+sum_of names sum (p ∷ ps) =
+    sum_of names (with_part p.sign sum (of_monomial (product_of names p.product))) ps
 
+-- a written length over the base names
 abbrev pub length_of : List Name → List Part → List Monomial
 length_of names parts = sum_of names [] parts
 
+-- a written type, its lengths over the base names
 abbrev pub worked_out : List Name → Written → PlainTy
 worked_out names written.Number = U32
 worked_out names (written.Pair a b) = PairOf (worked_out names a) (worked_out names b)

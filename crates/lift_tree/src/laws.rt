@@ -17,7 +17,8 @@ pub fn typed_nodes_type_the_term()
     ensures { AnnotatedIsTyped }
 {}
 
-/// The source value of a typed term has the term's type, at all admissible sizes and inputs and all values of binders.
+/// The source value of a typed term has the term's type, at all admissible sizes and
+/// inputs and all values of binders.
 #[tactic(auto, using(crate::proofs::Sound::values_have_types))]
 pub fn values_have_their_types()
     ensures { ValuesHaveTypes }
@@ -29,7 +30,8 @@ pub fn reverses_have_positions()
     ensures { ReversesByPosition }
 {}
 
-/// Where m divides n, position i of a stride by m of an array of n elements is position (i mod n/m) * m + i / (n/m) of the array.
+/// Where m divides n, position i of a stride by m of an array of n elements is position (i mod n/m)
+/// * m + i / (n/m) of the array.
 #[tactic(auto, using(crate::proofs::Strides::strides_by_position))]
 pub fn strides_have_positions()
     ensures { StridesByPosition }

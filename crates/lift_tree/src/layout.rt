@@ -5,7 +5,8 @@ ghost use Rattle.std.specs.Prelude.{◌≡◌, IfOk};
 use crate::length::Product;
 use std::alloc::{AllocError, Global};
 
-/// A layout of an array in which each scalar of it has one place. So what is stored through it has one place too, and it may stand in writing position.
+/// A layout of an array in which each scalar of it has one place. So what is stored through it has
+/// one place too, and it may stand in writing position.
 #[derive(Debug, Drop)]
 pub enum Layout {
     /// The rows of an array one after another.
@@ -16,7 +17,8 @@ pub enum Layout {
     Split(Product),
     /// The elements from the last to the first.
     Reverse,
-    /// The elements this far from one another, from the first on, then those from the second on, and so on.
+    /// The elements this far from one another, from the first on, then those
+    /// from the second on, and so on.
     Stride(Product),
 }
 

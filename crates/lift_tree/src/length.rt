@@ -5,14 +5,16 @@ ghost use Rattle.std.specs.Prelude.{◌≡◌, IfOk};
 use std::alloc::{AllocError, Global};
 use std::marker::Model;
 
-/// A factor of a length as written: a number, or a declared size by its number in the order of declaration.
+/// A factor of a length as written: a number, or a declared size by its
+/// number in the order of declaration.
 #[derive(Clone, Copy, Debug, PartialEq, Eq)]
 pub enum Factor {
     Number(u32),
     Size(u32),
 }
 
-/// A product of factors, in the order in which they are written. Contracts see the list of its factors.
+/// A product of factors, in the order in which they are written.
+/// Contracts see the list of its factors.
 #[derive(Debug, Drop)]
 pub struct Product {
     factors: Vec<Factor>,
@@ -83,7 +85,8 @@ impl Part {
     }
 }
 
-/// A length as written: its parts in order, of which the first has the sign plus. No sum or product is worked out. Contracts see the list of the parts.
+/// A length as written: its parts in order, of which the first has the sign plus. No sum or product
+/// is worked out. Contracts see the list of the parts.
 #[derive(Debug, Drop)]
 pub struct Length {
     parts: Vec<Part>,

@@ -1,6 +1,8 @@
-//! The trees of the Lift pattern language: terms with de Bruijn indices, programs, types, values and places, and renumbering.
+//! The trees of the Lift pattern language: terms with de Bruijn indices, programs, types, values
+//! and places, and renumbering.
 //!
-//! The definitions in `specs/` say which types terms have, what their values are, and what the limits on types count.
+//! The definitions in `specs/` say which types terms have, what their values are, and
+//! what the limits on types count.
 #![tactic(auto)]
 
 pub mod input_type;

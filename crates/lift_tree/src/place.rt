@@ -7,7 +7,8 @@ ghost use Rattle.lift_tree.specs.Places.{node_at, with_at};
 use crate::term::Term;
 use std::marker::Model;
 
-/// A place: the numbers of the children on the way from the root, each counted from 0. Contracts see the list of these numbers.
+/// A place: the numbers of the children on the way from the root, each counted from 0. Contracts
+/// see the list of these numbers.
 #[derive(Debug, Drop)]
 pub struct Place {
     numbers: Vec<u32>,
@@ -60,7 +61,8 @@ fn below<'t>(term: &'t Term, numbers: &[u32]) -> Option<&'t Term>
     below(term.child(*first)?, rest)
 }
 
-/// The term with another node at a place. Both terms come back unchanged exactly where there is no such place.
+/// The term with another node at a place. Both terms come back unchanged
+/// exactly where there is no such place.
 pub fn replaced(mut term: Term, place: &Place, new: Term) -> Result<Term, (Term, Term)>
     ensures ok { IfOk result (λ t. with_at (tree_of term) place.now (tree_of new)
         ≡ Some (tree_of t)) }

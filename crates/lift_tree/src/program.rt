@@ -11,7 +11,8 @@ use size_arith::{Name, Names};
 use std::alloc::{AllocError, Global};
 use std::marker::Model;
 
-/// The name of a size or an input: ASCII letters, digits and `_`. Contracts see the list of its bytes.
+/// The name of a size or an input: ASCII letters, digits and `_`.
+/// Contracts see the list of its bytes.
 #[derive(Drop)]
 pub struct Identifier {
     bytes: Vec<u8>,
@@ -90,7 +91,8 @@ impl Input {
     }
 }
 
-/// A program: its sizes and inputs in the order of declaration, and the term whose value it gives. Terms and lengths name sizes and inputs by their numbers in that order, from 0.
+/// A program: its sizes and inputs in the order of declaration, and the term whose value it gives.
+/// Terms and lengths name sizes and inputs by their numbers in that order, from 0.
 #[derive(Drop)]
 pub struct Program {
     pub sizes: Vec<Size>,

@@ -8,7 +8,8 @@ ghost use Rattle.lift_tree.specs.Renumbering.{up, down, shift, raise, put, put_v
 use crate::term::Term;
 use std::alloc::{AllocError, Global};
 
-/// Whether the numbers of the term's variables and its height are below 2^31, so that it may be renumbered.
+/// Whether the numbers of the term's variables and its height are below
+/// 2^31, so that it may be renumbered.
 pub fn is_renumberable(term: &Term) -> bool
     ensures { IsTrue result ↔ IsRenumberable (tree_of term.now) }
 {
@@ -31,7 +32,8 @@ fn has_small_numbers(term: &Term) -> bool
     }
 }
 
-/// The term, renumbered for one more binder at `from`. It has the same value whatever value that binder has.
+/// The term, renumbered for one more binder at `from`. It has the same value
+/// whatever value that binder has.
 #[tactic(auto, using(crate::proofs::Renumbered::raised_same))]
 pub fn raised(alloc: Global, term: &Term, from: u32) -> Result<Term, AllocError>
     requires from_small { from < 2 ^ 31 }
@@ -94,7 +96,8 @@ fn make_room(term: &mut Term, more: u32, from: u64)
     }
 }
 
-/// The term, renumbered for one binder fewer at `from`. None exactly where the term names that binder. It has the value that the term has whatever value that binder has.
+/// The term, renumbered for one binder fewer at `from`. None exactly where the term names that
+/// binder. It has the value that the term has whatever value that binder has.
 #[tactic(auto, using(crate::proofs::Renumbered::lowered_same))]
 pub fn dropped(alloc: Global, term: &Term, from: u32) -> Result<Option<Term>, AllocError>
     requires from_small { from < 2 ^ 31 }
@@ -179,7 +182,9 @@ fn close_gap(term: &mut Term, from: u64)
     }
 }
 
-/// The body with the value in place of each variable that names the nearest binder around the body. The value stands outside that binder. The result has the body's value where that binder has the value's.
+/// The body with the value in place of each variable that names the nearest binder
+/// around the body. The value stands outside that binder. The result has the body's
+/// value where that binder has the value's.
 #[tactic(auto, using(crate::proofs::Renumbered::substituted_same))]
 pub fn substituted(alloc: Global, body: &Term, value: &Term) -> Result<Term, AllocError>
     requires body { IsRenumberable (tree_of body.now) }

@@ -9,7 +9,8 @@ use crate::layout::Layout;
 use scalar_ops::op::Reducer;
 use std::alloc::{AllocError, Global};
 
-/// An operator on two numbers below 2^32. Division and remainder aren't among them, since their right operand is a literal.
+/// An operator on two numbers below 2^32. Division and remainder aren't among them, since their
+/// right operand is a literal.
 #[derive(Clone, Copy, Debug, PartialEq, Eq)]
 pub enum Operator {
     /// One that may be regrouped.
@@ -21,7 +22,9 @@ pub enum Operator {
     Eq,
 }
 
-/// A form with one child: the patterns of Lift (ICFP 2015), its stencils' slide and pad (CGO 2018), the address spaces of Lift IR (CGO 2017), and the cut between two kernels, which is this project's own.
+/// A form with one child: the patterns of Lift (ICFP 2015), its stencils' slide and pad
+/// (CGO 2018), the address spaces of Lift IR (CGO 2017), and the cut between two
+/// kernels, which is this project's own.
 #[derive(Debug, Drop)]
 pub enum UnaryForm {
     /// The whole quotient by this literal.
@@ -34,7 +37,8 @@ pub enum UnaryForm {
     Second,
     /// The elements of an array in another order, or in rows of another length.
     Layout(Layout),
-    /// The pieces of the first length that begin at 0 and at each multiple of the second, while they fit, both in elements.
+    /// The pieces of the first length that begin at 0 and at each multiple of the second, while
+    /// they fit, both in elements.
     Slide(u32, u32),
     /// So many copies of the first element before, and so many of the last after.
     Pad(u32, u32),
@@ -82,7 +86,8 @@ pub enum FoldKind {
     Sequential,
 }
 
-/// A term. A variable is the number of binders between it and its own, 0 the nearest. Children stand in the order in which places count them.
+/// A term. A variable is the number of binders between it and its own, 0 the nearest. Children
+/// stand in the order in which places count them.
 #[derive(Debug, Drop)]
 pub enum Term {
     Variable(u32),
@@ -97,7 +102,8 @@ pub enum Term {
     Let(Box<Term>, Box<Term>),
     /// The array, and the body under one binder.
     Map(MapKind, Box<Term>, Box<Term>),
-    /// The array, the start, and the body under two binders: the accumulator, and nearer the element.
+    /// The array, the start, and the body under two binders: the
+    /// accumulator, and nearer the element.
     Fold(FoldKind, Box<Term>, Box<Term>, Box<Term>),
 }
 

@@ -9,7 +9,8 @@ use crate::term::Term;
 use crate::ty::Ty;
 use size_arith::Names;
 
-/// The type of a node, and those of all nodes below it, by how many children it has, in their order.
+/// The type of a node, and those of all nodes below it, by how many
+/// children it has, in their order.
 #[derive(Drop)]
 pub enum NodeTypes {
     Leaf(Ty),
@@ -40,7 +41,8 @@ pub struct Typed {
     pub types: NodeTypes,
 }
 
-/// What stands around a node: the sizes' names, the types of the binders, the nearest first, and the types of the node and of all below it.
+/// What stands around a node: the sizes' names, the types of the binders, the nearest first, and
+/// the types of the node and of all below it.
 #[derive(Drop)]
 pub struct Context {
     pub names: Names,

@@ -1,4 +1,5 @@
--- What is around a node, from the root on. Each takes what is around the parent, and the parent's type.
+-- What is around a node, from the root on. Each takes what is around the
+-- parent, and the parent's type.
 use Rattle.std.specs.Prelude.{Bool, true, false, not, ◌&&◌, ◌||◌}
 use Rattle.lift_tree.specs.declared.term.UnaryForm.{UnaryForm}
 use Rattle.lift_tree.specs.declared.term.UnaryForm.TheVariants.{Div, Rem, First, Second, Layout, Slide, Pad, ToLocal, ToPrivate, Then}
@@ -31,12 +32,25 @@ operand s a = record s { is_written = false; in_element = s.in_element || is_ele
 
 -- the operand of a layout that is written through: in writing position where the layout is
 abbrev pub passed : Around → PlainTy → Around
-passed s a = record s { is_written = s.is_written && not (is_element a); in_element = s.in_element || is_element a }
+passed s a =
+    record s {
+      is_written = s.is_written
+          && not (is_element a);
+      in_element = s.in_element || is_element a;
+    }
 
 -- the operand of a copy to this space
 abbrev pub copied : Around → AddressSpace → PlainTy → Around
-copied s space a = record s { is_written = true; in_argument = false; in_element = s.in_element || is_element a; space = space }
+copied s space a =
+    record s {
+      is_written = true;
+      in_argument = false;
+      in_element = s.in_element
+          || is_element a;
+      space = space;
+    }
 
+-- the operand of a form at a node of this type
 abbrev pub under_form : Around → UnaryForm → PlainTy → Around
 under_form s (Div n) a = operand s a
 under_form s (Rem n) a = operand s a
@@ -51,7 +65,13 @@ under_form s Then a = operand s a
 
 -- the array of a map or fold, or a let's value. An element is no argument
 abbrev pub argument : Around → (of_element : Bool) → PlainTy → Around
-argument s e a = record s { is_written = false; in_argument = s.in_argument || not e; in_element = s.in_element || is_element a }
+argument s e a =
+    record s {
+      is_written = false;
+      in_argument = s.in_argument || not e;
+      in_element = s.in_element
+          || is_element a;
+    }
 
 -- a let's body, where the value is an element or isn't
 abbrev pub let_body : Around → (of_element : Bool) → PlainTy → Around
@@ -61,6 +81,7 @@ let_body s e a = record s {
   in_serial = s.in_serial || e;
 }
 
+-- the body of a map of this kind, which writes its value
 abbrev pub map_body : Around → MapKind → PlainTy → Around
 map_body s k a = record {
   is_written = true;
@@ -75,5 +96,12 @@ map_body s k a = record {
   space = s.space;
 }
 
+-- the body of a fold, whose value is an accumulator and is not written
 abbrev pub fold_body : Around → PlainTy → Around
-fold_body s a = record s { is_written = false; in_element = s.in_element || is_element a; is_next_to_group = false }
+fold_body s a =
+    record s {
+      is_written = false;
+      in_element = s.in_element
+          || is_element a;
+      is_next_to_group = false;
+    }

@@ -3,11 +3,13 @@ use Rattle.std.specs.Prelude.{ℕ, zero, suc, Bool, true, false, ◌||◌, List,
 use Rattle.size_arith.specs.declared.poly.Monomial.{Monomial}
 use Rattle.lift_tree.specs.Types.{PlainTy, U32, PairOf, ArrayOf}
 
+-- of the powers of a monomial one is above 0
 abbrev pub names_a_size : List ℕ → Bool
 names_a_size [] = false
 names_a_size (zero ∷ powers) = names_a_size powers
 names_a_size (suc p ∷ powers) = true
 
+-- a monomial of the length names a size
 abbrev pub is_over_sizes : List Monomial → Bool
 is_over_sizes [] = false
 is_over_sizes (m ∷ ms) = names_a_size m.powers || is_over_sizes ms

@@ -21,17 +21,21 @@ is_undecided (Fold fold_kind.Plain xs s b) = true
 is_undecided (Binary (binary.Reduce r) t u) = true
 is_undecided _ = false
 
+-- a map of which it is said who does its work
 abbrev pub is_lowered_map : Tree → Bool
 is_lowered_map = is_map_of (λ k. not (is_plain k))
 
+-- a sequential fold
 abbrev pub is_lowered_fold : Tree → Bool
 is_lowered_fold (Fold fold_kind.Sequential xs s b) = true
 is_lowered_fold _ = false
 
+-- a copy to local memory
 abbrev pub is_local_copy : Tree → Bool
 is_local_copy (Unary unary.ToLocal t) = true
 is_local_copy _ = false
 
+-- a copy to private memory
 abbrev pub is_private_copy : Tree → Bool
 is_private_copy (Unary unary.ToPrivate t) = true
 is_private_copy _ = false
@@ -65,11 +69,12 @@ abbrev pub copies_local_map : Tree → Bool
 copies_local_map (Unary f t) = shows_local_map t
 copies_local_map _ = false
 
--- a let whose value is an element, and one whose value is none
+-- a let whose value is an element
 abbrev pub is_let_of_element : Tree → Annotation → Bool
 is_let_of_element (Let v b) (Two a n m) = is_element (type_in n)
 is_let_of_element _ _ = false
 
+-- a let whose value is none
 abbrev pub is_let_of_array : Tree → Annotation → Bool
 is_let_of_array (Let v b) (Two a n m) = not (is_element (type_in n))
 is_let_of_array _ _ = false

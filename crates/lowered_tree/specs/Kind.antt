@@ -16,4 +16,6 @@ shows_map p _ = false
 
 -- whom the map on top spreads its turns over
 abbrev pub nest_kind : Tree → NestKind
-nest_kind t = if shows_map is_over_groups t then OverGroups else (if shows_map is_global t then OverLaunch else Task)
+nest_kind t =
+    if shows_map is_over_groups t then OverGroups else
+    (if shows_map is_global t then OverLaunch else Task)

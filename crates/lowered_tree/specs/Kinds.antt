@@ -5,6 +5,7 @@ use Rattle.lift_tree.specs.declared.term.MapKind.TheVariants.{Plain, Global, Wor
 use Rattle.lift_tree.specs.Launches.{Asks}
 use Rattle.lift_tree.specs.Tree.{Tree, Variable, Number, Input, Unary, Binary, Select, Let, Map, Fold}
 
+-- over the work-items of all groups
 abbrev pub is_global : MapKind → Bool
 is_global Plain = false
 is_global Global = true
@@ -12,6 +13,7 @@ is_global WorkGroup = false
 is_global Local = false
 is_global Sequential = false
 
+-- over the work-groups
 abbrev pub is_over_groups : MapKind → Bool
 is_over_groups Plain = false
 is_over_groups Global = false
@@ -19,6 +21,7 @@ is_over_groups WorkGroup = true
 is_over_groups Local = false
 is_over_groups Sequential = false
 
+-- over the work-items of a group
 abbrev pub is_local : MapKind → Bool
 is_local Plain = false
 is_local Global = false
@@ -26,6 +29,7 @@ is_local WorkGroup = false
 is_local Local = true
 is_local Sequential = false
 
+-- by one work-item
 abbrev pub is_sequential : MapKind → Bool
 is_sequential Plain = false
 is_sequential Global = false
@@ -33,6 +37,7 @@ is_sequential WorkGroup = false
 is_sequential Local = false
 is_sequential Sequential = true
 
+-- nobody said yet who does its work
 abbrev pub is_plain : MapKind → Bool
 is_plain Plain = true
 is_plain Global = false

@@ -1,4 +1,5 @@
--- Which nests of maps, folds and copies can be printed: eleven rules, and one before them, each broken at single nodes, and one of the whole.
+-- Which nests of maps, folds and copies can be printed: eleven rules, and one before them, each
+-- broken at single nodes, and one of the whole.
 use Rattle.std.specs.Prelude.{◌≡◌, ◌↔◌, ℕ, Bool, false, not, ◌&&◌, ◌||◌, List, [], ◌∷◌, ◌++◌, map, nat_lt, Option, Some, None, if◌then◌else◌}
 use Rattle.lift_tree.specs.Tree.{Tree, Unary, Binary, Select, Let, Map, Fold}
 use Rattle.lift_tree.specs.Annotations.{Annotation, One, Two, Three, type_in}
@@ -21,10 +22,11 @@ pub record Site : Type 0 where
   pub tree : Tree
   pub types : Annotation
 
--- the place of a site in its parent's parent
+-- a site of the child of this number, with its place seen from the parent
 abbrev pub in_child : ℕ → Site → Site
 in_child i x = record x { place = i ∷ x.place }
 
+-- sites of that child, with their places seen from the parent
 abbrev pub under : ℕ → List Site → List Site
 under i = map (in_child i)
 
@@ -38,35 +40,45 @@ sites s (Binary f t u) (Two a n m) =
     ∷ (under 0 (sites (operand s a) t n) ++ under 1 (sites (operand s a) u m))
 sites s (Select t u v) (Three a n m k) =
     record { place = []; around = s; tree = Select t u v; types = Three a n m k }
-    ∷ (under 0 (sites (operand s a) t n) ++ (under 1 (sites (operand s a) u m) ++ under 2 (sites (operand s a) v k)))
+    ∷
+    (under 0 (sites (operand s a) t n)
+    ++ (under 1 (sites (operand s a) u m) ++ under 2 (sites (operand s a) v k)))
 sites s (Let v b) (Two a n m) =
     record { place = []; around = s; tree = Let v b; types = Two a n m }
-    ∷ (under 0 (sites (argument s (is_element (type_in n)) a) v n) ++ under 1 (sites (let_body s (is_element (type_in n)) a) b m))
+    ∷
+    (under 0 (sites (argument s (is_element (type_in n)) a) v n)
+    ++ under 1 (sites (let_body s (is_element (type_in n)) a) b m))
 sites s (Map h xs b) (Two a n m) =
     record { place = []; around = s; tree = Map h xs b; types = Two a n m }
     ∷ (under 0 (sites (argument s false a) xs n) ++ under 1 (sites (map_body s h a) b m))
 sites s (Fold h xs z b) (Three a n m k) =
     record { place = []; around = s; tree = Fold h xs z b; types = Three a n m k }
-    ∷ (under 0 (sites (argument s false a) xs n) ++ (under 1 (sites (operand s a) z m) ++ under 2 (sites (fold_body s a) b k)))
+    ∷
+    (under 0 (sites (argument s false a) xs n)
+    ++ (under 1 (sites (operand s a) z m) ++ under 2 (sites (fold_body s a) b k)))
 sites s t n = record { place = []; around = s; tree = t; types = n } ∷ []
 
 -- the node itself, without those below it
 abbrev pub site_at : Around → Tree → Annotation → Site
 site_at s t n = record { place = []; around = s; tree = t; types = n }
 
+-- the root of a term
 abbrev pub root_site : Tree → Annotation → Site
 root_site t n = site_at (at_root t) t n
 
 -- ---- rules
 
--- the rule is broken at a node t whose types are n, with this around it; N12 is of the whole, and no node breaks it
+-- the rule is broken at a node t whose types are n, with this around it; N12 is of
+-- the whole, and no node breaks it
 abbrev pub breaks : NestRule → Around → Tree → Annotation → Bool
 breaks N1 s t n = is_undecided t
 breaks N2 s t n = is_map_of is_local t && not s.is_next_to_group
 breaks N3 s t n = (is_map_of is_global t || is_map_of is_over_groups t) && s.in_parallel
 breaks N4 s t n =
     (s.in_group && not s.in_local)
-    && (is_map_of is_sequential t || is_lowered_fold t || (s.is_written && is_element (type_in n)) || is_let_of_element t n)
+    &&
+    (is_map_of is_sequential t || is_lowered_fold t || (s.is_written && is_element (type_in n))
+    || is_let_of_element t n)
 breaks N5 s t n = is_local_copy t && (not s.in_group || s.in_local || not (copies_local_map t))
 breaks N6 s t n = is_local_copy t && hangs_on_sizes (type_in n)
 breaks N7 s t n =
@@ -79,6 +91,7 @@ breaks N11 s t n = (s.is_written && not (is_element (type_in n))) && is_placed t
 breaks N12 s t n = false
 breaks N13 s t n = is_then t
 
+-- the rule is broken at the site
 abbrev pub broken_at : NestRule → Site → Bool
 broken_at r x = breaks r x.around x.tree x.types
 
@@ -107,10 +120,13 @@ abbrev pub lowest : List NestRule → Site → Option NestRule
 lowest [] x = None
 lowest (r ∷ rs) x = if broken_at r x then Some r else lowest rs x
 
-abbrev pub first_of : Option (List ℕ × NestRule) → Option (List ℕ × NestRule) → Option (List ℕ × NestRule)
+-- the first of two faults, where there is one
+abbrev pub first_of : Option (List ℕ × NestRule) → Option (List ℕ × NestRule)
+    → Option (List ℕ × NestRule)
 first_of (Some x) y = Some x
 first_of None y = y
 
+-- a broken rule and its place, where a rule is broken
 abbrev pub at_place : List ℕ → Option NestRule → Option (List ℕ × NestRule)
 at_place p (Some r) = Some (p, r)
 at_place p None = None
@@ -131,13 +147,16 @@ leaves_items_idle None t = false
 abbrev pub size_rule : Option ℕ → Tree → Option NestRule
 size_rule local t = if leaves_items_idle local t then Some N12 else None
 
--- of the whole's nodes the first at which one of the later rules is broken, where this one is tried behind those of the root
+-- of the whole's nodes the first at which one of the later rules is broken, where this one is tried
+-- behind those of the root
 abbrev pub first_broken_with : Option NestRule → List Site → Option (List ℕ × NestRule)
 first_broken_with whole [] = at_place [] whole
 first_broken_with whole (root ∷ xs) =
-    first_of (at_place root.place (lowest later_rules root)) (first_of (at_place [] whole) (first_broken later_rules xs))
+    first_of (at_place root.place (lowest later_rules root))
+    (first_of (at_place [] whole) (first_broken later_rules xs))
 
--- with this local size, where one is fixed, the first cut in preorder, or else the first node at which a rule is broken, and the lowest such rule
+-- with this local size, where one is fixed, the first cut in preorder, or else the first node at
+-- which a rule is broken, and the lowest such rule
 abbrev pub nest_fault : Option ℕ → Tree → Annotation → Option (List ℕ × NestRule)
 nest_fault local t n =
     first_of (first_broken earliest_rules (sites (at_root t) t n))
@@ -151,4 +170,5 @@ pub record IsLegalWith (local : Option ℕ) (t : Tree) (n : Annotation) : Type 0
 -- where there is none the nest is legal with the local size, and else it isn't
 abbrev pub LegalWithoutFault : Type 0
 LegalWithoutFault =
-    (local : Option ℕ) (t : Tree) (n : Annotation) → (nest_fault local t n ≡ None) ↔ IsLegalWith local t n
+    (local : Option ℕ) (t : Tree) (n : Annotation)
+    → (nest_fault local t n ≡ None) ↔ IsLegalWith local t n

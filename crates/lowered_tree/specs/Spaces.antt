@@ -13,9 +13,11 @@ use Rattle.lowered_tree.specs.Nest.{Site, sites}
 abbrev pub computes : Around → Tree → Annotation → Bool
 computes s t n = s.is_written && (is_lowered_map t || is_lowered_fold t || is_element (type_in n))
 
+-- the node of the site computes
 abbrev pub computes_at : Site → Bool
 computes_at x = computes x.around x.tree x.types
 
+-- the spaces of those of these sites that compute, in their order
 abbrev pub spaces_in : List Site → List AddressSpace
 spaces_in [] = []
 spaces_in (x ∷ xs) = if computes_at x then x.around.space ∷ spaces_in xs else spaces_in xs

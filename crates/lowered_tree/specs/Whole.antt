@@ -11,7 +11,8 @@ use Rattle.lowered_tree.specs.Copies.{CopiesArrays}
 use Rattle.lowered_tree.specs.Forms.{has_then}
 use Rattle.lowered_tree.specs.Words.{FormsHaveWords}
 
--- a typed term of a proper program of few inputs, within the limits, which copies nothing but arrays
+-- a typed term of a proper program of few inputs, within the limits,
+-- which copies nothing but arrays
 pub record IsTypedWithin (p : PlainProgram) (t : Tree) (n : Annotation) : Type 0 where
   pub proper : IsProper p
   pub few : length p.inputs ≤ 8

@@ -17,6 +17,7 @@ FormHasWords ToLocal = Unit {0}
 FormHasWords ToPrivate = Unit {0}
 FormHasWords Then = Unit {0}
 
+-- each form's number is a word
 abbrev pub FormsHaveWords : Tree → Type 0
 FormsHaveWords (Variable v) = Unit {0}
 FormsHaveWords (Number n) = Unit {0}

@@ -25,11 +25,13 @@ pub enum AddressSpace {
 pub struct Around {
     /// What the node gives is stored.
     pub is_written: bool,
-    /// The node is in an argument: the array of a map or fold, or a let's value that is no element, with no copy between.
+    /// The node is in an argument: the array of a map or fold, or a let's value that is no
+    /// element, with no copy between.
     pub in_argument: bool,
     /// It is below an element term.
     pub in_element: bool,
-    /// It is in a work-item's body: that of a map over all items or over a group's items, or anywhere in a term without parallel maps.
+    /// It is in a work-item's body: that of a map over all items or over a group's items, or
+    /// anywhere in a term without parallel maps.
     pub in_item: bool,
     /// It is in the body of a map over work-groups.
     pub in_group: bool,
@@ -69,7 +71,8 @@ pub fn is_task(term: &Term) -> bool
 }
 
 impl Around {
-    /// What is around the root: it is written, and in a term without parallel maps everything is one work-item's.
+    /// What is around the root: it is written, and in a term without parallel maps
+    /// everything is one work-item's.
     pub fn root(term: &Term) -> Around
         ensures { result ≡ at_root (tree_of term.now) }
     {
@@ -87,7 +90,8 @@ impl Around {
         }
     }
 
-    /// What is around a child that is no argument, body or copy. The parent has this type, as in the calls below.
+    /// What is around a child that is no argument, body or copy. The parent has
+    /// this type, as in the calls below.
     pub fn operand(self, parent: &Ty) -> Around
         ensures { result ≡ operand self (ty_of parent.now) }
     {
@@ -98,7 +102,8 @@ impl Around {
         }
     }
 
-    /// What is around the operand of a layout that is written through, which is written where the layout is.
+    /// What is around the operand of a layout that is written through, which
+    /// is written where the layout is.
     pub fn passed(self, parent: &Ty) -> Around
         ensures { result ≡ passed self (ty_of parent.now) }
     {
@@ -140,7 +145,8 @@ impl Around {
         }
     }
 
-    /// What is around the array of a map or fold, or around a let's value. An element is no argument.
+    /// What is around the array of a map or fold, or around a let's
+    /// value. An element is no argument.
     pub fn argument(self, of_element: bool, parent: &Ty) -> Around
         ensures { result ≡ argument self of_element (ty_of parent.now) }
     {

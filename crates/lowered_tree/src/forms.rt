@@ -155,7 +155,8 @@ pub fn is_then(term: &Term) -> bool
     }
 }
 
-// Whether it is a map over a group's items, seen through layouts that are written through and the bodies of lets.
+// Whether it is a map over a group's items, seen through layouts that are written
+// through and the bodies of lets.
 fn shows_local_map(term: &Term) -> bool
     ensures { result ≡ shows_local_map (tree_of term.now) }
 {

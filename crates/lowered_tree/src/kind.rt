@@ -17,7 +17,8 @@ pub enum NestKind {
     OverGroups,
 }
 
-/// Who runs the term, which is told by the map on top, seen through layouts that are written through and the bodies of lets.
+/// Who runs the term, which is told by the map on top, seen through layouts that are written
+/// through and the bodies of lets.
 pub fn nest_kind(term: &Term) -> NestKind
     ensures { result ≡ nest_kind (tree_of term.now) }
 {

@@ -2,8 +2,8 @@
 
 ghost use Rattle.lowered_tree.specs.Nest.{LegalWithoutFault};
 
-/// No rule of the nest is broken first exactly where none is broken at any node, nor by a local size
-/// that is fixed.
+/// No rule of the nest is broken first exactly where none is broken at any node, nor
+/// by a local size that is fixed.
 pub fn legal_without_fault()
     ensures { LegalWithoutFault }
 {}

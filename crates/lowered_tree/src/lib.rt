@@ -1,4 +1,5 @@
-//! Lowered terms: what is around a node, which nests of maps, folds and copies can be printed, and what stands where.
+//! Lowered terms: what is around a node, which nests of maps, folds and copies can be
+//! printed, and what stands where.
 //!
 //! The patterns are those of Lift IR (CGO 2017); the rules of the nest are this project's own.
 #![tactic(auto)]

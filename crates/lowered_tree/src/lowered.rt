@@ -19,8 +19,8 @@ use lift_tree::ty::Ty;
 use lift_tree::typed::NodeTypes;
 use size_arith::Names;
 
-/// A term with the type of each node, and what it may name: the ranges of the sizes, and the inputs'
-/// types in order. It is typed within the limits, and copies nothing but arrays.
+/// A term with the type of each node, and what it may name: the ranges of the sizes, and the
+/// inputs' types in order. It is typed within the limits, and copies nothing but arrays.
 #[derive(Drop)]
 pub struct Lowered {
     pub names: Names,
@@ -63,7 +63,8 @@ pub struct Mapped {
     ghost sized: { IsLocalSize local } by { Prim.hlevel props },
 }
 
-/// A legal term, with the address space of each computing node: of each lowered map, sequential fold and element term in writing position.
+/// A legal term, with the address space of each computing node: of each lowered map, sequential
+/// fold and element term in writing position.
 #[derive(Drop)]
 pub struct Spaced {
     pub mapped: Mapped,

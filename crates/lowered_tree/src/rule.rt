@@ -5,17 +5,21 @@
 pub enum NestRule {
     /// A plain map, reduce or fold.
     N1,
-    /// A map over a group's items with no map over groups around it, or with a further body of a map or fold between.
+    /// A map over a group's items with no map over groups around it, or with a further
+    /// body of a map or fold between.
     N2,
     /// A map over all items or over groups, inside a parallel map's body.
     N3,
-    /// In a group's body and outside its items': a sequential map or fold, an element that is stored, or a let of an element.
+    /// In a group's body and outside its items': a sequential map or fold, an element that is
+    /// stored, or a let of an element.
     N4,
-    /// A local copy outside a group's body, or in an item's, or of anything but a map over a group's items.
+    /// A local copy outside a group's body, or in an item's, or of anything
+    /// but a map over a group's items.
     N5,
     /// A local copy whose type has a length that names a size.
     N6,
-    /// In an argument, a map or fold that isn't copied, or a let of an element; in an element term, a let of anything but an element.
+    /// In an argument, a map or fold that isn't copied, or a let of an element; in an element term,
+    /// a let of anything but an element.
     N7,
     /// A private copy outside a work-item's body, or whose type has a length that names a size.
     N8,
@@ -25,7 +29,8 @@ pub enum NestRule {
     N10,
     /// In writing position, and no element: a variable, an input or a copy.
     N11,
-    /// A local size above 1 that is fixed for a term without a parallel map: of the whole, at the root.
+    /// A local size above 1 that is fixed for a term without a parallel
+    /// map: of the whole, at the root.
     N12,
     /// A cut between two kernels, in the term of one kernel.
     N13,

@@ -18,7 +18,8 @@ use std::alloc::{AllocError, Global};
 
 /// The typed term, with what it may name. It keeps the term, and so its value, and its types.
 ///
-/// The term is typed within the limits and copies nothing but arrays, as each term of a script does.
+/// The term is typed within the limits and copies nothing but arrays,
+/// as each term of a script does.
 pub fn lowered(alloc: Global, typed: &Typed) -> Result<Lowered, AllocError>
     requires { IsTypedWithin (program_of typed.now.program)
         (tree_of typed.now.term) (annotation_of typed.now.types) }

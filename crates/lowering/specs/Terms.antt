@@ -16,24 +16,29 @@ use Rattle.lowering.specs.declared.term.Layout.{Layout}
 use Rattle.lowering.specs.declared.term.Term.{Term}
 use Rattle.lowering.specs.declared.term.Term as term
 
+-- how a map is run
 abbrev pub kind_of : Kind → terms.Kind
 kind_of kind.Global = terms.Global
 kind_of kind.WorkGroup = terms.WorkGroup
 kind_of kind.Local = terms.Local
 kind_of kind.Sequential = terms.Sequential
 
+-- where a copy lies
 abbrev pub space_of : Space → terms.Space
 space_of space.Local = terms.LocalMemory
 space_of space.Private = terms.PrivateMemory
 
+-- which scalars of a bound element are loaded
 abbrev pub load_set_of : LoadSet → terms.LoadSet
 load_set_of load_set.Skip = terms.Skip
 load_set_of load_set.Take = terms.Take
 load_set_of (load_set.Each' p a q b) = terms.Each (load_set_of a) (load_set_of b)
 
+-- the layout of a form over an operand, its lengths polynomials
 abbrev pub layout_in : Layout → layouts.Layout (List Monomial)
 layout_in l = layout_of l.form (ty_of l.ty) (ty_of l.operand)
 
+-- the term that a tree stands for
 abbrev pub term_of : Term → Lowered
 term_of (term.Literal n) = terms.Literal n
 term_of (term.Bound v) = terms.Bound v
@@ -47,8 +52,11 @@ term_of (term.First' p a) = terms.Project false (term_of a)
 term_of (term.Second' p a) = terms.Project true (term_of a)
 term_of (term.Reshape' l p a) = terms.Reshape (layout_in l) (term_of a)
 term_of (term.LetArray' p v q b) = terms.LetArray (term_of v) (term_of b)
-term_of (term.LetElement' t p v q b) = terms.LetElement (element_ty (ty_of t)) (term_of v) (term_of b)
-term_of (term.Map' k n loads p xs q b) = terms.Map (kind_of k) n (load_set_of loads) (term_of xs) (term_of b)
-term_of (term.Fold' n loads t p xs q s r b) = terms.Fold n (load_set_of loads) (element_ty (ty_of t)) (term_of xs) (term_of s) (term_of b)
+term_of (term.LetElement' t p v q b) =
+    terms.LetElement (element_ty (ty_of t)) (term_of v) (term_of b)
+term_of (term.Map' k n loads p xs q b) =
+    terms.Map (kind_of k) n (load_set_of loads) (term_of xs) (term_of b)
+term_of (term.Fold' n loads t p xs q s r b) =
+    terms.Fold n (load_set_of loads) (element_ty (ty_of t)) (term_of xs) (term_of s) (term_of b)
 term_of (term.Store' t p a) = terms.Store (element_ty (ty_of t)) (term_of a)
 term_of (term.Copy' s t p a) = terms.Copy (space_of s) (ty_at [] (ty_of t)) (term_of a)

@@ -1,4 +1,5 @@
-//! From typed terms to the intermediate representation, after Lift IR (CGO 2017): layouts are views, maps have kinds, writing is explicit.
+//! From typed terms to the intermediate representation, after Lift IR (CGO 2017): layouts are
+//! views, maps have kinds, writing is explicit.
 #![tactic(auto)]
 
 pub mod loads;

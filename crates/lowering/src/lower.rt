@@ -135,7 +135,8 @@ fn laid(
     reshaped(alloc, &form, ty, operand_ty, Box::new(alloc, operand)?)
 }
 
-// A stride of an array of this type: the rows of as many elements, transposed and one after another.
+// A stride of an array of this type: the rows of as many elements,
+// transposed and one after another.
 fn strided(
     alloc: Global,
     names: &Names,
@@ -272,7 +273,8 @@ fn mapped(
     Ok(Term::Map(kind(map_kind), length, loads, array, body))
 }
 
-// A fold over an array of this type with an accumulator of that type, whose body stands in the source so.
+// A fold over an array of this type with an accumulator of that type,
+// whose body stands in the source so.
 fn folded(
     alloc: Global,
     ty: &Ty,
@@ -360,7 +362,8 @@ fn lower_at(
     }
 }
 
-/// The term that a term of these types is lowered to, where the declared sizes have these ranges; the whole of it is written.
+/// The term that a term of these types is lowered to, where the declared sizes have these ranges;
+/// the whole of it is written.
 pub fn lower(
     alloc: Global,
     names: &Names,

@@ -80,7 +80,8 @@ impl Place {
         }
     }
 
-    /// The place of the body of a let of this type: in writing position of an element the whole let is an element.
+    /// The place of the body of a let of this type: in writing position of an
+    /// element the whole let is an element.
     pub fn of_body(self, ty: &Ty) -> Place
         ensures { place_of result ≡ spec.body_place (place_of self) (ty_of ty.now) }
     {

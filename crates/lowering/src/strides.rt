@@ -1,4 +1,5 @@
-//! The lengths of a stride's rows and columns: the product of its factors, and the array's length by it.
+//! The lengths of a stride's rows and columns: the product of its
+//! factors, and the array's length by it.
 //!
 //! A stride that is typed has both. Where there is none the answer is want of memory.
 

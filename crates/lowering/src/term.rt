@@ -42,7 +42,8 @@ pub struct Layout {
     pub operand: Ty,
 }
 
-/// A term. A binder is counted from the nearest, which is 0; a fold binds the element, then the accumulator.
+/// A term. A binder is counted from the nearest, which is 0; a fold binds the
+/// element, then the accumulator.
 #[derive(Drop)]
 pub enum Term {
     Literal(u32),
@@ -65,7 +66,8 @@ pub enum Term {
     LetElement(Ty, Box<Term>, Box<Term>),
     /// Over an array of this length: the array, and the body under one binder.
     Map(Kind, Poly, LoadSet, Box<Term>, Box<Term>),
-    /// Over an array of this length, with an accumulator of this type: the array, the start, and the body under two binders.
+    /// Over an array of this length, with an accumulator of this type: the array, the start, and
+    /// the body under two binders.
     Fold(Poly, LoadSet, Ty, Box<Term>, Box<Term>, Box<Term>),
     /// An element of this type, in writing position.
     Store(Ty, Box<Term>),

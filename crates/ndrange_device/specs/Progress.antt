@@ -21,5 +21,6 @@ pub record HasCome (schedule : Schedule) (es : List Event) (p : Progress) : Type
 
 -- the fault of the event of this number, which is a step, if it has one
 abbrev pub found_of : Event → Option Fault → (number : ℕ) → Option FaultFound
-found_of (Step k) fault number = option_map (λ f. record { kind = f.kind; event = number; item = k; cell = f.cell }) fault
+found_of (Step k) fault number =
+    option_map (λ f. record { kind = f.kind; event = number; item = k; cell = f.cell }) fault
 found_of (Release g) fault number = None

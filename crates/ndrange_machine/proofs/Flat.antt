@@ -21,7 +21,7 @@ use Rattle.ndrange_machine.specs.declared.change.Change.TheVariants.{Sets, SetsF
 use Rattle.ndrange_machine.specs.Known.{four_of, vars_of}
 use Rattle.ndrange_machine.specs.ItemView.{ItemView}
 use Rattle.ndrange_machine.specs.Flat.{part, with_cell, item_at, items_of, AreLaid}
-use Rattle.ndrange_machine.proofs.Rows.{get_beyond, get_or_is, get_there, get_within, set_other, set_same, some_is}
+use Rattle.ndrange_machine.proofs.Rows.{get_or_is, get_there, get_within, set_other, set_same, some_is}
 
 -- Parts of a list
 
@@ -339,13 +339,3 @@ moved_as {z' = z'} {inside' = inside'} {ch' = ch'} x z j p line inside ch a b e 
     subst (λ v. Moved x z j p (record { line = line; inside = inside }) v) (sym e)
     (subst (λ n. Moved x z j p (record { line = line; inside = n }) ch') (sym b)
     (subst (λ v. Moved x v j p (record { line = line; inside = inside' }) ch') (sym a) moved))
-
--- a change of an item that there isn't
-pub nothing_there : (now : List ItemView) (j : ℕ) (f : ItemView → ItemView) → length now ≤ j → (i : ℕ) → slice_get now i ≡ (if i == j then option_map f (slice_get now i) else slice_get now i)
-nothing_there now j f le i =
-    ⊎_elim
-    (λ e.
-    let none : slice_get now i ≡ None = ap (slice_get now) e.1 ∙ get_beyond now j le in
-    none ∙ sym (ap (option_map f) none) ∙ ap (λ b. if b then option_map f (slice_get now i) else slice_get now i) (sym e.0))
-    (λ e. ap (λ b. if b then option_map f (slice_get now i) else slice_get now i) (sym e.0))
-    (eqb_tells i j)

@@ -1,4 +1,5 @@
--- What the machine tells of the state that it holds: which events are enabled, and whether all items have ended.
+-- What the machine tells of the state that it holds: which events are enabled,
+-- and whether all items have ended.
 use Rattle.std.proofs.Common.{◌≡◌, ℕ, ◌+◌, ◌*◌, ◌/◌, ◌^◌, ◌<◌, ◌≤◌, List, length, Option, Some, None, Bool, true, false, refl, sym, ap, ◌∙◌, subst, ⊎_elim, arith, ◌↔◌}
 use Rattle.std.specs.Prelude.{map, not, slice_get, nat_lt, if◌then◌else◌, IsTrue}
 use Rattle.std.proofs.lemmas.List.{length-map}

@@ -1,25 +1,27 @@
 -- What a work-item wants, by its line.
-use Rattle.std.proofs.Common.{◌≡◌, ◌∙◌, ℕ, ◌+◌, Option, Some, None, refl, sym, ap}
-use Rattle.std.specs.Prelude.{option_map, slice_get}
+use Rattle.std.proofs.Common.{◌≡◌, ◌∙◌, ℕ, ◌+◌, ◌<◌, Option, Some, sym, ap, arith}
+use Rattle.std.specs.Prelude.{slice_get}
 use Rattle.kernel_tree.specs.Formula.{value}
-use Rattle.kernel_tree.specs.Launch.{ids_of}
-use Rattle.kernel_tree.specs.Tree.{formula_of}
+use Rattle.kernel_tree.specs.Launch.{ids_of, item_count}
+use Rattle.kernel_tree.specs.Tree.{formula_of, start_of}
+use Rattle.kernel_tree.specs.declared.tree.Start.{Start}
+use Rattle.kernel_tree.specs.declared.tree.Stride.{Stride}
 use Rattle.kernel_tree.specs.declared.tree.Array.{Array}
 use Rattle.kernel_tree.specs.declared.tree.Expr.{Expr}
 use Rattle.ndrange_machine.specs.declared.change.Change.TheVariants.{Sets}
 use Rattle.ndrange_machine.specs.declared.line.Line.{Line}
-use Rattle.ndrange_machine.specs.declared.line.Line.TheVariants.{Assign, Load, Store, Tail}
+use Rattle.ndrange_machine.specs.declared.line.Line.TheVariants.{Assign, Head, Load, Store, Tail}
 use Rattle.ndrange_machine.specs.declared.machine.Machine.{Machine}
 use Rattle.ndrange_machine.specs.declared.want.Want.{Want}
 use Rattle.ndrange_machine.specs.declared.want.Want.TheVariants.{Changes, Reads, Writes}
-use Rattle.ndrange_machine.specs.ItemView.{ItemView}
+use Rattle.ndrange_machine.specs.ItemView.{ItemView, OfItem}
 use Rattle.ndrange_machine.specs.Known.{variables}
 use Rattle.kernel_tree.specs.declared.events.Event.{Event}
 use Rattle.kernel_tree.specs.declared.events.Fault.{Fault}
 use Rattle.ndrange_machine.specs.Takes.{Advances, IsWanted, SameCore}
-use Rattle.ndrange_machine.proofs.Rows.{some_is}
+use Rattle.ndrange_machine.proofs.Rows.{get_there, some_is}
 use Rattle.ndrange_machine.proofs.Telling.{same_stands}
-use Rattle.ndrange_machine.specs.Wants.{want_if, want_in, want_tail, wanted}
+use Rattle.ndrange_machine.specs.Wants.{want_head, want_if, want_in, want_tail, wanted}
 
 -- the j-th work-item, which stands at this line
 pub record IsAtLine (m : Machine) (j : ℕ) (it : ItemView) (at : ℕ) (l : Line) : Type 0 where
@@ -28,12 +30,11 @@ pub record IsAtLine (m : Machine) (j : ℕ) (it : ItemView) (at : ℕ) (l : Line
   pub line : slice_get m.lines.items at ≡ Some l
 
 -- the work-item whose line was told
-pub line_told : (m : Machine) (j at : ℕ) → Some at ≡ option_map (λ (it : ItemView). it.line) (slice_get m.items j) → (it : ItemView) × (slice_get m.items j ≡ Some it) × (at ≡ it.line)
-line_told m j at = told (slice_get m.items j)
-  where
-    told : (o : Option ItemView) → Some at ≡ option_map (λ (it : ItemView). it.line) o → (it : ItemView) × (o ≡ Some it) × (at ≡ it.line)
-    told (Some it) e = (it, refl, some_is at it.line e)
-    told None e = absurd (let b : ⊥ = cc in b)
+pub line_told : (m : Machine) (j at : ℕ) → j < item_count m.launch → OfItem m.items j (λ it. at ≡ it.line) → (it : ItemView) × (slice_get m.items j ≡ Some it) × (at ≡ it.line)
+line_told m j at lt is =
+    let all = m.all_items in
+    let it = get_there m.items j (omega (arith, all, lt)) in
+    (it.0, it.1, is it.0 it.1)
 
 wants : (m : Machine) (j : ℕ) (it : ItemView) (at : ℕ) (l : Line) (w : Want) → IsAtLine m j it at l → w ≡ want_in m.lines.items (ids_of m.launch j) at it.turns it.vars (Some l) → IsWanted m j w
 wants m j it at l w h is = λ other e.
@@ -59,6 +60,9 @@ wants_to_write m j it at a i e k x h index is =
 
 pub wants_to_repeat : (m : Machine) (j : ℕ) (it : ItemView) (at head : ℕ) (w : Want) → IsAtLine m j it at (Tail head) → w ≡ want_tail m.lines.items (ids_of m.launch j) head it.turns → IsWanted m j w
 wants_to_repeat m j it at head w h is = wants m j it at _ w h is
+
+pub wants_to_begin : (m : Machine) (j : ℕ) (it : ItemView) (at : ℕ) (s : Start) (b : Expr) (c : Stride) (exit : ℕ) (w : Want) → IsAtLine m j it at (Head s b c exit) → w ≡ want_head (ids_of m.launch j) (start_of s) (formula_of b) at exit → IsWanted m j w
+wants_to_begin m j it at s b c exit w h is = wants m j it at _ w h is
 
 -- the same machine, whatever proves what is known of it
 pub advances_same : {n : Machine} (m : Machine) (e : Event) (new : Machine) (fault : Option Fault) → Advances n e new fault → SameCore m n → n.ready ≡ m.ready → n.marks ≡ m.marks → Advances m e new fault

@@ -7,6 +7,7 @@ use Rattle.ndrange_machine.specs.declared.turn.Turn.{Turn}
 use Rattle.ndrange_machine.specs.ItemView.{ItemView}
 use Rattle.ndrange_machine.specs.Known.{four_of}
 
+-- the turns of an item's loops after a change, where it has room for so many turns
 abbrev pub changed_turns : List Turn → (room : ℕ) → Change → List Turn
 changed_turns turns room (Begins t) = if nat_lt (length turns) room then turns ++ t ∷ [] else turns
 changed_turns turns room (Repeats t) = slice_set turns (length turns - 1) t
@@ -15,6 +16,7 @@ changed_turns turns room (Sets v x) = turns
 changed_turns turns room (SetsFour v u) = turns
 changed_turns turns room Keeps = turns
 
+-- an item's private variables after a change
 abbrev pub changed_vars : Vars → Change → Vars
 changed_vars vars (Sets v x) = set_word vars v x
 changed_vars vars (SetsFour v u) = set_vector vars v (four_of u)
@@ -23,6 +25,7 @@ changed_vars vars (Repeats t) = vars
 changed_vars vars Leaves = vars
 changed_vars vars Keeps = vars
 
+-- an item after a change, at the line that it goes to
 abbrev pub changed : ItemView → Change → (line : ℕ) → ItemView
 changed it c line = record {
   line = line;
@@ -33,7 +36,10 @@ changed it c line = record {
 
 -- the word in each variable of a word, and in each lane of the others
 abbrev pub filled : (variables vectors word : ℕ) → Vars
-filled variables vectors word = record { words = replicate variables word; vectors = replicate vectors (spread word) }
+filled variables vectors word =
+    record { words = replicate variables word; vectors = replicate vectors (spread word) }
 
+-- an item before its first event: the word in each variable, and room for so many turns
 abbrev pub start_view : (depth variables vectors word : ℕ) → ItemView
-start_view depth variables vectors word = record { line = 0; turns = []; room = depth; vars = filled variables vectors word }
+start_view depth variables vectors word =
+    record { line = 0; turns = []; room = depth; vars = filled variables vectors word }

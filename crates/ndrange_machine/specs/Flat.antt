@@ -12,7 +12,8 @@ part cells width number = take width (drop (number * width) cells)
 
 -- with a cell at a place of the part of this number, if it has such a place
 abbrev pub with_cell : {A : Type 0} → List A → (width number place : ℕ) → A → List A
-with_cell cells width number at cell = if nat_lt at width then slice_set cells (number * width + at) cell else cells
+with_cell cells width number at cell =
+    if nat_lt at width then slice_set cells (number * width + at) cell else cells
 
 -- the item of this number, which stands here
 abbrev pub item_at : Inside → (number : ℕ) → Place → ItemView
@@ -23,6 +24,7 @@ item_at x j p = record {
   vars = vars_of (part x.words.items x.variables j) (part x.vectors.items x.fours j);
 }
 
+-- the machine's work-items, by number, each with its part of every list
 abbrev pub items_of : Inside → List ItemView
 items_of x = map (λ e. item_at x e.0 e.1) (enumerate_from 0 x.places.items)
 

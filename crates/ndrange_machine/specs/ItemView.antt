@@ -3,6 +3,7 @@ use Rattle.std.specs.Prelude.{◌≡◌, ℕ, List, Some, slice_get}
 use Rattle.kernel_tree.specs.Formula.{Vars}
 use Rattle.ndrange_machine.specs.declared.turn.Turn.{Turn}
 
+-- where an item stands, the turns it is in, and its private variables
 pub record ItemView : Type 0 where
   pub line : ℕ
   pub turns : List Turn  -- of the loops around it, outermost first

@@ -74,8 +74,11 @@ lines_at n (Stores a i e after) = Store a i e ∷ lines_at (suc n) after
 lines_at n (AssignsFour v e after) = AssignFour v e ∷ lines_at (suc n) after
 lines_at n (LoadsFour v a i after) = LoadFour v a i ∷ lines_at (suc n) after
 lines_at n (StoresFour a i e after) = StoreFour a i e ∷ lines_at (suc n) after
-lines_at n (Guards s b body after) = Test s b (past_if n body) ∷ (lines_at (suc n) body ++ lines_at (past_if n body) after)
-lines_at n (Loops s b c body after) = Head s b c (exit_of n body) ∷ (lines_at (suc n) body ++ (Tail n ∷ lines_at (exit_of n body) after))
+lines_at n (Guards s b body after) =
+    Test s b (past_if n body) ∷ (lines_at (suc n) body ++ lines_at (past_if n body) after)
+lines_at n (Loops s b c body after) =
+    Head s b c (exit_of n body)
+    ∷ (lines_at (suc n) body ++ (Tail n ∷ lines_at (exit_of n body) after))
 lines_at n (Syncs on_local on_global after) = Barrier on_local on_global ∷ lines_at (suc n) after
 
 -- the head of a loop whose body ends at line n
@@ -85,15 +88,18 @@ head_of n f = n - suc (size f.body)
 -- the lines from line n on, where the innermost of these loops has its body's end
 abbrev pub lines_after : ℕ → List Frame → List Line
 lines_after n [] = []
-lines_after n (f ∷ fs) = Tail (head_of n f) ∷ (lines_at (suc n) f.after ++ lines_after (suc n + size f.after) fs)
+lines_after n (f ∷ fs) =
+    Tail (head_of n f) ∷ (lines_at (suc n) f.after ++ lines_after (suc n + size f.after) fs)
 
 -- a loop whose body ends at line n, inside the loops fs
 pub record IsLoop (lines : List Line) (n : ℕ) (f : Frame) (fs : List Frame) : Type 0 where
   pub start : Start
   pub low : suc (size f.body) ≤ n
   pub head : slice_get lines (head_of n f) ≡ Some (Head start f.bound f.stride (suc n))
-  pub body : drop (suc (head_of n f)) lines ≡ lines_at (suc (head_of n f)) f.body ++ lines_after n (f ∷ fs)
+  pub body : drop (suc (head_of n f)) lines ≡ lines_at (suc (head_of n f)) f.body
+      ++ lines_after n (f ∷ fs)
 
+-- the innermost of these loops ends its body at line n, and each other one further on
 abbrev pub AreLoops : List Line → ℕ → List Frame → Type 0
 AreLoops lines n [] = Unit {0}
 AreLoops lines n (f ∷ fs) = IsLoop lines n f fs × AreLoops lines (suc n + size f.after) fs
@@ -108,7 +114,8 @@ pub record IsAt (lines : List Line) (n : ℕ) (x : Item) : Type 0 where
 -- there is room for the turns of all loops that an item in these loops may still enter
 abbrev pub HaveRoom : (room : ℕ) → List Frame → Type 0
 HaveRoom room [] = Unit {0}
-HaveRoom room (f ∷ fs) = (suc (length fs) + depth f.body ≤ room) × (length fs + depth f.after ≤ room) × HaveRoom room fs
+HaveRoom room (f ∷ fs) =
+    (suc (length fs) + depth f.body ≤ room) × (length fs + depth f.after ≤ room) × HaveRoom room fs
 
 -- no turn's number is above its variable
 abbrev pub AreNumbered : List Frame → Type 0

@@ -11,10 +11,12 @@ use Rattle.ndrange_machine.specs.declared.memory.Memory.{Memory}
 abbrev pub rows_of : List (Vec ℕ Global) → List (List ℕ)
 rows_of rows = map (λ row. row.items) rows
 
+-- the word at this index of a row, if there is such a row and index
 abbrev pub in_row : Option (Vec ℕ Global) → ℕ → Option ℕ
 in_row None i = None
 in_row (Some row) i = slice_get row.items i
 
+-- the word at this index of the a-th row, if there is one
 abbrev pub cell_in : List (Vec ℕ Global) → ℕ → ℕ → Option ℕ
 cell_in rows a i = in_row (slice_get rows a) i
 
@@ -31,6 +33,7 @@ held_at m (Output a) h i = if h == 0 then cell_in m.outs.items a i else None
 held_at m (Local a) h i = cell_in (rows_at m.locals.items h) a i
 held_at m (Private a) h i = cell_in (rows_at m.privates.items h) a i
 
+-- the word that the machine holds in a cell, if there is such a cell
 abbrev pub held : Memory → Cell → Option ℕ
 held m c = held_at m c.array c.home c.index
 
@@ -51,4 +54,6 @@ put_held f e word c = if same_cell c e && is_some (f e) then Some word else f c
 
 -- with four words in four cells, one after another
 abbrev pub put_four : (Cell → Option ℕ) → Cell → Four → Cell → Option ℕ
-put_four f e u = put_held (put_held (put_held (put_held f e u.x) (behind 1 e) u.y) (behind 2 e) u.z) (behind 3 e) u.w
+put_four f e u =
+    put_held (put_held (put_held (put_held f e u.x) (behind 1 e) u.y) (behind 2 e) u.z)
+    (behind 3 e) u.w

@@ -41,6 +41,7 @@ fault_in (Some lane) cell diverges = Some (record { kind = Race; cell = cell })
 fault_in None cell true = Some (record { kind = Divergent; cell = None })
 fault_in None cell false = None
 
+-- the kind of that fault, if it is one
 abbrev pub kind_in : (lane : Option ℕ) → (diverges : Bool) → Option FaultKind
 kind_in (Some lane) diverges = Some Race
 kind_in None true = Some Divergent

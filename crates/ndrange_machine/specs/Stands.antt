@@ -36,22 +36,29 @@ pub record Holds (k : Kernel) (l : Launch) (c : Cells) (m : Machine) (s : State)
   pub launch : m.launch ≡ l
   pub whole : IsWhole l
   pub count : length m.items ≡ item_count l
-  pub items : (j : ℕ) (it : ItemView) → slice_get m.items j ≡ Some it → HoldsItem (lines_at 0 k.code) it (s.items j)
-  pub there : (a : Array) (h i : ℕ) → h < homes l a → is_some (held m.memory (record { array = a; home = h; index = i })) ≡ nat_lt i (length_in k c a)
+  pub items : (j : ℕ) (it : ItemView) → slice_get m.items j ≡ Some it
+      → HoldsItem (lines_at 0 k.code) it (s.items j)
+  pub there : (a : Array) (h i : ℕ) → h < homes l a
+      → is_some (held m.memory (record { array = a; home = h; index = i }))
+      ≡ nat_lt i (length_in k c a)
   pub cells : (d : Cell) (x : ℕ) → held m.memory d ≡ Some x → s.memory d ≡ x
   pub outs : length m.memory.outs.items ≡ length c.outs
 
 -- the machine stands for a run of the kernel, which is of the grammar, on these cells. After an
 -- event that failed, which is the last of its run, it no longer has the private variables, and
 -- after a fault its marks count no more
-pub record StandsFor (k : Kernel) (l : Launch) (c : Cells) (m : Machine) (es : List Event) : Type 0 where
+pub record StandsFor (k : Kernel) (l : Launch) (c : Cells) (m : Machine)
+    (es : List Event) : Type 0 where
   pub grammar : is_kernel k ≡ true
   pub is_run : Run (device_of k l c) (start_state k c) es
   pub holds : Holds k l c m (state_after k l c es)
   pub flags : AreFlags (device_of k l c) (state_after k l c es) m.ready
-  pub vars : NoFailure (device_of k l c) (start_state k c) es → (j : ℕ) (it : ItemView) → slice_get m.items j ≡ Some it → it.vars ≡ ((state_after k l c es).items j).vars
-  pub marks : IsFaultless (device_of k l c) (start_state k c) es → MarksTell (device_of k l c) (start_state k c) es m.marks
-  pub steady : IsFaultless (device_of k l c) (start_state k c) es → SomeDiverges (device_of k l c) (state_after k l c es) → ⊥
+  pub vars : NoFailure (device_of k l c) (start_state k c) es → (j : ℕ) (it : ItemView)
+      → slice_get m.items j ≡ Some it → it.vars ≡ ((state_after k l c es).items j).vars
+  pub marks : IsFaultless (device_of k l c) (start_state k c) es
+      → MarksTell (device_of k l c) (start_state k c) es m.marks
+  pub steady : IsFaultless (device_of k l c) (start_state k c) es
+      → SomeDiverges (device_of k l c) (state_after k l c es) → ⊥
 
 -- how many events the machine has as enabled
 abbrev pub enabled_count : Machine → ℕ
@@ -62,7 +69,9 @@ abbrev pub CountsEnabled : Device → State → ℕ → Type 0
 CountsEnabled d s n = (es : List Event) × AreEnabled d s es × (n ≡ length es)
 
 -- these rows are what the output arrays hold
-pub record AreOutputs (k : Kernel) (l : Launch) (c : Cells) (s : State) (rows : List (List ℕ)) : Type 0 where
+pub record AreOutputs (k : Kernel) (l : Launch) (c : Cells) (s : State)
+    (rows : List (List ℕ)) : Type 0 where
   pub count : length rows ≡ length c.outs
   pub lengths : (a : ℕ) → length (row rows a) ≡ length (row c.outs a)
-  pub words : (a i : ℕ) → i < length (row rows a) → slice_index (row rows a) i ≡ s.memory (cell_at l 0 (Output a) i)
+  pub words : (a i : ℕ) → i < length (row rows a)
+      → slice_index (row rows a) i ≡ s.memory (cell_at l 0 (Output a) i)

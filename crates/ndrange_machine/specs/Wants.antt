@@ -28,6 +28,7 @@ text_of (Head s b c exit) = text.Head (start_of s) (formula_of b) (stride_of c) 
 text_of (Tail head) = text.Tail head
 text_of (Barrier on_local on_global) = text.Barrier on_local on_global
 
+-- the same line with another exit, where its kind has one
 abbrev pub with_exit : Line → ℕ → Line
 with_exit (Head s b c old) exit = Head s b c exit
 with_exit (Test s b old) exit = Test s b exit
@@ -40,6 +41,7 @@ with_exit (StoreFour a i e) exit = StoreFour a i e
 with_exit (Tail head) exit = Tail head
 with_exit (Barrier on_local on_global) exit = Barrier on_local on_global
 
+-- the innermost loop's turn
 abbrev pub last_of : List Turn → Option Turn
 last_of turns = slice_get turns (length turns - 1)
 
@@ -52,12 +54,15 @@ want_if (Some x) go = go x
 abbrev pub want_head : Ids → Start → Formula → (n exit : ℕ) → Want
 want_head ids s b n exit =
     want_if (bound_value ids.sizes b)
-    (λ k. if nat_lt (start_value ids s) k then Changes (Begins (record { number = 0; variable = start_value ids s })) (n + 1) else Changes Keeps exit)
+    (λ k. if nat_lt (start_value ids s) k then Changes
+    (Begins (record { number = 0; variable = start_value ids s }))
+    (n + 1) else Changes Keeps exit)
 
 -- at the test of the `if` on line n
 abbrev pub want_test : Ids → Start → Formula → (n exit : ℕ) → Want
 want_test ids s b n exit =
-    want_if (bound_value ids.sizes b) (λ k. if nat_lt (start_value ids s) k then Changes Keeps (n + 1) else Changes Keeps exit)
+    want_if (bound_value ids.sizes b)
+    (λ k. if nat_lt (start_value ids s) k then Changes Keeps (n + 1) else Changes Keeps exit)
 
 -- the turn after this one, whose variable is x
 abbrev pub turn_after : Turn → (x : ℕ) → Turn
@@ -68,33 +73,52 @@ turn_after t x = record { number = (t.number + 1) % 2 ^ 32; variable = x }
 abbrev pub want_turn : (sizes : List ℕ) → Formula → Turn → (x head exit : ℕ) → Want
 want_turn sizes b t x head exit =
     want_if (bound_value sizes b)
-    (λ k. if nat_lt x (2 ^ 32) then (if nat_lt x k then Changes (Repeats (turn_after t x)) (head + 1) else Changes Leaves exit) else Fails LoopWrap)
+    (λ k. if nat_lt x (2 ^ 32) then
+    (if nat_lt x k then Changes (Repeats (turn_after t x))
+    (head + 1) else Changes Leaves exit) else Fails LoopWrap)
 
+-- the same after the innermost loop's turn, if there is one; an item in no loop has ended
 abbrev pub want_last : Ids → Formula → Stride → (head exit : ℕ) → Option Turn → Want
 want_last ids b c head exit None = Ends
-want_last ids b c head exit (Some t) = want_turn ids.sizes b t (t.variable + stride_value ids (stride_of c)) head exit
+want_last ids b c head exit (Some t) =
+    want_turn ids.sizes b t (t.variable + stride_value ids (stride_of c)) head exit
 
+-- the same in these turns, where the head's line is this; one that is no head ends the item
 abbrev pub want_back : Ids → List Turn → (head : ℕ) → Option Line → Want
-want_back ids turns head (Some (Head s b c exit)) = want_last ids (formula_of b) c head exit (last_of turns)
+want_back ids turns head (Some (Head s b c exit)) =
+    want_last ids (formula_of b) c head exit (last_of turns)
 want_back ids turns head _ = Ends
 
+-- the same where the head is the line of this number
 abbrev pub want_tail : List Line → Ids → (head : ℕ) → List Turn → Want
 want_tail lines ids head turns = want_back ids turns head (slice_get lines head)
 
+-- at line n, which reads so; past the last line the item has ended
 abbrev pub want_in : List Line → Ids → (n : ℕ) → List Turn → (vars : Vars) → Option Line → Want
 want_in lines ids n turns vars None = Ends
-want_in lines ids n turns vars (Some (Assign v e)) = want_if (value ids (variables turns) vars (formula_of e)) (λ x. Changes (Sets v x) (n + 1))
-want_in lines ids n turns vars (Some (Load v a i)) = want_if (value ids (variables turns) vars (formula_of i)) (λ k. Reads v a k (n + 1))
+want_in lines ids n turns vars (Some (Assign v e)) =
+    want_if (value ids (variables turns) vars (formula_of e)) (λ x. Changes (Sets v x) (n + 1))
+want_in lines ids n turns vars (Some (Load v a i)) =
+    want_if (value ids (variables turns) vars (formula_of i)) (λ k. Reads v a k (n + 1))
 want_in lines ids n turns vars (Some (Store a i e)) =
-    want_if (value ids (variables turns) vars (formula_of i)) (λ k. want_if (value ids (variables turns) vars (formula_of e)) (λ x. Writes a k x (n + 1)))
-want_in lines ids n turns vars (Some (AssignFour v e)) = want_if (lanes_value ids (variables turns) vars (lanes_of e)) (λ u. Changes (SetsFour v (held_four u)) (n + 1))
-want_in lines ids n turns vars (Some (LoadFour v a i)) = want_if (value ids (variables turns) vars (formula_of i)) (λ k. ReadsFour v a k (n + 1))
+    want_if (value ids (variables turns) vars (formula_of i))
+    (λ k. want_if (value ids (variables turns) vars (formula_of e)) (λ x. Writes a k x (n + 1)))
+want_in lines ids n turns vars (Some (AssignFour v e)) =
+    want_if (lanes_value ids (variables turns) vars (lanes_of e))
+    (λ u. Changes (SetsFour v (held_four u)) (n + 1))
+want_in lines ids n turns vars (Some (LoadFour v a i)) =
+    want_if (value ids (variables turns) vars (formula_of i)) (λ k. ReadsFour v a k (n + 1))
 want_in lines ids n turns vars (Some (StoreFour a i e)) =
-    want_if (value ids (variables turns) vars (formula_of i)) (λ k. want_if (lanes_value ids (variables turns) vars (lanes_of e)) (λ u. WritesFour a k (held_four u) (n + 1)))
-want_in lines ids n turns vars (Some (Test s b exit)) = want_test ids (start_of s) (formula_of b) n exit
-want_in lines ids n turns vars (Some (Head s b c exit)) = want_head ids (start_of s) (formula_of b) n exit
+    want_if (value ids (variables turns) vars (formula_of i))
+    (λ k. want_if (lanes_value ids (variables turns) vars (lanes_of e))
+    (λ u. WritesFour a k (held_four u) (n + 1)))
+want_in lines ids n turns vars (Some (Test s b exit)) =
+    want_test ids (start_of s) (formula_of b) n exit
+want_in lines ids n turns vars (Some (Head s b c exit)) =
+    want_head ids (start_of s) (formula_of b) n exit
 want_in lines ids n turns vars (Some (Tail head)) = want_tail lines ids head turns
-want_in lines ids n turns vars (Some (Barrier on_local on_global)) = Waits on_local on_global (n + 1)
+want_in lines ids n turns vars (Some (Barrier on_local on_global)) =
+    Waits on_local on_global (n + 1)
 
 -- what an item wants at line n
 abbrev pub want_line : List Line → Ids → (n : ℕ) → List Turn → (vars : Vars) → Want

@@ -96,7 +96,8 @@ impl Ids {
     }
 }
 
-// The answer along one dimension, where there are so many items and so many in a group, at this place.
+// The answer along one dimension, where there are so many items and so many in a group, at this
+// place.
 #[inline(always)]
 fn answer(form: IdForm, global: u32, local: u32, place: u32) -> u32
     ensures { result ≡ id_value (ids_along global local place) (id_of form) }

@@ -32,8 +32,8 @@ pub struct Place {
 
 /// The work-items, each with the number of its line, the turns of the loops around it, outermost
 /// first, and its private variables of a word and of four words. Each has as many of them as the
-/// others: so what all hold lies in four lists, the parts of one item behind those of the item before
-/// it, and however many items there are, four allocations hold them.
+/// others: so what all hold lies in four lists, the parts of one item behind those of the item
+/// before it, and however many items there are, four allocations hold them.
 #[derive(Drop)]
 pub struct Items {
     depth: usize,
@@ -59,8 +59,8 @@ impl Model for Items {
 }
 
 impl Items {
-    /// So many work-items at the first line, each with room for the turns of so many loops and so many
-    /// private variables of a word and of four words, which hold the word everywhere.
+    /// So many work-items at the first line, each with room for the turns of so many loops and so
+    /// many private variables of a word and of four words, which hold the word everywhere.
     pub fn start(
         alloc: Global,
         count: u32,
@@ -97,7 +97,7 @@ impl Items {
         self.places.len()
     }
 
-    /// The number of an item's line.
+    /// The number of an item's line, if there is such an item.
     #[inline(always)]
     pub fn line(&self, item: u32) -> Option<usize>
         ensures { result ≡ option_map (λ it. it.line) (slice_get self.now item) }
@@ -106,6 +106,15 @@ impl Items {
             Some(place) => Some(place.line),
             None => None,
         }
+    }
+
+    /// The number of the line of an item that there is.
+    #[inline(always)]
+    pub fn line_of(&self, item: u32) -> usize
+        requires { item < length self.now }
+        ensures { OfItem self.now item (λ it. result ≡ it.line) }
+    {
+        self.places[item as usize].line
     }
 
     /// Whether two items stand at one line, in turns of the same numbers.
@@ -205,17 +214,15 @@ impl Items {
     }
 
     /// Makes the change in an item, which goes to the line. It takes no memory: a loop begins only
-    /// where there is room for its turn. Where there is no such item, nothing changes.
+    /// where there is room for its turn.
     #[inline(always)]
     pub fn change(&mut self, item: u32, change: Change, line: usize)
+        requires { item < length self.old }
         ensures count { length self.new ≡ length self.old }
         ensures items { (i : ℕ) → slice_get self.new i ≡ (if i == item
             then option_map (λ it. changed it change line) (slice_get self.old i)
             else slice_get self.old i) }
     {
-        if item as usize >= self.places.len() {
-            return;
-        }
         let inside = self.places[item as usize].inside;
         let inside = match change {
             Change::Sets(variable, word) => {
@@ -250,15 +257,6 @@ impl Items {
             Change::Keeps => inside,
         };
         self.places[item as usize] = Place { line, inside };
-    }
-
-    // The number of the line of an item that there is.
-    #[inline(always)]
-    fn line_of(&self, item: u32) -> usize
-        requires { item < length self.now }
-        ensures { OfItem self.now item (λ it. result ≡ it.line) }
-    {
-        self.places[item as usize].line
     }
 
     // The turns of the loops around an item.

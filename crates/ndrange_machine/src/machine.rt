@@ -28,7 +28,7 @@ use crate::ids::Ids;
 use crate::items::Items;
 use crate::line::{Line, depth_of, lines_of, steps_from};
 use crate::memory::Memory;
-use crate::want::Want;
+use crate::want::{Want, want_begun};
 use count_tree::steps::Steps;
 use enabled_events::grid::Grid;
 use enabled_events::laws::{flags_follow, flags_tell};
@@ -55,6 +55,7 @@ pub struct Machine {
     ready: Ready,
     fault: Option<Fault>,
     ghost small: { IsSmall (grid_of launch) },
+    ghost all_items: { length items ≡ seen.item_count launch },
     ghost ready_grid: { ready.grid ≡ grid_of launch },
     ghost ready_items: { length ready.items ≡ seen.item_count launch },
     ghost ready_groups: { length ready.groups ≡ seen.group_count launch },
@@ -150,9 +151,9 @@ impl Machine {
         self.ready.nth_enabled(k)
     }
 
-    /// The enabled event of this number, in the order of the work-items, from 0. A step is a look at
-    /// one count of enabled events: just n of them, where 2 ^ n is the least power that isn't below the
-    /// number of work-items.
+    /// The enabled event of this number, in the order of the work-items, from 0. A step is a look
+    /// at one count of enabled events: just n of them, where 2 ^ n is the least power that isn't
+    /// below the number of work-items.
     pub fn nth_enabled_counted<L: Ledger>(&self, k: u32, steps: &mut Steps<L>) -> Event
         requires { k < enabled_count self.now }
         ensures told { slice_get (flagged_events self.now.ready) k ≡ Some result }
@@ -182,8 +183,8 @@ impl Machine {
         true
     }
 
-    /// Takes an enabled event, and tells what is seen of it: the event, its access of shared memory,
-    /// and its fault. No event is taken after a fault. A release has none.
+    /// Takes an enabled event, and tells what is seen of it: the event, its access of shared
+    /// memory, and its fault. No event is taken after a fault. A release has none.
     pub fn step(&mut self, event: Event) -> Seen
         ensures takes { Takes self.old event self.new result }
         ensures release { (g : ℕ) → event ≡ event_form.Release g → result.fault ≡ None }
@@ -207,8 +208,8 @@ impl Machine {
         }
     }
 
-    /// Takes an enabled event, and tells its fault alone. No event is taken after a fault. A release
-    /// has none.
+    /// Takes an enabled event, and tells its fault alone. No event is taken after a fault. A
+    /// release has none.
     #[inline(always)]
     pub fn advance(&mut self, event: Event) -> Option<Fault>
         ensures advances { Advances self.old event self.new result }
@@ -229,8 +230,8 @@ impl Machine {
         }
     }
 
-    // As `advance`, by what a work-item wants whatever its line is. So `go` has one caller, into which
-    // the compiler puts it.
+    // As `advance`, by what a work-item wants whatever its line is. So `go` has one caller, into
+    // which the compiler puts it.
     fn advance_by_want(&mut self, event: Event) -> Option<Fault>
         ensures advances { Advances self.old event self.new result }
         ensures release { (g : ℕ) → event ≡ event_form.Release g → result ≡ None }
@@ -414,8 +415,8 @@ impl Machine {
         self.ready.set_group(group, together);
     }
 
-    // Sets which events are enabled at the start, where the flags have it that all work-items can step,
-    // or none of them. Where all can step, they are right as they are.
+    // Sets which events are enabled at the start, where the flags have it that all work-items can
+    // step, or none of them. Where all can step, they are right as they are.
     fn begin(&mut self, steps: bool)
         requires { AtStart self.old steps }
         ensures core { SameCore self.old self.new }
@@ -447,8 +448,8 @@ impl Machine {
         }
     }
 
-    // Sets which events are enabled after the step of a work-item to this line, and says whether its
-    // group diverges.
+    // Sets which events are enabled after the step of a work-item to this line, and says whether
+    // its group diverges.
     #[inline(always)]
     fn settle(&mut self, item: u32, line: usize) -> bool
         requires there { item < seen.item_count self.old.launch }
@@ -495,50 +496,59 @@ impl Machine {
         }
     }
 
-    // Takes the next step of a work-item. Where its line is one of those that most events are of, no
-    // `Want` is made of it.
+    // Takes the next step of a work-item. Where its line is one of those that most events are of,
+    // no `Want` is made of it.
     #[inline(always)]
     fn go(&mut self, item: u32) -> bool
         requires { item < seen.item_count self.old.launch }
         ensures { Advances self.old (event_form.Step item) self.new (told_if result self.new) }
     {
-        match self.items.line(item) {
-            Some(at) => match self.lines.get(at) {
-                Some(Line::Assign(v, e)) => match self.items.value(item, &self.launch, e) {
-                    Some(word) => {
-                        let v = *v;
-                        self.keep(item, Change::Sets(v, word), at + 1)
-                    }
-                    None => self.take(item),
-                },
-                Some(Line::Load(v, array, i)) => match self.items.value(item, &self.launch, i) {
-                    Some(index) => {
-                        let v = *v;
-                        let array = *array;
-                        self.load(item, v, array, index, at + 1)
-                    }
-                    None => self.take(item),
-                },
-                Some(Line::Store(array, i, e)) => match self.items.value(item, &self.launch, i) {
-                    Some(index) => match self.items.value(item, &self.launch, e) {
-                        Some(word) => {
-                            let array = *array;
-                            self.store(item, array, index, word, at + 1)
-                        }
-                        None => self.take(item),
-                    },
-                    None => self.take(item),
-                },
-                Some(Line::Tail(head)) => match self
-                    .items
-                    .want_back(item, &self.lines, &self.launch, *head)
-                {
-                    Want::Changes(change, line) => self.keep(item, change, line),
-                    _ => self.take(item),
-                },
-                Some(_) => self.take(item),
+        let at = self.items.line_of(item);
+        match self.lines.get(at) {
+            Some(Line::Assign(v, e)) => match self.items.value(item, &self.launch, e) {
+                Some(word) => {
+                    let v = *v;
+                    self.keep(item, Change::Sets(v, word), at + 1)
+                }
                 None => self.take(item),
             },
+            Some(Line::Load(v, array, i)) => match self.items.value(item, &self.launch, i) {
+                Some(index) => {
+                    let v = *v;
+                    let array = *array;
+                    self.load(item, v, array, index, at + 1)
+                }
+                None => self.take(item),
+            },
+            Some(Line::Store(array, i, e)) => match self.items.value(item, &self.launch, i) {
+                Some(index) => match self.items.value(item, &self.launch, e) {
+                    Some(word) => {
+                        let array = *array;
+                        self.store(item, array, index, word, at + 1)
+                    }
+                    None => self.take(item),
+                },
+                None => self.take(item),
+            },
+            Some(Line::Tail(head)) => match self
+                .items
+                .want_back(item, &self.lines, &self.launch, *head)
+            {
+                Want::Changes(change, line) => self.keep(item, change, line),
+                _ => self.take(item),
+            },
+            Some(Line::Head(start, bound, _, exit)) => match want_begun(
+                &self.launch,
+                item,
+                *start,
+                bound,
+                at,
+                *exit,
+            ) {
+                Want::Changes(change, line) => self.keep(item, change, line),
+                _ => self.take(item),
+            },
+            Some(_) => self.take(item),
             None => self.take(item),
         }
     }
@@ -818,6 +828,7 @@ impl Machine {
 
     // Takes a work-item past its barrier.
     fn pass(&mut self, item: u32)
+        requires { item < seen.item_count self.old.launch }
         ensures { PassesOne self.old self.new item }
     {
         if let Want::Waits { next, .. } = self.want(item) {
@@ -828,6 +839,7 @@ impl Machine {
     // Changes a work-item, which goes to the line.
     #[inline(always)]
     fn change(&mut self, item: u32, change: Change, line: usize)
+        requires { item < seen.item_count self.old.launch }
         ensures item { Changes self.old self.new item change line }
         ensures memory { self.new.memory ≡ self.old.memory }
         ensures marks { self.new.marks ≡ self.old.marks }

@@ -24,8 +24,9 @@ pub struct Memory {
 }
 
 impl Memory {
-    /// The inputs and outputs with these cells, and the word in each cell of local and private arrays
-    /// of these lengths, which each group and each work-item of the grid has. All memory is taken here.
+    /// The inputs and outputs with these cells, and the word in each cell of local and private
+    /// arrays of these lengths, which each group and each work-item of the grid has. All memory is
+    /// taken here.
     pub fn start(
         alloc: Global,
         grid: Grid,
@@ -53,7 +54,8 @@ impl Memory {
         })
     }
 
-    /// The word in a cell of the array as a work-item of this group names it; none outside the array.
+    /// The word in a cell of the array as a work-item of this group names it; none outside the
+    /// array.
     #[inline(always)]
     pub fn read(&self, array: Array, group: u32, item: u32, index: u64) -> Option<u32>
         ensures { let a = array_of array in
@@ -67,8 +69,8 @@ impl Memory {
         }
     }
 
-    /// Puts the word into a cell of the array as a work-item of this group names it, and says whether
-    /// there is such a cell.
+    /// Puts the word into a cell of the array as a work-item of this group names it, and says
+    /// whether there is such a cell.
     #[inline(always)]
     pub fn write(&mut self, array: Array, group: u32, item: u32, index: u64, word: u32) -> bool
         ensures there { let a = array_of array in
@@ -90,8 +92,8 @@ impl Memory {
         }
     }
 
-    /// The words in the four cells of the array at the offset, which counts in fours; none where one
-    /// is outside the array.
+    /// The words in the four cells of the array at the offset, which counts in fours; none where
+    /// one is outside the array.
     pub fn read_four(&self, array: Array, group: u32, item: u32, offset: u32) -> Option<Four>
         ensures { let a = array_of array in
             let d : Cell = record { array = a; home = home group item a; index = 4 * offset } in

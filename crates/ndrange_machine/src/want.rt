@@ -3,6 +3,7 @@
 ghost use Rattle.std.specs.Prelude.{◌≡◌, ◌+◌, ◌<◌, ◌^◌};
 ghost use Rattle.ndrange_machine.specs.Known.{known, vars_of};
 ghost use Rattle.ndrange_machine.specs.Wants.{want_head, want_tail, want_test, want_line};
+ghost use Rattle.kernel_tree.specs.Launch.{ids_of};
 ghost use Rattle.kernel_tree.specs.Tree.{formula_of, start_of};
 
 use crate::change::Change;
@@ -12,6 +13,7 @@ use crate::line::Line;
 use crate::turn::Turn;
 use crate::value::{bound_of, lanes_value_of, value_of};
 use kernel_tree::events::FaultKind;
+use kernel_tree::launches::Launch;
 use kernel_tree::tree::{Array, Expr, Start};
 
 /// What a work-item does next, with the number of its line after that.
@@ -145,6 +147,30 @@ fn want_at_head(ids: Ids, sizes: &[u32], start: Start, bound: &Expr, at: usize, 
         }
         None => Want::Fails(FaultKind::ZeroDivisor),
     }
+}
+
+/// What the item of this number wants at a loop's head, on the line `at`.
+#[inline(always)]
+pub fn want_begun(
+    launch: &Launch,
+    item: u32,
+    start: Start,
+    bound: &Expr,
+    at: usize,
+    exit: usize,
+) -> Want
+    requires { at + 1 < 2 ^ 64 }
+    ensures { result
+        ≡ want_head (ids_of launch.now item) (start_of start) (formula_of bound.now) at exit }
+{
+    want_at_head(
+        Ids::of_item(launch, item),
+        &launch.sizes,
+        start,
+        bound,
+        at,
+        exit,
+    )
 }
 
 /// What an item wants at the end of the body of the loop whose head is this line.

@@ -16,10 +16,12 @@ pub record CanBeLowered (d : Declared) (t : Tree) (n : Annotation) : Type 0 wher
   pub lowerable : (bases : List ℕ) → Admissible d.names bases → IsLowerableProgram d bases t n
   pub fits : (bases : List ℕ) → Admissible d.names bases → FitsBuffers d bases n
 
--- it can be lowered, and what it is lowered to can be printed, at every admissible launch, whatever local size is fixed
+-- it can be lowered, and what it is lowered to can be printed, at every admissible
+-- launch, whatever local size is fixed
 pub record IsPrintable (d : Declared) (t : Tree) (n : Annotation) : Type 0 where
   pub staged : IsStaged Written t n
   pub lowerable : (bases : List ℕ) → Admissible d.names bases → IsLowerableProgram d bases t n
   pub fits : (bases : List ℕ) → Admissible d.names bases → FitsBuffers d bases n
-  pub stands : (local : Option ℕ) (bases : List ℕ) (l : Launch) → IsLaunchOf d (asks_of local t) bases l
+  pub stands : (local : Option ℕ) (bases : List ℕ) (l : Launch)
+      → IsLaunchOf d (asks_of local t) bases l
       → StandsAt l (lowered_root d.names t n)

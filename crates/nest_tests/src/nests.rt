@@ -37,8 +37,8 @@ const TILED: &str =
 const SUMMED: &str =
     "at . split-reduce 2\nat . reduce-fold\nat 0.0.1 reduce-fold\nat 0.0.1 fold-seq\nat 0.0 to-seq\nat 0 private\nat . fold-seq";
 
-// A program, a script, and the first node at which a rule is broken: its place in digits, and the
-// rule.
+// A program, a script, and the first node at which a rule is broken: its place in
+// digits, and the rule.
 const BROKEN: [(&str, &str, &str, NestRule); 23] = [
     (ADDED, "", "", NestRule::N1),
     (ADDED, "at . to-lcl", "", NestRule::N2),
@@ -122,8 +122,8 @@ const BROKEN: [(&str, &str, &str, NestRule); 23] = [
     ),
 ];
 
-// A program, a script, and the spaces of its last term's computing nodes in preorder: global, local
-// or private.
+// A program, a script, and the spaces of its last term's computing nodes in preorder:
+// global, local or private.
 const LEGAL: [(&str, &str, &str); 10] = [
     (ADDED, "at . to-seq", "gg"),
     (ADDED, "at . to-glb", "gg"),

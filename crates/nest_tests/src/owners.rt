@@ -1,4 +1,4 @@
-// Owners of cells, at launches of each kind.
+//! Owners of cells, at launches of each kind.
 
 use crate::lowering::lowered_last;
 use kernel_tree::launches::Launch;
@@ -6,8 +6,8 @@ use output_owner::owner;
 use std::alloc::Global;
 use std::test::Fail;
 
-// A program, a script, the launch's sizes and its work-items in all and in a group, and each cell's
-// owner.
+// A program, a script, the launch's sizes and its work-items in all and in a group,
+// and each cell's owner.
 struct Row {
     program: &'static str,
     script: &'static str,

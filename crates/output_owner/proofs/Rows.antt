@@ -209,7 +209,8 @@ stride_moves p r s k hs hr =
     let rows = in_rows k s r hs hr in
     ap (λ z. (z * p + k / (r * s)) * s + k % (r * s) % s) rows.element ∙ ap (λ z. (k / s % r * p + z) * s + k % (r * s) % s) rows.row ∙ ap (λ z. (k / s % r * p + k / s / r) * s + z) rows.scalar
 
--- the position of such an element in the rows that are joined, of their transposition in those that are split
+-- the position of such an element in the rows that are joined, of their
+-- transposition in those that are split
 pub stride_position : {A : Type 0} (num : A → ℕ) (a c : A) (p r : ℕ) (e : Ty) (k : ℕ) → num a ≡ p → num c ≡ r → 0 < p → 0 < r → k < p * r * size e
     → operand_position num (Split a) (operand_position {A = A} num Transpose (operand_position num (Join c) (unflat (ArrayOf (p * r) e) k))) ≡ unflat (ArrayOf (p * r) e) (moved r p (size e) k)
 stride_position num a c p r e k ea ec hp hr low =

@@ -7,23 +7,28 @@ use Rattle.lift_tree.specs.Types.{PlainTy, U32, PairOf, ArrayOf}
 use Rattle.lift_ir.specs.AtLaunch.{length_at, ty_at}
 use Rattle.lift_ir.specs.Types.{size}
 
--- the number in n rows of m elements, each of so many scalars, of the scalar with this number in the m columns
+-- the number in n rows of m elements, each of so many scalars, of the scalar
+-- with this number in the m columns
 abbrev pub moved : (n m scalar number : ℕ) → ℕ
 moved n m s k = (k % (n * s) / s * m + k / (n * s)) * s + k % (n * s) % s
 
--- the number in n elements, each of so many scalars, of the scalar with this number from the last element to the first
+-- the number in n elements, each of so many scalars, of the scalar with this number
+-- from the last element to the first
 abbrev pub turned : (n scalar number : ℕ) → ℕ
 turned n s k = (n - 1 - k / s) * s + k % s
 
 -- ---- where the operand has this type
 
+-- rows of arrays change places with columns; anything else has none
 abbrev pub transposed : (bases : List ℕ) → (rows : PlainTy) → ℕ → ℕ
 transposed bases U32 k = k
 transposed bases (PairOf a b) k = k
 transposed bases (ArrayOf U32 n) k = k
 transposed bases (ArrayOf (PairOf a b) n) k = k
-transposed bases (ArrayOf (ArrayOf x m) n) k = moved (length_at bases n) (length_at bases m) (size (ty_at bases x)) k
+transposed bases (ArrayOf (ArrayOf x m) n) k =
+    moved (length_at bases n) (length_at bases m) (size (ty_at bases x)) k
 
+-- elements go from the last to the first
 abbrev pub reversed : (bases : List ℕ) → (elements : PlainTy) → ℕ → ℕ
 reversed bases U32 k = k
 reversed bases (PairOf a b) k = k
@@ -52,7 +57,8 @@ pub record IsOfComponent (bases : List ℕ) (a : PlainTy) (number : ℕ) : Type 
 
 -- an array of this type is whole rows of so many elements
 abbrev pub IsStepOf : (bases : List ℕ) → (step : ℕ) → PlainTy → Type 0
-IsStepOf bases step (ArrayOf x n) = (0 < step) × (length_at bases n / step * step ≡ length_at bases n)
+IsStepOf bases step (ArrayOf x n) =
+    (0 < step) × (length_at bases n / step * step ≡ length_at bases n)
 IsStepOf bases step _ = Unit {0}
 
 -- a stride's step is such

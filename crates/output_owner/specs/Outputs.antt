@@ -9,7 +9,8 @@ use Rattle.lowered_tree.specs.Copies.{CopiesArrays}
 use Rattle.lowered_tree.specs.declared.lowered.Lowered.{Lowered}
 use Rattle.nest_premises.specs.Legal.{IsLegalTerm}
 
--- it is a legal term over what it may name, within the limits, which copies nothing but arrays, as each term of a script does
+-- it is a legal term over what it may name, within the limits, which copies nothing but arrays, as
+-- each term of a script does
 pub record IsLegalFor (d : Declared) (l : Lowered) : Type 0 where
   pub names : d.names ≡ l.names
   pub legal : IsLegalTerm d (tree_of l.term) (annotation_of l.types)

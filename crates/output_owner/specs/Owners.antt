@@ -12,9 +12,11 @@ use Rattle.lift_ir.specs.Types.{unflat}
 use Rattle.output_owner.specs.declared.walk.OnTop.{OnTop}
 
 -- two scalars have one owner, and are of one item of a group, at every launch
-pub record HaveOneOwner (bases : List ℕ) (t : Lowered) (q : List ℕ) (u : Lowered) (p : List ℕ) : Type 0 where
+pub record HaveOneOwner (bases : List ℕ) (t : Lowered) (q : List ℕ) (u : Lowered)
+    (p : List ℕ) : Type 0 where
   pub item : (l : Launch) → owner (length_at bases) l t q ≡ owner (length_at bases) l u p
-  pub local : (l : Launch) → local_owner (length_at bases) l t q ≡ local_owner (length_at bases) l u p
+  pub local : (l : Launch)
+      → local_owner (length_at bases) l t q ≡ local_owner (length_at bases) l u p
 
 -- the position of the scalar of this number
 abbrev pub position : (bases : List ℕ) → Annotation → ℕ → List ℕ
@@ -32,16 +34,19 @@ map_over k b = Map k [] Skip (Literal 0) b
 abbrev pub IsOfTop : List Name → (bases : List ℕ) → Tree → Annotation → ℕ → OnTop → Type 0
 IsOfTop names bases t n number top =
     HaveOneOwner bases (written names t n) (position bases n number)
-    (map_over (kind_of top.kind) (written names (tree_of top.body.now) (annotation_of top.types.now)))
+    (map_over (kind_of top.kind)
+    (written names (tree_of top.body.now) (annotation_of top.types.now)))
     (top.turn ∷ position bases (annotation_of top.types.now) top.number)
 
 -- with no map on top
 abbrev pub IsOfNone : List Name → (bases : List ℕ) → Tree → Annotation → ℕ → Type 0
-IsOfNone names bases t n number = HaveOneOwner bases (written names t n) (position bases n number) (Literal 0) []
+IsOfNone names bases t n number =
+    HaveOneOwner bases (written names t n) (position bases n number) (Literal 0) []
 
 -- the owner of the scalar of the map on top
 abbrev pub owner_on_top : List Name → (bases : List ℕ) → Launch → OnTop → ℕ
 owner_on_top names bases l top =
     owner (length_at bases) l
-    (map_over (kind_of top.kind) (written names (tree_of top.body.now) (annotation_of top.types.now)))
+    (map_over (kind_of top.kind)
+    (written names (tree_of top.body.now) (annotation_of top.types.now)))
     (top.turn ∷ position bases (annotation_of top.types.now) top.number)

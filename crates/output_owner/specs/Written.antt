@@ -25,13 +25,15 @@ pub record IsWritten (names : List Name) (t : Tree) (n : Annotation) : Type 0 wh
   pub written : around.is_written ≡ true
   pub legal : Every IsUnbroken (sites around t n)
 
--- the number of a scalar of a component, in row-major order, where the base names have these values; there are less than 2^31
+-- the number of a scalar of a component, in row-major order, where the base names have these
+-- values; there are less than 2^31
 pub record IsNumber (bases : List ℕ) (n : Annotation) (number : ℕ) : Type 0 where
   pub few : size (ty_at bases (type_in n)) < 2 ^ 31
   pub below : number < size (ty_at bases (type_in n))
 
 -- the number of a scalar of such a term, at these sizes
-pub record IsScalarOf (names : List Name) (sizes : List ℕ) (t : Tree) (n : Annotation) (number : ℕ) : Type 0 where
+pub record IsScalarOf (names : List Name) (sizes : List ℕ) (t : Tree) (n : Annotation)
+    (number : ℕ) : Type 0 where
   pub admissible : Admissible names (bases_of names sizes)
   pub exact : sizes ≡ sizes_at names (bases_of names sizes)
   pub term : IsWritten names t n

@@ -74,10 +74,11 @@ fn item(top: &OnTop, launch: &Launch, names: &[Name]) -> u32
 /// The work-item that writes the cell of this number, in row-major order, in each of the output's
 /// buffers: the one that a kernel for the term owes it by.
 ///
-/// Under `mapGlb` at turn i it is item i mod G, where the launch has G; under `mapWrg` at turn i and
+/// Under `mapGlb` at turn i it is item i mod G, where the launch has
+/// G; under `mapWrg` at turn i and
 /// `mapLcl` at turn j local item j mod L of group i mod (G / L), where a group has L; with no
-/// parallel map item 0. The term is a legal one, the launch is one row and admissible for it, whatever
-/// local size is fixed, and the cell is in the output. It takes no memory.
+/// parallel map item 0. The term is a legal one, the launch is one row and admissible for it,
+/// whatever local size is fixed, and the cell is in the output. It takes no memory.
 pub fn owner(lowered: &Lowered, launch: &Launch, cell: u64) -> u32
     requires whole { IsWhole launch.now }
     requires some { 0 < launch.now.global.0 }

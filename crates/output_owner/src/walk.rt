@@ -55,7 +55,8 @@ fn moved(n: u32, m: u32, scalar: u32, number: u64) -> u64
         .wrapping_add(in_column % scalar)
 }
 
-// The number in n elements, each of so many scalars, of a scalar of them from the last to the first.
+// The number in n elements, each of so many scalars, of a scalar of
+// them from the last to the first.
 fn turned(n: u32, scalar: u32, number: u64) -> u64
     ensures { number < n * scalar → n * scalar < 2 ^ 31
         → result ≡ numbers.turned n scalar number }

@@ -1,4 +1,5 @@
--- Lengths that are worked out, arrays that are formed, and inputs: what they are, unless a limit is passed.
+-- Lengths that are worked out, arrays that are formed, and inputs: what they
+-- are, unless a limit is passed.
 use Rattle.std.proofs.Common.{ℕ, suc, List, [], ◌∷◌, length, refl}
 use Rattle.std.specs.Prelude.{Result, Ok, Err, map}
 use Rattle.size_arith.specs.declared.names.Name.{Name}

@@ -1,4 +1,5 @@
--- How the judgement of what is known comes out: the answer, where a fact holds, or a limit, where it doesn't.
+-- How the judgement of what is known comes out: the answer, where a fact
+-- holds, or a limit, where it doesn't.
 use Rattle.std.proofs.Common.{◌≡◌, ℕ, ◌≤◌, ◌<◌, List, length, refl, sym, ap, ◌∙◌, subst, arith, Bool, true, false}
 use Rattle.std.specs.Prelude.{IsTrue, Result, Ok, Err, if◌then◌else◌, nat_lt}
 use Rattle.std.proofs.lemmas.Bool.Decides.{nat_tests}

@@ -38,21 +38,26 @@ use Rattle.pattern_types.specs.declared.fault.NodeFault.{NodeFault}
 use Rattle.pattern_types.specs.Scopes.{nth_type}
 use Rattle.pattern_types.specs.Tests.{exact_quotient, is_output, is_same_element}
 
+-- what follows, of the answer before; or the first fault
 abbrev pub and_then : {A B E : Type 0} → Result A E → (A → Result B E) → Result B E
 and_then (Ok a) f = f a
 and_then (Err e) f = Err e
 
+-- the rule is broken where its test fails
 abbrev pub demand : Bool → Rule → Result (Unit {0}) Fault
 demand true r = Ok tt
 demand false r = Err (Breaks r)
 
 -- ---- lengths
+
+-- the fault that is a passed limit of a sum or a product
 abbrev pub fault_of : PolyNo → Fault
 fault_of (no.Terms n) = Passes limit.Terms n
 fault_of (no.Degree n) = Passes limit.Degree n
 fault_of (no.Coefficient n) = Passes limit.Coefficient n
 fault_of no.Memory = Memory
 
+-- a sum or product, or its limit as a fault
 abbrev pub faulty : Result (List Monomial) PolyNo → Result (List Monomial) Fault
 faulty (Ok p) = Ok p
 faulty (Err e) = Err (fault_of e)
@@ -80,6 +85,7 @@ sum_judged names sum (p ∷ ps) =
 abbrev pub counted : ℕ → ℕ
 counted n = min n 18446744073709551615
 
+-- the limit is passed where the count is above the most
 abbrev pub at_most : ℕ → TypeLimit → ℕ → Result (Unit {0}) Fault
 at_most most which n = if nat_lt most n then Err (Passes which n) else Ok tt
 
@@ -99,21 +105,26 @@ formed names a n =
     and_then (scalars_judged names n a) (λ _. Ok (ArrayOf a n)))))
 
 -- ---- the table, one row a form
+
+-- an operand that is a number
 abbrev pub number_row : PlainTy → Result PlainTy Fault
 number_row U32 = Ok U32
 number_row (PairOf a b) = Err (Breaks rule.Operator)
 number_row (ArrayOf a n) = Err (Breaks rule.Operator)
 
+-- a pair's first part
 abbrev pub first_row : PlainTy → Result PlainTy Fault
 first_row U32 = Err (Breaks rule.Project)
 first_row (PairOf a b) = Ok a
 first_row (ArrayOf a n) = Err (Breaks rule.Project)
 
+-- a pair's second part
 abbrev pub second_row : PlainTy → Result PlainTy Fault
 second_row U32 = Err (Breaks rule.Project)
 second_row (PairOf a b) = Ok b
 second_row (ArrayOf a n) = Err (Breaks rule.Project)
 
+-- an array of arrays, joined to one array
 abbrev pub join_row : List Name → PlainTy → Result PlainTy Fault
 join_row names U32 = Err (Breaks rule.Join)
 join_row names (PairOf a b) = Err (Breaks rule.Join)
@@ -121,6 +132,7 @@ join_row names (ArrayOf U32 n) = Err (Breaks rule.Join)
 join_row names (ArrayOf (PairOf a b) n) = Err (Breaks rule.Join)
 join_row names (ArrayOf (ArrayOf a m) n) = and_then (within (times n m)) (λ l. formed names a l)
 
+-- an array of arrays, with its two lengths exchanged
 abbrev pub transpose_row : List Name → PlainTy → Result PlainTy Fault
 transpose_row names U32 = Err (Breaks rule.Transpose)
 transpose_row names (PairOf a b) = Err (Breaks rule.Transpose)
@@ -135,11 +147,13 @@ abbrev pub pieces_row : List Name → PlainTy → List Monomial → Option (List
 pieces_row names a m None = Err (Breaks rule.Split)
 pieces_row names a m (Some q) = and_then (formed names a m) (λ piece. formed names piece q)
 
+-- an array in pieces of the length m
 abbrev pub split_row : List Name → List Monomial → PlainTy → Result PlainTy Fault
 split_row names m U32 = Err (Breaks rule.Split)
 split_row names m (PairOf a b) = Err (Breaks rule.Split)
 split_row names m (ArrayOf a n) = pieces_row names a m (exact_quotient m n)
 
+-- an array in the opposite order, of the same type
 abbrev pub reverse_row : PlainTy → Result PlainTy Fault
 reverse_row U32 = Err (Breaks rule.Reverse)
 reverse_row (PairOf a b) = Err (Breaks rule.Reverse)
@@ -150,11 +164,13 @@ abbrev pub strided_row : PlainTy → List Monomial → Option (List Monomial) �
 strided_row a n None = Err (Breaks rule.Stride)
 strided_row a n (Some q) = Ok (ArrayOf a n)
 
+-- an array read in strides of m, of the same type
 abbrev pub stride_row : List Monomial → PlainTy → Result PlainTy Fault
 stride_row m U32 = Err (Breaks rule.Stride)
 stride_row m (PairOf a b) = Err (Breaks rule.Stride)
 stride_row m (ArrayOf a n) = strided_row a n (exact_quotient m n)
 
+-- what each layout makes of a type
 abbrev pub layout_row : List Name → layout.Layout → PlainTy → Result PlainTy Fault
 layout_row names Join a = join_row names a
 layout_row names Transpose a = transpose_row names a
@@ -171,6 +187,7 @@ windows_row names a s (Some q) =
     and_then (formed names a (constant s)) (λ window.
     and_then (within (plus q (constant 1))) (λ n. formed names window n))
 
+-- an array's windows of this size, each so many elements behind the one before
 abbrev pub slide_row : List Name → (size step : ℕ) → PlainTy → Result PlainTy Fault
 slide_row names s t U32 = Err (Breaks rule.Slide)
 slide_row names s t (PairOf a b) = Err (Breaks rule.Slide)
@@ -179,6 +196,7 @@ slide_row names s t (ArrayOf a n) =
     and_then (demand (is_shown 0 names left) rule.Slide) (λ _.
     windows_row names a s (exact_quotient (constant t) left)))
 
+-- an array with so many elements more before and after it
 abbrev pub pad_row : List Name → (before after : ℕ) → PlainTy → Result PlainTy Fault
 pad_row names l r U32 = Err (Breaks rule.Pad)
 pad_row names l r (PairOf a b) = Err (Breaks rule.Pad)
@@ -186,6 +204,7 @@ pad_row names l r (ArrayOf a n) =
     and_then (within (plus (constant l) n)) (λ m.
     and_then (within (plus m (constant r))) (λ k. formed names a k))
 
+-- the type of a node with one child, from the child's type
 abbrev pub unary_row : List Name → UnaryForm → PlainTy → Result PlainTy Fault
 unary_row names (Div n) a = number_row a
 unary_row names (Rem n) a = number_row a
@@ -198,12 +217,15 @@ unary_row names ToLocal a = Ok a
 unary_row names ToPrivate a = Ok a
 unary_row names Then a = Ok a
 
+-- the type of an operator on two numbers
 abbrev pub operator_row : PlainTy → PlainTy → Result PlainTy Fault
 operator_row a b = and_then (number_row a) (λ _. number_row b)
 
+-- the type of a pair of two elements
 abbrev pub pair_row : PlainTy → PlainTy → Result PlainTy Fault
 pair_row a b = and_then (demand (is_element a && is_element b) rule.Pair) (λ _. Ok (PairOf a b))
 
+-- the type of two arrays of one length, element by element
 abbrev pub zip_row : List Name → PlainTy → PlainTy → Result PlainTy Fault
 zip_row names (ArrayOf a n) (ArrayOf b m) =
     and_then (demand (is_same n m) rule.Zip) (λ _. formed names (PairOf a b) n)
@@ -212,6 +234,7 @@ zip_row names (ArrayOf a n) (PairOf b c) = Err (Breaks rule.Zip)
 zip_row names U32 b = Err (Breaks rule.Zip)
 zip_row names (PairOf a c) b = Err (Breaks rule.Zip)
 
+-- the type of a reduction, from its array's type and its start's
 abbrev pub reduce_row : List Name → PlainTy → PlainTy → Result PlainTy Fault
 reduce_row names (ArrayOf U32 n) U32 = formed names U32 (constant 1)
 reduce_row names (ArrayOf U32 n) (PairOf b c) = Err (Breaks rule.Reduce)
@@ -221,12 +244,14 @@ reduce_row names (ArrayOf (ArrayOf a m) n) b = Err (Breaks rule.Reduce)
 reduce_row names U32 b = Err (Breaks rule.Reduce)
 reduce_row names (PairOf a c) b = Err (Breaks rule.Reduce)
 
+-- the type of a node with two children, from the children's types
 abbrev pub binary_row : List Name → BinaryForm → PlainTy → PlainTy → Result PlainTy Fault
 binary_row names (binary.Operator o) a b = operator_row a b
 binary_row names binary.Pair a b = pair_row a b
 binary_row names binary.Zip a b = zip_row names a b
 binary_row names (binary.Reduce r) a b = reduce_row names a b
 
+-- the type of a choice between two numbers by a third
 abbrev pub select_row : PlainTy → PlainTy → PlainTy → Result PlainTy Fault
 select_row a b c = and_then (operator_row a b) (λ _. number_row c)
 
@@ -253,35 +278,42 @@ fold_end names s b =
     and_then (demand (is_same_element s b) rule.Fold) (λ _. formed names s (constant 1))
 
 -- ---- terms
--- a fault of the node itself, and of its child of this number
+
+-- the answer, or its fault as one of the node itself
 abbrev pub here : {A : Type 0} → Result A Fault → Result A NodeFault
 here (Ok a) = Ok a
 here (Err f) = Err (record { place = []; fault = f })
 
+-- the answer, or its fault as one of the child of this number
 abbrev pub under : {A : Type 0} → ℕ → Result A NodeFault → Result A NodeFault
 under i (Ok a) = Ok a
 under i (Err f) = Err (record { place = i ∷ f.place; fault = f.fault })
 
--- a node, from its children
+-- a node with one child, from it
 abbrev pub unary_node : List Name → UnaryForm → Annotation → Result Annotation NodeFault
 unary_node names f n = and_then (here (unary_row names f (type_in n))) (λ a. Ok (One a n))
 
+-- a node with two children, from them
 abbrev pub binary_node : List Name → BinaryForm → (n m : Annotation) → Result Annotation NodeFault
 binary_node names f n m =
     and_then (here (binary_row names f (type_in n) (type_in m))) (λ a. Ok (Two a n m))
 
+-- a choice, from its three children
 abbrev pub select_node : (n m k : Annotation) → Result Annotation NodeFault
 select_node n m k =
     and_then (here (select_row (type_in n) (type_in m) (type_in k))) (λ a. Ok (Three a n m k))
 
+-- a map, from its array and its body
 abbrev pub map_node : List Name → (array body : Annotation) → Result Annotation NodeFault
 map_node names n m =
     and_then (here (map_end names (type_in n) (type_in m))) (λ a. Ok (Two a n m))
 
+-- a fold, from its array, its start and its body
 abbrev pub fold_node : List Name → (array start body : Annotation) → Result Annotation NodeFault
 fold_node names n m k =
     and_then (here (fold_end names (type_in m) (type_in k))) (λ a. Ok (Three a n m k))
 
+-- the types of all nodes under binders of these types; or the first fault, and its place
 abbrev pub judged : Declared → List PlainTy → Tree → Result Annotation NodeFault
 judged d g (Variable n) = Ok (Leaf (nth_type g n))
 judged d g (Number n) = Ok (Leaf U32)
@@ -308,6 +340,8 @@ judged d g (Fold k xs s b) =
     and_then (under 2 (judged d (x ∷ type_in m ∷ g) b)) (λ k. fold_node d.names n m k))))
 
 -- ---- programs
+
+-- the type that is written for an input
 abbrev pub input_judged : List Name → Written → Result PlainTy Fault
 input_judged names written.Number = Ok U32
 input_judged names (written.Pair a b) =
@@ -315,25 +349,30 @@ input_judged names (written.Pair a b) =
 input_judged names (written.Array a n) =
     and_then (input_judged names a) (λ x. and_then (sum_judged names [] n) (λ m. formed names x m))
 
+-- the refusal that a fault at the spot is
 abbrev pub refusal_at : Spot → Fault → TypeRefusal
 refusal_at s (Breaks r) = refusal.IllTyped s r
 refusal_at s (Passes l n) = refusal.Limit l s n
 refusal_at s Memory = refusal.Memory
 
+-- the answer, or its fault as one of the input of this number
 abbrev pub at_input : {A : Type 0} → ℕ → Result A Fault → Result A TypeRefusal
 at_input i (Ok a) = Ok a
 at_input i (Err f) = Err (refusal_at (spot.Input i) f)
 
+-- the answer, or its fault as one of the node at its place
 abbrev pub at_node : {A : Type 0} → Result A NodeFault → Result A TypeRefusal
 at_node (Ok a) = Ok a
 at_node (Err f) = Err (refusal_at (spot.Node f.place) f.fault)
 
+-- the inputs' types, from the number i on
 abbrev pub inputs_judged : List Name → ℕ → List PlainInput → Result (List PlainTy) TypeRefusal
 inputs_judged names i [] = Ok []
 inputs_judged names i (x ∷ xs) =
     and_then (at_input i (input_judged names x.ty)) (λ a.
     and_then (inputs_judged names (suc i) xs) (λ types. Ok (a ∷ types)))
 
+-- the whole's types, which has to be an output's
 abbrev pub output_judged : Annotation → Result Annotation NodeFault
 output_judged n = and_then (here (demand (is_output (type_in n)) rule.Output)) (λ _. Ok n)
 

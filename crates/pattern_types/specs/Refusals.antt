@@ -37,6 +37,7 @@ use Rattle.pattern_types.specs.declared.fault.Fault.TheVariants.{Breaks, Passes,
 use Rattle.pattern_types.specs.Judged.{counted, program_judged}
 use Rattle.pattern_types.specs.Numbers.{NumbersFit}
 
+-- some element of the list has the property
 abbrev pub Any : {A : Type 0} → (A → Type 0) → List A → Type 0
 Any P [] = ⊥
 Any P (x ∷ xs) = P x ⊎ Any P xs
@@ -73,9 +74,11 @@ pub record Formed : Type 0 where
   pub element : PlainTy
   pub length : List Monomial
 
+-- the array of this element type and this length
 abbrev pub formed : PlainTy → List Monomial → Formed
 formed a n = record { element = a; length = n }
 
+-- the quantity is so much, of an array's type: how many arrays it has, or components
 abbrev pub CountsOuter : TypeLimit → ℕ → Formed → Type 0
 CountsOuter limit.Arrays c a = c ≡ counted (arrays (ArrayOf a.element a.length))
 CountsOuter limit.Components c a = c ≡ counted (length (components a.element))
@@ -84,6 +87,7 @@ CountsOuter limit.Degree c a = ⊥
 CountsOuter limit.Coefficient c a = ⊥
 CountsOuter limit.Scalars c a = ⊥
 
+-- the quantity is so much, of an array, or of the lengths in it
 abbrev pub CountsArray : List Name → TypeLimit → ℕ → Formed → Type 0
 CountsArray names l c a = CountsOuter l c a ⊎ CountsInside names l c a.length a.element
 
@@ -103,18 +107,22 @@ IsFault names r demand made ps Memory = ⊥
 -- ---- the table
 -- a form's rule, what it demands, the arrays that are formed, the inner first, and the sums and
 -- products that are worked out, in order
+
+-- the products as the factors are multiplied one after another
 abbrev pub products_along : List Name → (so_far : List Monomial) → List Factor
     → List (List Monomial)
 products_along names p [] = []
 products_along names p (f ∷ fs) =
     let q = times p (of_monomial (factor_monomial names f)) in q ∷ products_along names q fs
 
+-- the products of a sum's parts and the sums so far, in the order in which they are worked out
 abbrev pub sums_along : List Name → (so_far : List Monomial) → List Part → List (List Monomial)
 sums_along names s [] = []
 sums_along names s (p ∷ ps) =
     let next = with_part p.sign s (of_monomial (product_of names p.product)) in
     products_along names (constant 1) p.product ++ next ∷ sums_along names next ps
 
+-- the rule of a layout
 abbrev pub layout_rule : layout.Layout → Rule
 layout_rule Join = rule.Join
 layout_rule Transpose = rule.Transpose
@@ -122,6 +130,7 @@ layout_rule (Split fs) = rule.Split
 layout_rule Reverse = rule.Reverse
 layout_rule (Stride fs) = rule.Stride
 
+-- the rule of a form with one child; a copy and a `then` have none
 abbrev pub unary_rule : UnaryForm → Option Rule
 unary_rule (Div n) = Some rule.Operator
 unary_rule (Rem n) = Some rule.Operator
@@ -134,15 +143,19 @@ unary_rule ToLocal = None
 unary_rule ToPrivate = None
 unary_rule Then = None
 
+-- the type is a pair's
 abbrev pub IsPair : PlainTy → Type 0
 IsPair b = (x y : PlainTy) × (b ≡ PairOf x y)
 
+-- the type is an array's
 abbrev pub IsArray : PlainTy → Type 0
 IsArray b = (x : PlainTy) × (n : List Monomial) × (b ≡ ArrayOf x n)
 
+-- the type is that of an array of arrays
 abbrev pub IsArrayOfArrays : PlainTy → Type 0
 IsArrayOfArrays b = (x : PlainTy) × (m n : List Monomial) × (b ≡ ArrayOf (ArrayOf x m) n)
 
+-- what a layout demands of its child's type
 abbrev pub LayoutDemand : List Name → layout.Layout → PlainTy → Type 0
 LayoutDemand names Join b = IsArrayOfArrays b
 LayoutDemand names Transpose b = IsArrayOfArrays b
@@ -152,6 +165,7 @@ LayoutDemand names Reverse b = IsArray b
 LayoutDemand names (Stride fs) b =
     (x : PlainTy) × (n : List Monomial) × (b ≡ ArrayOf x n) × AllDivide (product_of names fs) n
 
+-- what a form demands of its one child's type
 abbrev pub UnaryDemand : List Name → UnaryForm → PlainTy → Type 0
 UnaryDemand names (Div n) b = b ≡ U32
 UnaryDemand names (Rem n) b = b ≡ U32
@@ -167,10 +181,12 @@ UnaryDemand names ToLocal b = Unit {0}
 UnaryDemand names ToPrivate b = Unit {0}
 UnaryDemand names Then b = Unit {0}
 
+-- how many windows of this size there are, so many elements apart, in an array of length n
 abbrev pub windows : (size step : ℕ) → List Monomial → List Monomial
 windows s t n = plus (quotient (number (pos t)) (minus n (constant s))) (constant 1)
 
--- none where the type isn't such as the form demands; reverse and stride form no array anew
+-- the arrays that a layout forms, none where the type isn't such as it demands; reverse and stride
+-- form no array anew
 abbrev pub layout_formed : List Name → layout.Layout → PlainTy → List Formed
 layout_formed names Join (ArrayOf (ArrayOf x m) n) = formed x (times n m) ∷ []
 layout_formed names Transpose (ArrayOf (ArrayOf x m) n) = formed x n ∷ formed (ArrayOf x n) m ∷ []
@@ -183,6 +199,7 @@ layout_formed names (Split fs) b = []
 layout_formed names Reverse b = []
 layout_formed names (Stride fs) b = []
 
+-- the arrays that a form with one child forms
 abbrev pub unary_formed : List Name → UnaryForm → PlainTy → List Formed
 unary_formed names (Layout l) b = layout_formed names l b
 unary_formed names (Slide s t) (ArrayOf x n) =
@@ -199,6 +216,7 @@ unary_formed names ToLocal b = []
 unary_formed names ToPrivate b = []
 unary_formed names Then b = []
 
+-- the sums and products that are worked out for a layout
 abbrev pub layout_lengths : List Name → layout.Layout → PlainTy → List (List Monomial)
 layout_lengths names Join (ArrayOf (ArrayOf x m) n) = times n m ∷ []
 layout_lengths names Join b = []
@@ -207,6 +225,7 @@ layout_lengths names (Split fs) b = products_along names (constant 1) fs
 layout_lengths names Reverse b = []
 layout_lengths names (Stride fs) b = products_along names (constant 1) fs
 
+-- the sums and products that are worked out for a form with one child
 abbrev pub unary_lengths : List Name → UnaryForm → PlainTy → List (List Monomial)
 unary_lengths names (Layout l) b = layout_lengths names l b
 unary_lengths names (Slide s t) (ArrayOf x n) = minus n (constant s) ∷ windows s t n ∷ []
@@ -222,17 +241,20 @@ unary_lengths names ToLocal b = []
 unary_lengths names ToPrivate b = []
 unary_lengths names Then b = []
 
+-- a fault of a node with one child of this type
 abbrev pub UnaryFault : List Name → UnaryForm → PlainTy → Fault → Type 0
 UnaryFault names f b =
     IsFault names (unary_rule f) (UnaryDemand names f b) (unary_formed names f b)
     (unary_lengths names f b)
 
+-- the rule of a form with two children
 abbrev pub binary_rule : BinaryForm → Rule
 binary_rule (binary.Operator o) = rule.Operator
 binary_rule binary.Pair = rule.Pair
 binary_rule binary.Zip = rule.Zip
 binary_rule (binary.Reduce r) = rule.Reduce
 
+-- what a form demands of its two children's types
 abbrev pub BinaryDemand : BinaryForm → (b c : PlainTy) → Type 0
 BinaryDemand (binary.Operator o) b c = (b ≡ U32) × (c ≡ U32)
 BinaryDemand binary.Pair b c = IsElement b × IsElement c
@@ -240,6 +262,7 @@ BinaryDemand binary.Zip b c =
     (x y : PlainTy) × (n : List Monomial) × (b ≡ ArrayOf x n) × (c ≡ ArrayOf y n)
 BinaryDemand (binary.Reduce r) b c = (n : List Monomial) × (b ≡ ArrayOf U32 n) × (c ≡ U32)
 
+-- the arrays that a form with two children forms
 abbrev pub binary_formed : BinaryForm → (b c : PlainTy) → List Formed
 binary_formed binary.Zip (ArrayOf x n) (ArrayOf y m) = formed (PairOf x y) n ∷ []
 binary_formed (binary.Reduce r) b c = formed U32 (constant 1) ∷ []
@@ -247,11 +270,12 @@ binary_formed binary.Zip b c = []
 binary_formed binary.Pair b c = []
 binary_formed (binary.Operator o) b c = []
 
+-- a fault of a node with two children of these types
 abbrev pub BinaryFault : List Name → BinaryForm → (b c : PlainTy) → Fault → Type 0
 BinaryFault names f b c =
     IsFault names (Some (binary_rule f)) (BinaryDemand f b c) (binary_formed f b c) []
 
--- of a rule alone
+-- a fault of a rule alone
 abbrev pub RuleFault : List Name → Rule → (demand : Type 0) → Fault → Type 0
 RuleFault names r demand = IsFault names (Some r) demand [] []
 
@@ -315,12 +339,15 @@ IsRefusedAt d g (Fold h xs s b) (suc (suc zero) ∷ is) f =
 IsRefusedAt d g _ _ f = ⊥
 
 -- ---- programs
+
+-- the arrays that an input's written type forms
 abbrev pub input_formed : List Name → Written → List Formed
 input_formed names written.Number = []
 input_formed names (written.Pair a b) = input_formed names a ++ input_formed names b
 input_formed names (written.Array a n) =
     input_formed names a ++ formed (worked_out names a) (length_of names n) ∷ []
 
+-- the sums and products that are worked out for an input's written type
 abbrev pub input_lengths : List Name → Written → List (List Monomial)
 input_lengths names written.Number = []
 input_lengths names (written.Pair a b) = input_lengths names a ++ input_lengths names b
@@ -348,6 +375,7 @@ IsFirst p t (spot.Node place) f =
     × Every (λ (x : PlainInput). InputFits (map range_of p.sizes) x.ty) p.inputs
     × (IsRefusedAt (declared_by p) [] t place f ⊎ IsNoOutput (declared_by p) t place f)
 
+-- the refusal names the first spot and what is wrong there
 abbrev pub Names : TypeRefusal → PlainProgram → Tree → Type 0
 Names (refusal.IllTyped s r) p t = IsFirst p t s (Breaks r)
 Names (refusal.Limit l s c) p t = IsFirst p t s (Passes l c)

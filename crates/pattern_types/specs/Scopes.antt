@@ -11,5 +11,6 @@ nth_type [] n = U32
 nth_type (a ∷ types) zero = a
 nth_type (a ∷ types) (suc n) = nth_type types n
 
+-- the sizes and the inputs' types that are declared, from the code's types
 abbrev pub declared_as : List Name → List Ty → Declared
 declared_as names inputs = record { names = names; inputs = map ty_of inputs }

@@ -15,12 +15,27 @@ use Rattle.pattern_value.specs.declared.evaluate.World as held
 
 -- a program's sizes where the base names have these values, and the inputs
 abbrev pub world_at : Program → List ℕ → List Val → World
-world_at p ys inputs = record { bases = ys; sizes = sizes_at (map range_of p.sizes.items) ys; inputs = map value_of inputs }
+world_at p ys inputs =
+    record {
+      bases = ys;
+      sizes = sizes_at
+          (map range_of p.sizes.items) ys;
+      inputs = map value_of inputs;
+    }
 
--- where the sizes are admissible and the inputs have their types, the value of a typed term has its type
+-- where the sizes are admissible and the inputs have their types, the
+-- value of a typed term has its type
 abbrev pub HasItsType : Typed → World → Value → Type 0
-HasItsType t w v = IsTyped t → IsAdmissible (declared_by (program_of t.program)) w → HasType w.bases (type_in (annotation_of t.types)) v
+HasItsType t w v =
+    IsTyped t → IsAdmissible (declared_by (program_of t.program)) w
+    → HasType w.bases (type_in (annotation_of t.types)) v
 
 -- the same of what the evaluation holds
 unfoldable pub world_of : held.World → World
-world_of w = record { bases = w.bases.now; sizes = sizes_at (map range_of w.sizes.now) w.bases.now; inputs = map value_of w.inputs.now }
+world_of w =
+    record {
+      bases = w.bases.now;
+      sizes = sizes_at
+          (map range_of w.sizes.now) w.bases.now;
+      inputs = map value_of w.inputs.now;
+    }

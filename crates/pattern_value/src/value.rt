@@ -12,9 +12,11 @@ use lift_tree::value::Val;
 use size_arith::Sizes;
 use std::alloc::{AllocError, Global};
 
-/// The source value of a typed term at these sizes and inputs, which are numbered as the program declares them (the patterns of Lift, ICFP 2015; its stencils, CGO 2018).
+/// The source value of a typed term at these sizes and inputs, which are numbered as the program
+/// declares them (the patterns of Lift, ICFP 2015; its stencils, CGO 2018).
 ///
-/// The lowered kinds of maps and folds have the plain kind's value. Where the sizes are admissible and the inputs have their types, the value has the term's type.
+/// The lowered kinds of maps and folds have the plain kind's value. Where the sizes are admissible
+/// and the inputs have their types, the value has the term's type.
 #[tactic(auto, using(crate::proofs::Typed::typed))]
 pub fn value_of(
     alloc: Global,

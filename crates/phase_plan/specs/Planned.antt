@@ -21,10 +21,14 @@ IsKindOf names local t root Task = nest_kind t ≡ nest.Task
 IsKindOf names local t root OverLaunch = nest_kind t ≡ nest.OverLaunch
 IsKindOf names local t root (OverGroups phases) =
     (nest_kind t ≡ nest.OverGroups)
-    × ArePhasesOf root (is_once (forms_of names local) root) phases.count phases.touches.items phases.barriers.items
+    × ArePhasesOf root
+    (is_once
+    (forms_of names local) root) phases.count phases.touches.items phases.barriers.items
 
--- the term's nest is legal, its arrays are those that it is given, this is what it is lowered to with these ranges of sizes, and this who runs it
-pub record IsPlannedFor (names : List Name) (local : Option ℕ) (t : Tree) (n : Annotation) (locals privates : List ℕ) (root : Lowered) (runs : Kind) : Type 0 where
+-- the term's nest is legal, its arrays are those that it is given, this is what it is lowered to
+-- with these ranges of sizes, and this who runs it
+pub record IsPlannedFor (names : List Name) (local : Option ℕ) (t : Tree) (n : Annotation)
+    (locals privates : List ℕ) (root : Lowered) (runs : Kind) : Type 0 where
   pub legal : IsLegalNest t n
   pub arrays : AreAllocated locals privates t n
   pub lowered : root ≡ lowered_root names t n

@@ -8,7 +8,7 @@ use Rattle.lowering.specs.Terms.{term_of}
 use Rattle.phase_plan.specs.Planned.{IsPlannedFor}
 use Rattle.phase_plan.specs.declared.planned.Plan.{Plan}
 
--- what the term may name, the term, and its types
+-- what the term may name
 abbrev pub declared_in : Plan → Declared
 declared_in plan = declared_of plan.spaced.now.mapped.lowered
 
@@ -16,14 +16,17 @@ declared_in plan = declared_of plan.spaced.now.mapped.lowered
 abbrev pub local_in : Plan → Option ℕ
 local_in plan = plan.spaced.now.mapped.local
 
+-- the term
 abbrev pub tree_in : Plan → Tree
 tree_in plan = tree_of plan.spaced.now.mapped.lowered.term
 
+-- the types of its nodes
 abbrev pub types_in : Plan → Annotation
 types_in plan = annotation_of plan.spaced.now.mapped.lowered.types
 
 -- what the plan says holds of the term
 abbrev pub IsTold : Plan → Type 0
 IsTold plan =
-    IsPlannedFor (declared_in plan).names (local_in plan) (tree_in plan) (types_in plan) plan.buffers.now.local.items
+    IsPlannedFor (declared_in plan).names (local_in plan) (tree_in plan)
+    (types_in plan) plan.buffers.now.local.items
     plan.buffers.now.private.items (term_of plan.root) plan.kind

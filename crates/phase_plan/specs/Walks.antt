@@ -10,11 +10,12 @@ use Rattle.phase_plan.specs.declared.walk.Destination.{Destination}
 use Rattle.phase_plan.specs.declared.walk.Destination.TheVariants as destination
 use Rattle.phase_plan.specs.declared.walk.Walk.{Walk}
 
--- where a value goes, and where it lies then, if the first of its local arrays is this
+-- where a value goes, if the first of its local arrays is this
 abbrev pub destination_from : ℕ → Destination → uses.Destination
 destination_from first (destination.Locals ty) = uses.Locals first (ty_at [] (ty_of ty.now))
 destination_from first destination.Outputs = uses.Outputs
 
+-- where the value lies then
 abbrev pub origin_from : ℕ → Destination → origins.Origin
 origin_from first (destination.Locals ty) = origins.laid_from first (ty_at [] (ty_of ty.now))
 origin_from first destination.Outputs = origins.Elsewhere

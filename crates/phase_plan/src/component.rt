@@ -7,7 +7,8 @@ use crate::way::Way;
 use std::alloc::{AllocError, Global};
 use std::marker::Model;
 
-/// A component of a variable, counted from the nearest binder, which is 0; whatever lies under the last choice is meant.
+/// A component of a variable, counted from the nearest binder, which is 0; whatever lies
+/// under the last choice is meant.
 #[derive(Drop)]
 pub struct Component {
     variable: u32,

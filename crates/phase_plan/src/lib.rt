@@ -1,5 +1,5 @@
-//! Plans of legal terms: what each is lowered to, who runs it, and over work-groups its phases, their
-//! uses of local arrays, and the barriers that they need.
+//! Plans of legal terms: what each is lowered to, who runs it, and over work-groups its phases,
+//! their uses of local arrays, and the barriers that they need.
 #![tactic(auto)]
 
 mod component;

@@ -121,7 +121,8 @@ fn add_named(
     }
 }
 
-/// What the body of a local map names: of its element, with what is loaded of that, and of the variables outside it.
+/// What the body of a local map names: of its element, with what is loaded of that,
+/// and of the variables outside it.
 #[derive(Drop)]
 pub struct Names {
     pub element: Vec<Way>,

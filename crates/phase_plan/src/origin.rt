@@ -11,7 +11,8 @@ use std::alloc::{AllocError, Global};
 pub enum Origin {
     /// In none.
     Elsewhere,
-    /// In the array of this number; plainly, where it is reached by variables, zip, first and second alone.
+    /// In the array of this number; plainly, where it is reached by
+    /// variables, zip, first and second alone.
     Within(u32, bool),
     /// The parts of pairs, each where it lies.
     BySide(Box<Origin>, Box<Origin>),

@@ -19,15 +19,19 @@ pub struct Phases {
     pub count: u32,
     /// Each use, by the number of its phase and of its array, both from 0.
     pub touches: Vec<Touch>,
-    /// The needed barriers, in the order of the phases: each just before a phase, or closing the body.
+    /// The needed barriers, in the order of the phases: each just
+    /// before a phase, or closing the body.
     pub barriers: Barriers,
 }
 
 impl Phases {
-    /// The phases of a map over work-groups, seen through layouts and lets of inputs, whose groups take
-    /// one turn at most, or many.
+    /// The phases of a map over work-groups, seen through layouts and lets of inputs, whose groups
+    /// take one turn at most, or many.
     ///
-    /// Going forward, a barrier stands just before a phase that conflicts with a phase since the last barrier. One more closes the body of many turns where a phase after the last barrier conflicts with one before the first; where there is no barrier, where any two phases conflict, or one with itself. 2^32 phases or local arrays are answered as want of memory.
+    /// Going forward, a barrier stands just before a phase that conflicts with a phase since the
+    /// last barrier. One more closes the body of many turns where a phase after the last barrier
+    /// conflicts with one before the first; where there is no barrier, where any two phases
+    /// conflict, or one with itself. 2^32 phases or local arrays are answered as want of memory.
     pub fn of(alloc: Global, root: &Term, once: bool) -> Result<Self, AllocError>
         requires { StandsOverGroups (term_of root.now) }
         ensures { IfOk result (λ phases.

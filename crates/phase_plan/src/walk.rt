@@ -40,14 +40,16 @@ pub struct Walk {
     pub arrays: u32,
 }
 
-// One more. A number that would pass 2^32 - 1 is answered as want of memory: what it counts takes more.
+// One more. A number that would pass 2^32 - 1 is answered as want of
+// memory: what it counts takes more.
 fn next(number: u32) -> Result<u32, AllocError>
     ensures { IfOk result (λ n. n ≡ number + 1) }
 {
     number.checked_add(1).ok_or(AllocError)
 }
 
-// Where a value of this type lies in local arrays from the first on. `end` becomes the number of the first array past them.
+// Where a value of this type lies in local arrays from the first on. `end` becomes the number of
+// the first array past them.
 fn laid(alloc: Global, ty: &Ty, end: &mut u32) -> Result<Origin, AllocError>
     ensures origin { IfOk result
         (λ o. origin_in o ≡ origins.laid_from end.old (ty_at [] (ty_of ty.now))) }

@@ -6,7 +6,8 @@ ghost use Rattle.group_form.specs.Named as spec;
 use std::alloc::{AllocError, Global};
 use std::marker::Model;
 
-/// The pair choices that lead to a component, the outermost first; `true` chooses the second. Contracts see the list of them.
+/// The pair choices that lead to a component, the outermost first; `true` chooses the second.
+/// Contracts see the list of them.
 #[derive(Drop)]
 pub struct Way {
     choices: Vec<bool>,

@@ -1,14 +1,14 @@
 -- Any two codes printed for one term are alike.
 use Rattle.std.proofs.Common.{◌≡◌, ℕ, ◌+◌, ◌<◌, Bool, true, false, List, [], ◌∷◌, ◌++◌, Option, Some, refl, sym, ◌∙◌, subst}
-use Rattle.kernel_tree.specs.Formula.{Formula, bound_value}
-use Rattle.kernel_tree.specs.Code.{Array, Private, Start, Stride, Code, End, Assigns, Loads, Stores, Loops}
+use Rattle.kernel_tree.specs.Formula.{Formula}
+use Rattle.kernel_tree.specs.Code.{Array, Private, Code, End, Assigns, Loads, Stores, Loops}
 use Rattle.kernel_tree.specs.Launch.{Launch}
 use Rattle.lift_ir.specs.Types.{Ty, Scalar, PairOf, ArrayOf, width}
 use Rattle.lift_ir.specs.Terms.{PrivateMemory, LoadSet, Skip, Take, Each, Kind, Global, Sequential, Term, Literal, Bound, Source, Apply, ApplyNumber, Select, Both, Project, Reshape, LetArray, LetElement, Map, Fold, Store, Copy, push}
 use Rattle.lift_ir.specs.Scalars.{at_index}
 use Rattle.printed_form.specs.Marks.{Mark, Nowhere, Register, Spot, Marks, laid_in, held_marks, loaded_marks}
 use Rattle.lift_ir.specs.Layouts.{result_position}
-use Rattle.printed_form.specs.Form.{start_of, stride_of, IsAssigned, IsReassigned, IsElementWork, IsTurn, IsTurnOf, IsSpot, IsStored, IsLoaded, IsLoop, IsFoldTurn, argument_marks, IsArgumentWork, IsWritten}
+use Rattle.printed_form.specs.Form.{start_of, stride_of, IsAssigned, IsReassigned, IsElementWork, IsTurnOf, IsSpot, IsStored, IsLoaded, IsLoop, IsFoldTurn, argument_marks, IsArgumentWork, IsWritten}
 use Rattle.printed_form.specs.Counts.{let_variables, load_count, variable_count, private_count}
 use Rattle.printed_form.specs.Expressions.{held, exprs}
 use Rattle.printed_form.specs.Whole.{IsOverLaunch}
@@ -17,34 +17,25 @@ use Rattle.printed_form.specs.Alike.{SameIndex, Alike}
 same_some : (f : Option Formula) (x y : Formula) → f ≡ Some x → f ≡ Some y → x ≡ y
 same_some f x y p q = let e : Some x ≡ Some y = sym p ∙ q in cc
 
--- as an item runs them: a relation of codes that goes by whichever statements, whatever follows them
-pub record IsByStatements (l : Launch) (item : ℕ) (R : List ℕ → Code → Code → Type 0) : Type 0 where
-  pub ends : (ts : List ℕ) → R ts End End
-  pub assigns : (ts : List ℕ) (v : ℕ) (e f : Formula) (r q : Code) → e ≡ f → R ts r q → R ts (Assigns v e r) (Assigns v f q)
-  pub loads : (ts : List ℕ) (v : ℕ) (a b : Array) (i j : Formula) (r q : Code) → (a ≡ b) × SameIndex l item ts i j → R ts r q → R ts (Loads v a i r) (Loads v b j q)
-  pub stores : (ts : List ℕ) (a b : Array) (i j e f : Formula) (r q : Code) → (a ≡ b) × SameIndex l item ts i j → e ≡ f → R ts r q → R ts (Stores a i e r) (Stores b j f q)
-  pub loops : (ts : List ℕ) (s : Start) (c : Stride) (b d : Formula) (body other r q : Code) (n : ℕ) → bound_value l.sizes b ≡ Some n → bound_value l.sizes d ≡ Some n
-      → ((i : ℕ) → i < n → IsTurn l item s c i → R (ts ++ i ∷ []) body other) → R ts r q → R ts (Loops s b c body r) (Loops s d c other q)
+pub alike_by : (grouped : Bool) (l : Launch) (item : ℕ) (ts : List ℕ) (a b c d : Code) → a ≡ c → b ≡ d → Alike grouped l item ts c d → Alike grouped l item ts a b
+alike_by grouped l item ts a b c d p q h = subst (λ x. Alike grouped l item ts x b) (sym p) (subst (λ x. Alike grouped l item ts c x) (sym q) h)
 
-module _ (l : Launch) (item : ℕ) (ins : ℕ → Marks) (R : List ℕ → Code → Code → Type 0) (by : IsByStatements l item R) where
-  pub alike_by : (ts : List ℕ) (a b c d : Code) → a ≡ c → b ≡ d → R ts c d → R ts a b
-  alike_by ts a b c d p q h = subst (λ x. R ts x b) (sym p) (subst (λ x. R ts c x) (sym q) h)
-
-  alike_assigned : (ts : List ℕ) (ty : Ty) (f : List Bool → Option Formula) (n : ℕ) (a b c d : Code) → IsAssigned ty f n a c → IsAssigned ty f n b d → R ts c d → R ts a b
-  alike_assigned ts Scalar f n a b c d x y h = alike_by ts a b (Assigns n x.0 c) (Assigns n y.0 d) x.2 y.2 (by.assigns ts n x.0 y.0 c d (same_some (f []) x.0 y.0 x.1 y.1) h)
+module _ (grouped : Bool) (l : Launch) (item : ℕ) (ins : ℕ → Marks) where
+  alike_assigned : (ts : List ℕ) (ty : Ty) (f : List Bool → Option Formula) (n : ℕ) (a b c d : Code) → IsAssigned ty f n a c → IsAssigned ty f n b d → Alike grouped l item ts c d → Alike grouped l item ts a b
+  alike_assigned ts Scalar f n a b c d x y h = alike_by grouped l item ts a b (Assigns n x.0 c) (Assigns n y.0 d) x.2 y.2 (refl, same_some (f []) x.0 y.0 x.1 y.1, h)
   alike_assigned ts (PairOf t u) f n a b c d x y h =
       alike_assigned ts t (λ cs. f (false ∷ cs)) n a b x.0 y.0 x.1 y.1 (alike_assigned ts u (λ cs. f (true ∷ cs)) (n + width t) x.0 y.0 c d x.2 y.2 h)
   alike_assigned ts (ArrayOf m t) f n a b c d x y h = absurd x
 
-  alike_again : (ts : List ℕ) (ty : Ty) (f : List Bool → Option Formula) (acc n : ℕ) (a b c d : Code) → IsReassigned ty f acc n a c → IsReassigned ty f acc n b d → R ts c d → R ts a b
+  alike_again : (ts : List ℕ) (ty : Ty) (f : List Bool → Option Formula) (acc n : ℕ) (a b c d : Code) → IsReassigned ty f acc n a c → IsReassigned ty f acc n b d → Alike grouped l item ts c d → Alike grouped l item ts a b
   alike_again ts Scalar f acc n a b c d x y h = alike_assigned ts Scalar f acc a b c d x y h
   alike_again ts (PairOf t u) f acc n a b c d x y h =
       alike_assigned ts (PairOf t u) f n a b x.0 y.0 x.1 y.1 (alike_assigned ts (PairOf t u) (λ cs. held (held_marks (PairOf t u) n cs [])) acc x.0 y.0 c d x.2 y.2 h)
   alike_again ts (ArrayOf m t) f acc n a b c d x y h = absurd x
 
-  alike_element : {A : Type 0} (ts : List ℕ) (t : Term A) (env : ℕ → Marks) (n : ℕ) (a b c d : Code) → IsElementWork env n t a c → IsElementWork env n t b d → R ts c d → R ts a b
-  alike_element ts (Literal k) env n a b c d x y h = alike_by ts a b c d x y h
-  alike_element ts (Bound v) env n a b c d x y h = alike_by ts a b c d x y h
+  alike_element : {A : Type 0} (ts : List ℕ) (t : Term A) (env : ℕ → Marks) (n : ℕ) (a b c d : Code) → IsElementWork env n t a c → IsElementWork env n t b d → Alike grouped l item ts c d → Alike grouped l item ts a b
+  alike_element ts (Literal k) env n a b c d x y h = alike_by grouped l item ts a b c d x y h
+  alike_element ts (Bound v) env n a b c d x y h = alike_by grouped l item ts a b c d x y h
   alike_element ts (Apply o t u) env n a b c d x y h = alike_element ts t env n a b x.0 y.0 x.1 y.1 (alike_element ts u env (n + let_variables t) x.0 y.0 c d x.2 y.2 h)
   alike_element ts (ApplyNumber o m t) env n a b c d x y h = alike_element ts t env n a b c d x y h
   alike_element ts (Select t u v) env n a b c d x y h =
@@ -61,39 +52,39 @@ module _ (l : Launch) (item : ℕ) (ins : ℕ → Marks) (R : List ℕ → Code 
   spots_alike ts (Register r) a b i j x y = absurd x
   spots_alike ts Nowhere a b i j x y = absurd x
 
-  alike_stored : (ts : List ℕ) (ty : Ty) (f : List Bool → Option Formula) (w : Marks) (a b c d : Code) → IsStored l item ins ts ty f w a c → IsStored l item ins ts ty f w b d → R ts c d → R ts a b
+  alike_stored : (ts : List ℕ) (ty : Ty) (f : List Bool → Option Formula) (w : Marks) (a b c d : Code) → IsStored l item ins ts ty f w a c → IsStored l item ins ts ty f w b d → Alike grouped l item ts c d → Alike grouped l item ts a b
   alike_stored ts Scalar f w a b c d x y h =
       let s = spots_alike ts (w [] []) x.0 y.0 x.1 y.1 x.4 y.4 in
-      alike_by ts a b (Stores x.0 x.1 x.2 c) (Stores y.0 y.1 y.2 d) x.5 y.5 (by.stores ts x.0 y.0 x.1 y.1 x.2 y.2 c d s (same_some (f []) x.2 y.2 x.3 y.3) h)
+      alike_by grouped l item ts a b (Stores x.0 x.1 x.2 c) (Stores y.0 y.1 y.2 d) x.5 y.5 (s.0, s.1, same_some (f []) x.2 y.2 x.3 y.3, h)
   alike_stored ts (PairOf t u) f w a b c d x y h =
       alike_stored ts t (λ cs. f (false ∷ cs)) (λ cs. w (false ∷ cs)) a b x.0 y.0 x.1 y.1 (alike_stored ts u (λ cs. f (true ∷ cs)) (λ cs. w (true ∷ cs)) x.0 y.0 c d x.2 y.2 h)
   alike_stored ts (ArrayOf m t) f w a b c d x y h = absurd x
 
-  pub alike_loaded : (ts : List ℕ) (loads : LoadSet) (e : Marks) (n : ℕ) (a b c d : Code) → IsLoaded l item ins ts loads e n a c → IsLoaded l item ins ts loads e n b d → R ts c d → R ts a b
-  alike_loaded ts Skip e n a b c d x y h = alike_by ts a b c d x y h
+  pub alike_loaded : (ts : List ℕ) (loads : LoadSet) (e : Marks) (n : ℕ) (a b c d : Code) → IsLoaded l item ins ts loads e n a c → IsLoaded l item ins ts loads e n b d → Alike grouped l item ts c d → Alike grouped l item ts a b
+  alike_loaded ts Skip e n a b c d x y h = alike_by grouped l item ts a b c d x y h
   alike_loaded ts Take e n a b c d x y h =
       let s = spots_alike ts (e [] []) x.0 y.0 x.1 y.1 x.2 y.2 in
-      alike_by ts a b (Loads n x.0 x.1 c) (Loads n y.0 y.1 d) x.3 y.3 (by.loads ts n x.0 y.0 x.1 y.1 c d s h)
+      alike_by grouped l item ts a b (Loads n x.0 x.1 c) (Loads n y.0 y.1 d) x.3 y.3 (refl, s.0, s.1, h)
   alike_loaded ts (Each p q) e n a b c d x y h =
       alike_loaded ts p (λ cs. e (false ∷ cs)) n a b x.0 y.0 x.1 y.1 (alike_loaded ts q (λ cs. e (true ∷ cs)) (n + load_count p) x.0 y.0 c d x.2 y.2 h)
 
-  alike_loop : (ts : List ℕ) (k : Kind) (len : ℕ) (B : ℕ → Code → Type 0) (a b c d : Code) → IsLoop l item ins k len B a c → IsLoop l item ins k len B b d → ((i : ℕ) → i < len → IsTurnOf l item k i → (x y : Code) → B i x → B i y → R (ts ++ i ∷ []) x y) → R ts c d → R ts a b
+  alike_loop : (ts : List ℕ) (k : Kind) (len : ℕ) (B : ℕ → Code → Type 0) (a b c d : Code) → IsLoop l item ins k len B a c → IsLoop l item ins k len B b d → ((i : ℕ) → i < len → IsTurnOf l item k i → (x y : Code) → B i x → B i y → Alike grouped l item (ts ++ i ∷ []) x y) → Alike grouped l item ts c d → Alike grouped l item ts a b
   alike_loop ts k len B a b c d x y rec h =
-      alike_by ts a b (Loops (start_of k) x.0 (stride_of k) x.1 c) (Loops (start_of k) y.0 (stride_of k) y.1 d) x.2 y.2
-      (by.loops ts (start_of k) (stride_of k) x.0 y.0 x.1 y.1 c d len x.3 y.3 (λ i lt own. rec i lt own x.1 y.1 (x.4 i lt own) (y.4 i lt own)) h)
+      alike_by grouped l item ts a b (Loops (start_of k) x.0 (stride_of k) x.1 c) (Loops (start_of k) y.0 (stride_of k) y.1 d) x.2 y.2
+      (refl, refl, len, x.3, y.3, (λ i lt own. rec i lt own x.1 y.1 (x.4 i lt own) (y.4 i lt own)), h)
 
-  alike_fold_turn : {A : Type 0} (ts : List ℕ) (env : ℕ → Marks) (loads : LoadSet) (ty : Ty) (e : Marks) (acc : ℕ) (t : Term A) (a b : Code) → IsFoldTurn l item ins ts env loads ty e acc t a → IsFoldTurn l item ins ts env loads ty e acc t b → R ts a b
+  alike_fold_turn : {A : Type 0} (ts : List ℕ) (env : ℕ → Marks) (loads : LoadSet) (ty : Ty) (e : Marks) (acc : ℕ) (t : Term A) (a b : Code) → IsFoldTurn l item ins ts env loads ty e acc t a → IsFoldTurn l item ins ts env loads ty e acc t b → Alike grouped l item ts a b
   alike_fold_turn ts env loads ty e acc t a b x y =
       let n = acc + width ty in
       let env2 = push (loaded_marks loads e n) (push (held_marks ty acc) env) in
       alike_loaded ts loads e n a b x.0 y.0 x.2 y.2
       (alike_element ts t env2 (n + load_count loads) x.0 y.0 x.1 y.1 x.3 y.3
-      (alike_again ts ty (exprs env2 (n + load_count loads) t) acc (n + load_count loads + let_variables t) x.1 y.1 End End x.4 y.4 (by.ends ts)))
+      (alike_again ts ty (exprs env2 (n + load_count loads) t) acc (n + load_count loads + let_variables t) x.1 y.1 End End x.4 y.4 tt))
 
   mutual
-    pub alike_gathered : {A : Type 0} (num : A → ℕ) (t : Term A) (ts : List ℕ) (env : ℕ → Marks) (p n : ℕ) (a b c d : Code) → IsArgumentWork l item ins num ts env p n t a c → IsArgumentWork l item ins num ts env p n t b d → R ts c d → R ts a b
-    alike_gathered num (Bound v) ts env p n a b c d x y h = alike_by ts a b c d x y h
-    alike_gathered num (Source v) ts env p n a b c d x y h = alike_by ts a b c d x y h
+    pub alike_gathered : {A : Type 0} (num : A → ℕ) (t : Term A) (ts : List ℕ) (env : ℕ → Marks) (p n : ℕ) (a b c d : Code) → IsArgumentWork l item ins num ts env p n t a c → IsArgumentWork l item ins num ts env p n t b d → Alike grouped l item ts c d → Alike grouped l item ts a b
+    alike_gathered num (Bound v) ts env p n a b c d x y h = alike_by grouped l item ts a b c d x y h
+    alike_gathered num (Source v) ts env p n a b c d x y h = alike_by grouped l item ts a b c d x y h
     alike_gathered num (Both zips t u) ts env p n a b c d x y h = alike_gathered num t ts env p n a b x.0 y.0 x.1 y.1 (alike_gathered num u ts env (p + private_count t) (n + variable_count t) x.0 y.0 c d x.2 y.2 h)
     alike_gathered num (Project s t) ts env p n a b c d x y h = alike_gathered num t ts env p n a b c d x y h
     alike_gathered num (Reshape m t) ts env p n a b c d x y h = alike_gathered num t ts env p n a b c d x y h
@@ -101,7 +92,7 @@ module _ (l : Launch) (item : ℕ) (ins : ℕ → Marks) (R : List ℕ → Code 
     alike_gathered num (Copy PrivateMemory ty t) ts env p n a b c d x y h = alike_written num t ts env p n (laid_in Private (p + private_count t) ty) a b c d x y h
     alike_gathered num _ ts env p n a b c d x y h = absurd x
 
-    pub alike_written : {A : Type 0} (num : A → ℕ) (t : Term A) (ts : List ℕ) (env : ℕ → Marks) (p n : ℕ) (w : Marks) (a b c d : Code) → IsWritten l item ins num ts env p n t w a c → IsWritten l item ins num ts env p n t w b d → R ts c d → R ts a b
+    pub alike_written : {A : Type 0} (num : A → ℕ) (t : Term A) (ts : List ℕ) (env : ℕ → Marks) (p n : ℕ) (w : Marks) (a b c d : Code) → IsWritten l item ins num ts env p n t w a c → IsWritten l item ins num ts env p n t w b d → Alike grouped l item ts c d → Alike grouped l item ts a b
     alike_written num (Store ty t) ts env p n w a b c d x y h = alike_element ts t env n a b x.0 y.0 x.1 y.1 (alike_stored ts ty (exprs env n t) w x.0 y.0 c d x.2 y.2 h)
     alike_written num (Reshape m t) ts env p n w a b c d x y h = alike_written num t ts env p n (λ cs q. w cs (result_position num m q)) a b c d x.1 y.1 h
     alike_written num (LetArray v t) ts env p n w a b c d x y h = alike_gathered num v ts env p n a b x.0 y.0 x.1 y.1 (alike_written num t ts (push (argument_marks l ins num env p v) env) (p + private_count v) (n + variable_count v) w x.0 y.0 c d x.2 y.2 h)
@@ -113,7 +104,7 @@ module _ (l : Launch) (item : ℕ) (ins : ℕ → Marks) (R : List ℕ → Code 
         alike_gathered num xs ts env p n a b x.0 y.0 x.1 y.1
         (alike_loop ts Sequential (num len) _ x.0 y.0 c d x.2 y.2
         (λ i lt own u v r s. alike_loaded (ts ++ i ∷ []) loads (at_index i e) (n + variable_count xs) u v r.0 s.0 r.1 s.1
-        (alike_written num t (ts ++ i ∷ []) (push (loaded_marks loads (at_index i e) (n + variable_count xs)) env) (p + private_count xs) (n + variable_count xs + load_count loads) (at_index i w) r.0 s.0 End End r.2 s.2 (by.ends (ts ++ i ∷ [])))) h)
+        (alike_written num t (ts ++ i ∷ []) (push (loaded_marks loads (at_index i e) (n + variable_count xs)) env) (p + private_count xs) (n + variable_count xs + load_count loads) (at_index i w) r.0 s.0 End End r.2 s.2 tt)) h)
     alike_written num (Fold len loads ty xs s t) ts env p n w a b c d x y h =
         let e = argument_marks l ins num env p xs in
         let n1 = n + variable_count xs in
@@ -124,7 +115,7 @@ module _ (l : Launch) (item : ℕ) (ins : ℕ → Marks) (R : List ℕ → Code 
         (alike_stored ts ty (λ cs. held (held_marks ty (n1 + let_variables s) cs [])) (at_index 0 w) x.3 y.3 c d x.8 y.8 h))))
     alike_written num _ ts env p n w a b c d x y h = absurd x
 
-  pub alike_over_launch : {A : Type 0} (num : A → ℕ) (t : Term A) (env : ℕ → Marks) (p n : ℕ) (w : Marks) (a b c d : Code) → IsOverLaunch l item ins num env p n t w a c → IsOverLaunch l item ins num env p n t w b d → R [] c d → R [] a b
+  pub alike_over_launch : {A : Type 0} (num : A → ℕ) (t : Term A) (env : ℕ → Marks) (p n : ℕ) (w : Marks) (a b c d : Code) → IsOverLaunch l item ins num env p n t w a c → IsOverLaunch l item ins num env p n t w b d → Alike grouped l item [] c d → Alike grouped l item [] a b
   alike_over_launch num (Reshape m t) env p n w a b c d x y h = alike_over_launch num t env p n (λ cs q. w cs (result_position num m q)) a b c d x.1 y.1 h
   alike_over_launch num (LetArray v t) env p n w a b c d x y h = alike_gathered num v [] env p n a b x.0 y.0 x.1 y.1 (alike_over_launch num t (push (argument_marks l ins num env p v) env) (p + private_count v) (n + variable_count v) w x.0 y.0 c d x.2 y.2 h)
   alike_over_launch num (Map Global len loads xs t) env p n w a b c d x y h =
@@ -132,14 +123,5 @@ module _ (l : Launch) (item : ℕ) (ins : ℕ → Marks) (R : List ℕ → Code 
       alike_gathered num xs [] env p n a b x.0 y.0 x.1 y.1
       (alike_loop [] Global (num len) _ x.0 y.0 c d x.2 y.2
       (λ i lt own u v r s. alike_loaded ([] ++ i ∷ []) loads (at_index i e) (n + variable_count xs) u v r.0 s.0 r.1 s.1
-      (alike_written num t ([] ++ i ∷ []) (push (loaded_marks loads (at_index i e) (n + variable_count xs)) env) (p + private_count xs) (n + variable_count xs + load_count loads) (at_index i w) r.0 s.0 End End r.2 s.2 (by.ends ([] ++ i ∷ [])))) h)
+      (alike_written num t ([] ++ i ∷ []) (push (loaded_marks loads (at_index i e) (n + variable_count xs)) env) (p + private_count xs) (n + variable_count xs + load_count loads) (at_index i w) r.0 s.0 End End r.2 s.2 tt)) h)
   alike_over_launch num _ env p n w a b c d x y h = absurd x
-
-pub alike_by_statements : (l : Launch) (item : ℕ) → IsByStatements l item (Alike l item)
-alike_by_statements l item = record {
-  ends = λ ts. tt;
-  assigns = λ ts v e f r q same h. (refl, same, h);
-  loads = λ ts v a b i j r q same h. (refl, same.0, same.1, h);
-  stores = λ ts a b i j e f r q same equal h. (same.0, same.1, equal, h);
-  loops = λ ts s c b d body other r q n one two within h. (refl, refl, n, one, two, within, h);
-}

@@ -1,7 +1,7 @@
 -- Kernels printed for a program's typed term: they keep what they owe, they may be started, and the
 -- printer's kernel is one.
-use Rattle.std.proofs.Common.{◌≡◌, ℕ, zero, suc, ◌+◌, ◌*◌, ◌/◌, ◌%◌, ◌-◌, ◌<◌, ◌≤◌, ◌^◌, Bool, List, [], ◌∷◌, ◌++◌, length, get_or, Option, Some, None, refl, sym, ap, ◌∙◌, subst, pos, ◌≤ℤ◌, arith, length-append}
-use Rattle.std.specs.Prelude.{map, slice_get, slice_index}
+use Rattle.std.proofs.Common.{◌≡◌, ℕ, zero, suc, ◌+◌, ◌*◌, ◌/◌, ◌%◌, ◌-◌, ◌<◌, ◌≤◌, ◌^◌, Bool, false, List, [], ◌∷◌, ◌++◌, length, get_or, Option, Some, None, refl, sym, ap, ◌∙◌, subst, pos, ◌≤ℤ◌, arith, length-append}
+use Rattle.std.specs.Prelude.{map, replicate, slice_get, slice_index}
 use Rattle.std.proofs.Math.ListN.{get_or-append}
 use Rattle.std.proofs.Math.Seq.{get_or-append_right}
 use Rattle.size_arith.specs.declared.names.Name.{Name}
@@ -21,17 +21,17 @@ use Rattle.lift_tree.specs.Meaning.{World, meaning}
 use Rattle.lift_tree.specs.Launches as launches
 use Rattle.lift_tree.specs.Launches.{Asks, IsAdmissibleLaunch, IsFixedSize, buffers_of}
 use Rattle.lift_tree.proofs.Members.{length-map}
-use Rattle.kernel_tree.specs.Code.{Array, Input, Output, Local, Private, Kernel}
+use Rattle.kernel_tree.specs.Code.{Array, Code, Kernel}
 use Rattle.kernel_tree.specs.Grammar.{largest_group}
 use Rattle.kernel_tree.specs.Launch as kernel_launch
-use Rattle.kernel_tree.specs.Launch.{Launch, Cells, IsWhole, HasLocal}
+use Rattle.kernel_tree.specs.Launch.{Launch, Cells, IsWhole, HasLocal, MayStart}
 use Rattle.kernel_tree.specs.Device.{State, IsStart, row, length_in, device_of}
 use Rattle.kernel_tree.specs.Item.{Item, item}
 use Rattle.kernel_tree.specs.Histories.{history}
 use Rattle.kernel_tree.specs.Alike.{Enacts, GoesAlike}
 use Rattle.kernel_tree.proofs.Grouping.{flat_items}
 use Rattle.kernel_tree.proofs.Alike.{goes_alike}
-use Rattle.lift_ir.specs.Types.{Ty, Scalar, ArrayOf, IsPosition, IsPlaced, component, flat, width, measured, IsFlat}
+use Rattle.lift_ir.specs.Types.{Ty, Scalar, ArrayOf, IsPosition, IsPlaced, component, flat, width, size, measured, IsFlat}
 use Rattle.lift_ir.specs.Terms.{HasType, no_type}
 use Rattle.lift_ir.specs.Scalars.{Scalars, HasScalars, scalars_in, scalars_of, no_scalars, lists_of}
 use Rattle.lift_ir.specs.AtLaunch.{length_at, ty_at, shape_of}
@@ -48,11 +48,11 @@ use Rattle.lift_ir.proofs.Values.{shape_is, has_scalars, same_lists}
 use Rattle.printed_form.specs.Headline.{EveryRunKeeps}
 use Rattle.printed_form.specs.Whole.{IsCode, IsPrinted}
 use Rattle.printed_form.specs.Printer.{input_marks, kernel_code}
-use Rattle.printed_form.specs.Programs.{input_shape, first_buffer, buffer_count, lowered_root, cell_owner, row_of, IsLaunchOf, SameContents, PrintedProgramsKeep, PrintedProgramsStart, ProgramsArePrinted, PrintedProgramsGoAlike, Prints, AreBuffersOf, IsLowerableProgram}
+use Rattle.printed_form.specs.Programs.{input_shape, first_buffer, buffer_count, lowered_root, cell_owner, row_of, IsLaunchOf, SameContents, DeclaresFor, declared_kernel, PrintedProgramsKeep, PrintedProgramsStart, ProgramsArePrinted, PrintedProgramsGoAlike, Prints, AreBuffersOf, IsLowerableProgram}
 use Rattle.printed_form.proofs.Printed.{code_is}
 use Rattle.printed_form.specs.Alike.{AlikeItems, AlikeStates}
 use Rattle.printed_form.proofs.Whole.{completed}
-use Rattle.printed_form.proofs.SameRuns.{codes_alike, same_runs, completes_alike}
+use Rattle.printed_form.proofs.SameRuns.{codes_alike, nothing_to_meet, same_lengths, same_runs, completes_alike}
 use Rattle.printed_form.proofs.Theorem.{printed_kernels_keep}
 
 width_is : (ys : List ℕ) (a : PlainTy) → width (ty_at ys a) ≡ width (shape_of a)
@@ -166,6 +166,11 @@ sources_at d bases v = measured (length_at bases) (input_shape d.inputs v)
 source_is : (d : Declared) (bases : List ℕ) (i : ℕ) (a : PlainTy) → slice_get d.inputs i ≡ Some a → sources_at d bases i ≡ ty_at bases a
 source_is d bases i a e = ap (measured (length_at bases)) (shape_at d.inputs i a e) ∙ shape_is bases a
 
+-- what a program's typed term is lowered to has the type of the output
+pub lowered_has : (d : Declared) (asks : Asks) (bases : List ℕ) (t : Tree) (a : Annotation) (l : Launch) → IsLowerableProgram d bases t a → IsLaunchOf d asks bases l → HasType (length_at bases) (sources_at d bases) no_type (lowered_root d.names t a) (ty_at bases (type_in a))
+lowered_has d asks bases t a l program launch =
+    has_is d bases (shown d asks bases l program.declared launch) program.declared.inputs (sources_at d bases) (λ i b e. sym (source_is d bases i b e)) t Written [] a tt program.nodes program.lowerable
+
 module _ (d : Declared) (w : World) (declared : IsDeclared d) (ok : IsAdmissible d w) (c : Cells) (held : c.ins ≡ buffers_of d.inputs w.inputs) where
   abbrev source : ℕ → Scalars
   source v = scalars_in (sources_at d w.bases v) (nth w.inputs v)
@@ -221,21 +226,24 @@ module _ (d : Declared) (asks : Asks) (w : World) (t : Tree) (a : Annotation) (l
   abbrev low : Lowered
   low = lowered_root d.names t a
 
-  lowers : Lowers num w 0 (length d.inputs) t low
+  pub lowers : Lowers num w 0 (length d.inputs) t low
   lowers = lowers_is d w ok program.declared.few t Written [] a 0 refl program.nodes program.lowerable
 
   has : HasType num src no_type low result
-  has = has_is d w.bases (shown d asks w.bases l program.declared launch) program.declared.inputs src (λ i b e. sym (source_is d w.bases i b e)) t Written [] a tt program.nodes program.lowerable
+  has = lowered_has d asks w.bases t a l program launch
 
-  flat_type : IsFlat result
+  pub flat_type : IsFlat result
   flat_type = output_flat w.bases (type_in a) program.output
 
-  given : (v : ℕ) → v < length d.inputs → HasScalars (src v) (nth w.inputs v) (sources v)
+  pub given : (v : ℕ) → v < length d.inputs → HasScalars (src v) (nth w.inputs v) (sources v)
   given = input_has d w program.declared ok c buffers.inputs
 
   -- the source value has the term's scalars
-  valued : HasScalars result (meaning w [] t) (scalars_of num sources no_scalars low)
+  pub valued : HasScalars result (meaning w [] t) (scalars_of num sources no_scalars low)
   valued = means num w src sources (length d.inputs) given low 0 t no_type [] no_scalars result lowers has (λ i lt. absurd (omega arith))
+
+  pub outputs_long : map length c.outs ≡ replicate (width result) (size result)
+  outputs_long = buffers.outputs ∙ ap (map length) (same_lists w.bases (type_in a) (meaning w [] t)) ∙ lists_long result (meaning w [] t) (scalars_of num sources no_scalars low) flat_type valued
 
   is_printed : (k : Kernel) → Prints d asks.local w.bases t a l k → IsPrinted l num src (input_marks num (first_buffer d.inputs) (input_shape d.inputs)) sources low result k c
   is_printed k printed = record {
@@ -246,9 +254,9 @@ module _ (d : Declared) (asks : Asks) (w : World) (t : Tree) (a : Annotation) (l
     typed = has;
     flat_type = flat_type;
     code = printed.code;
-    variables = printed.variables;
-    privates = printed.privates;
-    outputs = buffers.outputs ∙ ap (map length) (same_lists w.bases (type_in a) (meaning w [] t)) ∙ lists_long result (meaning w [] t) (scalars_of num sources no_scalars low) flat_type valued;
+    variables = printed.declares.variables;
+    privates = printed.declares.privates;
+    outputs = outputs_long;
     inputs = input_given d w program.declared ok c buffers.inputs;
   }
 
@@ -259,16 +267,13 @@ module _ (d : Declared) (asks : Asks) (w : World) (t : Tree) (a : Annotation) (l
 
   module _ (k m : Kernel) (one : Prints d asks.local w.bases t a l k) (two : Prints d asks.local w.bases t a l m) (s r : State) (start : IsStart k l c s) (begin : IsStart m l c r) (same : SameContents l s r) where
     lengths : (b : Array) → length_in k c b ≡ length_in m c b
-    lengths (Input n) = refl
-    lengths (Output n) = refl
-    lengths (Local n) = ap (λ ns. slice_index ns n) (one.locals ∙ sym two.locals)
-    lengths (Private n) = ap (λ ns. slice_index ns n) (one.privates ∙ sym two.privates)
+    lengths = same_lengths k m c (one.declares.locals ∙ sym two.declares.locals) (one.declares.privates ∙ sym two.declares.privates)
 
-    states : AlikeStates l s r
+    states : AlikeStates false l s r
     states = record {
       items = λ j lt.
           let vars : start.vars j ≡ begin.vars j = sym (ap Item.vars (start.items j lt)) ∙ same.variables j lt ∙ ap Item.vars (begin.items j lt) in
-          subst (λ z. AlikeItems l j z (r.items j)) (sym (start.items j lt)) (subst (λ z. AlikeItems l j (item k.code [] (start.vars j)) z) (sym (begin.items j lt)) (record { code = codes_alike num l (input_marks num (first_buffer d.inputs) (input_shape d.inputs)) low result k.code m.code one.code two.code j lt; frames = tt; vars = vars }));
+          subst (λ z. AlikeItems false l j z (r.items j)) (sym (start.items j lt)) (subst (λ z. AlikeItems false l j (item k.code [] (start.vars j)) z) (sym (begin.items j lt)) (record { code = codes_alike num l (input_marks num (first_buffer d.inputs) (input_shape d.inputs)) low result k.code m.code one.code two.code j lt; frames = tt; vars = vars }));
       memory = same.memory;
       epochs = λ g f. start.epochs g f ∙ sym (begin.epochs g f);
     }
@@ -280,8 +285,8 @@ module _ (d : Declared) (asks : Asks) (w : World) (t : Tree) (a : Annotation) (l
         let told : Enacts (device_of k l c) s (history (device_of k l c) s full.0) = record { events = full.0; completes = full.1; acts = λ j lt. refl } in
         let again : Enacts (device_of m l c) r (history (device_of k l c) s full.0) = record {
           events = full.0;
-          completes = completes_alike (device_of k l c) (length_in m c) lengths whole_launch s r full.0 states full.1;
-          acts = λ j lt. sym ((same_runs (device_of k l c) (length_in m c) lengths whole_launch s r full.0 states full.1.is_run).histories j lt);
+          completes = completes_alike false (device_of k l c) (length_in m c) lengths whole_launch s r full.0 states (nothing_to_meet (device_of m l c) r) full.1;
+          acts = λ j lt. sym ((same_runs false (device_of k l c) (length_in m c) lengths whole_launch s r full.0 states (nothing_to_meet (device_of m l c) r) full.1.is_run).histories j lt);
         } in
         goes_alike l whole_launch (length_in k c) (length_in m c) s r (history (device_of k l c) s full.0) (fun_ext (λ g. fun_ext (λ f. states.epochs g f))) told again
 
@@ -293,16 +298,35 @@ pub has_local : (local : Option ℕ) (l : Launch) → kernel_launch.IsFlat l →
 has_local None l flat h = tt
 has_local (Some size) l flat h = ap (λ x. (x, l.local.1)) h ∙ ap (λ y. (size, y)) flat.one_local_row
 
-pub printed_programs_start : PrintedProgramsStart
-printed_programs_start d asks w t a l k c program ok launch buffers printed = record {
+-- a kernel that declares what the term needs may be started at each admissible launch
+pub may_start : (d : Declared) (asks : Asks) (w : World) (t : Tree) (a : Annotation) (l : Launch) (k : Kernel) (c : Cells) → IsLowerableProgram d w.bases t a → IsAdmissible d w → IsLaunchOf d asks w.bases l → AreBuffersOf d w t a c → DeclaresFor d asks.local t a k → MayStart k l c
+may_start d asks w t a l k c program ok launch buffers declares = record {
   whole = whole l asks d.names w.bases launch.flat launch.admissible;
   small_groups = subst (λ n. l.local.0 * n ≤ largest_group) (sym launch.flat.one_local_row) (let z = launch.admissible.local_most in omega arith);
   few_items = subst (λ n. n ≤ 65536) (sym (flat_items l launch.flat)) launch.admissible.global_most;
-  local = subst (λ size. HasLocal size l) (sym printed.local) (has_local asks.local l launch.flat launch.admissible.fixed);
-  sizes = ap length launch.sizes ∙ sizes_count d.names w.bases launch.admissible.sizes ∙ sym printed.sizes;
-  ins = ap length buffers.inputs ∙ buffers_count w.bases d.inputs w.inputs program.declared.arrays ok.inputs ∙ sym printed.inputs;
-  outs = sym (length-map length c.outs) ∙ ap length buffers.outputs ∙ length-map length (launches.lists_of (type_in a) (meaning w [] t)) ∙ lists_length w.bases (type_in a) (meaning w [] t) ∙ sym printed.outputs;
+  local = subst (λ size. HasLocal size l) (sym declares.local) (has_local asks.local l launch.flat launch.admissible.fixed);
+  sizes = ap length launch.sizes ∙ sizes_count d.names w.bases launch.admissible.sizes ∙ sym declares.sizes;
+  ins = ap length buffers.inputs ∙ buffers_count w.bases d.inputs w.inputs program.declared.arrays ok.inputs ∙ sym declares.inputs;
+  outs = sym (length-map length c.outs) ∙ ap length buffers.outputs ∙ length-map length (launches.lists_of (type_in a) (meaning w [] t)) ∙ lists_length w.bases (type_in a) (meaning w [] t) ∙ sym declares.outputs;
 }
+
+pub printed_programs_start : PrintedProgramsStart
+printed_programs_start d asks w t a l k c program ok launch buffers printed = may_start d asks w t a l k c program ok launch buffers printed.declares
+
+-- a kernel that is made so declares what the term needs
+pub declares_so : (d : Declared) (size : Option ℕ) (t : Tree) (a : Annotation) (code : Code) → DeclaresFor d size t a (declared_kernel d size t a code)
+declares_so d size t a code = record { inputs = refl; outputs = refl; sizes = refl; locals = refl; privates = refl; variables = refl; vectors = refl; local = refl }
+
+-- and so does a kernel with another code
+pub declares_too : (d : Declared) (size : Option ℕ) (t : Tree) (a : Annotation) (k : Kernel) (code : Code) → DeclaresFor d size t a k → DeclaresFor d size t a (record k { code = code })
+declares_too d size t a k code h = record { inputs = h.inputs; outputs = h.outputs; sizes = h.sizes; locals = h.locals; privates = h.privates; variables = h.variables; vectors = h.vectors; local = h.local }
+
+pub inputs_placed : (bases : List ℕ) (tys : List PlainTy) → Every (λ b. IsPlaced (length_at bases) (shape_of b)) tys → (v : ℕ) → IsPlaced (length_at bases) (input_shape tys v)
+inputs_placed bases tys all v = go (which tys v)
+  where
+    go : Which tys v → IsPlaced (length_at bases) (input_shape tys v)
+    go (Declared' b e) = subst (IsPlaced (length_at bases)) (sym (shape_at tys v b e)) (at_some (λ b. IsPlaced (length_at bases) (shape_of b)) tys v b all e)
+    go (Absent le e) = subst (IsPlaced (length_at bases)) (sym e) (record { flat = tt; short = (omega arith, tt); small = omega arith })
 
 pub programs_are_printed : ProgramsArePrinted
 programs_are_printed d asks bases t a l spell program launch staged stands placed spelled =
@@ -310,27 +334,13 @@ programs_are_printed d asks bases t a l spell program launch staged stands place
     let low = lowered_root d.names t a in
     let src = sources_at d bases in
     let same = shape_is bases (type_in a) in
-    let has = has_is d bases (shown d asks bases l program.declared launch) program.declared.inputs src (λ i b e. sym (source_is d bases i b e)) t Written [] a tt program.nodes program.lowerable in
+    let has = lowered_has d asks bases t a l program launch in
     record {
-      inputs = refl;
-      outputs = refl;
-      sizes = refl;
-      locals = refl;
-      privates = refl;
-      variables = refl;
-      vectors = refl;
-      local = refl;
+      declares = declares_so d asks.local t a (kernel_code spell (first_buffer d.inputs) (input_shape d.inputs) low (shape_of (type_in a)));
       code =
           subst (λ z. IsCode l (input_marks num (first_buffer d.inputs) (input_shape d.inputs)) num low z (kernel_code spell (first_buffer d.inputs) (input_shape d.inputs) low (shape_of (type_in a)))) same
           (code_is (List Monomial) l num spell spelled (first_buffer d.inputs) (input_shape d.inputs) low (shape_of (type_in a)) stands (subst (λ z. HasType num src no_type low z) (sym same) has) (names_suffice d bases t a program.nodes program.lowerable staged) placed.0 (inputs_placed bases d.inputs placed.1));
     }
-  where
-    inputs_placed : (bases : List ℕ) (tys : List PlainTy) → Every (λ b. IsPlaced (length_at bases) (shape_of b)) tys → (v : ℕ) → IsPlaced (length_at bases) (input_shape tys v)
-    inputs_placed bases tys all v = go (which tys v)
-      where
-        go : Which tys v → IsPlaced (length_at bases) (input_shape tys v)
-        go (Declared' b e) = subst (IsPlaced (length_at bases)) (sym (shape_at tys v b e)) (at_some (λ b. IsPlaced (length_at bases) (shape_of b)) tys v b all e)
-        go (Absent le e) = subst (IsPlaced (length_at bases)) (sym e) (record { flat = tt; short = (omega arith, tt); small = omega arith })
 
 pub printed_programs_go_alike : PrintedProgramsGoAlike
 printed_programs_go_alike d asks w t a l k m c s r program ok launch buffers one two start begin same = go_alike d asks w t a l c program ok launch buffers k m one two s r start begin same

@@ -1,4 +1,5 @@
--- Code that is printed for something stays so before whatever follows it: what an `if`'s body goes on to.
+-- Code that is printed for something stays so before whatever follows it:
+-- what an `if`'s body goes on to.
 use Rattle.std.proofs.Common.{ℕ, ◌+◌, Bool, true, false, List, [], ◌∷◌, Option, ap}
 use Rattle.kernel_tree.specs.Formula.{Formula}
 use Rattle.kernel_tree.specs.Code.{Private, Code, then_rest}

@@ -14,25 +14,30 @@ abbrev pub held : Mark → Option Formula
 held (Register v) = Some (Variable v)
 held _ = None
 
+-- made of one expression, where there is one
 abbrev pub of_one : (Formula → Formula) → Option Formula → Option Formula
 of_one f (Some x) = Some (f x)
 of_one f None = None
 
+-- and of two
 abbrev pub of_both : (Formula → Formula → Formula) → Option Formula → Option Formula
     → Option Formula
 of_both f (Some x) y = of_one (f x) y
 of_both f None y = None
 
+-- and of three
 abbrev pub of_three : (Formula → Formula → Formula → Formula) → Option Formula → Option Formula
     → Option Formula → Option Formula
 of_three f (Some x) y z = of_both (f x) y z
 of_three f None y z = None
 
+-- an operator's expression; a comparison is 1 or 0
 abbrev pub operation : Op → Formula → Formula → Formula
 operation op.Lt x y = Choose Less x y (Number 1) (Number 0)
 operation op.Eq x y = Choose Equal x y (Number 1) (Number 0)
 operation o x y = Binary o x y
 
+-- the second where the first isn't 0, else the third
 abbrev pub selection : Formula → Formula → Formula → Formula
 selection c x y = Choose Equal c (Number 0) y x
 

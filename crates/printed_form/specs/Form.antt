@@ -1,4 +1,5 @@
--- Which code is printed for a term, as one work-item runs it, at given turns of the loops around it:
+-- Which code is printed for a term, as one work-item runs it, at
+-- given turns of the loops around it:
 -- any index expressions and bounds of the right values.
 use Rattle.std.specs.Prelude.{◌≡◌, ℕ, ◌+◌, ◌*◌, ◌<◌, Bool, true, false, List, [], ◌∷◌, ◌++◌, Option, Some}
 use Rattle.kernel_tree.specs.declared.tree.Dimension.TheVariants.{X}
@@ -13,12 +14,14 @@ use Rattle.printed_form.specs.Counts.{let_variables, load_count, variable_count,
 use Rattle.printed_form.specs.Marks.{Mark, Nowhere, Spot, Marks, laid_in, held_marks, loaded_marks}
 use Rattle.printed_form.specs.Expressions.{held, exprs}
 
+-- where an item's turns of a map of a kind begin
 abbrev pub start_of : Kind → Start
 start_of Global = FromGlobalId X
 start_of WorkGroup = FromGroupId X
 start_of Local = FromLocalId X
 start_of Sequential = FromZero
 
+-- and how far they are from one another
 abbrev pub stride_of : Kind → Stride
 stride_of Global = ByGlobalSize X
 stride_of WorkGroup = ByGroupCount X
@@ -75,6 +78,7 @@ IsElementWork env n (LetElement ty v b) code rest =
 IsElementWork env n _ code rest = ⊥
 
 module _ (l : Launch) (ins : ℕ → Marks) where
+  -- a bound's value is this length
   abbrev pub IsLength : Formula → ℕ → Type 0
   IsLength b n = bound_value l.sizes b ≡ Some n
 
@@ -99,6 +103,7 @@ module _ (l : Launch) (item : ℕ) (ins : ℕ → Marks) where
   abbrev pub IsIndex : List ℕ → Formula → ℕ → Type 0
   IsIndex ts i n = (vs : Vars) → value (ids_of l item) ts vs i ≡ Some n
 
+  -- the mark is a cell of this array, whose index is the expression's value
   abbrev pub IsSpot : List ℕ → Mark → Array → Formula → Type 0
   IsSpot ts (Spot a n) b i = (b ≡ a) × IsIndex ts i n
   IsSpot ts _ b i = ⊥
@@ -197,7 +202,8 @@ module _ (l : Launch) (item : ℕ) (ins : ℕ → Marks) where
         × IsAssigned ty (exprs env (n + variable_count xs) s)
         (n + variable_count xs + let_variables s) mid2 mid3
         × IsLoop Sequential (num len)
-        (λ i body. IsFoldTurn (ts ++ i ∷ []) env loads ty (at_index i (argument_marks l ins num env a xs))
+        (λ i body. IsFoldTurn (ts ++ i ∷ []) env loads ty
+        (at_index i (argument_marks l ins num env a xs))
         (n + variable_count xs + let_variables s) b body)
         mid3 mid4
         × IsStored ts ty

@@ -14,7 +14,8 @@ writes_cell c b writes = writes && same_cell b c
 -- how often histories write an output cell
 abbrev pub output_writes : Launch → Histories → (array index : ℕ) → ℕ
 output_writes l h a i =
-    sum_to (λ k. count_by (is_access (writes_cell (output_cell a i))) (touches (h k))) (item_count l)
+    sum_to (λ k. count_by (is_access (writes_cell (output_cell a i))) (touches (h k)))
+    (item_count l)
 
 -- histories that write each output cell as they should
 pub record WritesOutputs (l : Launch) (h : Histories) (owner : (array index : ℕ) → ℕ)

@@ -60,6 +60,7 @@ pub record ViewsStay (k : Kernel) (high : ℕ) : Type 0 where
       → AllLengths (λ n. n < 2 ^ 32) ty → dimensions ty ≤ 4
       → FillsWithin k high l 0 (laid_view form first ty)
 
+-- of any kernel, and of lengths of any height but 0
 abbrev pub ViewsStayWithin : Type 0
 ViewsStayWithin = (k : Kernel) (high : ℕ) → 1 ≤ high → ViewsStay k high
 
@@ -85,6 +86,7 @@ pub record MapsStay (k : Kernel) (high : ℕ) : Type 0 where
       → are_statements k l (ifs + l) rest ≡ true
       → are_statements k l (ifs + l) (Guards (start_of kind) bound body rest) ≡ true
 
+-- of any kernel, and of lengths at most 1,024 high
 abbrev pub MapsAreOfTheGrammar : Type 0
 MapsAreOfTheGrammar = (k : Kernel) (high : ℕ) → 1 ≤ high → high ≤ 1024 → MapsStay k high
 
@@ -149,6 +151,7 @@ module _ (k : Kernel) (spell : List Monomial → Formula) (high most : ℕ) (d :
         → is_group_size k.local ≡ true → has_statement k.code ≡ true
         → are_statements k 0 0 k.code ≡ true → is_kernel k ≡ true
 
+-- wherever the kernel has room for them
 abbrev pub TermsArePrintedWithin : Type 0
 TermsArePrintedWithin =
     (k : Kernel) (spell : List Monomial → Formula) (high most : ℕ) (d : Declared)

@@ -37,6 +37,7 @@ module _ (k : Kernel) where
         (l h : ℕ) (cs : List Bool) (is : List Formula) → L ≤ l → S ≤ h → AllGood l h is
         → IsGoodSign n l (h + H) (v cs is)
 
+    -- so does a view that tells where to write
     abbrev pub IsTarget : (loops more : ℕ) → View → Type 0
     IsTarget L H v =
         (l h : ℕ) (cs : List Bool) (is : List Formula) → L ≤ l → S ≤ h → AllGood l h is

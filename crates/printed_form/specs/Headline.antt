@@ -9,6 +9,7 @@ use Rattle.kernel_tree.specs.Faults.{Access, accesses, Among, IsFaultless}
 use Rattle.kernel_tree.specs.Bound.{bound}
 use Rattle.kernel_tree.specs.Independent.{is_write}
 
+-- a cell of an output, by their numbers
 abbrev pub output_cell : (array index : ℕ) → Cell
 output_cell a i = record { array = Output a; home = 0; index = i }
 

@@ -44,6 +44,7 @@ pub record IsPrintedWithin (spell : List Monomial → Formula) (high most : ℕ)
       (shape_of (type_in a))
   pub few : dimensions (shape_of (type_in a)) ≤ 4
 
+-- the kernel printed for such a term is of the grammar
 abbrev pub KernelsAreOfTheGrammar : Type 0
 KernelsAreOfTheGrammar =
     (spell : List Monomial → Formula) (high most : ℕ) (d : Declared) (local : Option ℕ) (t : Tree)

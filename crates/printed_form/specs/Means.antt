@@ -18,16 +18,19 @@ module _ (l : Launch) (item : ℕ) where
     pub fits : n < 2 ^ 32
     pub always : (vs : Vars) → value (ids_of l item) ts vs f ≡ Some n
 
+  -- the expressions have these values, one for one
   abbrev pub AllMean : List ℕ → List Formula → List ℕ → Type 0
   AllMean ts [] [] = Unit {0}
   AllMean ts [] (n ∷ q) = ⊥
   AllMean ts (f ∷ fs) [] = ⊥
   AllMean ts (f ∷ fs) (n ∷ q) = Means ts f n × AllMean ts fs q
 
+  -- the scalar is read from the cell of the mark
   abbrev pub IsCell : List ℕ → Sign → Mark → Type 0
   IsCell ts (Read a f) (Spot b i) = (a ≡ b) × Means ts f i
   IsCell ts _ _ = ⊥
 
+  -- from that cell, or it is in that variable
   abbrev pub IsScalar : List ℕ → Sign → Mark → Type 0
   IsScalar ts (Read a f) (Spot b i) = (a ≡ b) × Means ts f i
   IsScalar ts (Held v) (Register u) = v ≡ u
@@ -39,6 +42,7 @@ module _ (l : Launch) (item : ℕ) where
       (us : List ℕ) (cs : List Bool) (is : List Formula) (q : List ℕ) → IsPosition t cs q
       → AllMean (ts ++ us) is q → IsCell (ts ++ us) (x cs is) (y cs q)
 
+  -- a view shows an element's scalars, or the cells of an array
   abbrev pub Shows : List ℕ → Ty → View → Marks → Type 0
   Shows ts Scalar x y = (us : List ℕ) → IsScalar (ts ++ us) (x [] []) (y [] [])
   Shows ts (PairOf a b) x y =
@@ -46,5 +50,6 @@ module _ (l : Launch) (item : ℕ) where
       × Shows ts b (λ cs. x (true ∷ cs)) (λ cs. y (true ∷ cs))
   Shows ts (ArrayOf n t) x y = HasCells ts (ArrayOf n t) x y
 
+  -- so does what stands for each binder
   abbrev pub AllShow : List ℕ → (ℕ → Ty) → (ℕ → View) → (ℕ → Marks) → Type 0
   AllShow ts g views env = (v : ℕ) → Shows ts (g v) (views v) (env v)

@@ -11,6 +11,7 @@ use Rattle.printed_form.specs.Expressions.{of_one, of_both, of_three, operation,
 use Rattle.printed_form.specs.Form.{start_of, stride_of}
 use Rattle.printed_form.specs.Views.{Sign, Blank, Read, View, held_sign, held_view, loaded_view, view_at, operand_indices, result_indices, placed_view, laid_view}
 
+-- 0 where there is no expression
 abbrev pub or_number : Option Formula → Formula
 or_number (Some e) = e
 or_number None = Number 0
@@ -33,6 +34,7 @@ sign_exprs env n (LetElement ty v b) =
     sign_exprs (push (held_view ty (n + let_variables v)) env) (n + let_variables v + width ty) b
 sign_exprs env n _ = λ cs. None
 
+-- one assignment for each component, each to the next variable
 abbrev pub print_assigned : Ty → (List Bool → Option Formula) → ℕ → (rest : Code) → Code
 print_assigned Scalar f n rest = Assigns n (or_number (f [])) rest
 print_assigned (PairOf a b) f n rest =
@@ -40,6 +42,7 @@ print_assigned (PairOf a b) f n rest =
     (print_assigned b (λ cs. f (true ∷ cs)) (n + width a) rest)
 print_assigned (ArrayOf m t) f n rest = rest
 
+-- the new accumulator, from variable n on where it goes through temporaries
 abbrev pub print_reassigned : Ty → (List Bool → Option Formula) → (acc n : ℕ) → (rest : Code) → Code
 print_reassigned Scalar f acc n rest = print_assigned Scalar f acc rest
 print_reassigned (PairOf a b) f acc n rest =
@@ -47,6 +50,7 @@ print_reassigned (PairOf a b) f acc n rest =
     (print_assigned (PairOf a b) (λ cs. held_sign (held_view (PairOf a b) n cs [])) acc rest)
 print_reassigned (ArrayOf m t) f acc n rest = rest
 
+-- the lets of an element term, from variable n on
 abbrev pub print_element : {A : Type 0} → (ℕ → View) → ℕ → Term A → (rest : Code) → Code
 print_element env n (Apply o a b) rest =
     print_element env n a (print_element env (n + let_variables a) b rest)
@@ -59,17 +63,23 @@ print_element env n (Both zips a b) rest =
     print_element env n a (print_element env (n + let_variables a) b rest)
 print_element env n (Project s a) rest = print_element env n a rest
 print_element env n (LetElement ty v b) rest =
-    print_element env n v (print_assigned ty (sign_exprs env n v) (n + let_variables v) (print_element (push (held_view ty (n + let_variables v)) env) (n + let_variables v + width ty) b rest))
+    print_element env n v
+    (print_assigned ty (sign_exprs env n v) (n + let_variables v)
+    (print_element (push (held_view ty (n + let_variables v)) env)
+    (n + let_variables v + width ty) b rest))
 print_element env n _ rest = rest
 
+-- a store, where an array holds the scalar
 abbrev pub print_store : Sign → Formula → (rest : Code) → Code
 print_store (Read a i) e rest = Stores a i e rest
 print_store _ e rest = rest
 
+-- a load to this variable, where an array holds the scalar
 abbrev pub print_load : Sign → ℕ → (rest : Code) → Code
 print_load (Read a i) n rest = Loads n a i rest
 print_load _ n rest = rest
 
+-- one store for each component
 abbrev pub print_stored : Ty → (List Bool → Option Formula) → View → (rest : Code) → Code
 print_stored Scalar f w rest = print_store (w [] []) (or_number (f [])) rest
 print_stored (PairOf a b) f w rest =
@@ -77,6 +87,7 @@ print_stored (PairOf a b) f w rest =
     (print_stored b (λ cs. f (true ∷ cs)) (λ cs. w (true ∷ cs)) rest)
 print_stored (ArrayOf m t) f w rest = rest
 
+-- one load for each of these scalars, each to the next variable
 abbrev pub print_loaded : LoadSet → View → ℕ → (rest : Code) → Code
 print_loaded Skip x n rest = rest
 print_loaded Take x n rest = print_load (x [] []) n rest
@@ -84,6 +95,7 @@ print_loaded (Each a b) x n rest =
     print_loaded a (λ cs. x (false ∷ cs)) n
     (print_loaded b (λ cs. x (true ∷ cs)) (n + load_count a) rest)
 
+-- a turn of a fold: its element is loaded, and goes into the accumulator
 abbrev pub print_fold_turn : {A : Type 0} → (ℕ → View) → LoadSet → Ty → View → (acc : ℕ) → Term A
     → Code
 print_fold_turn env loads ty x acc b =
@@ -97,6 +109,7 @@ print_fold_turn env loads ty x acc b =
 
 -- lengths are spelled so, and the inputs stand so
 module _ {A : Type 0} (spell : A → Formula) (ins : ℕ → View) where
+  -- what stands for an argument, whose first private array is this
   abbrev pub argument_view : (ℕ → View) → ℕ → Term A → View
   argument_view env a (Bound v) = env v
   argument_view env a (Source s) = ins s
@@ -135,7 +148,10 @@ module _ {A : Type 0} (spell : A → Formula) (ins : ℕ → View) where
         (print_written depth (push (argument_view env a v) env) (a + private_count v)
         (n + variable_count v) b w rest)
     print_written depth env a n (LetElement ty v b) w rest =
-        print_element env n v (print_assigned ty (sign_exprs env n v) (n + let_variables v) (print_written depth (push (held_view ty (n + let_variables v)) env) a (n + let_variables v + width ty) b w rest))
+        print_element env n v
+        (print_assigned ty (sign_exprs env n v) (n + let_variables v)
+        (print_written depth (push (held_view ty (n + let_variables v)) env) a
+        (n + let_variables v + width ty) b w rest))
     print_written depth env a n (Map k len loads xs b) w rest =
         print_argument depth env a n xs
         (Loops (start_of k) (spell len) (stride_of k)
@@ -159,12 +175,15 @@ module _ {A : Type 0} (spell : A → Formula) (ins : ℕ → View) where
         (view_at (Number 0) w) rest))))
     print_written depth env a n _ w rest = rest
 
+-- nothing stands for any binder
 abbrev pub no_view : ℕ → View
 no_view v = λ cs is. Blank
 
+-- what stands for each input, whose first array has a given number
 abbrev pub input_views : {A : Type 0} → (A → Formula) → (first : ℕ → ℕ) → (ℕ → Shape A) → ℕ → View
 input_views spell first src v = placed_view spell Input (first v) (src v)
 
+-- and where its scalars lie, by lengths that are numbers
 abbrev pub input_marks : {A : Type 0} → (A → ℕ) → (first : ℕ → ℕ) → (ℕ → Shape A) → ℕ → Marks
 input_marks num first src v = laid_in Input (first v) (measured num (src v))
 

@@ -1,5 +1,5 @@
 -- A kernel printed for a whole program's typed term.
-use Rattle.std.specs.Prelude.{◌≡◌, ℕ, zero, suc, ◌+◌, ◌<◌, ◌≤◌, ◌^◌, ◌⊎◌, true, List, [], ◌∷◌, length, map, Option, Some, None, IfSome}
+use Rattle.std.specs.Prelude.{◌≡◌, ℕ, zero, suc, ◌+◌, ◌<◌, ◌^◌, ◌⊎◌, true, List, [], ◌∷◌, length, map, Option, Some, None}
 use Rattle.size_arith.specs.declared.names.Name.{Name}
 use Rattle.size_arith.specs.declared.poly.Monomial.{Monomial}
 use Rattle.size_arith.specs.Ranges.{sizes_at}
@@ -11,7 +11,7 @@ use Rattle.lift_tree.specs.Annotations.{Annotation, type_in, Annotates}
 use Rattle.lift_tree.specs.Meaning.{World, meaning}
 use Rattle.lift_tree.specs.Launches.{Asks, IsAdmissibleLaunch, buffers_of, lists_of}
 use Rattle.kernel_tree.specs.Formula.{Formula}
-use Rattle.kernel_tree.specs.Code.{Kernel}
+use Rattle.kernel_tree.specs.Code.{Code, Kernel}
 use Rattle.kernel_tree.specs.Launch.{Launch, Cells, IsFlat, MayStart, item_count}
 use Rattle.kernel_tree.specs.Device.{State, device_of, IsStart}
 use Rattle.kernel_tree.specs.Alike.{GoesAlike}
@@ -54,12 +54,12 @@ abbrev pub row_of : Option ℕ → Option (ℕ × ℕ)
 row_of None = None
 row_of (Some size) = Some (size, 1)
 
--- The kernel is printed for the typed term at a launch, where the base names have these values: it
--- has a parameter for each component of each input, then of the output, then for each size; private
--- variables and arrays as the term needs them, and no variable of four words; it asks for the size
--- of groups that the script fixes; and its code is printed for the term.
-pub record Prints (d : Declared) (size : Option ℕ) (bases : List ℕ) (t : Tree) (a : Annotation)
-    (l : Launch) (k : Kernel) : Type 0 where
+-- The kernel declares what the typed term needs, whatever its code: a parameter for each component
+-- of each input, then of the output, then for each size; local and private arrays, and private
+-- variables, of which none has four words. And it asks for the size of groups that the script
+-- fixes.
+pub record DeclaresFor (d : Declared) (size : Option ℕ) (t : Tree) (a : Annotation)
+    (k : Kernel) : Type 0 where
   pub inputs : k.inputs ≡ buffer_count d.inputs
   pub outputs : k.outputs ≡ width (shape_of (type_in a))
   pub sizes : k.sizes ≡ length d.names
@@ -68,13 +68,10 @@ pub record Prints (d : Declared) (size : Option ℕ) (bases : List ℕ) (t : Tre
   pub variables : k.variables ≡ variable_count (lowered_root d.names t a)
   pub vectors : k.vectors ≡ 0
   pub local : k.local ≡ row_of size
-  pub code : IsCode l (input_marks (length_at bases) (first_buffer d.inputs) (input_shape d.inputs))
-      (length_at bases) (lowered_root d.names t a) (ty_at bases (type_in a)) k.code
 
--- the kernel that the printer makes of a typed term, where lengths are spelled so
-abbrev pub printed_kernel :
-    (List Monomial → Formula) → Declared → (size : Option ℕ) → Tree → Annotation → Kernel
-printed_kernel spell d local t a = record {
+-- such a kernel with this code
+abbrev pub declared_kernel : Declared → (size : Option ℕ) → Tree → Annotation → Code → Kernel
+declared_kernel d size t a code = record {
   inputs = buffer_count d.inputs;
   outputs = width (shape_of (type_in a));
   sizes = length d.names;
@@ -82,11 +79,24 @@ printed_kernel spell d local t a = record {
   privates = copy_lengths PrivateMemory (lowered_root d.names t a);
   variables = variable_count (lowered_root d.names t a);
   vectors = 0;
-  local = row_of local;
-  code =
-      kernel_code spell (first_buffer d.inputs) (input_shape d.inputs) (lowered_root d.names t a)
-      (shape_of (type_in a));
+  local = row_of size;
+  code = code;
 }
+
+-- the kernel is printed for the typed term at a launch, where the base names have these values
+pub record Prints (d : Declared) (size : Option ℕ) (bases : List ℕ) (t : Tree) (a : Annotation)
+    (l : Launch) (k : Kernel) : Type 0 where
+  pub declares : DeclaresFor d size t a k
+  pub code : IsCode l (input_marks (length_at bases) (first_buffer d.inputs) (input_shape d.inputs))
+      (length_at bases) (lowered_root d.names t a) (ty_at bases (type_in a)) k.code
+
+-- the kernel that the printer makes of a typed term, where lengths are spelled so
+abbrev pub printed_kernel :
+    (List Monomial → Formula) → Declared → (size : Option ℕ) → Tree → Annotation → Kernel
+printed_kernel spell d local t a =
+    declared_kernel d local t a
+    (kernel_code spell (first_buffer d.inputs) (input_shape d.inputs) (lowered_root d.names t a)
+    (shape_of (type_in a)))
 
 -- whose a cell of the output is: the owner of its scalar
 abbrev pub cell_owner :

@@ -51,18 +51,22 @@ abbrev pub IsBetween : (a b : ℕ) → Array → Type 0
 IsBetween a b (Private n) = (a ≤ n) × (n < b)
 IsBetween a b _ = ⊥
 
+-- a cell of one of these
 abbrev pub Scratch : (a b : ℕ) → Cell → Type 0
 Scratch a b c = IsBetween a b c.array
 
 module _ (st : Setting) where
+  -- the item's cell of an array, by its index
   abbrev pub spot_cell : Array → ℕ → Cell
   spot_cell b i = cell_at st.device.launch st.item b i
 
+  -- the cell of a mark; where it has none, the first of input 0
   abbrev pub mark_cell : Mark → Cell
   mark_cell (Spot b i) = spot_cell b i
   mark_cell (Register v) = spot_cell (Input 0) 0
   mark_cell Nowhere = spot_cell (Input 0) 0
 
+  -- all that was in use before is as it was
   pub record Later (x y : Known) : Type 0 where
     pub more : x.count ≤ y.count
     pub more_arrays : x.arrays ≤ y.arrays
@@ -76,6 +80,7 @@ module _ (st : Setting) where
     pub filled : IsFilled st.locals x.arrays b
     pub holds : x.memory (spot_cell b i) ≡ v
 
+  -- what a mark stands for is v
   abbrev pub HoldsAt : Known → Mark → ℕ → Type 0
   HoldsAt x Nowhere v = ⊥
   HoldsAt x (Register r) v = (r < x.count) × (word x.vars r ≡ v)
@@ -85,6 +90,7 @@ module _ (st : Setting) where
   abbrev pub Holds : Known → Ty → Marks → Scalars → Type 0
   Holds x ty e s = (cs : List Bool) (q : List ℕ) → IsPosition ty cs q → HoldsAt x (e cs q) (s cs q)
 
+  -- what stands for each binder has its scalars
   abbrev pub AllHold : Known → (ℕ → Ty) → (ℕ → Marks) → (ℕ → Scalars) → Type 0
   AllHold x g env sems = (v : ℕ) → Holds x (g v) (env v) (sems v)
 
@@ -122,12 +128,15 @@ pub record Wrote (S : Cell → Type 0) (T : Cell → ℕ → Type 0) (m : Memory
   pub holds : (c : Cell) (v : ℕ) → T c v → written ds m c ≡ v
   pub quiet : (c : Cell) → (S c → ⊥) → ((v : ℕ) → T c v → ⊥) → write_count c ds ≡ 0
 
+-- no cell
 abbrev pub nothing : Cell → Type 0
 nothing c = ⊥
 
+-- no cell is to be written
 abbrev pub no_target : Cell → ℕ → Type 0
 no_target c v = ⊥
 
+-- what it knows after such deeds, with so many variables and private arrays in use
 abbrev pub known_after : Known → List Deed → Vars → (count arrays : ℕ) → Known
 known_after x ds vars n a = record {
   memory = written ds x.memory;

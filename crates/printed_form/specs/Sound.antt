@@ -30,6 +30,7 @@ AllLengths P Scalar = Unit {0}
 AllLengths P (PairOf a b) = AllLengths P a × AllLengths P b
 AllLengths P (ArrayOf n t) = P n × AllLengths P t
 
+-- a layout's lengths are such, and the numbers in its indices are words
 abbrev pub IsSoundLayout : {A : Type 0} → (A → Type 0) → Layout A → Type 0
 IsSoundLayout P (Split m) = P m
 IsSoundLayout P (Join m) = P m

@@ -72,6 +72,7 @@ are_parts (Binary Div e n) m (Binary Rem f k) =
     same_formula e f && same_formula n m && same_formula k m
 are_parts _ _ _ = false
 
+-- the first operand of an operator; any other formula is its own
 abbrev pub dividend : Formula → Formula
 dividend (Binary o e n) = e
 dividend e = e

@@ -20,7 +20,8 @@ IsOverLaunch l item ins num env a n (Reshape y t) w code rest =
     × IsOverLaunch l item ins num env a n t (λ cs q. w cs (result_position num y q)) code rest
 IsOverLaunch l item ins num env a n (LetArray v b) w code rest =
     (mid : Code) × IsArgumentWork l item ins num [] env a n v code mid
-    × IsOverLaunch l item ins num (push (argument_marks l ins num env a v) env) (a + private_count v)
+    × IsOverLaunch l item ins num (push (argument_marks l ins num env a v) env)
+    (a + private_count v)
     (n + variable_count v) b w mid rest
 IsOverLaunch l item ins num env a n (Map Global len loads xs b) w code rest =
     (mid : Code) × IsArgumentWork l item ins num [] env a n xs code mid
@@ -36,9 +37,11 @@ IsOverLaunch l item ins num env a n (Map Global len loads xs b) w code rest =
     mid rest
 IsOverLaunch l item ins num env a n _ w code rest = ⊥
 
+-- nothing stands for any binder
 abbrev pub no_marks : ℕ → Marks
 no_marks v = λ cs q. Nowhere
 
+-- where a value of this type goes in the outputs
 abbrev pub output_marks : Ty → Marks
 output_marks ty = laid_in Output 0 ty
 

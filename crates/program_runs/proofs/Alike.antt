@@ -135,9 +135,9 @@ shape_of_rows (r ∷ rs) (o ∷ os) count long = ap₂ (λ x xs. x ∷ xs) (sym 
 
 as_many : (kind : NestKind) (d : Declared) (local : Option ℕ) (bases : List ℕ) (t : Tree) (n : Annotation) (l : Launch) (k m : Kernel) → PrintsAs kind d local bases t n l k → PrintsAs kind d local bases t n l m
     → (k.variables ≡ m.variables) × (k.vectors ≡ m.vectors)
-as_many Task d local bases t n l k m a b = (a.variables ∙ sym b.variables, a.vectors ∙ sym b.vectors)
-as_many OverLaunch d local bases t n l k m a b = (a.variables ∙ sym b.variables, a.vectors ∙ sym b.vectors)
-as_many OverGroups d local bases t n l k m a b = (a.variables ∙ sym b.variables, a.vectors ∙ sym b.vectors)
+as_many Task d local bases t n l k m a b = (a.declares.variables ∙ sym b.declares.variables, a.declares.vectors ∙ sym b.declares.vectors)
+as_many OverLaunch d local bases t n l k m a b = (a.declares.variables ∙ sym b.declares.variables, a.declares.vectors ∙ sym b.declares.vectors)
+as_many OverGroups d local bases t n l k m a b = (a.declares.variables ∙ sym b.declares.variables, a.declares.vectors ∙ sym b.declares.vectors)
 
 module _ (one_type : OneType) (alike : PrintedKernelsGoAlike) (p : PlainProgram) (output : PlainTy) (local : Option ℕ) (last : TermState) (accepted : IsAccepted p last.tree last.types) (keeps : Keeps (declared_by p) [] p.body last.tree) (typed : Types (declared_by p) [] p.body output)
     (k m : Kernel) (first : PrintsAtAll p local last k) (other : PrintsAtAll p local last m) (meets : MeetsSource p output local last m)

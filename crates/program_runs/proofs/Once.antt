@@ -84,35 +84,19 @@ eval_one sources laws text p launch read =
 -- ---- a cause hides no want of memory
 
 refusal_whole : (why : Refusal) → HidesNoMemory (source_failed why)
-refusal_whole (told.Program (readings.Syntax token offset)) = λ e. absurd (omega (arith, e))
-refusal_whole (told.Program (readings.Limit which count)) = λ e. absurd (omega (arith, e))
 refusal_whole (told.Program readings.Memory) = λ e. refl
-refusal_whole (told.Typing (typings.IllTyped spot rule)) = λ e. absurd (omega (arith, e))
-refusal_whole (told.Typing (typings.Limit which spot count)) = λ e. absurd (omega (arith, e))
 refusal_whole (told.Typing typings.Memory) = λ e. refl
-refusal_whole (told.Script (scripts.Syntax line)) = λ e. absurd (omega (arith, e))
-refusal_whole (told.Script (scripts.Limit which count)) = λ e. absurd (omega (arith, e))
 refusal_whole (told.Script scripts.Memory) = λ e. refl
-refusal_whole (told.Step (stops.Inapplicable step why)) = λ e. absurd (omega (arith, e))
-refusal_whole (told.Step (stops.Limit which step count)) = λ e. absurd (omega (arith, e))
 refusal_whole (told.Step stops.Memory) = λ e. refl
-refusal_whole (told.Nest (nests.Nest place rule)) = λ e. absurd (omega (arith, e))
 refusal_whole (told.Nest nests.Memory) = λ e. refl
-refusal_whole (told.Alloc (allocations.Limit which count)) = λ e. absurd (omega (arith, e))
 refusal_whole (told.Alloc allocations.Memory) = λ e. refl
-refusal_whole (told.Cut (cuts.Nest place rule)) = λ e. absurd (omega (arith, e))
-refusal_whole (told.Cut (cuts.Limit count)) = λ e. absurd (omega (arith, e))
 refusal_whole (told.Cut cuts.Memory) = λ e. refl
 refusal_whole told.Memory = λ e. refl
+refusal_whole _ = λ e. absurd (omega (arith, e))
 
 launch_whole : (p : PlainProgram) (why : LaunchNo) → HidesNoMemory (launch_failed p why)
-launch_whole p no.NotJson = λ e. absurd (omega (arith, e))
-launch_whole p (no.Missing key) = λ e. absurd (omega (arith, e))
-launch_whole p (no.Size size given) = λ e. absurd (omega (arith, e))
-launch_whole p (no.Local global local) = λ e. absurd (omega (arith, e))
-launch_whole p (no.NotTask global) = λ e. absurd (omega (arith, e))
-launch_whole p (no.Shape input) = λ e. absurd (omega (arith, e))
 launch_whole p no.Memory = λ e. refl
+launch_whole p _ = λ e. absurd (omega (arith, e))
 
 -- so does one that is told as such a refusal
 told_whole : (f : Failure) (why : Refusal) → f ≡ source_failed why → HidesNoMemory f

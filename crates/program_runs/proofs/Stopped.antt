@@ -17,20 +17,10 @@ pub launch_fails : {A : Type 0} (text : List ℕ) (p : PlainProgram) (ask : A �
     → IsRead text p → S p (Ok a) → (why ≢ no.Memory → launches.Refuses p (ask a) launch why)
     → FailsFor (OnSource text (λ q. Then (As source_failed (S q)) (λ b. As (launch_failed q) (LaunchOf q (ask b) launch)))) (launch_failed p why)
 launch_fails text p ask launch S a no.Memory read is h = inl refl
-launch_fails text p ask launch S a no.NotJson read is h = inr (inr (p, read, inr (a, is, (no.NotJson, h (λ e. cc (e)), refl))))
-launch_fails text p ask launch S a (no.Missing key) read is h = inr (inr (p, read, inr (a, is, (no.Missing key, h (λ e. cc (e)), refl))))
-launch_fails text p ask launch S a (no.Size size given) read is h = inr (inr (p, read, inr (a, is, (no.Size size given, h (λ e. cc (e)), refl))))
-launch_fails text p ask launch S a (no.Local global local) read is h = inr (inr (p, read, inr (a, is, (no.Local global local, h (λ e. cc (e)), refl))))
-launch_fails text p ask launch S a (no.NotTask global) read is h = inr (inr (p, read, inr (a, is, (no.NotTask global, h (λ e. cc (e)), refl))))
-launch_fails text p ask launch S a (no.Shape input) read is h = inr (inr (p, read, inr (a, is, (no.Shape input, h (λ e. cc (e)), refl))))
+launch_fails text p ask launch S a why read is h = inr (inr (p, read, inr (a, is, (why, h (λ e. cc (e)), refl))))
 
 pub stages_fail : {A : Type 0} (text : List ℕ) (p : PlainProgram) (asks : A → List Ask) (launch : List ℕ) (S : PlainProgram → Result A Refusal → Type 0) (a : A) (why : LaunchNo)
     → IsRead text p → S p (Ok a) → (why ≢ no.Memory → in_order.RefusesStages p (asks a) launch why)
     → FailsFor (OnSource text (λ q. Then (As source_failed (S q)) (λ b. As (launch_failed q) (LaunchesOf q (asks b) launch)))) (launch_failed p why)
 stages_fail text p asks launch S a no.Memory read is h = inl refl
-stages_fail text p asks launch S a no.NotJson read is h = inr (inr (p, read, inr (a, is, (no.NotJson, h (λ e. cc (e)), refl))))
-stages_fail text p asks launch S a (no.Missing key) read is h = inr (inr (p, read, inr (a, is, (no.Missing key, h (λ e. cc (e)), refl))))
-stages_fail text p asks launch S a (no.Size size given) read is h = inr (inr (p, read, inr (a, is, (no.Size size given, h (λ e. cc (e)), refl))))
-stages_fail text p asks launch S a (no.Local global local) read is h = inr (inr (p, read, inr (a, is, (no.Local global local, h (λ e. cc (e)), refl))))
-stages_fail text p asks launch S a (no.NotTask global) read is h = inr (inr (p, read, inr (a, is, (no.NotTask global, h (λ e. cc (e)), refl))))
-stages_fail text p asks launch S a (no.Shape input) read is h = inr (inr (p, read, inr (a, is, (no.Shape input, h (λ e. cc (e)), refl))))
+stages_fail text p asks launch S a why read is h = inr (inr (p, read, inr (a, is, (why, h (λ e. cc (e)), refl))))

@@ -35,12 +35,16 @@ begun p output w = record {
 pub record IsAdmissibleFor (p : PlainProgram) (asks : Asks) (g : Given) : Type 0 where
   pub world : IsAdmissible (declared_by p) (world_given g)
   pub flat : IsFlat g.launch
-  pub launch : IsAdmissibleLaunch (declared_by p).names asks g.bases g.launch.global.0 g.launch.local.0
+  pub launch : IsAdmissibleLaunch
+      (declared_by p).names asks g.bases g.launch.global.0 g.launch.local.0
 
 -- the kernel's run under the schedule, at the launch and on the inputs that are given leaves the
 -- source's value, and has so many events, so many of them releases
-abbrev pub RunsAsGiven : PlainProgram → (output : PlainTy) → Kernel → Given → (events releases : ℕ) → Type 0
-RunsAsGiven p output k g events releases = EndsUnder g.schedule k g.launch (begun p output (world_given g)) (lists_of output (source_value p (world_given g))) events releases
+abbrev pub RunsAsGiven : PlainProgram → (output : PlainTy) → Kernel → Given → (events releases : ℕ)
+    → Type 0
+RunsAsGiven p output k g events releases =
+    EndsUnder g.schedule k g.launch (begun p output (world_given g))
+    (lists_of output (source_value p (world_given g))) events releases
 
 -- what is seen of the events of a kernel's run, where it is traced
 abbrev pub traced_sights : (traced : Bool) → Kernel → Launch → Cells → List Event → List Seen
@@ -48,17 +52,21 @@ traced_sights traced k l c es = if traced then sights (device_of k l c) (start_s
 
 -- The text is a kernel's, whose run at what is given leaves the source's value, and has so many
 -- events, so many of them releases; this is seen of them, where the run is traced.
-pub record RunsText (p : PlainProgram) (output : PlainTy) (text : List ℕ) (g : Given) (traced : Bool) (events releases : ℕ) (seen : List Seen) : Type 0 where
+pub record RunsText (p : PlainProgram) (output : PlainTy) (text : List ℕ) (g : Given)
+    (traced : Bool) (events releases : ℕ) (seen : List Seen) : Type 0 where
   pub kernel : Kernel
   pub read : IsKernelText lift text kernel
   pub run : RunsAsGiven p output kernel g events releases
-  pub seen_of_it : seen ≡ traced_sights traced kernel g.launch (begun p output (world_given g)) run.run
+  pub seen_of_it : seen
+      ≡ traced_sights traced kernel g.launch (begun p output (world_given g)) run.run
 
 -- The lines are those of the run of the text: where it is traced one for each of its events, in
 -- turn; and then the source's value, and the counts of that run's events and of its releases.
-pub record AreLinesOfText (p : PlainProgram) (output : PlainTy) (text : List ℕ) (g : Given) (traced : Bool) (lines : List ℕ) : Type 0 where
+pub record AreLinesOfText (p : PlainProgram) (output : PlainTy) (text : List ℕ) (g : Given)
+    (traced : Bool) (lines : List ℕ) : Type 0 where
   pub events : ℕ
   pub releases : ℕ
   pub seen : List Seen
   pub run : RunsText p output text g traced events releases seen
-  pub written : lines ≡ trace_lines seen ++ result_line (source_value p (world_given g)) (Some (events, releases))
+  pub written : lines ≡ trace_lines seen
+      ++ result_line (source_value p (world_given g)) (Some (events, releases))

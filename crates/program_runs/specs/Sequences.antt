@@ -24,14 +24,17 @@ world_shared [] = record { bases = []; sizes = []; inputs = [] }
 world_shared (g ∷ gs) = world_given g
 
 -- one launch for each kernel, which is admissible for the program
-abbrev pub AreAdmissibleLaunches : PlainProgram → (local : Option ℕ) → List Outline → List Given → Type 0
+abbrev pub AreAdmissibleLaunches : PlainProgram → (local : Option ℕ) → List Outline → List Given
+    → Type 0
 AreAdmissibleLaunches p local [] [] = Unit {0}
-AreAdmissibleLaunches p local (o ∷ os) (g ∷ gs) = IsAdmissibleFor p (asks_with o.alone local) g × AreAdmissibleLaunches p local os gs
+AreAdmissibleLaunches p local (o ∷ os) (g ∷ gs) =
+    IsAdmissibleFor p (asks_with o.alone local) g × AreAdmissibleLaunches p local os gs
 AreAdmissibleLaunches p local _ _ = ⊥
 
 -- what is given to the kernels in order is admissible for the program, and all have the same sizes
 -- and inputs
-pub record AreAdmissibleFor (p : PlainProgram) (local : Option ℕ) (outlines : List Outline) (gs : List Given) : Type 0 where
+pub record AreAdmissibleFor (p : PlainProgram) (local : Option ℕ) (outlines : List Outline)
+    (gs : List Given) : Type 0 where
   pub shared : Every (λ (g : Given). world_given g ≡ world_shared gs) gs
   pub launches : AreAdmissibleLaunches p local outlines gs
 
@@ -58,13 +61,15 @@ begun_from ins bases output = record {
 abbrev pub RunInTurn : (ins : List (List ℕ)) → List KernelRun → Type 0
 RunInTurn ins [] = Unit {0}
 RunInTurn ins (r ∷ rs) =
-    EndsUnder r.given.schedule r.kernel r.given.launch (begun_from ins r.given.bases r.output) r.left r.events r.releases
+    EndsUnder r.given.schedule r.kernel r.given.launch
+    (begun_from ins r.given.bases r.output) r.left r.events r.releases
     × RunInTurn (ins ++ r.left) rs
 
 -- these kernels, each with the output that its outline tells, run in turn at what is given to each,
 -- with so many events in all, so many of them releases; 64 bits hold each count, and at its
 -- greatest value it stays
-pub record AreRunInTurn (ins : List (List ℕ)) (kernels : List Kernel) (outlines : List Outline) (givens : List Given) (events releases : ℕ) : Type 0 where
+pub record AreRunInTurn (ins : List (List ℕ)) (kernels : List Kernel) (outlines : List Outline)
+    (givens : List Given) (events releases : ℕ) : Type 0 where
   pub runs : List KernelRun
   pub of_kernels : map (λ (r : KernelRun). r.kernel) runs ≡ kernels
   pub of_outputs : map (λ (r : KernelRun). r.output) runs ≡ map (λ (o : Outline). o.output) outlines
@@ -75,10 +80,13 @@ pub record AreRunInTurn (ins : List (List ℕ)) (kernels : List Kernel) (outline
 
 -- The line is that of the source's value, and of the counts of all runs together: the text is that
 -- of kernels, which are run in turn at what is given to each, the first on the program's inputs.
-pub record IsSequenceLine (p : PlainProgram) (outlines : List Outline) (text : List ℕ) (givens : List Given) (line : List ℕ) : Type 0 where
+pub record IsSequenceLine (p : PlainProgram) (outlines : List Outline) (text : List ℕ)
+    (givens : List Given) (line : List ℕ) : Type 0 where
   pub kernels : List Kernel
   pub read : IsSequenceText text kernels
   pub events : ℕ
   pub releases : ℕ
-  pub run : AreRunInTurn (buffers_of (declared_by p).inputs (world_shared givens).inputs) kernels outlines givens events releases
+  pub run : AreRunInTurn
+      (buffers_of (declared_by p).inputs
+      (world_shared givens).inputs) kernels outlines givens events releases
   pub written : line ≡ result_line (source_value p (world_shared givens)) (Some (events, releases))

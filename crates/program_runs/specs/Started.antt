@@ -29,11 +29,15 @@ LaunchOf p ask launch (Err why) = Refuses p ask launch why
 -- what a run is given, or the first stage that stops: all of compilation, then the launch file, for
 -- a task where the last term has no parallel map, and for the local size that the script fixes
 abbrev pub RunOf : PlainProgram → (script launch : List ℕ) → Result Given Failure → Type 0
-RunOf p script launch = Then (As source_failed (LegalOf p script)) (λ last. As (launch_failed p) (LaunchOf p (Run (is_task last.tree) (local_fixed script)) launch))
+RunOf p script launch =
+    Then (As source_failed (LegalOf p script))
+    (λ last. As (launch_failed p)
+    (LaunchOf p (Run (is_task last.tree) (local_fixed script)) launch))
 
 -- what an evaluation is given, or the first stage that stops: the types, then the launch file
 abbrev pub EvalOf : PlainProgram → (launch : List ℕ) → Result Given Failure → Type 0
-EvalOf p launch = Then (As source_failed (TypesOf p)) (λ _. As (launch_failed p) (LaunchOf p Eval launch))
+EvalOf p launch =
+    Then (As source_failed (TypesOf p)) (λ _. As (launch_failed p) (LaunchOf p Eval launch))
 
 -- how each kernel's launch is asked for: alone, where it is a task, and with the local size that
 -- the script fixes
@@ -41,18 +45,24 @@ abbrev pub asks_in_order : List Outline → (local : Option ℕ) → List Ask
 asks_in_order outlines local = map (λ (o : Outline). Run o.alone local) outlines
 
 -- what a launch file gives to each kernel in order, or the first check that it fails
-abbrev pub LaunchesOf : PlainProgram → List Ask → (launch : List ℕ) → Result (List Given) LaunchNo → Type 0
+abbrev pub LaunchesOf : PlainProgram → List Ask → (launch : List ℕ) → Result (List Given) LaunchNo
+    → Type 0
 LaunchesOf p asks launch (Ok givens) = IsStagesFile p asks launch givens
 LaunchesOf p asks launch (Err why) = RefusesStages p asks launch why
 
 -- what the runs of kernels in order are given, or the first stage that stops: all of their
 -- compilation, then the launch file
-abbrev pub RunStagesOf : PlainProgram → (script launch : List ℕ) → Result (List Given) Failure → Type 0
-RunStagesOf p script launch = Then (As source_failed (SequenceOf p script)) (λ parts. As (launch_failed p) (LaunchesOf p (asks_in_order (map outline_in parts) (local_fixed script)) launch))
+abbrev pub RunStagesOf : PlainProgram → (script launch : List ℕ) → Result (List Given) Failure
+    → Type 0
+RunStagesOf p script launch =
+    Then (As source_failed (SequenceOf p script))
+    (λ parts. As (launch_failed p)
+    (LaunchesOf p (asks_in_order (map outline_in parts) (local_fixed script)) launch))
 
 -- The lines are those of the run of what is read back from the text of the program's kernel: its
 -- events, where it is traced, the source's value, and the counts of that run.
-pub record AreRunLines (program script launch : List ℕ) (traced : Bool) (lines : List ℕ) : Type 0 where
+pub record AreRunLines (program script launch : List ℕ) (traced : Bool)
+    (lines : List ℕ) : Type 0 where
   pub source : PlainProgram
   pub output : PlainTy
   pub task : Bool

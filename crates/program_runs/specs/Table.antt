@@ -40,16 +40,19 @@ pub record IsSequenceOf (program script text : List ℕ) : Type 0 where
 -- what a command writes for the texts of its files
 abbrev pub Writes : Command → (texts : List (List ℕ)) → (text : List ℕ) → Type 0
 Writes Compile texts text = IsKernelOf (text_at texts 0) (text_at texts 1) text
-Writes (Run traced) texts lines = AreRunLines (text_at texts 0) (text_at texts 1) (text_at texts 2) traced lines
+Writes (Run traced) texts lines =
+    AreRunLines (text_at texts 0) (text_at texts 1) (text_at texts 2) traced lines
 Writes Eval texts line = IsValueLine (text_at texts 0) (text_at texts 1) line
 Writes Steps texts text = IsStepsText (text_at texts 0) (text_at texts 1) text
 Writes Stages texts text = IsSequenceOf (text_at texts 0) (text_at texts 1) text
-Writes RunStages texts line = IsRunStagesLine (text_at texts 0) (text_at texts 1) (text_at texts 2) line
+Writes RunStages texts line =
+    IsRunStagesLine (text_at texts 0) (text_at texts 1) (text_at texts 2) line
 Writes (Demo seed) texts line = IsDemoLine seed line
 
 -- the stages of a command on a program, behind those that read it: they pass, or the first that
 -- stops says why
-abbrev pub stages_of : Command → (texts : List (List ℕ)) → PlainProgram → Result (Unit {0}) Failure → Type 0
+abbrev pub stages_of : Command → (texts : List (List ℕ)) → PlainProgram → Result (Unit {0}) Failure
+    → Type 0
 stages_of Compile texts p = Passed (As source_failed (LegalOf p (text_at texts 1)))
 stages_of (Run traced) texts p = Passed (RunOf p (text_at texts 1) (text_at texts 2))
 stages_of Eval texts p = Passed (EvalOf p (text_at texts 1))
@@ -72,4 +75,5 @@ Stops command texts failure = OnSource (text_at texts 0) (stages_of command text
 -- the stages of each command come to one end
 abbrev pub StagesEndOnce : Type 0
 StagesEndOnce =
-    (command : Command) (texts : List (List ℕ)) → HasOneEnd (text_at texts 0) (stages_of command texts)
+    (command : Command) (texts : List (List ℕ))
+    → HasOneEnd (text_at texts 0) (stages_of command texts)

@@ -22,15 +22,19 @@ IsFailedFor R result =
     → IsErrAnd result (λ e. (failure_of e ≡ why) ⊎ (failure_of e ≡ Memory))
 
 -- what a program's text comes to, where this is what its program does
-abbrev pub OnSource : {A : Type 0} → List ℕ → (PlainProgram → Result A Failure → Type 0) → Result A Failure → Type 0
+abbrev pub OnSource : {A : Type 0} → List ℕ → (PlainProgram → Result A Failure → Type 0)
+    → Result A Failure → Type 0
 OnSource text S = Then (As (λ why. source_failed (told.Program why)) (ReadsProgram text)) S
 
 -- the text is a program within its limits, on which this makes something
 abbrev pub Accepts : {A : Type 0} → List ℕ → (PlainProgram → Result A Failure → Type 0) → Type 0
-Accepts {A = A} text S = (p : PlainProgram) × IsProgramText text p × (first_limit p ≡ None) × ((a : A) × S p (Ok a))
+Accepts {A = A} text S =
+    (p : PlainProgram) × IsProgramText text p × (first_limit p ≡ None) × ((a : A) × S p (Ok a))
 
--- a text stops for one cause at most, in which no want of memory is hidden, and for none where it is accepted
-pub record HasOneEnd {A : Type 0} (text : List ℕ) (S : PlainProgram → Result A Failure → Type 0) : Type 0 where
+-- a text stops for one cause at most, in which no want of memory is hidden,
+-- and for none where it is accepted
+pub record HasOneEnd {A : Type 0} (text : List ℕ)
+    (S : PlainProgram → Result A Failure → Type 0) : Type 0 where
   pub cause : (f g : Failure) → OnSource text S (Err f) → OnSource text S (Err g) → f ≡ g
   pub none : (f : Failure) → Accepts text S → ¬ OnSource text S (Err f)
   pub whole : (f : Failure) → OnSource text S (Err f) → HidesNoMemory f

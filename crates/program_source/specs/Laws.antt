@@ -9,7 +9,8 @@ use Rattle.strategy_script.specs.Steps.{State}
 use Rattle.program_source.specs.Program.{IsRead, ReadsProgram, TypesOf}
 use Rattle.program_source.specs.Terms.{LastOf, TermsOf}
 
--- a text is one program, or refused for one cause; so are its types, its terms along a script, and the last of these
+-- a text is one program, or refused for one cause; so are its types, its terms along
+-- a script, and the last of these
 pub record SourcesEndOnce : Type 0 where
   pub read : (text : List ℕ) → IsOne (ReadsProgram text)
   pub types : (p : PlainProgram) → IsOne (TypesOf p)

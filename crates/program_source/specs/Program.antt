@@ -39,7 +39,8 @@ pub record PassesLimit (text : List ℕ) (which : Quantity) (count : ℕ) : Type
 -- the program that a text is, or why it is none within its limits
 abbrev pub ReadsProgram : List ℕ → Result PlainProgram ReadRefusal → Type 0
 ReadsProgram text (Ok p) = IsRead text p
-ReadsProgram text (Err (readings.Syntax token offset)) = StopsAtToken text token offset × ((p : PlainProgram) → ¬ IsProgramText text p)
+ReadsProgram text (Err (readings.Syntax token offset)) =
+    StopsAtToken text token offset × ((p : PlainProgram) → ¬ IsProgramText text p)
 ReadsProgram text (Err (readings.Limit which count)) = PassesLimit text which count
 ReadsProgram text (Err readings.Memory) = ⊥
 
@@ -48,10 +49,12 @@ abbrev pub ProgramsAreLow : Type 0
 ProgramsAreLow = (text : List ℕ) (p : PlainProgram) → IsProgramText text p → height p.body ≤ 256
 
 -- what a program's text comes to, where this is what its program does
-abbrev pub OnProgram : {A : Type 0} → List ℕ → (PlainProgram → Result A Refusal → Type 0) → Result A Refusal → Type 0
+abbrev pub OnProgram : {A : Type 0} → List ℕ → (PlainProgram → Result A Refusal → Type 0)
+    → Result A Refusal → Type 0
 OnProgram text S = Then (As told.Program (ReadsProgram text)) S
 
--- the types of its inputs and of the nodes of its term, or the first rule that is broken, or limit that is passed
+-- the types of its inputs and of the nodes of its term, or the first rule that is
+-- broken, or limit that is passed
 abbrev pub TypesOf : PlainProgram → Result Annotation Refusal → Type 0
 TypesOf p = As told.Typing (λ r. program_judged p p.body ≡ r)
 

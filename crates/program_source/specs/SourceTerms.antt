@@ -21,12 +21,14 @@ use Rattle.program_source.specs.Terms.{IsLast, TermsOf}
 pub record IsBegun (program script : List ℕ) (t : Typed) (read_script : PlainScript) : Type 0 where
   pub read : IsRead program (program_of t.program)
   pub whole : tree_of t.term ≡ tree_of t.program.body
-  pub judged : program_judged (program_of t.program) (tree_of t.program.body) ≡ Ok (annotation_of t.types)
+  pub judged : program_judged (program_of t.program) (tree_of t.program.body)
+      ≡ Ok (annotation_of t.types)
   pub ready : IsReady t
   pub is : IsScript script read_script
   pub few : length read_script.steps ≤ 256
 
--- a typed term of the program, with the source's type and value
+-- a typed term of the program, with the source's type and value; it copies nothing but arrays where
+-- the source does
 pub record IsSourceTerm (p : PlainProgram) (t : Typed) : Type 0 where
   pub program : program_of t.program ≡ p
   pub typed : IsTyped t
@@ -39,7 +41,8 @@ pub record AreSourceTerms (program script : List ℕ) (terms : List Typed) : Typ
   pub made : TermsOf source script (Ok (map state_of terms))
   pub each : Every (IsSourceTerm source) terms
 
--- this is the last of them, whose type is the program's, and which is within the limits on types and on height
+-- this is the last of them, whose type is the program's, and which is within
+-- the limits on types and on height
 pub record IsLastTerm (program script : List ℕ) (t : Typed) : Type 0 where
   pub read : IsRead program (program_of t.program)
   pub proper : IsProper (program_of t.program)
@@ -48,7 +51,8 @@ pub record IsLastTerm (program script : List ℕ) (t : Typed) : Type 0 where
   pub made : TermsOf (program_of t.program) script (Ok terms)
   pub is_last : IsLast (state_of t) terms
   pub term : IsSourceTerm (program_of t.program) t
-  pub output : HasOutput (program_of t.program) (program_of t.program).body (type_in (annotation_of t.types))
+  pub output : HasOutput (program_of t.program) (program_of t.program).body
+      (type_in (annotation_of t.types))
   pub within : IsWithinLimits (program_of t.program) (tree_of t.term) (annotation_of t.types)
   pub low : height (tree_of t.term) ≤ 256
 
@@ -56,6 +60,7 @@ pub record IsLastTerm (program script : List ℕ) (t : Typed) : Type 0 where
 abbrev pub typed_line : Typed → List ℕ
 typed_line t = text_of (program_of t.program) (tree_of t.term) ++ codes "\n"
 
+-- the lines of terms, one after another
 abbrev pub typed_lines : List Typed → List ℕ
 typed_lines [] = []
 typed_lines (t ∷ ts) = typed_line t ++ typed_lines ts

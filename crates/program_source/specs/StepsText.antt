@@ -15,7 +15,8 @@ abbrev pub term_lines : PlainProgram → List State → List ℕ
 term_lines p [] = []
 term_lines p (s ∷ ss) = (text_of p s.tree ++ codes "\n") ++ term_lines p ss
 
--- The text is a line for each term that the steps make of the program: the first is the program's own, and each has its type, and its value at all admissible sizes and inputs.
+-- The text is a line for each term that the steps make of the program: the first is the program's
+-- own, and each has its type, and its value at all admissible sizes and inputs.
 pub record IsStepsText (program script text : List ℕ) : Type 0 where
   pub source : PlainProgram
   pub terms : List State

@@ -7,8 +7,8 @@ use lift_reader::token::one_list_of_tokens;
 use pattern_types::laws::judged_inputs_are_proper;
 use strategy_script::laws::scripts_end_once;
 
-/// A text comes to one program or to one refusal, and so do its types, its terms along a script, and
-/// the last of these.
+/// A text comes to one program or to one refusal, and so do its types, its terms along a
+/// script, and the last of these.
 pub fn sources_end_once()
     ensures { SourcesEndOnce }
 {

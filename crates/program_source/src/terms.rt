@@ -19,8 +19,8 @@ ghost use Rattle.strategy_script.specs.LocalSize.{local_fixed};
 
 use crate::laws::sources_end_once;
 use crate::source::typed_source;
-use copied_arrays::laws::scripts_copy_arrays;
 use fault_lines::Refusal;
+use lift_reader::program::bodies_are_text_terms;
 use lift_tree::laws::typed_nodes_type_the_term;
 use lift_tree::local_size::LocalSize;
 use lift_tree::typed::Typed;
@@ -29,8 +29,8 @@ use std::alloc::{AllocError, Global};
 use strategy_script::{Script, read_script, run_script};
 use term_texts::term_text;
 
-/// The last of a program's terms along a script, and the local size of all launches where the script
-/// fixes it.
+/// The last of a program's terms along a script, and the local size of all
+/// launches where the script fixes it.
 #[derive(Drop)]
 pub struct LastTerm {
     pub typed: Typed,
@@ -74,7 +74,7 @@ pub fn last_term(alloc: Global, program: &[u8], script: &[u8]) -> Result<LastTer
     ensures refused { IfErr result
         (StopsFor (OnProgram program.now (λ p. TermsOf p script.now))) }
 {
-    scripts_copy_arrays();
+    bodies_are_text_terms();
     typed_nodes_type_the_term();
     types_are_judged();
     let (source, script) = begin(alloc, program, script)?;

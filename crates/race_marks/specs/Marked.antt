@@ -28,24 +28,28 @@ output_row (Output a) = Some a
 output_row (Local a) = None
 output_row (Private a) = None
 
+-- the same among the local arrays
 abbrev pub local_row : Array → Option ℕ
 local_row (Input a) = None
 local_row (Output a) = None
 local_row (Local a) = Some a
 local_row (Private a) = None
 
+-- whether the cell has a mark among these, in the row, where it has one
 abbrev pub is_known_at : Kept → Cell → Option ℕ → Bool
 is_known_at v c None = false
 is_known_at v c (Some r) = is_placed v.shape r c.home c.index
 
+-- where among the marks the cell's is, in the row
 abbrev pub place_of_row : Kept → Cell → Option ℕ → ℕ
 place_of_row v c None = 0
 place_of_row v c (Some r) = place_at v.shape r c.home c.index
 
--- the cells of the arrays of a kind, and their places
+-- whether the marks of a kind of array have one for this cell
 abbrev pub is_known : (Array → Option ℕ) → Kept → Cell → Bool
 is_known row v c = is_known_at v c (row c.array)
 
+-- where among those marks the cell's is
 abbrev pub place : (Array → Option ℕ) → Kept → Cell → ℕ
 place row v c = place_of_row v c (row c.array)
 
@@ -81,15 +85,19 @@ BeginsMarks outs locals groups m = (d : Device) (s : State)
 abbrev pub touched_cell : Array → (index : ℕ) → Touch → Cell
 touched_cell a i t = record { array = a; home = home t.group t.item a; index = i }
 
+-- a touch as an access of the cell, where its group is at these epochs
 abbrev pub touch_of : Touch → Epochs → Cell → Access
 touch_of t E c = access_at t.group t.item c t.writes (E t.group)
 
 -- whether a touch of this cell is a race with one of these accesses, and the marks with it if not
-pub record Tracks (d : Device) (xs : List Access) (E : Epochs) (b : Access) (races : Bool) (m : Marked) : Type 0 where
+pub record Tracks (d : Device) (xs : List Access) (E : Epochs) (b : Access) (races : Bool)
+    (m : Marked) : Type 0 where
   pub exact : IsTrue races ↔ RacesAmong xs b
   pub goes_on : races ≡ false → TellOf d (xs ++ b ∷ []) E m
 
-abbrev pub TracksCell : (old : Marked) → Array → (index : ℕ) → Touch → (races : Bool) → (new : Marked) → Type 0
+-- whether a touch of this cell races, and the marks after it, whatever accesses came before
+abbrev pub TracksCell : (old : Marked) → Array → (index : ℕ) → Touch → (races : Bool)
+    → (new : Marked) → Type 0
 TracksCell old a i t races new = (d : Device) (xs : List Access) (E : Epochs)
     → TellOf d xs E old
     → AreLawful (xs ++ touch_of t E (touched_cell a i t) ∷ [])
@@ -98,17 +106,21 @@ TracksCell old a i t races new = (d : Device) (xs : List Access) (E : Epochs)
 
 -- the touches of these cells are what the item's step accesses after this run, and with it the run
 -- writes no input
-pub record Touches (d : Device) (s : State) (es : List Event) (t : Touch) (cells : List Cell) : Type 0 where
+pub record Touches (d : Device) (s : State) (es : List Event) (t : Touch)
+    (cells : List Cell) : Type 0 where
   pub are : accesses_of d (run d s es) (Step t.item) ≡ map (touch_of t (run d s es).epochs) cells
   pub reads : (a : Access) (n : ℕ) → Among a (accesses d s (es ++ Step t.item ∷ []))
       → a.cell.array ≡ Input n → a.writes ≡ false
 
 -- whether the step is a race, and the marks after it if it is none
-pub record TracksStep (d : Device) (s : State) (es : List Event) (k : ℕ) (races : Bool) (m : Marked) : Type 0 where
+pub record TracksStep (d : Device) (s : State) (es : List Event) (k : ℕ) (races : Bool)
+    (m : Marked) : Type 0 where
   pub exact : IsTrue races ↔ RacesAfter d s es (Step k)
   pub goes_on : races ≡ false → MarksTell d s (es ++ Step k ∷ []) m
 
-abbrev pub TracksAccess : (old : Marked) → Array → (index : ℕ) → Touch → (races : Bool) → (new : Marked) → Type 0
+-- the same of a step that accesses this cell alone, whatever run came before
+abbrev pub TracksAccess : (old : Marked) → Array → (index : ℕ) → Touch → (races : Bool)
+    → (new : Marked) → Type 0
 TracksAccess old a i t races new = (d : Device) (s : State) (es : List Event)
     → MarksTell d s es old
     → Touches d s es t (touched_cell a i t ∷ [])
@@ -120,7 +132,9 @@ abbrev pub TracksLanes : Device → State → List Event → (k : ℕ) → Optio
 TracksLanes d s es k (Some lane) m = LaneIs d s es (Step k) (Some Race) lane
 TracksLanes d s es k None m = TracksStep d s es k false m
 
-abbrev pub TracksFour : (old : Marked) → Array → (offset : ℕ) → Touch → (lane : Option ℕ) → (new : Marked) → Type 0
+-- the first lane that races of a step on four cells in a row, whatever run came before
+abbrev pub TracksFour : (old : Marked) → Array → (offset : ℕ) → Touch → (lane : Option ℕ)
+    → (new : Marked) → Type 0
 TracksFour old a n t lane new = (d : Device) (s : State) (es : List Event)
     → MarksTell d s es old
     → Touches d s es t (four_cells (touched_cell a (4 * n) t))

@@ -10,6 +10,7 @@ pub record Kept : Type 0 where
   pub shape : Shape
   pub marks : List Mark
 
+-- the mark of the cell at this index of the row, in this home
 abbrev pub mark_at : Kept → (row home index : ℕ) → Mark
 mark_at v r h i = slice_index_or v.marks (place_at v.shape r h i) Untouched
 
@@ -22,13 +23,23 @@ abbrev pub with_access : Kept → (row home index : ℕ) → Touch → Kept
 with_access v r h i t = record {
   groups = v.groups;
   shape = v.shape;
-  marks = slice_set v.marks (place_at v.shape r h i) (noted (mark_at v r h i) t.group t.item t.writes);
+  marks =
+      slice_set v.marks (place_at v.shape r h i) (noted (mark_at v r h i) t.group t.item t.writes);
 }
 
 -- after the access, where it is of one of the cells and no race
 abbrev pub touched : Kept → (row home index : ℕ) → Touch → Kept
-touched v r h i t = if is_placed v.shape r h i then (if races (mark_at v r h i) t.group t.item t.writes then v else with_access v r h i t) else v
+touched v r h i t =
+    if is_placed v.shape r h i then
+    (if races
+    (mark_at v r h i) t.group t.item t.writes then v else with_access v r h i t) else v
 
 -- after a release of the group, with the cells' flag or without
 abbrev pub after_release : Kept → (group : ℕ) → (flagged : Bool) → Kept
-after_release v g flagged = record { groups = v.groups; shape = v.shape; marks = if flagged then map (released g) v.marks else v.marks }
+after_release v g flagged =
+    record {
+      groups = v.groups;
+      shape = v.shape;
+      marks = if flagged then map
+          (released g) v.marks else v.marks;
+    }

@@ -37,8 +37,8 @@ impl Model for CellMarks {
 }
 
 impl CellMarks {
-    /// The marks of outputs with these cells, and of local arrays of these lengths in each of so many
-    /// groups, that no work-item has touched. All memory is taken here.
+    /// The marks of outputs with these cells, and of local arrays of these lengths in each of so
+    /// many groups, that no work-item has touched. All memory is taken here.
     pub fn new(
         alloc: Global,
         outs: &[Vec<u32>],
@@ -55,7 +55,8 @@ impl CellMarks {
         })
     }
 
-    /// Takes an access of the array's cell at the index into account, and says whether it is a race.
+    /// Takes an access of the array's cell at the index into account, and says whether it is a
+    /// race.
     #[inline(always)]
     pub fn touch(&mut self, array: Array, index: u32, touch: Touch) -> bool
         requires { touch.group < self.old.groups }
@@ -65,8 +66,8 @@ impl CellMarks {
         self.touch_cell(array, index as u64, touch)
     }
 
-    /// Takes an access of the four cells at the offset, which counts in fours, into account, and tells
-    /// the first of them that is a race.
+    /// Takes an access of the four cells at the offset, which counts in fours, into account, and
+    /// tells the first of them that is a race.
     pub fn touch_four(&mut self, array: Array, offset: u32, touch: Touch) -> Option<u32>
         requires { touch.group < self.old.groups }
         ensures groups { self.new.groups ≡ self.old.groups }

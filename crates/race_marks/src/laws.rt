@@ -6,8 +6,9 @@ ghost use Rattle.race_marks.specs.Laws.{AccessesAreNoted, EventsMayFollow, Marks
 ghost use Rattle.race_marks.specs.Marks.{Untouched};
 ghost use Rattle.race_marks.specs.Tells.{TellsOfRun};
 
-/// A mark that tells of a cell's accesses tells exactly whether the next access of it is a race, and
-/// goes on to tell of them after each one that is none, after each event of a run and at a release.
+/// A mark that tells of a cell's accesses tells exactly whether the next access of it is a race,
+/// and goes on to tell of them after each one that is none, after each event of a run and at a
+/// release.
 pub fn marks_tell()
     ensures begin { (d : Device) (s : State) (c : Cell) → TellsOfRun d s [] c Untouched }
     ensures exact { RacesAreTold }

@@ -1,6 +1,5 @@
 -- A text that is read whole with more behind it is refused right behind it.
-use Rattle.std.proofs.Common.{◌≡◌, ℕ, zero, suc, ◌<◌, ◌≤◌, List, [], ◌∷◌, ◌++◌, Option, Some, None, length, take, drop, refl, ap, sym, ◌∙◌, subst, arith}
-use Rattle.std.specs.Prelude.{option_and_then}
+use Rattle.std.proofs.Common.{◌≡◌, ℕ, zero, suc, ◌<◌, ◌≤◌, List, [], ◌∷◌, ◌++◌, Some, length, take, drop, refl, ap, sym, ◌∙◌, subst, arith}
 use Rattle.readings.specs.Readings.{Owed, Token, Form, Mark, Grammar, Reads, stands, Stops}
 use Rattle.readings.specs.Exactly.{StopsAt}
 use Rattle.readings.specs.Running.{Table, next, last, Decides}

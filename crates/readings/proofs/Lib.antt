@@ -1,3 +1,5 @@
 pub mod Exact
 pub mod Fronts
+pub mod Meanings
+pub mod OneReading
 pub mod Ran

@@ -1,8 +1,6 @@
 pub mod Readings
 pub mod Running
-pub mod Meanings
 pub mod Views
 pub mod Given
 pub mod Exactly
 pub mod Told
-pub mod OneReading

@@ -1,10 +1,8 @@
--- What keeps type and value at a place keeps the whole's.
+-- What keeps type, copies and value at a place keeps the whole's.
 use Rattle.std.proofs.Common.{◌≡◌, ℕ, zero, suc, List, [], ◌∷◌, Option, Some, None, refl, sym, ap, ◌∙◌, subst}
 use Rattle.std.specs.Prelude.{map, option_map, option_and_then}
 use Rattle.scalar_ops.specs.Operators.{choose}
 use Rattle.size_arith.specs.declared.poly.Monomial.{Monomial}
-use Rattle.lift_tree.specs.declared.term.MapKind.{MapKind}
-use Rattle.lift_tree.specs.declared.term.FoldKind.{FoldKind}
 use Rattle.lift_tree.specs.Tree.{Tree, Variable, Number, Input, Unary, Binary, Select, Let, Map, Fold}
 use Rattle.lift_tree.specs.Values.{Value, array, members, word}
 use Rattle.lift_tree.specs.Lists.{Every, fold_left}
@@ -14,6 +12,7 @@ use Rattle.lift_tree.specs.Types.{PlainTy, U32, ArrayOf, HasType, HaveTypes, IsF
 use Rattle.lift_tree.specs.Typing.{Declared, Types, IsDeclared, IsAdmissible}
 use Rattle.lift_tree.specs.Annotations.{Annotation, Leaf, One, Two, Three, Annotates, type_in}
 use Rattle.lift_tree.proofs.Annotated.{annotated_is_typed}
+use Rattle.lift_tree.proofs.Copies.{Demand, Nothing, ArrayCopies, TypesUnder, Retypes, types_alone, types_freely, types_copying, copying, types_kept, copies_kept}
 use Rattle.lift_tree.proofs.Formed.{formed}
 use Rattle.lift_tree.proofs.Rows.{list_have}
 use Rattle.lift_tree.proofs.Sound.{have_more, values_have_types}
@@ -40,7 +39,14 @@ record HasChild (d : Declared) (g : List PlainTy) (n : Annotation) (t c : Tree) 
   binders : Every (IsFormed d.names) (child_binders t i n g)
   nodes : Annotates d (child_binders t i n g) c m
 
+-- what is typed under the demand where t is
+abbrev Turns : Demand → Declared → List PlainTy → Tree → Tree → Type 0
+Turns m d g t u = (a : PlainTy) → TypesUnder m d g t a → TypesUnder m d g u a
+
 module _ (d : Declared) (declared : IsDeclared d) where
+  same_type : (m : Demand) (g : List PlainTy) (t : Tree) (a : PlainTy) (n : Annotation) → TypesUnder m d g t a → Annotates d g t n → a ≡ type_in n
+  same_type m g t a n h k = one_type d g t a (type_in n) (types_alone m d g t a h) (annotated_is_typed d g t n k)
+
   type_formed : (g : List PlainTy) (t : Tree) (n : Annotation) → Every (IsFormed d.names) g → Annotates d g t n → IsFormed d.names (type_in n)
   type_formed g t n fg h = formed d declared.inputs g t (type_in n) fg (annotated_is_typed d g t n h)
 
@@ -89,144 +95,176 @@ module _ (d : Declared) (declared : IsDeclared d) where
   child g (Three a n m k) (Fold o xs s b) c (suc (suc (suc i))) fg h e = absurd (cc)
   child g _ _ c i fg h e = absurd h
 
-  -- ---- a child rewritten
-  let_body : (g : List PlainTy) (a : PlainTy) (n m : Annotation) (b : Tree) → Annotates d (type_in n ∷ g) b m → a ≡ type_in m → Types d (type_in n ∷ g) b a
-  let_body g a n m b h e = subst (Types d (type_in n ∷ g) b) (sym e) (annotated_is_typed d (type_in n ∷ g) b m h)
+  -- ---- a child rewritten: types, under either demand
+  child_typed : (m : Demand) (g : List PlainTy) (n : Annotation) (t c s : Tree) (i : ℕ) → Annotates d g t n → child_at t i ≡ Some c → Turns m d (child_binders t i n g) c s → Turns m d g t (with_child t i s)
+  child_typed m g (Leaf b) (Variable v) c s i k e q0 a h = absurd (cc)
+  child_typed m g (Leaf b) (Number v) c s i k e q0 a h = absurd (cc)
+  child_typed m g (Leaf b) (Input v) c s i k e q0 a h = absurd (cc)
+  child_typed m g (One b n) (Unary f t) c s zero k e q0 a h =
+      let p : c ≡ t = cc in
+      let q = subst (λ z. Turns m d g z s) p q0 in
+      (h.0, q h.0 h.1, h.2, h.3)
+  child_typed m g (One b n) (Unary f t) c s (suc i) k e q0 a h = absurd (cc)
+  child_typed m g (Two b n l) (Binary f t u) c s zero k e q0 a h =
+      let p : c ≡ t = cc in
+      let q = subst (λ z. Turns m d g z s) p q0 in
+      (h.0, h.1, q h.0 h.2, h.3, h.4)
+  child_typed m g (Two b n l) (Binary f t u) c s (suc zero) k e q0 a h =
+      let p : c ≡ u = cc in
+      let q = subst (λ z. Turns m d g z s) p q0 in
+      (h.0, h.1, h.2, q h.1 h.3, h.4)
+  child_typed m g (Two b n l) (Binary f t u) c s (suc (suc i)) k e q0 a h = absurd (cc)
+  child_typed m g (Three b n l r) (Select t u v) c s zero k e q0 a h =
+      let p : c ≡ t = cc in
+      let q = subst (λ z. Turns m d g z s) p q0 in
+      (q U32 h.0, h.1, h.2, h.3)
+  child_typed m g (Three b n l r) (Select t u v) c s (suc zero) k e q0 a h =
+      let p : c ≡ u = cc in
+      let q = subst (λ z. Turns m d g z s) p q0 in
+      (h.0, q U32 h.1, h.2, h.3)
+  child_typed m g (Three b n l r) (Select t u v) c s (suc (suc zero)) k e q0 a h =
+      let p : c ≡ v = cc in
+      let q = subst (λ z. Turns m d g z s) p q0 in
+      (h.0, h.1, q U32 h.2, h.3)
+  child_typed m g (Three b n l r) (Select t u v) c s (suc (suc (suc i))) k e q0 a h = absurd (cc)
+  child_typed m g (Two b n l) (Let v t) c s zero k e q0 a h =
+      let p : c ≡ v = cc in
+      let q = subst (λ z. Turns m d g z s) p q0 in
+      (h.0, q h.0 h.1, h.2)
+  child_typed m g (Two b n l) (Let v t) c s (suc zero) k e q0 a h =
+      let p : c ≡ t = cc in
+      let x = same_type m g v h.0 n h.1 k.0 in
+      let q = subst (λ z. Turns m d (z ∷ g) t s) (sym x) (subst (λ z. Turns m d (type_in n ∷ g) z s) p q0) in
+      (h.0, h.1, q a h.2)
+  child_typed m g (Two b n l) (Let v t) c s (suc (suc i)) k e q0 a h = absurd (cc)
+  child_typed m g (Two b n l) (Map o xs t) c s zero k e q0 a h =
+      let p : c ≡ xs = cc in
+      let q = subst (λ z. Turns m d g z s) p q0 in
+      (h.0, h.1, h.2, q (ArrayOf h.0 h.2) h.3, h.4, h.5)
+  child_typed m g (Two b n l) (Map o xs t) c s (suc zero) k e q0 a h =
+      let p : c ≡ t = cc in
+      let x = ap element_of (same_type m g xs (ArrayOf h.0 h.2) n h.3 k.2) in
+      let q = subst (λ z. Turns m d (z ∷ g) t s) (sym x) (subst (λ z. Turns m d (element_of (type_in n) ∷ g) z s) p q0) in
+      (h.0, h.1, h.2, h.3, q h.1 h.4, h.5)
+  child_typed m g (Two b n l) (Map o xs t) c s (suc (suc i)) k e q0 a h = absurd (cc)
+  child_typed m g (Three b n l r) (Fold o xs u t) c s zero k e q0 a h =
+      let p : c ≡ xs = cc in
+      let q = subst (λ z. Turns m d g z s) p q0 in
+      (h.0, h.1, h.2, q (ArrayOf h.0 h.2) h.3, h.4, h.5, h.6, h.7)
+  child_typed m g (Three b n l r) (Fold o xs u t) c s (suc zero) k e q0 a h =
+      let p : c ≡ u = cc in
+      let q = subst (λ z. Turns m d g z s) p q0 in
+      (h.0, h.1, h.2, h.3, q h.1 h.4, h.5, h.6, h.7)
+  child_typed m g (Three b n l r) (Fold o xs u t) c s (suc (suc zero)) k e q0 a h =
+      let p : c ≡ t = cc in
+      let x = ap element_of (same_type m g xs (ArrayOf h.0 h.2) n h.3 k.2) in
+      let y = same_type m g u h.1 l h.4 k.4 in
+      let at_types = subst (λ z. Turns m d (element_of (type_in n) ∷ type_in l ∷ g) z s) p q0 in
+      let q = subst (λ z. Turns m d (z ∷ h.1 ∷ g) t s) (sym x) (subst (λ z. Turns m d (element_of (type_in n) ∷ z ∷ g) t s) (sym y) at_types) in
+      (h.0, h.1, h.2, h.3, h.4, h.5, q h.1 h.6, h.7)
+  child_typed m g (Three b n l r) (Fold o xs u t) c s (suc (suc (suc i))) k e q0 a h = absurd (cc)
+  child_typed m g _ _ c s i k e q0 a h = absurd k
 
-  record MapParts (g : List PlainTy) (xs b : Tree) (x y : PlainTy) (l : List Monomial) : Type 0 where
-    array : Types d g xs (ArrayOf x l)
-    body : Types d (x ∷ g) b y
-
-  map_parts : (g : List PlainTy) (o : MapKind) (a : PlainTy) (n m : Annotation) (xs b : Tree) (h : Annotates d g (Map o xs b) (Two a n m)) → MapParts g xs b h.0 (type_in m) h.1
-  map_parts g o a n m xs b h = record { array = subst (Types d g xs) h.3 (annotated_is_typed d g xs n h.2); body = annotated_is_typed d (h.0 ∷ g) b m h.4 }
-
-  record FoldParts (g : List PlainTy) (xs s b : Tree) (x y : PlainTy) (l : List Monomial) : Type 0 where
-    array : Types d g xs (ArrayOf x l)
-    start : Types d g s y
-    body : Types d (x ∷ y ∷ g) b y
-
-  fold_parts : (g : List PlainTy) (o : FoldKind) (a : PlainTy) (n m k : Annotation) (xs s b : Tree) (h : Annotates d g (Fold o xs s b) (Three a n m k)) → FoldParts g xs s b h.0 (type_in m) h.1
-  fold_parts g o a n m k xs s b h =
-      record {
-        array = subst (Types d g xs) h.3 (annotated_is_typed d g xs n h.2);
-        start = annotated_is_typed d g s m h.4;
-        body = subst (Types d (h.0 ∷ type_in m ∷ g) b) h.7 (annotated_is_typed d (h.0 ∷ type_in m ∷ g) b k h.6);
-      }
-
-  -- the type at hand, and the value
-  record Kept (g : List PlainTy) (a : PlainTy) (t u : Tree) : Type 0 where
-    typed : Types d g u a
-    value : (w : World) (vs : List Value) → IsAdmissible d w → HaveTypes w.bases g vs → meaning w vs u ≡ meaning w vs t
-
-  keeps_child : (g : List PlainTy) (n : Annotation) (t c s : Tree) (i : ℕ) → Every (IsFormed d.names) g → Annotates d g t n → child_at t i ≡ Some c
-      → Keeps d (child_binders t i n g) c s → Kept g (type_in n) t (with_child t i s)
-  keeps_child g (Leaf a) (Variable k) c s i fg h e q = absurd (cc)
-  keeps_child g (Leaf a) (Number k) c s i fg h e q = absurd (cc)
-  keeps_child g (Leaf a) (Input k) c s i fg h e q = absurd (cc)
-  keeps_child g (One a n) (Unary f t) c s zero fg h e q0 =
+  -- ---- a child rewritten: values
+  child_value : (g : List PlainTy) (n : Annotation) (t c s : Tree) (i : ℕ) → Every (IsFormed d.names) g → Annotates d g t n → child_at t i ≡ Some c
+      → Keeps d (child_binders t i n g) c s
+      → (w : World) (vs : List Value) → IsAdmissible d w → HaveTypes w.bases g vs → meaning w vs (with_child t i s) ≡ meaning w vs t
+  child_value g (Leaf a) (Variable k) c s i fg h e q = absurd (cc)
+  child_value g (Leaf a) (Number k) c s i fg h e q = absurd (cc)
+  child_value g (Leaf a) (Input k) c s i fg h e q = absurd (cc)
+  child_value g (One a n) (Unary f t) c s zero fg h e q0 =
       let p : c ≡ t = cc in
       let q = subst (λ z. Keeps d g z s) p q0 in
-      record { typed = (type_in n, q.typed (type_in n) (annotated_is_typed d g t n h.0), h.1); value = λ w vs ok all. ap (unary_value w f) (q.value w vs ok all) }
-  keeps_child g (One a n) (Unary f t) c s (suc i) fg h e q = absurd (cc)
-  keeps_child g (Two a n m) (Binary f t u) c s zero fg h e q0 =
+      λ w vs ok all. ap (unary_value w f) (q.value w vs ok all)
+  child_value g (One a n) (Unary f t) c s (suc i) fg h e q = absurd (cc)
+  child_value g (Two a n m) (Binary f t u) c s zero fg h e q0 =
       let p : c ≡ t = cc in
       let q = subst (λ z. Keeps d g z s) p q0 in
-      record {
-        typed = (type_in n, type_in m, q.typed (type_in n) (annotated_is_typed d g t n h.0), annotated_is_typed d g u m h.1, h.2);
-        value = λ w vs ok all. ap (λ z. binary_value f z (meaning w vs u)) (q.value w vs ok all);
-      }
-  keeps_child g (Two a n m) (Binary f t u) c s (suc zero) fg h e q0 =
+      λ w vs ok all. ap (λ z. binary_value f z (meaning w vs u)) (q.value w vs ok all)
+  child_value g (Two a n m) (Binary f t u) c s (suc zero) fg h e q0 =
       let p : c ≡ u = cc in
       let q = subst (λ z. Keeps d g z s) p q0 in
-      record {
-        typed = (type_in n, type_in m, annotated_is_typed d g t n h.0, q.typed (type_in m) (annotated_is_typed d g u m h.1), h.2);
-        value = λ w vs ok all. ap (binary_value f (meaning w vs t)) (q.value w vs ok all);
-      }
-  keeps_child g (Two a n m) (Binary f t u) c s (suc (suc i)) fg h e q = absurd (cc)
-  keeps_child g (Three a n m k) (Select t u v) c s zero fg h e q0 =
+      λ w vs ok all. ap (binary_value f (meaning w vs t)) (q.value w vs ok all)
+  child_value g (Two a n m) (Binary f t u) c s (suc (suc i)) fg h e q = absurd (cc)
+  child_value g (Three a n m k) (Select t u v) c s zero fg h e q0 =
       let p : c ≡ t = cc in
       let q = subst (λ z. Keeps d g z s) p q0 in
-      let old = annotated_is_typed d g (Select t u v) (Three a n m k) h in
-      record { typed = (q.typed U32 old.0, old.1, old.2, old.3); value = λ w vs ok all. ap (λ z. choose (word z) (meaning w vs u) (meaning w vs v)) (q.value w vs ok all) }
-  keeps_child g (Three a n m k) (Select t u v) c s (suc zero) fg h e q0 =
+      λ w vs ok all. ap (λ z. choose (word z) (meaning w vs u) (meaning w vs v)) (q.value w vs ok all)
+  child_value g (Three a n m k) (Select t u v) c s (suc zero) fg h e q0 =
       let p : c ≡ u = cc in
       let q = subst (λ z. Keeps d g z s) p q0 in
-      let old = annotated_is_typed d g (Select t u v) (Three a n m k) h in
-      record { typed = (old.0, q.typed U32 old.1, old.2, old.3); value = λ w vs ok all. ap (λ z. choose (word (meaning w vs t)) z (meaning w vs v)) (q.value w vs ok all) }
-  keeps_child g (Three a n m k) (Select t u v) c s (suc (suc zero)) fg h e q0 =
+      λ w vs ok all. ap (λ z. choose (word (meaning w vs t)) z (meaning w vs v)) (q.value w vs ok all)
+  child_value g (Three a n m k) (Select t u v) c s (suc (suc zero)) fg h e q0 =
       let p : c ≡ v = cc in
       let q = subst (λ z. Keeps d g z s) p q0 in
-      let old = annotated_is_typed d g (Select t u v) (Three a n m k) h in
-      record { typed = (old.0, old.1, q.typed U32 old.2, old.3); value = λ w vs ok all. ap (λ z. choose (word (meaning w vs t)) (meaning w vs u) z) (q.value w vs ok all) }
-  keeps_child g (Three a n m k) (Select t u v) c s (suc (suc (suc i))) fg h e q = absurd (cc)
-  keeps_child g (Two a n m) (Let v b) c s zero fg h e q0 =
+      λ w vs ok all. ap (λ z. choose (word (meaning w vs t)) (meaning w vs u) z) (q.value w vs ok all)
+  child_value g (Three a n m k) (Select t u v) c s (suc (suc (suc i))) fg h e q = absurd (cc)
+  child_value g (Two a n m) (Let v b) c s zero fg h e q0 =
       let p : c ≡ v = cc in
       let q = subst (λ z. Keeps d g z s) p q0 in
-      record { typed = (type_in n, q.typed (type_in n) (annotated_is_typed d g v n h.0), let_body g a n m b h.1 h.2); value = λ w vs ok all. ap (λ z. meaning w (z ∷ vs) b) (q.value w vs ok all) }
-  keeps_child g (Two a n m) (Let v b) c s (suc zero) fg h e q0 =
+      λ w vs ok all. ap (λ z. meaning w (z ∷ vs) b) (q.value w vs ok all)
+  child_value g (Two a n m) (Let v b) c s (suc zero) fg h e q0 =
       let p : c ≡ b = cc in
       let q = subst (λ z. Keeps d (type_in n ∷ g) z s) p q0 in
       let vt = annotated_is_typed d g v n h.0 in
-      record {
-        typed = (type_in n, vt, q.typed a (let_body g a n m b h.1 h.2));
-        value = λ w vs ok all. q.value w (meaning w vs v ∷ vs) ok (have_more w.bases (type_in n) (meaning w vs v) g vs (values_have_types d w g vs v (type_in n) declared ok fg all vt) all);
-      }
-  keeps_child g (Two a n m) (Let v b) c s (suc (suc i)) fg h e q = absurd (cc)
-  keeps_child g (Two a n m) (Map o xs b) c s zero fg h e q0 =
+      λ w vs ok all. q.value w (meaning w vs v ∷ vs) ok (have_more w.bases (type_in n) (meaning w vs v) g vs (values_have_types d w g vs v (type_in n) declared ok fg all vt) all)
+  child_value g (Two a n m) (Let v b) c s (suc (suc i)) fg h e q = absurd (cc)
+  child_value g (Two a n m) (Map o xs b) c s zero fg h e q0 =
       let p : c ≡ xs = cc in
       let q = subst (λ z. Keeps d g z s) p q0 in
-      let old = map_parts g o a n m xs b h in
-      record { typed = (h.0, type_in m, h.1, q.typed (ArrayOf h.0 h.1) old.array, old.body, h.5); value = λ w vs ok all. ap (λ z. array (map (λ x. meaning w (x ∷ vs) b) (members z))) (q.value w vs ok all) }
-  keeps_child g (Two a n m) (Map o xs b) c s (suc zero) fg h e q0 =
+      λ w vs ok all. ap (λ z. array (map (λ x. meaning w (x ∷ vs) b) (members z))) (q.value w vs ok all)
+  child_value g (Two a n m) (Map o xs b) c s (suc zero) fg h e q0 =
       let p : c ≡ b = cc in
       let x : element_of (type_in n) ≡ h.0 = ap element_of h.3 in
       let q = subst (λ z. Keeps d (z ∷ g) b s) x (subst (λ z. Keeps d (element_of (type_in n) ∷ g) z s) p q0) in
-      let old = map_parts g o a n m xs b h in
-      record {
-        typed = (h.0, type_in m, h.1, old.array, q.typed (type_in m) old.body, h.5);
-        value = λ w vs ok all.
-            ap array
-            (map_on (HasType w.bases h.0) _ _ (members (meaning w vs xs)) (λ u r. q.value w (u ∷ vs) ok (have_more w.bases h.0 u g vs r all))
-            (list_have w.bases h.0 h.1 (meaning w vs xs) (values_have_types d w g vs xs (ArrayOf h.0 h.1) declared ok fg all old.array)).1);
-      }
-  keeps_child g (Two a n m) (Map o xs b) c s (suc (suc i)) fg h e q = absurd (cc)
-  keeps_child g (Three a n m k) (Fold o xs t b) c s zero fg h e q0 =
+      let xt = subst (Types d g xs) h.3 (annotated_is_typed d g xs n h.2) in
+      λ w vs ok all.
+      ap array
+      (map_on (HasType w.bases h.0) _ _ (members (meaning w vs xs)) (λ u r. q.value w (u ∷ vs) ok (have_more w.bases h.0 u g vs r all))
+      (list_have w.bases h.0 h.1 (meaning w vs xs) (values_have_types d w g vs xs (ArrayOf h.0 h.1) declared ok fg all xt)).1)
+  child_value g (Two a n m) (Map o xs b) c s (suc (suc i)) fg h e q = absurd (cc)
+  child_value g (Three a n m k) (Fold o xs t b) c s zero fg h e q0 =
       let p : c ≡ xs = cc in
       let q = subst (λ z. Keeps d g z s) p q0 in
-      let old = fold_parts g o a n m k xs t b h in
-      record {
-        typed = (h.0, type_in m, h.1, q.typed (ArrayOf h.0 h.1) old.array, old.start, h.5, old.body, h.8);
-        value = λ w vs ok all. ap (λ z. array (fold_left (λ y x. meaning w (x ∷ y ∷ vs) b) (meaning w vs t) (members z) ∷ [])) (q.value w vs ok all);
-      }
-  keeps_child g (Three a n m k) (Fold o xs t b) c s (suc zero) fg h e q0 =
+      λ w vs ok all. ap (λ z. array (fold_left (λ y x. meaning w (x ∷ y ∷ vs) b) (meaning w vs t) (members z) ∷ [])) (q.value w vs ok all)
+  child_value g (Three a n m k) (Fold o xs t b) c s (suc zero) fg h e q0 =
       let p : c ≡ t = cc in
       let q = subst (λ z. Keeps d g z s) p q0 in
-      let old = fold_parts g o a n m k xs t b h in
-      record {
-        typed = (h.0, type_in m, h.1, old.array, q.typed (type_in m) old.start, h.5, old.body, h.8);
-        value = λ w vs ok all. ap (λ z. array (fold_left (λ y x. meaning w (x ∷ y ∷ vs) b) z (members (meaning w vs xs)) ∷ [])) (q.value w vs ok all);
-      }
-  keeps_child g (Three a n m k) (Fold o xs t b) c s (suc (suc zero)) fg h e q0 =
+      λ w vs ok all. ap (λ z. array (fold_left (λ y x. meaning w (x ∷ y ∷ vs) b) z (members (meaning w vs xs)) ∷ [])) (q.value w vs ok all)
+  child_value g (Three a n m k) (Fold o xs t b) c s (suc (suc zero)) fg h e q0 =
       let p : c ≡ b = cc in
       let x : element_of (type_in n) ≡ h.0 = ap element_of h.3 in
       let y = type_in m in
       let q = subst (λ z. Keeps d (z ∷ y ∷ g) b s) x (subst (λ z. Keeps d (element_of (type_in n) ∷ y ∷ g) z s) p q0) in
-      let old = fold_parts g o a n m k xs t b h in
+      let xt = subst (Types d g xs) h.3 (annotated_is_typed d g xs n h.2) in
+      let bt = subst (Types d (h.0 ∷ y ∷ g) b) h.7 (annotated_is_typed d (h.0 ∷ y ∷ g) b k h.6) in
       let ft = type_formed g t m fg h.4 in
       let fx : IsFormed d.names (ArrayOf h.0 h.1) = subst (IsFormed d.names) h.3 (type_formed g xs n fg h.2) in
-      record {
-        typed = (h.0, type_in m, h.1, old.array, old.start, h.5, q.typed (type_in m) old.body, h.8);
-        value = λ w vs ok all.
-            let more : (u r : Value) → HasType w.bases y u → HasType w.bases h.0 r → HaveTypes w.bases (h.0 ∷ y ∷ g) (r ∷ u ∷ vs) = λ u r hu hr. have_more w.bases h.0 r (y ∷ g) (u ∷ vs) hr (have_more w.bases y u g vs hu all) in
-            ap (λ z. array (z ∷ []))
-            (fold_on (HasType w.bases h.0) (HasType w.bases y) _ _ (meaning w vs t) (members (meaning w vs xs))
-            (λ u r hu hr. q.value w (r ∷ u ∷ vs) ok (more u r hu hr))
-            (λ u r hu hr. values_have_types d w (h.0 ∷ y ∷ g) (r ∷ u ∷ vs) b y declared ok (fx.1, (ft, fg)) (more u r hu hr) old.body)
-            (values_have_types d w g vs t y declared ok fg all old.start)
-            (list_have w.bases h.0 h.1 (meaning w vs xs) (values_have_types d w g vs xs (ArrayOf h.0 h.1) declared ok fg all old.array)).1);
-      }
-  keeps_child g (Three a n m k) (Fold o xs t b) c s (suc (suc (suc i))) fg h e q = absurd (cc)
-  keeps_child g _ _ c s i fg h e q = absurd h
+      λ w vs ok all.
+      let more : (u r : Value) → HasType w.bases y u → HasType w.bases h.0 r → HaveTypes w.bases (h.0 ∷ y ∷ g) (r ∷ u ∷ vs) = λ u r hu hr. have_more w.bases h.0 r (y ∷ g) (u ∷ vs) hr (have_more w.bases y u g vs hu all) in
+      ap (λ z. array (z ∷ []))
+      (fold_on (HasType w.bases h.0) (HasType w.bases y) _ _ (meaning w vs t) (members (meaning w vs xs))
+      (λ u r hu hr. q.value w (r ∷ u ∷ vs) ok (more u r hu hr))
+      (λ u r hu hr. values_have_types d w (h.0 ∷ y ∷ g) (r ∷ u ∷ vs) b y declared ok (fx.1, (ft, fg)) (more u r hu hr) bt)
+      (values_have_types d w g vs t y declared ok fg all (annotated_is_typed d g t m h.4))
+      (list_have w.bases h.0 h.1 (meaning w vs xs) (values_have_types d w g vs xs (ArrayOf h.0 h.1) declared ok fg all xt)).1)
+  child_value g (Three a n m k) (Fold o xs t b) c s (suc (suc (suc i))) fg h e q = absurd (cc)
+  child_value g _ _ c s i fg h e q = absurd h
+
+  -- ---- a child rewritten
+  -- what keeps types and copies does so under either demand
+  turns : (g : List PlainTy) (c s : Tree) → Keeps d g c s → (m : Demand) → Turns m d g c s
+  turns g c s k Nothing b h = types_freely d g s b (k.typed b (types_alone Nothing d g c b h))
+  turns g c s k ArrayCopies b h =
+      let x = k.copies (copying d g c b h) in
+      let e = one_type d g s (type_in x.types) b (annotated_is_typed d g s x.types x.nodes) (k.typed b (types_alone ArrayCopies d g c b h)) in
+      subst (TypesUnder ArrayCopies d g s) e (types_copying d g s x.types x.nodes x.arrays)
+
+  keeps_child : (g : List PlainTy) (n : Annotation) (t c s : Tree) (i : ℕ) → Every (IsFormed d.names) g → Annotates d g t n → child_at t i ≡ Some c
+      → Keeps d (child_binders t i n g) c s → Keeps d g t (with_child t i s)
+  keeps_child g n t c s i fg h e k =
+      let r : Retypes d g t (with_child t i s) = record { under = λ m. child_typed m g n t c s i h e (turns (child_binders t i n g) c s k m) } in
+      record { typed = types_kept d g t (with_child t i s) r; copies = copies_kept d g t (with_child t i s) r; value = child_value g n t c s i fg h e k }
 
 -- ---- places
 some_of : {A : Type 0} (a b : A) → Some a ≡ Some b → a ≡ b
@@ -288,13 +326,12 @@ rewrites_keep_the_whole d a b t r s u (i ∷ is) h here around put k =
     let same : with.0 ≡ below.0 = some_of with.0 below.0 (sym with.1 ∙ below.1) in
     let part = mapped (with_child t i) (with_at below.0 is s) u (subst (λ c. option_map (with_child t i) (with_at c is s) ≡ Some u) same with.2) in
     let inner = rewrites_keep_the_whole d next.b b below.0 r s part.0 is next.around below.2 there part.1 k in
-    let kept = keeps_child d h.declared a.binders a.types t below.0 part.0 i h.binders h.nodes below.1 (subst (λ g. Keeps d g below.0 part.0) next.binders inner) in
-    let whole = annotated_is_typed d a.binders t a.types h.nodes in
     subst (Keeps d a.binders t) part.2
-    (record {
-      typed = λ ty th. subst (Types d a.binders (with_child t i part.0)) (one_type d a.binders t (type_in a.types) ty whole th) kept.typed;
-      value = kept.value;
-    })
+    (keeps_child d h.declared a.binders a.types t below.0 part.0 i h.binders h.nodes below.1 (subst (λ g. Keeps d g below.0 part.0) next.binders inner))
 
 pub keeping_goes_on : KeepingGoesOn
-keeping_goes_on d g t u v first second = record { typed = λ a h. second.typed a (first.typed a h); value = λ w vs ok all. second.value w vs ok all ∙ first.value w vs ok all }
+keeping_goes_on d g t u v first second = record {
+  typed = λ a h. second.typed a (first.typed a h);
+  copies = λ h. second.copies (first.copies h);
+  value = λ w vs ok all. second.value w vs ok all ∙ first.value w vs ok all;
+}

@@ -6,7 +6,8 @@ use Rattle.rewriting.specs.declared.refused.Condition.{Condition}
 use Rattle.rewriting.specs.declared.refused.Refused.{Refused}
 use Rattle.rewriting.specs.declared.refused.Refused.TheVariants as refused
 
--- what the term becomes; or the term isn't of the rule's shape; or it is, and this is the first condition that is false
+-- what the term becomes; or the term isn't of the rule's shape; or it is, and this is
+-- the first condition that is false
 pub data Answer : Type 0 where
   Becomes : Tree → Answer
   NoShape : Answer

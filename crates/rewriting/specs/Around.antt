@@ -1,4 +1,5 @@
--- What stands around a term: the sizes' names, the types of the binders, and the types of its own nodes.
+-- What stands around a term: the sizes' names, the types of the binders,
+-- and the types of its own nodes.
 use Rattle.std.specs.Prelude.{ℕ, zero, suc, ◌≡◌, List, [], ◌∷◌, Option, Some, None, option_map, option_and_then, map}
 use Rattle.size_arith.specs.declared.names.Name.{Name}
 use Rattle.lift_tree.specs.declared.typed.Context.{Context}
@@ -9,6 +10,7 @@ use Rattle.lift_tree.specs.Typing.{Declared, IsDeclared}
 use Rattle.lift_tree.specs.Annotations.{Annotation, One, Two, Three, annotation_of, type_in, Annotates}
 use Rattle.lift_tree.specs.Places.{child_at}
 
+-- the sizes' names, the binders' types and the nodes' types
 pub record Around : Type 0 where
   pub names : List Name
   -- the nearest first
@@ -16,6 +18,7 @@ pub record Around : Type 0 where
   -- of the node, and of all nodes below it
   pub types : Annotation
 
+-- what a context in memory says of them
 abbrev pub context_of : Context → Around
 context_of c =
     record { names = c.names; binders = map ty_of c.binders.items; types = annotation_of c.types }
@@ -47,7 +50,8 @@ child_types (Three a n m k) (suc zero) = Some m
 child_types (Three a n m k) (suc (suc zero)) = Some k
 child_types n i = None
 
--- the types of the binders around a child: a let's body has the value's, a map's the element's, a fold's the element's and the start's
+-- the types of the binders around a child: a let's body has the value's, a map's the element's, a
+-- fold's the element's and the start's
 abbrev pub child_binders : Tree → ℕ → Annotation → List PlainTy → List PlainTy
 child_binders (Let v b) (suc zero) (Two a n m) g = type_in n ∷ g
 child_binders (Map h xs b) (suc zero) (Two a n m) g = element_of (type_in n) ∷ g

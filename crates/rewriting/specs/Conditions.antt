@@ -3,6 +3,7 @@ use Rattle.std.specs.Prelude.{ℕ, List, codes}
 use Rattle.rewriting.specs.declared.refused.Condition.{Condition}
 use Rattle.rewriting.specs.declared.refused.Condition.TheVariants.{Positive, Divides, Length, Same, Mentions, Array, Whole, Closed}
 
+-- the word for a condition
 abbrev pub condition_name : Condition → List ℕ
 condition_name Positive = codes "positive"
 condition_name Divides = codes "divides"

@@ -14,7 +14,7 @@ PlacesHaveContexts =
     → IsAround d a t → node_at t place ≡ Some r
     → (b : Around) × (around_at a t place ≡ Some b) × IsAround d b r
 
--- what keeps the node's type and value at a place keeps the whole's
+-- what keeps the node's type, copies and value at a place keeps the whole's
 abbrev pub RewritesKeepTheWhole : Type 0
 RewritesKeepTheWhole =
     (d : Declared) (a b : Around) (t r s u : Tree) (place : List ℕ) → IsAround d a t

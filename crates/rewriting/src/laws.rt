@@ -8,7 +8,8 @@ pub fn places_have_contexts()
     ensures { PlacesHaveContexts }
 {}
 
-/// What keeps the type and the value of the node at a place, in the node's context, keeps the whole's.
+/// What keeps the type, the copies and the value of the node at a place, in the node's context,
+/// keeps the whole's.
 #[tactic(auto, using(crate::proofs::Places::rewrites_keep_the_whole))]
 pub fn rewrites_keep_the_whole()
     ensures { RewritesKeepTheWhole }

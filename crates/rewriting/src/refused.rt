@@ -7,7 +7,8 @@ ghost use Rattle.rewriting.specs.declared.refused.Refused.TheVariants.{Memory};
 use lift_tree::term::Term;
 use std::alloc::{AllocError, AllocFailed};
 
-/// What a rule demands beside its shape. A rule tries its conditions in a fixed order, and names the first that is false.
+/// What a rule demands beside its shape. A rule tries its conditions in a fixed order, and names
+/// the first that is false.
 #[derive(Clone, Copy, PartialEq, Eq)]
 pub enum Condition {
     /// The rule's number is at least 1.
@@ -51,7 +52,8 @@ impl Condition {
 pub enum Refused {
     /// The term isn't of the rule's shape. It comes back unchanged.
     Shape(Term),
-    /// The term has the rule's shape, and this is the first condition that is false. The term comes back unchanged.
+    /// The term has the rule's shape, and this is the first condition that is false.
+    /// The term comes back unchanged.
     Side(Condition, Term),
     /// Want of memory. The term is gone.
     Memory,

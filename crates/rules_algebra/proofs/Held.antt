@@ -1,4 +1,5 @@
--- The product of a stride's factors, as far as code can hold it, divides lengths and is one exactly where the product is.
+-- The product of a stride's factors, as far as code can hold it, divides lengths and is
+-- one exactly where the product is.
 use Rattle.std.proofs.Common.{◌≡◌, ℕ, zero, suc, ◌+◌, ◌-◌, ◌*◌, ◌<◌, ◌≤◌, List, [], ◌∷◌, ◌++◌, length, ℤ, pos, negsuc, ◌*ℤ◌, refl, sym, ap, ◌∙◌, subst, arith, Bool, true, false, Option, Some, None}
 use Rattle.std.specs.Prelude.{map, min, not, ◌&&◌, ◌⊎◌, ◌↔◌, IsTrue, IsSome, IfSome, if◌then◌else◌, nat_lt, nat_le, nat_eq, int_div, int_rem, unsigned_abs, slice_set}
 use Rattle.std.proofs.Math.Logic.{inl, inr}

@@ -1,4 +1,5 @@
 pub mod Held
+pub mod Keeping
 pub mod Kept
 pub mod Lists
 pub mod Polynomials

@@ -1,4 +1,4 @@
--- Each rule keeps type and value.
+-- Each rule keeps type, copies and value.
 use Rattle.std.proofs.Common.{◌≡◌, ◌≤◌, arith, zero, [], ◌∷◌, ◌++◌, Bool, true, false, Some, List, refl, sym, ap, ◌∙◌, subst}
 use Rattle.std.specs.Prelude.{Result, Ok, Err, IfOk, if◌then◌else◌}
 use Rattle.size_arith.specs.declared.poly.Monomial.{Monomial}
@@ -48,7 +48,7 @@ low_of_poly p h = go p h.degree
 became : (t u : Tree) → Becomes t ≡ Becomes u → t ≡ u
 became t u e = cc
 
--- what keeps the term's type and value, where it is what the rule gives
+-- what keeps the term's type, copies and value, where it is what the rule gives
 kept : (d : Declared) (g : List PlainTy) (t u v : Tree) → Becomes u ≡ Becomes v → Keeps d g t u → Keeps d g t v
 kept d g t u v e k = subst (Keeps d g t) (became u v e) k
 

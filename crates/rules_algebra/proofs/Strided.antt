@@ -1,4 +1,4 @@
--- The rules on reverse and stride keep type and value.
+-- The rules on reverse and stride keep type, copies and value.
 use Rattle.std.proofs.Common.{◌≡◌, ℕ, zero, suc, ◌*◌, ◌/◌, ◌<◌, ◌≤◌, true, false, List, [], ◌∷◌, ◌++◌, length, refl, sym, ap, ◌∙◌, subst, arith, ℤ, pos, negsuc, ◌+ℤ◌, ◌*ℤ◌, ◌≤ℤ◌}
 use Rattle.std.specs.Prelude.{map, reverse}
 use Rattle.std.proofs.lemmas.Int.{ints}
@@ -27,6 +27,7 @@ use Rattle.lift_tree.specs.Meaning.{World, meaning, rows, array_of_rows, factor_
 use Rattle.lift_tree.specs.WorkedOut.{product_of}
 use Rattle.lift_tree.specs.Types.{PlainTy, ArrayOf, HasType, HaveTypes, IsFormed}
 use Rattle.lift_tree.specs.Typing.{Declared, Types, IsDeclared, IsAdmissible}
+use Rattle.lift_tree.proofs.Copies.{TypesUnder, met, types_alone}
 use Rattle.lift_tree.proofs.Members.{members-array, length-map, length-pieces, length-columns, columns_long, rows_long}
 use Rattle.lift_tree.proofs.Rows.{list_have, divided_by}
 use Rattle.lift_tree.proofs.Sizes.{value-of_monomial, value-quotient, product_value}
@@ -35,6 +36,7 @@ use Rattle.lift_tree.proofs.Formed.{formed}
 use Rattle.lift_tree.proofs.Sound.{values_have_types}
 use Rattle.lift_tree.proofs.Unique.{one_type}
 use Rattle.rewriting.specs.Keeps.{Keeps}
+use Rattle.rules_algebra.proofs.Keeping.{keeping}
 use Rattle.rules_algebra.proofs.Kept.{same_array}
 use Rattle.rules_algebra.proofs.Lists.{map-concat, pieces-map, columns-map, columns-columns, concat-pieces, pieces-concat, length-concat}
 use Rattle.rules_algebra.proofs.Polynomials.{a_product, none_shown}
@@ -151,21 +153,20 @@ divisor_some names m (x ∷ n) h d = d.0.divisor
 
 module _ (d : Declared) (g : List PlainTy) where
   pub map_reverse_keeps : (xs f : Tree) → Keeps d g (Map Plain (Unary (Layout Reverse) xs) f) (Unary (Layout Reverse) (Map Plain xs f))
-  map_reverse_keeps xs f = record {
-    typed = λ a h.
-        let o = h.3 in
-        let r = o.2 in
-        let e = same_array h.0 r.0 h.2 r.1 r.3 in
-        let t = subst (λ z. Types d g xs z) r.2 o.1 in
-        let body = subst (λ z. Types d (z ∷ g) f h.1) e.0 h.4 in
-        (ArrayOf h.1 r.1, (r.0, h.1, r.1, t, body, refl), (h.1, r.1, refl, h.5 ∙ ap (ArrayOf h.1) e.1));
-    value = λ w vs ok all.
-        let x = members (meaning w vs xs) in
-        let F : Value → Value = λ y. meaning w (y ∷ vs) f in
-        ap (λ l. array (reverse l)) (members-array (map F x))
-        ∙ ap array (reverse-map F x)
-        ∙ sym (ap (λ l. array (map F l)) (members-array (reverse x)));
-  }
+  map_reverse_keeps xs f = keeping d g _ _
+      (λ asked a h.
+      let o = h.3 in
+      let r = o.2 in
+      let e = same_array h.0 r.0 h.2 r.1 r.3 in
+      let t = subst (λ z. TypesUnder asked d g xs z) r.2 o.1 in
+      let body = subst (λ z. TypesUnder asked d (z ∷ g) f h.1) e.0 h.4 in
+      (ArrayOf h.1 r.1, (r.0, h.1, r.1, t, body, refl), (h.1, r.1, refl, h.5 ∙ ap (ArrayOf h.1) e.1), met asked (Layout Reverse) a tt))
+      (λ w vs ok all.
+      let x = members (meaning w vs xs) in
+      let F : Value → Value = λ y. meaning w (y ∷ vs) f in
+      ap (λ l. array (reverse l)) (members-array (map F x))
+      ∙ ap array (reverse-map F x)
+      ∙ sym (ap (λ l. array (map F l)) (members-array (reverse x))))
 
 module _ (d : Declared) (g : List PlainTy) (declared : IsDeclared d) (fg : Every (IsFormed d.names) g) where
   whole_formed : (t : Tree) (a : PlainTy) → Types d g t a → IsFormed d.names a
@@ -184,79 +185,76 @@ module _ (d : Declared) (g : List PlainTy) (declared : IsDeclared d) (fg : Every
       some_members w.bases x n v t (shown_at_least d.names w.bases declared.names ok.bases 1 n f.0)
 
   pub reverse_reverse_keeps : (xs : Tree) (a : PlainTy) → Types d g (Unary (Layout Reverse) (Unary (Layout Reverse) xs)) a → Keeps d g (Unary (Layout Reverse) (Unary (Layout Reverse) xs)) xs
-  reverse_reverse_keeps xs b whole = record {
-    typed = λ a h.
-        let i = h.1 in
-        let r = i.2 in
-        let s = h.2 in
-        subst (Types d g xs) (r.2 ∙ sym r.3 ∙ s.2 ∙ sym s.3) i.1;
-    value = λ w vs ok all.
-        let i = whole.1 in
-        let r = i.2 in
-        let v = meaning w vs xs in
-        let x = members v in
-        let t = has_type w vs xs i.0 r.0 r.1 i.1 r.2 ok all in
-        sym
-        (ap (λ l. array (reverse l)) (members-array (reverse x))
-        ∙ ap array (reverse-reverse x)
-        ∙ array_back w.bases r.0 r.1 v t);
-  }
+  reverse_reverse_keeps xs b whole = keeping d g _ _
+      (λ asked a h.
+      let i = h.1 in
+      let r = i.2 in
+      let s = h.2 in
+      subst (TypesUnder asked d g xs) (r.2 ∙ sym r.3 ∙ s.2 ∙ sym s.3) i.1)
+      (λ w vs ok all.
+      let i = whole.1 in
+      let r = i.2 in
+      let v = meaning w vs xs in
+      let x = members v in
+      let t = has_type w vs xs i.0 r.0 r.1 i.1 r.2 ok all in
+      sym
+      (ap (λ l. array (reverse l)) (members-array (reverse x))
+      ∙ ap array (reverse-reverse x)
+      ∙ array_back w.bases r.0 r.1 v t))
 
   pub map_stride_keeps : (xs f : Tree) (fs : List Factor) (a : PlainTy) → Types d g (Map Plain (Unary (Layout (Stride fs)) xs) f) a
       → Keeps d g (Map Plain (Unary (Layout (Stride fs)) xs) f) (Unary (Layout (Stride fs)) (Map Plain xs f))
-  map_stride_keeps xs f fs b whole = record {
-    typed = λ a h.
-        let o = h.3 in
-        let r = o.2 in
-        let e = same_array h.0 r.0 h.2 r.1 r.4 in
-        let t = subst (λ z. Types d g xs z) r.2 o.1 in
-        let body = subst (λ z. Types d (z ∷ g) f h.1) e.0 h.4 in
-        (ArrayOf h.1 r.1, (r.0, h.1, r.1, t, body, refl), (h.1, r.1, refl, r.3, h.5 ∙ ap (ArrayOf h.1) e.1));
-    value = λ w vs ok all.
-        let o = whole.3 in
-        let r = o.2 in
-        let m = product_of d.names fs in
-        let v = meaning w vs xs in
-        let x = members v in
-        let k = product_at w.sizes fs in
-        let F : Value → Value = λ y. meaning w (y ∷ vs) f in
-        let t = has_type w vs xs o.0 r.0 r.1 o.1 r.2 ok all in
-        let long = (list_have w.bases r.0 r.1 v t).0 in
-        let q = value-quotient w.bases m r.1 r.3 in
-        let z = value_at w.bases (quotient m r.1) in
-        let fit = divided_by k (length x) z (some_in w xs o.0 r.0 r.1 v o.1 r.2 ok t) (long ∙ q ∙ ap (λ y. y *ℤ z) (size_is w fs ok)) in
-        ap (λ l. array (strided k l)) (members-array (map F x))
-        ∙ ap array (strided-map F k x fit.0 fit.1)
-        ∙ sym (ap (λ l. array (map F l)) (members-array (strided k x)));
-  }
+  map_stride_keeps xs f fs b whole = keeping d g _ _
+      (λ asked a h.
+      let o = h.3 in
+      let r = o.2 in
+      let e = same_array h.0 r.0 h.2 r.1 r.4 in
+      let t = subst (λ z. TypesUnder asked d g xs z) r.2 o.1 in
+      let body = subst (λ z. TypesUnder asked d (z ∷ g) f h.1) e.0 h.4 in
+      (ArrayOf h.1 r.1, (r.0, h.1, r.1, t, body, refl), (h.1, r.1, refl, r.3, h.5 ∙ ap (ArrayOf h.1) e.1), met asked (Layout (Stride fs)) a tt))
+      (λ w vs ok all.
+      let o = whole.3 in
+      let r = o.2 in
+      let m = product_of d.names fs in
+      let v = meaning w vs xs in
+      let x = members v in
+      let k = product_at w.sizes fs in
+      let F : Value → Value = λ y. meaning w (y ∷ vs) f in
+      let t = has_type w vs xs o.0 r.0 r.1 o.1 r.2 ok all in
+      let long = (list_have w.bases r.0 r.1 v t).0 in
+      let q = value-quotient w.bases m r.1 r.3 in
+      let z = value_at w.bases (quotient m r.1) in
+      let fit = divided_by k (length x) z (some_in w xs o.0 r.0 r.1 v o.1 r.2 ok t) (long ∙ q ∙ ap (λ y. y *ℤ z) (size_is w fs ok)) in
+      ap (λ l. array (strided k l)) (members-array (map F x))
+      ∙ ap array (strided-map F k x fit.0 fit.1)
+      ∙ sym (ap (λ l. array (map F l)) (members-array (strided k x))))
 
   pub stride_stride_keeps : (xs : Tree) (ks ms : List Factor) (a y : PlainTy) (n : List Monomial) → Types d g (Unary (Layout (Stride ks)) (Unary (Layout (Stride ms)) xs)) a → a ≡ ArrayOf y n
       → of_monomial (product_of d.names (ks ++ ms)) ≡ n → Keeps d g (Unary (Layout (Stride ks)) (Unary (Layout (Stride ms)) xs)) xs
-  stride_stride_keeps xs ks ms b y n whole is same = record {
-    typed = λ a h.
-        let i = h.1 in
-        let r = i.2 in
-        let s = h.2 in
-        subst (Types d g xs) (r.2 ∙ sym r.4 ∙ s.2 ∙ sym s.4) i.1;
-    value = λ w vs ok all.
-        let i = whole.1 in
-        let r = i.2 in
-        let s = whole.2 in
-        let v = meaning w vs xs in
-        let x = members v in
-        let k = product_at w.sizes ks in
-        let m = product_at w.sizes ms in
-        let e = same_array r.0 y r.1 n (sym r.4 ∙ s.2 ∙ sym s.4 ∙ is) in
-        let t = has_type w vs xs i.0 r.0 r.1 i.1 r.2 ok all in
-        let some = some_in w xs i.0 r.0 r.1 v i.1 r.2 ok t in
-        let long : pos (length x) ≡ pos (product_at w.sizes (ks ++ ms)) =
-        (list_have w.bases r.0 r.1 v t).0 ∙ ap (value_at w.bases) (e.1 ∙ sym same) ∙ value-of_monomial w.bases (product_of d.names (ks ++ ms)) ∙ size_is w (ks ++ ms) ok in
-        let count : length x ≡ k * m = as_long (length x) (product_at w.sizes (ks ++ ms)) long ∙ product-append w.sizes ks ms in
-        sym
-        (ap (λ l. array (strided k l)) (members-array (strided m x))
-        ∙ ap array (strided_twice k m x (left k m (length x) count some) (right k m (length x) count some) count)
-        ∙ array_back w.bases r.0 r.1 v t);
-  }
+  stride_stride_keeps xs ks ms b y n whole is same = keeping d g _ _
+      (λ asked a h.
+      let i = h.1 in
+      let r = i.2 in
+      let s = h.2 in
+      subst (TypesUnder asked d g xs) (r.2 ∙ sym r.4 ∙ s.2 ∙ sym s.4) i.1)
+      (λ w vs ok all.
+      let i = whole.1 in
+      let r = i.2 in
+      let s = whole.2 in
+      let v = meaning w vs xs in
+      let x = members v in
+      let k = product_at w.sizes ks in
+      let m = product_at w.sizes ms in
+      let e = same_array r.0 y r.1 n (sym r.4 ∙ s.2 ∙ sym s.4 ∙ is) in
+      let t = has_type w vs xs i.0 r.0 r.1 i.1 r.2 ok all in
+      let some = some_in w xs i.0 r.0 r.1 v i.1 r.2 ok t in
+      let long : pos (length x) ≡ pos (product_at w.sizes (ks ++ ms)) =
+      (list_have w.bases r.0 r.1 v t).0 ∙ ap (value_at w.bases) (e.1 ∙ sym same) ∙ value-of_monomial w.bases (product_of d.names (ks ++ ms)) ∙ size_is w (ks ++ ms) ok in
+      let count : length x ≡ k * m = as_long (length x) (product_at w.sizes (ks ++ ms)) long ∙ product-append w.sizes ks ms in
+      sym
+      (ap (λ l. array (strided k l)) (members-array (strided m x))
+      ∙ ap array (strided_twice k m x (left k m (length x) count some) (right k m (length x) count some) count)
+      ∙ array_back w.bases r.0 r.1 v t))
     where
       as_long : (a b : ℕ) → pos a ≡ pos b → a ≡ b
       as_long a b e = cc
@@ -271,33 +269,35 @@ module _ (d : Declared) (g : List PlainTy) (declared : IsDeclared d) (fg : Every
 
   pub stride_layout_keeps : (xs : Tree) (fs : List Factor) (a y : PlainTy) (n : List Monomial) → Types d g (Unary (Layout (Stride fs)) xs) a → a ≡ ArrayOf y n → IsPoly n
       → ShownAtLeast 1 d.names (quotient (product_of d.names fs) n) → Keeps d g (Unary (Layout (Stride fs)) xs) (Unary (Layout Join) (Unary (Layout Transpose) (Unary (Layout (Split fs)) xs)))
-  stride_layout_keeps xs fs b y n whole is poly shown = record {
-    typed = λ a h.
-        let r = h.2 in
-        let m = product_of d.names fs in
-        let mm = of_monomial m in
-        let q = quotient m r.1 in
-        let e = same_array r.0 y r.1 n (sym r.4 ∙ one_type d g (Unary (Layout (Stride fs)) xs) a b h whole ∙ is) in
-        let child : IsFormed d.names (ArrayOf r.0 r.1) = subst (IsFormed d.names) r.2 (whole_formed xs h.0 h.1) in
-        let z = divisor_some d.names m r.1 child.0 r.3 in
-        let p = a_product d.names fs in
-        let one_or_more = monomial_shown d.names m p.count declared.names p.is z in
-        let columns_shown : ShownAtLeast 1 d.names q = subst (λ k. ShownAtLeast 1 d.names (quotient m k)) (sym e.1) shown in
-        let canonical = subst (λ k. IsPoly k) (sym e.1) poly in
-        let back : times mm q ≡ r.1 = ap (λ k. times k q) (on_some m.coefficient m.powers [] z) ∙ quotient_times m r.1 canonical.canonical r.3 in (
-          ArrayOf (ArrayOf r.0 q) mm,
-          (
-            ArrayOf (ArrayOf r.0 mm) q,
-            (h.0, h.1, (r.0, r.1, r.2, r.3, refl, (columns_shown, (one_or_more, child.1)))),
-            (r.0, mm, q, refl, refl, (one_or_more, (columns_shown, child.1))),
-          ),
-          (r.0, q, mm, refl, r.4 ∙ ap (ArrayOf r.0) (sym back), whole_formed (Unary (Layout (Stride fs)) xs) a h),
-        );
-    value = λ w vs ok all.
-        let x = members (meaning w vs xs) in
-        let k = product_at w.sizes fs in
-        let P = pieces (length x / k) k k x in
-        ap (λ z. array (concat z)) (rows_array (columns (width (rows (array_of_rows P))) (rows (array_of_rows P))))
-        ∙ ap (λ z. array (concat (columns (width z) z))) (rows_array P)
-        ∙ ap array (strided_through k x);
-  }
+  stride_layout_keeps xs fs b y n whole is poly shown = keeping d g _ _
+      (λ asked a h.
+      let r = h.2 in
+      let own = types_alone asked d g (Unary (Layout (Stride fs)) xs) a h in
+      let m = product_of d.names fs in
+      let mm = of_monomial m in
+      let q = quotient m r.1 in
+      let e = same_array r.0 y r.1 n (sym r.4 ∙ one_type d g (Unary (Layout (Stride fs)) xs) a b own whole ∙ is) in
+      let child : IsFormed d.names (ArrayOf r.0 r.1) = subst (IsFormed d.names) r.2 (whole_formed xs h.0 (types_alone asked d g xs h.0 h.1)) in
+      let z = divisor_some d.names m r.1 child.0 r.3 in
+      let p = a_product d.names fs in
+      let one_or_more = monomial_shown d.names m p.count declared.names p.is z in
+      let columns_shown : ShownAtLeast 1 d.names q = subst (λ k. ShownAtLeast 1 d.names (quotient m k)) (sym e.1) shown in
+      let canonical = subst (λ k. IsPoly k) (sym e.1) poly in
+      let back : times mm q ≡ r.1 = ap (λ k. times k q) (on_some m.coefficient m.powers [] z) ∙ quotient_times m r.1 canonical.canonical r.3 in (
+        ArrayOf (ArrayOf r.0 q) mm,
+        (
+          ArrayOf (ArrayOf r.0 mm) q,
+          (h.0, h.1, (r.0, r.1, r.2, r.3, refl, (columns_shown, (one_or_more, child.1))), met asked (Layout (Split fs)) (ArrayOf (ArrayOf r.0 mm) q) tt),
+          (r.0, mm, q, refl, refl, (one_or_more, (columns_shown, child.1))),
+          met asked (Layout Transpose) (ArrayOf (ArrayOf r.0 q) mm) tt,
+        ),
+        (r.0, q, mm, refl, r.4 ∙ ap (ArrayOf r.0) (sym back), whole_formed (Unary (Layout (Stride fs)) xs) a own),
+        met asked (Layout Join) a tt,
+      ))
+      (λ w vs ok all.
+      let x = members (meaning w vs xs) in
+      let k = product_at w.sizes fs in
+      let P = pieces (length x / k) k k x in
+      ap (λ z. array (concat z)) (rows_array (columns (width (rows (array_of_rows P))) (rows (array_of_rows P))))
+      ∙ ap (λ z. array (concat (columns (width z) z))) (rows_array P)
+      ∙ ap array (strided_through k x))

@@ -27,6 +27,7 @@ abbrev pub row_length : PlainTy → Option (List Monomial)
 row_length (ArrayOf (ArrayOf a m) n) = Some m
 row_length _ = None
 
+-- both are there, and are the same at all sizes
 abbrev pub same_lengths : Option (List Monomial) → Option (List Monomial) → Bool
 same_lengths (Some m) (Some n) = is_same m n
 same_lengths (Some m) None = false
@@ -39,7 +40,8 @@ child (One a n) = n
 child (Two a n m) = Two a n m
 child (Three a n m k) = Three a n m k
 
--- split(m, join(xs)) becomes xs where the inner length of xs is m, which is the length of the pieces
+-- split(m, join(xs)) becomes xs where the inner length of xs is m,
+-- which is the length of the pieces
 abbrev pub split_join : Around → Tree → Answer
 split_join a (Unary (Layout (Split m)) (Unary (Layout Join) xs)) =
     if same_lengths (row_length (type_in (child (child a.types)))) (row_length (type_in a.types))
@@ -49,7 +51,8 @@ split_join a _ = NoShape
 -- the pieces of a typed split are as long as it says
 abbrev pub PiecesHaveTheirLength : Type 0
 PiecesHaveTheirLength =
-    (d : Declared) (a : Around) (m : List Factor) (xs : Tree) → IsAround d a (Unary (Layout (Split m)) xs)
+    (d : Declared) (a : Around) (m : List Factor) (xs : Tree)
+    → IsAround d a (Unary (Layout (Split m)) xs)
     → row_length (type_in a.types) ≡ Some (of_monomial (product_of a.names m))
 
 -- transpose(transpose(xs)) becomes xs
@@ -70,10 +73,12 @@ without k t = put k (Number 0) t
 -- map(\r. map(\x. f, r), split(m, xs)) becomes split(m, map(\x. f, xs)) where f hasn't r
 abbrev pub map_split : Tree → Answer
 map_split (Map Plain (Unary (Layout (Split m)) xs) (Map Plain (Variable zero) f)) =
-    if mentions 1 f then NoSide Mentions else Becomes (Unary (Layout (Split m)) (Map Plain xs (without 1 f)))
+    if mentions 1 f then NoSide Mentions else Becomes
+    (Unary (Layout (Split m)) (Map Plain xs (without 1 f)))
 map_split _ = NoShape
 
--- map(\r. map(\x. f, r), transpose(xs)) becomes transpose(map(\r. map(\x. f, r), xs)) where f hasn't r
+-- map(\r. map(\x. f, r), transpose(xs)) becomes transpose(map(\r.
+-- map(\x. f, r), xs)) where f hasn't r
 abbrev pub map_transpose : Tree → Answer
 map_transpose (Map Plain (Unary (Layout Transpose) xs) (Map Plain (Variable zero) f)) =
     if mentions 1 f then NoSide Mentions

@@ -56,11 +56,13 @@ are_at_most [] ns = true
 are_at_most (m ∷ ms) [] = false
 are_at_most (m ∷ ms) (n ∷ ns) = nat_le m n && are_at_most ms ns
 
+-- a monomial divides another: its coefficient does, and none of its powers is above the other's
 abbrev pub divides : Monomial → Monomial → Bool
 divides d m =
     not (is_zero d.coefficient)
     && (is_zero (int_rem m.coefficient d.coefficient) && are_at_most d.powers m.powers)
 
+-- it divides each monomial of a length
 abbrev pub all_divide : Monomial → List Monomial → Bool
 all_divide d [] = true
 all_divide d (m ∷ p) = divides d m && all_divide d p
@@ -69,6 +71,7 @@ all_divide d (m ∷ p) = divides d m && all_divide d p
 abbrev pub is_divided : List Name → Monomial → List Monomial → Bool
 is_divided names d n = all_divide d n && is_shown 1 names (quotient d n)
 
+-- it divides the length of an array so
 abbrev pub has_quotient : List Name → Monomial → PlainTy → Bool
 has_quotient names d U32 = false
 has_quotient names d (PairOf a b) = false

@@ -32,14 +32,17 @@ on_array a u = if is_array (type_in a.types) then Becomes u else NoSide Array
 abbrev pub copied : UnaryForm → MapKind → Tree → Tree
 copied f k t = Unary f (Map k t (Variable 0))
 
--- what an array becomes that a kernel of its own makes: first its pairs hold elements only, then no binder is around it
+-- the answer, if no binder is around
 abbrev pub if_closed : List PlainTy → Answer → Answer
 if_closed [] u = u
 if_closed (b ∷ bs) u = NoSide Closed
 
+-- the answer, if pairs in the type hold elements alone
 abbrev pub if_whole : PlainTy → Answer → Answer
 if_whole ty u = if holds_elements ty then u else NoSide Whole
 
+-- a kernel of its own makes the term: it is an array, then its pairs hold elements alone, then no
+-- binder is around it
 abbrev pub cut_off : Around → Tree → Answer
 cut_off a t =
     if is_array (type_in a.types)

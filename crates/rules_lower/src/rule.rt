@@ -37,9 +37,13 @@ pub enum Rule {
     Then,
 }
 
-/// The term that the rule makes of the term, which has the term's type, and its value at all sizes, inputs and values of binders.
+/// The term that the rule makes of the term, which has the term's type, and its value at all sizes,
+/// inputs and values of binders.
 ///
-/// `Shape` comes exactly where the rule wants a plain map or fold and the term is none, and `Side` exactly where it wants an array and the term is none, or, for `then`, an array whose pairs hold elements only, with no binder around it; both hand the term back unchanged. The context is that of the term's place.
+/// `Shape` comes exactly where the rule wants a plain map or fold and the term is none, and
+/// `Side` exactly where it wants an array and the term is none, or, for `then`, an array whose
+/// pairs hold elements only, with no binder around it; both hand the term back unchanged. The
+/// context is that of the term's place.
 #[tactic(auto, using(crate::proofs::Kept::lowering_keeps))]
 pub fn apply(alloc: Global, rule: &Rule, term: Term, context: &Context) -> Result<Term, Refused>
     ensures answer { IsAnswer

@@ -1,3 +1,4 @@
+pub mod Keeping
 pub mod Less
 pub mod Lengths
 pub mod Linear

@@ -1,4 +1,4 @@
--- A reduction by rows keeps its type and value.
+-- A reduction by rows keeps its type, copies and value; so does one that becomes a fold.
 use Rattle.std.proofs.Common.{◌≡◌, ℕ, zero, suc, ◌*◌, ◌<◌, ◌^◌, List, [], ◌∷◌, length, refl, sym, ap, ◌∙◌, subst, arith, ℤ, pos, ◌≤ℤ◌, Some}
 use Rattle.std.specs.Prelude.{map}
 use Rattle.std.proofs.lemmas.Int.{ints}
@@ -9,7 +9,8 @@ use Rattle.size_arith.specs.declared.poly.Monomial.{Monomial}
 use Rattle.size_arith.specs.Polynomial.{number, value_at, times, AllWide, IsPoly, quotient}
 use Rattle.size_arith.specs.Shown.{ShownAtLeast}
 use Rattle.size_arith.proofs.Soundness.{shown_at_least}
-use Rattle.lift_tree.specs.declared.layout.Layout.TheVariants.{Transpose}
+use Rattle.lift_tree.specs.declared.length.Factor.TheVariants as factor
+use Rattle.lift_tree.specs.declared.layout.Layout.TheVariants.{Join, Split, Transpose}
 use Rattle.lift_tree.specs.declared.term.UnaryForm.TheVariants.{Layout}
 use Rattle.lift_tree.specs.declared.term.BinaryForm.TheVariants.{Reduce}
 use Rattle.lift_tree.specs.Tree.{Tree, Variable, Number, Unary, Binary}
@@ -17,15 +18,18 @@ use Rattle.lift_tree.specs.Lists.{Every, fold_left, concat, pieces, columns, wid
 use Rattle.lift_tree.specs.Values.{Value, Word, array, members, word}
 use Rattle.lift_tree.specs.Meaning.{World, meaning, rows}
 use Rattle.lift_tree.specs.Types.{PlainTy, U32, ArrayOf, HasType, HaveTypes}
-use Rattle.lift_tree.specs.Typing.{Declared, Types, IsAdmissible, constant}
+use Rattle.lift_tree.specs.Typing.{Declared, Types, UnaryRow, IsAdmissible, constant}
+use Rattle.lift_tree.proofs.Copies.{Demand, TypesUnder, met, types_alone}
 use Rattle.lift_tree.proofs.Members.{members-array, length-map, every_to, every_and, every-pieces, pieces_long, length-pieces}
 use Rattle.lift_tree.proofs.Rows.{list_have}
 use Rattle.lift_tree.proofs.Formed.{formed}
 use Rattle.lift_tree.proofs.Sound.{values_have_types}
+use Rattle.lift_tree.proofs.Unique.{one_type}
 use Rattle.rewriting.specs.Answers.{Becomes}
 use Rattle.rewriting.specs.Around.{Around, IsAround}
 use Rattle.rewriting.specs.Keeps.{KeepsIn}
-use Rattle.rules_split.specs.Rules.{in_pieces, joined, reduced_by_rows, array_length, reducer_of, split_reduce, stride_reduce}
+use Rattle.rules_split.specs.Rules.{in_pieces, joined, reduced_by_rows, folded, array_length, reducer_of, split_reduce, stride_reduce, reduce_fold}
+use Rattle.rules_split.proofs.Keeping.{keeping}
 use Rattle.rules_split.proofs.Lists.{map_same, map-map, rows-array, pieces-map, concat-pieces}
 use Rattle.rules_split.proofs.Lengths.{wide-constant, wide-quotient, shown-constant, shown-quotient, shown-one}
 use Rattle.rules_split.proofs.Reducing.{regrouped, strided, columns_of, columns_fit, head_or, rest, IsRow}
@@ -35,9 +39,9 @@ use Rattle.rules_split.proofs.Typed.{reduced_array}
 
 -- ---- types
 -- rows of numbers, reduced one by one
-rows_typed : (d : Declared) (g : List PlainTy) (r : Reducer) (rs s : Tree) (m q : List Monomial) (a : PlainTy) → neutral r < 2 ^ 32 → AllWide 8 q → ShownAtLeast 1 d.names q
-    → Types d g rs (ArrayOf (ArrayOf U32 m) q) → Types d g s U32 → a ≡ ArrayOf U32 (constant 1) → Types d g (reduced_by_rows r rs s) a
-rows_typed d g r rs s m q a fits wide shown hrs hs ha =
+rows_typed : (asked : Demand) (d : Declared) (g : List PlainTy) (r : Reducer) (rs s : Tree) (m q : List Monomial) (a : PlainTy) → neutral r < 2 ^ 32 → AllWide 8 q → ShownAtLeast 1 d.names q
+    → TypesUnder asked d g rs (ArrayOf (ArrayOf U32 m) q) → TypesUnder asked d g s U32 → a ≡ ArrayOf U32 (constant 1) → TypesUnder asked d g (reduced_by_rows r rs s) a
+rows_typed asked d g r rs s m q a fits wide shown hrs hs ha =
     let one = constant 1 in (
       ArrayOf U32 (times q one),
       U32,
@@ -45,10 +49,19 @@ rows_typed d g r rs s m q a fits wide shown hrs hs ha =
         ArrayOf (ArrayOf U32 one) q,
         (ArrayOf U32 m, ArrayOf U32 one, q, hrs, (ArrayOf U32 m, U32, refl, (fits, refl), (m, refl, refl, refl)), refl),
         (U32, one, q, refl, refl, (shown-one d.names q wide shown, tt)),
+        met asked (Layout Join) (ArrayOf U32 (times q one)) tt,
       ),
       hs,
       (times q one, refl, refl, ha),
     )
+
+-- an array of numbers in pieces
+cut_typed : (asked : Demand) (d : Declared) (g : List PlainTy) (k : ℕ) (xs : Tree) (b : PlainTy) (n : List Monomial) → TypesUnder asked d g xs b → Types d g xs (ArrayOf U32 n)
+    → UnaryRow d.names (Layout (Split (factor.Number k ∷ []))) (ArrayOf U32 n) (ArrayOf (ArrayOf U32 (constant k)) (quotient (number (pos k)) n))
+    → TypesUnder asked d g (in_pieces k xs) (ArrayOf (ArrayOf U32 (constant k)) (quotient (number (pos k)) n))
+cut_typed asked d g k xs b n h typed row =
+    let is = one_type d g xs b (ArrayOf U32 n) (types_alone asked d g xs b h) typed in
+    (ArrayOf U32 n, subst (TypesUnder asked d g xs) is h, row, met asked (Layout (Split (factor.Number k ∷ []))) (ArrayOf (ArrayOf U32 (constant k)) (quotient (number (pos k)) n)) tt)
 
 -- ---- values
 -- a list of words by its numbers
@@ -178,19 +191,18 @@ module _ (o : Reducer) (laws : IsRegroup (combine o) (neutral o)) (a : Around) (
       let q = quotient (number (pos k)) n in
       let t = reduced_array d g o xs s a.types around.nodes in
       let form = formed d around.declared.inputs g xs (ArrayOf U32 n) around.binders t.0 in
-      record {
-        typed = λ b h.
-            rows_typed d g o (in_pieces k xs) s (constant k) q b laws.fits
-            (wide-quotient (number (pos k)) k n refl poly.wide)
-            (shown-quotient k d.names n pieces_of.some pieces_of.divide form.0)
-            (ArrayOf U32 n, t.0, split_row d.names k U32 n pieces_of.some pieces_of.divide form.0 tt)
-            t.1 h.4.3;
-        value = λ w vs ok all.
-            let c = are_cut d a o k xs s around pieces_of w vs ok all in
-            rows_value o w vs (in_pieces k xs) s c.start (pieces c.count k k c.numbers) laws c.start_fits (every_to (λ r h. h.1) (pieces c.count k k c.numbers) c.row) c.start_is c.cut_rows
-            ∙ ap (λ ns. array (Word (fold_left (combine o) c.start ns) ∷ [])) (concat-pieces c.count k c.numbers c.total)
-            ∙ sym (plain_value o w vs xs s c.start c.numbers c.start_is c.words);
-      }
+      keeping d g _ _
+      (λ asked b h.
+      rows_typed asked d g o (in_pieces k xs) s (constant k) q b laws.fits
+      (wide-quotient (number (pos k)) k n refl poly.wide)
+      (shown-quotient k d.names n pieces_of.some pieces_of.divide form.0)
+      (cut_typed asked d g k xs h.0 n h.2 t.0 (split_row d.names k U32 n pieces_of.some pieces_of.divide form.0 tt))
+      (subst (TypesUnder asked d g s) h.4.2 h.3) h.4.3)
+      (λ w vs ok all.
+      let c = are_cut d a o k xs s around pieces_of w vs ok all in
+      rows_value o w vs (in_pieces k xs) s c.start (pieces c.count k k c.numbers) laws c.start_fits (every_to (λ r h. h.1) (pieces c.count k k c.numbers) c.row) c.start_is c.cut_rows
+      ∙ ap (λ ns. array (Word (fold_left (combine o) c.start ns) ∷ [])) (concat-pieces c.count k c.numbers c.total)
+      ∙ sym (plain_value o w vs xs s c.start c.numbers c.start_is c.words))
 
   pub stride_reduce_keeps : KeepsIn a (Binary (Reduce o) xs s) (reduced_by_rows o (Unary (Layout Transpose) (in_pieces k xs)) s)
   stride_reduce_keeps d around =
@@ -201,31 +213,31 @@ module _ (o : Reducer) (laws : IsRegroup (combine o) (neutral o)) (a : Around) (
       let form = formed d around.declared.inputs g xs (ArrayOf U32 n) around.binders t.0 in
       let shown_q = shown-quotient k d.names n pieces_of.some pieces_of.divide form.0 in
       let shown_k = shown-constant d.names k pieces_of.some in
-      record {
-        typed = λ b h.
-            rows_typed d g o (Unary (Layout Transpose) (in_pieces k xs)) s q (constant k) b laws.fits (wide-constant k) shown_k (
-              ArrayOf (ArrayOf U32 (constant k)) q,
-              (ArrayOf U32 n, t.0, split_row d.names k U32 n pieces_of.some pieces_of.divide form.0 tt),
-              (U32, constant k, q, refl, refl, (shown_k, (shown_q, tt))),
-            )
-            t.1 h.4.3;
-        value = λ w vs ok all.
-            let c = are_cut d a o k xs s around pieces_of w vs ok all in
-            let ps = pieces c.count k k c.numbers in
-            let v = meaning w vs xs in
-            let l = list_have w.bases U32 n v (values_have_types d w g vs xs (ArrayOf U32 n) around.declared ok around.binders all t.0) in
-            let least = shown_at_least d.names w.bases around.declared.names ok.bases 1 n form.0 in
-            let some : 0 < length (members v) = some_members (length (members v)) (value_at w.bases n) l.0 least in
-            let long : length (members v) ≡ c.count * k = ap length c.words ∙ length-map Word c.numbers ∙ c.total in
-            let rs = rows (meaning w vs (in_pieces k xs)) in
-            let wide : width rs ≡ k = ap width c.cut_rows ∙ width_words k ps (some_rows (length (members v)) c.count k (length ps) some long (length-pieces c.count k k c.numbers)) (every_to (λ r h. h.0) ps c.row) in
-            let cols : rows (meaning w vs (Unary (Layout Transpose) (in_pieces k xs))) ≡ map (map Word) (columns_of k ps) =
-            rows-array (columns (width rs) rs) ∙ ap (λ z. columns z rs) wide ∙ ap (columns k) c.cut_rows ∙ columns_words k ps in
-            rows_value o w vs (Unary (Layout Transpose) (in_pieces k xs)) s c.start (columns_of k ps) laws c.start_fits (columns_fit k ps c.row) c.start_is cols
-            ∙ ap (λ n. array (Word n ∷ [])) (strided (combine o) (neutral o) laws c.start k ps c.start_fits c.row)
-            ∙ ap (λ ns. array (Word (fold_left (combine o) c.start ns) ∷ [])) (concat-pieces c.count k c.numbers c.total)
-            ∙ sym (plain_value o w vs xs s c.start c.numbers c.start_is c.words);
-      }
+      keeping d g _ _
+      (λ asked b h.
+      rows_typed asked d g o (Unary (Layout Transpose) (in_pieces k xs)) s q (constant k) b laws.fits (wide-constant k) shown_k (
+        ArrayOf (ArrayOf U32 (constant k)) q,
+        cut_typed asked d g k xs h.0 n h.2 t.0 (split_row d.names k U32 n pieces_of.some pieces_of.divide form.0 tt),
+        (U32, constant k, q, refl, refl, (shown_k, (shown_q, tt))),
+        met asked (Layout Transpose) (ArrayOf (ArrayOf U32 q) (constant k)) tt,
+      )
+      (subst (TypesUnder asked d g s) h.4.2 h.3) h.4.3)
+      (λ w vs ok all.
+      let c = are_cut d a o k xs s around pieces_of w vs ok all in
+      let ps = pieces c.count k k c.numbers in
+      let v = meaning w vs xs in
+      let l = list_have w.bases U32 n v (values_have_types d w g vs xs (ArrayOf U32 n) around.declared ok around.binders all t.0) in
+      let least = shown_at_least d.names w.bases around.declared.names ok.bases 1 n form.0 in
+      let some : 0 < length (members v) = some_members (length (members v)) (value_at w.bases n) l.0 least in
+      let long : length (members v) ≡ c.count * k = ap length c.words ∙ length-map Word c.numbers ∙ c.total in
+      let rs = rows (meaning w vs (in_pieces k xs)) in
+      let wide : width rs ≡ k = ap width c.cut_rows ∙ width_words k ps (some_rows (length (members v)) c.count k (length ps) some long (length-pieces c.count k k c.numbers)) (every_to (λ r h. h.0) ps c.row) in
+      let cols : rows (meaning w vs (Unary (Layout Transpose) (in_pieces k xs))) ≡ map (map Word) (columns_of k ps) =
+      rows-array (columns (width rs) rs) ∙ ap (λ z. columns z rs) wide ∙ ap (columns k) c.cut_rows ∙ columns_words k ps in
+      rows_value o w vs (Unary (Layout Transpose) (in_pieces k xs)) s c.start (columns_of k ps) laws c.start_fits (columns_fit k ps c.row) c.start_is cols
+      ∙ ap (λ n. array (Word n ∷ [])) (strided (combine o) (neutral o) laws c.start k ps c.start_fits c.row)
+      ∙ ap (λ ns. array (Word (fold_left (combine o) c.start ns) ∷ [])) (concat-pieces c.count k c.numbers c.total)
+      ∙ sym (plain_value o w vs xs s c.start c.numbers c.start_is c.words))
 
 pub split_reduce_gives : (o : Reducer) → IsRegroup (combine o) (neutral o) → (a : Around) (k : ℕ) (t u : Tree) → reducer_of t ≡ Some o → IsPoly (array_length a.types) → split_reduce k a t ≡ Becomes u → KeepsIn a t u
 split_reduce_gives o laws a k (Binary (Reduce r) xs s) u same poly e =
@@ -240,3 +252,15 @@ stride_reduce_gives o laws a k (Binary (Reduce r) xs s) u same poly e =
     let h = unless_none _ _ u e in
     subst (KeepsIn a (Binary (Reduce r) xs s)) h.1 (stride_reduce_keeps r (subst (λ o. IsRegroup (combine o) (neutral o)) q laws) a k xs s poly (pieces_hold k (array_length a.types) poly h.0))
 stride_reduce_gives o laws a k _ u same poly e = absurd (cc)
+
+-- ---- a fold in place of a reduction
+pub reduce_fold_gives : (a : Around) (t u : Tree) → reduce_fold t ≡ Becomes u → KeepsIn a t u
+reduce_fold_gives a (Binary (Reduce r) xs s) u e =
+    let same : folded r xs s ≡ u = cc in
+    subst (KeepsIn a (Binary (Reduce r) xs s)) same (λ d around. keeping d a.binders _ _
+    (λ asked ty h.
+    let typed_xs = subst (TypesUnder asked d a.binders xs) h.4.1 h.2 in
+    let typed_s = subst (TypesUnder asked d a.binders s) h.4.2 h.3 in
+    (U32, U32, h.4.0, typed_xs, typed_s, tt, (U32, U32, refl, refl, (refl, refl, refl)), h.4.3))
+    (λ w vs ok all. refl))
+reduce_fold_gives a _ u e = absurd (cc)

@@ -1,4 +1,4 @@
--- A map by rows keeps its type and value.
+-- A map by rows keeps its type, copies and value.
 use Rattle.std.proofs.Common.{◌≡◌, ℕ, ◌*◌, ◌/◌, ◌<◌, List, [], ◌∷◌, length, refl, sym, ap, ◌∙◌, subst, arith, ℤ, pos, negsuc, ◌*ℤ◌}
 use Rattle.std.specs.Prelude.{map}
 use Rattle.std.proofs.lemmas.Int.{ints}
@@ -8,7 +8,7 @@ use Rattle.size_arith.specs.declared.poly.Monomial.{Monomial}
 use Rattle.size_arith.specs.Polynomial.{number, of_monomial, value_at, times, IsPoly, AllDivide, quotient}
 use Rattle.size_arith.specs.Shown.{ShownAtLeast}
 use Rattle.lift_tree.specs.declared.length.Factor.TheVariants as factor
-use Rattle.lift_tree.specs.declared.layout.Layout.TheVariants.{Split}
+use Rattle.lift_tree.specs.declared.layout.Layout.TheVariants.{Join, Split}
 use Rattle.lift_tree.specs.declared.term.UnaryForm.TheVariants.{Layout}
 use Rattle.lift_tree.specs.declared.term.MapKind.TheVariants.{Plain}
 use Rattle.lift_tree.specs.Tree.{Tree, Map}
@@ -17,7 +17,8 @@ use Rattle.lift_tree.specs.Values.{Value, array, members}
 use Rattle.lift_tree.specs.Meaning.{World, meaning, rows, unary_value}
 use Rattle.lift_tree.specs.Types.{PlainTy, ArrayOf, IsFormed}
 use Rattle.lift_tree.specs.WorkedOut.{product_of}
-use Rattle.lift_tree.specs.Typing.{UnaryRow, Types, constant}
+use Rattle.lift_tree.specs.Typing.{UnaryRow, constant}
+use Rattle.lift_tree.proofs.Copies.{TypesUnder, met, types_alone}
 use Rattle.lift_tree.proofs.Renumbered.{meaning-raise, same_map}
 use Rattle.lift_tree.proofs.Rows.{list_have}
 use Rattle.lift_tree.proofs.Sizes.{number_at, value-quotient}
@@ -28,6 +29,7 @@ use Rattle.rewriting.specs.Answers.{Becomes}
 use Rattle.rewriting.specs.Around.{Around}
 use Rattle.rewriting.specs.Keeps.{KeepsIn}
 use Rattle.rules_split.specs.Rules.{in_pieces, mapped_by_rows, array_length, split_map}
+use Rattle.rules_split.proofs.Keeping.{keeping}
 use Rattle.rules_split.proofs.Lists.{map_same, rows-array, rows_mapped, concat-pieces}
 use Rattle.rules_split.proofs.Lengths.{pieces_length, shown-quotient, shown-constant}
 use Rattle.rules_split.proofs.Tried.{ArePieces, pieces_hold, unless_none}
@@ -93,30 +95,36 @@ split_map_keeps a k xs f poly pieces d around =
     let u = map_array d g Plain xs f a.types around.nodes in
     let x = u.element in
     let form = formed d around.declared.inputs g xs (ArrayOf x n) around.binders u.typed in
-    record {
-      typed = λ b h.
-          let same = same_array h.0 x h.2 n (one_type d g xs (ArrayOf h.0 h.2) (ArrayOf x n) h.3 u.typed) in
-          let y = h.1 in
-          let whole : b ≡ ArrayOf y (times q m) = h.5 ∙ ap (ArrayOf y) (same.1 ∙ sym (pieces_length k n pieces.some poly.canonical pieces.divide)) in
-          let body = subst (λ z. Types d (z ∷ g) f y) same.0 h.4 in (
-            ArrayOf (ArrayOf y m) q,
-            (
-              ArrayOf x m,
-              ArrayOf y m,
-              q,
-              (ArrayOf x n, u.typed, split_row d.names k x n pieces.some pieces.divide form.0 form.1),
-              (x, y, m, refl, types-raise d 1 (ArrayOf x m) (x ∷ g) f y body, refl),
-              refl,
-            ),
-            (y, m, q, refl, whole, formed d around.declared.inputs g (Map Plain xs f) b around.binders h),
-          );
-      value = λ w vs ok all.
-          let v = meaning w vs xs in
-          let t = list_have w.bases x n v (values_have_types d w g vs xs (ArrayOf x n) around.declared ok around.binders all u.typed) in
-          let c = cut w k n v pieces.some pieces.divide t.0 in
-          joined_value w vs (in_pieces k xs) f
-          ∙ ap (λ l. array (map (λ y. meaning w (y ∷ vs) f) l)) (ap concat c.rows ∙ concat-pieces c.count k (members v) c.total);
-    }
+    keeping d g _ _
+    (λ asked b h.
+    let own = one_type d g xs (ArrayOf h.0 h.2) (ArrayOf x n) (types_alone asked d g xs (ArrayOf h.0 h.2) h.3) u.typed in
+    let same = same_array h.0 x h.2 n own in
+    let y = h.1 in
+    let whole : b ≡ ArrayOf y (times q m) = h.5 ∙ ap (ArrayOf y) (same.1 ∙ sym (pieces_length k n pieces.some poly.canonical pieces.divide)) in
+    let body = subst (λ z. TypesUnder asked d (z ∷ g) f y) same.0 h.4 in (
+      ArrayOf (ArrayOf y m) q,
+      (
+        ArrayOf x m,
+        ArrayOf y m,
+        q,
+        (
+          ArrayOf x n,
+          subst (TypesUnder asked d g xs) own h.3,
+          split_row d.names k x n pieces.some pieces.divide form.0 form.1,
+          met asked (Layout (Split (factor.Number k ∷ []))) (ArrayOf (ArrayOf x m) q) tt,
+        ),
+        (x, y, m, refl, types-raise asked d 1 (ArrayOf x m) (x ∷ g) f y body, refl),
+        refl,
+      ),
+      (y, m, q, refl, whole, formed d around.declared.inputs g (Map Plain xs f) b around.binders (types_alone asked d g (Map Plain xs f) b h)),
+      met asked (Layout Join) b tt,
+    ))
+    (λ w vs ok all.
+    let v = meaning w vs xs in
+    let t = list_have w.bases x n v (values_have_types d w g vs xs (ArrayOf x n) around.declared ok around.binders all u.typed) in
+    let c = cut w k n v pieces.some pieces.divide t.0 in
+    joined_value w vs (in_pieces k xs) f
+    ∙ ap (λ l. array (map (λ y. meaning w (y ∷ vs) f) l)) (ap concat c.rows ∙ concat-pieces c.count k (members v) c.total))
 
 pub split_map_gives : (a : Around) (k : ℕ) (t u : Tree) → IsPoly (array_length a.types) → split_map k a t ≡ Becomes u → KeepsIn a t u
 split_map_gives a k (Map Plain xs f) u poly e =

@@ -1,4 +1,4 @@
--- Pieces by tiles keep their type and value.
+-- Pieces by tiles keep their type, copies and value.
 use Rattle.std.proofs.Common.{◌≡◌, ℕ, zero, suc, ◌+◌, ◌-◌, ◌*◌, ◌/◌, ◌%◌, ◌<◌, ◌≤◌, List, [], ◌∷◌, length, refl, sym, ap, ◌∙◌, subst, arith, add-one, zero-add, ℤ, pos, negsuc, ◌+ℤ◌, ◌-ℤ◌, ◌*ℤ◌, ◌≤ℤ◌, false, None}
 use Rattle.std.specs.Prelude.{map, IsTrue, ◌&&◌, neg_ℤ, nat_le, nat_eq}
 use Rattle.std.proofs.lemmas.Int.{ints}
@@ -17,13 +17,15 @@ use Rattle.size_arith.proofs.Limits.{canonical-added, canonical-times, low_of}
 use Rattle.size_arith.proofs.Maps.{same_map_same_list}
 use Rattle.size_arith.proofs.Soundness.{shown_at_least}
 use Rattle.size_arith.proofs.Values.{value-minus}
-use Rattle.lift_tree.specs.declared.term.UnaryForm.TheVariants.{Slide}
+use Rattle.lift_tree.specs.declared.layout.Layout.TheVariants.{Join}
+use Rattle.lift_tree.specs.declared.term.UnaryForm.TheVariants.{Layout, Slide}
 use Rattle.lift_tree.specs.Tree.{Tree, Unary}
 use Rattle.lift_tree.specs.Lists.{concat, pieces, pieces_that_fit}
 use Rattle.lift_tree.specs.Values.{Value, array, members}
 use Rattle.lift_tree.specs.Meaning.{World, meaning, array_of_rows}
 use Rattle.lift_tree.specs.Types.{PlainTy, ArrayOf, IsFormed}
 use Rattle.lift_tree.specs.Typing.{UnaryRow, constant}
+use Rattle.lift_tree.proofs.Copies.{TypesUnder, met, types_alone}
 use Rattle.lift_tree.proofs.Members.{members-array, pieces_long}
 use Rattle.lift_tree.proofs.Rows.{list_have}
 use Rattle.lift_tree.proofs.Sizes.{number_at, value-constant, value-quotient}
@@ -35,6 +37,7 @@ use Rattle.rewriting.specs.Around.{Around}
 use Rattle.rewriting.specs.Keeps.{KeepsIn}
 use Rattle.rules_split.specs.Tests.{divides}
 use Rattle.rules_split.specs.Rules.{tiled, tile_slide, tile_sides, first_false, array_length}
+use Rattle.rules_split.proofs.Keeping.{keeping}
 use Rattle.rules_split.proofs.Linear.{total_by, total-constant, total-quotient, no_powers_at_most}
 use Rattle.rules_split.proofs.Lists.{map_every, map-map, map-concat, tiles}
 use Rattle.rules_split.proofs.Lengths.{canonical-constant, wide-minus, canonical-minus, wide-plus, wide-quotient, canonical-quotient, total-plus, total-minus, total-times, shifted_total, shown-constant}
@@ -45,7 +48,8 @@ use Rattle.rules_split.proofs.Typed.{same_array, slide_array}
 quotient_is : (t m a : ℕ) → 0 < t → m ≡ t * a → m / t ≡ a
 quotient_is t m a h e = ap (λ y. y / t) e ∙ mul-div_cancel_left a h
 
--- the pieces of a list, by tiles of u elements that begin v further on and hold q pieces each, where they cover the list
+-- the pieces of a list, by tiles of u elements that begin v further on and hold q pieces each,
+-- where they cover the list
 by_tiles : (s t u v q p : ℕ) (m : List Value) → 0 < t → 0 < q → v ≡ q * t → u + t ≡ v + s → length m ≡ u + v * p
     → concat (map members (map (λ r. array_of_rows (pieces (pieces_that_fit s t (length (members r))) s t (members r))) (map array (pieces (pieces_that_fit u v (length m)) u v m)))) ≡ map array (pieces (pieces_that_fit s t (length m)) s t m)
 by_tiles s t u v q p m ht hq hv hu hm =
@@ -323,55 +327,57 @@ tile_slide_keeps a s t v xs poly sides d around =
     let shown : ShownAtLeast u d.names n = subst (λ ns. ShownAtLeast u ns n) around.names sides.shown in
     let left = minus n (constant u) in
     let p = plus (quotient (number (pos v)) left) (constant 1) in
-    record {
-      typed = λ b h.
-          let r = h.2 in
-          let same = same_array r.0 x r.1 n (sym r.2 ∙ one_type d g xs h.0 (ArrayOf x n) h.1 own.0.typed) in
-          let divide = subst (λ l. AllDivide (number (pos t)) (minus l (constant s))) same.1 r.5 in
-          let form_b = formed d around.declared.inputs g (Unary (Slide s t) xs) b around.binders h in
-          let form = subst (IsFormed d.names) r.6 form_b in
-          let form_x = subst (IsFormed d.names) same.0 form.1.1 in
-          let whole : b ≡ ArrayOf (ArrayOf x (constant s)) (times p (constant q)) =
-          r.6
-          ∙ ap (λ y. ArrayOf (ArrayOf y (constant s)) (plus (quotient (number (pos t)) (minus r.1 (constant s))) (constant 1))) same.0
-          ∙ ap (λ l. ArrayOf (ArrayOf x (constant s)) (plus (quotient (number (pos t)) (minus l (constant s))) (constant 1))) same.1
-          ∙ ap (ArrayOf (ArrayOf x (constant s))) (sym (tiles_length s t u v q n ht (omega arith) m.1 sizes.0 poly.canonical poly.wide sides.divide divide)) in (
-            ArrayOf (ArrayOf (ArrayOf x (constant s)) (constant q)) p,
-            (
-              ArrayOf x (constant u),
-              ArrayOf (ArrayOf x (constant s)) (constant q),
-              p,
-              (
-                ArrayOf x n,
-                own.0.typed,
-                (
-                  x,
-                  n,
-                  refl,
-                  sides.some,
-                  shown_less d.names u n shown,
-                  sides.divide,
-                  refl,
-                  (shown_tiles d.names v left sides.some sides.divide (shown_less d.names u n shown), (shown_more d.names s u sizes.1 form.1.0, form_x)),
-                ),
-              ),
-              (ArrayOf x (constant u), refl, inner_row d.names s t u q m.0 x ht sizes.1 sizes.2 refl form.1.0 form_x),
-              refl,
-            ),
-            (ArrayOf x (constant s), constant q, p, refl, whole, form_b),
-          );
-      value = λ w vs ok all.
-          let v0 = meaning w vs xs in
-          let l = list_have w.bases x n v0 (values_have_types d w g vs xs (ArrayOf x n) around.declared ok around.binders all own.0.typed) in
-          let least = shown_at_least d.names w.bases around.declared.names ok.bases u n shown in
-          let less : value_at w.bases n -ℤ pos u ≡ pos v *ℤ value_at w.bases (quotient (number (pos v)) left) =
-          ap (λ z. value_at w.bases n -ℤ z) (sym (value-constant w.bases u))
-          ∙ sym (value-minus w.bases n (constant u))
-          ∙ value-quotient w.bases (number (pos v)) left sides.divide
-          ∙ ap (λ z. z *ℤ value_at w.bases (quotient (number (pos v)) left)) (number_at w.bases (pos v)) in
-          let c = covered (length (members v0)) u v (value_at w.bases n) (value_at w.bases (quotient (number (pos v)) left)) sides.some l.0 least less in
-          tiled_value w vs s t u v q c.0 xs ht (omega arith) m.1 sizes.0 c.1;
-    }
+    keeping d g _ _
+    (λ asked b h.
+    let r = h.2 in
+    let array_is = one_type d g xs h.0 (ArrayOf x n) (types_alone asked d g xs h.0 h.1) own.0.typed in
+    let same = same_array r.0 x r.1 n (sym r.2 ∙ array_is) in
+    let divide = subst (λ l. AllDivide (number (pos t)) (minus l (constant s))) same.1 r.5 in
+    let form_b = formed d around.declared.inputs g (Unary (Slide s t) xs) b around.binders (types_alone asked d g (Unary (Slide s t) xs) b h) in
+    let form = subst (IsFormed d.names) r.6 form_b in
+    let form_x = subst (IsFormed d.names) same.0 form.1.1 in
+    let whole : b ≡ ArrayOf (ArrayOf x (constant s)) (times p (constant q)) =
+    r.6
+    ∙ ap (λ y. ArrayOf (ArrayOf y (constant s)) (plus (quotient (number (pos t)) (minus r.1 (constant s))) (constant 1))) same.0
+    ∙ ap (λ l. ArrayOf (ArrayOf x (constant s)) (plus (quotient (number (pos t)) (minus l (constant s))) (constant 1))) same.1
+    ∙ ap (ArrayOf (ArrayOf x (constant s))) (sym (tiles_length s t u v q n ht (omega arith) m.1 sizes.0 poly.canonical poly.wide sides.divide divide)) in (
+      ArrayOf (ArrayOf (ArrayOf x (constant s)) (constant q)) p,
+      (
+        ArrayOf x (constant u),
+        ArrayOf (ArrayOf x (constant s)) (constant q),
+        p,
+        (
+          ArrayOf x n,
+          subst (TypesUnder asked d g xs) array_is h.1,
+          (
+            x,
+            n,
+            refl,
+            sides.some,
+            shown_less d.names u n shown,
+            sides.divide,
+            refl,
+            (shown_tiles d.names v left sides.some sides.divide (shown_less d.names u n shown), (shown_more d.names s u sizes.1 form.1.0, form_x)),
+          ),
+          met asked (Slide u v) (ArrayOf (ArrayOf x (constant u)) p) tt,
+        ),
+        (ArrayOf x (constant u), refl, inner_row d.names s t u q m.0 x ht sizes.1 sizes.2 refl form.1.0 form_x, met asked (Slide s t) (ArrayOf (ArrayOf x (constant s)) (constant q)) tt),
+        refl,
+      ),
+      (ArrayOf x (constant s), constant q, p, refl, whole, form_b),
+      met asked (Layout Join) b tt,
+    ))
+    (λ w vs ok all.
+    let v0 = meaning w vs xs in
+    let l = list_have w.bases x n v0 (values_have_types d w g vs xs (ArrayOf x n) around.declared ok around.binders all own.0.typed) in
+    let least = shown_at_least d.names w.bases around.declared.names ok.bases u n shown in
+    let less : value_at w.bases n -ℤ pos u ≡ pos v *ℤ value_at w.bases (quotient (number (pos v)) left) =
+    ap (λ z. value_at w.bases n -ℤ z) (sym (value-constant w.bases u))
+    ∙ sym (value-minus w.bases n (constant u))
+    ∙ value-quotient w.bases (number (pos v)) left sides.divide
+    ∙ ap (λ z. z *ℤ value_at w.bases (quotient (number (pos v)) left)) (number_at w.bases (pos v)) in
+    let c = covered (length (members v0)) u v (value_at w.bases n) (value_at w.bases (quotient (number (pos v)) left)) sides.some l.0 least less in
+    tiled_value w vs s t u v q c.0 xs ht (omega arith) m.1 sizes.0 c.1)
   where
     tile_sizes : (s t v m : ℕ) → v ≡ suc m * t → (v + s - t + t ≡ v + s) × (s ≤ v + s - t) × (v + s - t - s ≡ m * t)
     tile_sizes s t v m e = (omega arith, omega arith, omega arith)

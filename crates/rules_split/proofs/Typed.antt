@@ -12,6 +12,7 @@ use Rattle.lift_tree.specs.Types.{PlainTy, U32, ArrayOf}
 use Rattle.lift_tree.specs.Typing.{Declared, Types}
 use Rattle.lift_tree.specs.Annotations.{Annotation, Leaf, One, Two, Three, Annotates, type_in}
 use Rattle.lift_tree.proofs.Annotated.{annotated_is_typed}
+use Rattle.lift_tree.proofs.Copies.{Demand, TypesUnder}
 use Rattle.rules_split.specs.Rules.{length_in, array_length}
 
 pub same_array : (x y : PlainTy) (n m : List Monomial) → ArrayOf x n ≡ ArrayOf y m → (x ≡ y) × (n ≡ m)
@@ -30,16 +31,25 @@ get-insert (suc k) b [] n a h = absurd (cc)
 get-insert (suc k) b (c ∷ g) zero a h = h
 get-insert (suc k) b (c ∷ g) (suc n) a h = get-insert k b g n a h
 
-pub types-raise : (d : Declared) (k : ℕ) (b : PlainTy) (g : List PlainTy) (t : Tree) (a : PlainTy) → Types d g t a → Types d (insert_type k b g) (raise k t) a
-types-raise d k b g (Variable n) a h = get-insert k b g n a h
-types-raise d k b g (Number n) a h = h
-types-raise d k b g (Input n) a h = h
-types-raise d k b g (Unary o t) a h = (h.0, types-raise d k b g t h.0 h.1, h.2)
-types-raise d k b g (Binary o t u) a h = (h.0, h.1, types-raise d k b g t h.0 h.2, types-raise d k b g u h.1 h.3, h.4)
-types-raise d k b g (Select t u v) a h = (types-raise d k b g t U32 h.0, types-raise d k b g u U32 h.1, types-raise d k b g v U32 h.2, h.3)
-types-raise d k b g (Let v body) a h = (h.0, types-raise d k b g v h.0 h.1, types-raise d (suc k) b (h.0 ∷ g) body a h.2)
-types-raise d k b g (Map o xs body) a h = (h.0, h.1, h.2, types-raise d k b g xs (ArrayOf h.0 h.2) h.3, types-raise d (suc k) b (h.0 ∷ g) body h.1 h.4, h.5)
-types-raise d k b g (Fold o xs s body) a h = (h.0, h.1, h.2, types-raise d k b g xs (ArrayOf h.0 h.2) h.3, types-raise d k b g s h.1 h.4, h.5, types-raise d (suc (suc k)) b (h.0 ∷ h.1 ∷ g) body h.1 h.6, h.7)
+pub types-raise : (m : Demand) (d : Declared) (k : ℕ) (b : PlainTy) (g : List PlainTy) (t : Tree) (a : PlainTy) → TypesUnder m d g t a → TypesUnder m d (insert_type k b g) (raise k t) a
+types-raise m d k b g (Variable n) a h = get-insert k b g n a h
+types-raise m d k b g (Number n) a h = h
+types-raise m d k b g (Input n) a h = h
+types-raise m d k b g (Unary o t) a h = (h.0, types-raise m d k b g t h.0 h.1, h.2, h.3)
+types-raise m d k b g (Binary o t u) a h = (h.0, h.1, types-raise m d k b g t h.0 h.2, types-raise m d k b g u h.1 h.3, h.4)
+types-raise m d k b g (Select t u v) a h = (types-raise m d k b g t U32 h.0, types-raise m d k b g u U32 h.1, types-raise m d k b g v U32 h.2, h.3)
+types-raise m d k b g (Let v body) a h = (h.0, types-raise m d k b g v h.0 h.1, types-raise m d (suc k) b (h.0 ∷ g) body a h.2)
+types-raise m d k b g (Map o xs body) a h = (h.0, h.1, h.2, types-raise m d k b g xs (ArrayOf h.0 h.2) h.3, types-raise m d (suc k) b (h.0 ∷ g) body h.1 h.4, h.5)
+types-raise m d k b g (Fold o xs s body) a h = (
+  h.0,
+  h.1,
+  h.2,
+  types-raise m d k b g xs (ArrayOf h.0 h.2) h.3,
+  types-raise m d k b g s h.1 h.4,
+  h.5,
+  types-raise m d (suc (suc k)) b (h.0 ∷ h.1 ∷ g) body h.1 h.6,
+  h.7,
+)
 
 -- ---- the array of a node
 -- an array of this length

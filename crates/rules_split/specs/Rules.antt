@@ -36,6 +36,7 @@ abbrev pub first_false : List Side → Option Condition
 first_false [] = None
 first_false (s ∷ ss) = if s.holds then first_false ss else Some s.name
 
+-- the term, or the condition that is false
 abbrev pub unless : Option Condition → Tree → Answer
 unless None t = Becomes t
 unless (Some c) t = NoSide c
@@ -50,6 +51,7 @@ length_in U32 = []
 length_in (PairOf a b) = []
 length_in (ArrayOf a n) = n
 
+-- the same, by the types of the node and of all nodes below it
 abbrev pub array_length : Annotation → List Monomial
 array_length (Leaf a) = []
 array_length (One a n) = length_in (type_in n)
@@ -94,7 +96,8 @@ piece_sides k n =
     record { name = Positive; holds = nat_le 1 k } ∷ record { name = Divides; holds = divides k n }
     ∷ []
 
--- tiles of length u, which begin v elements apart: v is at least 1, t divides v, u is a number with n - u shown at least 0, and v divides n - u
+-- tiles of length u, which begin v elements apart: v is at least 1, t divides v, u is a number with
+-- n - u shown at least 0, and v divides n - u
 abbrev pub tile_sides : (t u v : ℕ) → Around → List Side
 tile_sides t u v a =
     let n = array_length a.types in
@@ -104,26 +107,31 @@ tile_sides t u v a =
     ∷ record { name = Divides; holds = divides v (minus n (constant u)) }
     ∷ []
 
+-- map(\x. f, xs) becomes join(map(\r. map(\x. f, r), split(k, xs)))
 abbrev pub split_map : ℕ → Around → Tree → Answer
 split_map k a (Map map.Plain xs f) =
     under (piece_sides k (array_length a.types)) (mapped_by_rows (in_pieces k xs) f)
 split_map k a t = NoShape
 
+-- reduce(op, s, xs) becomes a reduction of the reductions of its pieces of length k
 abbrev pub split_reduce : ℕ → Around → Tree → Answer
 split_reduce k a (Binary (Reduce r) xs s) =
     under (piece_sides k (array_length a.types)) (reduced_by_rows r (in_pieces k xs) s)
 split_reduce k a t = NoShape
 
+-- the same over the rows of the transposed pieces, where each row has elements k apart
 abbrev pub stride_reduce : ℕ → Around → Tree → Answer
 stride_reduce k a (Binary (Reduce r) xs s) =
     under (piece_sides k (array_length a.types))
     (reduced_by_rows r (Unary (Layout Transpose) (in_pieces k xs)) s)
 stride_reduce k a t = NoShape
 
+-- reduce(op, s, xs) becomes fold(\a x. op(a, x), s, xs)
 abbrev pub reduce_fold : Tree → Answer
 reduce_fold (Binary (Reduce r) xs s) = Becomes (folded r xs s)
 reduce_fold t = NoShape
 
+-- slide(s, t, xs) becomes the slides of its tiles, which begin v elements apart
 abbrev pub tile_slide : ℕ → Around → Tree → Answer
 tile_slide v a (Unary (Slide s t) xs) =
     let u = v + s - t in under (tile_sides t u v a) (tiled s t u v xs)

@@ -18,9 +18,12 @@ use scalar_ops::regroup::{Add, And, Max, Min, Mul, Or, Xor};
 use scalar_ops::{Reducer, Regroup};
 use std::alloc::Global;
 
-/// The term rewritten by the rule, in the context of its place. Where the node's first child is no array, its length counts as 0.
+/// The term rewritten by the rule, in the context of its place. Where the node's first child is no
+/// array, its length counts as 0.
 ///
-/// `Shape` comes exactly where the term isn't of the row's shape, and `Side` exactly where it is, with the first false condition; both hand the term back. What is given has the term's type, up to limits, and its value.
+/// `Shape` comes exactly where the term isn't of the row's shape, and `Side` exactly where it is,
+/// with the first false condition; both hand the term back. What is given has the term's type, up
+/// to limits, and its value.
 pub fn apply(alloc: Global, rule: &Rule, term: Term, context: &Context) -> Result<Term, Refused>
     requires { IsRenumberable (tree_of term) }
     ensures answer { IsAnswer
@@ -150,7 +153,8 @@ fn reduce_fold(alloc: Global, term: Term, context: &Context) -> Result<Term, Ref
     }
 }
 
-// The length of tiles that begin v elements apart, so that no piece of `size` elements, each `step` after the last, is missed between them.
+// The length of tiles that begin v elements apart, so that no piece of `size` elements, each `step`
+// after the last, is missed between them.
 fn tile_length(size: u32, step: u32, v: u32) -> u64
     ensures { result ≡ v + size - step }
 {

@@ -89,7 +89,8 @@ pub fn folded(
     Ok(Term::Fold(FoldKind::Plain, array, start, Box::new(alloc, body)?))
 }
 
-/// The pieces of `size` elements that begin `step` apart, by tiles of `tile` elements that begin v apart.
+/// The pieces of `size` elements that begin `step` apart, by tiles of
+/// `tile` elements that begin v apart.
 pub fn tiled(
     alloc: Global,
     size: u32,

@@ -50,7 +50,8 @@ fn divides_with(k: u32, coefficient: i128, others: &[Monomial]) -> bool
     is_multiple(coefficient, k) && divides(k, others)
 }
 
-// Whether the number divides the length less another number: only the constant monomial changes, which stands first.
+// Whether the number divides the length less another number: only the constant
+// monomial changes, which stands first.
 #[tactic(auto, using(crate::proofs::Less::less))]
 fn divides_less(k: u32, length: &[Monomial], other: u32) -> bool
     requires positive { 0 < k }
@@ -121,7 +122,8 @@ fn divides_number(number: u32, other: u32) -> bool
     number != 0 && other % number == 0
 }
 
-/// The first false condition of tiles of this length, which begin v elements apart, for pieces that begin `step` apart.
+/// The first false condition of tiles of this length, which begin v elements apart, for
+/// pieces that begin `step` apart.
 pub fn false_side_of_tiles(
     alloc: Global,
     step: u32,

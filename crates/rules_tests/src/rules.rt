@@ -187,8 +187,8 @@ const SPLIT: [(&str, &str, &str); 12] = [
         "at . tile-slide 2",
         "join(map(\\_0. slide(3, 1, _0), slide(4, 2, xs)))",
     ),
-    // a tile of 6 has 2 pieces of 4 that begin 2 apart, and 2 tiles that begin 4 apart have 10
-    // elements
+    // a tile of 6 has 2 pieces of 4 that begin 2 apart, and 2 tiles that begin 4
+    // apart have 10 elements
     (
         "slide(4, 2, ten)",
         "at . tile-slide 4",

@@ -43,9 +43,11 @@ op_of reducer.And = op.And
 op_of reducer.Or = op.Or
 op_of reducer.Xor = op.Xor
 
+-- what such an operator gives on two numbers
 abbrev pub combine : Reducer → ℕ → ℕ → ℕ
 combine r = apply_op (op_of r)
 
+-- the number that leaves each number below 2^32 as it is
 abbrev pub neutral : Reducer → ℕ
 neutral reducer.Add = 0
 neutral reducer.Mul = 1

@@ -1,4 +1,5 @@
-//! The operators of the pattern language on unsigned words of 32 bits, and those of them that may be regrouped.
+//! The operators of the pattern language on unsigned words of 32 bits, and those
+//! of them that may be regrouped.
 #![tactic(auto)]
 
 pub mod op;

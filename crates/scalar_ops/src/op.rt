@@ -22,7 +22,8 @@ pub enum Op {
     Rem,
 }
 
-/// An operator that is associative and commutative, so that a list may be reduced by it in any grouping.
+/// An operator that is associative and commutative, so that a list may be
+/// reduced by it in any grouping.
 #[derive(Clone, Copy, Debug, PartialEq, Eq)]
 pub enum Reducer {
     Add,
@@ -36,7 +37,8 @@ pub enum Reducer {
 
 /// What the operator gives on `a` and `b`.
 ///
-/// Sums, differences and products wrap, and a shift uses the five low bits of `b`, as OpenCL C 1.2 has them for `uint` (section 6.3). `Lt` and `Eq` give 1 where they hold and else 0.
+/// Sums, differences and products wrap, and a shift uses the five low bits of `b`, as OpenCL C 1.2
+/// has them for `uint` (section 6.3). `Lt` and `Eq` give 1 where they hold and else 0.
 pub fn apply(op: Op, a: u32, b: u32) -> u32
     requires divisor { Operators.IsDefined op b }
     ensures { result ≡ Operators.apply_op op a b }

@@ -7,7 +7,8 @@ ghost use Rattle.scalar_ops.specs.Laws;
 ghost use Rattle.scalar_ops.specs.declared.op.Reducer.{Reducer};
 ghost use Rattle.scalar_ops.specs.declared.op.Reducer.TheVariants as reducer;
 
-/// An operator with its laws: on the numbers below 2^32 it is associative and commutative, and has a neutral element.
+/// An operator with its laws: on the numbers below 2^32 it is associative and
+/// commutative, and has a neutral element.
 pub trait Regroup {
     /// Which of the seven operators it is.
     ghost operator: { Reducer };

@@ -37,4 +37,5 @@ OneKernelKeepsTheHeadline =
 
 -- the last kernel makes what the whole term does
 abbrev pub LastKernelsMakeTheOutput : Type 0
-LastKernelsMakeTheOutput = (i : ℕ) (t : Tree) (n : Annotation) → type_in (cut_off i [] t n).left.types ≡ type_in n
+LastKernelsMakeTheOutput =
+    (i : ℕ) (t : Tree) (n : Annotation) → type_in (cut_off i [] t n).left.types ≡ type_in n

@@ -23,6 +23,7 @@ AreKernelsOfEach local [] (k ∷ ks) = ⊥
 AreKernelsOfEach local (l ∷ ls) [] = ⊥
 AreKernelsOfEach local (l ∷ ls) (k ∷ ks) = IsKernelOf local l k × AreKernelsOfEach local ls ks
 
+-- a term and its kernel, as they are run
 abbrev pub stage_of : Lowered → Kernel → Stage
 stage_of l k = record {
   declared = declared_of l;

@@ -5,6 +5,7 @@ use Rattle.std.specs.declared.cmp.Ordering.TheVariants.{Less, Equal, Greater}
 use Rattle.size_arith.specs.declared.poly.Monomial.{Monomial}
 use Rattle.size_arith.specs.Polynomial.{Place, Before, Here, After, on, total}
 
+-- the place that an ordering tells
 abbrev pub place_of : Ordering → Place
 place_of Less = Before
 place_of Equal = Here

@@ -17,9 +17,12 @@ abbrev pub all_powers : (count most : ℕ) → (List ℕ → Bool) → Bool
 all_powers zero most f = f []
 all_powers (suc n) most f = all_upto most (λ j. all_powers n (most - j) (λ js. f (j ∷ js)))
 
--- shown to be at least k: after each base name is replaced by its least value plus a new name, the polynomial less k has no negative coefficient up to degree 4
+-- shown to be at least k: after each base name is replaced by its least value plus a new name, the
+-- polynomial less k has no negative coefficient up to degree 4
 abbrev pub is_shown : ℕ → List Name → List Monomial → Bool
-is_shown k names p = all_powers (length names) 4 (λ js. int_le (pos 0) (shifted (leasts names) (number (neg_ℤ (pos k)) ∷ p) js))
+is_shown k names p =
+    all_powers (length names) 4
+    (λ js. int_le (pos 0) (shifted (leasts names) (number (neg_ℤ (pos k)) ∷ p) js))
 
 -- the same powers, name by name
 abbrev pub same_powers : List ℕ → List ℕ → Bool
@@ -33,4 +36,5 @@ abbrev pub is_same : List Monomial → List Monomial → Bool
 is_same [] [] = true
 is_same [] (n ∷ q) = false
 is_same (m ∷ p) [] = false
-is_same (m ∷ p) (n ∷ q) = int_eq m.coefficient n.coefficient && (same_powers m.powers n.powers && is_same p q)
+is_same (m ∷ p) (n ∷ q) =
+    int_eq m.coefficient n.coefficient && (same_powers m.powers n.powers && is_same p q)

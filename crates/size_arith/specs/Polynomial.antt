@@ -1,4 +1,5 @@
--- Polynomials over base names, as sorted lists of monomials, and as maps from powers to coefficients.
+-- Polynomials over base names, as sorted lists of monomials, and as
+-- maps from powers to coefficients.
 use Rattle.std.specs.Prelude.{ℕ, zero, suc, ◌≡◌, ◌+◌, ◌-◌, ◌*◌, ◌^◌, ◌≤◌, ◌⊎◌, max, Bool, true, false, List, [], ◌∷◌, length, ℤ, pos, negsuc, unsigned_abs, int_div, int_rem, ◌+ℤ◌, ◌*ℤ◌, nat_lt, if◌then◌else◌, slice_set, Result, Ok, Err}
 use Rattle.size_arith.specs.declared.poly.Monomial.{Monomial}
 use Rattle.size_arith.specs.declared.poly.PolyNo.{PolyNo}
@@ -32,10 +33,12 @@ AtMost [] ns = Unit {0}
 AtMost (m ∷ ms) [] = ⊥
 AtMost (m ∷ ms) (n ∷ ns) = (m ≤ n) × AtMost ms ns
 
+-- the degree that these powers have
 abbrev pub total : List ℕ → ℕ
 total [] = 0
 total (m ∷ ms) = m + total ms
 
+-- before other powers, the same, or after them
 pub data Place : Type 0 where
   Before : Place
   Here : Place
@@ -56,9 +59,11 @@ number c = record { coefficient = c; powers = no_powers }
 abbrev pub size : ℕ → ℕ → Monomial
 size multiple index = record { coefficient = pos multiple; powers = slice_set no_powers index 1 }
 
+-- a monomial's value, where the base names have these values
 abbrev pub monomial_at : List ℕ → Monomial → ℤ
 monomial_at ys m = m.coefficient *ℤ pos (product ys m.powers)
 
+-- it is 0
 abbrev pub is_zero : ℤ → Bool
 is_zero (pos zero) = true
 is_zero (pos (suc n)) = false
@@ -70,6 +75,7 @@ abbrev pub value_at : List ℕ → List Monomial → ℤ
 value_at ys [] = pos 0
 value_at ys (m ∷ p) = monomial_at ys m +ℤ value_at ys p
 
+-- the coefficient, where the powers are the same; else 0
 abbrev pub hit : Place → ℤ → ℤ
 hit Before c = pos 0
 hit Here c = c
@@ -80,6 +86,7 @@ abbrev pub coefficient : List Monomial → List ℕ → ℤ
 coefficient [] ms = pos 0
 coefficient (m ∷ p) ms = hit (place ms m.powers) m.coefficient +ℤ coefficient p ms
 
+-- these powers come before those of each monomial
 abbrev pub AllAfter : List ℕ → List Monomial → Type 0
 AllAfter ms [] = Unit {0}
 AllAfter ms (m ∷ p) = (place ms m.powers ≡ Before) × AllAfter ms p
@@ -94,6 +101,7 @@ abbrev pub AllWide : ℕ → List Monomial → Type 0
 AllWide w [] = Unit {0}
 AllWide w (m ∷ p) = (length m.powers ≡ w) × AllWide w p
 
+-- the greatest degree of its monomials
 abbrev pub degree : List Monomial → ℕ
 degree [] = 0
 degree (m ∷ p) = max (total m.powers) (degree p)
@@ -113,6 +121,7 @@ abbrev pub AllLow : ℕ → List Monomial → Type 0
 AllLow d [] = Unit {0}
 AllLow d (m ∷ p) = (total m.powers ≤ d) × AllLow d p
 
+-- canonical, over eight base names, and within the limits
 pub record IsPoly (p : List Monomial) : Type 0 where
   pub canonical : IsCanonical p
   pub wide : AllWide 8 p
@@ -126,6 +135,7 @@ on (pos zero) ms p = p
 on (pos (suc n)) ms p = record { coefficient = pos (suc n); powers = ms } ∷ p
 on (negsuc n) ms p = record { coefficient = negsuc n; powers = ms } ∷ p
 
+-- c times powers added to m and p, by where they stand to m; the rest is p with them added
 abbrev pub placed : Place → ℤ → List ℕ → Monomial → List Monomial → List Monomial → List Monomial
 placed Before c ms m p rest = on c ms (m ∷ p)
 placed Here c ms m p rest = on (c +ℤ m.coefficient) ms p
@@ -136,20 +146,25 @@ abbrev pub put : ℤ → List ℕ → List Monomial → List Monomial
 put c ms [] = on c ms []
 put c ms (m ∷ p) = placed (place ms m.powers) c ms m p (put c ms p)
 
+-- the polynomial of one monomial
 abbrev pub of_monomial : Monomial → List Monomial
 of_monomial m = put m.coefficient m.powers []
 
 -- a monomial times the second polynomial, added to the third
 abbrev pub added : Monomial → List Monomial → List Monomial → List Monomial
 added by [] sum = sum
-added by (m ∷ p) sum = put (by.coefficient *ℤ m.coefficient) (add_powers by.powers m.powers) (added by p sum)
+added by (m ∷ p) sum =
+    put (by.coefficient *ℤ m.coefficient) (add_powers by.powers m.powers) (added by p sum)
 
+-- the sum of two polynomials
 abbrev pub plus : List Monomial → List Monomial → List Monomial
 plus p q = added (number (pos 1)) q p
 
+-- the first polynomial less the second
 abbrev pub minus : List Monomial → List Monomial → List Monomial
 minus p q = added (number (negsuc 0)) q p
 
+-- the product of two polynomials
 abbrev pub times : List Monomial → List Monomial → List Monomial
 times [] q = []
 times (m ∷ p) q = added m q (times p q)
@@ -161,7 +176,8 @@ limited p =
     (if nat_lt 4 (degree p) then Err (Degree (degree p)) else
     (if nat_lt 4294967296 (greatest p) then Err (Coefficient (greatest p)) else Ok p))
 
--- the answer of a call that works out this polynomial: want of memory, or the polynomial within its limits
+-- the answer of a call that works out this polynomial: want of memory, or
+-- the polynomial within its limits
 abbrev pub Answers : Result (List Monomial) PolyNo → List Monomial → Type 0
 Answers r p = (r ≡ Err Memory) ⊎ (r ≡ limited p)
 
@@ -172,12 +188,18 @@ pub record Divides (d m : Monomial) : Type 0 where
   pub coefficient : int_rem m.coefficient d.coefficient ≡ pos 0
   pub powers : AtMost d.powers m.powers
 
+-- it divides each monomial
 abbrev pub AllDivide : Monomial → List Monomial → Type 0
 AllDivide d [] = Unit {0}
 AllDivide d (m ∷ p) = Divides d m × AllDivide d p
 
+-- the second monomial by the first
 abbrev pub divided : Monomial → Monomial → Monomial
-divided d m = record { coefficient = int_div m.coefficient d.coefficient; powers = less_powers m.powers d.powers }
+divided d m =
+    record {
+      coefficient = int_div m.coefficient d.coefficient;
+      powers = less_powers m.powers d.powers;
+    }
 
 -- each monomial divided
 abbrev pub quotient : Monomial → List Monomial → List Monomial

@@ -1,4 +1,5 @@
-//! Sizes by name, and lengths over them: polynomials whose operations are exact at all admissible sizes.
+//! Sizes by name, and lengths over them: polynomials whose operations are
+//! exact at all admissible sizes.
 #![tactic(auto)]
 
 mod division;

@@ -8,7 +8,8 @@ use std::marker::Model;
 
 /// A declared size: `multiple` times its base name, from `from` to `to`.
 ///
-/// The size `N multiple d` stands for `d` times a base name, so the base name ranges from `from / d` to `to / d`.
+/// The size `N multiple d` stands for `d` times a base name, so the base name
+/// ranges from `from / d` to `to / d`.
 #[derive(Clone, Copy, PartialEq, Eq)]
 pub struct Name {
     pub multiple: u32,
@@ -18,7 +19,8 @@ pub struct Name {
 
 /// The declared sizes in order, at most 8.
 ///
-/// In each, `multiple`, `from` and `to` are 1 to 1,048,576, `from` and `to` are multiples of `multiple`, and `to` isn't below `from`.
+/// In each, `multiple`, `from` and `to` are 1 to 1,048,576, `from` and `to` are multiples of
+/// `multiple`, and `to` isn't below `from`.
 #[derive(Drop)]
 pub struct Names {
     names: Vec<Name>,
@@ -75,7 +77,8 @@ impl Names {
     }
 }
 
-/// The value of each base name, in the order of the names: a size is its name's `multiple` times this.
+/// The value of each base name, in the order of the names: a size is
+/// its name's `multiple` times this.
 #[derive(Drop)]
 pub struct Sizes {
     bases: Vec<u32>,

@@ -23,9 +23,11 @@ pub struct Monomial {
     pub powers: [u8; 8],
 }
 
-/// A polynomial over the base names: a sum of monomials, no two with the same powers and none with coefficient 0.
+/// A polynomial over the base names: a sum of monomials, no two with the same
+/// powers and none with coefficient 0.
 ///
-/// It has at most 32 monomials, degree at most 4, and coefficients from -4,294,967,296 to 4,294,967,296.
+/// It has at most 32 monomials, degree at most 4, and coefficients from
+/// -4,294,967,296 to 4,294,967,296.
 #[derive(Drop)]
 pub struct Poly {
     monomials: Vec<Monomial>,
@@ -213,7 +215,8 @@ impl Poly {
         self.monomials.as_slice()
     }
 
-    /// The sum: the first limit that it passes, or the polynomial whose value is the sum of the values at all sizes.
+    /// The sum: the first limit that it passes, or the polynomial whose value is the
+    /// sum of the values at all sizes.
     pub fn add(&self, alloc: Global, other: &Poly) -> Result<Poly, PolyNo>
         ensures answer { Polynomial.Answers result (Polynomial.plus self.now other.now) }
         ensures exact { IfOk result (λ r. (ys : List ℕ) → Polynomial.value_at ys r
@@ -240,7 +243,8 @@ impl Poly {
         limited(product_of(alloc, &self.monomials, &other.monomials)?)
     }
 
-    /// The polynomial divided by the monomial, or None exactly where some coefficient or power doesn't divide.
+    /// The polynomial divided by the monomial, or None exactly where some
+    /// coefficient or power doesn't divide.
     ///
     /// The quotient times the monomial is this polynomial.
     pub fn divide_exact(
@@ -279,7 +283,9 @@ impl Poly {
         value_of(&self.monomials, sizes.as_slice())
     }
 
-    /// Whether it is shown to be at least k at all admissible sizes: after each base name is replaced by its least value plus a new name, the polynomial less k has no negative coefficient.
+    /// Whether it is shown to be at least k at all admissible sizes: after each
+    /// base name is replaced by its least value plus a new name, the polynomial
+    /// less k has no negative coefficient.
     ///
     /// What is shown holds; what holds need not be shown.
     pub fn shown_at_least(&self, k: u64, names: &Names) -> bool
@@ -291,7 +297,8 @@ impl Poly {
         is_at_least(k, &self.monomials, names.as_slice())
     }
 
-    /// Whether it is shown to be at most k at all admissible sizes: the positive monomials at the greatest sizes add to at most k.
+    /// Whether it is shown to be at most k at all admissible sizes: the positive monomials at the
+    /// greatest sizes add to at most k.
     ///
     /// What is shown holds; what holds need not be shown.
     pub fn shown_at_most(&self, k: u64, names: &Names) -> bool
@@ -312,7 +319,8 @@ impl Poly {
     }
 }
 
-/// Sums, differences and products are those of the values at all sizes, and sums and differences those of the maps; each of them is sorted, with no two monomials alike and no coefficient 0.
+/// Sums, differences and products are those of the values at all sizes, and sums and differences
+/// those of the maps; each of them is sorted, with no two monomials alike and no coefficient 0.
 pub fn operations_are_exact()
     ensures sum { (p q : List Monomial) (ys : List ℕ)
         → Polynomial.value_at ys (Polynomial.plus p q)
@@ -340,7 +348,8 @@ pub fn operations_are_exact()
         → ((ms : List ℕ) → Polynomial.coefficient p ms ≡ Polynomial.coefficient q ms) → p ≡ q }
 {}
 
-/// What is tried for a sign are the coefficients of the polynomial after each base name is replaced by its least value plus a new name.
+/// What is tried for a sign are the coefficients of the polynomial after each base name is replaced
+/// by its least value plus a new name.
 pub fn shifts_are_exact()
     ensures { (ls ys : List ℕ) (p : List Monomial) → Polynomial.IsPoly p → length ls ≡ length ys
         → Polynomial.value_at (Shown.raised ls ys) p

@@ -121,7 +121,8 @@ fn share_of(l: u128, m: u8, j: u8) -> u128
     }
 }
 
-// The coefficient of the new names' powers in the product of these powers, after each name is its least value plus a new name.
+// The coefficient of the new names' powers in the product of these powers, after each name is its
+// least value plus a new name.
 #[tactic(auto, using(crate::proofs::Caps::caps))]
 fn part_of(leasts: &[u32], powers: &[u8], new_powers: &[u8]) -> u128
     requires small { AllUpTo 1048576 leasts.now }
@@ -209,7 +210,8 @@ fn never_negative(
     true
 }
 
-// Whether the polynomial less k, over the names' least values plus new names, has no negative coefficient.
+// Whether the polynomial less k, over the names' least values plus new
+// names, has no negative coefficient.
 pub fn is_at_least(k: u64, monomials: &[Monomial], names: &[Name]) -> bool
     requires poly { IsPoly monomials.now }
     requires few { length names.now ≤ 8 }

@@ -2,7 +2,8 @@
 use Rattle.std.specs.Prelude.{◌≡◌, ◌⊎◌, Result, Ok, Err}
 
 -- what one stage and then another come to: the first stops, or the second goes on from what it made
-abbrev pub Then : {A B E : Type 0} → (Result A E → Type 0) → (A → Result B E → Type 0) → Result B E → Type 0
+abbrev pub Then : {A B E : Type 0} → (Result A E → Type 0) → (A → Result B E → Type 0) → Result B E
+    → Type 0
 Then {A = A} R S (Ok b) = (a : A) × R (Ok a) × S a (Ok b)
 Then {A = A} R S (Err e) = R (Err e) ⊎ ((a : A) × R (Ok a) × S a (Err e))
 

@@ -19,7 +19,7 @@ use Rattle.strategy_script.specs.declared.faults.StepNo.TheVariants as no
 use Rattle.strategy_script.specs.Steps.{State, IsAfter, IsReady, state_of, stepped, refusal_of, at_step, terms_from, terms_of}
 
 pub keeps_itself : (s : Typed) → IsTyped s → IsAfter s s
-keeps_itself s h = record { program = refl; typed = h; keeps = record { typed = λ a t. t; value = λ w vs ok all. refl } }
+keeps_itself s h = record { program = refl; typed = h; keeps = record { typed = λ a t. t; copies = λ h. h; value = λ w vs ok all. refl } }
 
 pub after_both : KeepingGoesOn → (a b c : Typed) → IsAfter a b → IsAfter b c → IsAfter a c
 after_both goes_on a b c f g =
@@ -31,7 +31,8 @@ pub every_more : (a c : Typed) (bs : List Typed) → Every (IsAfter a) bs → Is
 every_more a c [] h k = (k, tt)
 every_more a c (b ∷ bs) h k = (h.0, every_more a c bs h.1 k)
 
--- ---- a script that is being run: so many steps are made, these are left, and these terms stand before the one at hand
+-- ---- a script that is being run: so many steps are made, these are left, and these terms stand
+--   before the one at hand
 pub record IsRunning (p : PlainProgram) (all rest : List Step) (made : ℕ) (source current : Typed) (front : List State) : Type 0 where
   pub whole : terms_of p all (state_of source) ≡ and_then (terms_from p rest made (state_of current)) (λ ts. Ok (front ++ ts))
   pub after : IsAfter source current

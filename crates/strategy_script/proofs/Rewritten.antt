@@ -16,7 +16,7 @@ use Rattle.strategy_script.specs.declared.faults.Fault.TheVariants as fault
 use Rattle.strategy_script.specs.RuleAnswers.{answer}
 use Rattle.strategy_script.specs.Steps.{found, answered, rewritten}
 
--- what keeps the node's type and value at a place keeps the whole's, in every program
+-- what keeps the node's type, copies and value at a place keeps the whole's, in every program
 pub rewrite_keeps : PlacesHaveContexts → RewritesKeepTheWhole → (a b : Around) (t r s u : Tree) (place : List ℕ) → node_at t place ≡ Some r → around_at a t place ≡ Some b → with_at t place s ≡ Some u → KeepsIn b r s → KeepsIn a t u
 rewrite_keeps contexts whole a b t r s u place here around put k d h =
     let c = contexts d a t r place h here in
@@ -34,7 +34,8 @@ no_shape a e = ap answered e
 pub no_side : (a : Answer) (c : Condition) → a ≡ NoSide c → answered a ≡ Err (fault.Stops (Side c))
 no_side a c e = ap answered e
 
--- what is left of a rewrite, once the rule has answered, once it is known what stands around the node, once the node is
+-- what is left of a rewrite, once the rule has answered, once it is known what stands
+-- around the node, once the node is
 abbrev after_answer : Step → Tree → Result Tree Fault → Result Tree Fault
 after_answer s t x = and_then x (λ u. found (with_at t s.place u))
 

@@ -13,6 +13,7 @@ value_after n (d ∷ ds) = value_after (10 * n + (d - 48)) ds
 abbrev pub within : ℕ → Option ℕ
 within n = cond (nat_le n 4294967295) (Some n) None
 
+-- a word of digits alone
 abbrev pub are_digits : List ℕ → Bool
 are_digits word = list_all is_ascii_digit word
 
@@ -26,6 +27,7 @@ number_of_digits (d ∷ e ∷ ds) = cond (d == 48) None (within (value_after 0 (
 abbrev pub number_of : List ℕ → Option ℕ
 number_of word = if are_digits word then number_of_digits word else None
 
+-- a dot
 abbrev pub is_dot : ℕ → Bool
 is_dot b = b == 46
 

@@ -8,6 +8,7 @@ use Rattle.rules_lower.specs.Rules as lower
 use Rattle.strategy_script.specs.declared.rule.Rule.{Rule}
 use Rattle.strategy_script.specs.declared.rule.Rule.TheVariants.{Algebra, Split, Lower}
 
+-- the row of the rule's own crate
 abbrev pub answer : Rule → Around → Tree → Answer
 answer (Algebra rule) a t = algebra.answer rule a t
 answer (Split rule) a t = split.answer rule a t

@@ -9,6 +9,7 @@ use Rattle.rules_split.specs.declared.rule.Rule.TheVariants as split
 use Rattle.strategy_script.specs.declared.rule.Rule.{Rule}
 use Rattle.strategy_script.specs.declared.rule.Rule.TheVariants.{Algebra, Split, Lower}
 
+-- the words for the rules of the terms' algebra
 abbrev pub algebra_name : algebra_rules.Rule → List ℕ
 algebra_name algebra.FuseMap = codes "fuse-map"
 algebra_name algebra.FuseFold = codes "fuse-fold"
@@ -28,6 +29,7 @@ algebra_name algebra.MapPad = codes "map-pad"
 algebra_name algebra.LetInline = codes "let-inline"
 algebra_name algebra.Copy = codes "copy"
 
+-- the words for the rules that cut arrays into pieces, without their numbers
 abbrev pub split_name : split_rules.Rule → List ℕ
 split_name (split.SplitMap n) = codes "split-map"
 split_name (split.SplitReduce n) = codes "split-reduce"
@@ -35,6 +37,7 @@ split_name (split.StrideReduce n) = codes "stride-reduce"
 split_name (split.TileSlide n) = codes "tile-slide"
 split_name split.ReduceFold = codes "reduce-fold"
 
+-- the words for the rules that say how a term is run
 abbrev pub lower_name : lower_rules.Rule → List ℕ
 lower_name lower.ToGlobal = codes "to-glb"
 lower_name lower.ToWorkGroup = codes "to-wrg"
@@ -47,6 +50,7 @@ lower_name lower.LocalCopy = codes "local-copy"
 lower_name lower.PrivateCopy = codes "private-copy"
 lower_name lower.Then = codes "then"
 
+-- the word for a rule
 abbrev pub rule_name : Rule → List ℕ
 rule_name (Algebra rule) = algebra_name rule
 rule_name (Split rule) = split_name rule

@@ -70,7 +70,8 @@ steps_in text = filter_map step_of (lines text)
 abbrev pub script_in : List ℕ → PlainScript
 script_in text = record { local = local_in (lines text); steps = steps_in text }
 
--- each line is a step or none, but for one before all steps that may fix the local size; this is the script
+-- each line is a step or none, but for one before all steps that may fix the
+-- local size; this is the script
 pub record IsScript (text : List ℕ) (script : PlainScript) : Type 0 where
   pub all : good_lines text ≡ length (lines text)
   pub found : script ≡ script_in text

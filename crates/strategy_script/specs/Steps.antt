@@ -36,7 +36,8 @@ answered (Becomes u) = Ok u
 answered NoShape = Err (Stops Shape)
 answered (NoSide c) = Err (Stops (Side c))
 
--- the term with what the step's rule makes of the node at the step's place, where this stands around the term
+-- the term with what the step's rule makes of the node at the step's place,
+-- where this stands around the term
 abbrev pub rewritten : Step → Around → Tree → Result Tree Fault
 rewritten s a t =
     and_then (found (node_at t s.place)) (λ r.
@@ -58,6 +59,7 @@ pub record State : Type 0 where
   pub tree : Tree
   pub types : Annotation
 
+-- a typed term in memory
 abbrev pub state_of : Typed → State
 state_of t = record { tree = tree_of t.term; types = annotation_of t.types }
 
@@ -65,6 +67,7 @@ state_of t = record { tree = tree_of t.term; types = annotation_of t.types }
 abbrev pub around_whole : PlainProgram → State → Around
 around_whole p s = record { names = map range_of p.sizes; binders = []; types = s.types }
 
+-- what stands around a typed term in memory
 abbrev pub whole : Typed → Around
 whole t = around_whole (program_of t.program) (state_of t)
 
@@ -74,11 +77,13 @@ type_fault (refusal.Limit l s c) = Passes (Types l) c
 type_fault (refusal.IllTyped s r) = Memory
 type_fault refusal.Memory = Memory
 
+-- the term and its types, or the limit on types that it passes
 abbrev pub with_types : Tree → Result Annotation TypeRefusal → Result State Fault
 with_types t (Ok n) = Ok (record { tree = t; types = n })
 with_types t (Err e) = Err (type_fault e)
 
--- the term after a step, with its types: its nodes, its height and the limits on types are judged in this order
+-- the term after a step, with its types: its nodes, its height and the limits on
+-- types are judged in this order
 abbrev pub stepped : PlainProgram → Step → State → Result State Fault
 stepped p step s =
     and_then (rewritten step (around_whole p s) s.tree)
@@ -91,11 +96,13 @@ refusal_of k (Stops why) = no.Inapplicable k why
 refusal_of k (Passes l n) = no.Limit l k n
 refusal_of k Memory = no.Memory
 
+-- the term, or the refusal of the step of this number
 abbrev pub at_step : ℕ → Result State Fault → Result State StepNo
 at_step k (Ok t) = Ok t
 at_step k (Err f) = Err (refusal_of k f)
 
--- the term, which stands behind k steps, and the term after each further step; or the first step that isn't made
+-- the term, which stands behind k steps, and the term after each further step; or
+-- the first step that isn't made
 abbrev pub terms_from : PlainProgram → List Step → ℕ → State → Result (List State) StepNo
 terms_from p [] k s = Ok (s ∷ [])
 terms_from p (step ∷ steps) k s =
@@ -111,7 +118,8 @@ pub record IsLastTerm (p : PlainProgram) (steps : List Step) (s last : State) : 
   pub front : List State
   pub made : terms_of p steps s ≡ Ok (front ++ last ∷ [])
 
--- a typed term of the same program, with the source's type and value
+-- a typed term of the same program, with the source's type and value; it copies nothing but arrays
+-- where the source does
 pub record IsAfter (source t : Typed) : Type 0 where
   pub program : program_of t.program ≡ program_of source.program
   pub typed : IsTyped t

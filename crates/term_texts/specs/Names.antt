@@ -15,6 +15,7 @@ use Rattle.lift_tree.specs.declared.term.FoldKind.{FoldKind}
 use Rattle.lift_tree.specs.declared.term.FoldKind.TheVariants as fold
 use Rattle.lift_tree.specs.Programs.{PlainInput}
 
+-- the word of an operator that may reduce
 abbrev pub reducer_name : Reducer → List ℕ
 reducer_name Add = codes "add"
 reducer_name Mul = codes "mul"
@@ -24,6 +25,7 @@ reducer_name And = codes "and"
 reducer_name Or = codes "or"
 reducer_name Xor = codes "xor"
 
+-- the word of an operator
 abbrev pub operator_name : Operator → List ℕ
 operator_name (Regrouping r) = reducer_name r
 operator_name Sub = codes "sub"
@@ -32,19 +34,21 @@ operator_name Shr = codes "shr"
 operator_name Lt = codes "lt"
 operator_name Eq = codes "eq"
 
+-- the form is a reduction
 abbrev pub is_reduce : BinaryForm → Bool
 is_reduce (binary.Operator o) = false
 is_reduce binary.Pair = false
 is_reduce binary.Zip = false
 is_reduce (binary.Reduce r) = true
 
--- what stands before the first child
+-- what stands before the first child that is written
 abbrev pub binary_start : BinaryForm → List ℕ
 binary_start (binary.Operator o) = operator_name o ++ codes "("
 binary_start binary.Pair = codes "pair("
 binary_start binary.Zip = codes "zip("
 binary_start (binary.Reduce r) = codes "reduce(" ++ reducer_name r ++ codes ", "
 
+-- the word of a map, by who runs its turns
 abbrev pub map_name : MapKind → List ℕ
 map_name map.Plain = codes "map"
 map_name map.Global = codes "mapGlb"
@@ -52,6 +56,7 @@ map_name map.WorkGroup = codes "mapWrg"
 map_name map.Local = codes "mapLcl"
 map_name map.Sequential = codes "mapSeq"
 
+-- the word of a fold, by who runs it
 abbrev pub fold_name : FoldKind → List ℕ
 fold_name fold.Plain = codes "fold"
 fold_name fold.Sequential = codes "foldSeq"

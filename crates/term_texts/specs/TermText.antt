@@ -15,6 +15,7 @@ use Rattle.term_texts.specs.Names.{is_reduce, binary_start, map_name, fold_name,
 abbrev pub binder_text : ℕ → List ℕ
 binder_text k = codes "_" ++ decimal k
 
+-- the two numbers of a slide or a pad, each with a comma behind it
 abbrev pub two_numbers : ℕ → ℕ → List ℕ
 two_numbers m n = decimal m ++ codes ", " ++ decimal n ++ codes ", "
 
@@ -47,16 +48,19 @@ unary_end (Div n) = codes ", " ++ decimal n ++ codes ")"
 unary_end (Rem n) = codes ", " ++ decimal n ++ codes ")"
 unary_end f = codes ")"
 
--- what stands before a let's value, a map's body and a fold's, where there are k binders around it
+-- what stands before a let's value, where there are k binders around it
 abbrev pub let_start : ℕ → List ℕ
 let_start k = codes "let " ++ binder_text k ++ codes " = "
 
+-- what stands before a map's body, where there are k binders around it
 abbrev pub map_start : MapKind → ℕ → List ℕ
 map_start h k = map_name h ++ codes "(\\" ++ binder_text k ++ codes ". "
 
+-- a fold's two binders, by their numbers
 abbrev pub fold_binders : ℕ → ℕ → List ℕ
 fold_binders k l = codes "(\\" ++ binder_text k ++ codes " " ++ binder_text l
 
+-- what stands before a fold's body, where there are k binders around it
 abbrev pub fold_start : FoldKind → ℕ → List ℕ
 fold_start h k = fold_name h ++ fold_binders k (k + 1) ++ codes ". "
 

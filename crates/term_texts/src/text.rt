@@ -13,9 +13,12 @@ use lift_tree::program::Program;
 use lift_tree::term::{FoldKind, MapKind, Term, UnaryForm};
 use std::alloc::{AllocError, Global};
 
-/// A term of the program as a text, in the syntax of programs: the function first, and `_k` for a binder with k binders around it.
+/// A term of the program as a text, in the syntax of programs: the function first, and `_k` for a
+/// binder with k binders around it.
 ///
-/// Each variable has its binder in the term, and each input and size that the term names is the program's. The product of each split's and each stride's numbers is at most 4,294,967,296; the text's stands still at 2^64 - 1.
+/// Each variable has its binder in the term, and each input and size that the term names is the
+/// program's. The product of each split's and each stride's numbers is at most 4,294,967,296; the
+/// text's stands still at 2^64 - 1.
 pub fn term_text(alloc: Global, term: &Term, program: &Program) -> Result<Vec<u8>, AllocError>
     ensures { IfOk result (λ text. text.items
         ≡ text_of (program_of program.now) (tree_of term.now)) }

@@ -19,6 +19,7 @@ abbrev pub found : Option Broken → Option (List ℕ × NestRule)
 found None = None
 found (Some b) = Some (b.place, b.rule)
 
+-- a fault in the child of this number, with its place seen from the parent
 abbrev pub from_child : ℕ → Option (List ℕ × NestRule) → Option (List ℕ × NestRule)
 from_child i (Some (p, r)) = Some (i ∷ p, r)
 from_child i None = None

@@ -19,7 +19,8 @@ use std::alloc::{AllocError, Global};
 /// Why a term isn't printed.
 #[derive(Drop)]
 pub enum NestNo {
-    /// The first cut between two kernels in preorder; or, where there is none, the first node at which a rule is broken, and the lowest such rule.
+    /// The first cut between two kernels in preorder; or, where there is none, the first node at
+    /// which a rule is broken, and the lowest such rule.
     Nest { place: Place, rule: NestRule },
     /// Memory ran out.
     Memory,
@@ -77,7 +78,8 @@ fn earlier(first: Option<Broken>, second: Option<Broken>) -> Option<Broken>
     if first.is_some() { first } else { second }
 }
 
-// The first of these nodes and those below them at which one of the rules is broken, seen from their parent.
+// The first of these nodes and those below them at which one of the rules is
+// broken, seen from their parent.
 #[tactic(auto, using(crate::proofs::Sites::first_under, crate::proofs::Sites::first_of_two_children, crate::proofs::Sites::first_of_three_children))]
 #[cycle(judging)]
 fn first_among(
@@ -113,8 +115,8 @@ fn first_in(rules: &[NestRule], node: Node<'_>, alloc: Global) -> Result<Option<
     Ok(earlier(own, later))
 }
 
-// The first node of a whole term at which a rule is broken that isn't judged before all others, that
-// of a fixed local size behind the root's own.
+// The first node of a whole term at which a rule is broken that isn't judged before all others,
+// that of a fixed local size behind the root's own.
 fn first_in_whole(
     root: Node<'_>,
     local: Option<u32>,
@@ -139,11 +141,11 @@ fn fault(alloc: Global, lowered: &Lowered, local: Option<u32>) -> Result<Option<
     Ok(earlier(cut, other))
 }
 
-/// Judges the nest of a lowered term, with the local size of all launches, where one is fixed: whether
-/// it has a cut between two kernels, then by eleven rules at each node, and by one of that size at the
-/// root, behind the root's own and before all nodes below it. `Nest` comes exactly where there is a
-/// cut, with the first in preorder, or where another rule is broken, with the first node in preorder
-/// and the lowest rule there.
+/// Judges the nest of a lowered term, with the local size of all launches, where one is fixed:
+/// whether it has a cut between two kernels, then by eleven rules at each node, and by one of that
+/// size at the root, behind the root's own and before all nodes below it. `Nest` comes exactly
+/// where there is a cut, with the first in preorder, or where another rule is broken, with the
+/// first node in preorder and the lowest rule there.
 pub fn judge(alloc: Global, lowered: Lowered, local: Option<LocalSize>) -> Result<Mapped, NestNo>
     ensures legal { IfOk result (λ m. m.lowered ≡ lowered) }
     ensures size { IfOk result (λ m. m.local ≡ size_fixed local) }

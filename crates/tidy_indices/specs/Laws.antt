@@ -54,6 +54,7 @@ TidyFormulasKeepValues =
     → AreNames names → Admissible names bases → l.sizes ≡ sizes_at names bases
     → IsLaunchFor local l → KeepsValues (tidy_formula names local) l
 
+-- at any sizes, they are no larger, and of the kernel grammar
 abbrev pub TidyFormulasAreNoLarger : Type 0
 TidyFormulasAreNoLarger =
     (names : List Name) (local : Option (ℕ × ℕ)) → KeepsSmall (tidy_formula names local)

@@ -22,13 +22,21 @@ pub record PlainPlace : Type 0 where
   pub lasts : List ℕ
   pub is_known : Bool
 
+-- the place that lies in memory
 abbrev pub plain_place : Place → PlainPlace
-plain_place p = record { sizes = p.sizes.items; around = ranges_of p.around; lasts = p.lasts.items; is_known = p.is_known }
+plain_place p =
+    record {
+      sizes = p.sizes.items;
+      around = ranges_of p.around;
+      lasts = p.lasts.items;
+      is_known = p.is_known;
+    }
 
 -- of sizes alone
 abbrev pub ranges_outside : List Name → PlainRanges
 ranges_outside names = record { lengths = []; multiples = map (λ n. n.multiple) names }
 
+-- the same without what is known of turns
 abbrev pub without_turns : PlainRanges → PlainRanges
 without_turns r = record { lengths = []; multiples = r.multiples }
 
@@ -40,6 +48,7 @@ beyond_words = Binary Product (Literal 65536) (Literal 65536)
 abbrev pub group_length : Expression
 group_length = Literal 65536
 
+-- the greatest id that a group may have
 abbrev pub group_last : ℕ
 group_last = 65535
 
@@ -49,6 +58,7 @@ abbrev pub local_length : Option (ℕ × ℕ) → Expression
 local_length (Some size) = Literal size.0
 local_length None = beyond_words
 
+-- the greatest id that an item may have in its group
 abbrev pub local_last : Option (ℕ × ℕ) → ℕ
 local_last (Some size) = size.0 - 1
 local_last None = 4294967295
@@ -79,6 +89,7 @@ abbrev pub in_loop_of : PlainPlace → Expression → Option Span → PlainPlace
 in_loop_of p e (Some s) = with_loop p (simple (without_turns p.around) e) (s.greatest - 1)
 in_loop_of p e None = with_loop p beyond_words 4294967295
 
+-- in one loop more; where its bound spells no index expression, this is noted
 abbrev pub in_loop : PlainPlace → Option Expression → PlainPlace
 in_loop p (Some e) = in_loop_of p e (span_of p.sizes [] e)
 in_loop p None = record { sizes = p.sizes; around = p.around; lasts = p.lasts; is_known = false }
@@ -93,8 +104,8 @@ asked_turn (FromGroupId X) = Some 0
 asked_turn (FromLocalId X) = Some 1
 asked_turn _ = None
 
--- the shorter of two lengths in numbers; else the one that is told last, since how great the turn is
--- at most tells the number too
+-- the shorter of two lengths in numbers; else the one that is told last, since how great the turn
+-- is at most tells the number too
 abbrev pub shorter : (known told : Expression) → Expression
 shorter (Literal m) (Literal n) = Literal (min m n)
 shorter _ e = e
@@ -129,6 +140,7 @@ abbrev pub with_turn_in : PlainPlace → (turn : ℕ) → Option Expression → 
 with_turn_in p k (Some e) = with_turn_within p k e (span_of p.sizes [] e)
 with_turn_in p k None = p
 
+-- in an `if` more, which asks of this turn, or of none
 abbrev pub in_if : PlainPlace → (turn : Option ℕ) → (bound : Option Expression) → PlainPlace
 in_if p (Some k) e = with_turn_in p k e
 in_if p None e = p
@@ -147,5 +159,6 @@ abbrev pub within_all : PlainPlace → List Around → PlainPlace
 within_all p [] = p
 within_all p (x ∷ around) = within_all (within p x) around
 
+-- in statements, the outermost first, in a kernel with these sizes
 abbrev pub place_of : List Name → (local : Option (ℕ × ℕ)) → List Around → PlainPlace
 place_of names local around = within_all (outside names local) around

@@ -21,6 +21,7 @@ operation_of Min = Some Least
 operation_of Max = Some Greatest
 operation_of _ = None
 
+-- the operation on the two, where all three are there
 abbrev pub on_both : Option Operation → Option Expression → Option Expression → Option Expression
 on_both (Some o) (Some a) (Some b) = Some (index.Binary o a b)
 on_both _ _ _ = None
@@ -39,6 +40,7 @@ reading (Size k) = Some (index.Size k)
 reading (Binary o a b) = on_both (operation_of o) (reading a) (reading b)
 reading _ = None
 
+-- it is an operation of index expressions
 abbrev pub IsIndexOperator : Op → Type 0
 IsIndexOperator Add = Unit {0}
 IsIndexOperator Sub = Unit {0}

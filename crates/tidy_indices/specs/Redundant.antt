@@ -5,6 +5,7 @@ use Rattle.scalar_ops.specs.declared.op.Op.TheVariants.{Add, Sub, Mul, Min, Max,
 use Rattle.kernel_tree.specs.Formula.{Formula, Number, Binary, Choose}
 use Rattle.length_spelling.specs.Turns.{turn_formula}
 
+-- something simpler has its value
 pub data IsRedundant : Formula → Type 0 where
   SumOfNumbers : (m n : ℕ) → m + n < 2 ^ 32 → IsRedundant (Binary Add (Number m) (Number n))
   ProductOfNumbers : (m n : ℕ) → m * n < 2 ^ 32 → IsRedundant (Binary Mul (Number m) (Number n))
@@ -29,5 +30,6 @@ pub data IsRedundant : Formula → Type 0 where
 -- no part of it is redundant
 abbrev pub IsIrredundant : Formula → Type 0
 IsIrredundant (Binary o a b) = (IsRedundant (Binary o a b) → ⊥) × IsIrredundant a × IsIrredundant b
-IsIrredundant (Choose c a b x y) = IsIrredundant a × IsIrredundant b × IsIrredundant x × IsIrredundant y
+IsIrredundant (Choose c a b x y) =
+    IsIrredundant a × IsIrredundant b × IsIrredundant x × IsIrredundant y
 IsIrredundant _ = Unit {0}

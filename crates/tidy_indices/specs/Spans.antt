@@ -8,6 +8,7 @@ use Rattle.index_expr.specs.Expression.{Expression, Variable, Literal, Size, Bin
 use Rattle.index_simplify.specs.Literals.{word, difference}
 use Rattle.tidy_indices.specs.declared.spans.Span.{Span}
 
+-- from the one number to the other
 abbrev pub from_to : ℕ → ℕ → Span
 from_to l g = record { least = l; greatest = g }
 
@@ -16,6 +17,7 @@ abbrev pub between : Option ℕ → Option ℕ → Option Span
 between (Some l) (Some g) = Some (from_to l g)
 between _ _ = None
 
+-- the quotient, where the divisor isn't 0
 abbrev pub quotient : ℕ → ℕ → Option ℕ
 quotient m zero = None
 quotient m (suc n) = Some (m / suc n)
@@ -26,18 +28,22 @@ operated Sum a b = between (word (a.least + b.least)) (word (a.greatest + b.grea
 operated Difference a b = between (difference a.least b.greatest) (difference a.greatest b.least)
 operated Product a b = between (word (a.least * b.least)) (word (a.greatest * b.greatest))
 operated Quotient a b = between (quotient a.least b.greatest) (quotient a.greatest b.least)
-operated Remainder a b = if nat_lt 0 b.least then Some (from_to 0 (min a.greatest (b.greatest - 1))) else None
+operated Remainder a b =
+    if nat_lt 0 b.least then Some (from_to 0 (min a.greatest (b.greatest - 1))) else None
 operated Least a b = Some (from_to (min a.least b.least) (min a.greatest b.greatest))
 operated Greatest a b = Some (from_to (max a.least b.least) (max a.greatest b.greatest))
 
+-- the same on spans that are known
 abbrev pub operated_on : Operation → Option Span → Option Span → Option Span
 operated_on o (Some a) (Some b) = operated o a b
 operated_on o _ _ = None
 
+-- from 0 to the greatest turn, where this is known
 abbrev pub turns_up_to : Option ℕ → Option Span
 turns_up_to (Some g) = Some (from_to 0 g)
 turns_up_to None = None
 
+-- the range of a size, where it is declared
 abbrev pub declared_from_to : Option Name → Option Span
 declared_from_to (Some n) = Some (from_to n.from n.to)
 declared_from_to None = None

@@ -36,13 +36,18 @@ SimpleFormulasHaveTheValues =
 
 -- the second is of the kernel grammar where the first is, and no larger
 pub record IsNoLarger (one other : Formula) : Type 0 where
-  pub declared : (k : Kernel) (loops : ℕ) → names_declared k loops one ≡ true → names_declared k loops other ≡ true
+  pub declared : (k : Kernel) (loops : ℕ) → names_declared k loops one ≡ true
+      → names_declared k loops other ≡ true
   pub constant : is_constant one ≡ true → is_constant other ≡ true
   pub low : height other ≤ height one
   pub nodes : formula_nodes other ≤ formula_nodes one
 
+-- the simplified spelling is no larger than the plain one
 abbrev pub SimpleFormulasAreNoLarger : Type 0
-SimpleFormulasAreNoLarger = (r : PlainRanges) (e : Expression) → IsNoLarger (index_formula e) (simple_formula r e)
+SimpleFormulasAreNoLarger =
+    (r : PlainRanges) (e : Expression) → IsNoLarger (index_formula e) (simple_formula r e)
 
+-- no part of a simplified spelling is redundant
 abbrev pub SimpleFormulasAreIrredundant : Type 0
-SimpleFormulasAreIrredundant = (r : PlainRanges) (e : Expression) → IsIrredundant (simple_formula r e)
+SimpleFormulasAreIrredundant =
+    (r : PlainRanges) (e : Expression) → IsIrredundant (simple_formula r e)

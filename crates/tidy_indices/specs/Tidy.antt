@@ -15,10 +15,12 @@ abbrev pub tidied_by : PlainPlace → Option Span → Expression → Formula
 tidied_by p (Some s) e = simple_formula p.around (narrowed p.lasts e)
 tidied_by p None e = simple_formula (without_turns p.around) e
 
+-- by its reading; what spells no index expression stays
 abbrev pub tidied_reading : PlainPlace → Formula → Option Expression → Formula
 tidied_reading p f (Some e) = tidied_by p (span_of p.sizes p.lasts e) e
 tidied_reading p f None = f
 
+-- at a place; where a bound around spells no index expression, all stays
 abbrev pub tidied_at : PlainPlace → Formula → Formula
 tidied_at p f = if p.is_known then tidied_reading p f (reading f) else f
 

@@ -112,8 +112,8 @@ fn asked_turn(start: Start) -> Option<u32>
     }
 }
 
-// The shorter of two lengths in numbers; else the one that is told last, since how great the turn is
-// at most tells the number too.
+// The shorter of two lengths in numbers; else the one that is told last, since how great the turn
+// is at most tells the number too.
 fn shorter(known: &Index, told: Index) -> Index
     ensures { expression_of result ≡ spec.shorter (expression_of known.now) (expression_of told) }
 {

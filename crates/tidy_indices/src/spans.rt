@@ -134,8 +134,9 @@ fn narrowed_end(lasts: &[u32], turn: u32, end: u32) -> u32
     }
 }
 
-/// The same index expression, where the range of each id ends where its turn does. A loop's variable
-/// keeps its range, so a kernel for groups of any size is what its loops' lengths alone make of it.
+/// The same index expression, where the range of each id ends where its turn does. A
+/// loop's variable keeps its range, so a kernel for groups of any size is what its
+/// loops' lengths alone make of it.
 pub fn narrowed(alloc: Global, index: &Index, lasts: &[u32]) -> Result<Index, AllocError>
     ensures { IfOk result (λ e. expression_of e
         ≡ spec.narrowed lasts.now (expression_of index.now)) }

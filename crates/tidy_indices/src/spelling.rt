@@ -1,4 +1,4 @@
-// Expressions of a kernel for simplified index expressions.
+//! Expressions of a kernel for simplified index expressions.
 
 ghost use Rattle.std.specs.Prelude.{◌≡◌, IfOk};
 ghost use Rattle.index_expr.specs.Expression.{expression_of};

@@ -17,6 +17,7 @@ use Rattle.printed_form.specs.Form.{start_of, IsTurnOf, argument_marks}
 use Rattle.printed_form.specs.Whole.{no_marks, output_marks}
 use Rattle.printed_form.specs.Printer.{input_marks}
 use Rattle.printed_form.specs.Programs.{input_shape, first_buffer, lowered_root}
+use Rattle.printed_form.proofs.Programs.{declares_too}
 use Rattle.group_phases.specs.Epochs.{IsPast}
 use Rattle.group_form.specs.ChosenForms.{forms_of}
 use Rattle.group_form.specs.Origins.{local_count}
@@ -121,14 +122,7 @@ code_is loaded mapped num forms l ins fence env tidy t to code keeps h = over_gr
 
 pub kernel_is : TidiedLoadsArePrinted → TidiedMapsArePrinted (List Monomial) → TidiedGroupKernelsArePrinted
 kernel_is loaded mapped d size bases t a l tidy k keeps h = record {
-  inputs = h.inputs;
-  outputs = h.outputs;
-  sizes = h.sizes;
-  locals = h.locals;
-  privates = h.privates;
-  variables = h.variables;
-  vectors = h.vectors;
-  local = h.local;
+  declares = declares_too d size t a k (tidied_code tidy [] k.code) h.declares;
   fence = h.fence;
   needed = h.needed;
   code = over_groups loaded mapped (length_at bases) (forms_of d.names size) l (input_marks (length_at bases) (first_buffer d.inputs) (input_shape d.inputs)) h.fence tidy keeps no_marks (lowered_root d.names t a) (output_marks (ty_at bases (type_in a))) k.code h.code;

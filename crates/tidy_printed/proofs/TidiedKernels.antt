@@ -14,6 +14,7 @@ use Rattle.printed_form.specs.Form.{argument_marks}
 use Rattle.printed_form.specs.Whole.{IsOverLaunch, no_marks, output_marks}
 use Rattle.printed_form.specs.Printer.{input_marks}
 use Rattle.printed_form.specs.Programs.{input_shape, first_buffer, lowered_root}
+use Rattle.printed_form.proofs.Programs.{declares_too}
 use Rattle.tidy_indices.specs.Laws.{Change, KeepsValues}
 use Rattle.tidy_kernels.specs.Pass.{tidied_code}
 use Rattle.tidy_printed.specs.Terms.{TidiedCodesArePrinted, TidiedKernelsArePrinted}
@@ -41,13 +42,6 @@ code_is l ins num tidy t ty code keeps (inr h) = inr (λ item lt. over_launch l 
 
 pub kernel_is : TidiedKernelsArePrinted
 kernel_is d size bases t a l tidy k keeps h = record {
-  inputs = h.inputs;
-  outputs = h.outputs;
-  sizes = h.sizes;
-  locals = h.locals;
-  privates = h.privates;
-  variables = h.variables;
-  vectors = h.vectors;
-  local = h.local;
+  declares = declares_too d size t a k (tidied_code tidy [] k.code) h.declares;
   code = code_is l (input_marks (length_at bases) (first_buffer d.inputs) (input_shape d.inputs)) (length_at bases) tidy (lowered_root d.names t a) (ty_at bases (type_in a)) k.code keeps h.code;
 }

@@ -25,6 +25,7 @@ use Rattle.group_form.specs.ChosenForms.{forms_of}
 abbrev pub IndexNodes : Type 0
 IndexNodes = List Bool → List ℕ → Option ℕ
 
+-- no array holds any scalar
 abbrev pub no_index : IndexNodes
 no_index = λ cs ns. None
 
@@ -37,7 +38,8 @@ abbrev pub after_loads : LoadSet → IndexNodes → IndexNodes
 after_loads Skip x = x
 after_loads Take x = no_index
 after_loads (Each a b) x =
-    by_side (λ ns. None) (after_loads a (λ cs. x (false ∷ cs))) (after_loads b (λ cs. x (true ∷ cs)))
+    by_side (λ ns. None) (after_loads a (λ cs. x (false ∷ cs)))
+    (after_loads b (λ cs. x (true ∷ cs)))
 
 -- the limit of a load or a store, and then these
 abbrev pub index_limit : Option ℕ → (after : List ℕ) → List ℕ
@@ -75,10 +77,11 @@ form_of_map forms WorkGroup n = form_over_groups (forms.once n)
 abbrev pub array_nodes : {A : Type 0} → (A → Expression) → Shape A → IndexNodes
 array_nodes spell t = λ cs ns. Some (placed_nodes short_nodes (spelled_shape spell t) ns)
 
--- and through a layout, from its result to its operand and from its operand to its result
+-- and of a value that is read through a layout, from its result to its operand
 abbrev pub read_through : {A : Type 0} → (A → Expression) → Layout A → IndexNodes → IndexNodes
 read_through spell y x = λ cs ns. x cs (operand_nodes short_nodes (spelled_layout spell y) ns)
 
+-- and where it is written through one, from its operand to its result
 abbrev pub written_through : {A : Type 0} → (A → Expression) → Layout A → IndexNodes → IndexNodes
 written_through spell y to = λ cs ns. to cs (result_nodes short_nodes (spelled_layout spell y) ns)
 
@@ -109,7 +112,8 @@ module _ {A : Type 0} (spell : A → Expression) (forms : MapForms A) (src : ℕ
     argument_limits env (Reshape y x) after = argument_limits env x after
     argument_limits env (LetArray v b) after =
         argument_limits env v (argument_limits (push (argument_nodes env v) env) b after)
-    argument_limits env (Copy space ty x) after = written_limits env x (array_nodes Literal ty) after
+    argument_limits env (Copy space ty x) after =
+        written_limits env x (array_nodes Literal ty) after
     argument_limits env _ after = after
 
     -- and of a term in writing position, whose scalars go there

@@ -27,9 +27,9 @@ pub record IsTidyIndex (most : ℕ) (f : Formula) : Type 0 where
 abbrev pub IsTidyFor : Declared → (local : Option ℕ) → Tree → Annotation → Kernel → Type 0
 IsTidyFor d local t a k = EachWithin IsTidyIndex (limits_of d local t a) (indices_then k.code [])
 
--- in ifs, and in loops whose bounds spell index expressions, it makes of each such formula one without redundant
--- parts and, where sizes are divided as they are declared, with no more nodes than are counted in
--- short
+-- in ifs, and in loops whose bounds spell index expressions, it makes of each such formula one
+-- without redundant parts and, where sizes are divided as they are declared, with no more nodes
+-- than are counted in short
 pub record MakesTidy (names : List Name) (tidy : Change) : Type 0 where
   pub irredundant : (around : List Around) (f : Formula) → HaveIndexBounds around
       → IsIndexFormula f → IsIrredundant (tidy around f)

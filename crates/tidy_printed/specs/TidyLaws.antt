@@ -26,6 +26,7 @@ use Rattle.tidy_printed.specs.Tidy.{IsTidyFor, IsTidyIndex, MakesTidy}
 abbrev pub StandsForItems : Lowered → Type 0
 StandsForItems t = Stands true t ⊎ StandsOverLaunch t
 
+-- what is printed for a term has declared indices and bounds alone, within its limits
 abbrev pub TermsHaveIndexFormulas : Type 0
 TermsHaveIndexFormulas =
     (d : Declared) (size : Option ℕ) (t : Tree) (a : Annotation)
@@ -34,6 +35,7 @@ TermsHaveIndexFormulas =
     → StandsForItems (lowered_root d.names t a) → is_kernel plain ≡ true
     → EachWithin (IsDeclaredIndex d.names) (limits_of d size t a) (indices_then plain.code []))
 
+-- and what is printed for a map over work-groups
 abbrev pub GroupsHaveIndexFormulas : Type 0
 GroupsHaveIndexFormulas =
     (d : Declared) (size : Option ℕ) (fence : ℕ → Fencing) (t : Tree) (a : Annotation)
@@ -42,6 +44,7 @@ GroupsHaveIndexFormulas =
     → StandsOverGroups (lowered_root d.names t a) → is_kernel plain ≡ true
     → EachWithin (IsDeclaredIndex d.names) (limits_of d size t a) (indices_then plain.code []))
 
+-- once the kernel is tidied, they are tidy within the limits
 abbrev pub TidiedTermsAreTidy : Type 0
 TidiedTermsAreTidy =
     (d : Declared) (size : Option ℕ) (t : Tree) (a : Annotation) (tidy : Change)
@@ -50,9 +53,11 @@ TidiedTermsAreTidy =
     → StandsForItems (lowered_root d.names t a) → is_kernel plain ≡ true → MakesTidy d.names tidy
     → IsTidyFor d size t a (tidied_kernel tidy plain))
 
+-- and so they are for a map over work-groups
 abbrev pub TidiedGroupsAreTidy : Type 0
 TidiedGroupsAreTidy =
-    (d : Declared) (size : Option ℕ) (fence : ℕ → Fencing) (t : Tree) (a : Annotation) (tidy : Change)
+    (d : Declared) (size : Option ℕ) (fence : ℕ → Fencing) (t : Tree) (a : Annotation)
+    (tidy : Change)
     →
     (let plain = printed_group_kernel (length_formula d.names) fence d size t a in AreNames d.names
     → StandsOverGroups (lowered_root d.names t a) → is_kernel plain ≡ true

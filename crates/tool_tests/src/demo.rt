@@ -7,8 +7,7 @@ use std::test::Fail;
 const SEVENTH: &str = "demo 7: events 72448, releases 128, sum 1541060608\n";
 
 // Each number of the data is in three windows: itself, and once more for each of its neighbours,
-// for
-// which it stands itself at the ends.
+// for which it stands itself at the ends.
 fn tripled_sum(seed: u32) -> u32 {
     let mut state = seed;
     let mut sum: u32 = 0;

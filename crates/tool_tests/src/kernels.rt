@@ -52,16 +52,16 @@ const PROGRAMS: [&str; 4] = [
     "size N from 1 to 3; input xs: [u32; N]; output map(\\a2345678901234567890123456789012. add(a2345678901234567890123456789012, 1), xs)",
 ];
 
-// Scripts that leave the first program's map sequential: of the last, the copy is fused and its let
-// put in.
+// Scripts that leave the first program's map sequential: of the last, the copy is fused and
+// its let put in.
 const SCRIPTS: [&str; 3] = [
     "# first\n \t\n  at\t.  to-seq \r\n#\r\n",
     "at . to-seq\n",
     "at 0 copy\nat . fuse-map\nat 1 let-inline\nat . to-seq",
 ];
 
-// Other writings of the first launch file. One work-item has one enabled event, so each schedule
-// takes it.
+// Other writings of the first launch file. One work-item has one enabled event, so
+// each schedule takes it.
 const LAUNCHES: [&str; 4] = [
     " {\"inputs\":{\"ys\":0,\"xs\":[1,2,4294967295]},\"name\":null,\"sizes\":{\"N\":3,\"M\":[]},\"local\":1,\"global\":1} ",
     "{\"global\":2,\"global\":1,\"local\":1,\"sizes\":{\"\\u004e\":3},\"inputs\":{\"xs\":[1,2,4294967295]}}",

@@ -78,8 +78,7 @@ fn other_launch_files_run_alike(rt: HostRuntime) -> Result<(), Fail> {
 }
 
 // Each kernel has launches of its own: one item has 4 turns of 3 events and the end of its loop,
-// and
-// each of four a turn and the end.
+// and each of four a turn and the end.
 #[test]
 fn each_kernel_has_its_own_launch(rt: HostRuntime) -> Result<(), Fail> {
     let call = Call {

@@ -5,11 +5,11 @@ use crate::kernels::around;
 use std::alloc::{AllocError, Global};
 use std::test::Fail;
 
-// A program, a script as its beginning, a text so many times and its end, a launch file and the
-// line
-// of the run. One work-item's loop over n numbers is 3n + 1 events: each copy to private memory is
-// one, and so is the map behind the copies. Each of four items has one turn of each phase, of 4
-// events, and one of the loop around them, of 2. Four components are 4 loads and 4 stores.
+// A program, a script as its beginning, a text so many times and its end, a launch file and
+// the line of the run. One work-item's loop over n numbers is 3n + 1 events: each copy to
+// private memory is one, and so is the map behind the copies. Each of four items has one turn
+// of each phase, of 4 events, and one of the loop around them, of 2. Four components are 4
+// loads and 4 stores.
 const FULL: [(&str, (&str, &str, usize, &str), &str, &str); 3] = [
     // 16 private arrays
     (

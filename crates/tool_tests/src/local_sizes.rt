@@ -105,10 +105,8 @@ fn maps_in_a_group_are_printed_by_its_size(rt: HostRuntime) -> Result<(), Fail> 
 }
 
 // A script, a launch and the line of its run. By two, each of 4 work-items enters and leaves the
-// loop
-// over groups and does 4 statements. By four, the first two have 3 tests of the loop and two turns
-// of 2
-// tests and 4 statements; the others 3 tests and two turns of 2.
+// loop over groups and does 4 statements. By four, the first two have 3 tests of the loop and two
+// turns of 2 tests and 4 statements; the others 3 tests and two turns of 2.
 const RUNS: [(&str, &str, &str); 2] = [
     (
         BY_TWO,
@@ -152,8 +150,7 @@ fn a_group_without_a_turn_passes(rt: HostRuntime) -> Result<(), Fail> {
 }
 
 // Launches of the pairs by other groups than of two. The inputs are looked at later, and the groups
-// of
-// the last are none of any size.
+// of the last are none of any size.
 const OTHER_LAUNCHES: [(&str, &str); 3] = [
     (
         "{\"global\":4,\"local\":1,\"sizes\":{\"N\":4},\"inputs\":{\"xs\":[1,2,3,4]}}",
@@ -183,8 +180,8 @@ fn groups_of_another_size_are_refused(rt: HostRuntime) -> Result<(), Fail> {
     Ok(())
 }
 
-// Groups of one, by one work-item: a launch of two is refused for its groups, before its
-// work-items.
+// Groups of one, by one work-item: a launch of two is refused for its
+// groups, before its work-items.
 #[test]
 fn a_task_may_fix_groups_of_one(rt: HostRuntime) -> Result<(), Fail> {
     let call = Call {

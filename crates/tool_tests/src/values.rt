@@ -77,8 +77,7 @@ fn the_examples_have_these_values(rt: HostRuntime) -> Result<(), Fail> {
 }
 
 // The line that is told of the value of a term over xs = [1, 2, 3, 4294967295], ys = [5, 3, 33, 2]
-// and
-// rows = [[1, 2, 3], [4, 5, 6]].
+// and rows = [[1, 2, 3], [4, 5, 6]].
 fn has_value(alloc: Global, term: &str, value: &str) -> Result<bool, AllocError> {
     let declared = "input xs: [u32; 4]; input ys: [u32; 4]; input rows: [[u32; 3]; 2]; output ";
     let program = format!(in alloc; "{declared}{term}")?;

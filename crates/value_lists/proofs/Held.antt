@@ -15,7 +15,8 @@ use Rattle.value_lists.proofs.Lengths.{Leads, holds_elements, one_scalar, rows_a
 abbrev pub Scalars : Type 0
 Scalars = List Side → ℕ → ℕ
 
--- lists hold such scalars of a value of the type, whose number among such values is i, from component c on
+-- lists hold such scalars of a value of the type, whose number among such
+-- values is i, from component c on
 abbrev pub Holds : List ℕ → List (List ℕ) → PlainTy → (c i : ℕ) → Scalars → Type 0
 Holds ys ls U32 c i g = get_or (row ls c) i 0 ≡ g [] 0
 Holds ys ls (PairOf a b) c i g = Holds ys ls a c i (λ p x. g (Left ∷ p) x) × Holds ys ls b (c + width a) i (λ p x. g (Right ∷ p) x)

@@ -1,4 +1,5 @@
--- Where typing takes a type, its lengths at admissible sizes are positive and its values have few scalars.
+-- Where typing takes a type, its lengths at admissible sizes are positive
+-- and its values have few scalars.
 use Rattle.std.proofs.Common.{◌≡◌, ◌∙◌, ℕ, ◌*◌, ◌≤◌, List, refl, sym, ap, subst, arith, ℤ, pos, negsuc, ◌*ℤ◌, ◌≤ℤ◌}
 use Rattle.std.specs.Prelude.{nat_abs}
 use Rattle.std.proofs.lemmas.Int.{ints}

@@ -44,4 +44,6 @@ TypedOutputsAreSmall =
 
 -- of few arrays the elements up to one of an array are few
 abbrev pub ElementsAreSmall : Type 0
-ElementsAreSmall = (ys : List ℕ) (a : PlainTy) (i j n : ℕ) → j < n → IsSmall ys ((i + 1) * n) a → IsSmall ys (i * n + j + 1) a
+ElementsAreSmall =
+    (ys : List ℕ) (a : PlainTy) (i j n : ℕ) → j < n → IsSmall ys ((i + 1) * n) a
+    → IsSmall ys (i * n + j + 1) a

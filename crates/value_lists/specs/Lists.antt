@@ -42,11 +42,14 @@ width (ArrayOf a n) = width a
 abbrev pub list_lengths : List ℕ → PlainTy → List ℕ
 list_lengths ys a = map (λ c. scalars ys a) (components a)
 
--- lengths are below 2^32, and so many values of the type have at most 2^32 scalars in each component
+-- lengths are below 2^32, and so many values of the type have at most
+-- 2^32 scalars in each component
 abbrev pub IsSmall : List ℕ → (count : ℕ) → PlainTy → Type 0
 IsSmall ys count U32 = count ≤ 2 ^ 32
 IsSmall ys count (PairOf a b) = IsSmall ys count a × IsSmall ys count b
-IsSmall ys count (ArrayOf a n) = (length_at ys n < 2 ^ 32) × (count * length_at ys n ≤ 2 ^ 32) × IsSmall ys (count * length_at ys n) a
+IsSmall ys count (ArrayOf a n) =
+    (length_at ys n < 2 ^ 32) × (count * length_at ys n ≤ 2 ^ 32)
+    × IsSmall ys (count * length_at ys n) a
 
 -- ---- the value in lists
 -- the list of a component
@@ -58,8 +61,11 @@ abbrev pub members_from : (ℕ → Value) → (first count : ℕ) → List Value
 members_from f i zero = []
 members_from f i (suc n) = f i ∷ members_from f (suc i) n
 
--- the value of this number among values of the type, one after another in lists, the first of which is this component's
+-- the value of this number among values of the type, one after another in lists, the
+-- first of which is this component's
 abbrev pub value_in : List ℕ → PlainTy → List (List ℕ) → (component number : ℕ) → Value
 value_in ys U32 lists c i = Word (get_or (row lists c) i 0)
-value_in ys (PairOf a b) lists c i = Both (value_in ys a lists c i) (value_in ys b lists (c + width a) i)
-value_in ys (ArrayOf a n) lists c i = array (members_from (λ j. value_in ys a lists c (i * length_at ys n + j)) 0 (length_at ys n))
+value_in ys (PairOf a b) lists c i =
+    Both (value_in ys a lists c i) (value_in ys b lists (c + width a) i)
+value_in ys (ArrayOf a n) lists c i =
+    array (members_from (λ j. value_in ys a lists c (i * length_at ys n + j)) 0 (length_at ys n))

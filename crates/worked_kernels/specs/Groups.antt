@@ -25,6 +25,7 @@ use Rattle.group_form.specs.Uses.{phase_count, group_touches}
 abbrev pub itself : ℕ → ℕ
 itself n = n
 
+-- so many numbers in a row
 abbrev pub numbers : ℕ → Ty
 numbers n = ArrayOf n Scalar
 
@@ -33,10 +34,12 @@ abbrev pub input_types : (n : ℕ) → ℕ → Ty
 input_types n zero = numbers n
 input_types n (suc a) = numbers 0
 
+-- where each of them lies
 abbrev pub input_marks : (n : ℕ) → ℕ → Marks
 input_marks n zero = laid_in Input 0 (numbers n)
 input_marks n (suc a) = λ cs p. Nowhere
 
+-- they are the elements of this list
 abbrev pub input_scalars : List ℕ → ℕ → Scalars
 input_scalars xs zero = λ cs p. slice_index xs (first_index p)
 input_scalars xs (suc a) = λ cs p. 0
@@ -48,16 +51,19 @@ use_of a w s q = record { phase = q; buffer = a; writes = w; aligned = s; local 
 -- Tiles of two are copied, and one is added to each element: mapWrg(\t. mapLcl(\x. x + 1,
 -- toLocal(mapLcl(\x. x, t))), split(2, xs)), joined
 
+-- a copy of the bound tile, of so many cells, in local memory
 abbrev pub copy_over : {A : Type 0} → (len : A) → (cells : ℕ) → Term A
 copy_over n cells =
     Copy LocalMemory (numbers cells) (Map Local n Take (Bound 0) (Store Scalar (Bound 0)))
 
+-- lengths may be numbers, or what spells them
 abbrev pub added_tiles_over : {A : Type 0} → (two tiles : A) → Term A
 added_tiles_over two tiles =
     Reshape (Join two)
     (Map WorkGroup tiles Skip (Reshape (Split two) (Source 0))
     (Map Local two Take (copy_over two 2) (Store Scalar (Apply Add (Bound 0) (Literal 1)))))
 
+-- so many tiles
 abbrev pub added_tiles : ℕ → Term ℕ
 added_tiles tiles = added_tiles_over 2 tiles
 
@@ -75,7 +81,8 @@ pub record AddedTilesKeep : Type 0 where
       → group_touches (added_tiles tiles) ≡ use_of 0 true true 0 ∷ use_of 0 false true 1
       ∷ use_of 0 false true 1 ∷ []
   pub needed : (tiles : ℕ)
-      → Needed (group_touches (added_tiles tiles)) false (phase_count (added_tiles tiles)) no_barriers
+      → Needed (group_touches (added_tiles tiles)) false
+      (phase_count (added_tiles tiles)) no_barriers
   pub code : added_tiles_code ≡ (tile_kernel false no_barriers).code
   pub keeps : (l : Launch) (tiles : ℕ) (xs out : List ℕ) (rest : ℕ) → AreTiles l tiles xs out
       → EveryRunKeeps (tile_kernel false no_barriers) l (tile_cells xs out rest)
@@ -85,12 +92,14 @@ pub record AddedTilesKeep : Type 0 where
 -- Of a zip of two copies, the second under a layout, only the first is named: mapWrg(\t. mapLcl(\p.
 -- first(p), zip(toLocal(..), join(slide(1, 1, toLocal(..))))), split(2, xs)), joined
 
+-- what a group makes of one tile
 abbrev pub half_named_tile : Term ℕ
 half_named_tile =
     Map Local 2 (Each Take Skip)
     (Both true (copy_over 2 2) (Reshape (Join 1) (Reshape (Slide 1 1) (copy_over 2 2))))
     (Store Scalar (Project false (Bound 0)))
 
+-- and of so many tiles, joined
 abbrev pub half_named_tiles : ℕ → Term ℕ
 half_named_tiles tiles =
     Reshape (Join 2) (Map WorkGroup tiles Skip (Reshape (Split 2) (Source 0)) half_named_tile)
@@ -107,47 +116,60 @@ pub record UnnamedCopiesAreUnused : Type 0 where
 -- A stencil by tiles: join(join(mapWrg(\t. mapLcl(\w. foldSeq(\a x. a + x, 0, w), slide(3, 1,
 -- toLocal(mapLcl(\x. x, t)))), slide(4, 2, pad(1, 1, xs)))))
 
+-- what a group makes of one tile: the sums of its two windows
 abbrev pub summed_tile : Term ℕ
 summed_tile =
     Map Local 2 Skip (Reshape (Slide 3 1) (copy_over 4 4))
     (Fold 3 Take Scalar (Bound 0) (Literal 0) (Apply Add (Bound 1) (Bound 0)))
 
+-- the tiles of the padded input, which overlap by two elements
 abbrev pub padded_tiles : ℕ → Term ℕ
 padded_tiles tiles = Reshape (Slide 4 2) (Reshape (Pad 1 1 (tiles * 2)) (Source 0))
 
+-- the sums of so many tiles, joined
 abbrev pub summed_tiles : ℕ → Term ℕ
 summed_tiles tiles =
     Reshape (Join 1) (Reshape (Join 2) (Map WorkGroup tiles Skip (padded_tiles tiles) summed_tile))
 
+-- where element i1 of tile i0 lies, two elements a tile
 abbrev pub tile_place : Formula
 tile_place = Binary Add (Binary Mul (LoopVariable 0) (Number 2)) (LoopVariable 1)
 
+-- the input's element that stands there once it is padded
 abbrev pub padded_place : Formula
 padded_place =
     Binary Min (Binary Sub (Binary Max tile_place (Number 1)) (Number 1))
     (Binary Sub (Size 0) (Number 1))
 
+-- the place in the tile of element i2 of window i1
 abbrev pub in_window : Formula
 in_window = Binary Add (LoopVariable 1) (LoopVariable 2)
 
+-- an element of the padded input is copied to the local array
 abbrev pub copy_turn : Code
 copy_turn = Loads 0 (Input 0) padded_place (Stores (LocalArray 0) (LoopVariable 1) (Variable 0) End)
 
+-- v2 = l0[i1 + i2]; v1 = v1 + v2;
 abbrev pub sum_turn : Code
 sum_turn = Loads 2 (LocalArray 0) in_window (Assigns 1 (Binary Add (Variable 1) (Variable 2)) End)
 
+-- o0[i0 * 2 + i1] = v1;
 abbrev pub sum_store : Code
 sum_store = Stores (Output 0) tile_place (Variable 1) End
 
+-- the elements of a window are added to v1, which is then stored
 abbrev pub sum_loop : Code
 sum_loop = Loops FromZero (Number 3) ByOne sum_turn sum_store
 
+-- the sum of a window, from 0 on
 abbrev pub window_turn : Code
 window_turn = Assigns 1 (Number 0) sum_loop
 
+-- the windows of a tile, and the barrier that closes the body
 abbrev pub windows : Code
 windows = Loops (FromLocalId X) (Number 2) (ByLocalSize X) window_turn (Syncs true false End)
 
+-- a tile: it is copied and, behind a barrier, summed by windows
 abbrev pub sums_body : Code
 sums_body = Loops (FromLocalId X) (Number 4) (ByLocalSize X) copy_turn (Syncs true false windows)
 

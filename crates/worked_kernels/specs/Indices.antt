@@ -23,26 +23,30 @@ copying b i =
     Loops FromZero b ByOne
     (Loads 0 (Input 0) i (Stores (Output 0) (LoopVariable 0) (Variable 0) End)) End
 
+-- the loop's variable
 abbrev pub turn : Formula
 turn = LoopVariable 0
 
 -- what a copy of an array may have, so many of whose elements are copied: the array is made of an
 -- input of this type
-abbrev pub copy_limits : (length : Expression) → (input : Shape Expression) → (array : Term Expression)
+abbrev pub copy_limits : (length : Expression) → (input : Shape Expression)
+    → (array : Term Expression)
     → List ℕ
 copy_limits n input xs =
     written_limits (λ e. e) all_loops (λ v. input) (λ v. no_index)
     (Map Sequential n Take xs (Store Scalar (Bound 0))) (array_nodes (λ e. e) (ArrayOf n Scalar)) []
 
 -- so the code has
-abbrev pub IsTidyCopy : (length : Expression) → (input : Shape Expression) → (array : Term Expression)
+abbrev pub IsTidyCopy : (length : Expression) → (input : Shape Expression)
+    → (array : Term Expression)
     → Code → Type 0
 IsTidyCopy n input xs code = EachWithin IsTidyIndex (copy_limits n input xs) (indices_then code [])
 
--- two rows of three, and their join
+-- two rows of three
 abbrev pub rows : Shape Expression
 rows = ArrayOf (Literal 2) (ArrayOf (Literal 3) Scalar)
 
+-- the rows' join
 abbrev pub joined_rows : Term Expression
 joined_rows = Reshape (Join (Literal 3)) (Source 0)
 
@@ -59,6 +63,7 @@ JoinsAreCounted = copy_limits (Literal 6) rows joined_rows ≡ 1 ∷ 9 ∷ 1 ∷
 abbrev pub JoinsAreTidied : Type 0
 JoinsAreTidied = IsTidyCopy (Literal 6) rows joined_rows (copying (Number 6) turn)
 
+-- a copy that reads at that number is not tidy
 abbrev pub JoinsDoNotStay : Type 0
 JoinsDoNotStay = IsTidyCopy (Literal 6) rows joined_rows (copying (Number 6) cell_in_rows) → ⊥
 
@@ -68,10 +73,11 @@ IndicesDoNotGrow =
     IsTidyCopy (Literal 6) (ArrayOf (Literal 6) Scalar) (Source 0)
     (copying (Number 6) (Binary Sub (Binary Add turn turn) turn)) → ⊥
 
--- twice the half of a size, and what spells it
+-- twice the half of a size
 abbrev pub even_length : Expression
 even_length = index.Binary Product (Literal 2) (index.Binary Quotient (index.Size 0) (Literal 2))
 
+-- what spells it
 abbrev pub two_halves : Formula
 two_halves = Binary Mul (Number 2) (Binary Div (Size 0) (Number 2))
 
@@ -80,6 +86,7 @@ abbrev pub BoundsAreTidied : Type 0
 BoundsAreTidied =
     IsTidyCopy even_length (ArrayOf even_length Scalar) (Source 0) (copying (Size 0) turn)
 
+-- a loop that is bound by the spelling is not tidy
 abbrev pub BoundsDoNotStay : Type 0
 BoundsDoNotStay =
     IsTidyCopy even_length (ArrayOf even_length Scalar) (Source 0) (copying two_halves turn) → ⊥

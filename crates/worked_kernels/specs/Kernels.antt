@@ -23,35 +23,45 @@ sums =
     (Fold 2 Take Scalar (Bound 0) (Literal 0) (Apply Add (Bound 1) (Bound 0))))))
     (Literal 5) (Apply Add (Bound 1) (Bound 0))
 
+-- v0 = v0 + v1;
 abbrev pub add_inner : Code
 add_inner = Assigns 0 (Binary Add (Variable 0) (Variable 1)) End
 
+-- v1 = a0[i0 * 2 + i1]; and it is added to the row's sum
 abbrev pub inner_body : Code
 inner_body =
     Loads 1 (Input 0)
     (Binary Add (Binary Mul (LoopVariable 0) (Number 2)) (LoopVariable 1)) add_inner
 
+-- p0[i0] = v0;
 abbrev pub inner_store : Code
 inner_store = Stores (Private 0) (LoopVariable 0) (Variable 0) End
 
+-- the elements of a row are added to v0, which is then stored
 abbrev pub inner_loop : Code
 inner_loop = Loops FromZero (Number 2) ByOne inner_body inner_store
 
+-- a row's sum, from 0 on
 abbrev pub row_body : Code
 row_body = Assigns 0 (Number 0) inner_loop
 
+-- v2 = v2 + v3;
 abbrev pub add_outer : Code
 add_outer = Assigns 2 (Binary Add (Variable 2) (Variable 3)) End
 
+-- v3 = p0[i0]; and it is added to the whole sum
 abbrev pub outer_body : Code
 outer_body = Loads 3 (Private 0) (LoopVariable 0) add_outer
 
+-- o0[0u] = v2;
 abbrev pub outer_store : Code
 outer_store = Stores (Output 0) (Number 0) (Variable 2) End
 
+-- the partial sums are added to v2, which is then stored
 abbrev pub outer_loop : Code
 outer_loop = Loops FromZero (Number 2) ByOne outer_body outer_store
 
+-- the whole sum, from 5 on
 abbrev pub outer : Code
 outer = Assigns 2 (Number 5) outer_loop
 
@@ -70,6 +80,7 @@ sums_kernel = record {
   code = Loops FromZero (Number 2) ByOne row_body outer;
 }
 
+-- 1, 2, 3 and 4, and what the output and other memory hold before
 abbrev pub sums_cells : (rest out : ℕ) → Cells
 sums_cells rest out = record {
   ins = (1 ∷ 2 ∷ 3 ∷ 4 ∷ []) ∷ [];
@@ -89,19 +100,24 @@ swaps =
     Fold 3 Take (PairOf Scalar Scalar) (Source 0) (Both false (Literal 0) (Literal 1))
     (Both false (Project true (Bound 1)) (Apply Add (Project false (Bound 1)) (Bound 0)))
 
+-- v0 = v3; v1 = v4;
 abbrev pub swap_back : Code
 swap_back = Assigns 0 (Variable 3) (Assigns 1 (Variable 4) End)
 
+-- the new accumulator is put together in temporaries, and then moved
 abbrev pub swap_new : Code
 swap_new = Assigns 3 (Variable 1) (Assigns 4 (Binary Add (Variable 0) (Variable 2)) swap_back)
 
+-- v2 = a0[i0]; and it goes into the accumulator
 abbrev pub swap_body : Code
 swap_body = Loads 2 (Input 0) (LoopVariable 0) swap_new
 
+-- each component is stored to an output of its own
 abbrev pub swap_store : Code
 swap_store =
     Stores (Output 0) (Number 0) (Variable 0) (Stores (Output 1) (Number 0) (Variable 1) End)
 
+-- each element goes into the accumulator, which is then stored
 abbrev pub swap_loop : Code
 swap_loop = Loops FromZero (Number 3) ByOne swap_body swap_store
 
@@ -120,6 +136,7 @@ swaps_kernel = record {
   code = Assigns 0 (Number 0) (Assigns 1 (Number 1) swap_loop);
 }
 
+-- 5, 6 and 7, and what the outputs and other memory hold before
 abbrev pub swaps_cells : (rest first second : ℕ) → Cells
 swaps_cells rest o p = record {
   ins = (5 ∷ 6 ∷ 7 ∷ []) ∷ [];
@@ -138,9 +155,11 @@ SwapsKeep =
 abbrev pub increments : ℕ → Term ℕ
 increments n = Map Global n Take (Source 0) (Store Scalar (Apply Add (Bound 0) (Literal 1)))
 
+-- o0[i0] = (v0 + 1u);
 abbrev pub turn_store : Code
 turn_store = Stores (Output 0) (LoopVariable 0) (Binary Add (Variable 0) (Number 1)) End
 
+-- v0 = a0[i0]; and one more is stored
 abbrev pub turn_body : Code
 turn_body = Loads 0 (Input 0) (LoopVariable 0) turn_store
 
@@ -159,14 +178,16 @@ increments_kernel = record {
   code = Loops (FromGlobalId X) (Size 0) (ByGlobalSize X) turn_body End;
 }
 
+-- these elements, and what the output and other memory hold before
 abbrev pub increments_cells : List ℕ → List ℕ → ℕ → Cells
 increments_cells xs out rest = record { ins = xs ∷ []; outs = out ∷ []; rest = rest }
 
+-- one more than each, modulo 2^32
 abbrev pub incremented : List ℕ → List ℕ
 incremented xs = map (λ x. (x + 1) % 2 ^ 32) xs
 
--- at every launch of one row, over fewer than 2^31 elements, every run leaves the sums, each written
--- by the work-item of its index modulo G
+-- at every launch of one row, over fewer than 2^31 elements, every run leaves the sums, each
+-- written by the work-item of its index modulo G
 abbrev pub IncrementsKeep : Type 0
 IncrementsKeep =
     (l : Launch) (xs out : List ℕ) (rest : ℕ) → IsWhole l → IsFlat l → 0 < item_count l

@@ -19,9 +19,11 @@ use Rattle.lift_ir.specs.AtLaunch.{length_at}
 use Rattle.lift_ir.specs.Lowering.{Written, Lowered, lower}
 use Rattle.lift_ir.specs.Lowerable.{IsLowerable, IsStaged}
 
+-- the one plus the other
 abbrev pub sum : Tree → Tree → Tree
 sum t u = tree.Binary (binary.Operator (operator.Regrouping reducer.Add)) t u
 
+-- of a leaf that is a number
 abbrev pub scalar : Annotation
 scalar = Leaf types.U32
 
@@ -37,10 +39,12 @@ pub record IsLoweredTo (d : Declared) (bases : List ℕ) (t : Tree) (a : Annotat
 abbrev pub increments : Tree
 increments = tree.Map map_kind.Global (tree.Input 0) (sum (tree.Variable 0) (tree.Number 1))
 
+-- the types of its nodes, where A has n elements
 abbrev pub increments_types : List Monomial → Annotation
 increments_types n =
     Two (types.ArrayOf types.U32 n) (Leaf (types.ArrayOf types.U32 n)) (Two types.U32 scalar scalar)
 
+-- it is lowered to a map over the launch that adds 1 to each element
 abbrev pub IncrementsAreLowered : Type 0
 IncrementsAreLowered =
     (d : Declared) (bases : List ℕ) (n : List Monomial)
@@ -52,20 +56,24 @@ IncrementsAreLowered =
 abbrev pub five : List Monomial
 five = constant 5
 
+-- the copy that is folded
 abbrev pub private_increments : Tree
 private_increments =
     tree.Unary unary.ToPrivate
     (tree.Map map_kind.Sequential (tree.Input 0) (sum (tree.Variable 0) (tree.Number 1)))
 
+-- the fold over it, of this kind
 abbrev pub sums : FoldKind → Tree
 sums k = tree.Fold k private_increments (tree.Number 0) (sum (tree.Variable 1) (tree.Variable 0))
 
+-- the types of its nodes
 abbrev pub sums_types : Annotation
 sums_types =
     Three (types.ArrayOf types.U32 (constant 1))
     (One (types.ArrayOf types.U32 five) (increments_types five)) scalar
     (Two types.U32 scalar scalar)
 
+-- a fold of either kind is lowered to the same term
 abbrev pub SumsAreLowered : Type 0
 SumsAreLowered =
     (d : Declared) (bases : List ℕ) (k : FoldKind)

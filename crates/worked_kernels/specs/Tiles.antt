@@ -24,6 +24,7 @@ use Rattle.group_phases.specs.Phases.{Phase, Place, PhaseList}
 
 -- The kernel
 
+-- where element i1 of tile i0 lies
 abbrev pub tile_index : Formula
 tile_index = Binary Add (Binary Mul (LoopVariable 0) (Number 2)) (LoopVariable 1)
 
@@ -36,6 +37,7 @@ abbrev pub read_index : (neighbour : Bool) → Formula
 read_index true = Binary Sub (Number 1) (LoopVariable 1)
 read_index false = LoopVariable 1
 
+-- the same, for the element with this number
 abbrev pub read_place : (neighbour : Bool) → ℕ → ℕ
 read_place true j = 1 - j
 read_place false j = j
@@ -46,15 +48,18 @@ add_turn neighbour =
     Loads 1 (Local 0) (read_index neighbour)
     (Stores (Output 0) tile_index (Binary Add (Variable 1) (Number 1)) End)
 
+-- the loop of the copy, or that of the sums
 abbrev pub phase_code : (neighbour : Bool) → ℕ → Code → Code
 phase_code neighbour zero rest = Loops (FromLocalId X) (Number 2) (ByLocalSize X) copy_turn rest
 phase_code neighbour (suc q) rest =
     Loops (FromLocalId X) (Number 2) (ByLocalSize X) (add_turn neighbour) rest
 
+-- a barrier, where one stands
 abbrev pub fenced : Fencing → Code → Code
 fenced Open rest = rest
 fenced (Fenced on_local on_global) rest = Syncs on_local on_global rest
 
+-- the two phases, with what stands before each and at the end
 abbrev pub tile_body : (neighbour : Bool) → (ℕ → Fencing) → Code
 tile_body neighbour fence =
     fenced (fence 0)
@@ -79,9 +84,11 @@ tile_kernel neighbour fence = record {
 
 -- Barriers
 
+-- each item copies elements of its own
 abbrev pub writer : Touch
 writer = record { phase = 0; buffer = 0; writes = true; aligned = true; local = true }
 
+-- and reads the same, or its neighbour's
 abbrev pub reader : (neighbour : Bool) → Touch
 reader neighbour = record {
   phase = 1;
@@ -91,9 +98,11 @@ reader neighbour = record {
   local = true;
 }
 
+-- the uses of the local array by both phases
 abbrev pub tile_touches : (neighbour : Bool) → List Touch
 tile_touches neighbour = writer ∷ reader neighbour ∷ []
 
+-- none at all
 abbrev pub no_barriers : ℕ → Fencing
 no_barriers q = Open
 
@@ -114,6 +123,7 @@ wrong_flag (suc q) = Fenced false true
 
 -- What it leaves
 
+-- these numbers, and what the output and other memory hold before
 abbrev pub tile_cells : (xs out : List ℕ) → (rest : ℕ) → Cells
 tile_cells xs out rest = record { ins = xs ∷ []; outs = out ∷ []; rest = rest }
 
@@ -122,6 +132,7 @@ abbrev pub exchanged : List ℕ → List ℕ
 exchanged (x ∷ y ∷ xs) = y ∷ x ∷ exchanged xs
 exchanged xs = xs
 
+-- one more than each number, or than its neighbour, modulo 2^32
 abbrev pub added : (neighbour : Bool) → List ℕ → List ℕ
 added neighbour xs = map (λ x. (x + 1) % 2 ^ 32) (if neighbour then exchanged xs else xs)
 
@@ -147,10 +158,12 @@ pub record AreTiles (l : Launch) (tiles : ℕ) (xs out : List ℕ) : Type 0 wher
 
 -- Its phases
 
+-- the first index of a position, or 0
 abbrev pub first_index : List ℕ → ℕ
 first_index [] = 0
 first_index (j ∷ r) = j
 
+-- the copy, which leaves elements as they are, and the sums
 abbrev pub tile_phases : ℕ → Phase ℕ
 tile_phases zero = record {
   form = Looped;
@@ -177,6 +190,7 @@ tile_phases (suc q) = record {
   locals = 1;
 }
 
+-- where their elements lie and where their values go, at each turn
 abbrev pub tile_places : (neighbour : Bool) → List ℕ → (turn phase : ℕ) → Place
 tile_places neighbour xs i zero = record {
   env = no_marks;
@@ -193,6 +207,7 @@ tile_places neighbour xs i (suc q) = record {
   to = λ cs r. Spot (Output 0) (i * 2 + first_index r);
 }
 
+-- what a cell is to hold in this turn of a group
 abbrev pub tile_value : Launch → (neighbour : Bool) → List ℕ → (group turn : ℕ) → Cell → ℕ
 tile_value l neighbour xs g t b = in_array b.array b.index
   where
@@ -202,6 +217,7 @@ tile_value l neighbour xs g t b = in_array b.array b.index
     in_array (Local a) i = slice_index xs ((g + t * groups_across l) * 2 + i)
     in_array (Private a) i = 0
 
+-- the whole kernel, over so many tiles
 abbrev pub tile_list : Launch → (neighbour : Bool) → (tiles : ℕ) → List ℕ → PhaseList ℕ
 tile_list l neighbour tiles xs = record {
   once = false;
@@ -248,12 +264,18 @@ TilesServe =
 -- without barriers keeps what it owes
 abbrev pub AlignedTilesKeep : Type 0
 AlignedTilesKeep = Needed (tile_touches false) false 2 no_barriers
-    × ((l : Launch) (tiles : ℕ) (xs out : List ℕ) (rest : ℕ) → AreTiles l tiles xs out → EveryRunKeeps (tile_kernel false no_barriers) l (tile_cells xs out rest) (tile_owner l) (added false xs ∷ []))
+    ×
+    ((l : Launch) (tiles : ℕ) (xs out : List ℕ) (rest : ℕ) → AreTiles l tiles xs out
+    → EveryRunKeeps (tile_kernel false no_barriers) l (tile_cells xs out rest) (tile_owner l)
+    (added false xs ∷ []))
 
 -- where it reads its neighbour's, two are needed
 abbrev pub ExchangedTilesKeep : Type 0
 ExchangedTilesKeep = Needed (tile_touches true) false 2 two_barriers
-    × ((l : Launch) (tiles : ℕ) (xs out : List ℕ) (rest : ℕ) → AreTiles l tiles xs out → EveryRunKeeps (tile_kernel true two_barriers) l (tile_cells xs out rest) (tile_owner l) (added true xs ∷ []))
+    ×
+    ((l : Launch) (tiles : ℕ) (xs out : List ℕ) (rest : ℕ) → AreTiles l tiles xs out
+    → EveryRunKeeps (tile_kernel true two_barriers) l (tile_cells xs out rest) (tile_owner l)
+    (added true xs ∷ []))
 
 -- two groups of two items, and 1, 2, 3 and 4
 abbrev pub two_groups : Launch

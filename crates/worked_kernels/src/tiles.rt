@@ -7,8 +7,9 @@ ghost use Rattle.worked_kernels.specs.Tiles.{tile_touches, open_end, wrong_flag,
 
 use group_phases::laws::numbered_phases_keep;
 
-/// Tiles by way of local memory, at every launch of one row: with any barriers that separate the two
-/// phases; with none where each item reads what it copied; with two where it reads its neighbour's.
+/// Tiles by way of local memory, at every launch of one row: with any barriers that
+/// separate the two phases; with none where each item reads what it copied; with two
+/// where it reads its neighbour's.
 /// One that doesn't close the loop, or barriers for global memory, don't separate the phases.
 pub fn tiles_keep()
     ensures separated { TilesKeep }

@@ -3,7 +3,8 @@ use Rattle.std.specs.Prelude.{bytes_eq, decimal}
 use Rattle.std.specs.Str.{IsAscii}
 use Rattle.std.proofs.lemmas.Fmt.{parse-decimal, IsAscii-decimal}
 use Rattle.std.proofs.lemmas.Str.{IsUtf8-from_ascii}
-use Rattle.kernel_spelling.specs.Numbers.{small, itself, none_at, some_at}
+use Rattle.kernel_spelling.specs.Numbers.{small, itself}
+use Rattle.kernel_spelling.proofs.Numbers.{none_at, some_at}
 use Rattle.kernel_spelling.proofs.kinds.number.Goals as goal
 
 pub returns-in_default : goal.returns-in_default

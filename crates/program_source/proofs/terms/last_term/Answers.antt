@@ -20,9 +20,9 @@ returns-in_err-typed-clause-refused c =
 
 pub returns-clause-last : goal.returns-clause-last
 returns-clause-last c =
-    last_is c.args.program.now c.args.script.now _ _ _ c.types_are_judged.ensures programs_are_low c.in_ok-source.ensures.begun c.in_ok-typed.ensures.last c.in_ok-typed.ensures.after
+    last_is c.args.program.now c.args.script.now _ _ _ c.types_are_judged.ensures (programs_are_low c.bodies_are_text_terms.ensures) c.in_ok-source.ensures.begun c.in_ok-typed.ensures.last c.in_ok-typed.ensures.after
 
 pub returns-clause-within : goal.returns-clause-within
 returns-clause-within c =
-    typed_within c.scripts_copy_arrays.ensures c.args.program.now c.args.script.now _
-    (last_is c.args.program.now c.args.script.now _ _ _ c.types_are_judged.ensures programs_are_low c.in_ok-source.ensures.begun c.in_ok-typed.ensures.last c.in_ok-typed.ensures.after)
+    typed_within c.bodies_are_text_terms.ensures c.args.program.now c.args.script.now _
+    (last_is c.args.program.now c.args.script.now _ _ _ c.types_are_judged.ensures (programs_are_low c.bodies_are_text_terms.ensures) c.in_ok-source.ensures.begun c.in_ok-typed.ensures.last c.in_ok-typed.ensures.after)

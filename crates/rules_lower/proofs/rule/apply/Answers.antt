@@ -1,10 +1,19 @@
 use Rattle.rewriting.specs.Around.{context_of}
-use Rattle.rules_lower.specs.declared.rule.Rule.TheVariants.{LocalCopy, PrivateCopy}
+use Rattle.rules_lower.specs.declared.rule.Rule.TheVariants.{Local, Private, LocalCopy, PrivateCopy, Then}
 use Rattle.rules_lower.proofs.Kept.{answered_keeps}
 use Rattle.rules_lower.proofs.rule.apply.Goals as goal
+
+pub returns-in-Local-clause-keeps : goal.returns-in-Local-clause-keeps
+returns-in-Local-clause-keeps c = answered_keeps Local (context_of c.args.context.now) c.args.term c.kept.result c.kept.ensures
+
+pub returns-in-Private-clause-keeps : goal.returns-in-Private-clause-keeps
+returns-in-Private-clause-keeps c = answered_keeps Private (context_of c.args.context.now) c.args.term c.kept-in-Private.result c.kept-in-Private.ensures
 
 pub returns-in-LocalCopy-clause-keeps : goal.returns-in-LocalCopy-clause-keeps
 returns-in-LocalCopy-clause-keeps c = answered_keeps LocalCopy (context_of c.args.context.now) c.args.term c.copied.result c.copied.ensures
 
 pub returns-in-PrivateCopy-clause-keeps : goal.returns-in-PrivateCopy-clause-keeps
 returns-in-PrivateCopy-clause-keeps c = answered_keeps PrivateCopy (context_of c.args.context.now) c.args.term c.copied-in-PrivateCopy.result c.copied-in-PrivateCopy.ensures
+
+pub returns-in-Then-clause-keeps : goal.returns-in-Then-clause-keeps
+returns-in-Then-clause-keeps c = answered_keeps Then (context_of c.args.context.now) c.args.term c.cut_off.result c.cut_off.ensures

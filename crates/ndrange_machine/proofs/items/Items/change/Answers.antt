@@ -1,22 +1,69 @@
-use Rattle.std.proofs.Common.{◌≡◌, ◌∙◌, ◌+◌, ◌-◌, ◌<◌, ◌≤◌, Some, refl, ap, subst, set, arith, length}
-use Rattle.std.specs.Prelude.{option_map, slice_get, ◌==◌, if◌then◌else◌}
-use Rattle.std.specs.Vec.{with_item}
+use Rattle.std.proofs.Common.{◌≡◌, ◌∙◌, ◌+◌, ◌-◌, ◌<◌, ◌≤◌, Some, refl, sym, ap, subst, set, arith, length}
+use Rattle.std.specs.Global.{Global}
+use Rattle.std.specs.Prelude.{Vec, option_map, slice_get, ◌==◌, if◌then◌else◌}
+use Rattle.std.specs.Vec.{vec_len, with_item}
 use Rattle.ndrange_machine.specs.declared.items.Items.TheInside.{Inside}
 use Rattle.ndrange_machine.specs.declared.items.Place.{Place}
 use Rattle.ndrange_machine.specs.declared.change.Change.TheVariants.{Sets, SetsFour, Begins, Repeats}
 use Rattle.ndrange_machine.specs.Changes.{changed}
 use Rattle.ndrange_machine.specs.ItemView.{ItemView}
-use Rattle.ndrange_machine.proofs.Flat.{Moves, Moved, cell_put, counted, count_on, has_part, items_changed, laid_on, moved_as, moves_word, moves_four, moves_begin, moves_full, moves_again, moves_nowhere, moves_out, moves_not, nothing_there}
+use Rattle.ndrange_machine.proofs.Flat.{Moves, Moved, cell_put, counted, count_on, has_part, items_changed, laid_on, moved_as, moves_word, moves_four, moves_begin, moves_full, moves_again, moves_nowhere, moves_out, moves_not}
 use Rattle.ndrange_machine.proofs.Rows.{get_or_is}
 use Rattle.ndrange_machine.proofs.items.Items.change.Goals.{in-Sets, in-SetsFour, in-Begins+then-inside-self, in-Begins+else-inside-self, in-Repeats+then-inside-gt0, in-Repeats+else-inside-gt0, in-Leaves, in-Keeps}
 use Rattle.ndrange_machine.proofs.items.Items.change.Goals as goal
+
+pub index-requires : goal.index-requires
+index-requires c = let n = counted c.self.inside c.args.self.now c.self.view_is in omega (arith, n, c.requires, c.self.inside.places.ok.0)
+
+pub put-requires : goal.put-requires
+put-requires c =
+    let x = c.self.inside in
+    let le = has_part x c.args.self.now c.self.view_is x.words.items x.variables c.args.item c.self.invariant.words c.requires in
+    omega (arith, le, ap length c.deref_mut.ensures.value)
+
+pub put-requires-in-SetsFour : goal.put-requires-in-SetsFour
+put-requires-in-SetsFour c =
+    let x = c.self.inside in
+    let le = has_part x c.args.self.now c.self.view_is x.vectors.items x.fours c.args.item c.self.invariant.vectors c.requires in
+    omega (arith, le, ap length c.deref_mut-in-SetsFour.ensures.value)
+
+pub put-requires-then-inside-self : goal.put-requires-then-inside-self
+put-requires-then-inside-self c =
+    let x = c.self.inside in
+    let le = has_part x c.args.self.now c.self.view_is x.turns.items x.depth c.args.item c.self.invariant.turns c.requires in
+    omega (arith, le, ap length c.deref_mut-then-inside-self.ensures.value)
+
+pub put-requires-then-inside-gt0 : goal.put-requires-then-inside-gt0
+put-requires-then-inside-gt0 c =
+    let x = c.self.inside in
+    let le = has_part x c.args.self.now c.self.view_is x.turns.items x.depth c.args.item c.self.invariant.turns c.requires in
+    omega (arith, le, ap length c.deref_mut-then-inside-gt0.ensures.value)
+
+-- no change touches the places before the last write
+pub index_mut-requires : goal.index_mut-requires
+index_mut-requires c =
+    let z = c.match-change.self-inside in
+    let n = counted c.self.inside c.args.self.now c.self.view_is in
+    let same : z.places ≡ c.self.inside.places =
+    elim c.match-change.branch as (λ v. z.places ≡ c.self.inside.places) [
+      | in-Sets w ↦ ap (λ (y : Inside). y.places) w.self-inside-is
+      | in-SetsFour w ↦ ap (λ (y : Inside). y.places) w.self-inside-is
+      | in-Begins+then-inside-self w ↦ ap (λ (y : Inside). y.places) w.self-inside-is
+      | in-Begins+else-inside-self w ↦ ap (λ (y : Inside). y.places) w.self-inside-is
+      | in-Repeats+then-inside-gt0 w ↦ ap (λ (y : Inside). y.places) w.self-inside-is
+      | in-Repeats+else-inside-gt0 w ↦ ap (λ (y : Inside). y.places) w.self-inside-is
+      | in-Leaves w ↦ ap (λ (y : Inside). y.places) w.self-inside-is
+      | in-Keeps w ↦ ap (λ (y : Inside). y.places) w.self-inside-is
+    ]
+    in
+    subst (λ (ps : Vec Place Global). c.args.item < vec_len ps) (sym same) (omega (arith, n, c.requires, c.self.inside.places.ok.0))
 
 -- the place that the item has then
 after : goal.After-self-2-1 → Place
 after c = record { line = c.args.line; inside = c.match-change.inside }
 
 there : (c : goal.After-self-2-1) → c.args.item < length c.self.inside.places.items
-there c = omega (arith, c.if-item-len.false, c.len.ensures, c.self.inside.places.ok.0)
+there c = let n = counted c.self.inside c.args.self.now c.self.view_is in omega (arith, n, c.requires)
 
 stood : (c : goal.After-self-2-1) → slice_get c.self.inside.places.items c.args.item ≡ Some c.index.result.now
 stood c = get_or_is c.self.inside.places.items c.args.item c.index.result.now (there c) c.index.ensures
@@ -134,11 +181,6 @@ unfolding after made
 invariant_of-self c =
     let m = moved c in
     laid_on c.self.inside (made c) c.args.item c.index.result.now (after c) c.args.change (stood c) (places_are c) m.depth m.variables m.fours m.moves c.self.invariant
-
-pub returns-then-item-len-clause-items : goal.returns-then-item-len-clause-items
-returns-then-item-len-clause-items c =
-    let n = counted c.self.inside c.args.self.now c.self.view_is in
-    nothing_there c.args.self.now c.args.item (λ it. changed it c.args.change c.args.line) (omega (arith, n, c.if-item-len.true, c.len.ensures, c.self.inside.places.ok.0))
 
 pub returns-clause-count : goal.returns-clause-count
 unfolding after made

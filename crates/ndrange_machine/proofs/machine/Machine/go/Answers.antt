@@ -7,15 +7,15 @@ use Rattle.ndrange_machine.specs.declared.line.Line.TheVariants.{Assign, Load, S
 use Rattle.ndrange_machine.specs.Takes.{IsWanted}
 use Rattle.ndrange_machine.specs.Wants.{want_tail}
 use Rattle.ndrange_machine.proofs.Rows.{get_or_is}
-use Rattle.ndrange_machine.proofs.Wanting.{line_told, wants_to_set, wants_to_read, wants_to_write, wants_to_repeat, advances_same}
+use Rattle.ndrange_machine.proofs.Wanting.{line_told, wants_to_set, wants_to_read, wants_to_write, wants_to_repeat, wants_to_begin, advances_same}
 use Rattle.ndrange_machine.proofs.machine.Machine.go.Goals as goal
 
 pub returns-in-Some-value : goal.returns-in-Some-value
 returns-in-Some-value c =
     let m = c.args.self.now in
     let j = c.args.item in
-    let at = c.in-Some.at in
-    let told = line_told m j at (sym c.in-Some.is ∙ c.line.ensures) in
+    let at = c.line_of-at.result in
+    let told = line_told m j at c.requires c.line_of-at.ensures in
     let it = told.0 in
     let w = c.in-Some-Assign in
     let lines = c.deref.ensures.value in
@@ -31,8 +31,8 @@ pub returns-in-Some-value-2 : goal.returns-in-Some-value-2
 returns-in-Some-value-2 c =
     let m = c.args.self.now in
     let j = c.args.item in
-    let at = c.in-Some.at in
-    let told = line_told m j at (sym c.in-Some.is ∙ c.line.ensures) in
+    let at = c.line_of-at.result in
+    let told = line_told m j at c.requires c.line_of-at.ensures in
     let it = told.0 in
     let w = c.in-Some-Load in
     let lines = c.deref.ensures.value in
@@ -48,8 +48,8 @@ pub returns-in-Some-value-4 : goal.returns-in-Some-value-4
 returns-in-Some-value-4 c =
     let m = c.args.self.now in
     let j = c.args.item in
-    let at = c.in-Some.at in
-    let told = line_told m j at (sym c.in-Some.is ∙ c.line.ensures) in
+    let at = c.line_of-at.result in
+    let told = line_told m j at c.requires c.line_of-at.ensures in
     let it = told.0 in
     let w = c.in-Some-Store in
     let lines = c.deref.ensures.value in
@@ -68,8 +68,8 @@ pub returns-in-Changes : goal.returns-in-Changes
 returns-in-Changes c =
     let m = c.args.self.now in
     let j = c.args.item in
-    let at = c.in-Some.at in
-    let told = line_told m j at (sym c.in-Some.is ∙ c.line.ensures) in
+    let at = c.line_of-at.result in
+    let told = line_told m j at c.requires c.line_of-at.ensures in
     let it = told.0 in
     let w = c.in-Some-Tail in
     let lines = c.deref.ensures.value in
@@ -79,11 +79,28 @@ returns-in-Changes c =
     let back : c.want_back.result ≡ want_tail m.lines.items (ids_of m.launch j) w.head it.turns = c.want_back.ensures it told.1 ∙ ap (λ z. want_tail z (ids_of m.launch j) w.head it.turns) c.deref-in-Some-Tail.ensures.value in
     advances_same m (Step j) _ _ (c.keep-in-Changes.ensures (subst (IsWanted m j) c.in-Changes.is (wants_to_repeat m j it at w.head c.want_back.result (record { item = told.1; place = told.2; line = line_is }) back))) (record { lines = refl; launch = refl; memory = refl; items = refl }) refl refl
 
+pub returns-in-Changes-want_begun : goal.returns-in-Changes-want_begun
+returns-in-Changes-want_begun c =
+    let m = c.args.self.now in
+    let j = c.args.item in
+    let at = c.line_of-at.result in
+    let told = line_told m j at c.requires c.line_of-at.ensures in
+    let it = told.0 in
+    let w = c.in-Some-Head in
+    let lines = c.deref.ensures.value in
+    let read = get_or_is c.deref.result.now at w.field-0.now (ltb-true at _ (sym w.ensures.lookup.0)) w.ensures.lookup.1 in
+    let is = w.field-0-is in
+    let line_is = ap (λ z. slice_get z at) (sym lines) ∙ read ∙ ap Some is in
+    advances_same m (Step j) _ _ (c.keep-in-Changes-want_begun.ensures (subst (IsWanted m j) c.in-Changes-want_begun.is (wants_to_begin m j it at w.start w.bound _ w.exit c.want_begun.result (record { item = told.1; place = told.2; line = line_is }) c.want_begun.ensures))) (record { lines = refl; launch = refl; memory = refl; items = refl }) refl refl
+
+pub returns-in_default-want_begun : goal.returns-in_default-want_begun
+returns-in_default-want_begun c = advances_same c.args.self.now (Step c.args.item) _ _ c.take-in_default-want_begun.ensures (record { lines = refl; launch = refl; memory = refl; items = refl }) refl refl
+
 pub returns-in_default : goal.returns-in_default
 returns-in_default c = advances_same c.args.self.now (Step c.args.item) _ _ c.take-in_default.ensures (record { lines = refl; launch = refl; memory = refl; items = refl }) refl refl
 
-pub returns-in-Some-get : goal.returns-in-Some-get
-returns-in-Some-get c = advances_same c.args.self.now (Step c.args.item) _ _ c.take-in-Some-get.ensures (record { lines = refl; launch = refl; memory = refl; items = refl }) refl refl
+pub returns-in-Some : goal.returns-in-Some
+returns-in-Some c = advances_same c.args.self.now (Step c.args.item) _ _ c.take-in-Some.ensures (record { lines = refl; launch = refl; memory = refl; items = refl }) refl refl
 
-pub returns-in-None-get : goal.returns-in-None-get
-returns-in-None-get c = advances_same c.args.self.now (Step c.args.item) _ _ c.take-in-None-get.ensures (record { lines = refl; launch = refl; memory = refl; items = refl }) refl refl
+pub returns-in-None : goal.returns-in-None
+returns-in-None c = advances_same c.args.self.now (Step c.args.item) _ _ c.take-in-None.ensures (record { lines = refl; launch = refl; memory = refl; items = refl }) refl refl

@@ -56,6 +56,7 @@ invariant_of-machine c =
     let ready = c.in_ok-stores.ensures.ready in
     record {
       small = search rules;
+      all_items = ap length c.in_ok-items.ensures ∙ length-replicate c.item_count.result (start_view _ _ _ _) ∙ c.item_count.ensures ∙ ap (λ (z : Launch). item_count z) launch;
       ready_grid = ap (λ (v : Flags). v.grid) ready ∙ ap grid_of launch;
       ready_items = ap (λ (v : Flags). length v.items) ready ∙ length-replicate (item_count (laid grid)) c.steps_from-steps.result ∙ ap (λ (z : Launch). item_count z) launch;
       ready_groups = ap (λ (v : Flags). length v.groups) ready ∙ length-replicate (group_count (laid grid)) false ∙ ap (λ (z : Launch). group_count z) launch;

@@ -1,4 +1,0 @@
-mod Copies
-mod Accesses
-mod Waits
-mod Theorem
