@@ -27,7 +27,7 @@ CHANGES = [
     ("a layout", "reverse", r"\bReverse\b|\"reverse\""),
     ("a rule of the nest", "N11", r"\bN11\b"),
     ("a refusal of launch files", "no task", r"\bNotTask\b"),
-    ("a command", "demo", r"\bDemo\b|\bdemo\b"),
+    ("a command", "run-stages", r"\bRunStages\b|\brun_stages(_text)?\b|run-stages"),
 ]
 
 

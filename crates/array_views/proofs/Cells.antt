@@ -18,7 +18,8 @@ use Rattle.array_views.specs.Views.{PlainView}
 use Rattle.array_views.specs.Accesses.{access_at}
 use Rattle.array_views.specs.Cells.{IsWithin, number_at, AreIndices, IsViewOf, marks_at, IsAccessTo, HasArrays, IsGoal, IsWholeGoal, IsCellOf}
 use Rattle.array_views.specs.Promises.{ViewsNameCells}
-use Rattle.array_views.proofs.Exact.{operand_exact, result_exact, row_major_exact}
+use Rattle.array_views.proofs.Exact.{row_major_exact}
+use Rattle.array_views.proofs.Layouts.{operand_exact, result_exact}
 
 module _ {A : Type 0} (num : A → ℕ) where
   width_at : (t : Shape A) → width (measured num t) ≡ width t

@@ -1,12 +1,12 @@
--- The values of indices through layouts and in row-major order: no operation in them wraps.
+-- The values of what layouts make of indices, and of those in row-major order: no operation in them
+-- wraps.
 use Rattle.std.proofs.Common.{◌≡◌, ℕ, ℤ, pos, ◌+◌, ◌*◌, ◌-◌, ◌/◌, ◌%◌, ◌<◌, ◌≤◌, ◌^◌, ◌-ℤ◌, Bool, true, false, List, [], ◌∷◌, refl, sym, ap, ◌∙◌, subst, min, max, arith}
 use Rattle.std.specs.Prelude.{◌&&◌, if◌then◌else◌, unsigned_abs}
 use Rattle.std.specs.Int.{int_min, int_max}
+use Rattle.std.proofs.lemmas.Bool.{and_parts}
 use Rattle.std.proofs.lemmas.Int.{ints, clamps}
 use Rattle.std.proofs.Math.Nat.{div-le_self, mod-le, mul-le-mul_left, mod-add-div'}
-use Rattle.lift_ir.specs.Types.{Shape, Ty, Scalar, PairOf, ArrayOf, measured, size, flat, IsPosition, IsFlat, IsShort}
-use Rattle.lift_ir.specs.Layouts.{Layout, Split, Join, Transpose, Reverse, Slide, Pad, operand_position, result_position, IsInvertible}
-use Rattle.lift_ir.proofs.Positions.{operand_in, join_in}
+use Rattle.lift_ir.specs.Types.{Shape, Ty, Scalar, PairOf, ArrayOf, measured, size, flat, IsPosition, IsFlat}
 use Rattle.lift_ir.proofs.Numbers.{flat_below}
 use Rattle.index_expr.specs.declared.operation.Operation.{Operation}
 use Rattle.index_expr.specs.declared.operation.Operation.TheVariants.{Sum, Difference, Product, Quotient, Remainder, Least, Greatest}
@@ -15,9 +15,9 @@ use Rattle.index_expr.specs.Values.{exact, operate, Divides, WantsWords, IsWord}
 use Rattle.index_simplify.specs.Laws.{first_part}
 use Rattle.index_simplify.specs.Tests.{same}
 use Rattle.index_simplify.specs.Promises.{SameExpressionsHaveOneValue}
-use Rattle.array_views.specs.Layouts.{are_parts, cell_in_rows, flattened, parted, swapped, turned, clamped, to_operand, to_result}
+use Rattle.array_views.specs.Layouts.{are_parts, cell_in_rows}
 use Rattle.array_views.specs.Accesses.{row_major, row_major_from}
-use Rattle.array_views.specs.Cells.{number_at, IsIndex, AreIndices, HasLengths, Leads}
+use Rattle.array_views.specs.Cells.{number_at, IsIndex, AreIndices, HasLengths}
 
 word_of : (z : ℤ) (n : ℕ) → z ≡ pos n → n < 2 ^ 32 → IsWord z
 word_of z n e lt = subst IsWord (sym e) (omega (arith, ints), omega (arith, ints))
@@ -41,7 +41,7 @@ module _ (sizes variables : List ℕ) where
   pub fits : (e : Expression) (n : ℕ) → IsIndex sizes variables e n → n < 2 ^ 32
   fits e n h = word_below n (subst IsWord h.value h.ranged.1)
 
-  literal : (n : ℕ) → n < 2 ^ 32 → IsIndex sizes variables (Literal n) n
+  pub literal : (n : ℕ) → n < 2 ^ 32 → IsIndex sizes variables (Literal n) n
   literal n lt = record { value = refl; ranged = (tt, word_of (pos n) n refl lt); divisors = tt }
 
   -- an operation that may wrap, where it doesn't
@@ -65,10 +65,6 @@ module _ (sizes variables : List ℕ) where
   step f g h i m j a b c lt = plain Sum (Binary Product f g) h (i * m) j (i * m + j) (λ w. w) (λ d. d) (plain Product f g i m (i * m) (λ w. w) (λ d. d) a b refl (omega arith)) c refl lt
 
   -- ---- the row and the column of one index
-  both_true : (a b : Bool) → (a && b) ≡ true → (a ≡ true) × (b ≡ true)
-  both_true true b h = (refl, h)
-  both_true false b h = absurd (cc h)
-
   natural_of : (z : ℤ) → IsWord z → (v : ℕ) × (z ≡ pos v)
   natural_of (pos v) w = (v, refl)
   natural_of _ w = absurd (omega (arith, ints, w.0))
@@ -91,27 +87,27 @@ module _ (sizes variables : List ℕ) where
 
   whole : SameExpressionsHaveOneValue → (f g h : Expression) (i m j : ℕ) → are_parts f g h ≡ true → IsIndex sizes variables f i → IsIndex sizes variables g m → IsIndex sizes variables h j → IsIndex sizes variables (first_part f) (i * m + j)
   whole one_value (Binary Quotient e n) g (Binary Remainder f k) i m j p a c b =
-      let front = both_true (same e f && same n g) (same k g) p in
-      let x = both_true (same e f) (same n g) front.0 in
+      let front = and_parts (same e f && same n g) (same k g) p in
+      let x = and_parts (same e f) (same n g) front.0 in
       divided e n f k i m j (one_value sizes variables n g x.1 ∙ c.value) (one_value sizes variables k g front.1 ∙ c.value) (one_value sizes variables e f x.0) a b
   whole one_value _ _ _ i m j p a c b = absurd (cc p)
 
   -- the index of a column in a row
-  cell : SameExpressionsHaveOneValue → (f g h : Expression) (i m j : ℕ) → IsIndex sizes variables f i → IsIndex sizes variables g m → IsIndex sizes variables h j → i * m + j < 2 ^ 32 → IsIndex sizes variables (cell_in_rows f g h) (i * m + j)
+  pub cell : SameExpressionsHaveOneValue → (f g h : Expression) (i m j : ℕ) → IsIndex sizes variables f i → IsIndex sizes variables g m → IsIndex sizes variables h j → i * m + j < 2 ^ 32 → IsIndex sizes variables (cell_in_rows f g h) (i * m + j)
   cell one_value f g h i m j a c b lt = go (are_parts f g h) refl
     where
       go : (z : Bool) → are_parts f g h ≡ z → IsIndex sizes variables (if z then first_part f else Binary Sum (Binary Product f g) h) (i * m + j)
       go true e = whole one_value f g h i m j e a c b
       go false e = step f g h i m j a c b lt
 
-  parts : (f g : Expression) (i m : ℕ) → 0 < m → IsIndex sizes variables f i → IsIndex sizes variables g m → IsIndex sizes variables (Binary Quotient f g) (i / m) × IsIndex sizes variables (Binary Remainder f g) (i % m)
+  pub parts : (f g : Expression) (i m : ℕ) → 0 < m → IsIndex sizes variables f i → IsIndex sizes variables g m → IsIndex sizes variables (Binary Quotient f g) (i / m) × IsIndex sizes variables (Binary Remainder f g) (i % m)
   parts f g i m some a b =
       let lt = fits f i a in
       let q = div-le_self i m in
       let r = mod-le i m in
       (of_words Quotient f g i m (i / m) (λ d. some) a b refl (omega arith), of_words Remainder f g i m (i % m) (λ d. some) a b refl (omega arith))
 
-  clamp : (f g : Expression) (i l n : ℕ) → IsIndex sizes variables f i → IsIndex sizes variables g n → l < 2 ^ 32 → 0 < n → IsIndex sizes variables (Binary Least (Binary Difference (Binary Greatest f (Literal l)) (Literal l)) (Binary Difference g (Literal 1))) (min (max i l - l) (n - 1))
+  pub clamp : (f g : Expression) (i l n : ℕ) → IsIndex sizes variables f i → IsIndex sizes variables g n → l < 2 ^ 32 → 0 < n → IsIndex sizes variables (Binary Least (Binary Difference (Binary Greatest f (Literal l)) (Literal l)) (Binary Difference g (Literal 1))) (min (max i l - l) (n - 1))
   clamp f g i l n a b small some =
       let x = fits f i a in
       let y = fits g n b in
@@ -121,87 +117,11 @@ module _ (sizes variables : List ℕ) where
       let last = plain Difference g (Literal 1) n 1 (n - 1) (λ w. w) (λ d. d) b (literal 1 (omega arith)) (less_is n 1 (omega arith)) (omega arith) in
       of_words Least (Binary Difference (Binary Greatest f (Literal l)) (Literal l)) (Binary Difference g (Literal 1)) (max i l - l) (n - 1) (min (max i l - l) (n - 1)) (λ d. absurd d) back last (min_is (max i l - l) (n - 1)) (omega arith)
 
-  turn : (f g : Expression) (i n : ℕ) → IsIndex sizes variables f i → IsIndex sizes variables g n → i < n → IsIndex sizes variables (Binary Difference (Binary Difference g (Literal 1)) f) (n - 1 - i)
+  pub turn : (f g : Expression) (i n : ℕ) → IsIndex sizes variables f i → IsIndex sizes variables g n → i < n → IsIndex sizes variables (Binary Difference (Binary Difference g (Literal 1)) f) (n - 1 - i)
   turn f g i n a b lt =
       let y = fits g n b in
       let last = plain Difference g (Literal 1) n 1 (n - 1) (λ w. w) (λ d. d) b (literal 1 (omega arith)) (less_is n 1 (omega arith)) (omega arith) in
       plain Difference (Binary Difference g (Literal 1)) f (n - 1) i (n - 1 - i) (λ w. w) (λ d. d) last a (less_is (n - 1) i (omega arith)) (omega arith)
-
-  -- indices of a position in the result are, in the operand, those of the position there
-  pub operand_exact : SameExpressionsHaveOneValue → (y : Layout Expression) (t u : Ty) (cs : List Bool) (is : List Expression) (q : List ℕ) → Leads sizes variables y t u → IsPosition u cs q → AreIndices sizes variables is q → AreIndices sizes variables (to_operand y is) (operand_position num y q)
-  operand_exact one_value (Split m) (ArrayOf n t) u cs is q a w g = go is q (subst (λ z. IsPosition z cs q) a.shapes.2 w) g
-    where
-      go : (is : List Expression) (q : List ℕ) → IsPosition (ArrayOf (n / num m) (ArrayOf (num m) t)) cs q → AreIndices sizes variables is q → AreIndices sizes variables (flattened m is) (operand_position num (Split m) q)
-      go is [] w g = absurd w
-      go is (i ∷ []) w g = absurd w.1
-      go [] (i ∷ j ∷ q) w g = absurd g
-      go (f ∷ []) (i ∷ j ∷ q) w g = absurd g.1
-      go (f ∷ h ∷ fs) (i ∷ j ∷ q) w g =
-          let b = operand_in num (Split m) (ArrayOf n t) (ArrayOf (n / num m) (ArrayOf (num m) t)) cs (i ∷ j ∷ q) (a.shapes.0, a.shapes.1, refl) w in
-          (cell one_value f m h i (num m) j g.0 a.lengths g.1.0 (let x = b.0 in let z = a.operand.0 in omega arith), g.1.1)
-  operand_exact one_value (Join m) (ArrayOf n (ArrayOf k t)) u cs is q a w g = go is q (subst (λ z. IsPosition z cs q) a.shapes.2 w) g
-    where
-      go : (is : List Expression) (q : List ℕ) → IsPosition (ArrayOf (n * num m) t) cs q → AreIndices sizes variables is q → AreIndices sizes variables (parted m is) (operand_position num (Join m) q)
-      go is [] w g = absurd w
-      go [] (i ∷ q) w g = absurd g
-      go (f ∷ fs) (i ∷ q) w g = let p = parts f m i (num m) a.shapes.0 g.0 a.lengths in (p.0, (p.1, g.1))
-  operand_exact one_value Transpose (ArrayOf n (ArrayOf m t)) u cs is q a w g = go is q (subst (λ z. IsPosition z cs q) a.shapes.1 w) g
-    where
-      go : (is : List Expression) (q : List ℕ) → IsPosition (ArrayOf m (ArrayOf n t)) cs q → AreIndices sizes variables is q → AreIndices sizes variables (swapped is) (operand_position num Transpose q)
-      go is [] w g = absurd w
-      go is (i ∷ []) w g = absurd w.1
-      go [] (i ∷ j ∷ q) w g = absurd g
-      go (f ∷ []) (i ∷ j ∷ q) w g = absurd g.1
-      go (f ∷ h ∷ fs) (i ∷ j ∷ q) w g = (g.1.0, (g.0, g.1.1))
-  operand_exact one_value (Reverse k) (ArrayOf n t) u cs is q a w g = go is q (subst (λ z. IsPosition z cs q) (a.shapes.1 ∙ ap (λ z. ArrayOf z t) (sym a.shapes.0)) w) g
-    where
-      go : (is : List Expression) (q : List ℕ) → IsPosition (ArrayOf (num k) t) cs q → AreIndices sizes variables is q → AreIndices sizes variables (turned k is) (operand_position num (Reverse k) q)
-      go is [] w g = absurd w
-      go [] (i ∷ q) w g = absurd g
-      go (f ∷ fs) (i ∷ q) w g = (turn f k i (num k) g.0 a.lengths w.0, g.1)
-  operand_exact one_value (Slide s k) (ArrayOf n t) u cs is q a w g = go is q (subst (λ z. IsPosition z cs q) a.shapes.3 w) g
-    where
-      go : (is : List Expression) (q : List ℕ) → IsPosition (ArrayOf ((n - s) / k + 1) (ArrayOf s t)) cs q → AreIndices sizes variables is q → AreIndices sizes variables (flattened (Literal k) is) (operand_position num (Slide s k) q)
-      go is [] w g = absurd w
-      go is (i ∷ []) w g = absurd w.1
-      go [] (i ∷ j ∷ q) w g = absurd g
-      go (f ∷ []) (i ∷ j ∷ q) w g = absurd g.1
-      go (f ∷ h ∷ fs) (i ∷ j ∷ q) w g =
-          let b = operand_in num (Slide s k) (ArrayOf n t) (ArrayOf ((n - s) / k + 1) (ArrayOf s t)) cs (i ∷ j ∷ q) (a.shapes.0, a.shapes.1, a.shapes.2, refl) w in
-          (cell one_value f (Literal k) h i k j g.0 (literal k a.step) g.1.0 (let x = b.0 in let z = a.operand.0 in omega arith), g.1.1)
-  operand_exact one_value (Pad x y k) (ArrayOf n t) u cs is q a w g = go is q w g
-    where
-      go : (is : List Expression) (q : List ℕ) → IsPosition u cs q → AreIndices sizes variables is q → AreIndices sizes variables (clamped (Literal x) k is) (operand_position num (Pad x y k) q)
-      go is [] w g = absurd (subst (λ z. IsPosition z cs []) a.shapes.2 w)
-      go [] (i ∷ q) w g = absurd g
-      go (f ∷ fs) (i ∷ q) w g =
-          let short = subst IsShort a.shapes.2 a.result in
-          (clamp f k i x (num k) g.0 a.lengths (let z = short.0 in omega arith) (let p = a.shapes.0 in let e = a.shapes.1 in omega arith), g.1)
-  operand_exact one_value _ t u cs is q a w g = absurd a.shapes
-
-  -- and back, in writing
-  pub result_exact : SameExpressionsHaveOneValue → (y : Layout Expression) (t u : Ty) (cs : List Bool) (is : List Expression) (q : List ℕ) → IsInvertible y → Leads sizes variables y t u → IsPosition t cs q → AreIndices sizes variables is q → AreIndices sizes variables (to_result y is) (result_position num y q)
-  result_exact one_value (Split m) (ArrayOf n t) u cs is [] z a w g = absurd w
-  result_exact one_value (Split m) (ArrayOf n t) u cs [] (i ∷ q) z a w g = absurd g
-  result_exact one_value (Split m) (ArrayOf n t) u cs (f ∷ fs) (i ∷ q) z a w g = let p = parts f m i (num m) a.shapes.0 g.0 a.lengths in (p.0, (p.1, g.1))
-  result_exact one_value (Join m) (ArrayOf n (ArrayOf k t)) u cs is [] z a w g = absurd w
-  result_exact one_value (Join m) (ArrayOf n (ArrayOf k t)) u cs is (i ∷ []) z a w g = absurd w.1
-  result_exact one_value (Join m) (ArrayOf n (ArrayOf k t)) u cs [] (i ∷ j ∷ q) z a w g = absurd g
-  result_exact one_value (Join m) (ArrayOf n (ArrayOf k t)) u cs (f ∷ []) (i ∷ j ∷ q) z a w g = absurd g.1
-  result_exact one_value (Join m) (ArrayOf n (ArrayOf k t)) u cs (f ∷ h ∷ fs) (i ∷ j ∷ q) z a w g =
-      let s = subst IsShort a.shapes.2 a.result in
-      let e = a.shapes.1 in
-      let lt = join_in i j (num m) n w.0 (let b = w.1.0 in omega arith) in
-      (cell one_value f m h i (num m) j g.0 a.lengths g.1.0 (let c = s.0 in omega arith), g.1.1)
-  result_exact one_value Transpose (ArrayOf n (ArrayOf m t)) u cs is [] z a w g = absurd w
-  result_exact one_value Transpose (ArrayOf n (ArrayOf m t)) u cs is (i ∷ []) z a w g = absurd w.1
-  result_exact one_value Transpose (ArrayOf n (ArrayOf m t)) u cs [] (i ∷ j ∷ q) z a w g = absurd g
-  result_exact one_value Transpose (ArrayOf n (ArrayOf m t)) u cs (f ∷ []) (i ∷ j ∷ q) z a w g = absurd g.1
-  result_exact one_value Transpose (ArrayOf n (ArrayOf m t)) u cs (f ∷ h ∷ fs) (i ∷ j ∷ q) z a w g = (g.1.0, (g.0, g.1.1))
-  result_exact one_value (Reverse k) (ArrayOf n t) u cs is q z a w g = operand_exact one_value (Reverse k) (ArrayOf n t) u cs is q a (subst (λ z. IsPosition z cs q) (sym a.shapes.1) w) g
-  result_exact one_value (Slide s k) t u cs is q z a w g = absurd z
-  result_exact one_value (Pad x y k) t u cs is q z a w g = absurd z
-  result_exact one_value _ t u cs is q z a w g = absurd a.shapes
 
   -- ---- the number of a scalar
   regroup : (i m j s f : ℕ) → (i * m + j) * s + f ≡ i * (m * s) + (j * s + f)

@@ -1,6 +1,7 @@
 mod Shapes
 mod Signs
 mod Exact
+mod Layouts
 mod Cells
 mod Loads
 mod Nodes

@@ -1,13 +1,9 @@
 -- A pair whose sides are loaded.
-use Rattle.std.proofs.Common.{◌≡◌, ℕ, ◌+◌, true, false, ◌∷◌, Result, Ok, Err, IfOk, ap, ◌∙◌}
+use Rattle.std.proofs.Common.{◌≡◌, ℕ, ◌+◌, true, false, ◌∷◌, ap, ◌∙◌}
 use Rattle.lift_ir.specs.Terms.{LoadSet, Each}
 use Rattle.lift_ir.specs.Scalars.{by_side}
 use Rattle.printed_form.specs.Counts.{load_count}
 use Rattle.printed_form.specs.Views.{Blank, View, loaded_view}
-
-pub if_ok : {A E : Type 0} {P Q : A → Type 0} (r : Result A E) → ((v : A) → P v → Q v) → IfOk r P → IfOk r Q
-if_ok (Ok v) f h = f v h
-if_ok (Err e) f h = tt
 
 pub each_side : (l r : LoadSet) (x u w a b : View) (n m : ℕ) → u ≡ (λ cs is. x (false ∷ cs) is) → w ≡ (λ cs is. x (true ∷ cs) is)
     → a ≡ loaded_view l u n → b ≡ loaded_view r w m → m ≡ n + load_count l → by_side (λ is. Blank) a b ≡ loaded_view (Each l r) x n

@@ -2,16 +2,17 @@
 use Rattle.std.proofs.Common.{ℕ, ◌+◌, ◌≤◌, Bool, true, false, List, [], ◌∷◌, arith}
 use Rattle.std.specs.Prelude.{◌==◌, ◌%◌, ◌&&◌, nat_lt, if◌then◌else◌, map}
 use Rattle.lift_ir.specs.Types.{Shape, Scalar, PairOf, ArrayOf}
-use Rattle.lift_ir.specs.Layouts.{Layout, Split, Join, Transpose, Reverse, Slide, Pad}
+use Rattle.lift_ir.specs.Layouts.{Layout}
 use Rattle.index_expr.specs.declared.operation.Operation.{Operation}
-use Rattle.index_expr.specs.declared.operation.Operation.TheVariants.{Sum, Difference, Product, Quotient, Remainder, Least, Greatest}
+use Rattle.index_expr.specs.declared.operation.Operation.TheVariants.{Sum, Product, Quotient}
 use Rattle.index_expr.specs.Expression.{Expression, Variable, Literal, Size, Binary, nodes, short_nodes, short_operation, divisor_of, scaled_nodes}
 use Rattle.index_simplify.specs.Laws.{first_part}
-use Rattle.array_views.specs.Layouts.{are_parts, cell_in_rows, to_operand, to_result}
+use Rattle.array_views.specs.Layouts.{are_parts, cell_in_rows, expressions, to_operand, to_result}
 use Rattle.array_views.specs.Views as view
 use Rattle.array_views.specs.Views.{PlainView}
 use Rattle.array_views.specs.Accesses.{row_major, row_major_from, access_at}
-use Rattle.array_views.specs.NodeCounts.{operand_nodes, result_nodes, row_major_nodes, placed_nodes, nodes_at, index_nodes, HaveNoMoreNodes}
+use Rattle.array_views.specs.NodeCounts.{node_counts, operand_nodes, result_nodes, row_major_nodes, placed_nodes, nodes_at, index_nodes, HaveNoMoreNodes}
+use Rattle.array_views.proofs.Layouts.{AllBy, AreAlike, operand_alike, result_alike}
 
 -- a count of nodes, which may leave some out
 pub record IsCount (count : Expression → ℕ) : Type 0 where
@@ -74,11 +75,13 @@ in_short = record {
 }
 
 module _ (count : Expression → ℕ) (counts : IsCount count) where
-  -- indices of at most so many nodes
+  -- at most so many nodes
+  abbrev IsWithin : Expression → ℕ → Type 0
+  IsWithin e n = count e ≤ n
+
+  -- indices of at most so many
   abbrev AreWithin : List Expression → List ℕ → Type 0
-  AreWithin [] [] = Unit {0}
-  AreWithin (i ∷ is) (n ∷ ns) = (count i ≤ n) × AreWithin is ns
-  AreWithin _ _ = ⊥
+  AreWithin = AllBy IsWithin
 
   themselves : (is : List Expression) → AreWithin is (map count is)
   themselves [] = tt
@@ -103,44 +106,14 @@ module _ (count : Expression → ℕ) (counts : IsCount count) where
       go true = first_within i (a + l + 1 + b + 1) (omega arith)
       go false = step_within i m j a l b x y z
 
-  clamped_within : (i n : Expression) (l a : ℕ) → count i ≤ a → count (Binary Least (Binary Difference (Binary Greatest i (Literal l)) (Literal l)) (Binary Difference n (Literal 1))) ≤ a + 1 + 1 + 1 + 1 + (count n + 1 + 1) + 1
-  clamped_within i n l a x =
-      let past = binary_within Greatest i (Literal l) a 1 x (counts.literal l) in
-      let back = binary_within Difference (Binary Greatest i (Literal l)) (Literal l) (a + 1 + 1) 1 past (counts.literal l) in
-      let last = binary_within Difference n (Literal 1) (count n) 1 (omega arith) (counts.literal 1) in
-      binary_within Least (Binary Difference (Binary Greatest i (Literal l)) (Literal l)) (Binary Difference n (Literal 1)) (a + 1 + 1 + 1 + 1) (count n + 1 + 1) back last
-
-  turned_within : (i n : Expression) (a : ℕ) → count i ≤ a → count (Binary Difference (Binary Difference n (Literal 1)) i) ≤ count n + 1 + 1 + a + 1
-  turned_within i n a x =
-      let last = binary_within Difference n (Literal 1) (count n) 1 (omega arith) (counts.literal 1) in
-      binary_within Difference (Binary Difference n (Literal 1)) i (count n + 1 + 1) a last x
+  within_counts : AreAlike expressions node_counts IsWithin
+  within_counts = record { number = counts.literal; operation = binary_within; cell = cell_within }
 
   operand_within : (y : Layout Expression) (is : List Expression) (ns : List ℕ) → AreWithin is ns → AreWithin (to_operand y is) (operand_nodes count y ns)
-  operand_within (Split m) [] [] h = tt
-  operand_within (Split m) (i ∷ []) (a ∷ []) h = h
-  operand_within (Split m) (i ∷ j ∷ is) (a ∷ b ∷ ns) h = (cell_within i m j a (count m) b h.0 (omega arith) h.1.0, h.1.1)
-  operand_within (Join m) [] [] h = tt
-  operand_within (Join m) (i ∷ is) (a ∷ ns) h =
-      (binary_within Quotient i m a (count m) h.0 (omega arith), (binary_within Remainder i m a (count m) h.0 (omega arith), h.1))
-  operand_within Transpose [] [] h = tt
-  operand_within Transpose (i ∷ []) (a ∷ []) h = h
-  operand_within Transpose (i ∷ j ∷ is) (a ∷ b ∷ ns) h = (h.1.0, (h.0, h.1.1))
-  operand_within (Reverse n) [] [] h = tt
-  operand_within (Reverse n) (i ∷ is) (a ∷ ns) h = (turned_within i n a h.0, h.1)
-  operand_within (Slide s t) [] [] h = tt
-  operand_within (Slide s t) (i ∷ []) (a ∷ []) h = h
-  operand_within (Slide s t) (i ∷ j ∷ is) (a ∷ b ∷ ns) h = (cell_within i (Literal t) j a 1 b h.0 (counts.literal t) h.1.0, h.1.1)
-  operand_within (Pad l r n) [] [] h = tt
-  operand_within (Pad l r n) (i ∷ is) (a ∷ ns) h = (clamped_within i n l a h.0, h.1)
-  operand_within y _ _ h = absurd (assumption)
+  operand_within = operand_alike expressions node_counts IsWithin within_counts (λ m. m) count (λ m. omega arith)
 
   result_within : (y : Layout Expression) (is : List Expression) (ns : List ℕ) → AreWithin is ns → AreWithin (to_result y is) (result_nodes count y ns)
-  result_within (Split m) is ns h = operand_within (Join m) is ns h
-  result_within (Join m) is ns h = operand_within (Split m) is ns h
-  result_within Transpose is ns h = operand_within Transpose is ns h
-  result_within (Reverse n) is ns h = operand_within (Reverse n) is ns h
-  result_within (Slide s t) is ns h = h
-  result_within (Pad l r n) is ns h = h
+  result_within = result_alike expressions node_counts IsWithin within_counts (λ m. m) count (λ m. omega arith)
 
   from_within : (i : Expression) (a : ℕ) (t : Shape Expression) (is : List Expression) (ns : List ℕ) → count i ≤ a → AreWithin is ns → count (row_major_from i t is) ≤ row_major_nodes count a t ns
   from_within i a Scalar is ns x h = x

@@ -1,4 +1,4 @@
--- Types and layouts whose lengths are spelled.
+-- Types whose lengths are spelled.
 use Rattle.std.proofs.Common.{◌≡◌, ℕ, ◌+◌, ◌≤◌, Bool, true, false, List, [], ◌∷◌, refl, ap, ◌∙◌, arith}
 use Rattle.std.proofs.Math.Path.{fun_ext}
 use Rattle.kernel_tree.specs.Formula as formula
@@ -6,12 +6,10 @@ use Rattle.kernel_tree.specs.Formula.{Formula}
 use Rattle.kernel_tree.specs.Code.{Array}
 use Rattle.scalar_ops.specs.declared.op.Op.TheVariants.{Add, Mul}
 use Rattle.lift_ir.specs.Types.{Shape, Scalar, PairOf, ArrayOf, width, component}
-use Rattle.lift_ir.specs.Layouts.{Layout, Split, Join, Transpose, Reverse, Slide, Pad}
-use Rattle.printed_form.specs.Views.{Read, placed_view, index_from, index_in, operand_indices, result_indices}
+use Rattle.printed_form.specs.Views.{Read, placed_view, index_from, index_in}
 use Rattle.index_expr.specs.Expression.{Expression}
 use Rattle.length_spelling.specs.Formulas.{index_formula}
 use Rattle.array_views.specs.Arrays.{spelled_shape}
-use Rattle.array_views.specs.Layouts.{spelled_layout}
 
 pub some_width : {A : Type 0} (t : Shape A) → 1 ≤ width t
 some_width Scalar = omega arith
@@ -48,28 +46,3 @@ module _ {A : Type 0} (spell : A → Expression) where
 
   pub placed_spelled : (form : ℕ → Array) (first : ℕ) (t : Shape A) → placed_view index_formula form first (spelled_shape spell t) ≡ placed_view spelled_so form first t
   placed_spelled form first t = fun_ext (λ cs. fun_ext (λ is. ap (λ c. Read (form (first + c)) (index_in index_formula (spelled_shape spell t) is)) (component_spelled t cs) ∙ ap (Read (form (first + component t cs))) (in_spelled t is)))
-
-  pub operand_spelled : (y : Layout A) (is : List Formula) → operand_indices index_formula (spelled_layout spell y) is ≡ operand_indices spelled_so y is
-  operand_spelled (Split m) [] = refl
-  operand_spelled (Split m) (i ∷ []) = refl
-  operand_spelled (Split m) (i ∷ j ∷ is) = refl
-  operand_spelled (Join m) [] = refl
-  operand_spelled (Join m) (i ∷ is) = refl
-  operand_spelled Transpose [] = refl
-  operand_spelled Transpose (i ∷ []) = refl
-  operand_spelled Transpose (i ∷ j ∷ is) = refl
-  operand_spelled (Reverse n) [] = refl
-  operand_spelled (Reverse n) (i ∷ is) = refl
-  operand_spelled (Slide s t) [] = refl
-  operand_spelled (Slide s t) (i ∷ []) = refl
-  operand_spelled (Slide s t) (i ∷ j ∷ is) = refl
-  operand_spelled (Pad l r n) [] = refl
-  operand_spelled (Pad l r n) (i ∷ is) = refl
-
-  pub result_spelled : (y : Layout A) (is : List Formula) → result_indices index_formula (spelled_layout spell y) is ≡ result_indices spelled_so y is
-  result_spelled (Split m) is = operand_spelled (Join m) is
-  result_spelled (Join m) is = operand_spelled (Split m) is
-  result_spelled Transpose is = operand_spelled Transpose is
-  result_spelled (Reverse n) is = operand_spelled (Reverse n) is
-  result_spelled (Slide s t) is = refl
-  result_spelled (Pad l r n) is = refl

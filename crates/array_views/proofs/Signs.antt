@@ -1,9 +1,9 @@
 -- What a view says is what the printed form's says.
-use Rattle.std.proofs.Common.{◌≡◌, ℕ, zero, suc, ◌+◌, Bool, true, false, List, [], ◌∷◌, refl, sym, ap, ◌∙◌, ⊎_elim, arith, eq-eqb}
-use Rattle.std.proofs.lemmas.Bool.{cases_Bool, eqb-true}
+use Rattle.std.proofs.Common.{◌≡◌, ℕ, zero, suc, ◌+◌, Bool, true, false, List, [], ◌∷◌, refl, ap, ap₂, ◌∙◌, arith, eq-eqb}
+use Rattle.std.proofs.lemmas.Bool.{eqb-true, ne_eqb}
 use Rattle.std.specs.Prelude.{◌&&◌, ◌==◌, if◌then◌else◌, map}
 use Rattle.lift_ir.specs.Types.{Shape, Scalar, PairOf, ArrayOf, component}
-use Rattle.lift_ir.specs.Layouts.{Layout, Split, Join, Transpose, Reverse, Slide, Pad}
+use Rattle.lift_ir.specs.Layouts.{Layout}
 use Rattle.kernel_tree.specs.Formula.{Formula}
 use Rattle.kernel_tree.specs.Formula as formula
 use Rattle.scalar_ops.specs.declared.op.Op.{Op}
@@ -18,7 +18,8 @@ use Rattle.index_simplify.specs.Tests.{same_operation, same}
 use Rattle.length_spelling.specs.Turns.{turn_formula}
 use Rattle.length_spelling.specs.Formulas.{operator_of, index_formula}
 use Rattle.array_views.specs.Arrays.{array_with}
-use Rattle.array_views.specs.Layouts.{are_parts, cell_in_rows, to_operand, to_result}
+use Rattle.array_views.specs.Layouts.{are_parts, cell_in_rows, expressions, to_operand, to_result}
+use Rattle.array_views.proofs.Layouts.{AllBy, AreAlike, formulas, operand_alike, operand_printed, result_alike, result_printed}
 use Rattle.array_views.specs.Views as view
 use Rattle.array_views.specs.Views.{PlainView, view_of}
 use Rattle.array_views.specs.Accesses.{sign_of, row_major, row_major_from, access_at}
@@ -50,25 +51,22 @@ all_three : (a b c x y z : Bool) → a ≡ x → b ≡ y → c ≡ z → (a && b
 all_three a b c x y z p q r = ap (λ u. u && b && c) p ∙ ap (λ u. x && u && c) q ∙ ap (λ u. x && y && u) r
 
 -- ---- what spells a turn
-differ : (k j : ℕ) → (k ≡ j → ⊥) → (k == j) ≡ false
-differ k j h = ⊎_elim (λ t. absurd (h (eqb-true k j t))) (λ f. f) (cases_Bool (k == j))
-
 next_same : (k j : ℕ) → (suc (suc k) == suc (suc j)) ≡ (k == j)
 next_same k j = go (k == j) refl
   where
     go : (b : Bool) → (k == j) ≡ b → (suc (suc k) == suc (suc j)) ≡ b
     go true e = eq-eqb (suc (suc k)) (suc (suc j)) (ap (λ x. suc (suc x)) (eqb-true k j e))
-    go false e = differ (suc (suc k)) (suc (suc j)) (λ h. let same : k ≡ j = omega arith in let t : (k == j) ≡ true = eq-eqb k j same in absurd (cc (t, e)))
+    go false e = ne_eqb (suc (suc k)) (suc (suc j)) (λ h. let same : k ≡ j = omega arith in let t : (k == j) ≡ true = eq-eqb k j same in absurd (cc (t, e)))
 
 same_turns : (k j : ℕ) → (k == j) ≡ same_formula (turn_formula k) (turn_formula j)
 same_turns zero zero = refl
 same_turns zero (suc zero) = refl
-same_turns zero (suc (suc j)) = differ zero (suc (suc j)) (λ h. absurd (omega arith))
+same_turns zero (suc (suc j)) = ne_eqb zero (suc (suc j)) (λ h. absurd (omega arith))
 same_turns (suc zero) zero = refl
 same_turns (suc zero) (suc zero) = refl
-same_turns (suc zero) (suc (suc j)) = differ (suc zero) (suc (suc j)) (λ h. absurd (omega arith))
-same_turns (suc (suc k)) zero = differ (suc (suc k)) zero (λ h. absurd (omega arith))
-same_turns (suc (suc k)) (suc zero) = differ (suc (suc k)) (suc zero) (λ h. absurd (omega arith))
+same_turns (suc zero) (suc (suc j)) = ne_eqb (suc zero) (suc (suc j)) (λ h. absurd (omega arith))
+same_turns (suc (suc k)) zero = ne_eqb (suc (suc k)) zero (λ h. absurd (omega arith))
+same_turns (suc (suc k)) (suc zero) = ne_eqb (suc (suc k)) (suc zero) (λ h. absurd (omega arith))
 same_turns (suc (suc k)) (suc (suc j)) = next_same k j
 
 number_is_no_turn : (k n : ℕ) → (false ≡ same_formula (turn_formula k) (formula.Number n)) × (false ≡ same_formula (formula.Number n) (turn_formula k))
@@ -140,30 +138,31 @@ cell_is i m j = chosen (are_parts i m j) ∙ ap (λ b. if b then printed.dividen
     chosen true = dividend_is i
     chosen false = refl
 
+-- ---- through layouts
+abbrev IsFormulaOf : Expression → Formula → Type 0
+IsFormulaOf e f = index_formula e ≡ f
+
+as_formulas : AreAlike expressions formulas IsFormulaOf
+as_formulas = record {
+  number = λ n. refl;
+  operation = λ o a b f g x y. ap₂ (formula.Binary (operator_of o)) x y;
+  cell = λ i m j f l g x y z. cell_is i m j ∙ ap (λ k. printed.cell_in_rows k (index_formula m) (index_formula j)) x ∙ ap₂ (printed.cell_in_rows f) y z;
+}
+
+their_formulas : (is : List Expression) → AllBy IsFormulaOf is (map index_formula is)
+their_formulas [] = tt
+their_formulas (i ∷ is) = (refl, their_formulas is)
+
+mapped : (is : List Expression) (fs : List Formula) → AllBy IsFormulaOf is fs → map index_formula is ≡ fs
+mapped [] [] h = refl
+mapped (i ∷ is) (f ∷ fs) h = ap₂ (λ x xs. x ∷ xs) h.0 (mapped is fs h.1)
+mapped _ _ h = absurd (assumption)
+
 operand_is : (y : Layout Expression) (is : List Expression) → map index_formula (to_operand y is) ≡ operand_indices index_formula y (map index_formula is)
-operand_is (Split m) [] = refl
-operand_is (Split m) (i ∷ []) = refl
-operand_is (Split m) (i ∷ j ∷ is) = ap (λ z. z ∷ map index_formula is) (cell_is i m j)
-operand_is (Join m) [] = refl
-operand_is (Join m) (i ∷ is) = refl
-operand_is Transpose [] = refl
-operand_is Transpose (i ∷ []) = refl
-operand_is Transpose (i ∷ j ∷ is) = refl
-operand_is (Reverse n) [] = refl
-operand_is (Reverse n) (i ∷ is) = refl
-operand_is (Slide s t) [] = refl
-operand_is (Slide s t) (i ∷ []) = refl
-operand_is (Slide s t) (i ∷ j ∷ is) = ap (λ z. z ∷ map index_formula is) (cell_is i (Literal t) j)
-operand_is (Pad l r n) [] = refl
-operand_is (Pad l r n) (i ∷ is) = refl
+operand_is y is = mapped _ _ (operand_alike expressions formulas IsFormulaOf as_formulas (λ m. m) index_formula (λ m. refl) y is (map index_formula is) (their_formulas is)) ∙ operand_printed index_formula y (map index_formula is)
 
 result_is : (y : Layout Expression) (is : List Expression) → map index_formula (to_result y is) ≡ result_indices index_formula y (map index_formula is)
-result_is (Split m) is = operand_is (Join m) is
-result_is (Join m) is = operand_is (Split m) is
-result_is Transpose is = operand_is Transpose is
-result_is (Reverse n) is = operand_is (Reverse n) is
-result_is (Slide s t) is = refl
-result_is (Pad l r n) is = refl
+result_is y is = mapped _ _ (result_alike expressions formulas IsFormulaOf as_formulas (λ m. m) index_formula (λ m. refl) y is (map index_formula is) (their_formulas is)) ∙ result_printed index_formula y (map index_formula is)
 
 pub sign_is : (v : PlainView) (cs : List Bool) (is : List Expression) → sign_of (access_at v cs is) ≡ view_of v cs (map index_formula is)
 sign_is view.Nothing cs is = refl

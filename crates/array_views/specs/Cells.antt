@@ -3,12 +3,13 @@ use Rattle.std.specs.Prelude.{◌≡◌, ℕ, ◌+◌, ◌<◌, ◌⊎◌, pos, 
 use Rattle.kernel_tree.specs.Code.{Array}
 use Rattle.lift_ir.specs.AtLaunch.{natural}
 use Rattle.lift_ir.specs.Types.{Shape, Ty, Scalar, PairOf, ArrayOf, measured, width, size, IsShort, IsPlaced}
-use Rattle.lift_ir.specs.Layouts.{Layout, Split, Join, Reverse, Pad, operand_position, result_position, Reshapes, IsInvertible, HasWordStep}
+use Rattle.lift_ir.specs.Layouts.{Layout, operand_position, result_position, Reshapes, IsInvertible, HasWordStep}
 use Rattle.lift_ir.specs.Scalars.{by_side, at_index}
 use Rattle.printed_form.specs.Marks.{Mark, Nowhere, Register, Spot, Marks, laid_in}
 use Rattle.index_expr.specs.Expression.{Expression}
 use Rattle.index_expr.specs.Values.{exact, IsRangedAt, HasNoZeroDivisorAt}
 use Rattle.array_views.specs.Arrays.{array_with}
+use Rattle.array_views.specs.Layouts.{EachLength}
 use Rattle.array_views.specs.Views.{PlainView, Nothing, Variable, Placed, Both, Component, At, Reading, Writing}
 use Rattle.array_views.specs.Accesses as access
 use Rattle.array_views.specs.Accesses.{PlainAccess}
@@ -59,21 +60,13 @@ module _ (sizes variables : List ℕ) where
   HasLengths (PairOf a b) = HasLengths a × HasLengths b
   HasLengths (ArrayOf n t) = IsLength n × HasLengths t
 
-  -- and those of a layout
-  abbrev pub KeepsLengths : Layout Expression → Type 0
-  KeepsLengths (Split m) = IsLength m
-  KeepsLengths (Join m) = IsLength m
-  KeepsLengths (Reverse n) = IsLength n
-  KeepsLengths (Pad l r n) = IsLength n
-  KeepsLengths _ = Unit {0}
-
   -- a layout from the first type to the second
   pub record Leads (y : Layout Expression) (t u : Ty) : Type 0 where
     pub shapes : Reshapes number_at y t u
     pub operand : IsShort t
     pub result : IsShort u
     pub step : HasWordStep y
-    pub lengths : KeepsLengths y
+    pub lengths : EachLength IsLength y
 
   -- the view is of a value of this type
   abbrev pub IsViewOf : PlainView → Ty → Type 0

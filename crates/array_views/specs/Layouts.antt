@@ -1,6 +1,7 @@
--- Layouts whose lengths are index expressions, on index expressions.
-use Rattle.std.specs.Prelude.{◌&&◌, if◌then◌else◌, Bool, false, List, ◌∷◌}
+-- Layouts, on index expressions and on whatever else stands for indices and is calculated with.
+use Rattle.std.specs.Prelude.{ℕ, ◌&&◌, if◌then◌else◌, Bool, false, List, ◌∷◌}
 use Rattle.lift_ir.specs.Layouts as ir
+use Rattle.index_expr.specs.declared.operation.Operation.{Operation}
 use Rattle.index_expr.specs.declared.operation.Operation.TheVariants.{Sum, Difference, Product, Quotient, Remainder, Least, Greatest}
 use Rattle.index_expr.specs.Expression.{Expression, Literal, Binary, expression_of}
 use Rattle.index_simplify.specs.Laws.{first_part}
@@ -26,6 +27,73 @@ spelled_layout spell (ir.Reverse n) = ir.Reverse (spell n)
 spelled_layout spell (ir.Slide s t) = ir.Slide s t
 spelled_layout spell (ir.Pad l r n) = ir.Pad l r (spell n)
 
+-- it holds of each length that a layout has
+abbrev pub EachLength : {A : Type 0} → (A → Type 0) → ir.Layout A → Type 0
+EachLength P (ir.Split m) = P m
+EachLength P (ir.Join m) = P m
+EachLength P (ir.Reverse n) = P n
+EachLength P (ir.Pad l r n) = P n
+EachLength P _ = Unit {0}
+
+-- ---- what becomes of the outer indices
+
+-- how to calculate with what stands for indices: the number, the operation, and the index of a
+-- column in a row of this length
+pub record Arithmetic (X : Type 0) : Type 0 where
+  pub number : ℕ → X
+  pub operation : Operation → X → X → X
+  pub cell : (row length column : X) → X
+
+-- the first two indices change places
+abbrev pub swapped : {X : Type 0} → List X → List X
+swapped (i ∷ j ∷ p) = j ∷ i ∷ p
+swapped p = p
+
+module _ {X : Type 0} (r : Arithmetic X) where
+  -- the index in rows of this length one after another
+  abbrev pub flattened : (length : X) → List X → List X
+  flattened m (i ∷ j ∷ p) = r.cell i m j ∷ p
+  flattened m p = p
+
+  -- the row, and the index in it
+  abbrev pub parted : (length : X) → List X → List X
+  parted m (i ∷ p) = r.operation Quotient i m ∷ r.operation Remainder i m ∷ p
+  parted m p = p
+
+  -- as far from the last as from the first
+  abbrev pub turned : (length : X) → List X → List X
+  turned n (i ∷ p) = r.operation Difference (r.operation Difference n (r.number 1)) i ∷ p
+  turned n p = p
+
+  -- the index without so many in front, and not past the last
+  abbrev pub clamped : (left length : X) → List X → List X
+  clamped l n (i ∷ p) =
+      r.operation Least (r.operation Difference (r.operation Greatest i l) l)
+      (r.operation Difference n (r.number 1))
+      ∷ p
+  clamped l n p = p
+
+  -- where these stand for the lengths
+  module _ {A : Type 0} (length : A → X) where
+    -- the indices in the operand of indices in the result
+    abbrev pub operand_of : ir.Layout A → List X → List X
+    operand_of (ir.Split m) is = flattened (length m) is
+    operand_of (ir.Join m) is = parted (length m) is
+    operand_of ir.Transpose is = swapped is
+    operand_of (ir.Reverse n) is = turned (length n) is
+    operand_of (ir.Slide s t) is = flattened (r.number t) is
+    operand_of (ir.Pad l k n) is = clamped (r.number l) (length n) is
+
+    -- the indices in the result of indices in the operand, for join, split, transpose and reverse
+    abbrev pub result_of : ir.Layout A → List X → List X
+    result_of (ir.Split m) is = parted (length m) is
+    result_of (ir.Join m) is = flattened (length m) is
+    result_of ir.Transpose is = swapped is
+    result_of (ir.Reverse n) is = turned (length n) is
+    result_of _ is = is
+
+-- ---- on index expressions
+
 -- the row and the column of one index in rows of this length
 abbrev pub are_parts : (row length column : Expression) → Bool
 are_parts (Binary Quotient e n) m (Binary Remainder f k) = same e f && same n m && same k m
@@ -36,45 +104,14 @@ are_parts _ _ _ = false
 abbrev pub cell_in_rows : (row length column : Expression) → Expression
 cell_in_rows i m j = if are_parts i m j then first_part i else Binary Sum (Binary Product i m) j
 
--- the index in rows of this length one after another
-abbrev pub flattened : (length : Expression) → List Expression → List Expression
-flattened m (i ∷ j ∷ p) = cell_in_rows i m j ∷ p
-flattened m p = p
-
--- the row, and the index in it
-abbrev pub parted : (length : Expression) → List Expression → List Expression
-parted m (i ∷ p) = Binary Quotient i m ∷ Binary Remainder i m ∷ p
-parted m p = p
-
--- the first two indices change places
-abbrev pub swapped : List Expression → List Expression
-swapped (i ∷ j ∷ p) = j ∷ i ∷ p
-swapped p = p
-
--- as far from the last as from the first
-abbrev pub turned : (length : Expression) → List Expression → List Expression
-turned n (i ∷ p) = Binary Difference (Binary Difference n (Literal 1)) i ∷ p
-turned n p = p
-
--- the index without so many in front, and not past the last
-abbrev pub clamped : (left length : Expression) → List Expression → List Expression
-clamped l n (i ∷ p) =
-    Binary Least (Binary Difference (Binary Greatest i l) l) (Binary Difference n (Literal 1)) ∷ p
-clamped l n p = p
+-- index expressions are calculated with by their operations
+abbrev pub expressions : Arithmetic Expression
+expressions = record { number = Literal; operation = Binary; cell = cell_in_rows }
 
 -- the indices in the operand of indices in the result
 abbrev pub to_operand : ir.Layout Expression → List Expression → List Expression
-to_operand (ir.Split m) is = flattened m is
-to_operand (ir.Join m) is = parted m is
-to_operand ir.Transpose is = swapped is
-to_operand (ir.Reverse n) is = turned n is
-to_operand (ir.Slide s t) is = flattened (Literal t) is
-to_operand (ir.Pad l r n) is = clamped (Literal l) n is
+to_operand y is = operand_of expressions (λ m. m) y is
 
 -- the indices in the result of indices in the operand, for join, split, transpose and reverse
 abbrev pub to_result : ir.Layout Expression → List Expression → List Expression
-to_result (ir.Split m) is = parted m is
-to_result (ir.Join m) is = flattened m is
-to_result ir.Transpose is = swapped is
-to_result (ir.Reverse n) is = turned n is
-to_result _ is = is
+to_result y is = result_of expressions (λ m. m) y is

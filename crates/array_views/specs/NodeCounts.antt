@@ -1,55 +1,31 @@
 -- The nodes of the layouts' formulas put into one another, from the nodes of the indices.
 use Rattle.std.specs.Prelude.{ℕ, ◌+◌, ◌≤◌, Bool, true, false, List, ◌∷◌, map}
 use Rattle.lift_ir.specs.Types.{Shape, ArrayOf}
-use Rattle.lift_ir.specs.Layouts.{Layout, Split, Join, Transpose, Reverse, Slide, Pad}
+use Rattle.lift_ir.specs.Layouts.{Layout}
 use Rattle.index_expr.specs.Expression.{Expression, nodes, short_nodes}
+use Rattle.array_views.specs.Layouts.{Arithmetic, operand_of, result_of}
 use Rattle.array_views.specs.Views.{PlainView, Placed, Both, Component, At, Reading, Writing}
 use Rattle.array_views.specs.Accesses as access
 use Rattle.array_views.specs.Accesses.{PlainAccess, access_at}
 
--- i * m + j
-abbrev pub flattened_nodes : (length : ℕ) → List ℕ → List ℕ
-flattened_nodes m (i ∷ j ∷ p) = (i + m + 1 + j + 1) ∷ p
-flattened_nodes m p = p
-
--- i / m and i % m
-abbrev pub parted_nodes : (length : ℕ) → List ℕ → List ℕ
-parted_nodes m (i ∷ p) = (i + m + 1) ∷ (i + m + 1) ∷ p
-parted_nodes m p = p
-
--- j and i
-abbrev pub swapped_nodes : List ℕ → List ℕ
-swapped_nodes (i ∷ j ∷ p) = j ∷ i ∷ p
-swapped_nodes p = p
-
--- n - 1 - i
-abbrev pub turned_nodes : (length : ℕ) → List ℕ → List ℕ
-turned_nodes n (i ∷ p) = (n + 1 + 1 + i + 1) ∷ p
-turned_nodes n p = p
-
--- min(max(i, l) - l, n - 1)
-abbrev pub clamped_nodes : (length : ℕ) → List ℕ → List ℕ
-clamped_nodes n (i ∷ p) = (i + 1 + 1 + 1 + 1 + (n + 1 + 1) + 1) ∷ p
-clamped_nodes n p = p
+-- an operation is a node, i * m + j two
+abbrev pub node_counts : Arithmetic ℕ
+node_counts =
+    record {
+      number = λ n. 1;
+      operation = λ o a b. a + b + 1;
+      cell = λ i m j. i + m + 1 + j + 1;
+    }
 
 -- lengths and indices at elements are counted so
 module _ (count : Expression → ℕ) where
   -- in the operand, from those in the result
   abbrev pub operand_nodes : Layout Expression → List ℕ → List ℕ
-  operand_nodes (Split m) ns = flattened_nodes (count m) ns
-  operand_nodes (Join m) ns = parted_nodes (count m) ns
-  operand_nodes Transpose ns = swapped_nodes ns
-  operand_nodes (Reverse n) ns = turned_nodes (count n) ns
-  operand_nodes (Slide s t) ns = flattened_nodes 1 ns
-  operand_nodes (Pad l r n) ns = clamped_nodes (count n) ns
+  operand_nodes y ns = operand_of node_counts count y ns
 
   -- in the result, from those in the operand
   abbrev pub result_nodes : Layout Expression → List ℕ → List ℕ
-  result_nodes (Split m) ns = parted_nodes (count m) ns
-  result_nodes (Join m) ns = flattened_nodes (count m) ns
-  result_nodes Transpose ns = swapped_nodes ns
-  result_nodes (Reverse n) ns = turned_nodes (count n) ns
-  result_nodes _ ns = ns
+  result_nodes y ns = result_of node_counts count y ns
 
   -- i, then i * m + j for each further index j below m
   abbrev pub row_major_nodes : ℕ → Shape Expression → List ℕ → ℕ

@@ -9,7 +9,7 @@ ghost use Rattle.length_spelling.specs.Formulas.{spelled_length};
 ghost use Rattle.array_views.specs.Stacks.{indices_in};
 ghost use Rattle.index_simplify.specs.Laws.{first_part};
 ghost use Rattle.array_views.specs.Layouts as spec;
-ghost use Rattle.array_views.specs.Layouts.{layout_in, spelled_layout, flattened, parted, swapped, turned, clamped, to_operand, to_result};
+ghost use Rattle.array_views.specs.Layouts.{layout_in, spelled_layout, expressions, flattened, parted, swapped, turned, clamped, to_operand, to_result};
 
 use crate::extent::flat_index;
 use crate::stack::IndexStack;
@@ -137,7 +137,7 @@ fn outer_length(alloc: Global, names: &Names, ty: &Ty) -> Result<Index, AllocErr
 // Row and index in it become the index in all rows.
 fn flatten(alloc: Global, length: &Index, indices: &mut IndexStack) -> Result<(), AllocError>
     ensures { OnOk result (indices_in indices.new
-        ≡ flattened (expression_of length.now) (indices_in indices.old)) }
+        ≡ flattened expressions (expression_of length.now) (indices_in indices.old)) }
 {
     let Some(row) = indices.pop() else {
         return Ok(());
@@ -198,7 +198,7 @@ const MOST_PARTED: u64 = 262_144;
 // An index becomes the row and the index in it.
 fn part(alloc: Global, length: &Index, indices: &mut IndexStack) -> Result<(), AllocError>
     ensures { OnOk result (indices_in indices.new
-        ≡ parted (expression_of length.now) (indices_in indices.old)) }
+        ≡ parted expressions (expression_of length.now) (indices_in indices.old)) }
 {
     let Some(index) = indices.pop() else {
         return Ok(());
@@ -234,7 +234,7 @@ fn swap(indices: &mut IndexStack) -> Result<(), AllocError>
 // As far from the last as the index is from the first.
 fn turn(alloc: Global, length: &Index, indices: &mut IndexStack) -> Result<(), AllocError>
     ensures { OnOk result (indices_in indices.new
-        ≡ turned (expression_of length.now) (indices_in indices.old)) }
+        ≡ turned expressions (expression_of length.now) (indices_in indices.old)) }
 {
     let Some(index) = indices.pop() else {
         return Ok(());
@@ -252,7 +252,7 @@ fn clamp(
     indices: &mut IndexStack,
 ) -> Result<(), AllocError>
     ensures { OnOk result (indices_in indices.new
-        ≡ clamped (Literal left) (expression_of length.now) (indices_in indices.old)) }
+        ≡ clamped expressions (Literal left) (expression_of length.now) (indices_in indices.old)) }
 {
     let Some(index) = indices.pop() else {
         return Ok(());

@@ -91,6 +91,16 @@ fn with_words<'a>(
     with_subcommand(command, words_command(alloc, name, ids)?)
 }
 
+// The command with the subcommand of a run.
+fn with_run<'a>(alloc: Global, command: Command<'a>) -> Result<Command<'a>, AllocError>
+    requires { (out-Command command).has_globals ≡ false }
+    ensures app { IfOk result (λ c. app_of c
+        ≡ with_subcommand (app_of command.entry) spec.run_command.top) }
+    ensures local { IfOk result (λ c. (out-Command c).has_globals ≡ false) }
+{
+    with_subcommand(command, run_command(alloc)?)
+}
+
 // The command with its first subcommands: those for one kernel, and that for a program's value.
 fn kernel_commands<'a>(alloc: Global) -> Result<Command<'a>, AllocError>
     ensures app { IfOk result (λ c. app_of c ≡ spec.kernel_commands) }
@@ -98,7 +108,7 @@ fn kernel_commands<'a>(alloc: Global) -> Result<Command<'a>, AllocError>
 {
     let sources = ["program", "script"].as_slice();
     let command = with_words(alloc, bare_command(alloc), "compile", sources)?;
-    let command = with_subcommand(command, run_command(alloc)?)?;
+    let command = with_run(alloc, command)?;
     with_words(alloc, command, "eval", ["program", "launch"].as_slice())
 }
 

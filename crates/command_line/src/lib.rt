@@ -1,12 +1,4 @@
-//! The command line of `lift`, read by clap.
-//!
-//! - `lift compile PROGRAM SCRIPT`
-//! - `lift run PROGRAM SCRIPT LAUNCH [--trace]`
-//! - `lift eval PROGRAM LAUNCH`
-//! - `lift steps PROGRAM SCRIPT`
-//! - `lift stages PROGRAM SCRIPT`
-//! - `lift run-stages PROGRAM SCRIPT LAUNCH`
-//! - `lift demo SEED`
+//! The command line of `lift`, read by clap. Its commands are those of [`Request`].
 //!
 //! There is no help and no version.
 #![tactic(auto)]

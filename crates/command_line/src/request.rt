@@ -1,10 +1,11 @@
 //! What a command line asks for.
 
-ghost use Rattle.std.specs.Prelude.{◌≡◌, ◌≢◌, ◌↔◌, IfOk, option_map, string_bytes};
+ghost use Rattle.std.specs.Prelude.{◌≡◌, ◌≢◌, ◌↔◌, IfOk, Some, option_map, string_bytes};
 ghost use Rattle.clap.specs.Words.{found_of, kind_of, rows_of, subcommand_rows_of};
 ghost use Rattle.clap.specs.declared.error.kind.ErrorKind.TheVariants as kind;
 ghost use Rattle.command_line.specs.App as app;
 ghost use Rattle.command_line.specs.declared.request.WordsNo.TheVariants.{Memory, Refused};
+ghost use Rattle.command_line.specs.Requests as line;
 ghost use Rattle.command_line.specs.Requests.{is_set, line_at, line_entered, line_of, seed_of, value_of};
 
 use clap::ArgMatches;
@@ -15,42 +16,44 @@ use std::alloc::{AllocError, Global};
 /// A command, with the names of its files, or its seed.
 #[derive(Drop)]
 pub enum Request {
-    /// Write the kernel of the program under the script.
+    /// `lift compile PROGRAM SCRIPT`: write the kernel of the program under the script.
     Compile {
         program: String,
         script: String,
     },
-    /// Run that kernel on the bundled device, as the launch file says, and write its events where
-    /// they are to be traced.
+    /// `lift run PROGRAM SCRIPT LAUNCH [--trace]`: run that kernel on the bundled device, as the
+    /// launch file says, and write its events where they are to be traced.
     Run {
         program: String,
         script: String,
         launch: String,
         trace: bool,
     },
-    /// Write the program's source value at the launch file's sizes and inputs.
+    /// `lift eval PROGRAM LAUNCH`: write the program's source value at the launch file's sizes and
+    /// inputs.
     Eval {
         program: String,
         launch: String,
     },
-    /// Write what each step of the script makes of the program.
+    /// `lift steps PROGRAM SCRIPT`: write what each step of the script makes of the program.
     Steps {
         program: String,
         script: String,
     },
-    /// Write the kernels that the program is cut into under the script, which are run in order.
+    /// `lift stages PROGRAM SCRIPT`: write the kernels that the program is cut into under the
+    /// script, which are run in order.
     Stages {
         program: String,
         script: String,
     },
-    /// Run those kernels, each as the launch file says.
+    /// `lift run-stages PROGRAM SCRIPT LAUNCH`: run those kernels, each as the launch file says.
     RunStages {
         program: String,
         script: String,
         launch: String,
     },
-    /// Write what the run of a stencil by tiles makes of data that a generator gives, begun at this
-    /// seed.
+    /// `lift demo SEED`: write what the run of a stencil by tiles makes of data that a generator
+    /// gives, begun at this seed.
     Demo {
         seed: u32,
     },
@@ -136,6 +139,94 @@ fn seed_of(word: &str) -> Option<u32>
     }
 }
 
+// The kernel of a program under a script.
+fn compile_request(alloc: Global, matches: &ArgMatches<'_>) -> Result<Option<Request>, AllocError>
+    ensures { let rows = rows_of (found_of matches.now) in
+        IfOk result (λ request. option_map line_of request
+        ≡ Some (line.compile (value_of app.program rows) (value_of app.script rows))) }
+{
+    let (program, script) = sources(alloc, matches)?;
+    Ok(Some(Request::Compile { program, script }))
+}
+
+// The run of a kernel, with its events where the flag is set.
+fn run_request(alloc: Global, matches: &ArgMatches<'_>) -> Result<Option<Request>, AllocError>
+    ensures { let rows = rows_of (found_of matches.now) in
+        IfOk result (λ request. option_map line_of request
+        ≡ Some (line.run (value_of app.program rows) (value_of app.script rows)
+        (value_of app.launch rows) (is_set app.trace rows))) }
+{
+    let (program, script) = sources(alloc, matches)?;
+    let launch = file_name(alloc, matches, "launch")?;
+    Ok(Some(Request::Run {
+        program,
+        script,
+        launch,
+        trace: is_set(matches, "trace"),
+    }))
+}
+
+// The value of a program.
+fn eval_request(alloc: Global, matches: &ArgMatches<'_>) -> Result<Option<Request>, AllocError>
+    ensures { let rows = rows_of (found_of matches.now) in
+        IfOk result (λ request. option_map line_of request
+        ≡ Some (line.eval (value_of app.program rows) (value_of app.launch rows))) }
+{
+    let program = file_name(alloc, matches, "program")?;
+    let launch = file_name(alloc, matches, "launch")?;
+    Ok(Some(Request::Eval { program, launch }))
+}
+
+// The steps of a script.
+fn steps_request(alloc: Global, matches: &ArgMatches<'_>) -> Result<Option<Request>, AllocError>
+    ensures { let rows = rows_of (found_of matches.now) in
+        IfOk result (λ request. option_map line_of request
+        ≡ Some (line.steps (value_of app.program rows) (value_of app.script rows))) }
+{
+    let (program, script) = sources(alloc, matches)?;
+    Ok(Some(Request::Steps { program, script }))
+}
+
+// Kernels in order.
+fn stages_request(alloc: Global, matches: &ArgMatches<'_>) -> Result<Option<Request>, AllocError>
+    ensures { let rows = rows_of (found_of matches.now) in
+        IfOk result (λ request. option_map line_of request
+        ≡ Some (line.stages (value_of app.program rows) (value_of app.script rows))) }
+{
+    let (program, script) = sources(alloc, matches)?;
+    Ok(Some(Request::Stages { program, script }))
+}
+
+// The run of kernels in order.
+fn run_stages_request(
+    alloc: Global,
+    matches: &ArgMatches<'_>,
+) -> Result<Option<Request>, AllocError>
+    ensures { let rows = rows_of (found_of matches.now) in
+        IfOk result (λ request. option_map line_of request
+        ≡ Some (line.run_stages (value_of app.program rows) (value_of app.script rows)
+        (value_of app.launch rows))) }
+{
+    let (program, script) = sources(alloc, matches)?;
+    let launch = file_name(alloc, matches, "launch")?;
+    Ok(Some(Request::RunStages {
+        program,
+        script,
+        launch,
+    }))
+}
+
+// A demo, where its seed is a decimal.
+fn demo_request(matches: &ArgMatches<'_>) -> Option<Request>
+    ensures { option_map line_of result
+        ≡ option_map line.demo (seed_of (value_of app.seed (rows_of (found_of matches.now)))) }
+{
+    match seed_of(value(matches, "seed")) {
+        Some(seed) => Some(Request::Demo { seed }),
+        None => None,
+    }
+}
+
 // The subcommand of this name asks for a request, if it is one of the command's, and its seed is a
 // decimal.
 fn named_request(
@@ -146,47 +237,16 @@ fn named_request(
     ensures { IfOk result (λ request. option_map line_of request
         ≡ line_at name.now (rows_of (found_of matches.now))) }
 {
-    let request = match name {
-        "compile" => {
-            let (program, script) = sources(alloc, matches)?;
-            Request::Compile { program, script }
-        }
-        "run" => {
-            let (program, script) = sources(alloc, matches)?;
-            Request::Run {
-                program,
-                script,
-                launch: file_name(alloc, matches, "launch")?,
-                trace: is_set(matches, "trace"),
-            }
-        }
-        "eval" => Request::Eval {
-            program: file_name(alloc, matches, "program")?,
-            launch: file_name(alloc, matches, "launch")?,
-        },
-        "steps" => {
-            let (program, script) = sources(alloc, matches)?;
-            Request::Steps { program, script }
-        }
-        "stages" => {
-            let (program, script) = sources(alloc, matches)?;
-            Request::Stages { program, script }
-        }
-        "run-stages" => {
-            let (program, script) = sources(alloc, matches)?;
-            Request::RunStages {
-                program,
-                script,
-                launch: file_name(alloc, matches, "launch")?,
-            }
-        }
-        "demo" => match seed_of(value(matches, "seed")) {
-            Some(seed) => Request::Demo { seed },
-            None => return Ok(None),
-        },
-        _ => return Ok(None),
-    };
-    Ok(Some(request))
+    match name {
+        "compile" => compile_request(alloc, matches),
+        "run" => run_request(alloc, matches),
+        "eval" => eval_request(alloc, matches),
+        "steps" => steps_request(alloc, matches),
+        "stages" => stages_request(alloc, matches),
+        "run-stages" => run_stages_request(alloc, matches),
+        "demo" => Ok(demo_request(matches)),
+        _ => Ok(None),
+    }
 }
 
 /// What the matches ask for, where the seed of a demo is a decimal. Clap enters a subcommand in all

@@ -60,14 +60,15 @@ pub fn has_short_copies(alloc: Global, term: &Term) -> bool
     ensures { IsTrue result → HasShortCopies (term_of term.now) }
 {
     match term {
-        Term::Pair(a, b) | Term::Zip(a, b) | Term::LetArray(a, b) | Term::Map(_, _, _, a, b) => {
+        Term::Pair(a, b) | Term::Zip(a, b) | Term::LetArray(a, b) => {
             has_short_copies(alloc, a) && has_short_copies(alloc, b)
         }
-        Term::First(a)
-        | Term::Second(a)
-        | Term::Reshape(_, a)
-        | Term::LetElement(_, _, a)
-        | Term::Fold(_, _, _, a, _, _) => has_short_copies(alloc, a),
+        Term::Map(map) => {
+            has_short_copies(alloc, &map.array) && has_short_copies(alloc, &map.body)
+        }
+        Term::Fold(fold) => has_short_copies(alloc, &fold.array),
+        Term::First(a) | Term::Second(a) | Term::Reshape(_, a) | Term::LetElement(_, _, a) =>
+            has_short_copies(alloc, a),
         Term::Copy(_, ty, a) => is_short_copy(alloc, ty) && has_short_copies(alloc, a),
         Term::Literal(_)
         | Term::Bound(_)

@@ -10,7 +10,7 @@ use barrier_placement::{Barrier, Touch};
 use lift_tree::layout as forms;
 use lift_tree::term::UnaryForm;
 use lift_tree::ty::Ty;
-use lowering::term::{Kind, Layout, LoadSet, Space, Term};
+use lowering::term::{Fold, Kind, Layout, LoadSet, Map, Space, Term};
 use phase_plan::phases::Phases;
 use scalar_ops::op::Op;
 use size_arith::Poly;
@@ -48,17 +48,16 @@ fn summed(alloc: Global, row: Box<Term>, start: Term) -> Result<Box<Term>, Alloc
 {
     let element = Box::new(alloc, Term::Bound(0))?;
     let sum = Term::Apply(Op::Add, element, Box::new(alloc, Term::Bound(1))?);
-    let start = Box::new(alloc, start)?;
-    let sum = Box::new(alloc, sum)?;
-    let fold = Term::Fold(
-        Poly::zero(alloc),
-        LoadSet::Take,
-        Ty::Number,
-        row,
+    let fold = Fold {
+        length: Poly::zero(alloc),
+        loads: LoadSet::Take,
+        accumulator: Ty::Number,
+        array: Box::into_inner(row),
         start,
-        sum,
-    );
-    Ok(Box::new(alloc, fold)?)
+        body: sum,
+    };
+    let fold = Box::new(alloc, fold)?;
+    Ok(Box::new(alloc, Term::Fold(fold))?)
 }
 
 fn local_map(
@@ -71,8 +70,15 @@ fn local_map(
     requires body { Stands true (term_of body.value) }
     ensures { IfOk result (λ t. StandsInGroup true (term_of t.value)) }
 {
-    let map = Term::Map(Kind::Local, Poly::zero(alloc), loads, array, body);
-    Ok(Box::new(alloc, map)?)
+    let map = Map {
+        kind: Kind::Local,
+        length: Poly::zero(alloc),
+        loads,
+        array: Box::into_inner(array),
+        body: Box::into_inner(body),
+    };
+    let map = Box::new(alloc, map)?;
+    Ok(Box::new(alloc, Term::Map(map))?)
 }
 
 fn copied(alloc: Global, ty: Ty, value: Box<Term>) -> Result<Box<Term>, AllocError>
@@ -139,9 +145,14 @@ fn over_groups(alloc: Global, body: Box<Term>) -> Result<Term, AllocError>
     requires { StandsInGroup true (term_of body.value) }
     ensures { IfOk result (λ t. StandsOverGroups (term_of t)) }
 {
-    let tiles = Box::new(alloc, Term::Source(0))?;
-    let length = Poly::zero(alloc);
-    Ok(Term::Map(Kind::WorkGroup, length, LoadSet::Skip, tiles, body))
+    let map = Map {
+        kind: Kind::WorkGroup,
+        length: Poly::zero(alloc),
+        loads: LoadSet::Skip,
+        array: Term::Source(0),
+        body: Box::into_inner(body),
+    };
+    Ok(Term::Map(Box::new(alloc, map)?))
 }
 
 fn has(touch: &Touch, phase: u32, buffer: u32, writes: bool, aligned: bool) -> bool {

@@ -17,7 +17,7 @@ use lift_tree::layout as forms;
 use lift_tree::length::Product;
 use lift_tree::term::UnaryForm;
 use lift_tree::ty::Ty;
-use lowering::term::{Kind, Layout, LoadSet, Space, Term};
+use lowering::term::{Kind, Layout, LoadSet, Map, Space, Term};
 use scalar_ops::op::Op;
 use size_arith::{Monomial, Names, Poly};
 use std::alloc::{AllocError, Global};
@@ -47,10 +47,14 @@ fn over_two(alloc: Global, array: Term, body: Term) -> Result<Term, AllocError>
     requires { HasShortCopies (term_of array) }
     ensures { IfOk result (λ t. HasShortCopies (term_of t)) }
 {
-    let stored = Term::Store(Ty::Number, Box::new(alloc, body)?);
-    let array = Box::new(alloc, array)?;
-    let body = Box::new(alloc, stored)?;
-    Ok(Term::Map(Kind::Local, number(alloc, 2)?, LoadSet::Take, array, body))
+    let map = Map {
+        kind: Kind::Local,
+        length: number(alloc, 2)?,
+        loads: LoadSet::Take,
+        array,
+        body: Term::Store(Ty::Number, Box::new(alloc, body)?),
+    };
+    Ok(Term::Map(Box::new(alloc, map)?))
 }
 
 // The copy of a tile.
@@ -87,10 +91,14 @@ fn split_input(alloc: Global) -> Result<Term, AllocError>
 fn over_groups(alloc: Global) -> Result<Term, AllocError>
     ensures { IfOk result (λ t. HasShortCopies (term_of t)) }
 {
-    let array = Box::new(alloc, split_input(alloc)?)?;
-    let body = Box::new(alloc, sums(alloc)?)?;
-    let count = number(alloc, 3)?;
-    Ok(Term::Map(Kind::WorkGroup, count, LoadSet::Skip, array, body))
+    let map = Map {
+        kind: Kind::WorkGroup,
+        length: number(alloc, 3)?,
+        loads: LoadSet::Skip,
+        array: split_input(alloc)?,
+        body: sums(alloc)?,
+    };
+    Ok(Term::Map(Box::new(alloc, map)?))
 }
 
 fn added_tiles(alloc: Global) -> Result<Term, AllocError>

@@ -6,8 +6,6 @@ use Rattle.lift_reader.specs.declared.refusal.Quantity.{Quantity}
 use Rattle.lift_reader.specs.declared.refusal.Quantity.TheVariants as counted
 use Rattle.lowered_tree.specs.declared.rule.NestRule.{NestRule}
 use Rattle.lowered_tree.specs.declared.rule.NestRule.TheVariants as nest
-use Rattle.pattern_types.specs.declared.refusal.Rule.{Rule}
-use Rattle.pattern_types.specs.declared.refusal.Rule.TheVariants as rules
 use Rattle.pattern_types.specs.declared.refusal.TypeLimit.{TypeLimit}
 use Rattle.pattern_types.specs.declared.refusal.TypeLimit.TheVariants as limits
 use Rattle.strategy_script.specs.declared.faults.StepLimit.{StepLimit}
@@ -33,25 +31,6 @@ abbrev pub step_limit_name : StepLimit → List ℕ
 step_limit_name after.Nodes = codes "nodes"
 step_limit_name after.Depth = codes "depth"
 step_limit_name (after.Types which) = type_limit_name which
-
--- the name of a rule of typing
-abbrev pub rule_name : Rule → List ℕ
-rule_name rules.Operator = codes "operator"
-rule_name rules.Pair = codes "pair"
-rule_name rules.Project = codes "project"
-rule_name rules.Map = codes "map"
-rule_name rules.Reduce = codes "reduce"
-rule_name rules.Fold = codes "fold"
-rule_name rules.Zip = codes "zip"
-rule_name rules.Split = codes "split"
-rule_name rules.Join = codes "join"
-rule_name rules.Transpose = codes "transpose"
-rule_name rules.Reverse = codes "reverse"
-rule_name rules.Stride = codes "stride"
-rule_name rules.Slide = codes "slide"
-rule_name rules.Pad = codes "pad"
-rule_name rules.Output = codes "output"
-rule_name rules.Length = codes "length"
 
 -- the name of a rule of the nest
 abbrev pub nest_rule_name : NestRule → List ℕ

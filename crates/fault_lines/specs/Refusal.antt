@@ -7,10 +7,11 @@ use Rattle.pattern_types.specs.declared.refusal.Spot.{Spot}
 use Rattle.pattern_types.specs.declared.refusal.Spot.TheVariants as spots
 use Rattle.pattern_types.specs.declared.refusal.TypeRefusal.{TypeRefusal}
 use Rattle.pattern_types.specs.declared.refusal.TypeRefusal.TheVariants as typings
+use Rattle.pattern_types.specs.Refusals.{rule_name}
 use Rattle.fault_lines.specs.Lines.{line_of_texts, place_text}
 use Rattle.buffer_allocation.specs.declared.buffers.AllocNo.{AllocNo}
 use Rattle.buffer_allocation.specs.declared.buffers.AllocNo.TheVariants as allocations
-use Rattle.fault_lines.specs.Names.{alloc_limit_name, nest_rule_name, quantity_name, rule_name, step_limit_name, type_limit_name}
+use Rattle.fault_lines.specs.Names.{alloc_limit_name, nest_rule_name, quantity_name, step_limit_name, type_limit_name}
 use Rattle.kernel_sequence.specs.declared.no.CutNo.{CutNo}
 use Rattle.kernel_sequence.specs.declared.no.CutNo.TheVariants as cuts
 use Rattle.rewriting.specs.Conditions.{condition_name}

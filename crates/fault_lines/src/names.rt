@@ -5,7 +5,6 @@ ghost use Rattle.fault_lines.specs.Names.{
   alloc_limit_name,
   nest_rule_name,
   quantity_name,
-  rule_name,
   step_limit_name,
   type_limit_name,
 };
@@ -13,7 +12,7 @@ ghost use Rattle.fault_lines.specs.Names.{
 use buffer_allocation::buffers::AllocLimit;
 use lift_reader::refusal::Quantity;
 use lowered_tree::rule::NestRule;
-use pattern_types::{Rule, TypeLimit};
+use pattern_types::TypeLimit;
 use rewriting::Condition;
 use strategy_script::StepLimit;
 
@@ -53,29 +52,6 @@ pub fn step_limit_name(which: StepLimit) -> &'static [u8]
         StepLimit::Nodes => b"nodes".as_slice(),
         StepLimit::Depth => b"depth".as_slice(),
         StepLimit::Types(which) => type_limit_name(which),
-    }
-}
-
-pub fn rule_name(rule: Rule) -> &'static [u8]
-    ensures { result.now ≡ rule_name rule }
-{
-    match rule {
-        Rule::Operator => b"operator".as_slice(),
-        Rule::Pair => b"pair".as_slice(),
-        Rule::Project => b"project".as_slice(),
-        Rule::Map => b"map".as_slice(),
-        Rule::Reduce => b"reduce".as_slice(),
-        Rule::Fold => b"fold".as_slice(),
-        Rule::Zip => b"zip".as_slice(),
-        Rule::Split => b"split".as_slice(),
-        Rule::Join => b"join".as_slice(),
-        Rule::Transpose => b"transpose".as_slice(),
-        Rule::Reverse => b"reverse".as_slice(),
-        Rule::Stride => b"stride".as_slice(),
-        Rule::Slide => b"slide".as_slice(),
-        Rule::Pad => b"pad".as_slice(),
-        Rule::Output => b"output".as_slice(),
-        Rule::Length => b"length".as_slice(),
     }
 }
 

@@ -14,7 +14,7 @@ ghost use Rattle.fault_lines.specs.Refusal.{
 
 use crate::lines::{Piece, write_line};
 use crate::names::{
-    alloc_limit_name, condition_name, nest_rule_name, quantity_name, rule_name, step_limit_name,
+    alloc_limit_name, condition_name, nest_rule_name, quantity_name, step_limit_name,
     type_limit_name,
 };
 use buffer_allocation::buffers::AllocNo;
@@ -99,7 +99,7 @@ fn report_rule<E: Sink>(err: &mut E, rule: Rule, spot: &Spot)
             err,
             &[
                 Piece::Text(b"lift: type: "),
-                Piece::Text(rule_name(rule)),
+                Piece::Text(rule.name()),
                 Piece::Text(b" at input "),
                 Piece::Number(*number as u128),
             ],
@@ -108,7 +108,7 @@ fn report_rule<E: Sink>(err: &mut E, rule: Rule, spot: &Spot)
             err,
             &[
                 Piece::Text(b"lift: type: "),
-                Piece::Text(rule_name(rule)),
+                Piece::Text(rule.name()),
                 Piece::Text(b" at "),
                 Piece::Place(place.numbers()),
             ],

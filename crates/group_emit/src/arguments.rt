@@ -79,8 +79,8 @@ pub fn argument(
         | Term::ApplyNumber(_, _, _)
         | Term::Select(_, _, _)
         | Term::LetElement(_, _, _)
-        | Term::Map(_, _, _, _, _)
-        | Term::Fold(_, _, _, _, _, _)
+        | Term::Map(_)
+        | Term::Fold(_)
         | Term::Store(_, _) => View::nothing(alloc),
     }
 }

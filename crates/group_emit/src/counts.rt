@@ -20,9 +20,8 @@ pub fn local_count(term: &Term) -> Result<u32, AllocError>
         Term::Pair(a, b) | Term::Zip(a, b) | Term::LetArray(a, b) => {
             plus(local_count(a)?, local_count(b)?)
         }
-        Term::First(a) | Term::Second(a) | Term::Reshape(_, a) | Term::Map(_, _, _, a, _) => {
-            local_count(a)
-        }
+        Term::First(a) | Term::Second(a) | Term::Reshape(_, a) => local_count(a),
+        Term::Map(map) => local_count(&map.array),
         Term::Copy(_, ty, a) => plus(local_count(a)?, width(ty)?),
         Term::Literal(_)
         | Term::Bound(_)
@@ -31,7 +30,7 @@ pub fn local_count(term: &Term) -> Result<u32, AllocError>
         | Term::ApplyNumber(_, _, _)
         | Term::Select(_, _, _)
         | Term::LetElement(_, _, _)
-        | Term::Fold(_, _, _, _, _, _)
+        | Term::Fold(_)
         | Term::Store(_, _) => Ok(0),
     }
 }
@@ -47,7 +46,7 @@ pub fn phases_in(term: &Term) -> Result<u32, AllocError>
         Term::First(a) | Term::Second(a) | Term::Reshape(_, a) | Term::Copy(_, _, a) => {
             phases_in(a)
         }
-        Term::Map(_, _, _, a, _) => plus(phases_in(a)?, 1),
+        Term::Map(map) => plus(phases_in(&map.array)?, 1),
         Term::Literal(_)
         | Term::Bound(_)
         | Term::Source(_)
@@ -55,7 +54,7 @@ pub fn phases_in(term: &Term) -> Result<u32, AllocError>
         | Term::ApplyNumber(_, _, _)
         | Term::Select(_, _, _)
         | Term::LetElement(_, _, _)
-        | Term::Fold(_, _, _, _, _, _)
+        | Term::Fold(_)
         | Term::Store(_, _) => Ok(0),
     }
 }
@@ -66,7 +65,7 @@ pub fn phase_count(term: &Term) -> Result<u32, AllocError>
 {
     match term {
         Term::Reshape(_, a) | Term::LetArray(_, a) => phase_count(a),
-        Term::Map(_, _, _, _, body) => phases_in(body),
+        Term::Map(map) => phases_in(&map.body),
         Term::Literal(_)
         | Term::Bound(_)
         | Term::Source(_)
@@ -78,7 +77,7 @@ pub fn phase_count(term: &Term) -> Result<u32, AllocError>
         | Term::First(_)
         | Term::Second(_)
         | Term::LetElement(_, _, _)
-        | Term::Fold(_, _, _, _, _, _)
+        | Term::Fold(_)
         | Term::Store(_, _)
         | Term::Copy(_, _, _) => Ok(0),
     }

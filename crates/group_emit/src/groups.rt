@@ -4,12 +4,11 @@ ghost use Rattle.std.specs.Prelude.{◌≡◌, IfOk};
 ghost use Rattle.group_form.specs.Printer as printer;
 ghost use Rattle.kernel_tree.specs.Tree.{formula_of};
 ghost use Rattle.length_spelling.specs.Turns.{number_of, turn_formula};
-ghost use Rattle.lift_ir.specs.Terms as terms;
 ghost use Rattle.lift_ir.specs.Terms.{WorkGroup};
 ghost use Rattle.printed_form.specs.MapForms as map_forms;
 ghost use Rattle.printed_form.specs.MapForms.{form_over_groups};
 ghost use Rattle.array_views.specs.Views.{view_in};
-ghost use Rattle.lowering.specs.Terms.{kind_of, load_set_of, term_of};
+ghost use Rattle.lowering.specs.Terms.{load_set_of, map_of, term_of};
 ghost use Rattle.item_emit.specs.Blocks.{code_in};
 ghost use Rattle.item_emit.specs.Copies.{HasShortCopies};
 ghost use Rattle.item_emit.specs.Scopes.{scope_of};
@@ -27,8 +26,7 @@ use item_emit::scope::Scope;
 use item_emit::statements::at_turn;
 use kernel_tree::tree::{Dimension, Expr, Start, Stride};
 use length_spelling::{Turn, spell_length};
-use lowering::term::{Kind, LoadSet, Term};
-use size_arith::Poly;
+use lowering::term::{Map, Term};
 use std::alloc::{AllocError, Global};
 
 // A turn of a map over work-groups, which stands in no loop: of its `if` where `once`, else of its
@@ -75,32 +73,31 @@ fn group_turn(
     setting: &Setting,
     depth: u32,
     scope: &Scope,
-    loads: &LoadSet,
+    map: &Map,
     element: &View,
-    body: &Term,
     target: &View,
 ) -> Result<Block, AllocError>
-    requires { HasShortCopies (term_of body.now) }
+    requires { HasShortCopies (term_of map.now.body) }
     ensures { IfOk result (λ b. code_in b ≡ printer.print_group_turn (spell_of setting.now)
         (forms_in setting.now) (inputs_of setting.now) (fence_in setting.now) depth
-        (scope_of scope.now) (load_set_of loads.now) (view_in element.now) (term_of body.now)
-        (view_in target.now)) }
+        (scope_of scope.now) (load_set_of map.now.loads) (view_in element.now)
+        (term_of map.now.body) (view_in target.now)) }
 {
-    let bound = loaded(alloc, loads, element, 0)?;
+    let bound = loaded(alloc, &map.loads, element, 0)?;
     let site = Site {
         depth,
         scope: &Scope::Bound(&bound, scope),
         used: Used {
             locals: 0,
             privates: 0,
-            variables: load_count(loads)?,
+            variables: load_count(&map.loads)?,
             phases: 0,
         },
     };
     let mut turn = Block::new(alloc);
-    setting.put_barrier(phases_in(body)?, &mut turn)?;
-    put_written(alloc, setting, &site, body, target, &mut turn)?;
-    put_loaded(alloc, loads, element, 0, &mut turn)?;
+    setting.put_barrier(phases_in(&map.body)?, &mut turn)?;
+    put_written(alloc, setting, &site, &map.body, target, &mut turn)?;
+    put_loaded(alloc, &map.loads, element, 0, &mut turn)?;
     Ok(turn)
 }
 
@@ -109,28 +106,22 @@ fn group_statement(
     alloc: Global,
     setting: &Setting,
     scope: &Scope,
-    kind: Kind,
-    count: &Poly,
-    loads: &LoadSet,
-    array: &Term,
-    body: &Term,
+    map: &Map,
     target: &View,
 ) -> Result<Block, AllocError>
-    requires array { HasShortCopies (term_of array.now) }
-    requires body { HasShortCopies (term_of body.now) }
+    requires { HasShortCopies (map_of map.now) }
     ensures { IfOk result (λ b. code_in b ≡ printer.print_groups (spell_of setting.now)
         (forms_in setting.now) (inputs_of setting.now) (fence_in setting.now)
-        (scope_of scope.now) (terms.Map (kind_of kind) count.now (load_set_of loads.now)
-        (term_of array.now) (term_of body.now)) (view_in target.now)) }
+        (scope_of scope.now) (map_of map.now) (view_in target.now)) }
 {
-    let once = setting.is_over_one(count);
+    let once = setting.is_over_one(&map.length);
     let turn = turn_over_groups(once);
-    let element = argument(alloc, &setting.declared, scope, 0, array)?;
+    let element = argument(alloc, &setting.declared, scope, 0, &map.array)?;
     let element = at_turn(alloc, &element, turn)?;
     let target = at_turn(alloc, target, turn)?;
     let depth = depth_over_groups(once);
-    let turn = group_turn(alloc, setting, depth, scope, loads, &element, body, &target)?;
-    let length = spell_length(alloc, count, setting.declared.names)?;
+    let turn = group_turn(alloc, setting, depth, scope, map, &element, &target)?;
+    let length = spell_length(alloc, &map.length, setting.declared.names)?;
     statement_over_groups(alloc, once, length, turn)
 }
 
@@ -157,9 +148,7 @@ pub fn groups(
             let bound = argument(alloc, &setting.declared, scope, 0, value)?;
             groups(alloc, setting, &Scope::Bound(&bound, &*scope), body, target)
         }
-        Term::Map(kind, count, loads, array, body) => group_statement(
-            alloc, setting, scope, *kind, count, loads, array, body, target,
-        ),
+        Term::Map(map) => group_statement(alloc, setting, scope, map, target),
         Term::Literal(_)
         | Term::Bound(_)
         | Term::Source(_)
@@ -171,7 +160,7 @@ pub fn groups(
         | Term::First(_)
         | Term::Second(_)
         | Term::LetElement(_, _, _)
-        | Term::Fold(_, _, _, _, _, _)
+        | Term::Fold(_)
         | Term::Store(_, _)
         | Term::Copy(_, _, _) => Ok(Block::new(alloc)),
     }

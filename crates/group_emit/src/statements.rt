@@ -9,7 +9,7 @@ ghost use Rattle.length_spelling.specs.Turns.{number_of, turn_formula};
 ghost use Rattle.lift_ir.specs.Terms as terms;
 ghost use Rattle.lift_ir.specs.Terms.{Local};
 ghost use Rattle.array_views.specs.Views.{view_in};
-ghost use Rattle.lowering.specs.Terms.{kind_of, load_set_of, term_of};
+ghost use Rattle.lowering.specs.Terms.{load_set_of, map_of, term_of};
 ghost use Rattle.item_emit.specs.Blocks.{code_in};
 ghost use Rattle.item_emit.specs.Copies.{HasShortCopies};
 ghost use Rattle.item_emit.specs.Scopes.{scope_of};
@@ -28,8 +28,7 @@ use item_emit::scope::Scope;
 use item_emit::statements as item;
 use kernel_tree::tree::{Dimension, Start, Stride};
 use length_spelling::{Turn, spell_length};
-use lowering::term::{Kind, LoadSet, Term};
-use size_arith::Poly;
+use lowering::term::{Map, Term};
 use std::alloc::{AllocError, Global};
 
 /// Where code stands: within so many loops, with these binders in scope, and
@@ -66,33 +65,32 @@ fn put_local_turn(
     alloc: Global,
     setting: &Setting,
     site: &Site,
-    count: &Poly,
-    loads: &LoadSet,
+    map: &Map,
     array: &View,
-    body: &Term,
     target: &View,
     block: &mut Block,
 ) -> Result<(), AllocError>
-    requires { HasShortCopies (term_of body.now) }
+    requires { HasShortCopies (term_of map.now.body) }
     ensures { OnOk result (code_in block.new ≡ printer.print_local_turn (spell_of setting.now)
         (forms_in setting.now) (inputs_of setting.now) (fence_in setting.now) site.now.depth
-        (scope_of site.now.scope.now) (used_of site.now.used) count.now (load_set_of loads.now)
-        (view_in array.now) (term_of body.now) (view_in target.now) (code_in block.old)) }
+        (scope_of site.now.scope.now) (used_of site.now.used) map.now.length
+        (load_set_of map.now.loads) (view_in array.now) (term_of map.now.body)
+        (view_in target.now) (code_in block.old)) }
 {
-    let form = setting.local_form(count);
+    let form = setting.local_form(&map.length);
     let turn = local_turn(form, site.depth);
     let element = item::at_turn(alloc, array, turn)?;
     let first_load = site.used.variables;
-    let bound = loaded(alloc, loads, &element, first_load)?;
+    let bound = loaded(alloc, &map.loads, &element, first_load)?;
     let inner = item::Site {
         depth: depth_in(form, site.depth)?,
         scope: &Scope::Bound(&bound, site.scope),
         array: site.used.privates,
-        variable: plus(first_load, load_count(loads)?)?,
+        variable: plus(first_load, load_count(&map.loads)?)?,
     };
     let target = item::at_turn(alloc, target, turn)?;
-    item::put_written(alloc, &setting.declared, &inner, body, &target, block)?;
-    put_loaded(alloc, loads, &element, first_load, block)
+    item::put_written(alloc, &setting.declared, &inner, &map.body, &target, block)?;
+    put_loaded(alloc, &map.loads, &element, first_load, block)
 }
 
 // A turn of a local map over this array, with nothing behind it.
@@ -100,22 +98,19 @@ fn local_block(
     alloc: Global,
     setting: &Setting,
     site: &Site,
-    count: &Poly,
-    loads: &LoadSet,
+    map: &Map,
     array: &View,
-    body: &Term,
     target: &View,
 ) -> Result<Block, AllocError>
-    requires { HasShortCopies (term_of body.now) }
+    requires { HasShortCopies (term_of map.now.body) }
     ensures { IfOk result (λ b. code_in b ≡ printer.print_local_turn (spell_of setting.now)
         (forms_in setting.now) (inputs_of setting.now) (fence_in setting.now) site.now.depth
-        (scope_of site.now.scope.now) (used_of site.now.used) count.now (load_set_of loads.now)
-        (view_in array.now) (term_of body.now) (view_in target.now) End) }
+        (scope_of site.now.scope.now) (used_of site.now.used) map.now.length
+        (load_set_of map.now.loads) (view_in array.now) (term_of map.now.body)
+        (view_in target.now) End) }
 {
     let mut turn = Block::new(alloc);
-    put_local_turn(
-        alloc, setting, site, count, loads, array, body, target, &mut turn,
-    )?;
+    put_local_turn(alloc, setting, site, map, array, target, &mut turn)?;
     Ok(turn)
 }
 
@@ -124,31 +119,28 @@ fn put_local_map(
     alloc: Global,
     setting: &Setting,
     site: &Site,
-    count: &Poly,
-    loads: &LoadSet,
+    map: &Map,
     array: &View,
-    body: &Term,
     target: &View,
     block: &mut Block,
 ) -> Result<(), AllocError>
-    requires { HasShortCopies (term_of body.now) }
+    requires { HasShortCopies (term_of map.now.body) }
     ensures { OnOk result (code_in block.new ≡ printer.print_local_map (spell_of setting.now)
         (forms_in setting.now) (inputs_of setting.now) (fence_in setting.now) site.now.depth
-        (scope_of site.now.scope.now) (used_of site.now.used) count.now (load_set_of loads.now)
-        (view_in array.now) (term_of body.now) (view_in target.now) (code_in block.old)) }
+        (scope_of site.now.scope.now) (used_of site.now.used) map.now.length
+        (load_set_of map.now.loads) (view_in array.now) (term_of map.now.body)
+        (view_in target.now) (code_in block.old)) }
 {
-    match setting.local_form(count) {
-        MapForm::Alone => put_local_turn(
-            alloc, setting, site, count, loads, array, body, target, block,
-        ),
+    match setting.local_form(&map.length) {
+        MapForm::Alone => put_local_turn(alloc, setting, site, map, array, target, block),
         MapForm::Guarded => {
-            let turn = local_block(alloc, setting, site, count, loads, array, body, target)?;
-            let length = spell_length(alloc, count, setting.declared.names)?;
+            let turn = local_block(alloc, setting, site, map, array, target)?;
+            let length = spell_length(alloc, &map.length, setting.declared.names)?;
             block.put_guard(Start::LocalId(Dimension::X), length, turn)
         }
         MapForm::Looped => {
-            let turn = local_block(alloc, setting, site, count, loads, array, body, target)?;
-            let length = spell_length(alloc, count, setting.declared.names)?;
+            let turn = local_block(alloc, setting, site, map, array, target)?;
+            let length = spell_length(alloc, &map.length, setting.declared.names)?;
             let stride = Stride::LocalSize(Dimension::X);
             block.put_loop(Start::LocalId(Dimension::X), length, stride, turn)
         }
@@ -161,33 +153,25 @@ fn put_map(
     alloc: Global,
     setting: &Setting,
     site: &Site,
-    kind: Kind,
-    count: &Poly,
-    loads: &LoadSet,
-    array: &Term,
-    body: &Term,
+    map: &Map,
     target: &View,
     block: &mut Block,
 ) -> Result<(), AllocError>
-    requires array { HasShortCopies (term_of array.now) }
-    requires body { HasShortCopies (term_of body.now) }
+    requires { HasShortCopies (map_of map.now) }
     ensures { OnOk result (code_in block.new ≡ printer.print_group_written (spell_of setting.now)
         (forms_in setting.now) (inputs_of setting.now) (fence_in setting.now) site.now.depth
         (scope_of site.now.scope.now)
-        (used_of site.now.used) (terms.Map (kind_of kind) count.now (load_set_of loads.now)
-        (term_of array.now) (term_of body.now)) (view_in target.now) (code_in block.old)) }
+        (used_of site.now.used) (map_of map.now) (view_in target.now) (code_in block.old)) }
 {
-    let view = argument(alloc, setting, site.scope, site.used.locals, array)?;
+    let view = argument(alloc, setting, site.scope, site.used.locals, &map.array)?;
     let after = Site {
         depth: site.depth,
         scope: site.scope,
-        used: site.used.after(array)?,
+        used: site.used.after(&map.array)?,
     };
-    put_local_map(
-        alloc, setting, &after, count, loads, &view, body, target, block,
-    )?;
+    put_local_map(alloc, setting, &after, map, &view, target, block)?;
     setting.put_barrier(after.used.phases, block)?;
-    put_argument(alloc, setting, site, array, block)
+    put_argument(alloc, setting, site, &map.array, block)
 }
 
 // The code of a let of an array whose body is written.
@@ -287,8 +271,8 @@ pub fn put_argument(
         | Term::ApplyNumber(_, _, _)
         | Term::Select(_, _, _)
         | Term::LetElement(_, _, _)
-        | Term::Map(_, _, _, _, _)
-        | Term::Fold(_, _, _, _, _, _)
+        | Term::Map(_)
+        | Term::Fold(_)
         | Term::Store(_, _) => Ok(()),
     }
 }
@@ -316,9 +300,7 @@ pub fn put_written(
             put_written(alloc, setting, site, a, &target, block)
         }
         Term::LetArray(value, body) => put_let(alloc, setting, site, value, body, target, block),
-        Term::Map(kind, count, loads, array, body) => put_map(
-            alloc, setting, site, *kind, count, loads, array, body, target, block,
-        ),
+        Term::Map(map) => put_map(alloc, setting, site, map, target, block),
         Term::Literal(_)
         | Term::Bound(_)
         | Term::Source(_)
@@ -330,7 +312,7 @@ pub fn put_written(
         | Term::First(_)
         | Term::Second(_)
         | Term::LetElement(_, _, _)
-        | Term::Fold(_, _, _, _, _, _)
+        | Term::Fold(_)
         | Term::Store(_, _)
         | Term::Copy(_, _, _) => Ok(()),
     }

@@ -2,7 +2,7 @@
 use Rattle.std.proofs.Common.{◌≡◌, ℕ, ◌+◌, ◌*◌, ◌<◌, ◌≤◌, Bool, true, false, List, [], ◌∷◌, ◌++◌, refl, sym, subst, arith}
 use Rattle.std.proofs.Math.Nat.{mod-lt}
 use Rattle.kernel_tree.specs.Formula.{Formula}
-use Rattle.kernel_tree.specs.Code.{Local as LocalArray, Code, End, Loops, Guards, Syncs, start_value, stride_value}
+use Rattle.kernel_tree.specs.Code.{Local as LocalArray, Code, End, Loops, Guards, start_value, stride_value}
 use Rattle.kernel_tree.specs.Launch.{Launch, IsWhole, item_count, ids_of, column_of}
 use Rattle.barrier_placement.specs.Fencing.{Fencing, Open, Fenced}
 use Rattle.lift_ir.specs.Terms.{LoadSet, Kind, WorkGroup, Local, LocalMemory, Term, Bound, Source, Both, Project, Reshape, LetArray, Map, Copy, push}
@@ -14,7 +14,7 @@ use Rattle.printed_form.specs.MapForms.{MapForm, Looped, Guarded, Alone, MapForm
 use Rattle.printed_form.specs.Marks.{Marks, laid_in, loaded_marks}
 use Rattle.printed_form.specs.Alike.{Alike}
 use Rattle.printed_form.proofs.Alike.{alike_by, alike_loaded, alike_written}
-use Rattle.group_phases.specs.Epochs.{IsPast}
+use Rattle.group_phases.specs.Epochs.{fenced, IsPast}
 use Rattle.group_form.specs.Form.{Used, used_after, IsLocalMap, IsGroupArgument, IsGroupWritten, IsGroupTurn, IsOverGroups}
 use Rattle.group_form.specs.Origins.{local_count}
 use Rattle.group_form.specs.Stages.{marks_of}
@@ -27,11 +27,11 @@ local_below l item whole = mod-lt (column_of l item) whole.x.positive
 module _ (l : Launch) (item : ℕ) where
   -- what stands before a phase
   past : (ts : List ℕ) (f g : Fencing) (a b c d : Code) → f ≡ g → IsPast f a c → IsPast g b d → Alike true l item ts c d → Alike true l item ts a b
-  past ts f g a b c d same x y h = go f x (subst (λ z. IsPast z b d) (sym same) y)
+  past ts f g a b c d same x y h = alike_by true l item ts a b (fenced f c) (fenced f d) x (subst (λ z. IsPast z b d) (sym same) y) (go f)
     where
-      go : (f : Fencing) → IsPast f a c → IsPast f b d → Alike true l item ts a b
-      go Open x y = alike_by true l item ts a b c d x y h
-      go (Fenced on_local on_global) x y = alike_by true l item ts a b (Syncs on_local on_global c) (Syncs on_local on_global d) x y (refl, refl, refl, h)
+      go : (f : Fencing) → Alike true l item ts (fenced f c) (fenced f d)
+      go Open = h
+      go (Fenced on_local on_global) = ((refl, refl, refl), h)
 
   module _ (ins : ℕ → Marks) where
     loaded : (ts : List ℕ) (loads : LoadSet) (e : Marks) (n : ℕ) (a b c d : Code) → IsLoaded l item ins ts loads e n a c → IsLoaded l item ins ts loads e n b d → Alike true l item ts c d → Alike true l item ts a b

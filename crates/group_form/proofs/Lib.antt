@@ -13,6 +13,7 @@ pub mod Theorem
 pub mod Needed
 pub mod Programs
 pub mod Shown
+pub mod Arguments
 pub mod ChosenForms
 pub mod Printer
 pub mod Placed

@@ -2,7 +2,7 @@
 -- told.
 use Rattle.std.proofs.Common.{◌≡◌, ℕ, List, sym, Bool, true, false, true≢false}
 use Rattle.std.specs.Prelude.{All, Contains, ◌&&◌}
-use Rattle.std.proofs.lemmas.Bool.{both_ways}
+use Rattle.std.proofs.lemmas.Bool.{both_ways, and_from}
 use Rattle.std.proofs.lemmas.List.Elements.{All-contains}
 use Rattle.barrier_placement.specs.declared.touches.Touch.{Touch}
 use Rattle.barrier_placement.specs.Conflicts.{Space, Conflict}
@@ -26,15 +26,11 @@ needed_too xs ys once n fence f g h = record {
   flagged = h.flagged;
 }
 
-both_true : (a b : Bool) → a ≡ true → b ≡ true → (a && b) ≡ true
-both_true true b p q = q
-both_true false b p q = p
-
 no_conflict : {P : Type 0} → (touches : List Touch) → All (λ x. x.aligned ≡ true) touches → (space : Space) (p q : ℕ) → Conflict touches space p q → P
 no_conflict touches h space p q c =
     let one = All-contains (λ x. x.aligned ≡ true) touches c.first h c.first_used in
     let two = All-contains (λ x. x.aligned ≡ true) touches c.second h c.second_used in
-    absurd (both_ways (c.first.aligned && c.second.aligned) c.clash.not_aligned (both_true c.first.aligned c.second.aligned one two))
+    absurd (both_ways (c.first.aligned && c.second.aligned) c.clash.not_aligned (and_from c.first.aligned c.second.aligned one two))
 
 pub aligned_need_none : AlignedNeedNone
 aligned_need_none touches once n h = record {

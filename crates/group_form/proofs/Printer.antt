@@ -1,12 +1,12 @@
 -- What the printer prints for a map over work-groups is printed for it.
-use Rattle.std.proofs.Common.{◌≡◌, ℕ, suc, ◌+◌, ◌<◌, ◌^◌, Bool, true, false, List, [], ◌∷◌, ◌++◌, ◌*◌, length, length-append, Some, refl, sym, subst, arith}
+use Rattle.std.proofs.Common.{◌≡◌, ℕ, suc, ◌+◌, ◌<◌, ◌^◌, Bool, true, false, List, [], ◌∷◌, ◌++◌, ◌*◌, length, length-append, refl, sym, subst, arith}
 use Rattle.size_arith.specs.declared.poly.Monomial.{Monomial}
 use Rattle.lift_tree.specs.Annotations.{type_in}
 use Rattle.kernel_tree.specs.Formula.{Formula, LoopVariable}
 use Rattle.kernel_tree.specs.Code.{Input, Output, Local as LocalArray, Code, End, start_value, stride_value}
 use Rattle.kernel_tree.specs.Launch.{Launch, ids_of}
-use Rattle.barrier_placement.specs.Fencing.{Fencing, Open, Fenced}
-use Rattle.lift_ir.specs.Types.{Ty, PairOf, ArrayOf, IsPosition, measured}
+use Rattle.barrier_placement.specs.Fencing.{Fencing}
+use Rattle.lift_ir.specs.Types.{Ty, PairOf, ArrayOf, measured}
 use Rattle.lift_ir.specs.Layouts.{result_position}
 use Rattle.lift_ir.specs.Terms.{LoadSet, LoadsScalars, WorkGroup, Local, LocalMemory, Term, Bound, Source, Both, Project, Reshape, LetArray, Map, Copy, push, HasType, no_type}
 use Rattle.lift_ir.specs.Scalars.{at_index}
@@ -14,8 +14,8 @@ use Rattle.lift_ir.specs.AtLaunch.{length_at, shape_of}
 use Rattle.lift_ir.specs.Loads.{covers, none, held_scalars, LoadsSuffice}
 use Rattle.lift_ir.proofs.Named.{names_suffice}
 use Rattle.lift_ir.proofs.Values.{shape_is}
-use Rattle.printed_form.specs.Counts.{load_count, private_count}
-use Rattle.printed_form.specs.Expressions.{held}
+use Rattle.printed_form.specs.Arguments.{private_arrays}
+use Rattle.printed_form.specs.Counts.{load_count}
 use Rattle.printed_form.specs.Form.{start_of, stride_of, IsTurnOf, IsLoaded, IsWritten, argument_marks}
 use Rattle.printed_form.specs.MapForms.{MapForm, Looped, Guarded, Alone, MapForms, MakeTurns, form_over_groups, variables_in, AreTurns}
 use Rattle.printed_form.specs.Marks.{Marks, laid_in, loaded_marks}
@@ -25,39 +25,23 @@ use Rattle.printed_form.specs.Programs.{input_shape, first_buffer, lowered_root}
 use Rattle.printed_form.specs.Views.{View, loaded_view, view_at, result_indices, placed_view, laid_view}
 use Rattle.printed_form.specs.Whole.{no_marks, output_marks}
 use Rattle.printed_form.proofs.Indices.{laid_cells, placed_cells}
-use Rattle.printed_form.proofs.Printer.{cells_show, HeldIn, written_is}
-use Rattle.group_phases.specs.Epochs.{IsPast}
+use Rattle.printed_form.proofs.Shown.{cells_show, all_within, all_push, turned_cells, HeldIn, held_push, loaded_held, loaded_is, loaded_shows, back_cells}
+use Rattle.printed_form.proofs.Arguments.{kept_is, argument_shows, argument_view_is, stands_argument}
+use Rattle.printed_form.proofs.Printer.{written_is}
 use Rattle.lift_ir.specs.Forms.{Stands}
 use Rattle.group_form.specs.ChosenForms.{forms_of}
 use Rattle.group_form.specs.Forms.{StandsInGroup, IsOfInputs, StandsOverGroups}
 use Rattle.group_form.specs.Form.{Used, used_after, IsGroupArgument, IsGroupWritten, IsOverGroups}
-use Rattle.group_form.specs.Origins.{local_count}
+use Rattle.group_form.specs.Origins.{local_count, local_arrays}
 use Rattle.group_form.specs.Stages.{marks_of}
 use Rattle.group_form.specs.Uses.{phases_in}
 use Rattle.group_form.specs.Printer.{print_fence, group_view, print_local_map, turn_formula, depth_in, id_of, print_turns, print_group_argument, print_group_written, print_groups, group_kernel_code, GroupPrinterPrints, GroupProgramsArePrinted}
-use Rattle.group_form.proofs.Shown.{all_within, all_around, all_push, turned_cells, own_cells, held_push, loaded_held, loaded_is, loaded_shows, back_cells, moved_shows, zip_cells}
+use Rattle.group_form.proofs.Arguments.{group_argument, inputs_stand, group_view_is}
+use Rattle.group_form.proofs.Shown.{all_around, own_cells}
 use Rattle.group_form.proofs.ChosenForms.{forms_make_turns}
 use Rattle.printed_form.proofs.Programs.{declares_so, inputs_placed, lowered_has}
 
-past_fence : (f : Fencing) (rest : Code) → IsPast f (print_fence f rest) rest
-past_fence Open rest = refl
-past_fence (Fenced a b) rest = refl
-
 module _ (l : Launch) {A : Type 0} (num : A → ℕ) (forms : MapForms A) (spell : A → Formula) (spelled : (n : A) → num n < 2 ^ 31 → IsSpelled l (spell n) (num n)) (src : ℕ → Ty) (ins : ℕ → Marks) (sins : ℕ → View) (fence : ℕ → Fencing) (makes : MakeTurns forms num l) where
-  -- what is held of a copied argument at a turn
-  kept : (item : ℕ) (t : Term A) (g : ℕ → Ty) (env : (turn var : ℕ) → Marks) (h : ℕ → List Bool → Bool) (k i : ℕ) (ty : Ty) (cs : List Bool) → StandsInGroup false t → HasType num src g t ty → IsPosition ty cs [] → held_scalars h t cs ≡ true → HeldIn l item g (env i) h → (e : Formula) × (held (marks_of num ins env k t i cs []) ≡ Some e)
-  kept item (Bound v) g env h k i ty cs f ok w z r = r v cs (subst (λ y. IsPosition y cs []) ok w) z
-  kept item (Source v) g env h k i ty cs f ok w z r = absurd (cc)
-  kept item (Both true x y) g env h k i ty cs f ok w z r = absurd (subst (λ y. IsPosition y cs []) ok.3 w)
-  kept item (Project false x) g env h k i ty cs f ok w z r = kept item x g env h k i (PairOf ty ok.0) (false ∷ cs) f ok.1 w z r
-  kept item (Project true x) g env h k i ty cs f ok w z r = kept item x g env h k i (PairOf ok.0 ty) (true ∷ cs) f ok.1 w z r
-  kept item (Reshape y x) g env h k i ty cs f ok w z r = absurd (cc)
-  kept item (LetArray v b) g env h k i ty cs f ok w z r =
-      kept item b (push ok.0 g) (λ j. push (marks_of num ins env k v j) (env j)) (push (held_scalars h v) h) (k + local_count v) i ty cs f.1 ok.2 w z
-      (held_push l item ok.0 (marks_of num ins env k v i) (held_scalars h v) g (env i) h (λ cs w z. kept item v g env h k i ok.0 cs f.0 ok.1 w z r) r)
-  kept item (Copy LocalMemory ty2 x) g env h k i ty cs f ok w z r = absurd (cc)
-  kept item _ g env h k i ty cs f ok w z r = absurd (assumption)
-
   -- the code of a local map's turn, up to what follows it
   inner_is : (item : ℕ) (t : Term A) (ts : List ℕ) (depth : ℕ) (turn : Formula) (j : ℕ) (loads : LoadSet) (x y : Ty) (e v : View) (f w : Marks) (g : ℕ → Ty) (views : ℕ → View) (env : ℕ → Marks) (h : ℕ → List Bool → Bool) (a n : ℕ) (last : Code)
       → length ts ≡ depth → LoadsScalars loads x → HasType num src (push x g) t y → LoadsSuffice (push (covers loads) h) t → Stands true t
@@ -138,35 +122,39 @@ module _ (l : Launch) {A : Type 0} (num : A → ℕ) (forms : MapForms A) (spell
     abbrev Printed : ((turn var : ℕ) → Marks) → (ℕ → View) → Used → Term A → (rest : Code) → Type 0
     Printed env views u t rest = IsGroupArgument num forms l ins fence outer turns env u t (print_group_argument spell forms sins fence depth views u t rest) rest
 
+    -- what stands for an argument shows it
+    shown : (t : Term A) (g : ℕ → Ty) (views : ℕ → View) (env : (turn var : ℕ) → Marks) (h : ℕ → List Bool → Bool) (k : ℕ) (ty : Ty) → HasType num src g t ty → LoadsSuffice h t → StandsInGroup false t → AllShowing g views env → Inputs → Showing ty (group_view spell sins views k t) (marks_of num ins env k t)
+    shown t g views env h k ty ok nm sd es gs item i il own =
+        subst (λ v. Shows l item (around i) ty v (marks_of num ins env k t i)) (sym (group_view_is spell sins views k t)) (argument_shows local_arrays l item num spell spelled src ins sins (around i) (gs item i) t g views (env i) h k ty (group_argument t sd) ok nm (es item i il own))
+
+    -- in the body of a let
+    let_shows : (v : Term A) (g : ℕ → Ty) (views : ℕ → View) (env : (turn var : ℕ) → Marks) (h : ℕ → List Bool → Bool) (k : ℕ) (ty : Ty) → HasType num src g v ty → LoadsSuffice h v → StandsInGroup false v → AllShowing g views env → Inputs → AllShowing (push ty g) (push (group_view spell sins views k v) views) (λ i. push (marks_of num ins env k v i) (env i))
+    let_shows v g views env h k ty ok nm sd es gs item i il own = all_push l item (around i) ty (group_view spell sins views k v) (marks_of num ins env k v i) g views (env i) (shown v g views env h k ty ok nm sd es gs item i il own) (es item i il own)
+
+    let_holds : (v : Term A) (g : ℕ → Ty) (env : (turn var : ℕ) → Marks) (h : ℕ → List Bool → Bool) (k : ℕ) (ty : Ty) → HasType num src g v ty → AllHolding g env h → AllHolding (push ty g) (λ i. push (marks_of num ins env k v i) (env i)) (push (held_scalars h v) h)
+    let_holds v g env h k ty ok r item i il = held_push l item ty (marks_of num ins env k v i) (held_scalars h v) g (env i) h (λ cs w z. kept_is local_arrays l item num src ins v g (env i) h k ty cs ok w z (r item i il)) (r item i il)
+
     mutual
-      argument_is : (t : Term A) (g : ℕ → Ty) (views : ℕ → View) (env : (turn var : ℕ) → Marks) (h : ℕ → List Bool → Bool) (u : Used) (ty : Ty) (rest : Code) → HasType num src g t ty → LoadsSuffice h t → StandsInGroup false t → AllShowing g views env → Inputs → AllHolding g env h
-          → Printed env views u t rest × Showing ty (group_view spell sins views u.locals t) (marks_of num ins env u.locals t)
-      argument_is (Bound v) g views env h u ty rest ok nm sd es gs r = (refl, λ item i il own. subst (λ z. Shows l item (around i) z (views v) (env i v)) (sym ok) (es item i il own v))
-      argument_is (Source v) g views env h u ty rest ok nm sd es gs r = (refl, λ item i il own. subst (λ z. Shows l item (around i) z (sins v) (ins v)) (sym ok) (gs item i v))
+      argument_is : (t : Term A) (g : ℕ → Ty) (views : ℕ → View) (env : (turn var : ℕ) → Marks) (h : ℕ → List Bool → Bool) (u : Used) (ty : Ty) (rest : Code) → HasType num src g t ty → LoadsSuffice h t → StandsInGroup false t → AllShowing g views env → Inputs → AllHolding g env h → Printed env views u t rest
+      argument_is (Bound v) g views env h u ty rest ok nm sd es gs r = refl
+      argument_is (Source v) g views env h u ty rest ok nm sd es gs r = refl
       argument_is (Both true x y) g views env h u ty rest ok nm sd es gs r =
           let next = print_group_argument spell forms sins fence depth views (used_after u x) y rest in
-          let p = argument_is x g views env h u (ArrayOf ok.0 ok.1) next ok.4 nm.0 sd.0 es gs r in
-          let q = argument_is y g views env h (used_after u x) (ArrayOf ok.0 ok.2) rest ok.5 nm.1 sd.1 es gs r in
-          ((next, p.0, q.0), λ item i il own. subst (λ z. Shows l item (around i) z (group_view spell sins views u.locals (Both true x y)) (marks_of num ins env u.locals (Both true x y) i)) (sym ok.3) (zip_cells l item num spell spelled (around i) ok.0 ok.1 ok.2 _ _ _ _ (p.1 item i il own) (q.1 item i il own)))
-      argument_is (Project false x) g views env h u ty rest ok nm sd es gs r = let p = argument_is x g views env h u (PairOf ty ok.0) rest ok.1 nm sd es gs r in (p.0, λ item i il own. (p.1 item i il own).0)
-      argument_is (Project true x) g views env h u ty rest ok nm sd es gs r = let p = argument_is x g views env h u (PairOf ok.0 ty) rest ok.1 nm sd es gs r in (p.0, λ item i il own. (p.1 item i il own).1)
-      argument_is (Reshape y x) g views env h u ty rest ok nm sd es gs r =
-          let p = argument_is x g views env h u ok.0 rest ok.1 nm sd es gs r in
-          (p.0, λ item i il own. moved_shows l item num spell spelled (around i) y ok.0 ty (group_view spell sins views u.locals x) (marks_of num ins env u.locals x i) ok.5 ok.2 ok.3 ok.4 (p.1 item i il own))
+          (next, argument_is x g views env h u (ArrayOf ok.0 ok.1) next ok.4 nm.0 sd.0 es gs r, argument_is y g views env h (used_after u x) (ArrayOf ok.0 ok.2) rest ok.5 nm.1 sd.1 es gs r)
+      argument_is (Project false x) g views env h u ty rest ok nm sd es gs r = argument_is x g views env h u (PairOf ty ok.0) rest ok.1 nm sd es gs r
+      argument_is (Project true x) g views env h u ty rest ok nm sd es gs r = argument_is x g views env h u (PairOf ok.0 ty) rest ok.1 nm sd es gs r
+      argument_is (Reshape y x) g views env h u ty rest ok nm sd es gs r = argument_is x g views env h u ok.0 rest ok.1 nm sd es gs r
       argument_is (LetArray v b) g views env h u ty rest ok nm sd es gs r =
           let x = group_view spell sins views u.locals v in
           let y = marks_of num ins env u.locals v in
-          let next = print_group_argument spell forms sins fence depth (push x views) (used_after u v) b rest in
-          let p = argument_is v g views env h u ok.0 next ok.1 nm.0 sd.0 es gs r in
-          let q = argument_is b (push ok.0 g) (push x views) (λ i. push (y i) (env i)) (push (held_scalars h v) h) (used_after u v) ty rest ok.2 nm.1 sd.1 (λ item i il own. all_push l item (around i) ok.0 x (y i) g views (env i) (p.1 item i il own) (es item i il own)) gs
-          (λ item i il. held_push l item ok.0 (y i) (held_scalars h v) g (env i) h (λ cs w z. kept item v g env h u.locals i ok.0 cs sd.0 ok.1 w z (r item i il)) (r item i il)) in
-          ((next, p.0, q.0), q.1)
+          let next = print_group_argument spell forms sins fence depth (push x views) (used_after u v) b rest in (
+            next,
+            argument_is v g views env h u ok.0 next ok.1 nm.0 sd.0 es gs r,
+            argument_is b (push ok.0 g) (push x views) (λ i. push (y i) (env i)) (push (held_scalars h v) h) (used_after u v) ty rest ok.2 nm.1 sd.1 (let_shows v g views env h u.locals ok.0 ok.1 nm.0 sd.0 es gs) gs (let_holds v g env h u.locals ok.0 ok.1 r),
+          )
       argument_is (Copy LocalMemory t2 x) g views env h u ty rest ok nm sd es gs r =
           let first = u.locals + local_count x in
-          let c = λ (item i : ℕ). laid_cells l item num spell spelled (around i) LocalArray first t2 ok.1 nm.1 nm.0 in (
-            group_written_is x g views env h u t2 (laid_view LocalArray first t2) (λ i. laid_in LocalArray first t2) rest (subst (HasType num src g x) ok.0 ok.2) nm.2 sd es gs r (λ item i il own. c item i),
-            λ item i il own. subst (λ z. Shows l item (around i) z (laid_view LocalArray first t2) (laid_in LocalArray first t2)) (sym ok.0) (cells_show l item (around i) t2 _ _ (c item i)),
-          )
+          group_written_is x g views env h u t2 (laid_view LocalArray first t2) (λ i. laid_in LocalArray first t2) rest (subst (HasType num src g x) ok.0 ok.2) nm.2 sd es gs r (λ item i il own. laid_cells l item num spell spelled (around i) LocalArray first t2 ok.1 nm.1 nm.0)
       argument_is _ g views env h u ty rest ok nm sd es gs r = absurd (assumption)
 
       group_written_is : (t : Term A) (g : ℕ → Ty) (views : ℕ → View) (env : (turn var : ℕ) → Marks) (h : ℕ → List Bool → Bool) (u : Used) (ty : Ty) (v : View) (w : ℕ → Marks) (rest : Code) → HasType num src g t ty → LoadsSuffice h t → StandsInGroup true t → AllShowing g views env → Inputs → AllHolding g env h → ((item i : ℕ) → i < turns → Own item i → HasCells l item (around i) ty v (w i))
@@ -176,12 +164,10 @@ module _ (l : Launch) {A : Type 0} (num : A → ℕ) (forms : MapForms A) (spell
       group_written_is (LetArray s b) g views env h u ty v w rest ok nm sd es gs r cells =
           let x = group_view spell sins views u.locals s in
           let y = marks_of num ins env u.locals s in
-          let next = print_group_written spell forms sins fence depth (push x views) (used_after u s) b v rest in
-          let p = argument_is s g views env h u ok.0 next ok.1 nm.0 sd.0 es gs r in (
+          let next = print_group_written spell forms sins fence depth (push x views) (used_after u s) b v rest in (
             next,
-            p.0,
-            group_written_is b (push ok.0 g) (push x views) (λ i. push (y i) (env i)) (push (held_scalars h s) h) (used_after u s) ty v w rest ok.2 nm.1 sd.1 (λ item i il own. all_push l item (around i) ok.0 x (y i) g views (env i) (p.1 item i il own) (es item i il own)) gs
-                (λ item i il. held_push l item ok.0 (y i) (held_scalars h s) g (env i) h (λ cs q z. kept item s g env h u.locals i ok.0 cs sd.0 ok.1 q z (r item i il)) (r item i il)) cells,
+            argument_is s g views env h u ok.0 next ok.1 nm.0 sd.0 es gs r,
+            group_written_is b (push ok.0 g) (push x views) (λ i. push (y i) (env i)) (push (held_scalars h s) h) (used_after u s) ty v w rest ok.2 nm.1 sd.1 (let_shows s g views env h u.locals ok.0 ok.1 nm.0 sd.0 es gs) gs (let_holds s g env h u.locals ok.0 ok.1 r) cells,
           )
       group_written_is (Map Local z0 loads xs b) g views env h u ty v w rest ok nm sd es gs r cells =
           let len = num z0 in
@@ -190,44 +176,20 @@ module _ (l : Launch) {A : Type 0} (num : A → ℕ) (forms : MapForms A) (spell
           let u2 = used_after u xs in
           let map = print_local_map spell forms sins fence depth views u2 z0 loads e b v rest in
           let mid = print_fence (fence (u.phases + phases_in xs)) map in
-          let p = argument_is xs g views env h u (ArrayOf len ok.0) mid ok.4 nm.0 sd.0 es gs r in (
+          let around_map = shown xs g views env h u.locals (ArrayOf len ok.0) ok.4 nm.0 sd.0 es gs in (
             mid,
             map,
-            p.0,
-            past_fence (fence (u.phases + phases_in xs)) map,
+            argument_is xs g views env h u (ArrayOf len ok.0) mid ok.4 nm.0 sd.0 es gs r,
+            refl,
             λ item i here il own. local_map_is item (forms.local z0) z0 b (around i) depth loads ok.0 ok.1 e v (f i) (w i) g views (env i) h u2.privates u2.variables rest (around_long i) ok.2 ok.3 ok.5 nm.1 sd.1
-                (p.1 item i il own) (subst (λ z. HasCells l item (around i) z v (w i)) ok.6 (cells item i il own)) (es item i il own) (gs item i) (r item i il),
+                (around_map item i il own) (subst (λ z. HasCells l item (around i) z v (w i)) ok.6 (cells item i il own)) (es item i il own) (gs item i) (r item i il),
           )
       group_written_is _ g views env h u ty v w rest ok nm sd es gs r cells = absurd (assumption)
 
-  -- an argument of inputs
-
-  held_input : (item : ℕ) (t : Term A) (g : ℕ → Ty) (env : ℕ → Marks) (h : ℕ → List Bool → Bool) (a : ℕ) (ty : Ty) (cs : List Bool) → IsOfInputs t → HasType num src g t ty → IsPosition ty cs [] → held_scalars h t cs ≡ true → HeldIn l item g env h → (e : Formula) × (held (argument_marks l ins num env a t cs []) ≡ Some e)
-  held_input item (Bound v) g env h a ty cs f ok w z r = r v cs (subst (λ y. IsPosition y cs []) ok w) z
-  held_input item (Source v) g env h a ty cs f ok w z r = absurd (cc)
-  held_input item (Both true x y) g env h a ty cs f ok w z r = absurd (subst (λ y. IsPosition y cs []) ok.3 w)
-  held_input item (Project false x) g env h a ty cs f ok w z r = held_input item x g env h a (PairOf ty ok.0) (false ∷ cs) f ok.1 w z r
-  held_input item (Project true x) g env h a ty cs f ok w z r = held_input item x g env h a (PairOf ok.0 ty) (true ∷ cs) f ok.1 w z r
-  held_input item (Reshape y x) g env h a ty cs f ok w z r = absurd (cc)
-  held_input item (LetArray v b) g env h a ty cs f ok w z r =
-      held_input item b (push ok.0 g) (push (argument_marks l ins num env a v) env) (push (held_scalars h v) h) (a + private_count v) ty cs f.1 ok.2 w z
-      (held_push l item ok.0 (argument_marks l ins num env a v) (held_scalars h v) g env h (λ cs w z. held_input item v g env h a ok.0 cs f.0 ok.1 w z r) r)
-  held_input item _ g env h a ty cs f ok w z r = absurd (assumption)
-
-  input_shows : (item : ℕ) (t : Term A) (g : ℕ → Ty) (views : ℕ → View) (env : ℕ → Marks) (a : ℕ) (ty : Ty) → IsOfInputs t → HasType num src g t ty → AllShow l item [] g views env → AllShow l item [] src sins ins → Shows l item [] ty (argument_view spell sins views a t) (argument_marks l ins num env a t)
-  input_shows item (Bound v) g views env a ty f ok es gs = subst (λ z. Shows l item [] z (views v) (env v)) (sym ok) (es v)
-  input_shows item (Source v) g views env a ty f ok es gs = subst (λ z. Shows l item [] z (sins v) (ins v)) (sym ok) (gs v)
-  input_shows item (Both true x y) g views env a ty f ok es gs =
-      subst (λ z. Shows l item [] z (argument_view spell sins views a (Both true x y)) (argument_marks l ins num env a (Both true x y))) (sym ok.3)
-      (zip_cells l item num spell spelled [] ok.0 ok.1 ok.2 _ _ _ _ (input_shows item x g views env a (ArrayOf ok.0 ok.1) f.0 ok.4 es gs) (input_shows item y g views env (a + private_count x) (ArrayOf ok.0 ok.2) f.1 ok.5 es gs))
-  input_shows item (Project false x) g views env a ty f ok es gs = (input_shows item x g views env a (PairOf ty ok.0) f ok.1 es gs).0
-  input_shows item (Project true x) g views env a ty f ok es gs = (input_shows item x g views env a (PairOf ok.0 ty) f ok.1 es gs).1
-  input_shows item (Reshape y x) g views env a ty f ok es gs = moved_shows l item num spell spelled [] y ok.0 ty (argument_view spell sins views a x) (argument_marks l ins num env a x) ok.5 ok.2 ok.3 ok.4 (input_shows item x g views env a ok.0 f ok.1 es gs)
-  input_shows item (LetArray v b) g views env a ty f ok es gs =
-      let x = argument_view spell sins views a v in
-      let y = argument_marks l ins num env a v in
-      input_shows item b (push ok.0 g) (push x views) (push y env) (a + private_count v) ty f.1 ok.2 (all_push l item [] ok.0 x y g views env (input_shows item v g views env a ok.0 f.0 ok.1 es gs) es) gs
-  input_shows item _ g views env a ty f ok es gs = absurd (assumption)
+  -- what stands for an argument of inputs shows it
+  input_shows : (item : ℕ) (t : Term A) (g : ℕ → Ty) (views : ℕ → View) (env : ℕ → Marks) (h : ℕ → List Bool → Bool) (a : ℕ) (ty : Ty) → HasType num src g t ty → LoadsSuffice h t → IsOfInputs t → AllShow l item [] g views env → AllShow l item [] src sins ins → Shows l item [] ty (argument_view spell sins views a t) (argument_marks l ins num env a t)
+  input_shows item t g views env h a ty ok nm sd es gs =
+      subst (λ v. Shows l item [] ty v (argument_marks l ins num env a t)) (sym (argument_view_is spell sins views a t)) (argument_shows private_arrays l item num spell spelled src ins sins [] gs t g views env h a ty (stands_argument t (inputs_stand t sd)) ok nm es)
 
   -- what lies at a group's turn
   group_cells : (once : Bool) (len : ℕ) → (once ≡ true → len ≡ 1) → (item i : ℕ) (t : Ty) (x : View) (y : Marks) → i < len → IsTurnOf l item WorkGroup i → len < 2 ^ 31 → HasCells l item [] (ArrayOf len t) x y
@@ -248,8 +210,8 @@ module _ (l : Launch) {A : Type 0} (num : A → ℕ) (forms : MapForms A) (spell
   over_groups_is (LetArray s b) g views env h ty v w ok nm sd es gs r cells =
       let x = argument_view spell sins views 0 s in
       let y = argument_marks l ins num env 0 s in
-      over_groups_is b (push ok.0 g) (push x views) (push y env) (push (held_scalars h s) h) ty v w ok.2 nm.1 sd.1 (λ item. all_push l item [] ok.0 x y g views env (input_shows item s g views env 0 ok.0 sd.0 ok.1 (es item) (gs item)) (es item)) gs
-      (λ item. held_push l item ok.0 y (held_scalars h s) g env h (λ cs q z. held_input item s g env h 0 ok.0 cs sd.0 ok.1 q z (r item)) (r item)) cells
+      over_groups_is b (push ok.0 g) (push x views) (push y env) (push (held_scalars h s) h) ty v w ok.2 nm.1 sd.1 (λ item. all_push l item [] ok.0 x y g views env (input_shows item s g views env h 0 ok.0 ok.1 nm.0 sd.0 (es item) (gs item)) (es item)) gs
+      (λ item. held_push l item ok.0 y (held_scalars h s) g env h (λ cs q z. kept_is private_arrays l item num src ins s g env h 0 ok.0 cs ok.1 q z (r item)) (r item)) cells
   over_groups_is (Map WorkGroup z0 loads xs b) g views env h ty v w ok nm sd es gs r cells =
       let len = num z0 in
       let outer = form_over_groups (forms.once z0) in
@@ -261,7 +223,7 @@ module _ (l : Launch) {A : Type 0} (num : A → ℕ) (forms : MapForms A) (spell
       let u : Used = record { locals = 0; privates = 0; variables = load_count loads; phases = 0 } in
       let last = print_fence (fence (phases_in b)) End in
       let first = print_group_written spell forms sins fence (depth_in outer 0) (push x views) u b (view_at turn v) last in
-      let shows = λ (item : ℕ). input_shows item xs g views env 0 (ArrayOf len ok.0) sd.0 ok.4 (es item) (gs item) in
+      let shows = λ (item : ℕ). input_shows item xs g views env h 0 (ArrayOf len ok.0) ok.4 nm.0 sd.0 (es item) (gs item) in
       let cells2 = λ (item : ℕ). subst (λ z. HasCells l item [] z v w) ok.6 (cells item) in
       let c = λ (item i : ℕ) (il : i < len) (own : IsTurnOf l item WorkGroup i). group_cells (forms.once z0) len (makes.once z0) item i ok.0 e f il own ok.2 (shows item) in (
         spell z0,
@@ -277,7 +239,7 @@ module _ (l : Launch) {A : Type 0} (num : A → ℕ) (forms : MapForms A) (spell
               (λ item i. all_around l item outer [] i src sins ins (gs item))
               (λ item i il. held_push l item ok.0 (loaded_marks loads (at_index i f) 0) (covers loads) g env h (λ cs z q. loaded_held l item loads (at_index i f) 0 cs q) (r item))
               (λ item i il own. group_cells (forms.once z0) len (makes.once z0) item i ok.1 v w il own ok.2 (cells2 item)),
-          past_fence (fence (phases_in b)) End,
+          refl,
         ),
       )
   over_groups_is _ g views env h ty v w ok nm sd es gs r cells = absurd (assumption)

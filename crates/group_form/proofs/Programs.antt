@@ -1,7 +1,6 @@
 -- Kernels printed for a program's typed term that is a map over work-groups keep what they owe, at
 -- every admissible launch.
-use Rattle.std.proofs.Common.{ℕ, ◌<◌, ◌^◌, List, [], length, sym, ◌∙◌, subst, arith}
-use Rattle.std.specs.Prelude.{map}
+use Rattle.std.proofs.Common.{ℕ, List, [], length, sym, ◌∙◌, subst}
 use Rattle.size_arith.specs.declared.poly.Monomial.{Monomial}
 use Rattle.lift_tree.specs.Launches.{Asks}
 use Rattle.lift_tree.specs.Tree.{Tree}
@@ -13,7 +12,6 @@ use Rattle.lift_tree.specs.Launches as launches
 use Rattle.kernel_tree.specs.Code.{Kernel}
 use Rattle.kernel_tree.specs.Launch.{Launch, Cells}
 use Rattle.kernel_tree.specs.Device.{Cell}
-use Rattle.kernel_tree.proofs.Grouping.{flat_items}
 use Rattle.lift_ir.specs.Types.{Ty, measured, IsFlat}
 use Rattle.lift_ir.specs.Scalars.{Scalars, HasScalars, scalars_in, scalars_of, no_scalars, lists_of}
 use Rattle.lift_ir.specs.AtLaunch.{length_at, ty_at}
@@ -59,20 +57,11 @@ module _ (d : Declared) (asks : Asks) (w : World) (t : Tree) (a : Annotation) (l
 
   is_printed : IsPrintedOverGroups l num forms src (input_marks num (first_buffer d.inputs) (input_shape d.inputs)) sources printed.fence low result k c
   is_printed = record {
-    whole = own.whole l asks d.names w.bases launch.flat launch.admissible;
-    flat = launch.flat;
-    some = subst (λ n. 0 < n) (sym (flat_items l launch.flat)) (let z = launch.admissible.global_least in omega arith);
-    few = subst (λ n. n < 2 ^ 31) (sym (flat_items l launch.flat)) (let z = launch.admissible.global_most in omega arith);
+    made = own.made d asks w t a l c program.lowerable ok launch buffers k printed.declares;
     makes = forms_make_turns d.names w.bases program.lowerable.declared.names launch.admissible.sizes l asks.local launch.admissible.fixed;
     stands = program.stands;
-    typed = own.lowered_has d asks w.bases t a l program.lowerable launch;
-    flat_type = flat;
     code = printed.code;
-    variables = printed.declares.variables;
     locals = printed.declares.locals;
-    privates = printed.declares.privates;
-    outputs = own.outputs_long d asks w t a l c program.lowerable ok launch buffers;
-    inputs = own.input_given d w program.lowerable.declared ok c buffers.inputs;
   }
 
   keeps : NeededGroupsKeep (List Monomial) → EveryRunKeeps k l c (cell_owner d.names w.bases l t a) (launches.lists_of (type_in a) (meaning w [] t))
@@ -83,7 +72,7 @@ module _ (d : Declared) (asks : Asks) (w : World) (t : Tree) (a : Annotation) (l
   serves : SeparatedGroupsServe (List Monomial) → NeededKeepApart (List Monomial) → (filler : Cell → ℕ) × BarriersServeAll k l c filler
   serves serve apart =
       serve num forms l src (input_marks num (first_buffer d.inputs) (input_shape d.inputs)) sources printed.fence low result k c (lists_of result (meaning w [] t)) is_printed
-      (apart forms low printed.fence program.stands printed.needed) (lists_long result (meaning w [] t) (scalars_of num sources no_scalars low) flat valued ∙ sym is_printed.outputs) (are_lists result (meaning w [] t) (scalars_of num sources no_scalars low) flat valued)
+      (apart forms low printed.fence program.stands printed.needed) (lists_long result (meaning w [] t) (scalars_of num sources no_scalars low) flat valued ∙ sym is_printed.made.outputs) (are_lists result (meaning w [] t) (scalars_of num sources no_scalars low) flat valued)
 
 pub group_programs_keep : NeededGroupsKeep (List Monomial) → PrintedGroupProgramsKeep
 group_programs_keep keep d asks w t a l k c program ok launch buffers printed = keeps d asks w t a l k c program ok launch buffers printed keep

@@ -44,5 +44,5 @@ separated_groups_serve A serve num forms l src ins sources fence t ty k c lists 
 pub needed_groups_keep : (A : Type 0) → SeparatedGroupsKeep A → NeededKeepApart A → NeededGroupsKeep A
 needed_groups_keep A keep apart num forms l w source inputs src ins sources fence t ty k c lowers given printed needed =
     let v = meaning w [] source in
-    let h = means num w src sources inputs given t 0 source no_type [] no_scalars ty lowers printed.typed (λ i lt. absurd (omega arith)) in
-    keep num forms l src ins sources fence t ty k c (lists_of ty v) printed (apart forms t fence printed.stands needed) (lists_long ty v (scalars_of num sources no_scalars t) printed.flat_type h ∙ sym printed.outputs) (are_lists ty v (scalars_of num sources no_scalars t) printed.flat_type h)
+    let h = means num w src sources inputs given t 0 source no_type [] no_scalars ty lowers printed.made.typed (λ i lt. absurd (omega arith)) in
+    keep num forms l src ins sources fence t ty k c (lists_of ty v) printed (apart forms t fence printed.stands needed) (lists_long ty v (scalars_of num sources no_scalars t) printed.made.flat_type h ∙ sym printed.made.outputs) (are_lists ty v (scalars_of num sources no_scalars t) printed.made.flat_type h)

@@ -295,9 +295,9 @@ module _ {A : Type 0} (num : A → ℕ) (forms : MapForms A) (l : Launch) (src :
 
   its_phases : AreItsPhases num forms k l c lists fence of_owner t
   its_phases =
-      term_phases num forms k l c lists ins src sources ty (scalars_of num sources no_scalars t) fence (record { launch = h.whole; flat = h.flat; some = h.some; few = h.few; makes = h.makes; inputs = h.inputs; flat_type = h.flat_type; outputs = h.outputs; shape = shape; listed = listed })
-      t no_type no_marks no_scalars (λ p. p) (λ p. p) ty h.stands h.typed (λ v cs p x. nothing cs p x) (laid_itself ty) (λ cs p x. refl) (let e = h.variables in omega arith)
-      (declares (length_in k c) 0 t (λ i lt. let z : 0 + i ≡ i = omega arith in ap (λ j. slice_index k.privates j) z ∙ ap (λ ns. slice_index ns i) h.privates))
+      term_phases num forms k l c lists ins src sources ty (scalars_of num sources no_scalars t) fence (record { launch = h.made.whole; flat = h.made.flat; some = h.made.some; few = h.made.few; makes = h.makes; inputs = h.made.inputs; flat_type = h.made.flat_type; outputs = h.made.outputs; shape = shape; listed = listed })
+      t no_type no_marks no_scalars (λ p. p) (λ p. p) ty h.stands h.made.typed (λ v cs p x. nothing cs p x) (laid_itself ty) (λ cs p x. refl) (let e = h.made.variables in omega arith)
+      (declares (length_in k c) 0 t (λ i lt. let z : 0 + i ≡ i = omega arith in ap (λ j. slice_index k.privates j) z ∙ ap (λ ns. slice_index ns i) h.made.privates))
       (λ i lt. let z : 0 + i ≡ i = omega arith in ap (λ j. slice_index k.locals j) z ∙ ap (λ ns. slice_index ns i) h.locals) h.code
     where
       nothing : {P : Type 0} → (cs : List Bool) (p : List ℕ) → IsPosition (ArrayOf 0 Scalar) cs p → P

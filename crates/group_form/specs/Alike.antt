@@ -1,5 +1,4 @@
 -- Kernels printed for one program's typed term that is a map over work-groups.
-use Rattle.std.specs.Prelude.{Bool}
 use Rattle.lift_tree.specs.Launches.{Asks}
 use Rattle.lift_tree.specs.Tree.{Tree}
 use Rattle.lift_tree.specs.Typing.{Declared, IsAdmissible}

@@ -7,9 +7,9 @@ use Rattle.lift_tree.specs.Typing.{Declared}
 use Rattle.lift_tree.specs.Annotations.{Annotation, type_in}
 use Rattle.kernel_tree.specs.declared.tree.Dimension.TheVariants.{X}
 use Rattle.kernel_tree.specs.Formula.{Formula, LoopVariable, Number, Id, GlobalId, GroupId, LocalId}
-use Rattle.kernel_tree.specs.Code.{Output, Local as LocalArray, Code, End, Loops, Guards, Syncs, Kernel}
+use Rattle.kernel_tree.specs.Code.{Output, Local as LocalArray, Code, End, Loops, Guards, Kernel}
 use Rattle.kernel_tree.specs.Launch.{Launch}
-use Rattle.barrier_placement.specs.Fencing.{Fencing, Open, Fenced}
+use Rattle.barrier_placement.specs.Fencing.{Fencing}
 use Rattle.barrier_placement.specs.Needed.{Needed}
 use Rattle.lift_ir.specs.Types.{Shape, measured, IsPlaced}
 use Rattle.lift_ir.specs.Terms.{Kind, Global, WorkGroup, Local, Sequential, LoadSet, Term, Bound, Source, Both, Project, Reshape, LetArray, Map, Copy, push, HasType, no_type}
@@ -26,6 +26,7 @@ use Rattle.printed_form.specs.Programs.{input_shape, first_buffer, declared_kern
 use Rattle.printed_form.specs.Printer.{print_loaded, print_written, argument_view, no_view, input_views, input_marks}
 use Rattle.printed_form.specs.Views.{View, Blank, loaded_view, view_at, operand_indices, result_indices, placed_view, laid_view}
 use Rattle.printed_form.specs.Whole.{no_marks, output_marks}
+use Rattle.group_phases.specs.Epochs.{fenced}
 use Rattle.group_form.specs.ChosenForms.{forms_of}
 use Rattle.group_form.specs.Form.{Used, used_after, is_once, IsOverGroups}
 use Rattle.group_form.specs.Forms.{StandsOverGroups}
@@ -35,8 +36,7 @@ use Rattle.group_form.specs.Uses.{phases_in, phase_count, group_touches}
 
 -- a barrier, where one stands
 abbrev pub print_fence : Fencing → (rest : Code) → Code
-print_fence Open rest = rest
-print_fence (Fenced on_local on_global) rest = Syncs on_local on_global rest
+print_fence = fenced
 
 -- the id that an item's turn of a map of a kind is, where it takes no loop
 abbrev pub id_of : Kind → Formula

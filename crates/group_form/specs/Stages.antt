@@ -1,17 +1,17 @@
 -- The phases of a map over work-groups whose body is one term, each with what stands for its
 -- variables, its argument and its value at every turn.
 use Rattle.std.specs.Prelude.{ℕ, zero, suc, ◌+◌, Bool, true, false, List, [], ◌∷◌, ◌++◌, map}
-use Rattle.kernel_tree.specs.Code.{Local as LocalArray}
 use Rattle.lift_ir.specs.Types.{Ty, Scalar, PairOf, ArrayOf}
 use Rattle.lift_ir.specs.Layouts.{operand_position, result_position}
-use Rattle.lift_ir.specs.Terms.{LoadSet, Skip, Term, Literal, Bound, Source, Both, Project, Reshape, LetArray, Map, Copy, push, HasType, no_type}
-use Rattle.lift_ir.specs.Scalars.{Scalars, by_side, mapped, scalars_of}
+use Rattle.lift_ir.specs.Terms.{LoadSet, Skip, Term, Literal, Both, Project, Reshape, LetArray, Map, Copy, push, HasType, no_type}
+use Rattle.lift_ir.specs.Scalars.{Scalars, mapped, scalars_of}
+use Rattle.printed_form.specs.Arguments.{marks_in}
 use Rattle.printed_form.specs.Counts.{variable_count, private_count}
 use Rattle.printed_form.specs.MapForms.{Looped, MapForms}
-use Rattle.printed_form.specs.Marks.{Nowhere, Marks, laid_in}
+use Rattle.printed_form.specs.Marks.{Nowhere, Marks}
 use Rattle.group_phases.specs.Phases.{Phase}
 use Rattle.group_form.specs.Named.{cut, ways, element_ways, named_outside}
-use Rattle.group_form.specs.Origins.{Origin, Elsewhere, local_count, origin_of}
+use Rattle.group_form.specs.Origins.{Origin, Elsewhere, local_count, local_arrays, origin_of}
 use Rattle.group_form.specs.Uses.{Use, Destination, Locals, Outputs, loop_uses}
 
 -- a phase at every turn. A position of its value goes to `outer` of it where the value lies, and
@@ -55,16 +55,7 @@ later s t = record {
 module _ {A : Type 0} (num : A → ℕ) (ins : ℕ → Marks) where
   -- what stands for an argument at a turn, whose first local array is this
   abbrev pub marks_of : ((turn var : ℕ) → Marks) → ℕ → Term A → (turn : ℕ) → Marks
-  marks_of env k (Bound v) i = env i v
-  marks_of env k (Source a) i = ins a
-  marks_of env k (Both zips a b) i =
-      by_side (λ q. Nowhere) (marks_of env k a i) (marks_of env (k + local_count a) b i)
-  marks_of env k (Project s a) i = λ cs q. marks_of env k a i (s ∷ cs) q
-  marks_of env k (Reshape l a) i = λ cs q. marks_of env k a i cs (operand_position num l q)
-  marks_of env k (LetArray v b) i =
-      marks_of (λ j. push (marks_of env k v j) (env j)) (k + local_count v) b i
-  marks_of env k (Copy space ty a) i = laid_in LocalArray (k + local_count a) ty
-  marks_of env k _ i = λ cs q. Nowhere
+  marks_of env k t i = marks_in local_arrays num ins (env i) k t
 
 module _ {A : Type 0} (num : A → ℕ) (ins : ℕ → Marks) (src : ℕ → Ty) (sources : ℕ → Scalars) where
   -- in the body of a let

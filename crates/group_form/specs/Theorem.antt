@@ -1,9 +1,8 @@
 -- What holds of every kernel that is printed for a map over work-groups.
-use Rattle.std.specs.Prelude.{◌≡◌, ℕ, ◌<◌, ◌^◌, Bool, true, List, All, Contains, [], length, map, replicate}
+use Rattle.std.specs.Prelude.{◌≡◌, ℕ, ◌<◌, Bool, true, List, All, Contains, [], length, map}
 use Rattle.kernel_tree.specs.Code.{Kernel}
 use Rattle.kernel_tree.specs.Device.{Cell}
-use Rattle.kernel_tree.specs.Launch as launch
-use Rattle.kernel_tree.specs.Launch.{Launch, Cells, IsWhole, item_count}
+use Rattle.kernel_tree.specs.Launch.{Launch, Cells}
 use Rattle.barrier_placement.specs.declared.touches.Touch.{Touch}
 use Rattle.barrier_placement.specs.Conflicts as placed
 use Rattle.barrier_placement.specs.Conflicts.{space_of}
@@ -13,16 +12,16 @@ use Rattle.barrier_placement.specs.Separates.{Separates}
 use Rattle.lift_tree.specs.Tree.{Tree}
 use Rattle.lift_tree.specs.Values.{nth}
 use Rattle.lift_tree.specs.Meaning.{World, meaning}
-use Rattle.lift_ir.specs.Types.{Ty, IsPosition, IsFlat, width, size, unflat}
-use Rattle.lift_ir.specs.Terms.{LocalMemory, PrivateMemory, Term, HasType, no_type}
+use Rattle.lift_ir.specs.Types.{Ty, unflat}
+use Rattle.lift_ir.specs.Terms.{LocalMemory, Term}
 use Rattle.lift_ir.specs.Scalars.{Scalars, scalars_of, no_scalars, HasScalars, lists_of, AreLists}
 use Rattle.lift_ir.specs.Sources.{Lowers}
 use Rattle.lift_ir.specs.Owner.{owner}
-use Rattle.printed_form.specs.Counts.{variable_count, copy_lengths}
+use Rattle.printed_form.specs.Counts.{copy_lengths}
 use Rattle.printed_form.specs.Headline.{EveryRunKeeps}
 use Rattle.printed_form.specs.MapForms.{MapForms, MakeTurns}
 use Rattle.printed_form.specs.Marks.{Marks}
-use Rattle.printed_form.specs.Whole.{no_marks, output_marks, IsGiven}
+use Rattle.printed_form.specs.Whole.{no_marks, output_marks, IsMadeFor}
 use Rattle.group_phases.specs.Outcome.{BarriersServeAll}
 use Rattle.group_form.specs.Forms.{StandsInGroup, StandsOverGroups}
 use Rattle.group_form.specs.Origins.{local_count}
@@ -36,21 +35,11 @@ pub record IsPrintedOverGroups {A : Type 0} (l : Launch) (num : A → ℕ) (form
     (src : ℕ → Ty) (ins : ℕ → Marks) (sources : ℕ → Scalars) (fence : ℕ → Fencing) (t : Term A)
     (ty : Ty)
     (k : Kernel) (c : Cells) : Type 0 where
-  pub whole : IsWhole l
-  pub flat : launch.IsFlat l
-  pub some : 0 < item_count l
-  pub few : item_count l < 2 ^ 31
+  pub made : IsMadeFor l num src ins sources t ty k c
   pub makes : MakeTurns forms num l
   pub stands : StandsOverGroups t
-  pub typed : HasType num src no_type t ty
-  pub flat_type : IsFlat ty
   pub code : IsOverGroups num forms l ins fence no_marks t (output_marks ty) k.code
-  pub variables : k.variables ≡ variable_count t
   pub locals : k.locals ≡ copy_lengths LocalMemory t
-  pub privates : k.privates ≡ copy_lengths PrivateMemory t
-  pub outputs : map length c.outs ≡ replicate (width ty) (size ty)
-  pub inputs : (v : ℕ) (cs : List Bool) (p : List ℕ) → IsPosition (src v) cs p
-      → IsGiven c (ins v cs p) (sources v cs p)
 
 -- the barriers keep conflicting phases apart, and none stands before the first
 pub record IsKeptApart {A : Type 0} (forms : MapForms A) (t : Term A) (fence : ℕ → Fencing)

@@ -1,16 +1,20 @@
 -- In which of a group's epochs each phase of a body runs, by what stands before each phase; `fence
 -- n` closes a body of n phases.
 use Rattle.std.specs.Prelude.{◌≡◌, ℕ, zero, suc, ◌+◌, ◌*◌, ◌%◌, ◌==◌, ◌<◌, Bool, true, false, List}
-use Rattle.kernel_tree.specs.Code.{Code, Syncs}
+use Rattle.kernel_tree.specs.Code.{Syncs, Code, Performs}
 use Rattle.barrier_placement.specs.declared.touches.Touch.{Touch}
 use Rattle.barrier_placement.specs.Conflicts.{Local, Conflict}
 use Rattle.barrier_placement.specs.Fencing.{Fencing, Open, Fenced, orders}
 use Rattle.barrier_placement.specs.Separates.{bit}
 
+-- what stands there, and then the rest
+abbrev pub fenced : Fencing → (rest : Code) → Code
+fenced Open rest = rest
+fenced (Fenced on_local on_global) rest = Performs (Syncs on_local on_global) rest
+
 -- the code before what stands there, and the code after it
 abbrev pub IsPast : Fencing → (before after : Code) → Type 0
-IsPast Open before after = before ≡ after
-IsPast (Fenced on_local on_global) before after = before ≡ Syncs on_local on_global after
+IsPast f before after = before ≡ fenced f after
 
 -- how many of what stands at the first p places are barriers for local memory
 abbrev pub passed : (ℕ → Fencing) → ℕ → ℕ

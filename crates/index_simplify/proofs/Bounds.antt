@@ -1,11 +1,12 @@
 -- What passes the test stays below the length.
 use Rattle.std.proofs.Common.{◌≡◌, ℕ, zero, suc, ℤ, pos, ◌+◌, ◌*◌, ◌/◌, ◌%◌, ◌<◌, ◌≤◌, ◌+ℤ◌, ◌*ℤ◌, Bool, true, false, Option, Some, None, List, refl, sym, ap, ◌∙◌, subst, arith}
 use Rattle.std.specs.Prelude.{◌&&◌, ◌||◌, ◌<ℤ◌, nat_lt, if◌then◌else◌, is_some, slice_get, slice_index, int_div, int_rem}
-use Rattle.std.proofs.lemmas.Bool.{ltb-true}
+use Rattle.std.proofs.lemmas.Bool.{and_parts, or_cases, ltb-true}
 use Rattle.std.proofs.Common.{inl, inr}
 use Rattle.std.proofs.lemmas.Int.{ints}
 use Rattle.std.proofs.lemmas.Nat.{le-div}
-use Rattle.std.proofs.Math.Nat.{div-lt_iff_lt-mul, div-mul-le_self, mod-lt, mul-le-mul_right}
+use Rattle.std.proofs.Math.Arith.{digits_lt}
+use Rattle.std.proofs.Math.Nat.{div-lt_iff_lt-mul, div-mul-le_self, mod-lt}
 use Rattle.index_expr.specs.declared.operation.Operation.TheVariants.{Sum, Product, Quotient, Remainder}
 use Rattle.index_expr.specs.Expression.{Expression, Variable, Literal, Size, Binary}
 use Rattle.index_expr.specs.Values.{exact}
@@ -14,11 +15,8 @@ use Rattle.index_simplify.specs.Tests.{is_at_least, is_no_longer}
 use Rattle.index_simplify.specs.Factors.{over}
 use Rattle.index_simplify.specs.Below.{is_natural, is_passed, is_part_within, is_greatest_below, is_quotient_below, is_remainder_below, is_digit_below, rows_within, is_sum_below, stays_below}
 use Rattle.index_simplify.specs.Ranges.{AreBelowLengths, AreWithin}
-use Rattle.index_simplify.proofs.Tests.{both, one_of, IsNatural, count_value, IsColumn, IsAbove, counted_least, counted_longer, column_of}
+use Rattle.index_simplify.proofs.Tests.{IsNatural, count_value, IsColumn, IsAbove, counted_least, counted_longer, column_of}
 use Rattle.index_simplify.proofs.Divided.{IfLeft, over_left, over_value}
-
-cell_below_rows : (x q y w : ℕ) → x < q → y < w → x * w + y < q * w
-cell_below_rows x q y w lt below = let most : suc x * w ≤ q * w = mul-le-mul_right w lt in omega arith
 
 part_below : (v q d : ℕ) → v < q * d → v / d < q
 part_below v q zero lt = absurd (omega arith)
@@ -51,7 +49,7 @@ module _ (sizes variables : List ℕ) (r : PlainRanges) (loops : AreBelowLengths
         count = x.count * c.count;
         column_is = cell_from (exact sizes variables row) (exact sizes variables width) (exact sizes variables column) x.at c.count c.at x.column_is c.length_is c.column_is;
         length_is = length_from (exact sizes variables n) (exact sizes variables q) (exact sizes variables width) x.count c.count left x.length_is c.length_is;
-        below = cell_below_rows x.at x.count c.at c.count x.below c.below;
+        below = digits_lt x.below c.below;
       }
 
   quotient_is : (V D : ℤ) (v d : ℕ) → V ≡ pos v → D ≡ pos d → int_div V D ≡ pos (v / d)
@@ -66,8 +64,8 @@ module _ (sizes variables : List ℕ) (r : PlainRanges) (loops : AreBelowLengths
   part_within : (k l g : ℕ) (d n known : Expression) (part : Option Expression) → pos (slice_index variables k) <ℤ exact sizes variables known → IfLeft sizes variables known d part → is_passed (is_part_within d n) part ≡ true → IsColumn sizes variables (Binary Quotient (Variable k l g) d) n
   part_within k l g d n known None lt left h = absurd (cc h)
   part_within k l g d n known (Some q) lt left h =
-      let parts = both (is_natural q && is_natural d) (is_no_longer q n) h in
-      let numbers = both (is_natural q) (is_natural d) parts.0 in
+      let parts = and_parts (is_natural q && is_natural d) (is_no_longer q n) h in
+      let numbers = and_parts (is_natural q) (is_natural d) parts.0 in
       let qn = count_value sizes variables 3 q numbers.0 in
       let dn = count_value sizes variables 3 d numbers.1 in
       let v : ℕ = slice_index variables k in
@@ -85,18 +83,18 @@ module _ (sizes variables : List ℕ) (r : PlainRanges) (loops : AreBelowLengths
   -- the greatest number is below one over a number, and so is each
   greatest_below : (k l g : ℕ) (d n : Expression) → slice_index variables k ≤ g → is_greatest_below g d n ≡ true → IsColumn sizes variables (Binary Quotient (Variable k l g) d) n
   greatest_below k l g (Literal d) (Literal m) le h =
-      let parts = both (nat_lt 0 d) (nat_lt (g / d) m) h in
+      let parts = and_parts (nat_lt 0 d) (nat_lt (g / d) m) h in
       let v : ℕ = slice_index variables k in
       let lt = ltb-true (g / d) m parts.1 in
       let most : v / d ≤ g / d = le-div (v / d) g d (ltb-true 0 d parts.0) (let all = div-mul-le_self v d in omega arith) in
       record { at = v / d; count = m; column_is = quotient_is (pos v) (pos d) v d refl refl; length_is = refl; below = omega arith }
-  greatest_below k l g (Literal d) n le h = let parts = both (nat_lt 0 d) false h in absurd (cc parts.1)
+  greatest_below k l g (Literal d) n le h = let parts = and_parts (nat_lt 0 d) false h in absurd (cc parts.1)
   greatest_below k l g d n le h = absurd (cc h)
 
   known_below : (k l g : ℕ) (d n : Expression) (known : Option Expression) → slice_index variables k ≤ g → slice_get r.lengths k ≡ known → is_passed (λ e. is_greatest_below g d n || is_passed (is_part_within d n) (over e d)) known ≡ true → IsColumn sizes variables (Binary Quotient (Variable k l g) d) n
   known_below k l g d n None le at h = absurd (cc h)
   known_below k l g d n (Some known) le at h =
-      elim (one_of (is_greatest_below g d n) (is_passed (is_part_within d n) (over known d)) h) [
+      elim (or_cases (is_greatest_below g d n) (is_passed (is_part_within d n) (over known d)) h) [
         | inl a ↦ greatest_below k l g d n le a
         | inr b ↦ part_within k l g d n known (over known d) (loops k known at) (over_left sizes variables known d) b
       ]
@@ -107,9 +105,9 @@ module _ (sizes variables : List ℕ) (r : PlainRanges) (loops : AreBelowLengths
 
   remainder_below : (e d n : Expression) → is_remainder_below r e d n ≡ true → IsColumn sizes variables (Binary Remainder e d) n
   remainder_below e (Literal d) n h =
-      let parts = both (nat_lt 0 d && is_some (slice_get r.lengths 0) && is_natural e) (is_at_least n d) h in
-      let rest = both (nat_lt 0 d && is_some (slice_get r.lengths 0)) (is_natural e) parts.0 in
-      let some = ltb-true 0 d (both (nat_lt 0 d) (is_some (slice_get r.lengths 0)) rest.0).0 in
+      let parts = and_parts (nat_lt 0 d && is_some (slice_get r.lengths 0) && is_natural e) (is_at_least n d) h in
+      let rest = and_parts (nat_lt 0 d && is_some (slice_get r.lengths 0)) (is_natural e) parts.0 in
+      let some = ltb-true 0 d (and_parts (nat_lt 0 d) (is_some (slice_get r.lengths 0)) rest.0).0 in
       let v = count_value sizes variables 3 e rest.1 in
       let less : v.0 % d < d = mod-lt v.0 some in
       let count = counted_least sizes variables (v.0 % d) d n (omega (arith, ints)) parts.1 in

@@ -1,7 +1,7 @@
 -- What a length is over another: the value, and that it is no larger.
 use Rattle.std.proofs.Common.{◌≡◌, ℕ, ℤ, pos, ◌+◌, ◌*◌, ◌/◌, ◌%◌, ◌<◌, ◌≤◌, ◌+ℤ◌, ◌*ℤ◌, Bool, true, false, Option, Some, None, List, refl, sym, ap, ◌∙◌, subst, arith}
 use Rattle.std.specs.Prelude.{◌==◌, ◌&&◌, nat_lt, if◌then◌else◌, option_and_then}
-use Rattle.std.proofs.lemmas.Bool.{eqb-true}
+use Rattle.std.proofs.lemmas.Bool.{and_parts, eqb-true}
 use Rattle.std.proofs.lemmas.Int.{ints}
 use Rattle.std.proofs.lemmas.Nat.{div-add-mod'}
 use Rattle.std.proofs.Math.IntN.{*ℤ_comm}
@@ -12,7 +12,7 @@ use Rattle.index_expr.specs.Values.{exact}
 use Rattle.index_simplify.specs.Tests.{is_number, same}
 use Rattle.index_simplify.specs.Factors.{times, number_over, one_where, in_product, without, over}
 use Rattle.index_simplify.specs.Simplified.{height}
-use Rattle.index_simplify.proofs.Tests.{both, number_value, same_value}
+use Rattle.index_simplify.proofs.Tests.{number_value, same_value}
 use Rattle.index_simplify.proofs.Parts.{some_node, some_height}
 
 -- ---- products of three
@@ -57,7 +57,7 @@ module _ (sizes variables : List ℕ) where
   number_left c (Literal d) = go (nat_lt 0 d && (c % d == 0)) refl
     where
       go : (b : Bool) → (nat_lt 0 d && (c % d == 0)) ≡ b → IfLeft (Literal c) (Literal d) (if b then Some (Literal (c / d)) else None)
-      go true e = let rest = eqb-true (c % d) 0 (both (nat_lt 0 d) (c % d == 0) e).1 in let whole = div-add-mod' c d in ap pos (omega arith)
+      go true e = let rest = eqb-true (c % d) 0 (and_parts (nat_lt 0 d) (c % d == 0) e).1 in let whole = div-add-mod' c d in ap pos (omega arith)
       go false e = tt
   number_left c _ = tt
 

@@ -1,5 +1,6 @@
 -- Each law of cells keeps the value at every point of the ranges, and makes nothing larger.
 use Rattle.std.proofs.Common.{◌≡◌, ◌≢◌, ℕ, zero, suc, ℤ, pos, ◌+◌, ◌*◌, ◌/◌, ◌%◌, ◌^◌, ◌<◌, ◌≤◌, ◌+ℤ◌, ◌*ℤ◌, max, Bool, true, false, Option, Some, None, List, refl, sym, ap, ◌∙◌, subst, arith, ⊎_elim}
+use Rattle.std.proofs.lemmas.Bool.{and_from, and_parts, or_cases}
 use Rattle.std.specs.Prelude.{◌&&◌, ◌||◌, ◌≤ℤ◌, if◌then◌else◌, int_div, int_rem, unwrap_or, option_and_then, option_map}
 use Rattle.std.proofs.lemmas.Int.{ints}
 use Rattle.std.proofs.lemmas.Nat.{div-mul-add, mod-mul-add}
@@ -18,8 +19,8 @@ use Rattle.index_simplify.specs.Below.{is_natural, stays_below}
 use Rattle.index_simplify.specs.Cells.{is_no_higher, is_cell, natural_over, split_row, cell_by, cell_over, sum_over, sum_modulo, rows_around, remainder_over, remainder_modulo, quotient_of, remainder_of, quotient, remainder, part_of, parted_operation, parted}
 use Rattle.index_simplify.specs.Ranges.{AreWithin, IsPoint}
 use Rattle.index_simplify.specs.Simplified.{height, names_are, HasWordLiterals, StandsFor, IsNoLarger}
-use Rattle.index_simplify.proofs.Tests.{both, one_of, IsNatural, count_value, same_value, IsColumn}
-use Rattle.index_simplify.proofs.Parts.{some_node, some_height, and_both, same_small, then_small, joined_small, left_small, literal_small}
+use Rattle.index_simplify.proofs.Tests.{IsNatural, count_value, same_value, IsColumn}
+use Rattle.index_simplify.proofs.Parts.{some_node, some_height, same_small, then_small, joined_small, left_small, literal_small}
 use Rattle.index_simplify.proofs.Divided.{over_value, over_has, over_less}
 use Rattle.index_simplify.proofs.Bounds.{both_of, below_is, length_from, cell_from}
 use Rattle.index_simplify.proofs.Standing.{stands_by, stands_joined, stands_then, stands_itself}
@@ -75,7 +76,7 @@ module _ (X W Y K N : ℤ) (x w y k n : ℕ) (X_is : X ≡ pos x) (W_is : W ≡ 
 -- ---- heights
 under : (a c d : Expression) → (is_no_higher a c ≡ true → height a ≤ height c) → (is_no_higher a d ≡ true → height a ≤ height d) → (is_no_higher a c || is_no_higher a d) ≡ true → height a ≤ max (height c) (height d)
 under a c d x y h =
-    elim (one_of (is_no_higher a c) (is_no_higher a d) h) [
+    elim (or_cases (is_no_higher a c) (is_no_higher a d) h) [
       | inl e ↦ let le = x e in omega arith
       | inr e ↦ let le = y e in omega arith
     ]
@@ -85,7 +86,7 @@ no_higher (Variable k l g) b h = some_height b
 no_higher (Literal n) b h = some_height b
 no_higher (Size k) b h = some_height b
 no_higher (Binary o a b) (Binary p c d) h =
-    let parts = both (is_no_higher a c || is_no_higher a d) (is_no_higher b c || is_no_higher b d) h in
+    let parts = and_parts (is_no_higher a c || is_no_higher a d) (is_no_higher b c || is_no_higher b d) h in
     let x = under a c d (no_higher a c) (no_higher a d) parts.0 in
     let y = under b c d (no_higher b c) (no_higher b d) parts.1 in
     omega arith
@@ -117,7 +118,7 @@ times_within : (variables : List ℕ) (m n q : Expression) → IsTimes m n q →
 times_within variables m n q e h = over_has (AreWithin variables) tt (λ c d x. tt) (λ a b x. x) (λ a b x y. (x, y)) m n q h e.is_over
 
 times_names : (v s : ℕ → Bool) (m n q : Expression) → IsTimes m n q → names_are v s m ≡ true → names_are v s q ≡ true
-times_names v s m n q e h = over_has (λ z. names_are v s z ≡ true) refl (λ c d x. refl) (λ a b x. both (names_are v s a) (names_are v s b) x) (λ a b x y. and_both (names_are v s a) (names_are v s b) x y) m n q h e.is_over
+times_names v s m n q e h = over_has (λ z. names_are v s z ≡ true) refl (λ c d x. refl) (λ a b x. and_parts (names_are v s a) (names_are v s b) x) (λ a b x y. and_from (names_are v s a) (names_are v s b) x y) m n q h e.is_over
 
 times_literals : (m n q : Expression) → IsTimes m n q → HasWordLiterals m → HasWordLiterals q
 times_literals m n q e h = over_has HasWordLiterals (omega arith) (λ c d x. let le = div-le_self c d in omega arith) (λ a b x. x) (λ a b x y. (x, y)) m n q h e.is_over
@@ -202,12 +203,12 @@ module _ (r : PlainRanges) (row width column : Expression) (cell : is_cell r row
         nodes = omega arith;
         height = omega arith;
         names = λ v s h.
-            let whole = both (names_are v s (Cell row width column)) (names_are v s n) h in
-            let sum = both (names_are v s row && names_are v s width) (names_are v s column) whole.0 in
-            let begin = both (names_are v s row) (names_are v s width) sum.0 in
-            and_both (names_are v s row && names_are v s k) (names_are v s column && names_are v s n)
-            (and_both (names_are v s row) (names_are v s k) begin.0 (times_names v s width n k e begin.1))
-            (and_both (names_are v s column) (names_are v s n) sum.1 whole.1);
+            let whole = and_parts (names_are v s (Cell row width column)) (names_are v s n) h in
+            let sum = and_parts (names_are v s row && names_are v s width) (names_are v s column) whole.0 in
+            let begin = and_parts (names_are v s row) (names_are v s width) sum.0 in
+            and_from (names_are v s row && names_are v s k) (names_are v s column && names_are v s n)
+            (and_from (names_are v s row) (names_are v s k) begin.0 (times_names v s width n k e begin.1))
+            (and_from (names_are v s column) (names_are v s n) sum.1 whole.1);
       }
 
   split_row_moved : (k n : Expression) → IsTimes width n k → is_natural n ≡ true → is_no_higher n width ≡ true → IsMoved r (Binary Quotient (Cell row width column) n) (Split k n)
@@ -250,9 +251,9 @@ module _ (r : PlainRanges) (row width column : Expression) (cell : is_cell r row
           nodes = omega arith;
           height = omega arith;
           names = λ v s h.
-              let whole = both (names_are v s (Cell row width column)) (names_are v s n) h in
-              let sum = both (names_are v s row && names_are v s width) (names_are v s column) whole.0 in
-              and_both (names_are v s row) (names_are v s k) (both (names_are v s row) (names_are v s width) sum.0).0 (times_names v s n width k e whole.1);
+              let whole = and_parts (names_are v s (Cell row width column)) (names_are v s n) h in
+              let sum = and_parts (names_are v s row && names_are v s width) (names_are v s column) whole.0 in
+              and_from (names_are v s row) (names_are v s k) (and_parts (names_are v s row) (names_are v s width) sum.0).0 (times_names v s n width k e whole.1);
         };
         literals = λ h. (h.0.0.0, times_literals n width k e h.1);
       }
@@ -276,8 +277,8 @@ module _ (r : PlainRanges) (row width column : Expression) (cell : is_cell r row
       nodes = omega arith;
       height = omega arith;
       names = λ v s h.
-          let whole = both (names_are v s (Cell row width column)) (names_are v s n) h in
-          and_both (names_are v s column) (names_are v s n) (both (names_are v s row && names_are v s width) (names_are v s column) whole.0).1 whole.1;
+          let whole = and_parts (names_are v s (Cell row width column)) (names_are v s n) h in
+          and_from (names_are v s column) (names_are v s n) (and_parts (names_are v s row && names_are v s width) (names_are v s column) whole.0).1 whole.1;
     };
     literals = λ h. (h.0.1, h.1);
   }
@@ -317,10 +318,10 @@ module _ (r : PlainRanges) (row width column : Expression) (cell : is_cell r row
             nodes = omega arith;
             height = omega arith;
             names = λ v s h.
-                let whole = both (names_are v s (Binary Remainder (Cell row width column) m)) (names_are v s n) h in
-                let rest = both (names_are v s (Cell row width column)) (names_are v s m) whole.0 in
-                let sum = both (names_are v s row && names_are v s width) (names_are v s column) rest.0 in
-                and_both (names_are v s row) (names_are v s k) (both (names_are v s row) (names_are v s width) sum.0).0 (times_names v s m width k e rest.1);
+                let whole = and_parts (names_are v s (Binary Remainder (Cell row width column) m)) (names_are v s n) h in
+                let rest = and_parts (names_are v s (Cell row width column)) (names_are v s m) whole.0 in
+                let sum = and_parts (names_are v s row && names_are v s width) (names_are v s column) rest.0 in
+                and_from (names_are v s row) (names_are v s k) (and_parts (names_are v s row) (names_are v s width) sum.0).0 (times_names v s m width k e rest.1);
           };
           literals = λ h. (h.0.0.0.0, times_literals m width k e h.0.1);
         }
@@ -344,9 +345,9 @@ module _ (r : PlainRanges) (row width column : Expression) (cell : is_cell r row
         nodes = omega arith;
         height = omega arith;
         names = λ v s h.
-            let whole = both (names_are v s (Binary Remainder (Cell row width column) m)) (names_are v s n) h in
-            let rest = both (names_are v s (Cell row width column)) (names_are v s m) whole.0 in
-            (both (names_are v s row && names_are v s width) (names_are v s column) rest.0).1;
+            let whole = and_parts (names_are v s (Binary Remainder (Cell row width column) m)) (names_are v s n) h in
+            let rest = and_parts (names_are v s (Cell row width column)) (names_are v s m) whole.0 in
+            (and_parts (names_are v s row && names_are v s width) (names_are v s column) rest.0).1;
       };
       literals = λ h. h.0.0.1;
     }
@@ -396,7 +397,7 @@ first_moved r a b below = record {
 module _ (r : PlainRanges) where
   split_found : (row width column n : Expression) → is_cell r row width column ≡ true → (part : Option Expression) → natural_over width n ≡ part → (b : Bool) → (is_natural n && is_no_higher n width) ≡ b → IfMoved r (Binary Quotient (Cell row width column) n) (if b then option_map (λ k. Binary Sum (Binary Product row k) (Binary Quotient column n)) part else None)
   split_found row width column n cell (Some k) e true h =
-      let parts = both (is_natural n) (is_no_higher n width) h in
+      let parts = and_parts (is_natural n) (is_no_higher n width) h in
       split_row_moved r row width column cell k n (times_of width n k e) parts.0 parts.1
   split_found row width column n cell None e true h = tt
   split_found row width column n cell part e false h = tt
@@ -417,7 +418,7 @@ module _ (r : PlainRanges) where
   sum_modulo_found (Binary Product row width) column n = go (is_natural n && is_cell r row width column) refl (natural_over width n) refl
     where
       go : (b : Bool) → (is_natural n && is_cell r row width column) ≡ b → (part : Option Expression) → natural_over width n ≡ part → IfMoved r (Binary Remainder (Cell row width column) n) (if b then option_map (λ k. Binary Remainder column n) part else None)
-      go true h (Some k) e = let parts = both (is_natural n) (is_cell r row width column) h in column_moved r row width column parts.1 k n (times_of width n k e) parts.0
+      go true h (Some k) e = let parts = and_parts (is_natural n) (is_cell r row width column) h in column_moved r row width column parts.1 k n (times_of width n k e) parts.0
       go true h None e = tt
       go false h part e = tt
   sum_modulo_found _ column n = tt
@@ -426,7 +427,7 @@ module _ (r : PlainRanges) where
   remainder_over_found (Binary Sum (Binary Product row width) column) m n = go (same width n && is_cell r row width column) refl (natural_over m width) refl
     where
       go : (b : Bool) → (same width n && is_cell r row width column) ≡ b → (rows : Option Expression) → natural_over m width ≡ rows → IfMoved r (Binary Quotient (Binary Remainder (Cell row width column) m) n) (option_map (λ k. Binary Remainder row k) (if b then rows else None))
-      go true h (Some k) e = let parts = both (same width n) (is_cell r row width column) h in around_row_moved r row width column parts.1 m n k parts.0 (times_of m width k e)
+      go true h (Some k) e = let parts = and_parts (same width n) (is_cell r row width column) h in around_row_moved r row width column parts.1 m n k parts.0 (times_of m width k e)
       go true h None e = tt
       go false h rows e = tt
   remainder_over_found (Binary Sum _ column) m n = tt
@@ -436,7 +437,7 @@ module _ (r : PlainRanges) where
   remainder_modulo_found (Binary Sum (Binary Product row width) column) m n = go (same width n && is_cell r row width column) refl (natural_over m width) refl
     where
       go : (b : Bool) → (same width n && is_cell r row width column) ≡ b → (rows : Option Expression) → natural_over m width ≡ rows → IfMoved r (Binary Remainder (Binary Remainder (Cell row width column) m) n) (option_map (λ k. column) (if b then rows else None))
-      go true h (Some k) e = let parts = both (same width n) (is_cell r row width column) h in around_column_moved r row width column parts.1 m n k parts.0 (times_of m width k e)
+      go true h (Some k) e = let parts = and_parts (same width n) (is_cell r row width column) h in around_column_moved r row width column parts.1 m n k parts.0 (times_of m width k e)
       go true h None e = tt
       go false h rows e = tt
   remainder_modulo_found (Binary Sum _ column) m n = tt

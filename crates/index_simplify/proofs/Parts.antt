@@ -1,7 +1,7 @@
 -- What stands first and second in an expression has no more than the whole.
-use Rattle.std.proofs.Common.{◌≡◌, ℕ, zero, suc, ◌*◌, ◌/◌, ◌%◌, ◌<◌, ◌≤◌, Bool, true, false, List, refl, arith}
+use Rattle.std.proofs.Common.{◌≡◌, ℕ, zero, suc, ◌*◌, ◌/◌, ◌%◌, ◌<◌, ◌≤◌, true, List, refl, arith}
 use Rattle.std.specs.Prelude.{◌&&◌, ◌==◌, nat_lt}
-use Rattle.std.proofs.lemmas.Bool.{eqb-true, ltb-true}
+use Rattle.std.proofs.lemmas.Bool.{and_from, and_parts, eqb-true, ltb-true}
 use Rattle.std.proofs.Math.Nat.{div-add-mod}
 use Rattle.index_expr.specs.declared.operation.Operation.{Operation}
 use Rattle.index_expr.specs.declared.operation.Operation.TheVariants.{Product, Quotient}
@@ -16,7 +16,6 @@ use Rattle.index_simplify.specs.Tests.{same_operation, is_multiple, is_part_of, 
 use Rattle.index_simplify.specs.Shapes as shape
 use Rattle.index_simplify.specs.Shapes.{IsRedundant, UndoesCell, EachNode, IsPlain, IsSimple}
 use Rattle.index_simplify.specs.Simplified.{height, names_are, IsNoLarger}
-use Rattle.index_simplify.proofs.Tests.{both}
 
 pub some_node : (e : Expression) → 1 ≤ nodes e
 some_node (Variable k l g) = omega arith
@@ -29,10 +28,6 @@ some_height (Variable k l g) = omega arith
 some_height (Literal n) = omega arith
 some_height (Size k) = omega arith
 some_height (Binary o a b) = omega arith
-
-pub and_both : (a b : Bool) → a ≡ true → b ≡ true → (a && b) ≡ true
-and_both true b p q = q
-and_both false b p q = absurd (cc p)
 
 -- ---- what holds of each operation or each node holds in a part
 pub first_operations : (P : Operation → Expression → Expression → Type 0) (e : Expression) → EachOperation P e → EachOperation P (first_part e)
@@ -86,14 +81,14 @@ pub left_small : (o : Operation) (a b : Expression) → IsNoLarger (Binary o a b
 left_small o a b = record {
   nodes = omega arith;
   height = omega arith;
-  names = λ v s h. (both (names_are v s a) (names_are v s b) h).0;
+  names = λ v s h. (and_parts (names_are v s a) (names_are v s b) h).0;
 }
 
 right_small : (o : Operation) (a b : Expression) → IsNoLarger (Binary o a b) b
 right_small o a b = record {
   nodes = omega arith;
   height = omega arith;
-  names = λ v s h. (both (names_are v s a) (names_are v s b) h).1;
+  names = λ v s h. (and_parts (names_are v s a) (names_are v s b) h).1;
 }
 
 pub literal_small : (e : Expression) (n : ℕ) → IsNoLarger e (Literal n)
@@ -121,7 +116,7 @@ scaled_small o a (Size k) = right_small o a (Size k)
 scaled_small o a (Binary p size d) = record {
   nodes = (let some = some_node a in let more = some_node d in omega arith);
   height = (let some = some_height a in omega arith);
-  names = λ v s h. (both (names_are v s size) (names_are v s d) (both (names_are v s a) (names_are v s size && names_are v s d) h).1).0;
+  names = λ v s h. (and_parts (names_are v s size) (names_are v s d) (and_parts (names_are v s a) (names_are v s size && names_are v s d) h).1).0;
 }
 
 pub applied_small : (law : Law) (o : Operation) (a b : Expression) → IsNoLarger (Binary o a b) (applied law o a b)
@@ -146,7 +141,7 @@ pub joined_small : (o : Operation) (a b c d : Expression) → IsNoLarger a c →
 joined_small o a b c d x y = record {
   nodes = omega arith;
   height = omega arith;
-  names = λ v s h. let parts = both (names_are v s a) (names_are v s b) h in and_both (names_are v s c) (names_are v s d) (x.names v s parts.0) (y.names v s parts.1);
+  names = λ v s h. let parts = and_parts (names_are v s a) (names_are v s b) h in and_from (names_are v s c) (names_are v s d) (x.names v s parts.0) (y.names v s parts.1);
 }
 
 -- ---- what a law leaves is a part of what is simple, a literal, or a number of at least 2 times a
@@ -207,8 +202,8 @@ scaled_plain q k more = record { irredundant = λ h. let small = redundant_small
 
 base_simple : (r : PlainRanges) (c k : ℕ) (d : Expression) → is_part_of c d ≡ true → IsSimple (scaled (Literal c) (Binary Quotient (Size k) d))
 base_simple r c k (Literal d) h =
-    let parts = both (nat_lt 0 d && nat_lt d c) (c % d == 0) h in
-    let front = both (nat_lt 0 d) (nat_lt d c) parts.0 in
+    let parts = and_parts (nat_lt 0 d && nat_lt d c) (c % d == 0) h in
+    let front = and_parts (nat_lt 0 d) (nat_lt d c) parts.0 in
     (scaled_plain (c / d) k (more_than_one c d (ltb-true d c front.1) (eqb-true (c % d) 0 parts.1)), tt, tt)
 base_simple r c k _ h = absurd (cc h)
 
@@ -217,7 +212,7 @@ size_simple r c (Size k) d h m = base_simple r c k d h
 size_simple r c _ d h m = absurd (cc m)
 
 part_simple : (r : PlainRanges) (c : ℕ) (b : Expression) → is_part_base r c b ≡ true → IsSimple (scaled (Literal c) b)
-part_simple r c (Binary Quotient size d) h = let parts = both (is_part_of c d) (is_multiple r size d) h in size_simple r c size d parts.0 parts.1
+part_simple r c (Binary Quotient size d) h = let parts = and_parts (is_part_of c d) (is_multiple r size d) h in size_simple r c size d parts.0 parts.1
 part_simple r c _ h = absurd (cc h)
 
 scaled_simple : (r : PlainRanges) (a b : Expression) → is_scaled_size r a b ≡ true → IsSimple (scaled a b)
@@ -237,7 +232,7 @@ applied_simple r ZeroTimes o a b h x y = tt
 applied_simple r OverOne o a b h x y = x
 applied_simple r ModuloOne o a b h x y = tt
 applied_simple r WholeSize o a b h x y = first_nodes IsPlain b y
-applied_simple r ScaledSize o a b h x y = scaled_simple r a b (both (same_operation o Product) (is_scaled_size r a b) h).1
+applied_simple r ScaledSize o a b h x y = scaled_simple r a b (and_parts (same_operation o Product) (is_scaled_size r a b) h).1
 applied_simple r RowOfCell o a b h x y = first_nodes IsPlain (first_part a) (first_nodes IsPlain a x)
 applied_simple r ColumnOfCell o a b h x y = second_nodes IsPlain a x
 applied_simple r CellOfParts o a b h x y = first_nodes IsPlain (first_part a) (first_nodes IsPlain a x)

@@ -1,6 +1,6 @@
 -- Where no law of the table is of an operation, it has none of the shapes: some law is of each.
 use Rattle.std.proofs.Common.{◌≡◌, ℕ, ◌+◌, ◌*◌, ◌^◌, ◌<◌, Bool, true, false, Option, Some, None, List, [], ◌∷◌, refl, ap, subst}
-use Rattle.std.specs.Prelude.{◌==◌, is_some, if◌then◌else◌}
+use Rattle.std.specs.Prelude.{is_some, if◌then◌else◌}
 use Rattle.std.proofs.lemmas.Bool.{eq-eqb, lt-ltb}
 use Rattle.index_expr.specs.declared.operation.Operation.{Operation}
 use Rattle.index_expr.specs.Expression.{Expression, Binary}
@@ -13,9 +13,6 @@ use Rattle.index_simplify.specs.Laws.{applies}
 use Rattle.index_simplify.specs.Operations.{first_law}
 use Rattle.index_simplify.specs.Shapes as shape
 use Rattle.index_simplify.specs.Shapes.{IsRedundant, UndoesCell, IsPlain}
-
-same_number : (n : ℕ) → (n == n) ≡ true
-same_number n = eq-eqb n n refl
 
 word_fits : (n : ℕ) → n < 2 ^ 32 → is_some (word n) ≡ true
 word_fits n lt = ap (λ (b : Bool). is_some (if b then Some n else None)) (lt-ltb n (2 ^ 32) lt)
@@ -40,11 +37,11 @@ redundant_law r _ (shape.TimesZero e) = (law.TimesZero, refl)
 redundant_law r _ (shape.ZeroTimes e) = (law.ZeroTimes, refl)
 redundant_law r _ (shape.OverOne e) = (law.OverOne, refl)
 redundant_law r _ (shape.ModuloOne e) = (law.ModuloOne, refl)
-redundant_law r _ (shape.CellOfParts k l g m h n) = (law.CellOfParts, rw (same_number n, same_number k) refl)
+redundant_law r _ (shape.CellOfParts k l g m h n) = (law.CellOfParts, rw (eq-eqb n n refl, eq-eqb k k refl) refl)
 
 cell_law : (r : PlainRanges) (e : Expression) → UndoesCell e → HasLaw r e
-cell_law r _ (shape.RowOfCell k l g j m h n lt) = (law.RowOfCell, rw (same_number n, lt-ltb h n lt) refl)
-cell_law r _ (shape.ColumnOfCell k l g j m h n lt) = (law.ColumnOfCell, rw (same_number n, lt-ltb h n lt) refl)
+cell_law r _ (shape.RowOfCell k l g j m h n lt) = (law.RowOfCell, rw (eq-eqb n n refl, lt-ltb h n lt) refl)
+cell_law r _ (shape.ColumnOfCell k l g j m h n lt) = (law.ColumnOfCell, rw (eq-eqb n n refl, lt-ltb h n lt) refl)
 
 -- ---- the first law of a list that is of an operation
 module _ (r : PlainRanges) (o : Operation) (a b : Expression) where

@@ -3,7 +3,7 @@
 use Rattle.std.proofs.Common.{◌≡◌, ℕ, zero, suc, ◌+◌, ◌*◌, ◌/◌, ◌%◌, ◌<◌, ◌≤◌, Bool, true, false, Option, Some, None, refl, sym, ap, ◌∙◌, subst, arith}
 use Rattle.std.specs.Prelude.{◌==◌, ◌&&◌, nat_lt, if◌then◌else◌}
 use Rattle.std.proofs.Common.{⊎_elim}
-use Rattle.std.proofs.lemmas.Bool.{cases_Bool, eqb-true, eq-eqb, ltb-true, lt-ltb}
+use Rattle.std.proofs.lemmas.Bool.{and_parts, cases_Bool, eqb-true, eq-eqb, ltb-true, lt-ltb}
 use Rattle.std.proofs.Math.Nat.{div-add-mod}
 use Rattle.index_expr.specs.declared.operation.Operation.{Operation}
 use Rattle.index_expr.specs.declared.operation.Operation.TheVariants.{Product, Quotient}
@@ -17,7 +17,6 @@ use Rattle.index_simplify.specs.Laws.{applies, applied}
 use Rattle.index_simplify.specs.Operations.{first_law, by_law, operation_on, tabled}
 use Rattle.index_simplify.specs.Simplified.{AreDeclared}
 use Rattle.index_simplify.proofs.Parts.{applied_small}
-use Rattle.index_simplify.proofs.Tests.{both}
 use Rattle.index_simplify.proofs.Shapes.{found_applies, none_applies, fails_each, clash}
 
 no_zero : (c : ℕ) → (0 == c) ≡ false → c ≡ 0 → ⊥
@@ -70,9 +69,9 @@ module _ (r : PlainRanges) (c k d : ℕ) where
   one_left more law.ModuloOne same h = omega arith
   one_left more law.WholeSize same h = omega arith
   one_left more law.ScaledSize same h =
-      let parts = both (is_part_of c (Literal d)) (is_multiple r (Size k) (Literal d)) h in
-      let front = both (nat_lt 0 d && nat_lt d c) (c % d == 0) parts.0 in
-      let most = both (nat_lt 0 d) (nat_lt d c) front.0 in
+      let parts = and_parts (is_part_of c (Literal d)) (is_multiple r (Size k) (Literal d)) h in
+      let front = and_parts (nat_lt 0 d && nat_lt d c) (c % d == 0) parts.0 in
+      let most = and_parts (nat_lt 0 d) (nat_lt d c) front.0 in
       let less = ltb-true d c most.1 in absurd (omega arith)
   one_left more law.RowOfCell same h = omega arith
   one_left more law.ColumnOfCell same h = omega arith
@@ -157,7 +156,7 @@ module _ (r : PlainRanges) where
       whole_or false e some rest = part_short c k d m some rest (λ same. let f : (c == d) ≡ true = eq-eqb c d same in absurd (cc (e, f)))
 
       go : (b : Bool) → (nat_lt 0 d && (c % d == 0)) ≡ b → nodes (tabled r (Binary Product (Literal c) (Binary Quotient (Size k) (Literal d)))) ≤ (if b then (if c == d then 1 else 3) else (1 + short_nodes (Binary Quotient (Size k) (Literal d)) + 1))
-      go true e = let parts = both (nat_lt 0 d) (c % d == 0) e in whole_or (c == d) refl (ltb-true 0 d parts.0) (eqb-true (c % d) 0 parts.1)
+      go true e = let parts = and_parts (nat_lt 0 d) (c % d == 0) e in whole_or (c == d) refl (ltb-true 0 d parts.0) (eqb-true (c % d) 0 parts.1)
       go false e = plain_short Product (Literal c) (Binary Quotient (Size k) (Literal d)) (omega arith) (quotient_short k d)
 
   product_short : (c : ℕ) (b : Expression) → AreDeclared r b → nodes (tabled r b) ≤ short_nodes b → nodes (tabled r (Binary Product (Literal c) b)) ≤ short_nodes (Binary Product (Literal c) b)

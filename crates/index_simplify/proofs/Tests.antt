@@ -1,8 +1,8 @@
 -- What the tests on expressions mean for their values.
-use Rattle.std.proofs.Common.{◌≡◌, ℕ, zero, suc, ℤ, pos, negsuc, ◌+◌, ◌*◌, ◌/◌, ◌%◌, ◌<◌, ◌≤◌, ◌+ℤ◌, ◌*ℤ◌, min, max, Bool, true, false, Option, Some, None, List, refl, sym, ap, ◌∙◌, subst, arith}
-use Rattle.std.specs.Prelude.{◌==◌, ◌&&◌, ◌||◌, ◌<ℤ◌, nat_lt, slice_get, slice_index, unsigned_abs, int_div, int_rem, ◌⊎◌}
+use Rattle.std.proofs.Common.{◌≡◌, ℕ, zero, suc, ℤ, pos, negsuc, ◌+◌, ◌*◌, ◌/◌, ◌%◌, ◌<◌, ◌≤◌, ◌+ℤ◌, ◌*ℤ◌, min, max, true, false, Option, Some, None, List, refl, sym, ap, ◌∙◌, subst, arith}
+use Rattle.std.specs.Prelude.{◌==◌, ◌&&◌, ◌<ℤ◌, nat_lt, slice_get, slice_index, unsigned_abs, int_div, int_rem}
 use Rattle.std.proofs.Common.{inl, inr}
-use Rattle.std.proofs.lemmas.Bool.{eqb-true, ltb-true, leb-true}
+use Rattle.std.proofs.lemmas.Bool.{and_parts, or_cases, eqb-true, ltb-true, leb-true}
 use Rattle.std.proofs.lemmas.Int.{ints, clamps, quot-rem}
 use Rattle.std.proofs.lemmas.Nat.{div-mul-add, mod-mul-add}
 use Rattle.std.proofs.Math.Nat.{div-add-mod, mul_assoc, mul_comm}
@@ -14,14 +14,6 @@ use Rattle.index_simplify.specs.PlainRanges.{PlainRanges}
 use Rattle.index_simplify.specs.Tests.{same_operation, same_variable, is_number, same_size, same, is_above, is_at_least, is_no_longer, is_known_within, is_loop_within, is_below, is_count, is_cell, is_quotient, is_rounded, are_parts, is_known_multiple, is_multiple, is_part_of, is_base, is_part_base, is_whole_size, is_scaled_size}
 use Rattle.index_simplify.specs.Laws.{first_part, second_part, scaled}
 use Rattle.index_simplify.specs.Ranges.{AreBelowLengths, AreMultiples, AreWithin}
-
-pub both : (a b : Bool) → (a && b) ≡ true → (a ≡ true) × (b ≡ true)
-both true b e = (refl, e)
-both false b e = absurd (cc e)
-
-pub one_of : (a b : Bool) → (a || b) ≡ true → (a ≡ true) ⊎ (b ≡ true)
-one_of true b e = inl refl
-one_of false b e = inr e
 
 pub is_operation : (o p : Operation) → same_operation o p ≡ true → o ≡ p
 is_operation Sum Sum e = refl
@@ -51,8 +43,8 @@ module _ (sizes variables : List ℕ) where
   same_value (Literal n) b h = number_value n b h
   same_value (Size k) b h = size_value k b h
   same_value (Binary o a b) (Binary p c d) h =
-      let parts = both (same_operation o p && same a c) (same b d) h in
-      let front = both (same_operation o p) (same a c) parts.0 in
+      let parts = and_parts (same_operation o p && same a c) (same b d) h in
+      let front = and_parts (same_operation o p) (same a c) parts.0 in
       let e = is_operation o p front.0 in
       let x = same_value a c front.1 in
       let y = same_value b d parts.1 in
@@ -93,12 +85,12 @@ module _ (sizes variables : List ℕ) where
       none Least h = absurd (cc h)
       none Greatest h = absurd (cc h)
   count_value (suc depth) (Binary Difference a b) h = absurd (cc h)
-  count_value (suc depth) (Binary Sum a b) h = let parts = both (is_count depth a) (is_count depth b) h in natural_of Sum a b refl (count_value depth a parts.0) (count_value depth b parts.1)
-  count_value (suc depth) (Binary Product a b) h = let parts = both (is_count depth a) (is_count depth b) h in natural_of Product a b refl (count_value depth a parts.0) (count_value depth b parts.1)
-  count_value (suc depth) (Binary Quotient a b) h = let parts = both (is_count depth a) (is_count depth b) h in natural_of Quotient a b refl (count_value depth a parts.0) (count_value depth b parts.1)
-  count_value (suc depth) (Binary Remainder a b) h = let parts = both (is_count depth a) (is_count depth b) h in natural_of Remainder a b refl (count_value depth a parts.0) (count_value depth b parts.1)
-  count_value (suc depth) (Binary Least a b) h = let parts = both (is_count depth a) (is_count depth b) h in natural_of Least a b refl (count_value depth a parts.0) (count_value depth b parts.1)
-  count_value (suc depth) (Binary Greatest a b) h = let parts = both (is_count depth a) (is_count depth b) h in natural_of Greatest a b refl (count_value depth a parts.0) (count_value depth b parts.1)
+  count_value (suc depth) (Binary Sum a b) h = let parts = and_parts (is_count depth a) (is_count depth b) h in natural_of Sum a b refl (count_value depth a parts.0) (count_value depth b parts.1)
+  count_value (suc depth) (Binary Product a b) h = let parts = and_parts (is_count depth a) (is_count depth b) h in natural_of Product a b refl (count_value depth a parts.0) (count_value depth b parts.1)
+  count_value (suc depth) (Binary Quotient a b) h = let parts = and_parts (is_count depth a) (is_count depth b) h in natural_of Quotient a b refl (count_value depth a parts.0) (count_value depth b parts.1)
+  count_value (suc depth) (Binary Remainder a b) h = let parts = and_parts (is_count depth a) (is_count depth b) h in natural_of Remainder a b refl (count_value depth a parts.0) (count_value depth b parts.1)
+  count_value (suc depth) (Binary Least a b) h = let parts = and_parts (is_count depth a) (is_count depth b) h in natural_of Least a b refl (count_value depth a parts.0) (count_value depth b parts.1)
+  count_value (suc depth) (Binary Greatest a b) h = let parts = and_parts (is_count depth a) (is_count depth b) h in natural_of Greatest a b refl (count_value depth a parts.0) (count_value depth b parts.1)
 
   -- the values of a column and of a length above it
   pub record IsColumn (column length : Expression) : Type 0 where
@@ -142,7 +134,7 @@ module _ (sizes variables : List ℕ) where
 
     pub column_of : (e n : Expression) → AreWithin variables e → is_below r e n ≡ true → IsColumn e n
     column_of (Variable k l g) n own h =
-        elim (one_of (is_above n g) (is_loop_within r k n) h) [
+        elim (or_cases (is_above n g) (is_loop_within r k n) h) [
           | inl a ↦ above_number k l g n own.1 a
           | inr b ↦ below_known k l g n (slice_get r.lengths k) refl b
         ]
@@ -157,8 +149,8 @@ module _ (sizes variables : List ℕ) where
 
     cell_of : (e m : Expression) → AreWithin variables e → is_cell r e m ≡ true → IsCellOf e m (first_part (first_part e)) (second_part e)
     cell_of (Binary Sum (Binary Product row n) column) m own h =
-        let parts = both (same n m && is_count 3 row) (is_below r column m) h in
-        let front = both (same n m) (is_count 3 row) parts.0 in
+        let parts = and_parts (same n m && is_count 3 row) (is_below r column m) h in
+        let front = and_parts (same n m) (is_count 3 row) parts.0 in
         let number = count_value 3 row front.1 in
         record {
           row_at = number.0;
@@ -211,7 +203,7 @@ module _ (sizes variables : List ℕ) where
 
   base_value : (r : PlainRanges) (c : ℕ) (b : Expression) → AreMultiples r sizes → is_base r c b ≡ true → exact sizes variables (first_part b) ≡ pos c *ℤ exact sizes variables b
   base_value r c (Binary Quotient size d) all h =
-      let parts = both (is_number c d) (is_multiple r size d) h in
+      let parts = and_parts (is_number c d) (is_multiple r size d) h in
       let m = multiple_of r size d all parts.1 in
       whole_from (exact sizes variables size) (exact sizes variables d) (pos c) m.size_at m.divisor_at m.size_is m.divisor_is (number_value c d parts.0) m.rest
   base_value r c _ all h = absurd (cc h)
@@ -229,8 +221,8 @@ module _ (sizes variables : List ℕ) where
 
   pub part_of : (c : ℕ) (e : Expression) → is_part_of c e ≡ true → IsPartOf c e
   part_of c (Literal d) h =
-      let parts = both (nat_lt 0 d && nat_lt d c) (c % d == 0) h in
-      let front = both (nat_lt 0 d) (nat_lt d c) parts.0 in
+      let parts = and_parts (nat_lt 0 d && nat_lt d c) (c % d == 0) h in
+      let front = and_parts (nat_lt 0 d) (nat_lt d c) parts.0 in
       record { part = d; literal = refl; below = ltb-true d c front.1; rest = eqb-true (c % d) 0 parts.1 }
   part_of c _ h = absurd (cc h)
 
@@ -243,9 +235,9 @@ module _ (sizes variables : List ℕ) where
 
   part_base_value : (r : PlainRanges) (c : ℕ) (b : Expression) → AreMultiples r sizes → is_part_base r c b ≡ true → exact sizes variables (scaled (Literal c) b) ≡ pos c *ℤ exact sizes variables b
   part_base_value r c (Binary Quotient size (Literal d)) all h =
-      let parts = both (is_part_of c (Literal d)) (is_multiple r size (Literal d)) h in
+      let parts = and_parts (is_part_of c (Literal d)) (is_multiple r size (Literal d)) h in
       let m = multiple_of r size (Literal d) all parts.1 in
-      let front = both (nat_lt 0 d && nat_lt d c) (c % d == 0) parts.0 in
+      let front = and_parts (nat_lt 0 d && nat_lt d c) (c % d == 0) parts.0 in
       let same : d ≡ m.divisor_at = ap unsigned_abs m.divisor_is in
       scaled_from (exact sizes variables size) (pos d) c m.size_at d m.size_is refl (eqb-true (c % d) 0 front.1) (subst (λ x. m.size_at % x ≡ 0) (sym same) m.rest)
   part_base_value r c _ all h = absurd (cc h)
@@ -256,14 +248,14 @@ module _ (sizes variables : List ℕ) where
 
   quotient_value : (q d m : Expression) → is_quotient q d m ≡ true → (exact sizes variables q ≡ int_div (exact sizes variables d) (exact sizes variables m)) × (exact sizes variables (first_part q) ≡ exact sizes variables d)
   quotient_value (Binary Quotient e n) d m h =
-      let parts = both (same n m) (same e d) h in
+      let parts = and_parts (same n m) (same e d) h in
       let x = same_value e d parts.1 in
       (ap (int_div (exact sizes variables e)) (same_value n m parts.0) ∙ ap (λ z. int_div z (exact sizes variables m)) x, x)
   quotient_value _ d m h = absurd (cc h)
 
   rounded_value : (a d m : Expression) → is_rounded a d m ≡ true → (exact sizes variables a ≡ int_div (exact sizes variables d) (exact sizes variables m) *ℤ exact sizes variables m) × (exact sizes variables (first_part (first_part a)) ≡ exact sizes variables d)
   rounded_value (Binary Product q n) d m h =
-      let parts = both (same n m) (is_quotient q d m) h in
+      let parts = and_parts (same n m) (is_quotient q d m) h in
       let x = quotient_value q d m parts.1 in
       (ap (λ z. exact sizes variables q *ℤ z) (same_value n m parts.0) ∙ ap (λ z. z *ℤ exact sizes variables m) x.0, x.1)
   rounded_value _ d m h = absurd (cc h)

@@ -3,7 +3,7 @@ use Rattle.std.proofs.Common.{◌≡◌, ℕ, suc, ℤ, pos, negsuc, ◌+◌, �
 use Rattle.std.specs.Prelude.{◌&&◌, nat_lt, nat_le, int_div, int_rem, is_some, unwrap_or, if◌then◌else◌}
 use Rattle.std.specs.Int.{int_min, int_max}
 use Rattle.std.proofs.lemmas.Int.{ints, clamps}
-use Rattle.std.proofs.lemmas.Bool.{leb-true}
+use Rattle.std.proofs.lemmas.Bool.{and_parts, leb-true}
 use Rattle.std.proofs.Math.Nat.{div-one, mod-one}
 use Rattle.index_expr.specs.declared.operation.Operation.{Operation}
 use Rattle.index_expr.specs.declared.operation.Operation.TheVariants.{Sum, Difference, Product, Quotient, Remainder, Least, Greatest}
@@ -16,7 +16,7 @@ use Rattle.index_simplify.specs.Literals.{word, difference, computed_from, compu
 use Rattle.index_simplify.specs.Tests.{same_operation, is_number, same, is_cell, are_parts, is_whole_size, is_scaled_size}
 use Rattle.index_simplify.specs.Laws.{first_part, second_part, scaled, applies, applied}
 use Rattle.index_simplify.specs.Ranges.{AreBelowLengths, AreMultiples, AreWithin}
-use Rattle.index_simplify.proofs.Tests.{both, is_operation, number_value, same_value, row_value, column_value, parts_value, whole_size_value, scaled_size_value}
+use Rattle.index_simplify.proofs.Tests.{is_operation, number_value, same_value, row_value, column_value, parts_value, whole_size_value, scaled_size_value}
 
 -- ---- the laws over the whole numbers
 plus_zero : (z : ℤ) → z ≡ z +ℤ pos 0
@@ -93,19 +93,19 @@ module _ (sizes variables : List ℕ) where
   -- the value where a law's operation and one operand are known
   by_second : (o p : Operation) (n : ℕ) (a b s : Expression) → (same_operation o p && is_number n b) ≡ true → exact sizes variables s ≡ operate p (exact sizes variables a) (pos n) → exact sizes variables s ≡ operate o (exact sizes variables a) (exact sizes variables b)
   by_second o p n a b s h e =
-      let parts = both (same_operation o p) (is_number n b) h in
+      let parts = and_parts (same_operation o p) (is_number n b) h in
       e ∙ ap (operate p (exact sizes variables a)) (number_value sizes variables n b parts.1)
       ∙ ap (λ q. operate q (exact sizes variables a) (exact sizes variables b)) (sym (is_operation o p parts.0))
 
   by_first : (o p : Operation) (n : ℕ) (a b s : Expression) → (same_operation o p && is_number n a) ≡ true → exact sizes variables s ≡ operate p (pos n) (exact sizes variables b) → exact sizes variables s ≡ operate o (exact sizes variables a) (exact sizes variables b)
   by_first o p n a b s h e =
-      let parts = both (same_operation o p) (is_number n a) h in
+      let parts = and_parts (same_operation o p) (is_number n a) h in
       e ∙ ap (λ z. operate p z (exact sizes variables b)) (number_value sizes variables n a parts.1)
       ∙ ap (λ q. operate q (exact sizes variables a) (exact sizes variables b)) (sym (is_operation o p parts.0))
 
   by_test : (o p : Operation) (t : Bool) (a b s : Expression) → (same_operation o p && t) ≡ true → (t ≡ true → exact sizes variables s ≡ operate p (exact sizes variables a) (exact sizes variables b)) → exact sizes variables s ≡ operate o (exact sizes variables a) (exact sizes variables b)
   by_test o p t a b s h e =
-      let parts = both (same_operation o p) t h in
+      let parts = and_parts (same_operation o p) t h in
       e parts.1 ∙ ap (λ q. operate q (exact sizes variables a) (exact sizes variables b)) (sym (is_operation o p parts.0))
 
   pub law_value : (r : PlainRanges) → AreBelowLengths r sizes variables → AreMultiples r sizes → (law : Law) (o : Operation) (a b : Expression) → AreWithin variables a → applies r law o a b ≡ true → exact sizes variables (applied law o a b) ≡ operate o (exact sizes variables a) (exact sizes variables b)

@@ -1,7 +1,8 @@
 //! The laws of what stays below a length, and of cells whose rows are cut into parts.
 
-ghost use Rattle.std.specs.Prelude.{◌≡◌, IfOk, option_map};
-ghost use Rattle.index_expr.specs.Expression.{expression_of};
+ghost use Rattle.std.specs.Prelude.{◌≡◌, IfOk, Some, option_map};
+ghost use Rattle.index_expr.specs.declared.operation.Operation.TheVariants as operation;
+ghost use Rattle.index_expr.specs.Expression.{Binary, expression_of};
 ghost use Rattle.index_simplify.specs.Laws as laws;
 ghost use Rattle.index_simplify.specs.Cells as spec;
 ghost use Rattle.index_simplify.specs.PlainRanges.{ranges_of};
@@ -64,7 +65,43 @@ fn natural_over(alloc: Global, length: &Index, divisor: &Index) -> Result<Option
     }
 }
 
-// `row * part + column / n`, where the width is so many times `n`.
+// The operation on a copy of the one, and the other.
+fn on_copy(alloc: Global, of: Operation, a: &Index, b: Index) -> Result<Option<Index>, AllocError>
+    ensures { IfOk result (λ e. option_map expression_of e
+        ≡ Some (Binary of (expression_of a.now) (expression_of b))) }
+{
+    let a = a.copy(alloc)?;
+    Ok(Some(Index::binary(alloc, of, a, b)?))
+}
+
+// The operation on copies of both.
+fn on_copies(alloc: Global, of: Operation, a: &Index, b: &Index) -> Result<Index, AllocError>
+    ensures { IfOk result (λ e. expression_of e
+        ≡ Binary of (expression_of a.now) (expression_of b.now)) }
+{
+    let a = a.copy(alloc)?;
+    Index::binary(alloc, of, a, b.copy(alloc)?)
+}
+
+// `row * part + column / n`.
+fn split_by(
+    alloc: Global,
+    row: &Index,
+    part: Index,
+    column: &Index,
+    n: &Index,
+) -> Result<Option<Index>, AllocError>
+    ensures { IfOk result (λ e. option_map expression_of e
+        ≡ Some (Binary operation.Sum
+        (Binary operation.Product (expression_of row.now) (expression_of part))
+        (Binary operation.Quotient (expression_of column.now) (expression_of n.now)))) }
+{
+    let begin = Index::binary(alloc, Operation::Product, row.copy(alloc)?, part)?;
+    let within = on_copies(alloc, Operation::Quotient, column, n)?;
+    Ok(Some(Index::binary(alloc, Operation::Sum, begin, within)?))
+}
+
+// The same, where the width is so many times `n`.
 fn split_row(
     alloc: Global,
     row: &Index,
@@ -79,17 +116,10 @@ fn split_row(
     if !(is_natural(n) && is_no_higher(n, width)) {
         return Ok(None);
     }
-    let Some(part) = natural_over(alloc, width, n)? else {
-        return Ok(None);
-    };
-    let begin = Index::binary(alloc, Operation::Product, row.copy(alloc)?, part)?;
-    let within = Index::binary(
-        alloc,
-        Operation::Quotient,
-        column.copy(alloc)?,
-        n.copy(alloc)?,
-    )?;
-    Ok(Some(Index::binary(alloc, Operation::Sum, begin, within)?))
+    match natural_over(alloc, width, n)? {
+        Some(part) => split_by(alloc, row, part, column, n),
+        None => Ok(None),
+    }
 }
 
 // What stands first in an operation.
@@ -115,10 +145,7 @@ fn cell_over(
         (expression_of column.now) (expression_of n.now)) }
 {
     match natural_over(alloc, n, width)? {
-        Some(rows) => {
-            let e = Index::binary(alloc, Operation::Quotient, row.copy(alloc)?, rows)?;
-            Ok(Some(e))
-        }
+        Some(rows) => on_copy(alloc, Operation::Quotient, row, rows),
         None => split_row(alloc, row, width, column, n),
     }
 }
@@ -164,11 +191,7 @@ fn sum_modulo(
                 return Ok(None);
             }
             match natural_over(alloc, width, n)? {
-                Some(_) => {
-                    let column = column.copy(alloc)?;
-                    let e = Index::binary(alloc, Operation::Remainder, column, n.copy(alloc)?)?;
-                    Ok(Some(e))
-                }
+                Some(_) => Ok(Some(on_copies(alloc, Operation::Remainder, column, n)?)),
                 None => Ok(None),
             }
         }
@@ -215,10 +238,7 @@ fn remainder_over(
     match cell {
         Index::Binary(Operation::Sum, begin, column) => {
             match rows_around(alloc, begin, column, modulus, n, ranges)? {
-                Some(rows) => {
-                    let row = first_of(begin).copy(alloc)?;
-                    Ok(Some(Index::binary(alloc, Operation::Remainder, row, rows)?))
-                }
+                Some(rows) => on_copy(alloc, Operation::Remainder, first_of(begin), rows),
                 None => Ok(None),
             }
         }

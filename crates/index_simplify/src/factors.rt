@@ -1,6 +1,6 @@
 //! What is left of a length without one of its factors.
 
-ghost use Rattle.std.specs.Prelude.{◌≡◌, IfOk, option_map};
+ghost use Rattle.std.specs.Prelude.{◌≡◌, IfOk, Some, option_map};
 ghost use Rattle.index_expr.specs.Expression.{expression_of};
 ghost use Rattle.index_simplify.specs.Tests as tests;
 ghost use Rattle.index_simplify.specs.Factors as spec;
@@ -50,6 +50,24 @@ fn one_of(e: &Index, factor: &Index) -> Option<Index>
     None
 }
 
+// The product of what is left of the first and a copy of the second.
+fn rest_times(alloc: Global, rest: Index, b: &Index) -> Result<Option<Index>, AllocError>
+    ensures { IfOk result (λ q. option_map expression_of q
+        ≡ Some (spec.times (expression_of rest) (expression_of b.now))) }
+{
+    let b = b.copy(alloc)?;
+    Ok(Some(times(alloc, rest, b)?))
+}
+
+// And of a copy of the first and what is left of the second.
+fn times_rest(alloc: Global, a: &Index, rest: Index) -> Result<Option<Index>, AllocError>
+    ensures { IfOk result (λ q. option_map expression_of q
+        ≡ Some (spec.times (expression_of a.now) (expression_of rest))) }
+{
+    let a = a.copy(alloc)?;
+    Ok(Some(times(alloc, a, rest)?))
+}
+
 // What is left of a product without this factor, where it has it.
 fn without(alloc: Global, e: &Index, factor: &Index) -> Result<Option<Index>, AllocError>
     ensures { IfOk result (λ q. option_map expression_of q
@@ -57,15 +75,13 @@ fn without(alloc: Global, e: &Index, factor: &Index) -> Result<Option<Index>, Al
 {
     match e {
         Index::Literal(number) => Ok(number_over(*number, factor)),
-        Index::Binary(Operation::Product, a, b) => {
-            if let Some(rest) = without(alloc, a, factor)? {
-                return Ok(Some(times(alloc, rest, b.copy(alloc)?)?));
-            }
-            match without(alloc, b, factor)? {
-                Some(rest) => Ok(Some(times(alloc, a.copy(alloc)?, rest)?)),
+        Index::Binary(Operation::Product, a, b) => match without(alloc, a, factor)? {
+            Some(rest) => rest_times(alloc, rest, b),
+            None => match without(alloc, b, factor)? {
+                Some(rest) => times_rest(alloc, a, rest),
                 None => Ok(None),
-            }
-        }
+            },
+        },
         _ => Ok(one_of(e, factor)),
     }
 }

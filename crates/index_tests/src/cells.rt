@@ -1,9 +1,8 @@
 //! Quotients and remainders of what stays below a length, and of cells whose rows are cut into
 //! parts, worked by hand, each beside a neighbour that stays.
 
-use crate::trees::{Tree, simplified_text};
+use crate::trees::{Row, Tree, are_simplified_in_loops};
 use index_expr::Operation::{Difference, Product, Quotient, Remainder, Sum};
-use std::alloc::{AllocError, Global};
 use std::test::Fail;
 
 // Variables of loops, of which no more is known by themselves than that they are words.
@@ -12,9 +11,6 @@ const I: Tree = Tree::Variable(0, 4294967295);
 const J: Tree = Tree::Variable(1, 4294967295);
 
 const K: Tree = Tree::Variable(2, 4294967295);
-
-// The lengths of the loops around, an expression, and what it is simplified to.
-type Row = (&'static [Tree], Tree, &'static str);
 
 const BELOW: [Row; 7] = [
     (
@@ -253,23 +249,12 @@ const OUTSIDE: [Row; 1] = [(
     "(((i0 * 8) + (i1 % 8)) / 16)",
 )];
 
-// The first row that is simplified to something else.
-fn first_wrong(alloc: Global, rows: &[Row]) -> Result<Option<usize>, AllocError> {
-    for (row, (lengths, tree, expected)) in rows.iter().enumerate() {
-        if simplified_text(alloc, lengths, &[], tree)?.as_str() != *expected {
-            return Ok(Some(row));
-        }
-    }
-    Ok(None)
-}
+const TABLES: [&[Row]; 5] = [&BELOW, &NOTHING, &LITERALS, &SIZES, &OUTSIDE];
 
 #[test]
 fn cells_are_cut_into_parts(rt: HostRuntime) -> Result<(), Fail> {
-    let alloc = rt.alloc();
-    assert_eq!(rt; first_wrong(alloc, &BELOW)?, None);
-    assert_eq!(rt; first_wrong(alloc, &NOTHING)?, None);
-    assert_eq!(rt; first_wrong(alloc, &LITERALS)?, None);
-    assert_eq!(rt; first_wrong(alloc, &SIZES)?, None);
-    assert_eq!(rt; first_wrong(alloc, &OUTSIDE)?, None);
+    for rows in TABLES {
+        assert!(rt; are_simplified_in_loops(rt.alloc(), rows)?);
+    }
     Ok(())
 }

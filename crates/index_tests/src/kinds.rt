@@ -166,6 +166,19 @@ pub fn has_cell(
     }
 }
 
+/// Pair choices, a position, a buffer of the inputs and a cell of it.
+pub type Place = (&'static [bool], &'static [u32], u32, u64);
+
+/// Whether the view has each of these cells.
+pub fn has_all(alloc: Global, view: &View, places: &[Place]) -> Result<bool, AllocError> {
+    for (choices, position, buffer, cell) in places {
+        if !has_cell(alloc, view, choices, position, *buffer, *cell)? {
+            return Ok(false);
+        }
+    }
+    Ok(true)
+}
+
 /// Whether the view has this variable at pair choices.
 pub fn has_variable(
     alloc: Global,

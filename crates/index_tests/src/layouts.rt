@@ -164,7 +164,7 @@ fn layouts_are_read(rt: HostRuntime) -> Result<(), Fail> {
     for (lengths, layouts, cells) in READ {
         let view = read_through(alloc, input(alloc, lengths)?, lengths, layouts)?;
         let result = last_lengths(lengths, layouts);
-        assert!(rt; has_cells(alloc, &view, result, 0, cells)?, "{lengths:?}");
+        assert!(rt; has_cells(alloc, &view, result, 0, cells)?);
     }
     Ok(())
 }
@@ -175,7 +175,7 @@ fn layouts_are_written(rt: HostRuntime) -> Result<(), Fail> {
     for (lengths, layouts, cells) in WRITTEN {
         let view = written_through(alloc, input(alloc, lengths)?, lengths, layouts)?;
         let operand = last_lengths(lengths, layouts);
-        assert!(rt; has_cells(alloc, &view, operand, 0, cells)?, "{lengths:?}");
+        assert!(rt; has_cells(alloc, &view, operand, 0, cells)?);
     }
     Ok(())
 }

@@ -6,7 +6,7 @@ ghost use Rattle.lift_ir.specs.AtLaunch.{shape_of};
 ghost use Rattle.lift_ir.specs.Lowering.{element_ty};
 ghost use Rattle.lift_ir.specs.Types.{width};
 
-use crate::kinds::{arrays, has_cell, has_variable};
+use crate::kinds::{Place, arrays, has_all, has_cell, has_variable};
 use array_views::{ArrayKind, IndexStack, LoadSet, PairStack, View};
 use index_expr::Index;
 use lift_tree::ty::Ty;
@@ -30,6 +30,12 @@ fn four(alloc: Global, buffer: u32) -> Result<View, AllocError> {
     View::placed(alloc, &Names::new(alloc), ArrayKind::Input, buffer, &ty)
 }
 
+const IN_THREE: [Place; 3] = [
+    (&[false], &[3, 1], 7, 7),
+    (&[true, false], &[3, 1], 8, 7),
+    (&[true, true], &[4, 0], 9, 8),
+];
+
 // An array of pairs of numbers and pairs lies in three buffers.
 #[test]
 fn components_have_buffers_of_their_own(rt: HostRuntime) -> Result<(), Fail> {
@@ -38,9 +44,7 @@ fn components_have_buffers_of_their_own(rt: HostRuntime) -> Result<(), Fail> {
     let element = pair(alloc, Ty::Number, inner)?;
     let ty = arrays(alloc, &[5, 2], element)?;
     let view = View::placed(alloc, &Names::new(alloc), ArrayKind::Input, 7, &ty)?;
-    assert!(rt; has_cell(alloc, &view, &[false], &[3, 1], 7, 7)?);
-    assert!(rt; has_cell(alloc, &view, &[true, false], &[3, 1], 8, 7)?);
-    assert!(rt; has_cell(alloc, &view, &[true, true], &[4, 0], 9, 8)?);
+    assert!(rt; has_all(alloc, &view, &IN_THREE)?);
     Ok(())
 }
 
@@ -48,8 +52,13 @@ fn components_have_buffers_of_their_own(rt: HostRuntime) -> Result<(), Fail> {
 fn zipped_arrays_are_pairs(rt: HostRuntime) -> Result<(), Fail> {
     let alloc = rt.alloc();
     let zip = View::both(alloc, four(alloc, 0)?, four(alloc, 1)?)?;
-    assert!(rt; has_cell(alloc, &zip, &[false], &[2], 0, 2)?);
-    assert!(rt; has_cell(alloc, &zip, &[true], &[3], 1, 3)?);
+    assert!(rt;
+        has_all(
+            alloc,
+            &zip,
+            &[(&[false], &[2], 0, 2), (&[true], &[3], 1, 3)]
+        )?
+    );
     let element = zip.at(alloc, Index::Literal(3))?;
     assert!(rt; has_cell(alloc, &element, &[true], &[], 1, 3)?);
     assert!(rt; has_cell(alloc, &element.component(alloc, false)?, &[], &[], 0, 3)?);
@@ -65,7 +74,7 @@ fn sides_are_loaded_apart(rt: HostRuntime) -> Result<(), Fail> {
     let element = zip.at(alloc, Index::Literal(2))?;
     let right = Box::new(alloc, LoadSet::Take)?;
     let loads = LoadSet::Each(Box::new(alloc, LoadSet::Skip)?, right);
-    assert_eq!(rt; loads.count(), 1);
+    assert!(rt; loads.count() == 1);
     let loaded = element.loaded(alloc, &loads, 5)?;
     assert!(rt; has_cell(alloc, &loaded, &[false], &[], 0, 2)?);
     assert!(rt; has_variable(alloc, &loaded, &[true], 5)?);

@@ -1,6 +1,6 @@
 //! What expressions are simplified to, worked by hand, each beside a neighbour that stays.
 
-use crate::trees::{Tree, simplified_text};
+use crate::trees::{Row, Tree, are_simplified_in_loops, simplified_text};
 use index_expr::Operation::{Difference, Greatest, Least, Product, Quotient, Remainder, Sum};
 use std::alloc::{AllocError, Global};
 use std::test::Fail;
@@ -433,7 +433,7 @@ const SIZES: [(Tree, &str); 9] = [
 ];
 
 // The lengths of the loops around, an expression, and what it is simplified to.
-const LOOPS: [(&[Tree], Tree, &str); 8] = [
+const LOOPS: [Row; 8] = [
     (
         &[Tree::Number(2), Tree::Number(3)],
         Tree::Binary(
@@ -570,40 +570,41 @@ const LOOPS: [(&[Tree], Tree, &str); 8] = [
         "i1",
     ),
 ];
-// The first row that is simplified to something else.
-fn first_wrong(
+
+// What sizes are multiples of, and rows.
+const TABLES: [(&[u32], &[(Tree, &str)]); 6] = [
+    (&[], &UNITS),
+    (&[], &LITERALS),
+    (&[], &CELLS),
+    (&[], &PARTS),
+    (&[], &WHOLE),
+    (&[2, 3], &SIZES),
+];
+
+// Whether each row is simplified to its text.
+fn are_simplified(
     alloc: Global,
     multiples: &[u32],
     rows: &[(Tree, &str)],
-) -> Result<Option<usize>, AllocError> {
-    for (row, (tree, expected)) in rows.iter().enumerate() {
+) -> Result<bool, AllocError> {
+    for (tree, expected) in rows {
         if simplified_text(alloc, &[], multiples, tree)?.as_str() != *expected {
-            return Ok(Some(row));
+            return Ok(false);
         }
     }
-    Ok(None)
+    Ok(true)
 }
 
 #[test]
 fn rows_are_simplified(rt: HostRuntime) -> Result<(), Fail> {
-    let alloc = rt.alloc();
-    assert_eq!(rt; first_wrong(alloc, &[], &UNITS)?, None);
-    assert_eq!(rt; first_wrong(alloc, &[], &LITERALS)?, None);
-    assert_eq!(rt; first_wrong(alloc, &[], &CELLS)?, None);
-    assert_eq!(rt; first_wrong(alloc, &[], &PARTS)?, None);
-    assert_eq!(rt; first_wrong(alloc, &[], &WHOLE)?, None);
-    assert_eq!(rt; first_wrong(alloc, &[2, 3], &SIZES)?, None);
+    for (multiples, rows) in TABLES {
+        assert!(rt; are_simplified(rt.alloc(), multiples, rows)?);
+    }
     Ok(())
 }
 
 #[test]
 fn loops_tell_what_is_below(rt: HostRuntime) -> Result<(), Fail> {
-    let alloc = rt.alloc();
-    for (lengths, tree, expected) in LOOPS {
-        assert_eq!(rt;
-            simplified_text(alloc, lengths, &[], &tree)?.as_str(),
-            expected
-        );
-    }
+    assert!(rt; are_simplified_in_loops(rt.alloc(), &LOOPS)?);
     Ok(())
 }

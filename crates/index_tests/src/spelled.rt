@@ -33,10 +33,7 @@ fn no_loops(alloc: Global) -> Ranges {
 fn a_join_over_rows_is_spelled_by_its_variable(rt: HostRuntime) -> Result<(), Fail> {
     let alloc = rt.alloc();
     let spelled = spell_simplified(alloc, &index_of(alloc, &JOINED)?, &no_loops(alloc))?;
-    match spelled {
-        Expr::LoopVariable(number) => assert_eq!(rt; number, 0),
-        _ => assert!(rt; false),
-    }
+    assert!(rt; matches!(spelled, Expr::LoopVariable(0)));
     Ok(())
 }
 
@@ -53,9 +50,7 @@ fn a_length_that_is_a_size_is_spelled_by_it(rt: HostRuntime) -> Result<(), Fail>
     let length = Poly::from_monomial(alloc, Monomial::size(2, 0))?;
     let mut ranges = no_loops(alloc);
     ranges.multiples.push(2)?;
-    match spell_simplified(alloc, &spelled_length(alloc, &length, &names)?, &ranges)? {
-        Expr::Size(number) => assert_eq!(rt; number, 0),
-        _ => assert!(rt; false),
-    }
+    let spelled = spell_simplified(alloc, &spelled_length(alloc, &length, &names)?, &ranges)?;
+    assert!(rt; matches!(spelled, Expr::Size(0)));
     Ok(())
 }

@@ -946,6 +946,19 @@ fn place(alloc: Global, size: Option<(u32, u32)>, bounds: &[Tree]) -> Result<Pla
     Ok(place)
 }
 
+fn operation_text(alloc: Global, op: Op, a: &str, b: &str) -> Result<String, AllocError> {
+    match op {
+        Op::Add => format!(in alloc; "({a} + {b})"),
+        Op::Sub => format!(in alloc; "({a} - {b})"),
+        Op::Mul => format!(in alloc; "({a} * {b})"),
+        Op::Div => format!(in alloc; "({a} / {b})"),
+        Op::Rem => format!(in alloc; "({a} % {b})"),
+        Op::Min => format!(in alloc; "min({a}, {b})"),
+        Op::Max => format!(in alloc; "max({a}, {b})"),
+        _ => Ok(String::new(alloc)),
+    }
+}
+
 // The text of an index; nothing where a part is of another form.
 fn text(alloc: Global, index: &Expr) -> Result<String, AllocError> {
     match index {
@@ -956,17 +969,7 @@ fn text(alloc: Global, index: &Expr) -> Result<String, AllocError> {
         Expr::Id(Dimension::X, IdForm::LocalId) => format!(in alloc; "own"),
         Expr::Binary(op, a, b) => {
             let a = text(alloc, a)?;
-            let b = text(alloc, b)?;
-            match op {
-                Op::Add => format!(in alloc; "({a} + {b})"),
-                Op::Sub => format!(in alloc; "({a} - {b})"),
-                Op::Mul => format!(in alloc; "({a} * {b})"),
-                Op::Div => format!(in alloc; "({a} / {b})"),
-                Op::Rem => format!(in alloc; "({a} % {b})"),
-                Op::Min => format!(in alloc; "min({a}, {b})"),
-                Op::Max => format!(in alloc; "max({a}, {b})"),
-                _ => Ok(String::new(alloc)),
-            }
+            operation_text(alloc, *op, a.as_str(), text(alloc, b)?.as_str())
         }
         _ => Ok(String::new(alloc)),
     }
@@ -982,24 +985,23 @@ fn tidied_text(
     text(alloc, &place(alloc, size, bounds)?.tidied(alloc, &index)?)
 }
 
-// The first row that becomes something else.
-fn first_wrong(alloc: Global, rows: &[Row]) -> Result<Option<usize>, AllocError> {
-    for (row, (bounds, tree, expected)) in rows.iter().enumerate() {
+// Whether each row becomes its text.
+fn are_tidied(alloc: Global, rows: &[Row]) -> Result<bool, AllocError> {
+    for (bounds, tree, expected) in rows {
         if tidied_text(alloc, None, bounds, tree)?.as_str() != *expected {
-            return Ok(Some(row));
+            return Ok(false);
         }
     }
-    Ok(None)
+    Ok(true)
 }
 
-fn first_wrong_in_groups(alloc: Global) -> Result<Option<usize>, AllocError> {
-    for (number, row) in IDS.iter().enumerate() {
-        let made = tidied_text(alloc, row.size, row.bounds, &row.index)?;
-        if made.as_str() != row.tidied {
-            return Ok(Some(number));
+fn are_tidied_in_groups(alloc: Global, rows: &[InGroups]) -> Result<bool, AllocError> {
+    for row in rows {
+        if tidied_text(alloc, row.size, row.bounds, &row.index)?.as_str() != row.tidied {
+            return Ok(false);
         }
     }
-    Ok(None)
+    Ok(true)
 }
 
 // Within an `if` at this place that asks whether this start is below this bound.
@@ -1016,53 +1018,55 @@ fn tidied_text_in_if(
     text(alloc, &place.tidied(alloc, &index)?)
 }
 
-fn first_wrong_in_ifs(alloc: Global) -> Result<Option<usize>, AllocError> {
-    for (number, around) in IFS.iter().enumerate() {
+fn are_tidied_in_ifs(alloc: Global, rows: &[InIf]) -> Result<bool, AllocError> {
+    for around in rows {
         let row = &around.row;
         let place = place(alloc, row.size, row.bounds)?;
         let made = tidied_text_in_if(alloc, &place, around.start, &around.bound, &row.index)?;
         if made.as_str() != row.tidied {
-            return Ok(Some(number));
+            return Ok(false);
         }
     }
-    Ok(None)
+    Ok(true)
 }
 
-fn first_wrong_below_lengths(alloc: Global) -> Result<Option<usize>, AllocError> {
+fn are_tidied_below_lengths(alloc: Global, rows: &[OwnBelow]) -> Result<bool, AllocError> {
     let start = Start::LocalId(Dimension::X);
-    for (number, row) in LENGTHS.iter().enumerate() {
+    for row in rows {
         let place = place(alloc, Some((row.size, 1)), &[Tree::Size(2)])?;
         let made = tidied_text_in_if(alloc, &place, start, &row.bound, &row.index)?;
         if made.as_str() != row.tidied {
-            return Ok(Some(number));
+            return Ok(false);
         }
     }
-    Ok(None)
+    Ok(true)
 }
 
 #[test]
 fn indices_in_ifs_are_tidied(rt: HostRuntime) -> Result<(), Fail> {
-    let alloc = rt.alloc();
-    assert_eq!(rt; first_wrong_in_ifs(alloc)?, None);
-    assert_eq!(rt; first_wrong_below_lengths(alloc)?, None);
+    assert!(rt; are_tidied_in_ifs(rt.alloc(), &IFS)?);
+    Ok(())
+}
+
+#[test]
+fn indices_below_lengths_are_tidied(rt: HostRuntime) -> Result<(), Fail> {
+    assert!(rt; are_tidied_below_lengths(rt.alloc(), &LENGTHS)?);
     Ok(())
 }
 
 #[test]
 fn indices_with_ids_are_tidied(rt: HostRuntime) -> Result<(), Fail> {
-    assert_eq!(rt; first_wrong_in_groups(rt.alloc())?, None);
+    assert!(rt; are_tidied_in_groups(rt.alloc(), &IDS)?);
     Ok(())
 }
 
+const TABLES: [&[Row]; 6] = [&CELLS, &ENDS, &PARTS, &BOUNDS, &GREATEST, &WRAPPING];
+
 #[test]
 fn rows_are_tidied(rt: HostRuntime) -> Result<(), Fail> {
-    let alloc = rt.alloc();
-    assert_eq!(rt; first_wrong(alloc, &CELLS)?, None);
-    assert_eq!(rt; first_wrong(alloc, &ENDS)?, None);
-    assert_eq!(rt; first_wrong(alloc, &PARTS)?, None);
-    assert_eq!(rt; first_wrong(alloc, &BOUNDS)?, None);
-    assert_eq!(rt; first_wrong(alloc, &GREATEST)?, None);
-    assert_eq!(rt; first_wrong(alloc, &WRAPPING)?, None);
+    for rows in TABLES {
+        assert!(rt; are_tidied(rt.alloc(), rows)?);
+    }
     Ok(())
 }
 
@@ -1073,35 +1077,41 @@ fn is_tidied_in(alloc: Global, bound: &Expr) -> Result<bool, AllocError> {
     Ok(matches!(place.tidied(alloc, &index)?, Expr::LoopVariable(0)))
 }
 
+// Whether this operation on an expression and a number is of use as the bound of a loop.
+fn is_read(alloc: Global, op: Op, of: Expr, number: u32) -> Result<bool, AllocError> {
+    is_tidied_in(alloc, &Expr::binary(alloc, op, of, Expr::Number(number))?)
+}
+
+// Whether this and 0 stay a sum outside of all loops.
+fn stays_sum(alloc: Global, of: Expr) -> Result<bool, AllocError> {
+    let sum = Expr::binary(alloc, Op::Add, of, Expr::Number(0))?;
+    let tidied = place(alloc, None, &[])?.tidied(alloc, &sum)?;
+    Ok(matches!(tidied, Expr::Binary(Op::Add, _, _)))
+}
+
+// Whether the variable of a loop and 0 become that variable there.
+fn becomes_plain(alloc: Global, depth: u32) -> Result<bool, AllocError> {
+    let sum = Expr::binary(alloc, Op::Add, Expr::LoopVariable(depth), Expr::Number(0))?;
+    let tidied = place(alloc, None, &[])?.tidied(alloc, &sum)?;
+    Ok(matches!(tidied, Expr::LoopVariable(_)))
+}
+
 #[test]
 fn what_is_not_read_stays(rt: HostRuntime) -> Result<(), Fail> {
     let alloc = rt.alloc();
-    let read = Expr::binary(alloc, Op::Rem, Expr::Size(0), Expr::Number(4))?;
-    assert!(rt; is_tidied_in(alloc, &read)?);
-    let unread = Expr::binary(alloc, Op::And, Expr::Size(0), Expr::Number(4))?;
-    assert!(rt; !is_tidied_in(alloc, &unread)?);
-    let variable = Expr::binary(alloc, Op::Add, Expr::Variable(0), Expr::Number(0))?;
-    let tidied = place(alloc, None, &[])?.tidied(alloc, &variable)?;
-    assert!(rt; matches!(tidied, Expr::Binary(Op::Add, _, _)));
-    let row = Expr::Id(Dimension::Y, IdForm::LocalId);
-    let sum = Expr::binary(alloc, Op::Add, row, Expr::Number(0))?;
-    let tidied = place(alloc, None, &[])?.tidied(alloc, &sum)?;
-    assert!(rt; matches!(tidied, Expr::Binary(Op::Add, _, _)));
+    assert!(rt; is_read(alloc, Op::Rem, Expr::Size(0), 4)?);
+    assert!(rt; !is_read(alloc, Op::And, Expr::Size(0), 4)?);
+    assert!(rt; stays_sum(alloc, Expr::Variable(0))?);
+    assert!(rt; stays_sum(alloc, Expr::Id(Dimension::Y, IdForm::LocalId))?);
     Ok(())
 }
 
 // The last loop whose turn has a number, and the next.
 #[test]
 fn turns_have_numbers(rt: HostRuntime) -> Result<(), Fail> {
-    let alloc = rt.alloc();
-    assert_eq!(rt; Turn::Loop(4294967293).number(), Some(4294967295));
-    assert_eq!(rt; Turn::Loop(4294967294).number(), None);
-    let place = place(alloc, None, &[])?;
-    for (depth, becomes_plain) in [(4294967293, true), (4294967294, false)] {
-        let variable = Expr::LoopVariable(depth);
-        let sum = Expr::binary(alloc, Op::Add, variable, Expr::Number(0))?;
-        let tidied = place.tidied(alloc, &sum)?;
-        assert_eq!(rt; matches!(tidied, Expr::LoopVariable(_)), becomes_plain);
-    }
+    assert!(rt; Turn::Loop(4294967293).number() == Some(4294967295));
+    assert!(rt; Turn::Loop(4294967294).number().is_none());
+    assert!(rt; becomes_plain(rt.alloc(), 4294967293)?);
+    assert!(rt; !becomes_plain(rt.alloc(), 4294967294)?);
     Ok(())
 }

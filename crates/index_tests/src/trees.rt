@@ -32,6 +32,23 @@ pub fn index_of(alloc: Global, tree: &Tree) -> Result<Index, AllocError> {
     }
 }
 
+fn operation_text(
+    alloc: Global,
+    operation: Operation,
+    a: &str,
+    b: &str,
+) -> Result<String, AllocError> {
+    match operation {
+        Operation::Sum => format!(in alloc; "({a} + {b})"),
+        Operation::Difference => format!(in alloc; "({a} - {b})"),
+        Operation::Product => format!(in alloc; "({a} * {b})"),
+        Operation::Quotient => format!(in alloc; "({a} / {b})"),
+        Operation::Remainder => format!(in alloc; "({a} % {b})"),
+        Operation::Least => format!(in alloc; "min({a}, {b})"),
+        Operation::Greatest => format!(in alloc; "max({a}, {b})"),
+    }
+}
+
 /// The text of an expression.
 pub fn text(alloc: Global, index: &Index) -> Result<String, AllocError> {
     match index {
@@ -40,16 +57,7 @@ pub fn text(alloc: Global, index: &Index) -> Result<String, AllocError> {
         Index::Size(number) => format!(in alloc; "s{number}"),
         Index::Binary(operation, a, b) => {
             let a = text(alloc, a)?;
-            let b = text(alloc, b)?;
-            match operation {
-                Operation::Sum => format!(in alloc; "({a} + {b})"),
-                Operation::Difference => format!(in alloc; "({a} - {b})"),
-                Operation::Product => format!(in alloc; "({a} * {b})"),
-                Operation::Quotient => format!(in alloc; "({a} / {b})"),
-                Operation::Remainder => format!(in alloc; "({a} % {b})"),
-                Operation::Least => format!(in alloc; "min({a}, {b})"),
-                Operation::Greatest => format!(in alloc; "max({a}, {b})"),
-            }
+            operation_text(alloc, *operation, a.as_str(), text(alloc, b)?.as_str())
         }
     }
 }
@@ -71,4 +79,17 @@ pub fn simplified_text(
     }
     let index = index_of(alloc, tree)?;
     text(alloc, &simplified(alloc, &index, &ranges)?)
+}
+
+/// The lengths of the loops around, an expression, and the text of what it is simplified to.
+pub type Row = (&'static [Tree], Tree, &'static str);
+
+/// Whether each row is simplified to its text.
+pub fn are_simplified_in_loops(alloc: Global, rows: &[Row]) -> Result<bool, AllocError> {
+    for (lengths, tree, expected) in rows {
+        if simplified_text(alloc, lengths, &[], tree)?.as_str() != *expected {
+            return Ok(false);
+        }
+    }
+    Ok(true)
 }

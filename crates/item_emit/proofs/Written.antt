@@ -1,13 +1,14 @@
 -- The printed code of a term, of that of its parts.
-use Rattle.std.proofs.Common.{◌≡◌, ℕ, ◌+◌, ◌^◌, Bool, true, false, Some, None, [], refl, ap}
+use Rattle.std.proofs.Common.{◌≡◌, ℕ, suc, ◌+◌, ◌^◌, Bool, true, false, Some, None, [], refl, ap}
 use Rattle.std.specs.Prelude.{nat_lt, if◌then◌else◌}
 use Rattle.kernel_tree.specs.Formula.{Formula, LoopVariable, Number}
-use Rattle.kernel_tree.specs.Code.{Code, End, Loops, FromZero, ByOne}
+use Rattle.kernel_tree.specs.Code.{Code, End, Loops, Start, Stride, FromZero, ByOne}
 use Rattle.length_spelling.specs.Turns.{as_number}
 use Rattle.lift_ir.specs.Layouts.{Layout}
 use Rattle.lift_ir.specs.Types.{Ty, width}
-use Rattle.lift_ir.specs.Terms.{LoadSet, Term, Reshape, LetArray, LetElement, Fold, push}
+use Rattle.lift_ir.specs.Terms.{Kind, LoadSet, Term, Reshape, LetArray, LetElement, Map, Fold, push}
 use Rattle.printed_form.specs.Counts.{let_variables, load_count, private_count, variable_count}
+use Rattle.printed_form.specs.Form.{start_of, stride_of}
 use Rattle.printed_form.specs.Printer.{argument_view, print_argument, print_assigned, print_element, print_fold_turn, print_loaded, print_reassigned, print_stored, print_written, sign_exprs}
 use Rattle.printed_form.specs.Views.{View, held_sign, held_view, loaded_view, result_indices, view_at}
 
@@ -28,20 +29,25 @@ pub fold_turn : {A : Type 0} (env : ℕ → View) (loads : LoadSet) (ty : Ty) (x
     → code ≡ print_element (push bound (push held env)) first_let b reassigned → print_loaded loads x first_load code ≡ print_fold_turn env loads ty x acc b
 fold_turn env loads ty x acc b start reassigned code held bound g first_load h first_let v temporary es eg ef eh el ev et ehe ebo er ec = rw (ec, er, es, ebo, ehe, et, ev, el, eh, ef, eg) refl
 
-pub fold_loop : {A : Type 0} (env : ℕ → View) (n : ℕ) (ty : Ty) (len : Formula) (s : Term A) (w : View) (loads : LoadSet) (x : View) (b : Term A) (rest : Code) (lets m : ℕ) (turned stored looped : Code) (values first : View) → lets ≡ let_variables s → m ≡ n + lets → turned ≡ print_fold_turn env loads ty x m b → values ≡ held_view ty m → first ≡ view_at (Number 0) w
-    → stored ≡ print_stored ty (λ cs. held_sign (values cs [])) first rest → looped ≡ Loops FromZero len ByOne turned stored
+pub fold_loop : {A : Type 0} (env : ℕ → View) (n : ℕ) (ty : Ty) (len : Formula) (s : Term A) (w : View) (loads : LoadSet) (x : View) (b : Term A) (rest : Code) (lets m : ℕ) (turned stored looped : Code) → lets ≡ let_variables s → m ≡ n + lets → turned ≡ print_fold_turn env loads ty x m b
+    → stored ≡ print_stored ty (λ cs. held_sign (held_view ty m cs [])) (view_at (Number 0) w) rest → looped ≡ Loops FromZero len ByOne turned stored
     → print_element env n s (print_assigned ty (sign_exprs env n s) m looped) ≡ print_element env n s (print_assigned ty (sign_exprs env n s) (n + let_variables s) (Loops FromZero len ByOne (print_fold_turn env loads ty x (n + let_variables s) b) (print_stored ty (λ cs. held_sign (held_view ty (n + let_variables s) cs [])) (view_at (Number 0) w) rest)))
-fold_loop env n ty len s w loads x b rest lets m turned stored looped values first es em et ev ef eo el = rw (el, eo, et, ef, ev, em, es) refl
+fold_loop env n ty len s w loads x b rest lets m turned stored looped es em et eo el = rw (el, eo, et, em, es) refl
 
 module _ {A : Type 0} (spell : A → Formula) (ins : ℕ → View) (depth : ℕ) (env : ℕ → View) (a n : ℕ) where
-  pub argument_let : (v b viewed arrays variables first last : Term A) (rest code : Code) (bound : View) (f p g q : ℕ) → viewed ≡ v → arrays ≡ v → variables ≡ v → last ≡ b → first ≡ v
-      → bound ≡ argument_view spell ins env a viewed → f ≡ private_count arrays → p ≡ a + f → g ≡ variable_count variables → q ≡ n + g
-      → code ≡ print_argument spell ins depth (push bound env) p q last rest → print_argument spell ins depth env a n first code ≡ print_argument spell ins depth env a n (LetArray v b) rest
-  argument_let v b viewed arrays variables first last rest code bound f p g q hv ha hn hl hf eb ef ep eg eq ec = rw (ec, eb, ep, ef, eq, eg, hv, ha, hn, hl, hf) refl
+  pub argument_let : (v b : Term A) (rest code : Code) (bound : View) (d p q : ℕ) → bound ≡ argument_view spell ins env a v → d ≡ depth → p ≡ a + private_count v → q ≡ n + variable_count v
+      → code ≡ print_argument spell ins d (push bound env) p q b rest → print_argument spell ins depth env a n v code ≡ print_argument spell ins depth env a n (LetArray v b) rest
+  argument_let v b rest code bound d p q eb ed ep eq ec = rw (ec, eb, ed, ep, eq) refl
 
-  pub written_let : (v b : Term A) (w : View) (rest code : Code) (bound : View) (f p g q : ℕ) → bound ≡ argument_view spell ins env a v → f ≡ private_count v → p ≡ a + f → g ≡ variable_count v → q ≡ n + g
-      → code ≡ print_written spell ins depth (push bound env) p q b w rest → print_argument spell ins depth env a n v code ≡ print_written spell ins depth env a n (LetArray v b) w rest
-  written_let v b w rest code bound f p g q eb ef ep eg eq ec = rw (ec, eb, ep, ef, eq, eg) refl
+  pub written_let : (v b : Term A) (w : View) (rest code : Code) (bound : View) (d p q : ℕ) → bound ≡ argument_view spell ins env a v → d ≡ depth → p ≡ a + private_count v → q ≡ n + variable_count v
+      → code ≡ print_written spell ins d (push bound env) p q b w rest → print_argument spell ins depth env a n v code ≡ print_written spell ins depth env a n (LetArray v b) w rest
+  written_let v b w rest code bound d p q eb ed ep eq ec = rw (ec, eb, ed, ep, eq) refl
+
+  pub written_map : (k : Kind) (len : A) (loads : LoadSet) (xs b : Term A) (w : View) (rest turn code : Code) (array element to : View) (length : Formula) (start : Start) (stride : Stride) (inner : ℕ → View) (d p q : ℕ)
+      → array ≡ argument_view spell ins env a xs → element ≡ view_at (LoopVariable depth) array → to ≡ view_at (LoopVariable depth) w → inner ≡ env → d ≡ depth → p ≡ a + private_count xs → q ≡ n + variable_count xs
+      → turn ≡ print_loaded loads element q (print_written spell ins (suc d) (push (loaded_view loads element q) inner) p (q + load_count loads) b to End) → length ≡ spell len → start ≡ start_of k → stride ≡ stride_of k → code ≡ Loops start length stride turn rest
+      → print_argument spell ins depth env a n xs code ≡ print_written spell ins depth env a n (Map k len loads xs b) w rest
+  written_map k len loads xs b w rest turn code array element to length start stride inner d p q ea ee eo ei ed ep eq et el es er ec = rw (ec, el, es, er, et, ei, eo, ed, ep, eq, ee, ea) refl
 
   pub written_layout : (y : Layout A) (t : Term A) (w target : View) (rest : Code) → target ≡ (λ cs is. w cs (result_indices spell y is))
       → print_written spell ins depth env a n t target rest ≡ print_written spell ins depth env a n (Reshape y t) w rest

@@ -144,8 +144,8 @@ pub fn argument(
         | Term::ApplyNumber(_, _, _)
         | Term::Select(_, _, _)
         | Term::LetElement(_, _, _)
-        | Term::Map(_, _, _, _, _)
-        | Term::Fold(_, _, _, _, _, _)
+        | Term::Map(_)
+        | Term::Fold(_)
         | Term::Store(_, _)
         | Term::Copy(Space::Local, _, _) => View::nothing(alloc),
     }

@@ -10,7 +10,7 @@ ghost use Rattle.printed_form.specs.Counts as spec;
 ghost use Rattle.lowering.specs.Terms.{load_set_of, term_of};
 
 use lift_tree::ty::Ty;
-use lowering::term::{LoadSet, Space, Term};
+use lowering::term::{Fold, LoadSet, Space, Term};
 use std::alloc::AllocError;
 
 /// The sum.
@@ -88,24 +88,25 @@ pub fn let_variables(term: &Term) -> Result<u32, AllocError>
         | Term::Source(_)
         | Term::Reshape(_, _)
         | Term::LetArray(_, _)
-        | Term::Map(_, _, _, _, _)
-        | Term::Fold(_, _, _, _, _, _)
+        | Term::Map(_)
+        | Term::Fold(_)
         | Term::Store(_, _)
         | Term::Copy(_, _, _) => Ok(0),
     }
 }
 
 // How many private variables a fold has besides those of its array.
-fn fold_variables(loads: &LoadSet, ty: &Ty, start: &Term, body: &Term) -> Result<u32, AllocError>
-    ensures { IfOk result (λ n. n ≡ spec.let_variables (term_of start.now)
-        + (types.width (element_ty (ty_of ty.now)) + (spec.load_count (load_set_of loads.now)
-        + (spec.let_variables (term_of body.now)
-        + spec.temporaries (element_ty (ty_of ty.now)))))) }
+fn fold_variables(fold: &Fold) -> Result<u32, AllocError>
+    ensures { IfOk result (λ n. n ≡ spec.let_variables (term_of fold.now.start)
+        + (types.width (element_ty (ty_of fold.now.accumulator))
+        + (spec.load_count (load_set_of fold.now.loads)
+        + (spec.let_variables (term_of fold.now.body)
+        + spec.temporaries (element_ty (ty_of fold.now.accumulator)))))) }
 {
-    let rest = plus(let_variables(body)?, temporaries(ty)?)?;
-    let rest = plus(load_count(loads)?, rest)?;
-    let rest = plus(element_width(ty)?, rest)?;
-    plus(let_variables(start)?, rest)
+    let rest = plus(let_variables(&fold.body)?, temporaries(&fold.accumulator)?)?;
+    let rest = plus(load_count(&fold.loads)?, rest)?;
+    let rest = plus(element_width(&fold.accumulator)?, rest)?;
+    plus(let_variables(&fold.start)?, rest)
 }
 
 /// How many private variables a term in writing position, or an argument, has.
@@ -123,16 +124,11 @@ pub fn variable_count(term: &Term) -> Result<u32, AllocError>
             let rest = plus(element_width(ty)?, variable_count(body)?)?;
             plus(let_variables(value)?, rest)
         }
-        Term::Map(_, _, loads, array, body) => {
-            let rest = plus(load_count(loads)?, variable_count(body)?)?;
-            plus(variable_count(array)?, rest)
+        Term::Map(map) => {
+            let rest = plus(load_count(&map.loads)?, variable_count(&map.body)?)?;
+            plus(variable_count(&map.array)?, rest)
         }
-        Term::Fold(_, loads, ty, array, start, body) => {
-            plus(
-                variable_count(array)?,
-                fold_variables(loads, ty, start, body)?,
-            )
-        }
+        Term::Fold(fold) => plus(variable_count(&fold.array)?, fold_variables(fold)?),
         Term::Store(_, a) => let_variables(a),
         Term::Literal(_)
         | Term::Bound(_)
@@ -148,13 +144,15 @@ pub fn private_count(term: &Term) -> Result<u32, AllocError>
     ensures { IfOk result (λ n. n ≡ spec.private_count (term_of term.now)) }
 {
     match term {
-        Term::Pair(a, b) | Term::Zip(a, b) | Term::LetArray(a, b) | Term::Map(_, _, _, a, b) =>
-            plus(private_count(a)?, private_count(b)?),
+        Term::Pair(a, b) | Term::Zip(a, b) | Term::LetArray(a, b) => {
+            plus(private_count(a)?, private_count(b)?)
+        }
+        Term::Map(map) => plus(private_count(&map.array)?, private_count(&map.body)?),
+        Term::Fold(fold) => private_count(&fold.array),
         Term::First(a)
         | Term::Second(a)
         | Term::Reshape(_, a)
         | Term::LetElement(_, _, a)
-        | Term::Fold(_, _, _, a, _, _)
         | Term::Copy(Space::Local, _, a) => private_count(a),
         Term::Copy(Space::Private, ty, a) => plus(private_count(a)?, width(ty)?),
         Term::Literal(_)

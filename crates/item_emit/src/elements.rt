@@ -142,8 +142,8 @@ pub fn put_element(
         | Term::Source(_)
         | Term::Reshape(_, _)
         | Term::LetArray(_, _)
-        | Term::Map(_, _, _, _, _)
-        | Term::Fold(_, _, _, _, _, _)
+        | Term::Map(_)
+        | Term::Fold(_)
         | Term::Store(_, _)
         | Term::Copy(_, _, _) => Ok(()),
     }

@@ -1,19 +1,20 @@
 //! The code of arguments and of terms in writing position, by one work-item.
 
-ghost use Rattle.std.specs.Prelude.{◌≡◌, ◌+◌, [], IfOk, OnOk};
+ghost use Rattle.std.specs.Prelude.{◌≡◌, ◌+◌, suc, [], IfOk, OnOk};
 ghost use Rattle.kernel_tree.specs.Code.{End, FromZero, ByOne, Loops};
 ghost use Rattle.kernel_tree.specs.Formula as formula;
 ghost use Rattle.kernel_tree.specs.Tree as tree;
 ghost use Rattle.length_spelling.specs.Turns.{number_of, turn_formula};
 ghost use Rattle.lift_ir.specs.Lowering.{element_ty};
 ghost use Rattle.lift_ir.specs.Terms as terms;
+ghost use Rattle.lift_ir.specs.Terms.{push};
 ghost use Rattle.lift_tree.specs.Types.{ty_of};
-ghost use Rattle.printed_form.specs.Counts.{let_variables};
+ghost use Rattle.printed_form.specs.Counts.{let_variables, load_count, private_count, variable_count};
 ghost use Rattle.printed_form.specs.Form as form;
 ghost use Rattle.printed_form.specs.Printer as printer;
-ghost use Rattle.printed_form.specs.Views.{held_sign, held_view, view_at};
+ghost use Rattle.printed_form.specs.Views.{held_sign, held_view, loaded_view, view_at};
 ghost use Rattle.array_views.specs.Views.{view_in};
-ghost use Rattle.lowering.specs.Terms.{kind_of, load_set_of, term_of};
+ghost use Rattle.lowering.specs.Terms.{fold_of, kind_of, load_set_of, map_of, term_of};
 ghost use Rattle.item_emit.specs.Blocks.{code_in};
 ghost use Rattle.item_emit.specs.Copies.{HasShortCopies};
 ghost use Rattle.item_emit.specs.Inputs.{inputs_in, spell_in};
@@ -33,8 +34,7 @@ use index_expr::Index;
 use kernel_tree::tree::{Dimension, Expr, Start, Stride};
 use length_spelling::{Turn, spell_length};
 use lift_tree::ty::Ty;
-use lowering::term::{Kind, LoadSet, Space, Term};
-use size_arith::Poly;
+use lowering::term::{Fold, Kind, Map, Space, Term};
 use std::alloc::{AllocError, Global};
 
 /// Where code stands: within so many loops, with these binders in scope, and with the numbers of
@@ -45,6 +45,24 @@ pub struct Site<'s> {
     pub scope: &'s Scope<'s>,
     pub array: u32,
     pub variable: u32,
+}
+
+impl<'s> Site<'s> {
+    // The site behind the copies of an argument.
+    fn after(&self, term: &Term) -> Result<Site<'s>, AllocError>
+        ensures depth { IfOk result (λ site. site.depth ≡ self.now.depth) }
+        ensures scope { IfOk result (λ site. site.scope.now ≡ self.now.scope.now) }
+        ensures array { IfOk result
+            (λ site. site.array ≡ self.now.array + private_count (term_of term.now)) }
+        ensures variable { IfOk result
+            (λ site. site.variable ≡ self.now.variable + variable_count (term_of term.now)) }
+    {
+        Ok(Site {
+            array: plus(self.array, private_count(term)?)?,
+            variable: plus(self.variable, variable_count(term)?)?,
+            ..*self
+        })
+    }
 }
 
 fn start_of(kind: Kind) -> Start
@@ -137,34 +155,58 @@ fn put_bound_element(
     put_element(alloc, site.scope, site.variable, value, block)
 }
 
-// A fold's code in one turn, over this element, where the accumulator
-// is held from that variable on.
-fn put_fold_turn(
+// A turn of a fold over this element, where the accumulator is held from that variable on.
+fn fold_turn(
     alloc: Global,
     scope: &Scope,
-    loads: &LoadSet,
-    ty: &Ty,
+    fold: &Fold,
     element: &View,
     accumulator: u32,
-    body: &Term,
-    block: &mut Block,
-) -> Result<(), AllocError>
-    requires { code_in block.old ≡ End }
-    ensures { OnOk result (code_in block.new ≡ printer.print_fold_turn (scope_of scope.now)
-        (load_set_of loads.now) (element_ty (ty_of ty.now)) (view_in element.now)
-        accumulator (term_of body.now)) }
+) -> Result<Block, AllocError>
+    ensures { IfOk result (λ turn. code_in turn ≡ printer.print_fold_turn (scope_of scope.now)
+        (load_set_of fold.now.loads) (element_ty (ty_of fold.now.accumulator))
+        (view_in element.now) accumulator (term_of fold.now.body)) }
 {
+    let ty = &fold.accumulator;
+    let body = &fold.body;
     let first_load = plus(accumulator, element_width(ty)?)?;
-    let first_let = plus(first_load, load_count(loads)?)?;
+    let first_let = plus(first_load, load_count(&fold.loads)?)?;
     let temporary = plus(first_let, let_variables(body)?)?;
     let held = held(alloc, ty, accumulator)?;
-    let bound = loaded(alloc, loads, element, first_load)?;
+    let bound = loaded(alloc, &fold.loads, element, first_load)?;
     let scope = Scope::Bound(&held, scope);
     let scope = Scope::Bound(&bound, &scope);
     let value = Part::Whole(&scope, first_let, body);
-    put_reassigned(alloc, ty, &value, accumulator, temporary, block)?;
-    put_element(alloc, &scope, first_let, body, block)?;
-    put_loaded(alloc, loads, element, first_load, block)
+    let mut turn = Block::new(alloc);
+    put_reassigned(alloc, ty, &value, accumulator, temporary, &mut turn)?;
+    put_element(alloc, &scope, first_let, body, &mut turn)?;
+    put_loaded(alloc, &fold.loads, element, first_load, &mut turn)?;
+    Ok(turn)
+}
+
+// Stores an accumulator, which is held from that variable on, as the target's first element.
+fn put_result(
+    alloc: Global,
+    ty: &Ty,
+    accumulator: u32,
+    target: &View,
+    block: &mut Block,
+) -> Result<(), AllocError>
+    ensures { OnOk result (let t = element_ty (ty_of ty.now) in
+        code_in block.new ≡ printer.print_stored t
+        (λ cs. held_sign (held_view t accumulator cs []))
+        (view_at (formula.Number 0) (view_in target.now)) (code_in block.old)) }
+{
+    let values = held(alloc, ty, accumulator)?;
+    let scope = Scope::Bound(&values, &Scope::Empty);
+    let target = at_first(alloc, target)?;
+    put_stored(
+        alloc,
+        ty,
+        &Part::Whole(&scope, 0, &Term::Bound(0)),
+        &target,
+        block,
+    )
 }
 
 // A fold's code after that of its array, of which this stands for the element at a turn.
@@ -172,48 +214,28 @@ fn put_fold_loop(
     alloc: Global,
     site: &Site,
     length: Expr,
-    loads: &LoadSet,
-    ty: &Ty,
+    fold: &Fold,
     element: &View,
-    start: &Term,
-    body: &Term,
     target: &View,
     block: &mut Block,
 ) -> Result<(), AllocError>
     ensures { OnOk result (let env = scope_of site.now.scope.now in let n = site.now.variable in
-        let acc = n + let_variables (term_of start.now) in let t = element_ty (ty_of ty.now) in
-        code_in block.new ≡ printer.print_element env n (term_of start.now)
-        (printer.print_assigned t (printer.sign_exprs env n (term_of start.now)) acc
+        let start = term_of fold.now.start in let acc = n + let_variables start in
+        let t = element_ty (ty_of fold.now.accumulator) in
+        code_in block.new ≡ printer.print_element env n start
+        (printer.print_assigned t (printer.sign_exprs env n start) acc
         (Loops FromZero (tree.formula_of length) ByOne
-        (printer.print_fold_turn env (load_set_of loads.now) t (view_in element.now) acc
-        (term_of body.now))
+        (printer.print_fold_turn env (load_set_of fold.now.loads) t (view_in element.now) acc
+        (term_of fold.now.body))
         (printer.print_stored t (λ cs. held_sign (held_view t acc cs []))
         (view_at (formula.Number 0) (view_in target.now)) (code_in block.old))))) }
 {
-    let accumulator = plus(site.variable, let_variables(start)?)?;
-    let mut turn = Block::new(alloc);
-    put_fold_turn(
-        alloc,
-        site.scope,
-        loads,
-        ty,
-        element,
-        accumulator,
-        body,
-        &mut turn,
-    )?;
-    let values = held(alloc, ty, accumulator)?;
-    let scope = Scope::Bound(&values, &Scope::Empty);
-    let result = Term::Bound(0);
-    put_stored(
-        alloc,
-        ty,
-        &Part::Whole(&scope, 0, &result),
-        &at_first(alloc, target)?,
-        block,
-    )?;
+    let ty = &fold.accumulator;
+    let accumulator = plus(site.variable, let_variables(&fold.start)?)?;
+    let turn = fold_turn(alloc, site.scope, fold, element, accumulator)?;
+    put_result(alloc, ty, accumulator, target, block)?;
     block.put_loop(Start::Zero, length, Stride::One, turn)?;
-    put_bound_element(alloc, site, ty, start, accumulator, block)
+    put_bound_element(alloc, site, ty, &fold.start, accumulator, block)
 }
 
 /// The copies of an argument.
@@ -232,28 +254,13 @@ pub fn put_argument(
 {
     match term {
         Term::Pair(a, b) | Term::Zip(a, b) => {
-            let next = Site {
-                array: plus(site.array, private_count(a)?)?,
-                variable: plus(site.variable, variable_count(a)?)?,
-                ..*site
-            };
-            put_argument(alloc, declared, &next, b, block)?;
+            put_argument(alloc, declared, &site.after(a)?, b, block)?;
             put_argument(alloc, declared, site, a, block)
         }
         Term::First(a) | Term::Second(a) | Term::Reshape(_, a) => {
             put_argument(alloc, declared, site, a, block)
         }
-        Term::LetArray(value, body) => {
-            let bound = argument(alloc, declared, site.scope, site.array, value)?;
-            let next = Site {
-                depth: site.depth,
-                scope: &Scope::Bound(&bound, site.scope),
-                array: plus(site.array, private_count(value)?)?,
-                variable: plus(site.variable, variable_count(value)?)?,
-            };
-            put_argument(alloc, declared, &next, body, block)?;
-            put_argument(alloc, declared, site, value, block)
-        }
+        Term::LetArray(value, body) => put_argument_let(alloc, declared, site, value, body, block),
         Term::Copy(Space::Private, ty, a) => {
             let target = private(alloc, plus(site.array, private_count(a)?)?, ty)?;
             put_written(alloc, declared, site, a, &target, block)
@@ -265,11 +272,69 @@ pub fn put_argument(
         | Term::ApplyNumber(_, _, _)
         | Term::Select(_, _, _)
         | Term::LetElement(_, _, _)
-        | Term::Map(_, _, _, _, _)
-        | Term::Fold(_, _, _, _, _, _)
+        | Term::Map(_)
+        | Term::Fold(_)
         | Term::Store(_, _)
         | Term::Copy(Space::Local, _, _) => Ok(()),
     }
+}
+
+// The code of a let of an array whose body is an argument.
+#[cycle(statements)]
+fn put_argument_let(
+    alloc: Global,
+    declared: &Declared,
+    site: &Site,
+    value: &Term,
+    body: &Term,
+    block: &mut Block,
+) -> Result<(), AllocError>
+    requires value { HasShortCopies (term_of value.now) }
+    requires body { HasShortCopies (term_of body.now) }
+    ensures { OnOk result (code_in block.new ≡ printer.print_argument (spell_in declared.now)
+        (inputs_in declared.now) site.now.depth (scope_of site.now.scope.now) site.now.array
+        site.now.variable (terms.LetArray (term_of value.now) (term_of body.now))
+        (code_in block.old)) }
+{
+    let bound = argument(alloc, declared, site.scope, site.array, value)?;
+    let after = site.after(value)?;
+    let inner = Site {
+        scope: &Scope::Bound(&bound, site.scope),
+        ..after
+    };
+    put_argument(alloc, declared, &inner, body, block)?;
+    put_argument(alloc, declared, site, value, block)
+}
+
+// A turn of a map over this element, behind the copies of its array.
+#[cycle(statements)]
+fn map_turn(
+    alloc: Global,
+    declared: &Declared,
+    site: &Site,
+    map: &Map,
+    element: &View,
+    target: &View,
+) -> Result<Block, AllocError>
+    requires { HasShortCopies (term_of map.now.body) }
+    ensures { IfOk result (λ turn. let n = site.now.variable in
+        let loads = load_set_of map.now.loads in let bound = view_in element.now in
+        code_in turn ≡ printer.print_loaded loads bound n
+        (printer.print_written (spell_in declared.now) (inputs_in declared.now)
+        (suc site.now.depth) (push (loaded_view loads bound n) (scope_of site.now.scope.now))
+        site.now.array (n + load_count loads) (term_of map.now.body) (view_in target.now) End)) }
+{
+    let bound = loaded(alloc, &map.loads, element, site.variable)?;
+    let inner = Site {
+        depth: plus(site.depth, 1)?,
+        scope: &Scope::Bound(&bound, site.scope),
+        array: site.array,
+        variable: plus(site.variable, load_count(&map.loads)?)?,
+    };
+    let mut turn = Block::new(alloc);
+    put_written(alloc, declared, &inner, &map.body, target, &mut turn)?;
+    put_loaded(alloc, &map.loads, element, site.variable, &mut turn)?;
+    Ok(turn)
 }
 
 // A map's code.
@@ -278,38 +343,23 @@ fn put_map(
     alloc: Global,
     declared: &Declared,
     site: &Site,
-    kind: Kind,
-    count: &Poly,
-    loads: &LoadSet,
-    array: &Term,
-    body: &Term,
+    map: &Map,
     target: &View,
     block: &mut Block,
 ) -> Result<(), AllocError>
-    requires array { HasShortCopies (term_of array.now) }
-    requires body { HasShortCopies (term_of body.now) }
+    requires { HasShortCopies (map_of map.now) }
     ensures { OnOk result (code_in block.new ≡ printer.print_written (spell_in declared.now)
         (inputs_in declared.now) site.now.depth (scope_of site.now.scope.now) site.now.array
-        site.now.variable (terms.Map (kind_of kind) count.now (load_set_of loads.now)
-        (term_of array.now) (term_of body.now)) (view_in target.now) (code_in block.old)) }
+        site.now.variable (map_of map.now) (view_in target.now) (code_in block.old)) }
 {
-    let element = argument(alloc, declared, site.scope, site.array, array)?;
+    let element = argument(alloc, declared, site.scope, site.array, &map.array)?;
     let element = at_turn(alloc, &element, Turn::Loop(site.depth))?;
-    let first_load = plus(site.variable, variable_count(array)?)?;
-    let bound = loaded(alloc, loads, &element, first_load)?;
-    let inner = Site {
-        depth: plus(site.depth, 1)?,
-        scope: &Scope::Bound(&bound, site.scope),
-        array: plus(site.array, private_count(array)?)?,
-        variable: plus(first_load, load_count(loads)?)?,
-    };
-    let mut turn = Block::new(alloc);
     let target = at_turn(alloc, target, Turn::Loop(site.depth))?;
-    put_written(alloc, declared, &inner, body, &target, &mut turn)?;
-    put_loaded(alloc, loads, &element, first_load, &mut turn)?;
-    let bound = spell_length(alloc, count, declared.names)?;
-    block.put_loop(start_of(kind), bound, stride_of(kind), turn)?;
-    put_argument(alloc, declared, site, array, block)
+    let after = site.after(&map.array)?;
+    let turn = map_turn(alloc, declared, &after, map, &element, &target)?;
+    let length = spell_length(alloc, &map.length, declared.names)?;
+    block.put_loop(start_of(map.kind), length, stride_of(map.kind), turn)?;
+    put_argument(alloc, declared, site, &map.array, block)
 }
 
 // The code of a let of an array.
@@ -331,11 +381,10 @@ fn put_let_array(
         (view_in target.now) (code_in block.old)) }
 {
     let bound = argument(alloc, declared, site.scope, site.array, value)?;
+    let after = site.after(value)?;
     let inner = Site {
-        depth: site.depth,
         scope: &Scope::Bound(&bound, site.scope),
-        array: plus(site.array, private_count(value)?)?,
-        variable: plus(site.variable, variable_count(value)?)?,
+        ..after
     };
     put_written(alloc, declared, &inner, body, target, block)?;
     put_argument(alloc, declared, site, value, block)
@@ -377,33 +426,24 @@ fn put_fold(
     alloc: Global,
     declared: &Declared,
     site: &Site,
-    count: &Poly,
-    loads: &LoadSet,
-    ty: &Ty,
-    array: &Term,
-    start: &Term,
-    body: &Term,
+    fold: &Fold,
     target: &View,
     block: &mut Block,
 ) -> Result<(), AllocError>
-    requires { HasShortCopies (term_of array.now) }
+    requires { HasShortCopies (fold_of fold.now) }
     ensures { OnOk result (code_in block.new ≡ printer.print_written (spell_in declared.now)
         (inputs_in declared.now) site.now.depth (scope_of site.now.scope.now) site.now.array
-        site.now.variable (terms.Fold count.now (load_set_of loads.now) (element_ty (ty_of ty.now))
-        (term_of array.now) (term_of start.now) (term_of body.now))
-        (view_in target.now) (code_in block.old)) }
+        site.now.variable (fold_of fold.now) (view_in target.now) (code_in block.old)) }
 {
-    let element = argument(alloc, declared, site.scope, site.array, array)?;
+    let element = argument(alloc, declared, site.scope, site.array, &fold.array)?;
     let element = at_turn(alloc, &element, Turn::Loop(site.depth))?;
     let after = Site {
-        variable: plus(site.variable, variable_count(array)?)?,
+        variable: plus(site.variable, variable_count(&fold.array)?)?,
         ..*site
     };
-    let bound = spell_length(alloc, count, declared.names)?;
-    put_fold_loop(
-        alloc, &after, bound, loads, ty, &element, start, body, target, block,
-    )?;
-    put_argument(alloc, declared, site, array, block)
+    let bound = spell_length(alloc, &fold.length, declared.names)?;
+    put_fold_loop(alloc, &after, bound, fold, &element, target, block)?;
+    put_argument(alloc, declared, site, &fold.array, block)
 }
 
 /// A term in writing position, which goes to the target.
@@ -434,12 +474,8 @@ pub fn put_written(
         Term::LetElement(ty, value, body) => {
             put_let_element(alloc, declared, site, ty, value, body, target, block)
         }
-        Term::Map(kind, count, loads, array, body) => put_map(
-            alloc, declared, site, *kind, count, loads, array, body, target, block,
-        ),
-        Term::Fold(count, loads, ty, array, start, body) => put_fold(
-            alloc, declared, site, count, loads, ty, array, start, body, target, block,
-        ),
+        Term::Map(map) => put_map(alloc, declared, site, map, target, block),
+        Term::Fold(fold) => put_fold(alloc, declared, site, fold, target, block),
         Term::Literal(_)
         | Term::Bound(_)
         | Term::Source(_)

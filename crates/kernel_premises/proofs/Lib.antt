@@ -4,7 +4,6 @@ pub mod Nests
 pub mod SoundTerms
 pub mod PrintedTerms
 pub mod Leasts
-pub mod Lengths
 pub mod Types
 pub mod Parts
 pub mod LegalTerms
@@ -17,3 +16,4 @@ pub mod PrintedGroups
 pub mod ArrayLengths
 pub mod ArraysOfCopies
 pub mod FewArrays
+pub mod SoundLayouts

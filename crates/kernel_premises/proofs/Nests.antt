@@ -1,7 +1,7 @@
 -- What nests within the limits.
 use Rattle.std.proofs.Common.{ℕ, ◌≤◌, true, false, [], inl, inr, get_or, arith}
 use Rattle.lift_tree.specs.Tree.{height}
-use Rattle.lift_ir.specs.Terms.{Term, Literal, Bound, Source, Apply, ApplyNumber, Select, Both, Project, Reshape, LetArray, LetElement, Map, Fold, Store, Copy, Global, WorkGroup, Local, Sequential, LocalMemory, PrivateMemory}
+use Rattle.lift_ir.specs.Terms.{Term, Both, Project, Reshape, LetArray, LetElement, Map, Fold, Store, Copy, Global, Sequential, LocalMemory, PrivateMemory}
 use Rattle.lift_ir.specs.Lowering.{Written, lower}
 use Rattle.lift_ir.specs.Forms.{Stands, StandsOverLaunch}
 use Rattle.printed_form.specs.Sound.{CanBeWritten, CanBeRead}
@@ -11,62 +11,28 @@ use Rattle.kernel_premises.proofs.Stacks.{Under, write}
 
 mutual
   can_write : {A : Type 0} (t : Term A) → Stands true t → CanBeWritten t
-  can_write (Literal c) s = absurd s
-  can_write (Bound v) s = absurd s
-  can_write (Source v) s = absurd s
-  can_write (Apply o x y) s = absurd s
-  can_write (ApplyNumber o m x) s = absurd s
-  can_write (Select c x y) s = absurd s
-  can_write (Both z x y) s = absurd s
-  can_write (Project d x) s = absurd s
   can_write (Reshape l x) s = (s.0, can_write x s.1)
   can_write (LetArray v b) s = (can_read v s.0, can_write b s.1)
   can_write (LetElement ty v b) s = can_write b s
   can_write (Map Sequential n ls xs b) s = (can_read xs s.0, can_write b s.1)
-  can_write (Map Global n ls xs b) s = absurd s
-  can_write (Map WorkGroup n ls xs b) s = absurd s
-  can_write (Map Local n ls xs b) s = absurd s
   can_write (Fold n ls ty xs i b) s = can_read xs s
   can_write (Store ty x) s = tt
-  can_write (Copy m ty x) s = absurd s
+  can_write _ s = absurd s
 
   can_read : {A : Type 0} (t : Term A) → Stands false t → CanBeRead t
-  can_read (Literal c) s = tt
-  can_read (Bound v) s = tt
-  can_read (Source v) s = tt
-  can_read (Apply o x y) s = tt
-  can_read (ApplyNumber o m x) s = tt
-  can_read (Select c x y) s = tt
   can_read (Both z x y) s = (can_read x s.0, can_read y s.1)
   can_read (Project d x) s = can_read x s
   can_read (Reshape l x) s = can_read x s
   can_read (LetArray v b) s = (can_read v s.0, can_read b s.1)
-  can_read (LetElement ty v b) s = tt
-  can_read (Map k n ls xs b) s = tt
-  can_read (Fold n ls ty xs i b) s = tt
-  can_read (Store ty x) s = tt
   can_read (Copy LocalMemory ty x) s = absurd s
   can_read (Copy PrivateMemory ty x) s = can_write x s
+  can_read _ s = tt
 
 over_launch : {A : Type 0} (t : Term A) → StandsOverLaunch t → CanBeWritten t
-over_launch (Literal c) s = absurd s
-over_launch (Bound v) s = absurd s
-over_launch (Source v) s = absurd s
-over_launch (Apply o x y) s = absurd s
-over_launch (ApplyNumber o m x) s = absurd s
-over_launch (Select c x y) s = absurd s
-over_launch (Both z x y) s = absurd s
-over_launch (Project d x) s = absurd s
 over_launch (Reshape l x) s = (s.0, over_launch x s.1)
 over_launch (LetArray v b) s = (can_read v s.0, over_launch b s.1)
-over_launch (LetElement ty v b) s = absurd s
 over_launch (Map Global n ls xs b) s = (can_read xs s.0, can_write b s.1)
-over_launch (Map Sequential n ls xs b) s = absurd s
-over_launch (Map WorkGroup n ls xs b) s = absurd s
-over_launch (Map Local n ls xs b) s = absurd s
-over_launch (Fold n ls ty xs i b) s = absurd s
-over_launch (Store ty x) s = absurd s
-over_launch (Copy m ty x) s = absurd s
+over_launch _ s = absurd s
 
 pub can_be_written : (A : Type 0) → TermsCanBeWritten A
 can_be_written A t (inl s) = can_write t s

@@ -2,9 +2,7 @@
 use Rattle.std.proofs.Common.{◌≡◌, ◌∙◌, ℕ, suc, ◌<◌, ◌≤◌, ◌^◌, Bool, true, false, List, [], ◌∷◌, length, refl, sym, ap, subst, inl, inr, arith}
 use Rattle.std.specs.Prelude.{if◌then◌else◌, max}
 use Rattle.std.proofs.lemmas.Option.{slice_get_within}
-use Rattle.size_arith.specs.Ranges.{leasts}
-use Rattle.lift_tree.specs.declared.layout.Layout as tree_layout
-use Rattle.lift_tree.specs.declared.layout.Layout.TheVariants.{Join, Transpose, Split, Reverse, Stride}
+use Rattle.size_arith.specs.Ranges.{AreNames, leasts}
 use Rattle.lift_tree.specs.declared.term.UnaryForm.TheVariants as unary
 use Rattle.lift_tree.specs.declared.term.BinaryForm.TheVariants as binary
 use Rattle.lift_tree.specs.Lists.{Every}
@@ -13,21 +11,21 @@ use Rattle.lift_tree.specs.Tree as tree
 use Rattle.lift_tree.specs.Tree.{Tree}
 use Rattle.lift_tree.specs.Types as types
 use Rattle.lift_tree.specs.Types.{PlainTy}
-use Rattle.lift_tree.specs.WorkedOut.{product_of}
-use Rattle.lift_tree.specs.Typing.{Declared, LayoutRow}
+use Rattle.lift_tree.specs.Typing.{Declared}
 use Rattle.lift_tree.specs.Annotations.{Annotates, Annotation, Leaf, One, Three, Two, type_in}
+use Rattle.lift_tree.proofs.WithinLimits.{IsWithin, element_within, within_in}
 use Rattle.lift_ir.specs.Types as ir
 use Rattle.lift_ir.specs.Types.{IsShort, size, Ty}
 use Rattle.lift_ir.specs.Terms.{Copy, LetArray, LetElement, LocalMemory, PrivateMemory, Space, Store}
-use Rattle.lift_ir.specs.AtLaunch.{outer_of, shape_of, ty_at}
-use Rattle.lift_ir.specs.Lowering.{Argument, body_place, Element, element_ty, is_element, lower, lower_let, lower_unary, Lowered, Place, placed_element, value_place, Written}
+use Rattle.lift_ir.specs.AtLaunch.{shape_of, ty_at}
+use Rattle.lift_ir.specs.Lowering.{Argument, body_place, Element, element_ty, is_element, lower, lower_let, Lowered, Place, placed_element, value_place, Written}
 use Rattle.lift_ir.specs.Lowerable.{IsElementTerm, IsLowerable, IsStaged}
 use Rattle.printed_form.specs.Sound.{AllLengths, dimensions, IsSound}
 use Rattle.kernel_premises.specs.Sound.{IsHeld}
 use Rattle.lowered_tree.specs.Words.{FormsHaveWords}
 use Rattle.kernel_premises.proofs.Leasts.{has_a_cell}
-use Rattle.kernel_premises.proofs.Lengths.{held_divisor, held_quotient}
-use Rattle.kernel_premises.proofs.Types.{good_element, good_in, inner_held, IsGood, outer_held}
+use Rattle.kernel_premises.proofs.SoundLayouts.{sound_layout}
+use Rattle.kernel_premises.proofs.Types.{outer_held, type_held}
 
 -- ---- elements
 element_is : (a : PlainTy) → ir.IsElement (element_ty a)
@@ -59,7 +57,7 @@ body_element a e = ap (λ (b : Bool). if b then Element else Written) e
 body_written : (a : PlainTy) → is_element a ≡ false → body_place Written a ≡ Written
 body_written a e = ap (λ (b : Bool). if b then Element else Written) e
 
-module _ (d : Declared) (inputs : Every (IsGood d.names) d.inputs) where
+module _ (d : Declared) (are : AreNames d.names) (inputs : Every (IsWithin d.names) d.inputs) where
   abbrev Declares : ℕ → Type 0
   Declares s = s < length d.inputs
 
@@ -112,27 +110,16 @@ module _ (d : Declared) (inputs : Every (IsGood d.names) d.inputs) where
   store g t n y w o = (element_is (type_in n), element g t n y w o)
 
   -- ---- copies
-  copy : (space : Space) (a : PlainTy) (t : Lowered) → IsGood d.names a → size (ty_at [] a) < 2 ^ 31 → IsShort (ty_at [] a) → ty_at (leasts d.names) a ≡ ty_at [] a → Sound t → Sound (Copy space (ty_at [] a) t)
+  copy : (space : Space) (a : PlainTy) (t : Lowered) → IsWithin d.names a → size (ty_at [] a) < 2 ^ 31 → IsShort (ty_at [] a) → ty_at (leasts d.names) a ≡ ty_at [] a → Sound t → Sound (Copy space (ty_at [] a) t)
   copy space a t good small short same h =
       let dims = dimensions_at [] a in
-      let few = good.held.few in
-      let cell = subst (λ z. 1 ≤ size z) same (has_a_cell d.names a good.formed) in
+      let few = (type_held a good.lengths good.few).few in
+      let cell = subst (λ z. 1 ≤ size z) same (has_a_cell d.names a are good.formed) in
       (short_words (ty_at [] a) short, omega (arith, dims, few), h, omega (arith, cell), omega (arith, small))
-
-  -- ---- layouts
-  layout : (p : Place) (y : tree_layout.Layout) (b a : PlainTy) (t : Lowered) → LayoutRow d.names y b a → IsGood d.names b → IsGood d.names a → Sound t → Sound (lower_unary d.names p (unary.Layout y) a b t)
-  layout p Join b a t r x z h = (inner_held b x.held, h)
-  layout p Transpose b a t r x z h = (tt, h)
-  layout p (Split fs) b a t r x z h = (inner_held a z.held, h)
-  layout p Reverse b a t r x z h = (outer_held b x.held, h)
-  layout p (Stride fs) b a t r x z h =
-      let step = product_of d.names fs in
-      let g = subst (IsGood d.names) r.2 x in
-      (held_quotient step (outer_of b) (outer_held b x.held), (tt, (held_divisor d.names step r.1 g.formed.0 r.3 g.held.lengths.0, h)))
 
   -- ---- terms in writing position, and arguments
   mutual
-    pub sound_written : (g : List PlainTy) (t : Tree) (n : Annotation) → Every (IsGood d.names) g → Annotates d g t n → NodesFit d.names t n → FormsHaveWords t → IsLowerable (leasts d.names) Written t n → IsStaged Written t n → Sound (lower d.names Written t n)
+    pub sound_written : (g : List PlainTy) (t : Tree) (n : Annotation) → Every (IsWithin d.names) g → Annotates d g t n → NodesFit d.names t n → FormsHaveWords t → IsLowerable (leasts d.names) Written t n → IsStaged Written t n → Sound (lower d.names Written t n)
     sound_written g (tree.Variable v) (Leaf a) all y f w l o = (element_is a, tt)
     sound_written g (tree.Number c) (Leaf a) all y f w l o = (element_is a, y.0)
     sound_written g (tree.Unary (unary.Div k) t) (One a n) all y f w l o = (element_is a, (refl, w.0, element g t n y.0 w.1 o))
@@ -140,10 +127,10 @@ module _ (d : Declared) (inputs : Every (IsGood d.names) d.inputs) where
     sound_written g (tree.Unary unary.First t) (One a n) all y f w l o = (element_is a, element g t n y.0 w.1 o)
     sound_written g (tree.Unary unary.Second t) (One a n) all y f w l o = (element_is a, element g t n y.0 w.1 o)
     sound_written g (tree.Unary (unary.Layout y) t) (One a n) all e f w l o =
-        layout Written y (type_in n) a _ e.1 (good_in d inputs g t n all e.0 f.0) (good_in d inputs g (tree.Unary (unary.Layout y) t) (One a n) all e f) (sound_written g t n all e.0 f.0 w.1 l.3 o)
+        sound_layout d Declares Written y (type_in n) a _ e.1 (within_in d inputs g t n all e.0 f.0) (within_in d inputs g (tree.Unary (unary.Layout y) t) (One a n) all e f) (sound_written g t n all e.0 f.0 w.1 l.3 o)
     sound_written g (tree.Unary (unary.Slide s k) t) (One a n) all y f w l o = (w.0, sound_written g t n all y.0 f.0 w.1 l.3 o)
     sound_written g (tree.Unary (unary.Pad s k) t) (One a n) all y f w l o =
-        ((w.0, outer_held (type_in n) (good_in d inputs g t n all y.0 f.0).held), sound_written g t n all y.0 f.0 w.1 l.3 o)
+        ((w.0, outer_held (type_in n) (within_in d inputs g t n all y.0 f.0).lengths), sound_written g t n all y.0 f.0 w.1 l.3 o)
     sound_written g (tree.Binary (binary.Operator p) t u) (Two a n m) all y f w l o = (element_is a, (element g t n y.0 w.0 o.0, element g u m y.1 w.1 o.1))
     sound_written g (tree.Binary binary.Pair t u) (Two a n m) all y f w l o = (element_is a, (element g t n y.0 w.0 o.0, element g u m y.1 w.1 o.1))
     sound_written g (tree.Select t u x) (Three a n m k) all y f w l o = (element_is a, (element g t n y.0 w.0 o.0, element g u m y.1 w.1 o.1, element g x k y.2 w.2 o.2))
@@ -153,26 +140,26 @@ module _ (d : Declared) (inputs : Every (IsGood d.names) d.inputs) where
         stored a (lower_let (type_in n) (lower d.names (value_place n) v n) (lower d.names (body_place Written a) b m)) o.0 (let_element (type_in n) (lower d.names (value_place n) v n) (lower d.names (body_place Written a) b m) o.1 x z)
     sound_written g (tree.Let v b) (Two a n m) all y f w l (inr (inl o)) =
         let x = moved (value_place n) Element v n (value_element n o.1) (element g v n y.0 w.0 o.2) in
-        let good = good_in d inputs g v n all y.0 f.0 in
+        let good = within_in d inputs g v n all y.0 f.0 in
         let under = lowerable_at (body_place Written a) Written b m (body_written a o.0) l.1 in
         let z = moved (body_place Written a) Written b m (body_written a o.0) (sound_written (type_in n ∷ g) b m (good, all) y.1 f.1 w.1 under o.3) in
         written a (lower_let (type_in n) (lower d.names (value_place n) v n) (lower d.names (body_place Written a) b m)) o.0 (let_element (type_in n) (lower d.names (value_place n) v n) (lower d.names (body_place Written a) b m) o.1 x z)
     sound_written g (tree.Let v b) (Two a n m) all y f w l (inr (inr o)) =
         let value = lowerable_at (value_place n) Argument v n (value_argument n o.1) l.0 in
         let x = moved (value_place n) Argument v n (value_argument n o.1) (sound_argument g v n all y.0 f.0 w.0 value o.2) in
-        let good = good_in d inputs g v n all y.0 f.0 in
+        let good = within_in d inputs g v n all y.0 f.0 in
         let under = lowerable_at (body_place Written a) Written b m (body_written a o.0) l.1 in
         let z = moved (body_place Written a) Written b m (body_written a o.0) (sound_written (type_in n ∷ g) b m (good, all) y.1 f.1 w.1 under o.3) in
         written a (lower_let (type_in n) (lower d.names (value_place n) v n) (lower d.names (body_place Written a) b m)) o.0 (let_array (type_in n) (lower d.names (value_place n) v n) (lower d.names (body_place Written a) b m) o.1 x z)
     sound_written g (tree.Map j xs b) (Two a n m) all y f w l o =
-        let good = good_in d inputs g xs n all y.2 f.0 in (
-          outer_held (type_in n) good.held,
+        let good = within_in d inputs g xs n all y.2 f.0 in (
+          outer_held (type_in n) good.lengths,
           sound_argument g xs n all y.2 f.0 w.0 l.1 o.0,
-          sound_written (y.0 ∷ g) b m (good_element d inputs (type_in n) y.0 y.1 y.3 good, all) y.4 f.1 w.1 l.2 o.1,
+          sound_written (y.0 ∷ g) b m (element_within d.names (type_in n) y.0 y.1 y.3 good, all) y.4 f.1 w.1 l.2 o.1,
         )
     sound_written g (tree.Fold j xs s b) (Three a n m k) all y f w l o =
-        let good = good_in d inputs g xs n all y.2 f.0 in (
-          outer_held (type_in n) good.held,
+        let good = within_in d inputs g xs n all y.2 f.0 in (
+          outer_held (type_in n) good.lengths,
           element_is (type_in m),
           sound_argument g xs n all y.2 f.0 w.0 l.1 o.0,
           element g s m y.4 w.1 o.1,
@@ -180,26 +167,26 @@ module _ (d : Declared) (inputs : Every (IsGood d.names) d.inputs) where
         )
     sound_written g _ _ all y f w l o = absurd o
 
-    pub sound_argument : (g : List PlainTy) (t : Tree) (n : Annotation) → Every (IsGood d.names) g → Annotates d g t n → NodesFit d.names t n → FormsHaveWords t → IsLowerable (leasts d.names) Argument t n → IsStaged Argument t n → Sound (lower d.names Argument t n)
+    pub sound_argument : (g : List PlainTy) (t : Tree) (n : Annotation) → Every (IsWithin d.names) g → Annotates d g t n → NodesFit d.names t n → FormsHaveWords t → IsLowerable (leasts d.names) Argument t n → IsStaged Argument t n → Sound (lower d.names Argument t n)
     sound_argument g (tree.Variable v) (Leaf a) all y f w l o = tt
     sound_argument g (tree.Input i) (Leaf a) all y f w l o = slice_get_within d.inputs i a y
     sound_argument g (tree.Unary unary.First t) (One a n) all y f w l o = sound_argument g t n all y.0 f.0 w.1 l.3 o
     sound_argument g (tree.Unary unary.Second t) (One a n) all y f w l o = sound_argument g t n all y.0 f.0 w.1 l.3 o
     sound_argument g (tree.Unary (unary.Layout y) t) (One a n) all e f w l o =
-        layout Argument y (type_in n) a _ e.1 (good_in d inputs g t n all e.0 f.0) (good_in d inputs g (tree.Unary (unary.Layout y) t) (One a n) all e f) (sound_argument g t n all e.0 f.0 w.1 l.3 o)
+        sound_layout d Declares Argument y (type_in n) a _ e.1 (within_in d inputs g t n all e.0 f.0) (within_in d inputs g (tree.Unary (unary.Layout y) t) (One a n) all e f) (sound_argument g t n all e.0 f.0 w.1 l.3 o)
     sound_argument g (tree.Unary (unary.Slide s k) t) (One a n) all y f w l o = (w.0, sound_argument g t n all y.0 f.0 w.1 l.3 o)
     sound_argument g (tree.Unary (unary.Pad s k) t) (One a n) all y f w l o =
-        ((w.0, outer_held (type_in n) (good_in d inputs g t n all y.0 f.0).held), sound_argument g t n all y.0 f.0 w.1 l.3 o)
+        ((w.0, outer_held (type_in n) (within_in d inputs g t n all y.0 f.0).lengths), sound_argument g t n all y.0 f.0 w.1 l.3 o)
     sound_argument g (tree.Unary unary.ToLocal t) (One a n) all y f w l o =
-        copy LocalMemory a (lower d.names Written t n) (good_in d inputs g (tree.Unary unary.ToLocal t) (One a n) all y f) o.1 o.2 l.2.1 (sound_written g t n all y.0 f.0 w.1 l.3 o.3)
+        copy LocalMemory a (lower d.names Written t n) (within_in d inputs g (tree.Unary unary.ToLocal t) (One a n) all y f) o.1 o.2 l.2.1 (sound_written g t n all y.0 f.0 w.1 l.3 o.3)
     sound_argument g (tree.Unary unary.ToPrivate t) (One a n) all y f w l o =
-        copy PrivateMemory a (lower d.names Written t n) (good_in d inputs g (tree.Unary unary.ToPrivate t) (One a n) all y f) o.1 o.2 l.2.1 (sound_written g t n all y.0 f.0 w.1 l.3 o.3)
+        copy PrivateMemory a (lower d.names Written t n) (within_in d inputs g (tree.Unary unary.ToPrivate t) (One a n) all y f) o.1 o.2 l.2.1 (sound_written g t n all y.0 f.0 w.1 l.3 o.3)
     sound_argument g (tree.Binary binary.Zip t u) (Two a n m) all y f w l o =
         (sound_argument g t n all y.0 f.0 w.0 l.1 o.0, sound_argument g u m all y.1 f.1 w.1 l.2 o.1)
     sound_argument g (tree.Let v b) (Two a n m) all y f w l o =
         let value = lowerable_at (value_place n) Argument v n (value_argument n o.0) l.0 in
         let x = moved (value_place n) Argument v n (value_argument n o.0) (sound_argument g v n all y.0 f.0 w.0 value o.1) in
-        let good = good_in d inputs g v n all y.0 f.0 in
+        let good = within_in d inputs g v n all y.0 f.0 in
         let z = sound_argument (type_in n ∷ g) b m (good, all) y.1 f.1 w.1 l.1 o.2 in
         same_either (is_element a) (lower_let (type_in n) (lower d.names (value_place n) v n) (lower d.names Argument b m)) (let_array (type_in n) (lower d.names (value_place n) v n) (lower d.names Argument b m) o.0 x z)
     sound_argument g _ _ all y f w l o = absurd o

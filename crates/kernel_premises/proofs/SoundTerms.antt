@@ -7,17 +7,17 @@ use Rattle.lift_tree.specs.Typing.{Declared}
 use Rattle.lift_tree.specs.Annotations.{type_in}
 use Rattle.kernel_tree.specs.Code.{Kernel}
 use Rattle.lift_ir.specs.Types.{Shape, Scalar, PairOf, ArrayOf}
-use Rattle.lift_ir.specs.Layouts.{Layout, Split, Join, Transpose, Reverse, Slide, Pad}
 use Rattle.lift_ir.specs.Terms.{Term, Literal, Bound, Source, Apply, ApplyNumber, Select, Both, Project, Reshape, LetArray, LetElement, Map, Fold, Store, Copy}
 use Rattle.lift_ir.specs.AtLaunch.{shape_of}
 use Rattle.printed_form.specs.Programs.{input_shape, lowered_root}
-use Rattle.printed_form.specs.Sound.{AllLengths, IsSoundLayout, IsSound}
+use Rattle.printed_form.specs.Sound.{AllLengths, IsSound}
 use Rattle.printed_form.specs.KernelGrammar.{IsSourceIn, KernelsAreOfTheGrammar}
 use Rattle.kernel_premises.specs.Within.{TermsNestWithin}
 use Rattle.length_spelling.specs.Formulas.{length_formula}
 use Rattle.length_spelling.specs.Laws.{LengthsAreBounds, length_height}
 use Rattle.kernel_premises.specs.Sound.{IsHeld, IsHeldType, IsLengthIn}
 use Rattle.kernel_premises.specs.Terms.{kernel_of_term, SoundPartsAreSpelled, KernelsAreInTheGrammar}
+use Rattle.kernel_premises.proofs.SoundLayouts.{layout_wider}
 
 -- ---- sound by one measure, sound by a wider one
 module _ {A : Type 0} (P R : A → Type 0) (wider : (n : A) → P n → R n) where
@@ -25,14 +25,6 @@ module _ {A : Type 0} (P R : A → Type 0) (wider : (n : A) → P n → R n) whe
   lengths_wider Scalar h = tt
   lengths_wider (PairOf a b) h = (lengths_wider a h.0, lengths_wider b h.1)
   lengths_wider (ArrayOf n a) h = (wider n h.0, lengths_wider a h.1)
-
-  layout_wider : (l : Layout A) → IsSoundLayout P l → IsSoundLayout R l
-  layout_wider (Split m) h = wider m h
-  layout_wider (Join m) h = wider m h
-  layout_wider Transpose h = tt
-  layout_wider (Reverse n) h = wider n h
-  layout_wider (Slide s t) h = h
-  layout_wider (Pad l r n) h = (h.0, wider n h.1)
 
   module _ (Q S : ℕ → Type 0) (sources : (s : ℕ) → Q s → S s) where
     sound_wider : (t : Term A) → IsSound P Q t → IsSound R S t
@@ -44,7 +36,7 @@ module _ {A : Type 0} (P R : A → Type 0) (wider : (n : A) → P n → R n) whe
     sound_wider (Select c a b) h = (sound_wider c h.0, sound_wider a h.1, sound_wider b h.2)
     sound_wider (Both zips a b) h = (sound_wider a h.0, sound_wider b h.1)
     sound_wider (Project s a) h = sound_wider a h
-    sound_wider (Reshape l a) h = (layout_wider l h.0, sound_wider a h.1)
+    sound_wider (Reshape l a) h = (layout_wider P R wider l h.0, sound_wider a h.1)
     sound_wider (LetArray v b) h = (sound_wider v h.0, sound_wider b h.1)
     sound_wider (LetElement ty v b) h = (sound_wider v h.0, sound_wider b h.1)
     sound_wider (Map kind n loads xs b) h = (wider n h.0, sound_wider xs h.1, sound_wider b h.2)

@@ -1,14 +1,14 @@
 -- Facts of blocks, indents and counts.
 use Rattle.std.proofs.Common.{◌≡◌, ℕ, zero, suc, ◌<◌, ◌-◌, ◌+◌, ◌*◌, List, [], ◌∷◌, ◌++◌, replicate, drop, ap, ◌∙◌, get_or, length, refl, subst, sym, arith, true}
-use Rattle.std.specs.Prelude.{codes, nat_lt, ◌||◌, ◌&&◌}
+use Rattle.std.specs.Prelude.{codes, nat_lt}
 use Rattle.std.proofs.lemmas.Bool.{ltb-true, and_parts}
 use Rattle.kernel_tree.specs.declared.tree.Stmt.{Stmt}
 use Rattle.kernel_tree.specs.declared.tree.Stmt as stmt
-use Rattle.kernel_tree.specs.Code.{Start, Stride, Code, End, Loops, Guards, Kernel}
+use Rattle.kernel_tree.specs.Code.{Start, Stride, Code, End, Performs, Loops, Guards, Kernel}
 use Rattle.kernel_tree.specs.Formula.{Formula}
-use Rattle.kernel_tree.specs.Grammar.{deepest, is_constant, is_expression, are_lanes, is_readable, is_writable, is_shared, has_statement, are_statements, is_kernel}
+use Rattle.kernel_tree.specs.Grammar.{deepest, is_constant, is_expression, has_statement, is_statement, are_statements, is_kernel}
 use Rattle.kernel_tree.specs.KernelText.{indent}
-use Rattle.kernel_tree.specs.Tree.{formula_of, lanes_of, array_of, before, code_of, code_then}
+use Rattle.kernel_tree.specs.Tree.{before, code_then}
 
 pub one_output : (k : Kernel) → is_kernel k ≡ true → k.outputs ≡ suc (k.outputs - 1)
 one_output k h =
@@ -27,31 +27,32 @@ indent_more level = two_more (2 * level) ∙ ap (λ n. replicate n 32) (let w : 
 abbrev Fits : Kernel → (loops nest : ℕ) → Code → Type 0
 Fits k l nest c = are_statements k l nest c ≡ true
 
+-- what stands behind a code's first statement
+abbrev after_of : Code → Code
+after_of End = End
+after_of (Performs s after) = after
+after_of (Loops s b c body after) = after
+after_of (Guards s b body after) = after
+
+rest_fits : (k : Kernel) (l nest : ℕ) (c : Code) → Fits k l nest c → Fits k l nest (after_of c)
+rest_fits k l nest End h = h
+rest_fits k l nest (Performs s after) h = (and_parts (is_statement k l s) (are_statements k l nest after) h).1
+rest_fits k l nest (Loops s b c body after) h =
+    let p = and_parts (is_constant b) _ (and_parts (nat_lt nest deepest) _ h).1 in
+    let q = and_parts (has_statement body) _ (and_parts (is_expression k l b) _ p.1).1 in
+    (and_parts (are_statements k (suc l) (suc nest) body) _ q.1).1
+rest_fits k l nest (Guards s b body after) h =
+    let p = and_parts (is_constant b) _ (and_parts (nat_lt nest deepest) _ h).1 in
+    let q = and_parts (has_statement body) _ (and_parts (is_expression k l b) _ p.1).1 in
+    (and_parts (are_statements k l (suc nest) body) _ q.1).1
+
+rest_behind : (s : Stmt) (rest : Code) → after_of (before s rest) ≡ rest
+rest_behind (stmt.Loop' s b c shape body) rest = refl
+rest_behind _ rest = refl
+
 -- what stands behind a statement
 behind : (k : Kernel) (l nest : ℕ) (s : Stmt) (rest : Code) → Fits k l nest (before s rest) → Fits k l nest rest
-behind k l nest (stmt.Assign v e) rest h = (and_parts (is_expression k l (formula_of e)) _ (and_parts (nat_lt v k.variables) _ h).1).1
-behind k l nest (stmt.Load v a i) rest h =
-    let p = and_parts (is_readable k (array_of a)) _ (and_parts (nat_lt v k.variables) _ h).1 in
-    (and_parts (is_expression k l (formula_of i)) _ p.1).1
-behind k l nest (stmt.Store a i e) rest h =
-    let p = and_parts (is_expression k l (formula_of i)) _ (and_parts (is_writable k (array_of a)) _ h).1 in
-    (and_parts (is_expression k l (formula_of e)) _ p.1).1
-behind k l nest (stmt.AssignFour v e) rest h = (and_parts (are_lanes k l (lanes_of e)) _ (and_parts (nat_lt v k.vectors) _ h).1).1
-behind k l nest (stmt.LoadFour v a i) rest h =
-    let p = and_parts (is_shared (array_of a) && is_readable k (array_of a)) _ (and_parts (nat_lt v k.vectors) _ h).1 in
-    (and_parts (is_expression k l (formula_of i)) _ p.1).1
-behind k l nest (stmt.StoreFour a i e) rest h =
-    let p = and_parts (is_expression k l (formula_of i)) _ (and_parts (is_shared (array_of a) && is_writable k (array_of a)) _ h).1 in
-    (and_parts (are_lanes k l (lanes_of e)) _ p.1).1
-behind k l nest (stmt.Barrier on_local on_global) rest h = (and_parts (on_local || on_global) _ h).1
-behind k l nest (stmt.Loop' s b c shape body) rest h =
-    let p = and_parts (is_constant (formula_of b)) _ (and_parts (nat_lt nest deepest) _ h).1 in
-    let q = and_parts (has_statement (code_of body)) _ (and_parts (is_expression k l (formula_of b)) _ p.1).1 in
-    (and_parts (are_statements k (suc l) (suc nest) (code_of body)) _ q.1).1
-behind k l nest (stmt.If' s b shape body) rest h =
-    let p = and_parts (is_constant (formula_of b)) _ (and_parts (nat_lt nest deepest) _ h).1 in
-    let q = and_parts (has_statement (code_of body)) _ (and_parts (is_expression k l (formula_of b)) _ p.1).1 in
-    (and_parts (are_statements k l (suc nest) (code_of body)) _ q.1).1
+behind k l nest s rest h = subst (Fits k l nest) (rest_behind s rest) (rest_fits k l nest (before s rest) h)
 
 -- a statement of a block, with those behind it
 pub statement_at : (k : Kernel) (l nest : ℕ) (ss : List Stmt) (i : ℕ) (s : Stmt) → i < length ss → s ≡ get_or ss i s → Fits k l nest (code_then ss End) → Fits k l nest (before s (code_then (drop (suc i) ss) End))

@@ -1,17 +1,17 @@
 -- What is written is the spelling.
 use Rattle.std.proofs.Common.{◌≡◌, ℕ, zero, suc, ◌+◌, List, [], ◌∷◌, ◌++◌, Option, None, Some, Bool, true, false, ap, sym, ◌∙◌, arith, refl}
 use Rattle.std.specs.Prelude.{codes, decimal}
-use Rattle.std.proofs.lemmas.List.{append_assoc, append-nil}
+use Rattle.std.proofs.lemmas.List.{append_assoc}
 use Rattle.scalar_ops.specs.declared.op.Op.{Op}
 use Rattle.scalar_ops.specs.declared.op.Op.TheVariants.{Min, Max}
 use Rattle.kernel_tree.specs.declared.tree.Dimension.{Dimension}
 use Rattle.kernel_tree.specs.declared.tree.Dimension.TheVariants.{X, Y}
 use Rattle.kernel_tree.specs.Formula.{IdForm, GlobalId, GroupId, LocalId, GlobalSize, GroupCount, LocalSize, Comparison, Less, Equal, Formula, Number, Variable, LoopVariable, Size, Id, Binary, Choose, Lanes, Vector, Spread, Each}
-use Rattle.kernel_tree.specs.Code.{Start, FromZero, FromGlobalId, FromGroupId, FromLocalId, Stride, ByOne, ByGlobalSize, ByGroupCount, ByLocalSize, Code, End, Assigns, Loads, Stores, AssignsFour, LoadsFour, StoresFour, Loops, Guards, Syncs, Kernel}
+use Rattle.kernel_tree.specs.Code.{Array, Statement, Start, FromZero, FromGlobalId, FromGroupId, FromLocalId, Stride, ByOne, ByGlobalSize, ByGroupCount, ByLocalSize, Performs, Assigns, Loads, Stores, AssignsFour, LoadsFour, StoresFour, Syncs, Kernel}
 use Rattle.kernel_tree.specs.Pieces.{joined}
 use Rattle.kernel_tree.specs.KernelText.{Piece, space, line, comma, semicolon, equals, question, colon, closes, index_ends, indent, named, array_name}
-use Rattle.kernel_spelling.specs.Spelling.{spell_id, spell_sign, spell_comparison, spell, spell_lanes, spell_end, spell_start, spell_stride, loop_line, test_line, step_line, block_line, guard_line, below_line, spell_flags, spell_code, spell_locals, spell_privates, spell_variables, spell_vectors, spell_sizes, spell_outputs, spell_inputs, first_output, spell_head, spell_body, spell_kernel}
-use Rattle.kernel_printer.specs.Bytes.{id_text, opening, between, comparing, write_expression, write_lanes, write_end, start_text, stride_text, write_loop, write_guard, flags_text, write_code, write_inputs, write_outputs, write_sizes, write_arrays, write_variables, write_vectors, write_locals, write_privates, write_launching, write_head, write_kernel}
+use Rattle.kernel_spelling.specs.Spelling.{spell_id, spell_sign, spell_comparison, spell, spell_lanes, spell_end, spell_start, spell_stride, loop_line, test_line, step_line, block_line, guard_line, below_line, spell_flags, spell_statement, spell_code, spell_locals, spell_privates, spell_variables, spell_vectors, spell_sizes, spell_outputs, spell_inputs, first_output, spell_head, spell_body, spell_kernel}
+use Rattle.kernel_printer.specs.Bytes.{id_text, opening, between, comparing, write_expression, write_lanes, write_end, start_text, stride_text, write_loop, write_guard, flags_text, IsPut, write_inputs, write_outputs, write_sizes, write_arrays, write_variables, write_vectors, write_locals, write_privates, write_launching, write_head, write_kernel}
 
 two : (f a b r : List ℕ) → (f ++ a ++ b) ++ r ≡ f ++ (a ++ (b ++ r))
 two f a b r = append_assoc (f ++ a) b r ∙ append_assoc f a (b ++ r)
@@ -130,7 +130,7 @@ lanes_written (Each op a b) front back =
 
 -- ---- statements
 
-end_written : (nest : ℕ) (front : List ℕ) (back : List Piece) → write_end nest front ++ joined back ≡ front ++ joined (spell_end nest back)
+pub end_written : (nest : ℕ) (front : List ℕ) (back : List Piece) → write_end nest front ++ joined back ≡ front ++ joined (spell_end nest back)
 end_written zero front back = append_assoc front (codes "}\n") (joined back)
 end_written (suc nest) front back = two front (indent (suc nest)) (codes "}\n") (joined back)
 
@@ -152,7 +152,7 @@ flags_written true false back = refl
 flags_written false true back = refl
 flags_written false false back = refl
 
-loop_written : (l nest : ℕ) (front : List ℕ) (s : Start) (b : Formula) (c : Stride) (back : List Piece) → write_loop l nest front s b c ++ joined back ≡ front ++ joined (indent (suc nest) ∷ loop_line l (spell_start s (test_line l (spell b (step_line l (spell_stride c (block_line back)))))))
+pub loop_written : (l nest : ℕ) (front : List ℕ) (s : Start) (b : Formula) (c : Stride) (back : List Piece) → write_loop l nest front s b c ++ joined back ≡ front ++ joined (indent (suc nest) ∷ loop_line l (spell_start s (test_line l (spell b (step_line l (spell_stride c (block_line back)))))))
 loop_written l nest front s b c back =
     let head = front ++ indent (suc nest) ++ codes "for (uint " ++ named 105 l ++ codes " = " ++ start_text s ++ codes "; " ++ named 105 l ++ codes " < " in
     let bounded = write_expression head b in
@@ -163,7 +163,7 @@ loop_written l nest front s b c back =
     ∙ eight front (indent (suc nest)) (codes "for (uint ") (named 105 l) (codes " = ") (start_text s) (codes "; ") (named 105 l) (codes " < ") (joined rest)
     ∙ ap (λ z. front ++ (indent (suc nest) ++ (codes "for (uint " ++ (named 105 l ++ (codes " = " ++ z))))) (start_written s (test_line l rest))
 
-guard_written : (nest : ℕ) (front : List ℕ) (s : Start) (b : Formula) (back : List Piece) → write_guard nest front s b ++ joined back ≡ front ++ joined (indent (suc nest) ∷ guard_line (spell_start s (below_line (spell b (block_line back)))))
+pub guard_written : (nest : ℕ) (front : List ℕ) (s : Start) (b : Formula) (back : List Piece) → write_guard nest front s b ++ joined back ≡ front ++ joined (indent (suc nest) ∷ guard_line (spell_start s (below_line (spell b (block_line back)))))
 guard_written nest front s b back =
     let head = front ++ indent (suc nest) ++ codes "if (" ++ start_text s ++ codes " < " in
     let rest = spell b (block_line back) in
@@ -172,72 +172,80 @@ guard_written nest front s b back =
     ∙ four front (indent (suc nest)) (codes "if (") (start_text s) (codes " < ") (joined rest)
     ∙ ap (λ z. front ++ (indent (suc nest) ++ (codes "if (" ++ z))) (start_written s (below_line rest))
 
-code_written : (c : Code) (l nest : ℕ) (front : List ℕ) (back : List Piece) → write_code l nest front c ++ joined back ≡ front ++ joined (spell_code l nest c back)
-code_written End l nest front back = end_written nest front back
-code_written (Assigns k e after) l nest front back =
-    let head = front ++ indent (suc nest) ++ named 118 k ++ codes " = " in
+-- `new` is `front` and then this statement, if what is written is its spelling
+put : (s : Statement) (l nest : ℕ) (front written new : List ℕ) → new ≡ written → ((rest : List Piece) → written ++ joined rest ≡ front ++ joined (indent (nest + 1) ∷ spell_statement s (semicolon ∷ line ∷ rest))) → IsPut l nest (Performs s) front new
+put s l nest front written new e h = λ after back.
     let rest = spell_code l nest after back in
-    code_written after l nest (write_expression head e ++ codes ";\n") back
-    ∙ append_assoc (write_expression head e) (codes ";\n") (joined rest)
+    let deeper : suc nest ≡ nest + 1 = omega arith in
+    ap (λ n. front ++ joined (indent n ∷ spell_statement s (semicolon ∷ line ∷ rest))) deeper ∙ sym (h rest) ∙ ap (λ z. z ++ joined rest) (sym e)
+
+-- a statement, by the texts that its parts make in turn
+pub assign_put : {t u v w new : List ℕ} (l nest k : ℕ) (e : Formula) (front : List ℕ) → t ≡ front ++ indent (nest + 1) → u ≡ t ++ named 118 k → v ≡ u ++ codes " = " → w ≡ write_expression v e → new ≡ w ++ codes ";\n" → IsPut l nest (Performs (Assigns k e)) front new
+assign_put l nest k e front e1 e2 e3 e4 e5 =
+    let head = front ++ indent (nest + 1) ++ named 118 k ++ codes " = " in
+    put (Assigns k e) l nest front (write_expression head e ++ codes ";\n") _ (cc) (λ rest.
+    append_assoc (write_expression head e) (codes ";\n") (joined rest)
     ∙ expression_written e head (semicolon ∷ line ∷ rest)
-    ∙ three front (indent (suc nest)) (named 118 k) (codes " = ") (joined (spell e (semicolon ∷ line ∷ rest)))
-code_written (Loads k array i after) l nest front back =
-    let head = front ++ indent (suc nest) ++ named 118 k ++ codes " = " ++ array_name array ++ codes "[" in
-    let rest = spell_code l nest after back in
-    code_written after l nest (write_expression head i ++ codes "];\n") back
-    ∙ append_assoc (write_expression head i) (codes "];\n") (joined rest)
+    ∙ three front (indent (nest + 1)) (named 118 k) (codes " = ") (joined (spell e (semicolon ∷ line ∷ rest))))
+
+pub load_put : {t u v w x y new : List ℕ} (l nest k : ℕ) (array : Array) (i : Formula) (front : List ℕ) → t ≡ front ++ indent (nest + 1) → u ≡ t ++ named 118 k → v ≡ u ++ codes " = " → w ≡ v ++ array_name array → x ≡ w ++ codes "[" → y ≡ write_expression x i → new ≡ y ++ codes "];\n"
+    → IsPut l nest (Performs (Loads k array i)) front new
+load_put l nest k array i front e1 e2 e3 e4 e5 e6 e7 =
+    let head = front ++ indent (nest + 1) ++ named 118 k ++ codes " = " ++ array_name array ++ codes "[" in
+    put (Loads k array i) l nest front (write_expression head i ++ codes "];\n") _ (cc) (λ rest.
+    append_assoc (write_expression head i) (codes "];\n") (joined rest)
     ∙ expression_written i head (index_ends ∷ semicolon ∷ line ∷ rest)
-    ∙ five front (indent (suc nest)) (named 118 k) (codes " = ") (array_name array) (codes "[") (joined (spell i (index_ends ∷ semicolon ∷ line ∷ rest)))
-code_written (Stores array i e after) l nest front back =
-    let head = front ++ indent (suc nest) ++ array_name array ++ codes "[" in
+    ∙ five front (indent (nest + 1)) (named 118 k) (codes " = ") (array_name array) (codes "[") (joined (spell i (index_ends ∷ semicolon ∷ line ∷ rest))))
+
+pub store_put : {t u v w x y new : List ℕ} (l nest : ℕ) (array : Array) (i e : Formula) (front : List ℕ) → t ≡ front ++ indent (nest + 1) → u ≡ t ++ array_name array → v ≡ u ++ codes "[" → w ≡ write_expression v i → x ≡ w ++ codes "] = " → y ≡ write_expression x e → new ≡ y ++ codes ";\n"
+    → IsPut l nest (Performs (Stores array i e)) front new
+store_put l nest array i e front e1 e2 e3 e4 e5 e6 e7 =
+    let head = front ++ indent (nest + 1) ++ array_name array ++ codes "[" in
     let mid = write_expression head i ++ codes "] = " in
-    let rest = spell_code l nest after back in
+    put (Stores array i e) l nest front (write_expression mid e ++ codes ";\n") _ (cc) (λ rest.
     let value = spell e (semicolon ∷ line ∷ rest) in
-    code_written after l nest (write_expression mid e ++ codes ";\n") back
-    ∙ append_assoc (write_expression mid e) (codes ";\n") (joined rest)
+    append_assoc (write_expression mid e) (codes ";\n") (joined rest)
     ∙ expression_written e mid (semicolon ∷ line ∷ rest)
     ∙ append_assoc (write_expression head i) (codes "] = ") (joined value)
     ∙ expression_written i head (index_ends ∷ space ∷ equals ∷ space ∷ value)
-    ∙ three front (indent (suc nest)) (array_name array) (codes "[") (joined (spell i (index_ends ∷ space ∷ equals ∷ space ∷ value)))
-code_written (AssignsFour k e after) l nest front back =
-    let head = front ++ indent (suc nest) ++ named 119 k ++ codes " = " in
-    let rest = spell_code l nest after back in
-    code_written after l nest (write_lanes head e ++ codes ";\n") back
-    ∙ append_assoc (write_lanes head e) (codes ";\n") (joined rest)
+    ∙ three front (indent (nest + 1)) (array_name array) (codes "[") (joined (spell i (index_ends ∷ space ∷ equals ∷ space ∷ value))))
+
+pub assign_four_put : {t u v w new : List ℕ} (l nest k : ℕ) (e : Lanes) (front : List ℕ) → t ≡ front ++ indent (nest + 1) → u ≡ t ++ named 119 k → v ≡ u ++ codes " = " → w ≡ write_lanes v e → new ≡ w ++ codes ";\n" → IsPut l nest (Performs (AssignsFour k e)) front new
+assign_four_put l nest k e front e1 e2 e3 e4 e5 =
+    let head = front ++ indent (nest + 1) ++ named 119 k ++ codes " = " in
+    put (AssignsFour k e) l nest front (write_lanes head e ++ codes ";\n") _ (cc) (λ rest.
+    append_assoc (write_lanes head e) (codes ";\n") (joined rest)
     ∙ lanes_written e head (semicolon ∷ line ∷ rest)
-    ∙ three front (indent (suc nest)) (named 119 k) (codes " = ") (joined (spell_lanes e (semicolon ∷ line ∷ rest)))
-code_written (LoadsFour k array i after) l nest front back =
-    let head = front ++ indent (suc nest) ++ named 119 k ++ codes " = vload4(" in
-    let rest = spell_code l nest after back in
+    ∙ three front (indent (nest + 1)) (named 119 k) (codes " = ") (joined (spell_lanes e (semicolon ∷ line ∷ rest))))
+
+pub load_four_put : {t u v w x y new : List ℕ} (l nest k : ℕ) (array : Array) (i : Formula) (front : List ℕ) → t ≡ front ++ indent (nest + 1) → u ≡ t ++ named 119 k → v ≡ u ++ codes " = vload4(" → w ≡ write_expression v i → x ≡ w ++ codes ", " → y ≡ x ++ array_name array → new ≡ y ++ codes ");\n"
+    → IsPut l nest (Performs (LoadsFour k array i)) front new
+load_four_put l nest k array i front e1 e2 e3 e4 e5 e6 e7 =
+    let head = front ++ indent (nest + 1) ++ named 119 k ++ codes " = vload4(" in
+    put (LoadsFour k array i) l nest front (write_expression head i ++ codes ", " ++ array_name array ++ codes ");\n") _ (cc) (λ rest.
     let behind = comma ∷ space ∷ array_name array ∷ closes ∷ semicolon ∷ line ∷ rest in
-    code_written after l nest (write_expression head i ++ codes ", " ++ array_name array ++ codes ");\n") back
-    ∙ three (write_expression head i) (codes ", ") (array_name array) (codes ");\n") (joined rest)
+    three (write_expression head i) (codes ", ") (array_name array) (codes ");\n") (joined rest)
     ∙ expression_written i head behind
-    ∙ three front (indent (suc nest)) (named 119 k) (codes " = vload4(") (joined (spell i behind))
-code_written (StoresFour array i e after) l nest front back =
-    let head = front ++ indent (suc nest) ++ codes "vstore4(" in
+    ∙ three front (indent (nest + 1)) (named 119 k) (codes " = vload4(") (joined (spell i behind)))
+
+pub store_four_put : {t u v w x y z new : List ℕ} (l nest : ℕ) (array : Array) (i : Formula) (e : Lanes) (front : List ℕ) → t ≡ front ++ indent (nest + 1) → u ≡ t ++ codes "vstore4(" → v ≡ write_lanes u e → w ≡ v ++ codes ", " → x ≡ write_expression w i → y ≡ x ++ codes ", " → z ≡ y ++ array_name array → new ≡ z ++ codes ");\n"
+    → IsPut l nest (Performs (StoresFour array i e)) front new
+store_four_put l nest array i e front e1 e2 e3 e4 e5 e6 e7 e8 =
+    let head = front ++ indent (nest + 1) ++ codes "vstore4(" in
     let mid = write_lanes head e ++ codes ", " in
-    let rest = spell_code l nest after back in
+    put (StoresFour array i e) l nest front (write_expression mid i ++ codes ", " ++ array_name array ++ codes ");\n") _ (cc) (λ rest.
     let behind = comma ∷ space ∷ array_name array ∷ closes ∷ semicolon ∷ line ∷ rest in
-    code_written after l nest (write_expression mid i ++ codes ", " ++ array_name array ++ codes ");\n") back
-    ∙ three (write_expression mid i) (codes ", ") (array_name array) (codes ");\n") (joined rest)
+    three (write_expression mid i) (codes ", ") (array_name array) (codes ");\n") (joined rest)
     ∙ expression_written i mid behind
     ∙ append_assoc (write_lanes head e) (codes ", ") (joined (spell i behind))
     ∙ lanes_written e head (comma ∷ space ∷ spell i behind)
-    ∙ two front (indent (suc nest)) (codes "vstore4(") (joined (spell_lanes e (comma ∷ space ∷ spell i behind)))
-code_written (Loops s b c body after) l nest front back =
-    code_written after l nest (write_code (suc l) (suc nest) (write_loop l nest front s b c) body) back
-    ∙ code_written body (suc l) (suc nest) (write_loop l nest front s b c) (spell_code l nest after back)
-    ∙ loop_written l nest front s b c (spell_code (suc l) (suc nest) body (spell_code l nest after back))
-code_written (Guards s b body after) l nest front back =
-    code_written after l nest (write_code l (suc nest) (write_guard nest front s b) body) back
-    ∙ code_written body l (suc nest) (write_guard nest front s b) (spell_code l nest after back)
-    ∙ guard_written nest front s b (spell_code l (suc nest) body (spell_code l nest after back))
-code_written (Syncs on_local on_global after) l nest front back =
-    let rest = spell_code l nest after back in
-    code_written after l nest (front ++ indent (suc nest) ++ codes "barrier(" ++ flags_text on_local on_global ++ codes ");\n") back
-    ∙ four front (indent (suc nest)) (codes "barrier(") (flags_text on_local on_global) (codes ");\n") (joined rest)
-    ∙ ap (λ z. front ++ (indent (suc nest) ++ (codes "barrier(" ++ z))) (flags_written on_local on_global (closes ∷ semicolon ∷ line ∷ rest))
+    ∙ two front (indent (nest + 1)) (codes "vstore4(") (joined (spell_lanes e (comma ∷ space ∷ spell i behind))))
+
+pub barrier_put : {t u v new : List ℕ} (l nest : ℕ) (on_local on_global : Bool) (front : List ℕ) → t ≡ front ++ indent (nest + 1) → u ≡ t ++ codes "barrier(" → v ≡ u ++ flags_text on_local on_global → new ≡ v ++ codes ");\n" → IsPut l nest (Performs (Syncs on_local on_global)) front new
+barrier_put l nest on_local on_global front e1 e2 e3 e4 =
+    put (Syncs on_local on_global) l nest front (front ++ indent (nest + 1) ++ codes "barrier(" ++ flags_text on_local on_global ++ codes ");\n") _ (cc) (λ rest.
+    four front (indent (nest + 1)) (codes "barrier(") (flags_text on_local on_global) (codes ");\n") (joined rest)
+    ∙ ap (λ z. front ++ (indent (nest + 1) ++ (codes "barrier(" ++ z))) (flags_written on_local on_global (closes ∷ semicolon ∷ line ∷ rest)))
 
 -- ---- declarations and parameters
 
@@ -318,16 +326,13 @@ kernel_written name k more =
     let locals = write_locals opened k.locals in
     let privates = write_privates locals k.privates in
     let variables = write_variables privates k.variables in
-    let vectors = write_vectors variables k.vectors in
     let code = spell_code 0 0 k.code [] in
     let after_variables = spell_vectors 0 k.vectors code in
     let after_privates = spell_variables 0 k.variables after_variables in
     let after_locals = spell_privates 0 k.privates after_privates in
     let body = spell_locals 0 k.locals after_locals in
     let parameters = first_output 0 (spell_outputs 1 more (spell_sizes 0 k.sizes (spell_body k))) in
-    sym (append-nil (write_code 0 0 vectors k.code))
-    ∙ code_written k.code 0 0 vectors []
-    ∙ ap (λ n. write_vectors variables n ++ joined code) (from_zero k.vectors)
+    ap (λ n. write_vectors variables n ++ joined code) (from_zero k.vectors)
     ∙ vectors_written k.vectors 0 variables code
     ∙ ap (λ n. write_variables privates n ++ joined after_variables) (from_zero k.variables)
     ∙ variables_written k.variables 0 privates after_variables

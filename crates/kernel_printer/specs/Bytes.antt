@@ -1,12 +1,15 @@
--- A kernel's text, each part written behind what stands before it.
+-- A kernel's text, each part written behind what stands before it. Its statements are given by
+-- their spelling.
 use Rattle.std.specs.Prelude.{◌≡◌, ℕ, zero, suc, Bool, true, false, List, [], ◌∷◌, ◌++◌, Option, Some, None, decimal, codes}
 use Rattle.scalar_ops.specs.declared.op.Op.{Op}
 use Rattle.scalar_ops.specs.declared.op.Op.TheVariants.{Add, Mul, Min, Max, And, Or, Xor, Sub, Shl, Shr, Div, Rem, Lt, Eq}
 use Rattle.kernel_tree.specs.declared.tree.Dimension.{Dimension}
 use Rattle.kernel_tree.specs.declared.tree.Dimension.TheVariants.{X, Y}
 use Rattle.kernel_tree.specs.Formula.{IdForm, GlobalId, GroupId, LocalId, GlobalSize, GroupCount, LocalSize, Comparison, Less, Equal, Formula, Number, Variable, LoopVariable, Size, Id, Binary, Choose, Lanes, Vector, Spread, Each}
-use Rattle.kernel_tree.specs.Code.{Start, FromZero, FromGlobalId, FromGroupId, FromLocalId, Stride, ByOne, ByGlobalSize, ByGroupCount, ByLocalSize, Code, End, Assigns, Loads, Stores, AssignsFour, LoadsFour, StoresFour, Loops, Guards, Syncs, Kernel}
-use Rattle.kernel_tree.specs.KernelText.{indent, named, array_name}
+use Rattle.kernel_tree.specs.Code.{Start, FromZero, FromGlobalId, FromGroupId, FromLocalId, Stride, ByOne, ByGlobalSize, ByGroupCount, ByLocalSize, Code, Kernel}
+use Rattle.kernel_tree.specs.Pieces.{joined}
+use Rattle.kernel_tree.specs.KernelText.{Piece, indent, named}
+use Rattle.kernel_spelling.specs.Spelling.{spell_code}
 
 -- an id before its dimension
 abbrev pub id_begins : IdForm → List ℕ
@@ -118,53 +121,12 @@ flags_text true false = codes "CLK_LOCAL_MEM_FENCE"
 flags_text false true = codes "CLK_GLOBAL_MEM_FENCE"
 flags_text false false = []
 
--- the statements within l loops, at this depth in loops and ifs, and the end of their block
-abbrev pub write_code : (loops nest : ℕ) → List ℕ → Code → List ℕ
-write_code l nest front End = write_end nest front
-write_code l nest front (Assigns k e after) =
-    write_code l nest
-    (write_expression (front ++ indent (suc nest) ++ named 118 k ++ codes " = ") e
-    ++ codes ";\n") after
-write_code l nest front (Loads k array i after) =
-    write_code l nest
-    (write_expression
-    (front ++ indent (suc nest) ++ named 118 k ++ codes " = " ++ array_name array
-    ++ codes "[") i
-    ++ codes "];\n") after
-write_code l nest front (Stores array i e after) =
-    write_code l nest
-    (write_expression
-    (write_expression (front ++ indent (suc nest) ++ array_name array ++ codes "[") i
-    ++ codes "] = ") e
-    ++ codes ";\n") after
-write_code l nest front (AssignsFour k e after) =
-    write_code l nest
-    (write_lanes (front ++ indent (suc nest) ++ named 119 k ++ codes " = ") e
-    ++ codes ";\n") after
-write_code l nest front (LoadsFour k array i after) =
-    write_code l nest
-    (write_expression (front ++ indent (suc nest) ++ named 119 k ++ codes " = vload4(") i
-    ++ codes ", " ++ array_name array ++ codes ");\n") after
-write_code l nest front (StoresFour array i e after) =
-    write_code l nest
-    (write_expression
-    (write_lanes (front ++ indent (suc nest) ++ codes "vstore4(") e ++ codes ", ") i
-    ++ codes ", " ++ array_name array ++ codes ");\n") after
-write_code l nest front (Loops start b stride body after) =
-    write_code l nest
-    (write_code (suc l) (suc nest) (write_loop l nest front start b stride) body) after
-write_code l nest front (Guards start b body after) =
-    write_code l nest (write_code l (suc nest) (write_guard nest front start b) body) after
-write_code l nest front (Syncs on_local on_global after) =
-    write_code l nest
-    (front ++ indent (suc nest) ++ codes "barrier(" ++ flags_text on_local on_global
-    ++ codes ");\n") after
-
--- `written` is `front` and then these statements, whatever comes after them in their block
+-- `written` is `front` and then the text of these statements, whatever comes after them
 abbrev pub IsPut : (loops nest : ℕ) → (statements : Code → Code) → (front written : List ℕ) → Type 0
 IsPut loops nest statements front written =
-    (after : Code)
-    → write_code loops nest front (statements after) ≡ write_code loops nest written after
+    (after : Code) (back : List Piece)
+    → front ++ joined (spell_code loops nest (statements after) back)
+    ≡ written ++ joined (spell_code loops nest after back)
 
 -- the first inputs
 abbrev pub write_inputs : List ℕ → ℕ → List ℕ
@@ -233,4 +195,4 @@ write_kernel name k more =
     write_variables
     (write_privates
     (write_locals (parameters ++ codes ")\n{\n") k.locals) k.privates) k.variables in
-    write_code 0 0 (write_vectors variables k.vectors) k.code
+    write_vectors variables k.vectors ++ joined (spell_code 0 0 k.code [])

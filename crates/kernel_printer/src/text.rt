@@ -1,7 +1,7 @@
 //! The one text of a kernel.
 
 ghost use Rattle.std.specs.Prelude.{◌≡◌, ◌++◌, ◌+◌, ◌<◌, ◌^◌, ◌-◌, IfOk, OnOk, List, ℕ, decimal, length, map};
-ghost use Rattle.kernel_tree.specs.Code.{Code, End, Assigns, Loads, Stores, AssignsFour, LoadsFour, StoresFour, Syncs};
+ghost use Rattle.kernel_tree.specs.Code.{Code, End, Performs, Assigns, Loads, Stores, AssignsFour, LoadsFour, StoresFour, Syncs};
 ghost use Rattle.kernel_tree.specs.Kernels.{kernel_of};
 ghost use Rattle.kernel_tree.specs.KernelText.{IsKernelText, lift, indent, named, array_name};
 ghost use Rattle.kernel_tree.specs.Tree.{id_of, comparison_of, formula_of, lanes_of, array_of, start_of, stride_of, before, code_then};
@@ -357,8 +357,8 @@ fn print_assign(
     variable: u32,
     value: &Expr,
 ) -> Result<(), AllocError>
-    ensures { let done = λ (after : Code). Assigns variable (formula_of value.now) after in
-        OnOk result (IsPut place.loops place.nest done text.old.items text.new.items) }
+    ensures { let s = Assigns variable (formula_of value.now) in
+        OnOk result (IsPut place.loops place.nest (Performs s) text.old.items text.new.items) }
 {
     print_indent(text, place.nest + 1)?;
     print_name(text, b'v', variable)?;
@@ -377,8 +377,8 @@ fn print_load(
     index: &Expr,
 ) -> Result<(), AllocError>
     ensures { let i = formula_of index.now in
-        let done = λ (after : Code). Loads variable (array_of array) i after in
-        OnOk result (IsPut place.loops place.nest done text.old.items text.new.items) }
+        let s = Loads variable (array_of array) i in
+        OnOk result (IsPut place.loops place.nest (Performs s) text.old.items text.new.items) }
 {
     print_indent(text, place.nest + 1)?;
     print_name(text, b'v', variable)?;
@@ -400,8 +400,8 @@ fn print_store(
 ) -> Result<(), AllocError>
     ensures { let i = formula_of index.now in
         let e = formula_of value.now in
-        let done = λ (after : Code). Stores (array_of array) i e after in
-        OnOk result (IsPut place.loops place.nest done text.old.items text.new.items) }
+        let s = Stores (array_of array) i e in
+        OnOk result (IsPut place.loops place.nest (Performs s) text.old.items text.new.items) }
 {
     print_indent(text, place.nest + 1)?;
     print_array(text, array)?;
@@ -420,8 +420,8 @@ fn print_assign_four(
     variable: u32,
     value: &Lanes,
 ) -> Result<(), AllocError>
-    ensures { let done = λ (after : Code). AssignsFour variable (lanes_of value.now) after in
-        OnOk result (IsPut place.loops place.nest done text.old.items text.new.items) }
+    ensures { let s = AssignsFour variable (lanes_of value.now) in
+        OnOk result (IsPut place.loops place.nest (Performs s) text.old.items text.new.items) }
 {
     print_indent(text, place.nest + 1)?;
     print_name(text, b'w', variable)?;
@@ -440,8 +440,8 @@ fn print_load_four(
     offset: &Expr,
 ) -> Result<(), AllocError>
     ensures { let i = formula_of offset.now in
-        let done = λ (after : Code). LoadsFour variable (array_of array) i after in
-        OnOk result (IsPut place.loops place.nest done text.old.items text.new.items) }
+        let s = LoadsFour variable (array_of array) i in
+        OnOk result (IsPut place.loops place.nest (Performs s) text.old.items text.new.items) }
 {
     print_indent(text, place.nest + 1)?;
     print_name(text, b'w', variable)?;
@@ -463,8 +463,8 @@ fn print_store_four(
 ) -> Result<(), AllocError>
     ensures { let i = formula_of offset.now in
         let e = lanes_of value.now in
-        let done = λ (after : Code). StoresFour (array_of array) i e after in
-        OnOk result (IsPut place.loops place.nest done text.old.items text.new.items) }
+        let s = StoresFour (array_of array) i e in
+        OnOk result (IsPut place.loops place.nest (Performs s) text.old.items text.new.items) }
 {
     print_indent(text, place.nest + 1)?;
     text.extend_from_slice(b"vstore4(")?;
@@ -496,8 +496,8 @@ fn print_barrier(
     on_local: bool,
     on_global: bool,
 ) -> Result<(), AllocError>
-    ensures { let done = λ (after : Code). Syncs on_local on_global after in
-        OnOk result (IsPut place.loops place.nest done text.old.items text.new.items) }
+    ensures { let s = Syncs on_local on_global in
+        OnOk result (IsPut place.loops place.nest (Performs s) text.old.items text.new.items) }
 {
     print_indent(text, place.nest + 1)?;
     text.extend_from_slice(b"barrier(")?;

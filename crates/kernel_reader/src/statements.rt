@@ -2,11 +2,11 @@
 
 ghost use Rattle.std.specs.Prelude.{◌≡◌, Some};
 ghost use Rattle.kernel_tree.specs.Grammar.{is_readable, is_writable, is_shared};
-ghost use Rattle.kernel_tree.specs.KernelText.{counted, loop_head, guard_head};
+ghost use Rattle.kernel_tree.specs.KernelText.{counted, loop_head, guard_head, stored};
 ghost use Rattle.kernel_tree.specs.Tree.{array_of};
 ghost use Rattle.kernel_spelling.specs.Kinds.{kind_of};
 ghost use Rattle.kernel_spelling.specs.Rows.{word_row, statement_row, source_row, source_of_four_row, loaded_four_row, stored_four_row, next_row, fence_row, after_local_row, storing, loading, loading_four, storing_four};
-ghost use Rattle.kernel_reader.specs.Views.{Gave};
+ghost use Rattle.kernel_reader.specs.Views.{Gave, note_of};
 ghost use Rattle.kernel_reader.specs.Noted.{notes_of};
 
 use crate::form::{
@@ -21,17 +21,27 @@ use kernel_tree::tree::Array;
 use readings::{Owed, give, owe};
 use std::alloc::AllocError;
 
+/// Gives the end of a statement's line, and what follows it, up to the statement's mark.
+fn give_stored<'a>(place: Place, mark: Mark, owed: &mut Debts<'a>) -> Result<bool, AllocError>
+    ensures { let given = stored place.loops place.nest (note_of mark) in
+        Gave result owed.old.items owed.new.items (Some given) }
+{
+    let next = Owed::Form(Form::Next(place));
+    give(owed, &[SEMICOLON, LINE, next, Owed::Mark(mark)])
+}
+
 /// Gives what follows the array that is stored to.
 fn give_store<'a>(place: Place, array: Array, owed: &mut Debts<'a>) -> Result<bool, AllocError>
     ensures { let given = storing place.loops place.nest (array_of array) in
         Gave result owed.old.items owed.new.items (Some given) }
 {
     let value = Owed::Form(Form::Value(false, place.loops, 1));
-    let next = Owed::Form(Form::Next(place));
-    let stored = Owed::Mark(Mark::Store(array));
     let equals = Owed::Token(EQUALS);
-    owe(owed, &[SPACE, value, SEMICOLON, LINE, next, stored])?;
-    give(owed, &[OPEN_INDEX, value, CLOSE_INDEX, SPACE, equals])
+    give_stored(place, Mark::Store(array), owed)?;
+    give(
+        owed,
+        &[OPEN_INDEX, value, CLOSE_INDEX, SPACE, equals, SPACE, value],
+    )
 }
 
 /// Gives what follows the array that a variable is loaded from.
@@ -45,20 +55,8 @@ fn give_load<'a>(
         Gave result owed.old.items owed.new.items (Some given) }
 {
     let index = Owed::Form(Form::Value(false, place.loops, 1));
-    let next = Owed::Form(Form::Next(place));
-    let loaded = Owed::Mark(Mark::Load(variable, array));
-    give(
-        owed,
-        &[
-            OPEN_INDEX,
-            index,
-            CLOSE_INDEX,
-            SEMICOLON,
-            LINE,
-            next,
-            loaded,
-        ],
-    )
+    give_stored(place, Mark::Load(variable, array), owed)?;
+    give(owed, &[OPEN_INDEX, index, CLOSE_INDEX])
 }
 
 /// Gives what follows the word with which four words are loaded.
@@ -280,9 +278,8 @@ impl<'a> Made<'a> {
                 if !is_shared(array) || !self.is_declared(array) {
                     return Ok(false);
                 }
-                let next = Owed::Form(Form::Next(place));
-                let loaded = Owed::Mark(Mark::LoadFour(variable, array));
-                give(owed, &[CLOSES, SEMICOLON, LINE, next, loaded])
+                give_stored(place, Mark::LoadFour(variable, array), owed)?;
+                give(owed, &[CLOSES])
             }
             _ => Ok(false),
         }
@@ -304,9 +301,8 @@ impl<'a> Made<'a> {
                 if !is_shared(array) || !self.may_be_written(array) {
                     return Ok(false);
                 }
-                let next = Owed::Form(Form::Next(place));
-                let stored = Owed::Mark(Mark::StoreFour(array));
-                give(owed, &[CLOSES, SEMICOLON, LINE, next, stored])
+                give_stored(place, Mark::StoreFour(array), owed)?;
+                give(owed, &[CLOSES])
             }
             _ => Ok(false),
         }
@@ -350,9 +346,8 @@ impl<'a> Made<'a> {
             return give(owed, &[Owed::Form(Form::AfterLocal(place))]);
         }
         if piece == GLOBAL_FENCE {
-            let next = Owed::Form(Form::Next(place));
-            let synchronized = Owed::Mark(Mark::Sync(false, true));
-            return give(owed, &[CLOSES, SEMICOLON, LINE, next, synchronized]);
+            give_stored(place, Mark::Sync(false, true), owed)?;
+            return give(owed, &[CLOSES]);
         }
         Ok(false)
     }
@@ -366,27 +361,12 @@ impl<'a> Made<'a> {
         ensures { let p = piece.entry.now in
             Gave result owed.old.items owed.new.items (after_local_row place.loops place.nest p) }
     {
-        let next = Owed::Form(Form::Next(place));
         if piece == CLOSE {
-            let synchronized = Owed::Mark(Mark::Sync(true, false));
-            return give(owed, &[SEMICOLON, LINE, next, synchronized]);
+            return give_stored(place, Mark::Sync(true, false), owed);
         }
         if piece == BLANK {
-            let global = Owed::Token(GLOBAL_FENCE);
-            let synchronized = Owed::Mark(Mark::Sync(true, true));
-            return give(
-                owed,
-                &[
-                    BAR,
-                    SPACE,
-                    global,
-                    CLOSES,
-                    SEMICOLON,
-                    LINE,
-                    next,
-                    synchronized,
-                ],
-            );
+            give_stored(place, Mark::Sync(true, true), owed)?;
+            return give(owed, &[BAR, SPACE, Owed::Token(GLOBAL_FENCE), CLOSES]);
         }
         Ok(false)
     }

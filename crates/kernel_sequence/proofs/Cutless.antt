@@ -1,24 +1,18 @@
 -- Where no binder is around a `then`, none is left in the kernels' terms; and a
 -- term without one is cut nowhere.
-use Rattle.std.proofs.Common.{◌≡◌, ℕ, Bool, true, false, ◌||◌, List, [], ◌∷◌, ◌++◌, Option, None, Some, refl, sym, ap, ◌∙◌, arith}
+use Rattle.std.proofs.Common.{◌≡◌, ℕ, Bool, true, false, ◌||◌, List, [], Option, None, Some, refl, sym, ap, ◌∙◌, arith}
+use Rattle.std.proofs.lemmas.Bool.{or_parts, or_from}
 use Rattle.lift_tree.specs.declared.term.UnaryForm.TheVariants.{Then}
 use Rattle.lift_tree.specs.Annotations.{Annotates, Annotation, Leaf, One, Two, Three}
 use Rattle.lift_tree.specs.Lists.{Every}
 use Rattle.lift_tree.specs.Tree.{Tree, Variable, Number, Input, Unary, Binary, Select, Let, Map, Fold}
 use Rattle.lift_tree.specs.Typing.{Declared}
+use Rattle.lift_tree.proofs.EveryAt.{every_more}
 use Rattle.lowered_tree.specs.Forms.{has_then}
 use Rattle.kernel_sequence.specs.Bound.{first_bound, first_of, from_child}
 use Rattle.kernel_sequence.specs.Cut.{Cutting, Part, cut_off, cuts, kernel_parts, part}
 
 -- ---- tests
-either_false : (a b : Bool) → (a || b) ≡ false → (a ≡ false) × (b ≡ false)
-either_false false b e = (refl, e)
-either_false true b e = absurd (cc)
-
-both_false : (a b : Bool) → a ≡ false → b ≡ false → (a || b) ≡ false
-both_false false b e f = f
-both_false true b e f = absurd (cc)
-
 child_none : (i : ℕ) (o : Option (List ℕ)) → from_child i o ≡ None → o ≡ None
 child_none i (Some p) e = absurd (cc)
 child_none i None e = refl
@@ -40,31 +34,27 @@ under_binder (Unary Then t) e = absurd (cc)
 under_binder (Unary f t) e = under_binder t (child_none 0 (first_bound true t) e)
 under_binder (Binary f t u) e =
     let h = first_none 0 (first_bound true t) (from_child 1 (first_bound true u)) e in
-    both_false (has_then t) (has_then u) (under_binder t h.0) (under_binder u (child_none 1 (first_bound true u) h.1))
+    or_from (has_then t) (has_then u) (under_binder t h.0) (under_binder u (child_none 1 (first_bound true u) h.1))
 under_binder (Select t u v) e =
     let h = first_none 0 (first_bound true t) (first_of (from_child 1 (first_bound true u)) (from_child 2 (first_bound true v))) e in
     let k = first_none 1 (first_bound true u) (from_child 2 (first_bound true v)) h.1 in
-    both_false (has_then t || has_then u) (has_then v) (both_false (has_then t) (has_then u) (under_binder t h.0) (under_binder u k.0))
+    or_from (has_then t || has_then u) (has_then v) (or_from (has_then t) (has_then u) (under_binder t h.0) (under_binder u k.0))
     (under_binder v (child_none 2 (first_bound true v) k.1))
 under_binder (Let v b) e =
     let h = first_none 0 (first_bound true v) (from_child 1 (first_bound true b)) e in
-    both_false (has_then v) (has_then b) (under_binder v h.0) (under_binder b (child_none 1 (first_bound true b) h.1))
+    or_from (has_then v) (has_then b) (under_binder v h.0) (under_binder b (child_none 1 (first_bound true b) h.1))
 under_binder (Map o xs b) e =
     let h = first_none 0 (first_bound true xs) (from_child 1 (first_bound true b)) e in
-    both_false (has_then xs) (has_then b) (under_binder xs h.0) (under_binder b (child_none 1 (first_bound true b) h.1))
+    or_from (has_then xs) (has_then b) (under_binder xs h.0) (under_binder b (child_none 1 (first_bound true b) h.1))
 under_binder (Fold o xs s b) e =
     let h = first_none 0 (first_bound true xs) (first_of (from_child 1 (first_bound true s)) (from_child 2 (first_bound true b))) e in
     let k = first_none 1 (first_bound true s) (from_child 2 (first_bound true b)) h.1 in
-    both_false (has_then xs || has_then s) (has_then b) (both_false (has_then xs) (has_then s) (under_binder xs h.0) (under_binder s k.0))
+    or_from (has_then xs || has_then s) (has_then b) (or_from (has_then xs) (has_then s) (under_binder xs h.0) (under_binder s k.0))
     (under_binder b (child_none 2 (first_bound true b) k.1))
 
 -- ---- parts
 abbrev pub IsUncut : Part → Type 0
 IsUncut p = has_then p.tree ≡ false
-
-pub every_more : {A : Type 0} (P : A → Type 0) (xs : List A) (x : A) → Every P xs → P x → Every P (xs ++ x ∷ [])
-every_more P [] x h k = (k, tt)
-every_more P (y ∷ xs) x h k = (h.0, every_more P xs x h.1 k)
 
 module _ (d : Declared) (i : ℕ) where
   walk : (made : List Part) (t : Tree) (n : Annotation) → Annotates d [] t n → first_bound false t ≡ None → Every IsUncut made
@@ -85,7 +75,7 @@ module _ (d : Declared) (i : ℕ) where
       let q = cut_off i c.made u m in
       let r = walk made t n y.0 p.0 h in
       let s = walk c.made u m y.1 (child_none 1 (first_bound false u) p.1) r.0 in
-      (s.0, both_false (has_then c.left.tree) (has_then q.left.tree) r.1 s.1)
+      (s.0, or_from (has_then c.left.tree) (has_then q.left.tree) r.1 s.1)
   walk made (Select t u v) (Three a n m k) y e h =
       let p = first_none 0 (first_bound false t) (first_of (from_child 1 (first_bound false u)) (from_child 2 (first_bound false v))) e in
       let o = first_none 1 (first_bound false u) (from_child 2 (first_bound false v)) p.1 in
@@ -95,17 +85,17 @@ module _ (d : Declared) (i : ℕ) where
       let r = walk made t n y.0 p.0 h in
       let s = walk c.made u m y.1 o.0 r.0 in
       let x = walk q.made v k y.2 (child_none 2 (first_bound false v) o.1) s.0 in
-      (x.0, both_false (has_then c.left.tree || has_then q.left.tree) (has_then z.left.tree) (both_false (has_then c.left.tree) (has_then q.left.tree) r.1 s.1) x.1)
+      (x.0, or_from (has_then c.left.tree || has_then q.left.tree) (has_then z.left.tree) (or_from (has_then c.left.tree) (has_then q.left.tree) r.1 s.1) x.1)
   walk made (Let v b) (Two a n m) y e h =
       let p = first_none 0 (first_bound false v) (from_child 1 (first_bound true b)) e in
       let c = cut_off i made v n in
       let r = walk made v n y.0 p.0 h in
-      (r.0, both_false (has_then c.left.tree) (has_then b) r.1 (under_binder b (child_none 1 (first_bound true b) p.1)))
+      (r.0, or_from (has_then c.left.tree) (has_then b) r.1 (under_binder b (child_none 1 (first_bound true b) p.1)))
   walk made (Map o xs b) (Two a n m) y e h =
       let p = first_none 0 (first_bound false xs) (from_child 1 (first_bound true b)) e in
       let c = cut_off i made xs n in
       let r = walk made xs n y.2 p.0 h in
-      (r.0, both_false (has_then c.left.tree) (has_then b) r.1 (under_binder b (child_none 1 (first_bound true b) p.1)))
+      (r.0, or_from (has_then c.left.tree) (has_then b) r.1 (under_binder b (child_none 1 (first_bound true b) p.1)))
   walk made (Fold o xs s b) (Three a n m k) y e h =
       let p = first_none 0 (first_bound false xs) (first_of (from_child 1 (first_bound false s)) (from_child 2 (first_bound true b))) e in
       let z = first_none 1 (first_bound false s) (from_child 2 (first_bound true b)) p.1 in
@@ -113,7 +103,7 @@ module _ (d : Declared) (i : ℕ) where
       let q = cut_off i c.made s m in
       let r = walk made xs n y.2 p.0 h in
       let x = walk c.made s m y.4 z.0 r.0 in
-      (x.0, both_false (has_then c.left.tree || has_then q.left.tree) (has_then b) (both_false (has_then c.left.tree) (has_then q.left.tree) r.1 x.1) (under_binder b (child_none 2 (first_bound true b) z.1)))
+      (x.0, or_from (has_then c.left.tree || has_then q.left.tree) (has_then b) (or_from (has_then c.left.tree) (has_then q.left.tree) r.1 x.1) (under_binder b (child_none 2 (first_bound true b) z.1)))
   walk made _ _ y e h = absurd y
 
   pub parts_are_uncut : (t : Tree) (n : Annotation) → Annotates d [] t n → first_bound false t ≡ None → Every IsUncut (kernel_parts i t n)
@@ -127,22 +117,22 @@ pub no_cuts : (t : Tree) (n : Annotation) → has_then t ≡ false → cuts t n 
 no_cuts (Unary Then t) (One a n) e = absurd (cc)
 no_cuts (Unary f t) (One a n) e = no_cuts t n e
 no_cuts (Binary f t u) (Two a n m) e =
-    let h = either_false (has_then t) (has_then u) e in
+    let h = or_parts (has_then t) (has_then u) e in
     let r = no_cuts t n h.0 in
     let q = no_cuts u m h.1 in
     omega (arith, r, q)
 no_cuts (Select t u v) (Three a n m k) e =
-    let h = either_false (has_then t || has_then u) (has_then v) e in
-    let g = either_false (has_then t) (has_then u) h.0 in
+    let h = or_parts (has_then t || has_then u) (has_then v) e in
+    let g = or_parts (has_then t) (has_then u) h.0 in
     let r = no_cuts t n g.0 in
     let q = no_cuts u m g.1 in
     let o = no_cuts v k h.1 in
     omega (arith, r, q, o)
-no_cuts (Let v b) (Two a n m) e = let h = either_false (has_then v) (has_then b) e in no_cuts v n h.0
-no_cuts (Map o xs b) (Two a n m) e = let h = either_false (has_then xs) (has_then b) e in no_cuts xs n h.0
+no_cuts (Let v b) (Two a n m) e = let h = or_parts (has_then v) (has_then b) e in no_cuts v n h.0
+no_cuts (Map o xs b) (Two a n m) e = let h = or_parts (has_then xs) (has_then b) e in no_cuts xs n h.0
 no_cuts (Fold o xs s b) (Three a n m k) e =
-    let h = either_false (has_then xs || has_then s) (has_then b) e in
-    let g = either_false (has_then xs) (has_then s) h.0 in
+    let h = or_parts (has_then xs || has_then s) (has_then b) e in
+    let g = or_parts (has_then xs) (has_then s) h.0 in
     let r = no_cuts xs n g.0 in
     let q = no_cuts s m g.1 in
     omega (arith, r, q)

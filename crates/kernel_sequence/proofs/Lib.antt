@@ -7,7 +7,6 @@ pub mod Sound
 pub mod Scalars
 pub mod Count
 pub mod Cutless
-pub mod Lengths
 pub mod Fits
 pub mod Whole
 pub mod Made

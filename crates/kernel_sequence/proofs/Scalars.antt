@@ -1,10 +1,9 @@
 -- Where no map's or fold's binder is around, an array has few scalars: it is an input, or some form
 -- made it within the limits.
-use Rattle.std.proofs.Common.{◌≡◌, ℕ, zero, suc, List, [], ◌∷◌, Some, sym, subst}
-use Rattle.std.specs.Prelude.{slice_get}
+use Rattle.std.proofs.Common.{◌≡◌, List, ◌∷◌, sym, subst, inl, inr}
+use Rattle.std.specs.Prelude.{◌⊎◌}
 use Rattle.size_arith.specs.declared.poly.Monomial.{Monomial}
 use Rattle.lift_tree.specs.declared.layout.Layout as layout
-use Rattle.lift_tree.specs.declared.layout.Layout.TheVariants.{Join, Transpose, Split, Reverse, Stride}
 use Rattle.lift_tree.specs.declared.term.UnaryForm.{UnaryForm}
 use Rattle.lift_tree.specs.declared.term.UnaryForm.TheVariants as unary
 use Rattle.lift_tree.specs.declared.term.BinaryForm.{BinaryForm}
@@ -14,13 +13,10 @@ use Rattle.lift_tree.specs.Tree as tree
 use Rattle.lift_tree.specs.Tree.{Tree}
 use Rattle.lift_tree.specs.Types.{PlainTy, U32, PairOf, ArrayOf}
 use Rattle.lift_tree.specs.Limits.{HasFewScalars, LayoutFits, NodesFit, OuterFits, UnaryFits}
-use Rattle.lift_tree.specs.Typing.{BinaryRow, Declared, LayoutRow, UnaryRow}
+use Rattle.lift_tree.specs.Typing.{BinaryRow, Declared, UnaryRow}
 use Rattle.lift_tree.specs.Annotations.{Annotates, Annotation, Leaf, One, Two, Three, type_in}
-
-pub every_at : {A : Type 0} (P : A → Type 0) (xs : List A) (i : ℕ) (x : A) → Every P xs → slice_get xs i ≡ Some x → P x
-every_at P [] i x h e = absurd (cc)
-every_at P (y ∷ xs) zero x h e = let c : y ≡ x = cc in subst P c h.0
-every_at P (y ∷ xs) (suc i) x h e = every_at P xs i x h.1 e
+use Rattle.lift_tree.proofs.EveryAt.{every_at}
+use Rattle.lift_tree.proofs.Layouts.{FormsAnew, layout_cases}
 
 module _ (d : Declared) (inputs : Every (HasFewScalars d.names) d.inputs) where
   abbrev Few : PlainTy → Type 0
@@ -32,19 +28,16 @@ module _ (d : Declared) (inputs : Every (HasFewScalars d.names) d.inputs) where
   outer : (a : PlainTy) (x : PlainTy) (n : List Monomial) → a ≡ ArrayOf x n → OuterFits d.names a → Few a
   outer a x n e h = subst Few (sym e) (subst (OuterFits d.names) e h).scalars
 
-  of_layout : (l : layout.Layout) (b a : PlainTy) → LayoutRow d.names l b a → LayoutFits d.names l b → Few b → Few a
-  of_layout Join b a r u h = subst Few (sym r.4) (subst (LayoutFits d.names Join) r.3 u).1.scalars
-  of_layout Transpose b a r u h = subst Few (sym r.4) (subst (LayoutFits d.names Transpose) r.3 u).1.scalars
-  of_layout (Split fs) b a r u h = subst Few (sym r.4) (subst (LayoutFits d.names (Split fs)) r.2 u).2.scalars
-  of_layout Reverse b a r u h = subst Few (sym r.3) (subst Few r.2 h)
-  of_layout (Stride fs) b a r u h = subst Few (sym r.4) (subst Few r.2 h)
+  of_layout : (l : layout.Layout) (b a : PlainTy) → (b ≡ a) ⊎ FormsAnew d.names l b a → LayoutFits d.names l b → Few b → Few a
+  of_layout l b a (inl e) u h = subst Few e h
+  of_layout l b a (inr r) u h = subst Few (sym r.is) (r.fits u).scalars
 
   of_unary : (f : UnaryForm) (b a : PlainTy) → UnaryRow d.names f b a → UnaryFits d.names f b → Few b → Few a
   of_unary (unary.Div k) b a r u h = number a r.2
   of_unary (unary.Rem k) b a r u h = number a r.2
   of_unary unary.First b a r u h = (subst Few r.1 h).0
   of_unary unary.Second b a r u h = (subst Few r.1 h).1
-  of_unary (unary.Layout l) b a r u h = of_layout l b a r u h
+  of_unary (unary.Layout l) b a r u h = of_layout l b a (layout_cases d.names l b a r) u h
   of_unary (unary.Slide s t) b a r u h = subst Few (sym r.6) (subst (UnaryFits d.names (unary.Slide s t)) r.2 u).3.scalars
   of_unary (unary.Pad l k) b a r u h = subst Few (sym r.3) (subst (UnaryFits d.names (unary.Pad l k)) r.2 u).2.scalars
   of_unary unary.ToLocal b a r u h = subst Few r h

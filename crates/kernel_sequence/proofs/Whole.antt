@@ -11,6 +11,7 @@ use Rattle.lift_tree.specs.Lists.{Every}
 use Rattle.lift_tree.specs.Tree.{Tree, height, tree_of}
 use Rattle.lift_tree.specs.Types.{PlainTy, IsOutput, ty_of}
 use Rattle.lift_tree.specs.Typing.{Declared, IsDeclared}
+use Rattle.lift_tree.proofs.EveryAt.{every_at, every_more}
 use Rattle.lowered_tree.specs.declared.lowered.Lowered.{Lowered}
 use Rattle.lowered_tree.specs.Forms.{has_then}
 use Rattle.lowered_tree.specs.Named.{declared_of}
@@ -23,9 +24,8 @@ use Rattle.kernel_sequence.specs.Parts.{cutting_of, part_of, term_part}
 use Rattle.kernel_sequence.specs.Sequence.{AreKernels, AreKernelsOf, AreSoundParts, declared_behind, parts_of, scratch_of}
 use Rattle.kernel_sequence.specs.Laws.{KernelsAreSound, KernelsHaveNoCut}
 use Rattle.kernel_sequence.proofs.Count.{parts_count}
-use Rattle.kernel_sequence.proofs.Cutless.{IsUncut, every_more, no_cuts, parts_are_uncut}
+use Rattle.kernel_sequence.proofs.Cutless.{IsUncut, no_cuts, parts_are_uncut}
 use Rattle.kernel_sequence.proofs.Fits.{formed_and_fit}
-use Rattle.kernel_sequence.proofs.Scalars.{every_at}
 use Rattle.kernel_sequence.proofs.Sound.{ArePartsBehind, IsKernelPart, kernels_more, scratch_append, scratch_length, walk, with_arrays}
 
 -- what may be named is declared, and passes no limit

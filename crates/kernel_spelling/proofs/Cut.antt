@@ -4,7 +4,7 @@ use Rattle.std.specs.Prelude.{◌&&◌, ◌||◌, ◌==◌, decimal, codes, nat_
 use Rattle.std.specs.List.{prefix_len}
 use Rattle.std.specs.Char.{is_ascii_digit, is_ascii_alphabetic}
 use Rattle.std.proofs.Math.Seq.{take-append_seam, drop-append_seam}
-use Rattle.std.proofs.lemmas.Bool.{and_parts, and_from, le-leb, eqb-true}
+use Rattle.std.proofs.lemmas.Bool.{and_parts, and_from, le-leb, eqb-true, or_right, or_left}
 use Rattle.std.proofs.lemmas.Fmt.{decimal_is_IsNumeral}
 use Rattle.std.specs.Str.Parse.{AllDigits}
 use Rattle.std.proofs.lemmas.Str.Parse.{IsDigitsTest, tells_digits}
@@ -85,13 +85,6 @@ pub indented : (l : ℕ) (ps : List Piece) → NoBlank ps → Stand ps → Stand
 indented l ps apart stood = subst (λ n. Stand (replicate n 32 ∷ ps)) (let w : suc (suc (2 * l)) ≡ 2 * suc l = omega arith in w) (blanks (suc (2 * l)) ps apart stood)
 
 -- ---- names and literals
-
-or_right : (x y : Bool) → y ≡ true → (x || y) ≡ true
-or_right true y e = refl
-or_right false y e = e
-
-or_left : (x y : Bool) → x ≡ true → (x || y) ≡ true
-or_left x y e = ap (λ v. v || y) e
 
 digit_word : (b : ℕ) → 48 ≤ b → b ≤ 57 → is_word b ≡ true
 digit_word b low high = or_left (is_ascii_alphabetic b || is_ascii_digit b) (b == 95) (or_right (is_ascii_alphabetic b) (is_ascii_digit b) (and_from (nat_le 48 b) (nat_le b 57) (le-leb 48 b low) (le-leb b 57 high)))

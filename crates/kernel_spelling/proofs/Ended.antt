@@ -1,14 +1,12 @@
--- A kernel's pieces end with a line's end, and so what stands behind them is cut by itself.
-use Rattle.std.proofs.Common.{◌≡◌, ℕ, zero, suc, ◌+◌, ◌-◌, ◌<◌, List, [], ◌∷◌, ◌++◌, Bool, true, false, cond, Option, Some, None, length, drop, length-append, length-drop, append_assoc, refl, sym, ap, ◌∙◌, subst, arith, inl, inr}
-use Rattle.std.specs.Prelude.{◌⊎◌}
+-- Pieces that end with a line's end: what stands behind them is cut by itself.
+use Rattle.std.proofs.Common.{◌≡◌, ℕ, suc, ◌+◌, ◌-◌, ◌<◌, List, [], ◌∷◌, ◌++◌, Bool, false, cond, length, drop, length-append, length-drop, append_assoc, refl, sym, ap, ◌∙◌, subst, arith}
 use Rattle.std.specs.List.{prefix_len}
 use Rattle.scalar_ops.specs.declared.op.Op.{Op}
 use Rattle.scalar_ops.specs.declared.op.Op.TheVariants.{Add, Mul, Min, Max, And, Or, Xor, Sub, Shl, Shr, Div, Rem, Lt, Eq}
 use Rattle.kernel_tree.specs.Pieces.{ArePieces, is_blank, is_word, joined, piece_len}
 use Rattle.kernel_tree.specs.Formula.{Comparison, Less, Equal, Formula, Number, Variable, LoopVariable, Size, Id, Binary, Choose, Lanes, Vector, Spread, Each}
-use Rattle.kernel_tree.specs.Code.{Start, FromZero, FromGlobalId, FromGroupId, FromLocalId, Stride, ByOne, ByGlobalSize, ByGroupCount, ByLocalSize, Code, End, Assigns, Loads, Stores, AssignsFour, LoadsFour, StoresFour, Loops, Guards, Syncs, Kernel}
 use Rattle.kernel_tree.specs.KernelText.{Piece, line}
-use Rattle.kernel_spelling.specs.Spelling.{spell_sign, spell_comparison, spell, spell_lanes, spell_start, spell_stride, spell_flags, spell_code, spell_locals, spell_privates, spell_variables, spell_vectors, spell_sizes, spell_outputs, spell_inputs, spell_launching, spell_body, spell_kernel}
+use Rattle.kernel_spelling.specs.Spelling.{spell_sign, spell_comparison, spell, spell_lanes}
 use Rattle.kernel_spelling.proofs.Cut.{Stand, front, joined_pieces, single}
 
 -- the last piece is a line's end
@@ -16,22 +14,22 @@ pub data Ends : List Piece → Type 0 where
   last : Ends (line ∷ [])
   more : {p : Piece} → {ps : List Piece} → Ends ps → Ends (p ∷ ps)
 
-on2 : {p q : Piece} {ps : List Piece} → Ends ps → Ends (p ∷ q ∷ ps)
+pub on2 : {p q : Piece} {ps : List Piece} → Ends ps → Ends (p ∷ q ∷ ps)
 on2 h = more (more h)
 
-on3 : {p q r : Piece} {ps : List Piece} → Ends ps → Ends (p ∷ q ∷ r ∷ ps)
+pub on3 : {p q r : Piece} {ps : List Piece} → Ends ps → Ends (p ∷ q ∷ r ∷ ps)
 on3 h = more (on2 h)
 
-on4 : {p q r s : Piece} {ps : List Piece} → Ends ps → Ends (p ∷ q ∷ r ∷ s ∷ ps)
+pub on4 : {p q r s : Piece} {ps : List Piece} → Ends ps → Ends (p ∷ q ∷ r ∷ s ∷ ps)
 on4 h = more (on3 h)
 
-on5 : {p q r s t : Piece} {ps : List Piece} → Ends ps → Ends (p ∷ q ∷ r ∷ s ∷ t ∷ ps)
+pub on5 : {p q r s t : Piece} {ps : List Piece} → Ends ps → Ends (p ∷ q ∷ r ∷ s ∷ t ∷ ps)
 on5 h = more (on4 h)
 
-on6 : {p q r s t u : Piece} {ps : List Piece} → Ends ps → Ends (p ∷ q ∷ r ∷ s ∷ t ∷ u ∷ ps)
+pub on6 : {p q r s t u : Piece} {ps : List Piece} → Ends ps → Ends (p ∷ q ∷ r ∷ s ∷ t ∷ u ∷ ps)
 on6 h = more (on5 h)
 
-on7 : {p q r s t u v : Piece} {ps : List Piece} → Ends ps → Ends (p ∷ q ∷ r ∷ s ∷ t ∷ u ∷ v ∷ ps)
+pub on7 : {p q r s t u v : Piece} {ps : List Piece} → Ends ps → Ends (p ∷ q ∷ r ∷ s ∷ t ∷ u ∷ v ∷ ps)
 on7 h = more (on6 h)
 
 -- ---- expressions
@@ -56,7 +54,7 @@ ends_comparison : (c : Comparison) (back : List Piece) → Ends back → Ends (s
 ends_comparison Less back h = more h
 ends_comparison Equal back h = on2 h
 
-ends_spell : (e : Formula) (back : List Piece) → Ends back → Ends (spell e back)
+pub ends_spell : (e : Formula) (back : List Piece) → Ends back → Ends (spell e back)
 ends_spell (Number v) back h = more h
 ends_spell (Variable k) back h = more h
 ends_spell (LoopVariable k) back h = more h
@@ -68,97 +66,12 @@ ends_spell (Binary op a b) back h = more (ends_spell a _ (more (ends_sign op _ (
 ends_spell (Choose c a b x y) back h =
     more (ends_spell a _ (more (ends_comparison c _ (more (ends_spell b _ (on3 (ends_spell x _ (on3 (ends_spell y _ (more h))))))))))
 
-ends_lanes : (e : Lanes) (back : List Piece) → Ends back → Ends (spell_lanes e back)
+pub ends_lanes : (e : Lanes) (back : List Piece) → Ends back → Ends (spell_lanes e back)
 ends_lanes (Vector k) back h = more h
 ends_lanes (Spread e) back h = on4 (ends_spell e _ (more h))
 ends_lanes (Each Min a b) back h = on2 (ends_lanes a _ (on2 (ends_lanes b _ (more h))))
 ends_lanes (Each Max a b) back h = on2 (ends_lanes a _ (on2 (ends_lanes b _ (more h))))
 ends_lanes (Each op a b) back h = more (ends_lanes a _ (more (ends_sign op _ (more (ends_lanes b _ (more h))))))
-
--- ---- statements
-
-ends_start : (s : Start) (back : List Piece) → Ends back → Ends (spell_start s back)
-ends_start FromZero back h = more h
-ends_start (FromGlobalId d) back h = on7 h
-ends_start (FromGroupId d) back h = on7 h
-ends_start (FromLocalId d) back h = on7 h
-
-ends_stride : (s : Stride) (back : List Piece) → Ends back → Ends (spell_stride s back)
-ends_stride ByOne back h = more h
-ends_stride (ByGlobalSize d) back h = on7 h
-ends_stride (ByGroupCount d) back h = on7 h
-ends_stride (ByLocalSize d) back h = on7 h
-
-ends_flags : (on_local on_global : Bool) (back : List Piece) → Ends back → Ends (spell_flags on_local on_global back)
-ends_flags true true back h = on5 h
-ends_flags true false back h = more h
-ends_flags false true back h = more h
-ends_flags false false back h = h
-
--- nothing is behind, or what ends so
-abbrev After : List Piece → Type 0
-After back = (back ≡ []) ⊎ Ends back
-
-at_line : (back : List Piece) → After back → Ends (line ∷ back)
-at_line back (inl e) = subst (λ z. Ends (line ∷ z)) (sym e) last
-at_line back (inr h) = more h
-
-pub ends_code : (l nest : ℕ) (c : Code) (back : List Piece) → After back → Ends (spell_code l nest c back)
-ends_code l zero End back a = more (at_line back a)
-ends_code l (suc nest) End back a = on2 (at_line back a)
-ends_code l nest (Assigns k e after) back a = more (on4 (ends_spell e _ (on2 (ends_code l nest after back a))))
-ends_code l nest (Loads k array i after) back a = more (on4 (on2 (ends_spell i _ (on3 (ends_code l nest after back a)))))
-ends_code l nest (Stores array i e after) back a = on3 (ends_spell i _ (on4 (ends_spell e _ (on2 (ends_code l nest after back a)))))
-ends_code l nest (AssignsFour k e after) back a = more (on4 (ends_lanes e _ (on2 (ends_code l nest after back a))))
-ends_code l nest (LoadsFour k array i after) back a = more (on4 (on2 (ends_spell i _ (on6 (ends_code l nest after back a)))))
-ends_code l nest (StoresFour array i e after) back a = on3 (ends_lanes e _ (on2 (ends_spell i _ (on6 (ends_code l nest after back a)))))
-ends_code l nest (Loops s b c body after) back a =
-    more (on4 (on5 (ends_start s _ (on6 (ends_spell b _ (on7 (ends_stride c _ (on4 (ends_code (suc l) (suc nest) body _ (inr (ends_code l nest after back a)))))))))))
-ends_code l nest (Guards s b body after) back a =
-    more (on3 (ends_start s _ (on3 (ends_spell b _ (on4 (ends_code l (suc nest) body _ (inr (ends_code l nest after back a))))))))
-ends_code l nest (Syncs on_local on_global after) back a = on3 (ends_flags on_local on_global _ (on3 (ends_code l nest after back a)))
-
--- ---- declarations and parameters
-
-ends_locals : (i : ℕ) (ns : List ℕ) (back : List Piece) → Ends back → Ends (spell_locals i ns back)
-ends_locals i [] back h = h
-ends_locals i (n ∷ ns) back h = on4 (on7 (ends_locals (suc i) ns back h))
-
-ends_privates : (i : ℕ) (ns : List ℕ) (back : List Piece) → Ends back → Ends (spell_privates i ns back)
-ends_privates i [] back h = h
-ends_privates i (n ∷ ns) back h = on2 (on7 (ends_privates (suc i) ns back h))
-
-ends_variables : (i many : ℕ) (back : List Piece) → Ends back → Ends (spell_variables i many back)
-ends_variables i zero back h = h
-ends_variables i (suc many) back h = on6 (ends_variables (suc i) many back h)
-
-ends_vectors : (i many : ℕ) (back : List Piece) → Ends back → Ends (spell_vectors i many back)
-ends_vectors i zero back h = h
-ends_vectors i (suc many) back h = on6 (ends_vectors (suc i) many back h)
-
-ends_sizes : (i many : ℕ) (back : List Piece) → Ends back → Ends (spell_sizes i many back)
-ends_sizes i zero back h = more h
-ends_sizes i (suc many) back h = on7 (ends_sizes (suc i) many back h)
-
-ends_outputs : (i many : ℕ) (back : List Piece) → Ends back → Ends (spell_outputs i many back)
-ends_outputs i zero back h = h
-ends_outputs i (suc many) back h = more (on7 (ends_outputs (suc i) many back h))
-
-ends_inputs : (i many : ℕ) (back : List Piece) → Ends back → Ends (spell_inputs i many back)
-ends_inputs i zero back h = h
-ends_inputs i (suc many) back h = on3 (on7 (ends_inputs (suc i) many back h))
-
-ends_launching : (local : Option (ℕ × ℕ)) (back : List Piece) → Ends back → Ends (spell_launching local back)
-ends_launching None back h = more h
-ends_launching (Some size) back h = on3 (on7 (on7 h))
-
-ends_body : (k : Kernel) → Ends (spell_body k)
-ends_body k =
-    on3 (ends_locals 0 k.locals _ (ends_privates 0 k.privates _ (ends_variables 0 k.variables _ (ends_vectors 0 k.vectors _ (ends_code 0 0 k.code [] (inl refl))))))
-
-pub kernel_ends : (name : Piece) (k : Kernel) (many : ℕ) → Ends (spell_kernel name k many)
-kernel_ends name k many =
-    on2 (ends_launching k.local _ (on3 (ends_inputs 0 k.inputs _ (on6 (ends_outputs 1 many _ (ends_sizes 0 k.sizes _ (ends_body k)))))))
 
 -- ---- what stands behind is cut by itself
 

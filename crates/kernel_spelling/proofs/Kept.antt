@@ -11,8 +11,8 @@ use Rattle.scalar_ops.specs.declared.op.Op.{Op}
 use Rattle.scalar_ops.specs.declared.op.Op.TheVariants.{Min, Max, Shl, Shr}
 use Rattle.kernel_tree.specs.declared.tree.Dimension.{Dimension}
 use Rattle.kernel_tree.specs.Formula.{IdForm, GlobalId, GroupId, LocalId, GlobalSize, GroupCount, LocalSize, Comparison, Less, Equal, Formula, Number, Id, Binary, Choose, Lanes, Vector, Spread, Each}
-use Rattle.kernel_tree.specs.Code.{Array, Input, Output, Local, Private, Start, FromZero, Stride, ByOne, Code, End, Assigns, Loads, Stores, AssignsFour, LoadsFour, StoresFour, Loops, Guards, Syncs, Kernel}
-use Rattle.kernel_tree.specs.Grammar.{deepest, height, lanes_height, is_operator, is_constant, names_declared, is_expression, names_declared_in_lanes, are_lanes, is_readable, is_writable, is_shared, has_statement, are_statements, are_lengths, largest_group}
+use Rattle.kernel_tree.specs.Code.{Array, Input, Output, Local, Private, Statement as Performed, Start, FromZero, Stride, ByOne, Code, End, Performs, Assigns, Loads, Stores, AssignsFour, LoadsFour, StoresFour, Loops, Guards, Syncs, Kernel}
+use Rattle.kernel_tree.specs.Grammar.{deepest, height, lanes_height, is_operator, is_constant, names_declared, is_expression, names_declared_in_lanes, are_lanes, is_readable, is_writable, is_shared, has_statement, is_statement, are_statements, are_lengths, largest_group}
 use Rattle.kernel_tree.specs.KernelText.{Piece, space, line, comma, semicolon, star, equals, less, plus, bar, greater, question, colon, opens, closes, index_begins, index_ends, block_begins, block_ends, global, local, const, uint, uint4, loads_four, stores_four, for, whether, barrier, local_flag, global_flag, one, dimension, void, attribute, group_size, id_name, indent, array_name, size, variable, vector, loop_variable, literal, zero_literal, one_literal, number_limit, Part, Launching, GroupWidth, GroupHeight, Parameter, Pointer, NewInput, NewOutput, AfterOutput, OutputOrSize, NewSize, AfterSize, Locals, NewLocal, LocalLength, Privates, Declared, PrivateLength, Variables, NewVariable, Vectors, NewVector, Statement, Next, Source, SourceOfFour, LoadedFour, StoredFour, Fence, AfterLocal, Beginning, BeginningId, BeginningAlong, Step, StepId, StepAlong, Turn, Indent, Value, Opened, InLanes, LanesOpened, LanesRest, LanesAfterLess, IdName, IdAlong, Rest, AfterLess, Note, Leaf, Both, Either, SpreadOut, EachOf, Stop, Assign, Load, Store, AssignFour, LoadFour, StoreFour, Loop, Guard, Sync, Notes, counted, Item, texts, Names, a_variable, a_loop_variable, a_size, IsSign, adds, subtracts, multiplies, divides, leaves, ands, ors, xors, IsCall, takes_least, takes_greatest, start_at, stride_by, stored, another_line, loop_test, loop_body, guard_test, after_start, operated, operated_each, compared, Gives, any_group, fixed_group, group_width, group_height, an_input, pointer_to_const, pointer, new_input, new_output, last_output, more_outputs, another_output, first_size, new_size, last_size, more_sizes, a_local, no_local, new_local, local_length, a_declaration, no_declaration, new_private, first_variable, private_length, another_variable, no_variable, new_variable, a_vector, statements, new_vector, assign, store, loop, guard, meet, load, value, assign_four, load_four, loaded_four, value_of_four, store_four, stored_four, another, end, end_of_block, indented, fences_local, fences_global, local_alone, fences_both, turn, from_zero, from_id, from_this_id, from_along, by_one, by_count, by_this_count, by_along, number, named_value, call, open_value, an_id, both, this_id, id_along, sign, shift_right, equal, less_or_shift, shift_left, is_less, vector_value, lanes_call, open_lanes, spread_out, both_lanes, lanes_sign, lanes_right, lanes_less, lanes_left, noted, both_of, either_of, with_lanes, each_of, load_four_of, store_four_of, marked, kernels}
 use Rattle.kernel_spelling.specs.Spelling.{spell_id, is_called, spell_sign, spell, spell_lanes, spell_start, spell_stride, loop_line, step_line, block_line, guard_line, start_line, assign_line, assign_four_line, spell_code, spell_locals, spell_privates, spell_variables, spell_vectors, spell_sizes, spell_outputs, spell_inputs, first_output, spell_launching}
 use Rattle.kernel_spelling.specs.Meaning.{CountsFit, FitsAt, IsValue, Tail, Operated, Compared, with_tail, spell_tail, TailFits, IsTail, IsId, LanesFit, AreLanes, IsLanesTail, IsCode, IsStatement, IsRound, IsShared, AreVectors, AreVariables, ArePrivates, AreLocals, width_line, local_line, private_line, Means}
@@ -441,33 +441,36 @@ with_first first other n l nest ts us n1 back s e = (
   s.1,
 )
 
+-- a statement and what follows it, last in an alternative
+performed : (first : List Piece → List Piece) (n : Notes) (l nest : ℕ) (ts : List Piece) (n1 : Notes) (back : List Piece) (s : Performed) (after : Code) → is_statement (counted n) l s ≡ true → are_statements (counted n) l nest after ≡ true → first ts ≡ spell_code l nest (Performs s after) back → Some (noted n n.values (Performs s after ∷ n.blocks)) ≡ Some n1
+    → IsStatement first n l nest ts n1 back
+performed first n l nest ts n1 back s after f g e h = (
+  record {
+    code = Performs s after;
+    fits = and_from (is_statement (counted n) l s) (are_statements (counted n) l nest after) f g;
+    spelled = e;
+    noted = sym (same_Some _ _ h);
+  },
+  refl,
+)
+
 kept_source : (n : Notes) (l nest k : ℕ) (t : Piece) (alt : List Item) → Gives n (Source l nest k) t alt → (ts : List Piece) (n1 : Notes) (back : List Piece) → All alt n ts n1 back → Means n (Source l nest k) (t ∷ ts) n1 back
 kept_source n l nest k t alt (load {array = array} small may) ts n1 back h = λ fits.
     let a = at_tokens (index_begins ∷ []) (Form (Value false l 1) ∷ Token index_ends ∷ stored l nest (Load k array)) n ts n1 back h in
     let v = at_value false l 1 (Token index_ends ∷ stored l nest (Load k array)) n a.0 n1 back a.2 in
     let c = at_tokens (index_ends ∷ []) (stored l nest (Load k array)) (noted n (v.0 ∷ n.values) n.blocks) v.1 n1 back v.4 in
-    let s = at_stored l nest (Load k array) (noted n (v.0 ∷ n.values) n.blocks) c.0 n1 back c.2 in (
-      record {
-        code = Loads k array v.0 s.0;
-        fits = and_from (nat_lt k n.variables) _ fits (and_from (is_readable (counted n) array) _ may (and_from (is_expression (counted n) l v.0) (are_statements (counted n) l nest s.0) (expression n false l v.0 v.2) s.1));
-        spelled = ap (λ z. indent (suc nest) ∷ assign_line k (array_name array ∷ z)) (a.1 ∙ ap (λ z. index_begins ∷ z) (v.3 ∙ ap (spell v.0) (c.1 ∙ ap (λ z. index_ends ∷ z) s.2)));
-        noted = sym (same_Some _ _ s.3);
-      },
-      refl,
-    )
+    let s = at_stored l nest (Load k array) (noted n (v.0 ∷ n.values) n.blocks) c.0 n1 back c.2 in
+    performed (λ z. indent (suc nest) ∷ assign_line k z) n l nest (t ∷ ts) n1 back (Loads k array v.0) s.0
+    (and_from (nat_lt k n.variables) _ fits (and_from (is_readable (counted n) array) _ may (expression n false l v.0 v.2))) s.1
+    (ap (λ z. indent (suc nest) ∷ assign_line k (array_name array ∷ z)) (a.1 ∙ ap (λ z. index_begins ∷ z) (v.3 ∙ ap (spell v.0) (c.1 ∙ ap (λ z. index_ends ∷ z) s.2)))) s.3
 kept_source n l nest k t alt (value {alternative = alternative} g) ts n1 back h = λ fits.
     let q = split kernels Means alternative (stored l nest (Assign k)) n ts n1 back h in
     let v = kept_value n false l 1 t alternative g ts q.0 q.1 q.2 in
     let m = noted n (v.value ∷ n.values) n.blocks in
-    let s = at_stored l nest (Assign k) m q.1 n1 back (subst (λ z. All (stored l nest (Assign k)) z q.1 n1 back) v.noted q.3) in (
-      record {
-        code = Assigns k v.value s.0;
-        fits = and_from (nat_lt k n.variables) _ fits (and_from (is_expression (counted n) l v.value) (are_statements (counted n) l nest s.0) (expression n false l v.value v.fits) s.1);
-        spelled = ap (λ z. indent (suc nest) ∷ assign_line k z) (v.spelled ∙ ap (spell v.value) s.2);
-        noted = sym (same_Some _ _ s.3);
-      },
-      refl,
-    )
+    let s = at_stored l nest (Assign k) m q.1 n1 back (subst (λ z. All (stored l nest (Assign k)) z q.1 n1 back) v.noted q.3) in
+    performed (λ z. indent (suc nest) ∷ assign_line k z) n l nest (t ∷ ts) n1 back (Assigns k v.value) s.0
+    (and_from (nat_lt k n.variables) _ fits (expression n false l v.value v.fits)) s.1
+    (ap (λ z. indent (suc nest) ∷ assign_line k z) (v.spelled ∙ ap (spell v.value) s.2)) s.3
 
 -- ---- four words
 
@@ -518,28 +521,18 @@ kept_source_of_four n l nest k t alt load_four ts n1 back h = λ fits.
     let v = at_value false l 1 (texts (comma ∷ space ∷ []) ++ o) n a.0 n1 back a.2 in
     let m = noted n (v.0 ∷ n.values) n.blocks in
     let c = at_tokens (comma ∷ space ∷ []) o m v.1 n1 back v.4 in
-    let r = last_shared is_readable (λ a blocks. load_four_of m k a m.values blocks) m l nest c.0 n1 c.2.0 c.2.1 back c.2.2 c.2.3.0 c.2.3.1 in (
-      record {
-        code = LoadsFour k r.array v.0 r.after;
-        fits = and_from (nat_lt k n.vectors) _ fits (and_from (is_shared r.array && is_readable (counted n) r.array) _ (and_from (is_shared r.array) (is_readable (counted n) r.array) r.shared r.allowed) (and_from (is_expression (counted n) l v.0) (are_statements (counted n) l nest r.after) (expression n false l v.0 v.2) r.after_fits));
-        spelled = ap (λ z. indent (suc nest) ∷ assign_four_line k (loads_four ∷ z)) (a.1 ∙ ap (λ z. opens ∷ z) (v.3 ∙ ap (spell v.0) (c.1 ∙ ap (λ z. comma ∷ space ∷ z) r.spelled)));
-        noted = sym (same_Some _ _ r.noted);
-      },
-      refl,
-    )
+    let r = last_shared is_readable (λ a blocks. load_four_of m k a m.values blocks) m l nest c.0 n1 c.2.0 c.2.1 back c.2.2 c.2.3.0 c.2.3.1 in
+    performed (λ z. indent (suc nest) ∷ assign_four_line k z) n l nest (t ∷ ts) n1 back (LoadsFour k r.array v.0) r.after
+    (and_from (nat_lt k n.vectors) _ fits (and_from (is_shared r.array && is_readable (counted n) r.array) _ (and_from (is_shared r.array) (is_readable (counted n) r.array) r.shared r.allowed) (expression n false l v.0 v.2))) r.after_fits
+    (ap (λ z. indent (suc nest) ∷ assign_four_line k (loads_four ∷ z)) (a.1 ∙ ap (λ z. opens ∷ z) (v.3 ∙ ap (spell v.0) (c.1 ∙ ap (λ z. comma ∷ space ∷ z) r.spelled)))) r.noted
 kept_source_of_four n l nest k t alt (value_of_four {alternative = alternative} g) ts n1 back h = λ fits.
     let q = split kernels Means alternative (stored l nest (AssignFour k)) n ts n1 back h in
     let v = kept_lanes n l 1 t alternative g ts q.0 q.1 q.2 in
     let m = with_lanes n n.values (v.value ∷ n.lanes) n.blocks in
-    let s = at_stored l nest (AssignFour k) m q.1 n1 back (subst (λ z. All (stored l nest (AssignFour k)) z q.1 n1 back) v.noted q.3) in (
-      record {
-        code = AssignsFour k v.value s.0;
-        fits = and_from (nat_lt k n.vectors) _ fits (and_from (are_lanes (counted n) l v.value) (are_statements (counted n) l nest s.0) (four_words n l v.value v.fits) s.1);
-        spelled = ap (λ z. indent (suc nest) ∷ assign_four_line k z) (v.spelled ∙ ap (spell_lanes v.value) s.2);
-        noted = sym (same_Some _ _ s.3);
-      },
-      refl,
-    )
+    let s = at_stored l nest (AssignFour k) m q.1 n1 back (subst (λ z. All (stored l nest (AssignFour k)) z q.1 n1 back) v.noted q.3) in
+    performed (λ z. indent (suc nest) ∷ assign_four_line k z) n l nest (t ∷ ts) n1 back (AssignsFour k v.value) s.0
+    (and_from (nat_lt k n.vectors) _ fits (four_words n l v.value v.fits)) s.1
+    (ap (λ z. indent (suc nest) ∷ assign_four_line k z) (v.spelled ∙ ap (spell_lanes v.value) s.2)) s.3
 
 -- what follows vstore4
 kept_store_four : (n : Notes) (l nest : ℕ) (ts : List Piece) (n1 : Notes) (back : List Piece) → All (Token opens ∷ Form (InLanes l 1) ∷ texts (comma ∷ space ∷ []) ++ Form (Value false l 1) ∷ texts (comma ∷ space ∷ []) ++ Form (StoredFour l nest) ∷ []) n ts n1 back → IsStatement (λ z. indent (suc nest) ∷ z) n l nest (stores_four ∷ ts) n1 back
@@ -554,15 +547,10 @@ kept_store_four n l nest ts n1 back h =
     let k = noted m (v.0 ∷ m.values) m.blocks in
     let d = at_tokens (comma ∷ space ∷ []) o k v.1 n1 back v.4 in
     let r = last_shared is_writable (λ a blocks. store_four_of k a k.values k.lanes blocks) k l nest d.0 n1 d.2.0 d.2.1 back d.2.2 d.2.3.0 d.2.3.1 in
-    let offset = v.3 ∙ ap (spell v.0) (d.1 ∙ ap (λ z. comma ∷ space ∷ z) r.spelled) in (
-      record {
-        code = StoresFour r.array v.0 w.0 r.after;
-        fits = and_from (is_shared r.array && is_writable (counted n) r.array) _ (and_from (is_shared r.array) (is_writable (counted n) r.array) r.shared r.allowed) (and_from (is_expression (counted n) l v.0) _ (expression n false l v.0 v.2) (and_from (are_lanes (counted n) l w.0) (are_statements (counted n) l nest r.after) (four_words n l w.0 w.2) r.after_fits));
-        spelled = ap (λ z. indent (suc nest) ∷ stores_four ∷ z) (a.1 ∙ ap (λ z. opens ∷ z) (w.3 ∙ ap (spell_lanes w.0) (c.1 ∙ ap (λ z. comma ∷ space ∷ z) offset)));
-        noted = sym (same_Some _ _ r.noted);
-      },
-      refl,
-    )
+    let offset = v.3 ∙ ap (spell v.0) (d.1 ∙ ap (λ z. comma ∷ space ∷ z) r.spelled) in
+    performed (λ z. indent (suc nest) ∷ z) n l nest (stores_four ∷ ts) n1 back (StoresFour r.array v.0 w.0) r.after
+    (and_from (is_shared r.array && is_writable (counted n) r.array) _ (and_from (is_shared r.array) (is_writable (counted n) r.array) r.shared r.allowed) (and_from (is_expression (counted n) l v.0) (are_lanes (counted n) l w.0) (expression n false l v.0 v.2) (four_words n l w.0 w.2))) r.after_fits
+    (ap (λ z. indent (suc nest) ∷ stores_four ∷ z) (a.1 ∙ ap (λ z. opens ∷ z) (w.3 ∙ ap (spell_lanes w.0) (c.1 ∙ ap (λ z. comma ∷ space ∷ z) offset)))) r.noted
 
 -- ---- the line of a loop or an if
 
@@ -719,26 +707,14 @@ kept_beginning_along n g l nest form t alt (from_along d {s = s} e) ts n1 back h
 
 kept_after_local : (n : Notes) (l nest : ℕ) (t : Piece) (alt : List Item) → Gives n (AfterLocal l nest) t alt → (ts : List Piece) (n1 : Notes) (back : List Piece) → All alt n ts n1 back → Means n (AfterLocal l nest) (t ∷ ts) n1 back
 kept_after_local n l nest t alt local_alone ts n1 back h =
-    let s = at_stored l nest (Sync true false) n ts n1 back h in (
-      record {
-        code = Syncs true false s.0;
-        fits = s.1;
-        spelled = ap (λ z. indent (suc nest) ∷ barrier ∷ opens ∷ local_flag ∷ closes ∷ z) s.2;
-        noted = sym (same_Some _ _ s.3);
-      },
-      refl,
-    )
+    let s = at_stored l nest (Sync true false) n ts n1 back h in
+    performed (λ z. indent (suc nest) ∷ barrier ∷ opens ∷ local_flag ∷ z) n l nest (t ∷ ts) n1 back (Syncs true false) s.0 refl s.1
+    (ap (λ z. indent (suc nest) ∷ barrier ∷ opens ∷ local_flag ∷ closes ∷ z) s.2) s.3
 kept_after_local n l nest t alt fences_both ts n1 back h =
     let a = at_tokens (bar ∷ space ∷ global_flag ∷ closes ∷ []) (stored l nest (Sync true true)) n ts n1 back h in
-    let s = at_stored l nest (Sync true true) n a.0 n1 back a.2 in (
-      record {
-        code = Syncs true true s.0;
-        fits = s.1;
-        spelled = ap (λ z. indent (suc nest) ∷ barrier ∷ opens ∷ local_flag ∷ space ∷ z) (a.1 ∙ ap (λ z. bar ∷ space ∷ global_flag ∷ closes ∷ z) s.2);
-        noted = sym (same_Some _ _ s.3);
-      },
-      refl,
-    )
+    let s = at_stored l nest (Sync true true) n a.0 n1 back a.2 in
+    performed (λ z. indent (suc nest) ∷ barrier ∷ opens ∷ local_flag ∷ z) n l nest (t ∷ ts) n1 back (Syncs true true) s.0 refl s.1
+    (ap (λ z. indent (suc nest) ∷ barrier ∷ opens ∷ local_flag ∷ space ∷ z) (a.1 ∙ ap (λ z. bar ∷ space ∷ global_flag ∷ closes ∷ z) s.2)) s.3
 
 kept_fence : (n : Notes) (l nest : ℕ) (t : Piece) (alt : List Item) → Gives n (Fence l nest) t alt → (ts : List Piece) (n1 : Notes) (back : List Piece) → All alt n ts n1 back → Means n (Fence l nest) (t ∷ ts) n1 back
 kept_fence n l nest t alt fences_local ts n1 back h =
@@ -746,15 +722,9 @@ kept_fence n l nest t alt fences_local ts n1 back h =
     with_first first (λ z. indent (suc nest) ∷ barrier ∷ opens ∷ z) n l nest ts (local_flag ∷ ts) n1 back (last_statement first n l nest ts n1 h.0 h.1 back h.2 h.3.0 h.3.1) refl
 kept_fence n l nest t alt fences_global ts n1 back h =
     let a = at_tokens (closes ∷ []) (stored l nest (Sync false true)) n ts n1 back h in
-    let s = at_stored l nest (Sync false true) n a.0 n1 back a.2 in (
-      record {
-        code = Syncs false true s.0;
-        fits = s.1;
-        spelled = ap (λ z. indent (suc nest) ∷ barrier ∷ opens ∷ global_flag ∷ z) (a.1 ∙ ap (λ z. closes ∷ z) s.2);
-        noted = sym (same_Some _ _ s.3);
-      },
-      refl,
-    )
+    let s = at_stored l nest (Sync false true) n a.0 n1 back a.2 in
+    performed (λ z. indent (suc nest) ∷ barrier ∷ opens ∷ z) n l nest (t ∷ ts) n1 back (Syncs false true) s.0 refl s.1
+    (ap (λ z. indent (suc nest) ∷ barrier ∷ opens ∷ global_flag ∷ z) (a.1 ∙ ap (λ z. closes ∷ z) s.2)) s.3
 
 kept_statement : (n : Notes) (l nest : ℕ) (t : Piece) (alt : List Item) → Gives n (Statement l nest) t alt → (ts : List Piece) (n1 : Notes) (back : List Piece) → All alt n ts n1 back → Means n (Statement l nest) (t ∷ ts) n1 back
 kept_statement n l nest t alt (assign {k = k} small below) ts n1 back h =
@@ -773,15 +743,10 @@ kept_statement n l nest t alt (store {array = array} small may) ts n1 back h =
     let m = noted n (i.0 ∷ n.values) n.blocks in
     let c = at_tokens (index_ends ∷ space ∷ equals ∷ space ∷ []) y m i.1 n1 back i.4 in
     let v = at_value false l 1 (stored l nest (Store array)) m c.0 n1 back c.2 in
-    let s = at_stored l nest (Store array) (noted n (v.0 ∷ i.0 ∷ n.values) n.blocks) v.1 n1 back v.4 in (
-      record {
-        code = Stores array i.0 v.0 s.0;
-        fits = and_from (is_writable (counted n) array) _ may (and_from (is_expression (counted n) l i.0) _ (expression n false l i.0 i.2) (and_from (is_expression (counted n) l v.0) (are_statements (counted n) l nest s.0) (expression n false l v.0 v.2) s.1));
-        spelled = ap (λ z. indent (suc nest) ∷ array_name array ∷ z) (a.1 ∙ ap (λ z. index_begins ∷ z) (i.3 ∙ ap (spell i.0) (c.1 ∙ ap (λ z. index_ends ∷ space ∷ equals ∷ space ∷ z) (v.3 ∙ ap (spell v.0) s.2))));
-        noted = sym (same_Some _ _ s.3);
-      },
-      refl,
-    )
+    let s = at_stored l nest (Store array) (noted n (v.0 ∷ i.0 ∷ n.values) n.blocks) v.1 n1 back v.4 in
+    performed (λ z. indent (suc nest) ∷ z) n l nest (t ∷ ts) n1 back (Stores array i.0 v.0) s.0
+    (and_from (is_writable (counted n) array) _ may (and_from (is_expression (counted n) l i.0) (is_expression (counted n) l v.0) (expression n false l i.0 i.2) (expression n false l v.0 v.2))) s.1
+    (ap (λ z. indent (suc nest) ∷ array_name array ∷ z) (a.1 ∙ ap (λ z. index_begins ∷ z) (i.3 ∙ ap (spell i.0) (c.1 ∙ ap (λ z. index_ends ∷ space ∷ equals ∷ space ∷ z) (v.3 ∙ ap (spell v.0) s.2))))) s.3
 kept_statement n l nest t alt store_four ts n1 back h = kept_store_four n l nest ts n1 back h
 kept_statement n l nest t alt (loop below) ts n1 back h =
     let y : List Item = texts (space ∷ equals ∷ space ∷ []) ++ Form (Beginning false l nest) ∷ [] in

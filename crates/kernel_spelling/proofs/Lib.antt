@@ -1,9 +1,13 @@
 pub mod Numbers
 pub mod Kept
+pub mod Values
 pub mod Spelled
 pub mod Cut
 pub mod Whole
 pub mod One
+pub mod Separate
+pub mod Statements
 pub mod Stands
 pub mod Ended
+pub mod KernelEnds
 pub mod Sequences

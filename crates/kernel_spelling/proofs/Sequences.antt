@@ -16,7 +16,8 @@ use Rattle.kernel_spelling.specs.Decided.{decided}
 use Rattle.kernel_spelling.specs.Spelling.{HasText, IsName, is_letters, spelled, spelled_with, text_of}
 use Rattle.kernel_spelling.specs.SequenceText.{name_of, AreTexts, AreWhole, IsWhole, texts_of, SequencesHaveOneText, TextsAreOfOneSequence, TextsAreWhole, FrontsAreOfOneKernel, FrontsAreRefusedBehind}
 use Rattle.kernel_spelling.proofs.Cut.{Stand, all_of, digits_word, joined_pieces, one_cut}
-use Rattle.kernel_spelling.proofs.Ended.{Ends, apart, behind, joined-append, kernel_ends, some_pieces, together}
+use Rattle.kernel_spelling.proofs.Ended.{Ends, apart, behind, joined-append, some_pieces, together}
+use Rattle.kernel_spelling.proofs.KernelEnds.{kernel_ends}
 use Rattle.kernel_spelling.proofs.One.{kernel_at}
 use Rattle.kernel_spelling.proofs.Whole.{kernel_fits, made_whole}
 

@@ -1,296 +1,20 @@
 -- What is spelled is read.
-use Rattle.std.proofs.Common.{◌≡◌, ℕ, zero, suc, ◌*◌, ◌+◌, ◌<◌, ◌≤◌, ◌^◌, List, [], ◌∷◌, ◌++◌, Bool, true, false, refl, ap, sym, ◌∙◌, subst, arith, max, lit<, lit≤, Option, None, Some, length}
-use Rattle.std.specs.Prelude.{nat_lt, nat_le, decimal, ◌&&◌, ◌||◌}
-use Rattle.std.proofs.Math.Nat.{le-max_left, le-max_right}
+use Rattle.std.proofs.Common.{◌≡◌, ℕ, zero, suc, ◌*◌, ◌+◌, ◌<◌, ◌≤◌, ◌^◌, List, [], ◌∷◌, ◌++◌, Bool, true, false, refl, ap, sym, ◌∙◌, subst, arith, lit<, lit≤, Option, None, Some, length}
+use Rattle.std.specs.Prelude.{nat_lt, nat_le, decimal, ◌&&◌}
 use Rattle.std.proofs.lemmas.Bool.{ltb-true, leb-true, and_parts}
 use Rattle.std.proofs.lemmas.List.{append_assoc, append-nil}
-use Rattle.readings.specs.Readings.{Token, Form, Mark, Reads, stands, takes, gives, notes}
-use Rattle.scalar_ops.specs.declared.op.Op.{Op}
-use Rattle.scalar_ops.specs.declared.op.Op.TheVariants.{Add, Mul, Min, Max, And, Or, Xor, Sub, Shl, Shr, Div, Rem, Lt, Eq}
-use Rattle.kernel_tree.specs.declared.tree.Dimension.{Dimension}
-use Rattle.kernel_tree.specs.Formula.{IdForm, GlobalId, GroupId, LocalId, GlobalSize, GroupCount, LocalSize, Comparison, Less, Equal, Formula, Number, Variable, LoopVariable, Size, Id, Binary, Choose, Lanes, Vector, Spread, Each}
-use Rattle.kernel_tree.specs.Code.{Array, Input, Output, Local, Private, Start, FromZero, FromGlobalId, FromGroupId, FromLocalId, Stride, ByOne, ByGlobalSize, ByGroupCount, ByLocalSize, Code, End, Assigns, Loads, Stores, AssignsFour, LoadsFour, StoresFour, Loops, Guards, Syncs, Kernel}
-use Rattle.kernel_tree.specs.Grammar.{deepest, height, lanes_height, is_operator, is_constant, names_declared, is_expression, names_declared_in_lanes, are_lanes, is_readable, is_writable, is_shared, has_statement, are_statements, are_lengths, largest_group, is_group_size}
-use Rattle.kernel_tree.specs.KernelText.{Piece, space, line, comma, semicolon, equals, plus, question, colon, opens, closes, index_begins, index_ends, block_begins, local, uint, uint4, loads_four, stores_four, for, whether, barrier, least, greatest, one, void, indent, array_name, array_number, size, vector, literal, number_limit, Part, Launching, GroupHeight, Parameter, AfterOutput, AfterSize, Locals, Privates, Variables, Vectors, Statement, Next, Source, SourceOfFour, LoadedFour, StoredFour, Fence, Beginning, Step, Turn, Indent, Value, Opened, InLanes, LanesOpened, LanesRest, Rest, Note, Both, Either, SpreadOut, EachOf, Assign, Load, Store, AssignFour, LoadFour, StoreFour, Loop, Guard, Sync, Notes, counted, Item, texts, Names, a_variable, a_loop_variable, a_size, adds, subtracts, multiplies, divides, leaves, ands, ors, xors, takes_least, takes_greatest, stored, loop_head, loop_test, loop_body, guard_test, after_start, operated, operated_each, compared, Gives, any_group, fixed_group, group_width, group_height, an_input, pointer_to_const, pointer, new_input, new_output, last_output, more_outputs, another_output, first_size, new_size, last_size, more_sizes, a_local, no_local, new_local, local_length, a_declaration, no_declaration, new_private, first_variable, private_length, another_variable, no_variable, new_variable, a_vector, statements, new_vector, assign, store, loop, guard, meet, load, value, assign_four, load_four, loaded_four, value_of_four, store_four, stored_four, another, end, end_of_block, indented, fences_local, fences_global, local_alone, fences_both, turn, from_zero, from_id, from_this_id, from_along, by_one, by_count, by_this_count, by_along, number, named_value, call, open_value, an_id, both, this_id, id_along, sign, shift_right, equal, less_or_shift, shift_left, is_less, vector_value, lanes_call, open_lanes, spread_out, both_lanes, lanes_sign, lanes_right, lanes_less, lanes_left, noted, with_lanes, marked, kernels, start, nothing, all_of}
-use Rattle.kernel_spelling.specs.Spelling.{spell_id, is_called, spell_sign, spell_comparison, spell, spell_lanes, spell_start, spell_stride, loop_line, test_line, step_line, block_line, below_line, spell_flags, spell_code, spell_locals, spell_privates, spell_variables, spell_vectors, spell_sizes, spell_outputs, spell_inputs, first_output, spell_launching, spell_body, spelled_with, HasText}
-use Rattle.kernel_spelling.specs.Meaning.{CountsFit, FitsAt, LanesFit, fixed}
+use Rattle.readings.specs.Readings.{Form, Mark, Reads, stands, takes, gives, notes}
+use Rattle.kernel_tree.specs.Formula.{GlobalId, GroupId, LocalId, GlobalSize, GroupCount, LocalSize, Formula}
+use Rattle.kernel_tree.specs.Code.{Start, FromZero, FromGlobalId, FromGroupId, FromLocalId, Stride, ByOne, ByGlobalSize, ByGroupCount, ByLocalSize, Code, End, Performs, Loops, Guards, Kernel}
+use Rattle.kernel_tree.specs.Grammar.{deepest, is_constant, is_expression, has_statement, are_statements, are_lengths, largest_group, is_group_size, is_statement}
+use Rattle.kernel_tree.specs.KernelText.{Piece, space, line, comma, semicolon, equals, plus, opens, closes, block_begins, local, uint, uint4, for, whether, one, void, indent, size, number_limit, Part, Launching, GroupHeight, Parameter, AfterOutput, AfterSize, Locals, Privates, Variables, Vectors, Statement, Next, Beginning, Step, Turn, Indent, Value, Loop, Guard, Notes, counted, Item, texts, loop_head, loop_test, loop_body, guard_test, after_start, Gives, any_group, fixed_group, group_width, group_height, an_input, pointer_to_const, pointer, new_input, new_output, last_output, more_outputs, another_output, first_size, new_size, last_size, more_sizes, a_local, no_local, new_local, local_length, a_declaration, no_declaration, new_private, first_variable, private_length, another_variable, no_variable, new_variable, a_vector, statements, new_vector, loop, guard, another, end, end_of_block, indented, turn, from_zero, from_id, from_this_id, from_along, by_one, by_count, by_this_count, by_along, noted, kernels, start, nothing, all_of}
+use Rattle.kernel_spelling.specs.Spelling.{spell_start, spell_stride, loop_line, test_line, step_line, block_line, below_line, spell_code, spell_locals, spell_privates, spell_variables, spell_vectors, spell_sizes, spell_outputs, spell_inputs, first_output, spell_launching, spell_body, spelled_with, HasText}
+use Rattle.kernel_spelling.specs.Meaning.{CountsFit, fixed}
 use Rattle.kernel_spelling.proofs.Kept.{with_private, with_local, one_longer, with_values, variables_fit, privates_fit, locals_fit, vectors_fit}
-
--- a form's alternative for the text, and its reading
-record Begins (f : Part) (o : List Item) (n : Notes) (ts : List Piece) (n2 : Notes) : Type 0 where
-  piece : Piece
-  alternative : List Item
-  behind : List Piece
-  whole : ts ≡ piece ∷ behind
-  has : Gives n f piece alternative
-  reads : Reads kernels (alternative ++ o) n behind [] n2
-
-begun : (f : Part) (o : List Item) (n : Notes) (ts : List Piece) (n2 : Notes) → Begins f o n ts n2 → Reads kernels (Form f ∷ o) n ts [] n2
-begun f o n ts n2 b = subst (λ z. Reads kernels (Form f ∷ o) n z [] n2) (sym b.whole) (gives b.has b.reads)
-
--- ---- expressions
-
-leaf_depth : (d : ℕ) → 1 + d ≤ 1025 → d ≤ 1024
-leaf_depth d h = omega (arith, h)
-
-both_depth : (x d : ℕ) → suc x + d ≤ 1025 → d ≤ 1024
-both_depth x d h = omega (arith, h)
-
-left_depth : (x y d : ℕ) → suc (max x y) + d ≤ 1025 → x + suc d ≤ 1025
-left_depth x y d h = let m = le-max_left x y in omega (arith, h, m)
-
-right_depth : (x y d : ℕ) → suc (max x y) + d ≤ 1025 → y + suc d ≤ 1025
-right_depth x y d h = let m = le-max_right x y in omega (arith, h, m)
-
-of_max : (x y d : ℕ) → max x y + suc d ≤ 1025 → suc (max x y) + d ≤ 1025
-of_max x y d h = omega (arith, h)
-
-pub smaller : (i m k : ℕ) → i < m → m < k → i < k
-smaller i m k h g = omega (arith, h, g)
-
-a_name : (b : Bool) (e : Formula) (p : Piece) (n : Notes) (l : ℕ) → (b ≡ true → is_constant e ≡ true) → is_constant e ≡ false → Names n false l p e → Names n b l p e
-a_name false e p n l c other known = known
-a_name true e p n l c other known = absurd (let w : true ≡ false = sym (c refl) ∙ other in cc (w))
-
-pub loops_small : (i l : ℕ) → i < l → l ≤ 1024 → i < 2 ^ 32
-loops_small i l h g = let w : 1024 < 2 ^ 32 = lit< tt in omega (arith, h, g, w)
-
--- the parts of an expression fit a level deeper
-fits_two : (n : Notes) (b : Bool) (l d : ℕ) (op : Op) (x y : Formula) → FitsAt n b l d (Binary op x y) → (is_operator op ≡ true) × FitsAt n b l (suc d) x × FitsAt n b l (suc d) y × (d ≤ deepest)
-fits_two n b l d op x y f =
-    let p = and_parts (is_operator op) (names_declared (counted n) l x && names_declared (counted n) l y) f.0 in
-    let names = and_parts (names_declared (counted n) l x) (names_declared (counted n) l y) p.1 in (
-      p.0,
-      (names.0, λ h. (and_parts (is_constant x) (is_constant y) (f.1 h)).0, left_depth (height x) (height y) d f.2),
-      (names.1, λ h. (and_parts (is_constant x) (is_constant y) (f.1 h)).1, right_depth (height x) (height y) d f.2),
-      both_depth (max (height x) (height y)) d f.2,
-    )
-
-record FitsFour (n : Notes) (b : Bool) (l d : ℕ) (e a x y : Formula) : Type 0 where
-  left : FitsAt n b l (suc d) e
-  right : FitsAt n b l (suc d) a
-  yes : FitsAt n b l (suc d) x
-  no : FitsAt n b l (suc d) y
-  deep : d ≤ deepest
-
-fits_four : (n : Notes) (b : Bool) (l d : ℕ) (c : Comparison) (e a x y : Formula) → FitsAt n b l d (Choose c e a x y) → FitsFour n b l d e a x y
-fits_four n b l d c e a x y f =
-    let p = and_parts (names_declared (counted n) l e && names_declared (counted n) l a) (names_declared (counted n) l x && names_declared (counted n) l y) f.0 in
-    let q = and_parts (names_declared (counted n) l e) (names_declared (counted n) l a) p.0 in
-    let r = and_parts (names_declared (counted n) l x) (names_declared (counted n) l y) p.1 in
-    let constants = λ (h : b ≡ true). and_parts (is_constant e && is_constant a) (is_constant x && is_constant y) (f.1 h) in
-    let m = of_max (height e) (height a) d (left_depth (max (height e) (height a)) (max (height x) (height y)) d f.2) in
-    let k = of_max (height x) (height y) d (right_depth (max (height e) (height a)) (max (height x) (height y)) d f.2) in
-    record {
-      left = (q.0, λ h. (and_parts (is_constant e) (is_constant a) (constants h).0).0, left_depth (height e) (height a) d m);
-      right = (q.1, λ h. (and_parts (is_constant e) (is_constant a) (constants h).0).1, right_depth (height e) (height a) d m);
-      yes = (r.0, λ h. (and_parts (is_constant x) (is_constant y) (constants h).1).0, left_depth (height x) (height y) d k);
-      no = (r.1, λ h. (and_parts (is_constant x) (is_constant y) (constants h).1).1, right_depth (height x) (height y) d k);
-      deep = both_depth (max (max (height e) (height a)) (max (height x) (height y))) d f.2;
-    }
-
--- a sign, and what follows it
-reads_sign : (op : Op) → is_operator op ≡ true → is_called op ≡ false → (b : Bool) (l d : ℕ) (o : List Item) (n : Notes) (ts : List Piece) (n2 : Notes) → Reads kernels (operated b l d op ++ o) n ts [] n2 → Reads kernels (Form (Rest b l d) ∷ o) n (spell_sign op (space ∷ ts)) [] n2
-reads_sign Add h g b l d o n ts n2 r = gives (sign adds) (takes r)
-reads_sign Sub h g b l d o n ts n2 r = gives (sign subtracts) (takes r)
-reads_sign Mul h g b l d o n ts n2 r = gives (sign multiplies) (takes r)
-reads_sign Div h g b l d o n ts n2 r = gives (sign divides) (takes r)
-reads_sign Rem h g b l d o n ts n2 r = gives (sign leaves) (takes r)
-reads_sign And h g b l d o n ts n2 r = gives (sign ands) (takes r)
-reads_sign Or h g b l d o n ts n2 r = gives (sign ors) (takes r)
-reads_sign Xor h g b l d o n ts n2 r = gives (sign xors) (takes r)
-reads_sign Shl h g b l d o n ts n2 r = gives less_or_shift (gives shift_left (takes r))
-reads_sign Shr h g b l d o n ts n2 r = gives shift_right (takes (takes r))
-reads_sign Min h g b l d o n ts n2 r = absurd (cc (g))
-reads_sign Max h g b l d o n ts n2 r = absurd (cc (g))
-reads_sign Lt h g b l d o n ts n2 r = absurd (cc (h))
-reads_sign Eq h g b l d o n ts n2 r = absurd (cc (h))
-
-reads_comparison : (c : Comparison) (b : Bool) (l d : ℕ) (o : List Item) (n : Notes) (ts : List Piece) (n2 : Notes) → Reads kernels (compared b l d c ++ o) n ts [] n2 → Reads kernels (Form (Rest b l d) ∷ o) n (spell_comparison c (space ∷ ts)) [] n2
-reads_comparison Less b l d o n ts n2 r = gives less_or_shift (gives is_less r)
-reads_comparison Equal b l d o n ts n2 r = gives equal (takes (takes r))
-
--- what is in parentheses, by its left part
-in_parentheses : (b : Bool) (l d : ℕ) (o : List Item) (n : Notes) (ts : List Piece) (n2 : Notes) → d ≤ deepest → Begins (Value b l (suc d)) (Token space ∷ Form (Rest b l (suc d)) ∷ o) n ts n2 → Begins (Value b l d) o n (opens ∷ ts) n2
-in_parentheses b l d o n ts n2 deep left =
-    let inner : Begins (Opened b l d) o n ts n2 = record {
-      piece = left.piece;
-      alternative = left.alternative ++ Token space ∷ Form (Rest b l (suc d)) ∷ [];
-      behind = left.behind;
-      whole = left.whole;
-      has = both left.has;
-      reads = subst (λ z. Reads kernels z n left.behind [] n2) (sym (append_assoc left.alternative (Token space ∷ Form (Rest b l (suc d)) ∷ []) o)) left.reads;
-    } in
-    record { piece = opens; alternative = Form (Opened b l d) ∷ []; behind = ts; whole = refl; has = open_value deep; reads = begun (Opened b l d) o n ts n2 inner }
-
-begins_id : (along : Dimension) (form : IdForm) (b : Bool) (l d : ℕ) (o : List Item) (n : Notes) (ts : List Piece) (n2 : Notes) → FitsAt n b l d (Id along form) → Reads kernels o (noted n (Id along form ∷ n.values) n.blocks) ts [] n2 → Begins (Value b l d) o n (spell_id along form ts) n2
-begins_id along form false l d o n ts n2 f r = record {
-  piece = opens;
-  alternative = Form (Opened false l d) ∷ [];
-  behind = _;
-  whole = refl;
-  has = open_value (leaf_depth d f.2);
-  reads = gives an_id (takes (gives (this_id {form = form}) (takes (gives (id_along {form = form} {d = along}) (takes (notes refl r))))));
-}
-begins_id along form true l d o n ts n2 f r = absurd (let w : false ≡ true = f.1 refl in cc (w))
-
-begins_value : (e : Formula) (b : Bool) (l d : ℕ) (o : List Item) (n : Notes) (ts : List Piece) (n2 : Notes) → CountsFit n → l ≤ deepest → FitsAt n b l d e → Reads kernels o (noted n (e ∷ n.values) n.blocks) ts [] n2 → Begins (Value b l d) o n (spell e ts) n2
-begins_value (Number v) b l d o n ts n2 c deep f r = record { piece = literal v; alternative = _; behind = ts; whole = refl; has = number (leaf_depth d f.2) (ltb-true v (2 ^ 32) f.0); reads = notes refl r }
-begins_value (Variable k) b l d o n ts n2 c deep f r =
-    let fits = ltb-true k n.variables f.0 in
-    record { piece = _; alternative = _; behind = ts; whole = refl; has = named_value (leaf_depth d f.2) (a_name b (Variable k) _ n l f.1 refl (a_variable (smaller k n.variables (2 ^ 32) fits c.variables) fits)); reads = notes refl r }
-begins_value (LoopVariable k) b l d o n ts n2 c deep f r =
-    let fits = ltb-true k l f.0 in
-    record { piece = _; alternative = _; behind = ts; whole = refl; has = named_value (leaf_depth d f.2) (a_name b (LoopVariable k) _ n l f.1 refl (a_loop_variable (loops_small k l fits deep) fits)); reads = notes refl r }
-begins_value (Size k) b l d o n ts n2 c deep f r =
-    let fits = ltb-true k n.sizes f.0 in
-    record { piece = _; alternative = _; behind = ts; whole = refl; has = named_value (leaf_depth d f.2) (a_size (smaller k n.sizes (2 ^ 32) fits c.sizes) fits); reads = notes refl r }
-begins_value (Id along form) b l d o n ts n2 c deep f r = begins_id along form b l d o n ts n2 f r
-begins_value (Binary Min x y) b l d o n ts n2 c deep f r =
-    let p = fits_two n b l d Min x y f in
-    let n1 = noted n (x ∷ n.values) n.blocks in
-    let right = begun _ _ n1 _ n2 (begins_value y b l (suc d) _ n1 _ n2 (with_values n (x ∷ n.values) n.blocks c) deep p.2 (takes (notes refl r))) in
-    let left = begun _ _ n _ n2 (begins_value x b l (suc d) _ n _ n2 c deep p.1 (takes (takes right))) in
-    record { piece = least; alternative = _; behind = _; whole = refl; has = call p.3 takes_least; reads = takes left }
-begins_value (Binary Max x y) b l d o n ts n2 c deep f r =
-    let p = fits_two n b l d Max x y f in
-    let n1 = noted n (x ∷ n.values) n.blocks in
-    let right = begun _ _ n1 _ n2 (begins_value y b l (suc d) _ n1 _ n2 (with_values n (x ∷ n.values) n.blocks c) deep p.2 (takes (notes refl r))) in
-    let left = begun _ _ n _ n2 (begins_value x b l (suc d) _ n _ n2 c deep p.1 (takes (takes right))) in
-    record { piece = greatest; alternative = _; behind = _; whole = refl; has = call p.3 takes_greatest; reads = takes left }
-begins_value (Binary op x y) b l d o n ts n2 c deep f r =
-    let p = fits_two n b l d op x y f in
-    let n1 = noted n (x ∷ n.values) n.blocks in
-    let right = begun _ _ n1 _ n2 (begins_value y b l (suc d) (Token closes ∷ Mark (Both op) ∷ o) n1 (closes ∷ ts) n2 (with_values n (x ∷ n.values) n.blocks c) deep p.2 (takes (notes refl r))) in
-    let rest = reads_sign op p.0 refl b l (suc d) o n1 (spell y (closes ∷ ts)) n2 right in
-    in_parentheses b l d o n (spell x (space ∷ spell_sign op (space ∷ spell y (closes ∷ ts)))) n2 p.3 (begins_value x b l (suc d) (Token space ∷ Form (Rest b l (suc d)) ∷ o) n (space ∷ spell_sign op (space ∷ spell y (closes ∷ ts))) n2 c deep p.1 (takes rest))
-begins_value (Choose k e a x y) b l d o n ts n2 c deep f r =
-    let p = fits_four n b l d k e a x y f in
-    let n1 = noted n (e ∷ n.values) n.blocks in
-    let n3 = noted n (a ∷ e ∷ n.values) n.blocks in
-    let n4 = noted n (x ∷ a ∷ e ∷ n.values) n.blocks in
-    let no = begun _ _ n4 _ n2 (begins_value y b l (suc d) (Token closes ∷ Mark (Either k) ∷ o) n4 (closes ∷ ts) n2 (with_values n (x ∷ a ∷ e ∷ n.values) n.blocks c) deep p.no (takes (notes refl r))) in
-    let yes = begun _ _ n3 _ n2 (begins_value x b l (suc d) _ n3 (space ∷ colon ∷ space ∷ spell y (closes ∷ ts)) n2 (with_values n (a ∷ e ∷ n.values) n.blocks c) deep p.yes (takes (takes (takes no)))) in
-    let right = begun _ _ n1 _ n2 (begins_value a b l (suc d) _ n1 (space ∷ question ∷ space ∷ spell x (space ∷ colon ∷ space ∷ spell y (closes ∷ ts))) n2 (with_values n (e ∷ n.values) n.blocks c) deep p.right (takes (takes (takes yes)))) in
-    let choices = spell a (space ∷ question ∷ space ∷ spell x (space ∷ colon ∷ space ∷ spell y (closes ∷ ts))) in
-    let rest = reads_comparison k b l (suc d) o n1 choices n2 right in
-    in_parentheses b l d o n (spell e (space ∷ spell_comparison k (space ∷ choices))) n2 p.deep (begins_value e b l (suc d) (Token space ∷ Form (Rest b l (suc d)) ∷ o) n (space ∷ spell_comparison k (space ∷ choices)) n2 c deep p.left (takes rest))
-
-read_value : (e : Formula) (b : Bool) (l : ℕ) (o : List Item) (n : Notes) (ts : List Piece) (n2 : Notes) → CountsFit n → l ≤ deepest → is_expression (counted n) l e ≡ true → (b ≡ true → is_constant e ≡ true) → Reads kernels o (noted n (e ∷ n.values) n.blocks) ts [] n2 → Begins (Value b l 1) o n (spell e ts) n2
-read_value e b l o n ts n2 c deep f constant r =
-    let p = and_parts (names_declared (counted n) l e) (nat_le (height e) deepest) f in
-    let h : height e ≤ 1024 = leb-true (height e) deepest p.1 in
-    begins_value e b l 1 o n ts n2 c deep (p.0, constant, (let k : height e + 1 ≤ 1025 = omega (arith, h) in k)) r
-
-any : (e : Formula) → false ≡ true → is_constant e ≡ true
-any e h = absurd (cc (h))
-
--- ---- arrays
-
-pub array_small : (n : Notes) (a : Array) → CountsFit n → is_readable (counted n) a ≡ true → array_number a < number_limit
-array_small n (Input k) c f = smaller k n.inputs (2 ^ 32) (ltb-true k n.inputs f) c.inputs
-array_small n (Output k) c f = smaller k n.outputs (2 ^ 32) (ltb-true k n.outputs f) c.outputs
-array_small n (Local k) c f = smaller k (length n.locals) (2 ^ 32) (ltb-true k (length n.locals) f) c.locals
-array_small n (Private k) c f = smaller k (length n.privates) (2 ^ 32) (ltb-true k (length n.privates) f) c.privates
-
-pub writable_readable : (n : Notes) (a : Array) → is_writable (counted n) a ≡ true → is_readable (counted n) a ≡ true
-writable_readable n (Input k) f = absurd (cc (f))
-writable_readable n (Output k) f = f
-writable_readable n (Local k) f = f
-writable_readable n (Private k) f = f
-
--- ---- expressions of four words
-
-pub lanes_fit : (n : Notes) (values : List Formula) (lanes : List Lanes) (blocks : List Code) → CountsFit n → CountsFit (with_lanes n values lanes blocks)
-lanes_fit n values lanes blocks c = record { inputs = c.inputs; outputs = c.outputs; sizes = c.sizes; locals = c.locals; privates = c.privates; variables = c.variables; vectors = c.vectors }
-
--- the parts of such an expression fit a level deeper
-lanes_two : (n : Notes) (l d : ℕ) (op : Op) (x y : Lanes) → LanesFit n l d (Each op x y) → (is_operator op ≡ true) × LanesFit n l (suc d) x × LanesFit n l (suc d) y × (d ≤ deepest)
-lanes_two n l d op x y f =
-    let p = and_parts (is_operator op) (names_declared_in_lanes (counted n) l x && names_declared_in_lanes (counted n) l y) f.0 in
-    let names = and_parts (names_declared_in_lanes (counted n) l x) (names_declared_in_lanes (counted n) l y) p.1 in (
-      p.0,
-      (names.0, left_depth (lanes_height x) (lanes_height y) d f.1),
-      (names.1, right_depth (lanes_height x) (lanes_height y) d f.1),
-      both_depth (max (lanes_height x) (lanes_height y)) d f.1,
-    )
-
-part_depth : (x d : ℕ) → suc x + d ≤ 1025 → x + suc d ≤ 1025
-part_depth x d h = omega (arith, h)
-
--- a sign, and what follows it
-reads_lanes_sign : (op : Op) → is_operator op ≡ true → is_called op ≡ false → (l d : ℕ) (o : List Item) (n : Notes) (ts : List Piece) (n2 : Notes) → Reads kernels (operated_each l d op ++ o) n ts [] n2 → Reads kernels (Form (LanesRest l d) ∷ o) n (spell_sign op (space ∷ ts)) [] n2
-reads_lanes_sign Add h g l d o n ts n2 r = gives (lanes_sign adds) (takes r)
-reads_lanes_sign Sub h g l d o n ts n2 r = gives (lanes_sign subtracts) (takes r)
-reads_lanes_sign Mul h g l d o n ts n2 r = gives (lanes_sign multiplies) (takes r)
-reads_lanes_sign Div h g l d o n ts n2 r = gives (lanes_sign divides) (takes r)
-reads_lanes_sign Rem h g l d o n ts n2 r = gives (lanes_sign leaves) (takes r)
-reads_lanes_sign And h g l d o n ts n2 r = gives (lanes_sign ands) (takes r)
-reads_lanes_sign Or h g l d o n ts n2 r = gives (lanes_sign ors) (takes r)
-reads_lanes_sign Xor h g l d o n ts n2 r = gives (lanes_sign xors) (takes r)
-reads_lanes_sign Shl h g l d o n ts n2 r = gives lanes_less (gives lanes_left (takes r))
-reads_lanes_sign Shr h g l d o n ts n2 r = gives lanes_right (takes (takes r))
-reads_lanes_sign Min h g l d o n ts n2 r = absurd (cc (g))
-reads_lanes_sign Max h g l d o n ts n2 r = absurd (cc (g))
-reads_lanes_sign Lt h g l d o n ts n2 r = absurd (cc (h))
-reads_lanes_sign Eq h g l d o n ts n2 r = absurd (cc (h))
-
--- what is in parentheses, by its left part
-lanes_in_parentheses : (l d : ℕ) (o : List Item) (n : Notes) (ts : List Piece) (n2 : Notes) → d ≤ deepest → Begins (InLanes l (suc d)) (Token space ∷ Form (LanesRest l (suc d)) ∷ o) n ts n2 → Begins (InLanes l d) o n (opens ∷ ts) n2
-lanes_in_parentheses l d o n ts n2 deep left =
-    let inner : Begins (LanesOpened l d) o n ts n2 = record {
-      piece = left.piece;
-      alternative = left.alternative ++ Token space ∷ Form (LanesRest l (suc d)) ∷ [];
-      behind = left.behind;
-      whole = left.whole;
-      has = both_lanes left.has;
-      reads = subst (λ z. Reads kernels z n left.behind [] n2) (sym (append_assoc left.alternative (Token space ∷ Form (LanesRest l (suc d)) ∷ []) o)) left.reads;
-    } in
-    record { piece = opens; alternative = Form (LanesOpened l d) ∷ []; behind = ts; whole = refl; has = open_lanes deep; reads = begun (LanesOpened l d) o n ts n2 inner }
-
--- four of one word
-begins_spread : (e : Formula) (l d : ℕ) (o : List Item) (n : Notes) (ts : List Piece) (n2 : Notes) → CountsFit n → l ≤ deepest → LanesFit n l d (Spread e) → Reads kernels o (with_lanes n n.values (Spread e ∷ n.lanes) n.blocks) ts [] n2 → Begins (InLanes l d) o n (opens ∷ uint4 ∷ closes ∷ opens ∷ spell e (closes ∷ ts)) n2
-begins_spread e l d o n ts n2 c deep f r =
-    let inner = begins_value e false l (suc d) (Token closes ∷ Mark SpreadOut ∷ o) n (closes ∷ ts) n2 c deep (f.0, λ h. absurd (cc (h)), part_depth (height e) d f.1) (takes (notes refl r)) in
-    let value = begun (Value false l (suc d)) (Token closes ∷ Mark SpreadOut ∷ o) n (spell e (closes ∷ ts)) n2 inner in
-    let opened : Reads kernels (Form (LanesOpened l d) ∷ o) n (uint4 ∷ closes ∷ opens ∷ spell e (closes ∷ ts)) [] n2 = gives spread_out (takes (takes value)) in
-    record { piece = opens; alternative = Form (LanesOpened l d) ∷ []; behind = uint4 ∷ closes ∷ opens ∷ spell e (closes ∷ ts); whole = refl; has = open_lanes (both_depth (height e) d f.1); reads = opened }
-
-begins_lanes : (e : Lanes) (l d : ℕ) (o : List Item) (n : Notes) (ts : List Piece) (n2 : Notes) → CountsFit n → l ≤ deepest → LanesFit n l d e → Reads kernels o (with_lanes n n.values (e ∷ n.lanes) n.blocks) ts [] n2 → Begins (InLanes l d) o n (spell_lanes e ts) n2
-begins_lanes (Vector k) l d o n ts n2 c deep f r =
-    let fits = ltb-true k n.vectors f.0 in
-    record { piece = vector k; alternative = _; behind = ts; whole = refl; has = vector_value (leaf_depth d f.1) (smaller k n.vectors (2 ^ 32) fits c.vectors) fits; reads = notes refl r }
-begins_lanes (Spread e) l d o n ts n2 c deep f r = begins_spread e l d o n ts n2 c deep f r
-begins_lanes (Each Min x y) l d o n ts n2 c deep f r =
-    let p = lanes_two n l d Min x y f in
-    let n1 = with_lanes n n.values (x ∷ n.lanes) n.blocks in
-    let right = begun _ _ n1 _ n2 (begins_lanes y l (suc d) (Token closes ∷ Mark (EachOf Min) ∷ o) n1 (closes ∷ ts) n2 (lanes_fit n n.values (x ∷ n.lanes) n.blocks c) deep p.2 (takes (notes refl r))) in
-    let left = begun _ _ n _ n2 (begins_lanes x l (suc d) (texts (comma ∷ space ∷ []) ++ operated_each l (suc d) Min ++ o) n (comma ∷ space ∷ spell_lanes y (closes ∷ ts)) n2 c deep p.1 (takes (takes right))) in
-    record { piece = least; alternative = _; behind = _; whole = refl; has = lanes_call p.3 takes_least; reads = takes left }
-begins_lanes (Each Max x y) l d o n ts n2 c deep f r =
-    let p = lanes_two n l d Max x y f in
-    let n1 = with_lanes n n.values (x ∷ n.lanes) n.blocks in
-    let right = begun _ _ n1 _ n2 (begins_lanes y l (suc d) (Token closes ∷ Mark (EachOf Max) ∷ o) n1 (closes ∷ ts) n2 (lanes_fit n n.values (x ∷ n.lanes) n.blocks c) deep p.2 (takes (notes refl r))) in
-    let left = begun _ _ n _ n2 (begins_lanes x l (suc d) (texts (comma ∷ space ∷ []) ++ operated_each l (suc d) Max ++ o) n (comma ∷ space ∷ spell_lanes y (closes ∷ ts)) n2 c deep p.1 (takes (takes right))) in
-    record { piece = greatest; alternative = _; behind = _; whole = refl; has = lanes_call p.3 takes_greatest; reads = takes left }
-begins_lanes (Each op x y) l d o n ts n2 c deep f r =
-    let p = lanes_two n l d op x y f in
-    let n1 = with_lanes n n.values (x ∷ n.lanes) n.blocks in
-    let right = begun _ _ n1 _ n2 (begins_lanes y l (suc d) (Token closes ∷ Mark (EachOf op) ∷ o) n1 (closes ∷ ts) n2 (lanes_fit n n.values (x ∷ n.lanes) n.blocks c) deep p.2 (takes (notes refl r))) in
-    let rest = reads_lanes_sign op p.0 refl l (suc d) o n1 (spell_lanes y (closes ∷ ts)) n2 right in
-    lanes_in_parentheses l d o n (spell_lanes x (space ∷ spell_sign op (space ∷ spell_lanes y (closes ∷ ts)))) n2 p.3 (begins_lanes x l (suc d) (Token space ∷ Form (LanesRest l (suc d)) ∷ o) n (space ∷ spell_sign op (space ∷ spell_lanes y (closes ∷ ts))) n2 c deep p.1 (takes rest))
-
-read_lanes : (e : Lanes) (l : ℕ) (o : List Item) (n : Notes) (ts : List Piece) (n2 : Notes) → CountsFit n → l ≤ deepest → are_lanes (counted n) l e ≡ true → Reads kernels o (with_lanes n n.values (e ∷ n.lanes) n.blocks) ts [] n2 → Begins (InLanes l 1) o n (spell_lanes e ts) n2
-read_lanes e l o n ts n2 c deep f r =
-    let p = and_parts (names_declared_in_lanes (counted n) l e) (nat_le (lanes_height e) deepest) f in
-    let h : lanes_height e ≤ 1024 = leb-true (lanes_height e) deepest p.1 in
-    begins_lanes e l 1 o n ts n2 c deep (p.0, (let k : lanes_height e + 1 ≤ 1025 = omega (arith, h) in k)) r
+use Rattle.kernel_spelling.proofs.Values.{Begins, begun, loops_small, read_value}
+use Rattle.kernel_spelling.proofs.Statements.{Room, NextIsRead, read_performed}
 
 -- ---- statements
-
--- few loops stand around, and no more than loops and ifs
-abbrev pub Room : (loops nest : ℕ) → Type 0
-Room l nest = (l ≤ nest) × (l ≤ deepest)
 
 pub loop_room : (l nest : ℕ) → Room l nest → nest < 1024 → (l < 1024) × Room (suc l) (suc nest)
 loop_room l nest room below =
@@ -308,50 +32,15 @@ record ReadsStatement (c : Code) (l nest : ℕ) (o : List Item) (n : Notes) (ts 
 abbrev StatementIsRead : Code → Type 0
 StatementIsRead c = (l nest : ℕ) (o : List Item) (n : Notes) (ts : List Piece) (n2 : Notes) → CountsFit n → Room l nest → are_statements (counted n) l nest c ≡ true → Reads kernels o (noted n n.values (c ∷ n.blocks)) ts [] n2 → ReadsStatement c l nest o n ts n2
 
-abbrev NextIsRead : Code → Type 0
-NextIsRead c = (l nest : ℕ) (o : List Item) (n : Notes) (ts : List Piece) (n2 : Notes) → CountsFit n → Room l nest → are_statements (counted n) l nest c ≡ true → Reads kernels o (noted n n.values (c ∷ n.blocks)) ts [] n2 → Reads kernels (Form (Next l nest) ∷ o) n (spell_code l nest c ts) [] n2
-
 behind : (c : Code) (l nest : ℕ) (o : List Item) (n : Notes) (ts : List Piece) (n2 : Notes) → ReadsStatement c l nest o n ts n2 → Reads kernels (Form (Next l nest) ∷ o) n (spell_code l nest c ts) [] n2
 behind c l nest o n ts n2 s = subst (λ z. Reads kernels (Form (Next l nest) ∷ o) n z [] n2) (sym s.behind_indent) (gives another (begun (Statement l nest) o n s.mid n2 s.begins))
 
 read_next : (c : Code) → (has_statement c ≡ true → StatementIsRead c) → NextIsRead c
 read_next End h l zero o n ts n2 c deep f r = gives end (takes (notes refl r))
 read_next End h l (suc nest) o n ts n2 c deep f r = gives end_of_block (takes (takes (notes refl r)))
-read_next (Assigns k e after) h l nest o n ts n2 c deep f r = behind (Assigns k e after) l nest o n ts n2 (h refl l nest o n ts n2 c deep f r)
-read_next (Loads k array i after) h l nest o n ts n2 c deep f r = behind (Loads k array i after) l nest o n ts n2 (h refl l nest o n ts n2 c deep f r)
-read_next (Stores array i e after) h l nest o n ts n2 c deep f r = behind (Stores array i e after) l nest o n ts n2 (h refl l nest o n ts n2 c deep f r)
-read_next (AssignsFour k e after) h l nest o n ts n2 c deep f r = behind (AssignsFour k e after) l nest o n ts n2 (h refl l nest o n ts n2 c deep f r)
-read_next (LoadsFour k array i after) h l nest o n ts n2 c deep f r = behind (LoadsFour k array i after) l nest o n ts n2 (h refl l nest o n ts n2 c deep f r)
-read_next (StoresFour array i e after) h l nest o n ts n2 c deep f r = behind (StoresFour array i e after) l nest o n ts n2 (h refl l nest o n ts n2 c deep f r)
+read_next (Performs s after) h l nest o n ts n2 c deep f r = behind (Performs s after) l nest o n ts n2 (h refl l nest o n ts n2 c deep f r)
 read_next (Loops start b stride body after) h l nest o n ts n2 c deep f r = behind (Loops start b stride body after) l nest o n ts n2 (h refl l nest o n ts n2 c deep f r)
 read_next (Guards start b body after) h l nest o n ts n2 c deep f r = behind (Guards start b body after) l nest o n ts n2 (h refl l nest o n ts n2 c deep f r)
-read_next (Syncs on_local on_global after) h l nest o n ts n2 c deep f r = behind (Syncs on_local on_global after) l nest o n ts n2 (h refl l nest o n ts n2 c deep f r)
-
--- the end of a line, and what follows it
-read_stored : (note : Note) (c : Code) (l nest : ℕ) (o : List Item) (n n3 : Notes) (ts : List Piece) (n2 : Notes) → NextIsRead c → CountsFit n → Room l nest → are_statements (counted n) l nest c ≡ true → marked note (noted n n.values (c ∷ n.blocks)) ≡ Some n3 → Reads kernels o n3 ts [] n2 → Reads kernels (stored l nest note ++ o) n (semicolon ∷ line ∷ spell_code l nest c ts) [] n2
-read_stored note c l nest o n n3 ts n2 next fit deep f e r = takes (takes (next l nest (Mark note ∷ o) n ts n2 fit deep f (notes e r)))
-
--- a value stands in the place of what a variable is assigned
-as_source : (l nest k : ℕ) (o : List Item) (n : Notes) (ts : List Piece) (n2 : Notes) → Begins (Value false l 1) (stored l nest (Assign k) ++ o) n ts n2 → Begins (Source l nest k) o n ts n2
-as_source l nest k o n ts n2 b = record {
-  piece = b.piece;
-  alternative = b.alternative ++ stored l nest (Assign k);
-  behind = b.behind;
-  whole = b.whole;
-  has = value b.has;
-  reads = subst (λ z. Reads kernels z n b.behind [] n2) (sym (append_assoc b.alternative (stored l nest (Assign k)) o)) b.reads;
-}
-
--- the same of four words
-as_source_of_four : (l nest k : ℕ) (o : List Item) (n : Notes) (ts : List Piece) (n2 : Notes) → Begins (InLanes l 1) (stored l nest (AssignFour k) ++ o) n ts n2 → Begins (SourceOfFour l nest k) o n ts n2
-as_source_of_four l nest k o n ts n2 b = record {
-  piece = b.piece;
-  alternative = b.alternative ++ stored l nest (AssignFour k);
-  behind = b.behind;
-  whole = b.whole;
-  has = value_of_four b.has;
-  reads = subst (λ z. Reads kernels z n b.behind [] n2) (sym (append_assoc b.alternative (stored l nest (AssignFour k)) o)) b.reads;
-}
 
 -- ---- the line of a loop or an if
 
@@ -387,14 +76,6 @@ read_guard_block l nest s o n ts n2 r = takes (takes (takes (takes r)))
 read_guard_test : (l nest : ℕ) (s : Start) (o : List Item) (n : Notes) (ts : List Piece) (n2 : Notes) → Reads kernels (Form (Value true l 1) ∷ texts (closes ∷ space ∷ block_begins ∷ line ∷ []) ++ guard_block l nest s o) n ts [] n2 → Reads kernels (guard_test l nest s ++ o) n (below_line ts) [] n2
 read_guard_test l nest s o n ts n2 r = takes (takes (takes r))
 
--- ---- a barrier
-
-read_flags : (on_local on_global : Bool) → (on_local || on_global) ≡ true → (l nest : ℕ) (o : List Item) (n : Notes) (ts : List Piece) (n2 : Notes) → Reads kernels (stored l nest (Sync on_local on_global) ++ o) n ts [] n2 → Reads kernels (Form (Fence l nest) ∷ o) n (spell_flags on_local on_global (closes ∷ ts)) [] n2
-read_flags true true h l nest o n ts n2 r = gives fences_local (gives fences_both (takes (takes (takes (takes r)))))
-read_flags true false h l nest o n ts n2 r = gives fences_local (gives local_alone r)
-read_flags false true h l nest o n ts n2 r = gives fences_global (takes r)
-read_flags false false h l nest o n ts n2 r = absurd (cc (h))
-
 -- the parts of a loop or an if that fits, whose body stands within `inner` loops
 pub record BlockFits (n : Notes) (l inner nest : ℕ) (b : Formula) (body after : Code) : Type 0 where
   pub below : nest < 1024
@@ -419,90 +100,11 @@ loop_fits n l nest s b c body after f = block_fits n l (suc l) nest b body after
 pub guard_fits : (n : Notes) (l nest : ℕ) (s : Start) (b : Formula) (body after : Code) → are_statements (counted n) l nest (Guards s b body after) ≡ true → BlockFits n l l nest b body after
 guard_fits n l nest s b body after f = block_fits n l l nest b body after f
 
--- the parts of a statement of four words that fits
-pub record FourFits (n : Notes) (l nest : ℕ) (array : Array) (may : Bool) (i : Formula) (after : Code) : Type 0 where
-  pub shared : is_shared array ≡ true
-  pub allowed : may ≡ true
-  pub offset : is_expression (counted n) l i ≡ true
-  pub after_fits : are_statements (counted n) l nest after ≡ true
-
-pub load_four_fits : (n : Notes) (l nest k : ℕ) (array : Array) (i : Formula) (after : Code) → are_statements (counted n) l nest (LoadsFour k array i after) ≡ true → (k < n.vectors) × FourFits n l nest array (is_readable (counted n) array) i after
-load_four_fits n l nest k array i after f =
-    let p = and_parts (nat_lt k n.vectors) ((is_shared array && is_readable (counted n) array) && (is_expression (counted n) l i && are_statements (counted n) l nest after)) f in
-    let q = and_parts (is_shared array && is_readable (counted n) array) (is_expression (counted n) l i && are_statements (counted n) l nest after) p.1 in
-    let u = and_parts (is_shared array) (is_readable (counted n) array) q.0 in
-    let s = and_parts (is_expression (counted n) l i) (are_statements (counted n) l nest after) q.1 in
-    (ltb-true k n.vectors p.0, record { shared = u.0; allowed = u.1; offset = s.0; after_fits = s.1 })
-
-pub store_four_fits : (n : Notes) (l nest : ℕ) (array : Array) (i : Formula) (e : Lanes) (after : Code) → are_statements (counted n) l nest (StoresFour array i e after) ≡ true → (are_lanes (counted n) l e ≡ true) × FourFits n l nest array (is_writable (counted n) array) i after
-store_four_fits n l nest array i e after f =
-    let q = and_parts (is_shared array && is_writable (counted n) array) (is_expression (counted n) l i && (are_lanes (counted n) l e && are_statements (counted n) l nest after)) f in
-    let u = and_parts (is_shared array) (is_writable (counted n) array) q.0 in
-    let s = and_parts (is_expression (counted n) l i) (are_lanes (counted n) l e && are_statements (counted n) l nest after) q.1 in
-    let p = and_parts (are_lanes (counted n) l e) (are_statements (counted n) l nest after) s.1 in
-    (p.0, record { shared = u.0; allowed = u.1; offset = s.0; after_fits = p.1 })
-
 read_statement : (c : Code) → has_statement c ≡ true → StatementIsRead c
 read_statement End h = absurd (cc (h))
-read_statement (Assigns k e after) h = λ l nest o n ts n2 fit deep f r.
-    let p = and_parts (nat_lt k n.variables) (is_expression (counted n) l e && are_statements (counted n) l nest after) f in
-    let q = and_parts (is_expression (counted n) l e) (are_statements (counted n) l nest after) p.1 in
-    let fits = ltb-true k n.variables p.0 in
-    let n1 = noted n (e ∷ n.values) n.blocks in
-    let tail = read_stored (Assign k) after l nest o n1 _ ts n2 (read_next after (read_statement after)) (with_values n (e ∷ n.values) n.blocks fit) deep q.1 refl r in
-    let source = begun (Source l nest k) o n _ n2 (as_source l nest k o n _ n2 (read_value e false l (stored l nest (Assign k) ++ o) n _ n2 fit deep.1 q.0 (any e) tail)) in
-    record { mid = _; behind_indent = refl; begins = record { piece = _; alternative = _; behind = _; whole = refl; has = assign (smaller k n.variables (2 ^ 32) fits fit.variables) fits; reads = takes (takes (takes source)) } }
-read_statement (Loads k array i after) h = λ l nest o n ts n2 fit deep f r.
-    let p = and_parts (nat_lt k n.variables) (is_readable (counted n) array && (is_expression (counted n) l i && are_statements (counted n) l nest after)) f in
-    let q = and_parts (is_readable (counted n) array) (is_expression (counted n) l i && are_statements (counted n) l nest after) p.1 in
-    let s = and_parts (is_expression (counted n) l i) (are_statements (counted n) l nest after) q.1 in
-    let fits = ltb-true k n.variables p.0 in
-    let n1 = noted n (i ∷ n.values) n.blocks in
-    let tail = read_stored (Load k array) after l nest o n1 _ ts n2 (read_next after (read_statement after)) (with_values n (i ∷ n.values) n.blocks fit) deep s.1 refl r in
-    let index = begun _ _ n _ n2 (read_value i false l (Token index_ends ∷ stored l nest (Load k array) ++ o) n _ n2 fit deep.1 s.0 (any i) (takes tail)) in
-    let source : Begins (Source l nest k) o n (array_name array ∷ index_begins ∷ spell i (index_ends ∷ semicolon ∷ line ∷ spell_code l nest after ts)) n2 = record { piece = array_name array; alternative = _; behind = _; whole = refl; has = load {array = array} (array_small n array fit q.0) q.0; reads = takes index } in
-    record { mid = _; behind_indent = refl; begins = record { piece = _; alternative = _; behind = _; whole = refl; has = assign (smaller k n.variables (2 ^ 32) fits fit.variables) fits; reads = takes (takes (takes (begun (Source l nest k) o n _ n2 source))) } }
-read_statement (Stores array i e after) h = λ l nest o n ts n2 fit deep f r.
-    let q = and_parts (is_writable (counted n) array) (is_expression (counted n) l i && (is_expression (counted n) l e && are_statements (counted n) l nest after)) f in
-    let s = and_parts (is_expression (counted n) l i) (is_expression (counted n) l e && are_statements (counted n) l nest after) q.1 in
-    let p = and_parts (is_expression (counted n) l e) (are_statements (counted n) l nest after) s.1 in
-    let n1 = noted n (i ∷ n.values) n.blocks in
-    let m1 = noted n (e ∷ i ∷ n.values) n.blocks in
-    let tail = read_stored (Store array) after l nest o m1 _ ts n2 (read_next after (read_statement after)) (with_values n (e ∷ i ∷ n.values) n.blocks fit) deep p.1 refl r in
-    let stored_value = begun _ _ n1 _ n2 (read_value e false l (stored l nest (Store array) ++ o) n1 _ n2 (with_values n (i ∷ n.values) n.blocks fit) deep.1 p.0 (any e) tail) in
-    let index = begun _ _ n _ n2 (read_value i false l _ n _ n2 fit deep.1 s.0 (any i) (takes (takes (takes (takes stored_value))))) in
-    record { mid = _; behind_indent = refl; begins = record { piece = array_name array; alternative = _; behind = _; whole = refl; has = store {array = array} (array_small n array fit (writable_readable n array q.0)) q.0; reads = takes index } }
-read_statement (AssignsFour k e after) h = λ l nest o n ts n2 fit deep f r.
-    let p = and_parts (nat_lt k n.vectors) (are_lanes (counted n) l e && are_statements (counted n) l nest after) f in
-    let q = and_parts (are_lanes (counted n) l e) (are_statements (counted n) l nest after) p.1 in
-    let fits = ltb-true k n.vectors p.0 in
-    let n1 = with_lanes n n.values (e ∷ n.lanes) n.blocks in
-    let tail = read_stored (AssignFour k) after l nest o n1 _ ts n2 (read_next after (read_statement after)) (lanes_fit n n.values (e ∷ n.lanes) n.blocks fit) deep q.1 refl r in
-    let source = begun (SourceOfFour l nest k) o n _ n2 (as_source_of_four l nest k o n _ n2 (read_lanes e l (stored l nest (AssignFour k) ++ o) n _ n2 fit deep.1 q.0 tail)) in
-    record { mid = _; behind_indent = refl; begins = record { piece = _; alternative = _; behind = _; whole = refl; has = assign_four (smaller k n.vectors (2 ^ 32) fits fit.vectors) fits; reads = takes (takes (takes source)) } }
-read_statement (LoadsFour k array i after) h = λ l nest o n ts n2 fit deep f r.
-    let p = load_four_fits n l nest k array i after f in
-    let q = p.1 in
-    let fits = p.0 in
-    let n1 = noted n (i ∷ n.values) n.blocks in
-    let fit1 = with_values n (i ∷ n.values) n.blocks fit in
-    let tail = read_stored (LoadFour k array) after l nest o n1 _ ts n2 (read_next after (read_statement after)) fit1 deep q.after_fits refl r in
-    let from : Reads kernels (Form (LoadedFour l nest k) ∷ o) n1 (array_name array ∷ closes ∷ semicolon ∷ line ∷ spell_code l nest after ts) [] n2 = gives (loaded_four {array = array} (array_small n array fit q.allowed) q.shared q.allowed) (takes tail) in
-    let index = begun _ _ n _ n2 (read_value i false l (texts (comma ∷ space ∷ []) ++ Form (LoadedFour l nest k) ∷ o) n _ n2 fit deep.1 q.offset (any i) (takes (takes from))) in
-    let source : Begins (SourceOfFour l nest k) o n (loads_four ∷ opens ∷ spell i (comma ∷ space ∷ array_name array ∷ closes ∷ semicolon ∷ line ∷ spell_code l nest after ts)) n2 = record { piece = loads_four; alternative = _; behind = _; whole = refl; has = load_four; reads = takes index } in
-    record { mid = _; behind_indent = refl; begins = record { piece = _; alternative = _; behind = _; whole = refl; has = assign_four (smaller k n.vectors (2 ^ 32) fits fit.vectors) fits; reads = takes (takes (takes (begun (SourceOfFour l nest k) o n _ n2 source))) } }
-read_statement (StoresFour array i e after) h = λ l nest o n ts n2 fit deep f r.
-    let p = store_four_fits n l nest array i e after f in
-    let q = p.1 in
-    let n1 = with_lanes n n.values (e ∷ n.lanes) n.blocks in
-    let n3 = noted n1 (i ∷ n1.values) n1.blocks in
-    let fit1 = lanes_fit n n.values (e ∷ n.lanes) n.blocks fit in
-    let behind_offset : List Item = texts (comma ∷ space ∷ []) ++ Form (StoredFour l nest) ∷ o in
-    let tail = read_stored (StoreFour array) after l nest o n3 _ ts n2 (read_next after (read_statement after)) (with_values n1 (i ∷ n1.values) n1.blocks fit1) deep q.after_fits refl r in
-    let to : Reads kernels (Form (StoredFour l nest) ∷ o) n3 (array_name array ∷ closes ∷ semicolon ∷ line ∷ spell_code l nest after ts) [] n2 = gives (stored_four {array = array} (array_small n array fit (writable_readable n array q.allowed)) q.shared q.allowed) (takes tail) in
-    let offset = begun _ _ n1 _ n2 (read_value i false l behind_offset n1 _ n2 fit1 deep.1 q.offset (any i) (takes (takes to))) in
-    let words = begun _ _ n _ n2 (read_lanes e l (texts (comma ∷ space ∷ []) ++ Form (Value false l 1) ∷ behind_offset) n _ n2 fit deep.1 p.0 (takes (takes offset))) in
-    record { mid = _; behind_indent = refl; begins = record { piece = stores_four; alternative = _; behind = _; whole = refl; has = store_four; reads = takes words } }
+read_statement (Performs s after) h = λ l nest o n ts n2 fit deep f r.
+    let p = and_parts (is_statement (counted n) l s) (are_statements (counted n) l nest after) f in
+    record { mid = _; behind_indent = refl; begins = read_performed s after (read_next after (read_statement after)) l nest o n ts n2 fit deep p.0 p.1 r }
 read_statement (Loops s b c body after) h = λ l nest o n ts n2 fit deep f r.
     let p = loop_fits n l nest s b c body after f in
     let room = loop_room l nest deep p.below in
@@ -529,11 +131,6 @@ read_statement (Guards s b body after) h = λ l nest o n ts n2 fit deep f r.
     let bound = begun _ _ n _ n2 (read_value b true l _ n _ n2 fit deep.1 p.bound (λ k. p.constant) (read_guard_block l nest s o n1 code n2 begun_body)) in
     let head = read_start s true l nest o n _ n2 (read_guard_test l nest s o n _ n2 bound) in
     record { mid = _; behind_indent = refl; begins = record { piece = whether; alternative = _; behind = _; whole = refl; has = guard p.below; reads = takes (takes head) } }
-read_statement (Syncs on_local on_global after) h = λ l nest o n ts n2 fit deep f r.
-    let p = and_parts (on_local || on_global) (are_statements (counted n) l nest after) f in
-    let tail = read_stored (Sync on_local on_global) after l nest o n _ ts n2 (read_next after (read_statement after)) fit deep p.1 refl r in
-    let flags = read_flags on_local on_global p.0 l nest o n _ n2 tail in
-    record { mid = _; behind_indent = refl; begins = record { piece = barrier; alternative = _; behind = _; whole = refl; has = meet; reads = takes flags } }
 
 -- ---- declarations
 

@@ -1,177 +1,20 @@
 -- The pieces of a spelled kernel are the pieces of its text.
-use Rattle.std.proofs.Common.{◌≡◌, ℕ, zero, suc, ◌+◌, ◌^◌, ◌<◌, ◌≤◌, List, [], ◌∷◌, ◌++◌, Option, None, Some, Bool, true, false, refl, ap, sym, subst, arith, length, lit<, lit≤}
-use Rattle.std.specs.Prelude.{◌&&◌, ◌||◌, ◌==◌, cond, codes, decimal, nat_lt, nat_le}
-use Rattle.std.proofs.lemmas.Bool.{ltb-true, eqb-true, and_parts, and_from}
-use Rattle.std.specs.List.{prefix_len}
-use Rattle.std.specs.Str.Parse.{AllDigits}
-use Rattle.std.proofs.lemmas.Str.Parse.{IsDigitsTest, tells_digits}
-use Rattle.std.proofs.lemmas.Fmt.{decimal_is_IsNumeral}
-use Rattle.scalar_ops.specs.declared.op.Op.{Op}
-use Rattle.scalar_ops.specs.declared.op.Op.TheVariants.{Add, Mul, Min, Max, And, Or, Xor, Sub, Shl, Shr, Div, Rem, Lt, Eq}
-use Rattle.kernel_tree.specs.declared.tree.Dimension.{Dimension}
-use Rattle.kernel_tree.specs.declared.tree.Dimension.TheVariants.{X, Y}
-use Rattle.kernel_tree.specs.Formula.{IdForm, GlobalId, GroupId, LocalId, GlobalSize, GroupCount, LocalSize, Comparison, Less, Equal, Formula, Number, Variable, LoopVariable, Size, Id, Binary, Choose, Lanes, Vector, Spread, Each}
-use Rattle.kernel_tree.specs.Code.{Array, Input, Output, Local, Private, Start, FromZero, FromGlobalId, FromGroupId, FromLocalId, Stride, ByOne, ByGlobalSize, ByGroupCount, ByLocalSize, Code, End, Assigns, Loads, Stores, AssignsFour, LoadsFour, StoresFour, Loops, Guards, Syncs, Kernel}
-use Rattle.kernel_tree.specs.Grammar.{deepest, height, lanes_height, is_operator, names_declared, is_expression, names_declared_in_lanes, are_lanes, is_readable, is_writable, are_statements, are_lengths, is_group_size}
-use Rattle.kernel_tree.specs.Pieces.{is_word, is_blank, ArePieces, joined}
-use Rattle.kernel_tree.specs.KernelText.{Piece, space, line, comma, semicolon, question, colon, opens, closes, index_begins, index_ends, global, local, const, uint, uint4, loads_four, stores_four, for, whether, barrier, local_flag, global_flag, least, greatest, nought, one, dimension, void, attribute, group_size, id_name, array_name, loop_variable, zero_literal, one_literal, number_limit, Notes, counted, all_of as notes_of}
-use Rattle.kernel_spelling.specs.Spelling.{spell_id, is_called, spell_sign, spell_comparison, spell, spell_lanes, spell_end, spell_start, spell_stride, loop_line, test_line, step_line, block_line, guard_line, below_line, spell_flags, assign_line, assign_four_line, spell_code, spell_locals, spell_privates, spell_variables, spell_vectors, spell_sizes, spell_outputs, spell_inputs, first_output, spell_launching, spell_body, spelled_with, spelled, is_letters, IsName, HasText}
+use Rattle.std.proofs.Common.{◌≡◌, ℕ, zero, suc, ◌+◌, ◌^◌, ◌<◌, ◌≤◌, List, [], ◌∷◌, Option, None, Some, true, refl, ap, sym, subst, arith, length, lit<, lit≤}
+use Rattle.std.specs.Prelude.{codes, decimal, nat_lt}
+use Rattle.std.proofs.lemmas.Bool.{and_parts}
+use Rattle.kernel_tree.specs.Formula.{GlobalId, GroupId, LocalId, GlobalSize, GroupCount, LocalSize}
+use Rattle.kernel_tree.specs.Code.{Start, FromZero, FromGlobalId, FromGroupId, FromLocalId, Stride, ByOne, ByGlobalSize, ByGroupCount, ByLocalSize, Code, End, Performs, Loops, Guards, Kernel}
+use Rattle.kernel_tree.specs.Grammar.{are_statements, are_lengths, is_group_size, is_statement}
+use Rattle.kernel_tree.specs.Pieces.{ArePieces, joined}
+use Rattle.kernel_tree.specs.KernelText.{Piece, space, line, comma, semicolon, opens, closes, index_begins, index_ends, global, local, const, uint, uint4, for, whether, one, void, attribute, group_size, loop_variable, zero_literal, one_literal, number_limit, Notes, counted, all_of as notes_of}
+use Rattle.kernel_spelling.specs.Spelling.{spell_end, spell_start, spell_stride, loop_line, test_line, step_line, block_line, guard_line, below_line, spell_code, spell_locals, spell_privates, spell_variables, spell_vectors, spell_sizes, spell_outputs, spell_inputs, first_output, spell_launching, spell_body, spelled_with, spelled, IsName, HasText}
 use Rattle.kernel_spelling.specs.Meaning.{CountsFit}
-use Rattle.kernel_spelling.proofs.Cut.{Stand, NoWord, NoBlank, all_of, word, single, blanks, indented, digit_no_blank, small_number, decimal_word, a_name, a_literal}
-use Rattle.kernel_spelling.proofs.Spelled.{smaller, loops_small, array_small, writable_readable, Room, loop_room, guard_room, loop_fits, guard_fits, load_four_fits, store_four_fits, length_parts, size_fits}
+use Rattle.kernel_spelling.proofs.Cut.{Stand, NoWord, NoBlank, single, indented, a_name}
+use Rattle.kernel_spelling.proofs.Spelled.{loop_room, guard_room, loop_fits, guard_fits, length_parts, size_fits}
+use Rattle.kernel_spelling.proofs.Values.{loops_small}
 use Rattle.kernel_spelling.proofs.Whole.{kernel_fits}
-
-a_word : (w : Piece) (ps : List Piece) → all_of is_word w ≡ true → 0 < length w → NoWord ps → Stand ps → Stand (w ∷ ps)
-a_word [] ps h some apart stood = absurd (omega (arith, some))
-a_word (b ∷ bs) ps h some apart stood = word b bs ps h apart stood
-
-a_space : (ps : List Piece) → NoBlank ps → Stand ps → Stand (space ∷ ps)
-a_space ps apart stood = blanks 0 ps apart stood
-
-a_decimal : (v : ℕ) (ps : List Piece) → v < 2 ^ 32 → NoWord ps → Stand ps → Stand (decimal v ∷ ps)
-a_decimal v ps small apart stood = a_word (decimal v) ps (decimal_word v small) (decimal_is_IsNumeral v (small_number v small)).0.0 apart stood
-
--- no decimal and no name begins with a blank
-blank_after : (b : ℕ) (bs : List ℕ) (ps : List Piece) → is_blank b ≡ false → NoBlank ((b ∷ bs) ∷ ps)
-blank_after b bs ps h = ap (λ v. cond v (1 + prefix_len is_blank (bs ++ joined ps)) 0) h
-
-digits_apart : (w : List ℕ) (ps : List Piece) → 0 < length w → AllDigits 10 w → NoBlank (w ∷ ps)
-digits_apart [] ps some digits = absurd (omega (arith, some))
-digits_apart (d ∷ ds) ps some digits = blank_after d ds ps (digit_no_blank d (IsDigitsTest.parts tells_digits d ds digits).0.0)
-
-decimal_apart : (v : ℕ) → v < 2 ^ 32 → (ps : List Piece) → NoBlank (decimal v ∷ ps)
-decimal_apart v small ps = let h = (decimal_is_IsNumeral v (small_number v small)).0 in digits_apart (decimal v) ps h.0 h.1
-
-word_no_blank : (b : ℕ) → is_word b ≡ true → is_blank b ≡ false
-word_no_blank b h = at_test (b == 32) refl where
-  at_test : (v : Bool) → (b == 32) ≡ v → is_blank b ≡ false
-  at_test true e = absurd (let w : is_word 32 ≡ true = subst (λ z. is_word z ≡ true) (eqb-true b 32 e) h in cc (w))
-  at_test false e = e
-
-word_apart : (w : List ℕ) → all_of is_word w ≡ true → 0 < length w → (ps : List Piece) → NoBlank (w ∷ ps)
-word_apart [] h some ps = absurd (omega (arith, some))
-word_apart (b ∷ bs) h some ps = blank_after b bs ps (word_no_blank b (and_parts (is_word b) (all_of is_word bs) h).0)
-
-all_letters : (w : List ℕ) → is_letters w ≡ true → all_of is_word w ≡ true
-all_letters [] h = refl
-all_letters (b ∷ bs) h =
-    let q = and_parts (is_word b) (is_letters bs) h in
-    and_from (is_word b) (all_of is_word bs) q.0 (all_letters bs q.1)
-
--- ---- expressions
-
-id_word : (form : IdForm) → (all_of is_word (id_name form) ≡ true) × (0 < length (id_name form))
-id_word GlobalId = (refl, lit< tt)
-id_word GroupId = (refl, lit< tt)
-id_word LocalId = (refl, lit< tt)
-id_word GlobalSize = (refl, lit< tt)
-id_word GroupCount = (refl, lit< tt)
-id_word LocalSize = (refl, lit< tt)
-
-dimension_stands : (d : Dimension) (ps : List Piece) → NoWord ps → Stand ps → Stand (dimension d ∷ ps)
-dimension_stands X ps apart stood = a_word nought ps refl (lit< tt) apart stood
-dimension_stands Y ps apart stood = a_word one ps refl (lit< tt) apart stood
-
-id_stands : (d : Dimension) (form : IdForm) (back : List Piece) → Stand back → Stand (spell_id d form back) × NoBlank (spell_id d form back)
-id_stands d form back stood =
-    let w = id_word form in
-    let arguments = single 40 _ refl refl (dimension_stands d _ refl (single 41 back refl refl stood)) in
-    (single 40 _ refl refl (a_word uint _ refl (lit< tt) refl (single 41 _ refl refl (a_word (id_name form) _ w.0 w.1 refl arguments))), refl)
-
-sign_stands : (op : Op) → is_operator op ≡ true → is_called op ≡ false → (ps : List Piece) → Stand ps → Stand (spell_sign op ps) × NoBlank (spell_sign op ps)
-sign_stands Add h g ps stood = (single 43 ps refl refl stood, refl)
-sign_stands Sub h g ps stood = (single 45 ps refl refl stood, refl)
-sign_stands Mul h g ps stood = (single 42 ps refl refl stood, refl)
-sign_stands Div h g ps stood = (single 47 ps refl refl stood, refl)
-sign_stands Rem h g ps stood = (single 37 ps refl refl stood, refl)
-sign_stands And h g ps stood = (single 38 ps refl refl stood, refl)
-sign_stands Or h g ps stood = (single 124 ps refl refl stood, refl)
-sign_stands Xor h g ps stood = (single 94 ps refl refl stood, refl)
-sign_stands Shl h g ps stood = (single 60 _ refl refl (single 60 ps refl refl stood), refl)
-sign_stands Shr h g ps stood = (single 62 _ refl refl (single 62 ps refl refl stood), refl)
-sign_stands Min h g ps stood = absurd (cc (g))
-sign_stands Max h g ps stood = absurd (cc (g))
-sign_stands Lt h g ps stood = absurd (cc (h))
-sign_stands Eq h g ps stood = absurd (cc (h))
-
-comparison_stands : (c : Comparison) (ps : List Piece) → Stand ps → Stand (spell_comparison c ps) × NoBlank (spell_comparison c ps)
-comparison_stands Less ps stood = (single 60 ps refl refl stood, refl)
-comparison_stands Equal ps stood = (single 61 _ refl refl (single 61 ps refl refl stood), refl)
-
--- an operator between its operands
-between_stands : (op : Op) (left : List Piece → List Piece) (right : List Piece) → is_operator op ≡ true → is_called op ≡ false → ((back : List Piece) → NoWord back → Stand back → Stand (left back) × NoBlank (left back)) → Stand right → NoBlank right
-    → Stand (opens ∷ left (space ∷ spell_sign op (space ∷ right)))
-between_stands op left right h g stands stood apart =
-    let operator = sign_stands op h g _ (a_space right apart stood) in
-    single 40 _ refl refl (stands _ refl (a_space _ operator.1 operator.0)).0
-
-called_stands : (name : Piece) (left : List Piece → List Piece) (right : List Piece) → all_of is_word name ≡ true → 0 < length name → ((back : List Piece) → NoWord back → Stand back → Stand (left back) × NoBlank (left back)) → Stand right → NoBlank right
-    → Stand (name ∷ opens ∷ left (comma ∷ space ∷ right))
-called_stands name left right h some stands stood apart =
-    a_word name _ h some refl (single 40 _ refl refl (stands _ refl (single 44 _ refl refl (a_space right apart stood))).0)
-
-value_stands : (e : Formula) (l : ℕ) (n : Notes) (back : List Piece) → CountsFit n → l ≤ deepest → names_declared (counted n) l e ≡ true → NoWord back → Stand back → Stand (spell e back) × NoBlank (spell e back)
-value_stands (Number v) l n back fit deep f apart stood = a_literal v back (ltb-true v (2 ^ 32) f) apart stood
-value_stands (Variable k) l n back fit deep f apart stood = (a_name 118 k back (smaller k n.variables (2 ^ 32) (ltb-true k n.variables f) fit.variables) refl apart stood, refl)
-value_stands (LoopVariable k) l n back fit deep f apart stood = (a_name 105 k back (loops_small k l (ltb-true k l f) deep) refl apart stood, refl)
-value_stands (Size k) l n back fit deep f apart stood = (a_name 115 k back (smaller k n.sizes (2 ^ 32) (ltb-true k n.sizes f) fit.sizes) refl apart stood, refl)
-value_stands (Id d form) l n back fit deep f apart stood = id_stands d form back stood
-value_stands (Binary Min a b) l n back fit deep f apart stood =
-    let names = and_parts (names_declared (counted n) l a) (names_declared (counted n) l b) f in
-    let right = value_stands b l n (closes ∷ back) fit deep names.1 refl (single 41 back refl refl stood) in
-    (called_stands least (spell a) (spell b (closes ∷ back)) refl (lit< tt) (λ back apart stood. value_stands a l n back fit deep names.0 apart stood) right.0 right.1, refl)
-value_stands (Binary Max a b) l n back fit deep f apart stood =
-    let names = and_parts (names_declared (counted n) l a) (names_declared (counted n) l b) f in
-    let right = value_stands b l n (closes ∷ back) fit deep names.1 refl (single 41 back refl refl stood) in
-    (called_stands greatest (spell a) (spell b (closes ∷ back)) refl (lit< tt) (λ back apart stood. value_stands a l n back fit deep names.0 apart stood) right.0 right.1, refl)
-value_stands (Binary op a b) l n back fit deep f apart stood =
-    let p = and_parts (is_operator op) (names_declared (counted n) l a && names_declared (counted n) l b) f in
-    let names = and_parts (names_declared (counted n) l a) (names_declared (counted n) l b) p.1 in
-    let right = value_stands b l n (closes ∷ back) fit deep names.1 refl (single 41 back refl refl stood) in
-    (between_stands op (spell a) (spell b (closes ∷ back)) p.0 refl (λ back apart stood. value_stands a l n back fit deep names.0 apart stood) right.0 right.1, refl)
-value_stands (Choose c e a x y) l n back fit deep f apart stood =
-    let p = and_parts (names_declared (counted n) l e && names_declared (counted n) l a) (names_declared (counted n) l x && names_declared (counted n) l y) f in
-    let q = and_parts (names_declared (counted n) l e) (names_declared (counted n) l a) p.0 in
-    let r = and_parts (names_declared (counted n) l x) (names_declared (counted n) l y) p.1 in
-    let no = value_stands y l n (closes ∷ back) fit deep r.1 refl (single 41 back refl refl stood) in
-    let yes = value_stands x l n (space ∷ colon ∷ space ∷ spell y (closes ∷ back)) fit deep r.0 refl (a_space _ refl (single 58 _ refl refl (a_space _ no.1 no.0))) in
-    let right = value_stands a l n (space ∷ question ∷ space ∷ spell x (space ∷ colon ∷ space ∷ spell y (closes ∷ back))) fit deep q.1 refl (a_space _ refl (single 63 _ refl refl (a_space _ yes.1 yes.0))) in
-    let test = comparison_stands c _ (a_space _ right.1 right.0) in
-    let left = value_stands e l n (space ∷ spell_comparison c (space ∷ spell a (space ∷ question ∷ space ∷ spell x (space ∷ colon ∷ space ∷ spell y (closes ∷ back))))) fit deep q.0 refl (a_space _ test.1 test.0) in
-    (single 40 _ refl refl left.0, refl)
-
-expression_stands : (e : Formula) (l : ℕ) (n : Notes) (back : List Piece) → CountsFit n → l ≤ deepest → is_expression (counted n) l e ≡ true → NoWord back → Stand back → Stand (spell e back) × NoBlank (spell e back)
-expression_stands e l n back fit deep f apart stood = value_stands e l n back fit deep (and_parts (names_declared (counted n) l e) (nat_le (height e) deepest) f).0 apart stood
-
-array_stands : (a : Array) (n : Notes) (ps : List Piece) → CountsFit n → is_readable (counted n) a ≡ true → NoWord ps → Stand ps → Stand (array_name a ∷ ps) × NoBlank (array_name a ∷ ps)
-array_stands (Input k) n ps fit f apart stood = (a_name 97 k ps (array_small n (Input k) fit f) refl apart stood, refl)
-array_stands (Output k) n ps fit f apart stood = (a_name 111 k ps (array_small n (Output k) fit f) refl apart stood, refl)
-array_stands (Local k) n ps fit f apart stood = (a_name 108 k ps (array_small n (Local k) fit f) refl apart stood, refl)
-array_stands (Private k) n ps fit f apart stood = (a_name 112 k ps (array_small n (Private k) fit f) refl apart stood, refl)
-
--- ---- expressions of four words
-
-lanes_stand : (e : Lanes) (l : ℕ) (n : Notes) (back : List Piece) → CountsFit n → l ≤ deepest → names_declared_in_lanes (counted n) l e ≡ true → NoWord back → Stand back → Stand (spell_lanes e back) × NoBlank (spell_lanes e back)
-lanes_stand (Vector k) l n back fit deep f apart stood = (a_name 119 k back (smaller k n.vectors (2 ^ 32) (ltb-true k n.vectors f) fit.vectors) refl apart stood, refl)
-lanes_stand (Spread e) l n back fit deep f apart stood =
-    let value = value_stands e l n (closes ∷ back) fit deep f refl (single 41 back refl refl stood) in
-    (single 40 _ refl refl (a_word uint4 _ refl (lit< tt) refl (single 41 _ refl refl (single 40 _ refl refl value.0))), refl)
-lanes_stand (Each Min a b) l n back fit deep f apart stood =
-    let names = and_parts (names_declared_in_lanes (counted n) l a) (names_declared_in_lanes (counted n) l b) f in
-    let right = lanes_stand b l n (closes ∷ back) fit deep names.1 refl (single 41 back refl refl stood) in
-    (called_stands least (spell_lanes a) (spell_lanes b (closes ∷ back)) refl (lit< tt) (λ back apart stood. lanes_stand a l n back fit deep names.0 apart stood) right.0 right.1, refl)
-lanes_stand (Each Max a b) l n back fit deep f apart stood =
-    let names = and_parts (names_declared_in_lanes (counted n) l a) (names_declared_in_lanes (counted n) l b) f in
-    let right = lanes_stand b l n (closes ∷ back) fit deep names.1 refl (single 41 back refl refl stood) in
-    (called_stands greatest (spell_lanes a) (spell_lanes b (closes ∷ back)) refl (lit< tt) (λ back apart stood. lanes_stand a l n back fit deep names.0 apart stood) right.0 right.1, refl)
-lanes_stand (Each op a b) l n back fit deep f apart stood =
-    let p = and_parts (is_operator op) (names_declared_in_lanes (counted n) l a && names_declared_in_lanes (counted n) l b) f in
-    let names = and_parts (names_declared_in_lanes (counted n) l a) (names_declared_in_lanes (counted n) l b) p.1 in
-    let right = lanes_stand b l n (closes ∷ back) fit deep names.1 refl (single 41 back refl refl stood) in
-    (between_stands op (spell_lanes a) (spell_lanes b (closes ∷ back)) p.0 refl (λ back apart stood. lanes_stand a l n back fit deep names.0 apart stood) right.0 right.1, refl)
-
-four_words_stand : (e : Lanes) (l : ℕ) (n : Notes) (back : List Piece) → CountsFit n → l ≤ deepest → are_lanes (counted n) l e ≡ true → NoWord back → Stand back → Stand (spell_lanes e back) × NoBlank (spell_lanes e back)
-four_words_stand e l n back fit deep f apart stood = lanes_stand e l n back fit deep (and_parts (names_declared_in_lanes (counted n) l e) (nat_le (lanes_height e) deepest) f).0 apart stood
+use Rattle.kernel_spelling.proofs.Separate.{a_word, a_space, a_decimal, decimal_apart, word_apart, all_letters, id_stands, expression_stands}
+use Rattle.kernel_spelling.proofs.Statements.{Room, statement_stands}
 
 -- ---- statements
 
@@ -223,66 +66,12 @@ guard_stands ps apart stood = a_word whether _ refl (lit< tt) refl (a_space _ re
 below_stands : (ps : List Piece) → NoBlank ps → Stand ps → Stand (below_line ps)
 below_stands ps apart stood = a_space _ refl (single 60 _ refl refl (a_space ps apart stood))
 
--- before what a variable is assigned
-assign_stands : (k : ℕ) (ps : List Piece) → k < number_limit → NoBlank ps → Stand ps → Stand (assign_line k ps)
-assign_stands k ps small apart stood = a_name 118 k _ small refl refl (a_space _ refl (single 61 _ refl refl (a_space _ apart stood)))
-
-assign_four_stands : (k : ℕ) (ps : List Piece) → k < number_limit → NoBlank ps → Stand ps → Stand (assign_four_line k ps)
-assign_four_stands k ps small apart stood = a_name 119 k _ small refl refl (a_space _ refl (single 61 _ refl refl (a_space _ apart stood)))
-
--- an array behind four words, and the end of the line
-shared_stands : (array : Array) (n : Notes) (ps : List Piece) → CountsFit n → is_readable (counted n) array ≡ true → Stand ps → Stand (comma ∷ space ∷ array_name array ∷ closes ∷ semicolon ∷ line ∷ ps)
-shared_stands array n ps fit f stood =
-    let name = array_stands array n _ fit f refl (single 41 _ refl refl (ended ps stood)) in
-    single 44 _ refl refl (a_space _ name.1 name.0)
-
-flags_stand : (on_local on_global : Bool) → (on_local || on_global) ≡ true → (ps : List Piece) → NoWord ps → Stand ps → Stand (spell_flags on_local on_global ps)
-flags_stand true true h ps apart stood =
-    a_word local_flag _ refl (lit< tt) refl (a_space _ refl (single 124 _ refl refl (a_space _ refl (a_word global_flag ps refl (lit< tt) apart stood))))
-flags_stand true false h ps apart stood = a_word local_flag ps refl (lit< tt) apart stood
-flags_stand false true h ps apart stood = a_word global_flag ps refl (lit< tt) apart stood
-flags_stand false false h ps apart stood = absurd (cc (h))
-
 code_stands : (c : Code) (l nest : ℕ) (n : Notes) (back : List Piece) → CountsFit n → Room l nest → are_statements (counted n) l nest c ≡ true → Stand back → Stand (spell_code l nest c back)
 code_stands End l nest n back fit deep f stood = end_stands nest back stood
-code_stands (Assigns k e after) l nest n back fit deep f stood =
-    let p = and_parts (nat_lt k n.variables) (is_expression (counted n) l e && are_statements (counted n) l nest after) f in
-    let q = and_parts (is_expression (counted n) l e) (are_statements (counted n) l nest after) p.1 in
-    let value = expression_stands e l n _ fit deep.1 q.0 refl (ended _ (code_stands after l nest n back fit deep q.1 stood)) in
-    indented nest _ refl (assign_stands k _ (smaller k n.variables (2 ^ 32) (ltb-true k n.variables p.0) fit.variables) value.1 value.0)
-code_stands (Loads k array i after) l nest n back fit deep f stood =
-    let p = and_parts (nat_lt k n.variables) (is_readable (counted n) array && (is_expression (counted n) l i && are_statements (counted n) l nest after)) f in
-    let q = and_parts (is_readable (counted n) array) (is_expression (counted n) l i && are_statements (counted n) l nest after) p.1 in
-    let s = and_parts (is_expression (counted n) l i) (are_statements (counted n) l nest after) q.1 in
-    let index = expression_stands i l n _ fit deep.1 s.0 refl (single 93 _ refl refl (ended _ (code_stands after l nest n back fit deep s.1 stood))) in
-    let source = array_stands array n _ fit q.0 refl (single 91 _ refl refl index.0) in
-    indented nest _ refl (assign_stands k _ (smaller k n.variables (2 ^ 32) (ltb-true k n.variables p.0) fit.variables) source.1 source.0)
-code_stands (Stores array i e after) l nest n back fit deep f stood =
-    let q = and_parts (is_writable (counted n) array) (is_expression (counted n) l i && (is_expression (counted n) l e && are_statements (counted n) l nest after)) f in
-    let s = and_parts (is_expression (counted n) l i) (is_expression (counted n) l e && are_statements (counted n) l nest after) q.1 in
-    let p = and_parts (is_expression (counted n) l e) (are_statements (counted n) l nest after) s.1 in
-    let value = expression_stands e l n _ fit deep.1 p.0 refl (ended _ (code_stands after l nest n back fit deep p.1 stood)) in
-    let index = expression_stands i l n _ fit deep.1 s.0 refl (single 93 _ refl refl (a_space _ refl (single 61 _ refl refl (a_space _ value.1 value.0)))) in
-    let target = array_stands array n _ fit (writable_readable n array q.0) refl (single 91 _ refl refl index.0) in
-    indented nest _ target.1 target.0
-code_stands (AssignsFour k e after) l nest n back fit deep f stood =
-    let p = and_parts (nat_lt k n.vectors) (are_lanes (counted n) l e && are_statements (counted n) l nest after) f in
-    let q = and_parts (are_lanes (counted n) l e) (are_statements (counted n) l nest after) p.1 in
-    let value = four_words_stand e l n _ fit deep.1 q.0 refl (ended _ (code_stands after l nest n back fit deep q.1 stood)) in
-    indented nest _ refl (assign_four_stands k _ (smaller k n.vectors (2 ^ 32) (ltb-true k n.vectors p.0) fit.vectors) value.1 value.0)
-code_stands (LoadsFour k array i after) l nest n back fit deep f stood =
-    let p = load_four_fits n l nest k array i after f in
-    let q = p.1 in
-    let rest = shared_stands array n _ fit q.allowed (code_stands after l nest n back fit deep q.after_fits stood) in
-    let offset = expression_stands i l n _ fit deep.1 q.offset refl rest in
-    indented nest _ refl (assign_four_stands k _ (smaller k n.vectors (2 ^ 32) p.0 fit.vectors) refl (a_word loads_four _ refl (lit< tt) refl (single 40 _ refl refl offset.0)))
-code_stands (StoresFour array i e after) l nest n back fit deep f stood =
-    let p = store_four_fits n l nest array i e after f in
-    let q = p.1 in
-    let rest = shared_stands array n _ fit (writable_readable n array q.allowed) (code_stands after l nest n back fit deep q.after_fits stood) in
-    let offset = expression_stands i l n _ fit deep.1 q.offset refl rest in
-    let words = four_words_stand e l n _ fit deep.1 p.0 refl (single 44 _ refl refl (a_space _ offset.1 offset.0)) in
-    indented nest _ refl (a_word stores_four _ refl (lit< tt) refl (single 40 _ refl refl words.0))
+code_stands (Performs s after) l nest n back fit deep f stood =
+    let p = and_parts (is_statement (counted n) l s) (are_statements (counted n) l nest after) f in
+    let q = statement_stands s l n _ fit deep.1 p.0 refl (ended _ (code_stands after l nest n back fit deep p.1 stood)) in
+    indented nest _ q.1 q.0
 code_stands (Loops s b c body after) l nest n back fit deep f stood =
     let p = loop_fits n l nest s b c body after f in
     let room = loop_room l nest deep p.below in
@@ -298,10 +87,6 @@ code_stands (Guards s b body after) l nest n back fit deep f stood =
     let bound = expression_stands b l n _ fit deep.1 p.bound refl (block_stands _ inner) in
     let begin = start_stands s _ refl (below_stands _ bound.1 bound.0) in
     indented nest _ refl (guard_stands _ begin.1 begin.0)
-code_stands (Syncs on_local on_global after) l nest n back fit deep f stood =
-    let p = and_parts (on_local || on_global) (are_statements (counted n) l nest after) f in
-    let rest = single 41 _ refl refl (ended _ (code_stands after l nest n back fit deep p.1 stood)) in
-    indented nest _ refl (a_word barrier _ refl (lit< tt) refl (single 40 _ refl refl (flags_stand on_local on_global p.0 _ refl rest)))
 
 -- ---- declarations
 

@@ -1,17 +1,17 @@
 -- What is read is a kernel, spelled.
 use Rattle.std.proofs.Common.{◌≡◌, ℕ, zero, suc, ◌+◌, List, [], ◌∷◌, ◌++◌, Option, None, Some, true, refl, ap, sym, ◌∙◌, subst, arith, length, ◌<◌, lit<}
-use Rattle.std.specs.Prelude.{nat_lt, nat_le, ◌&&◌, ◌||◌, codes}
+use Rattle.std.specs.Prelude.{nat_lt, ◌&&◌, codes}
 use Rattle.std.proofs.lemmas.Bool.{and_from, and_parts, lt-ltb}
 use Rattle.readings.specs.Readings.{Form, Reads}
 use Rattle.readings.proofs.Meanings.{read_means}
-use Rattle.kernel_tree.specs.Formula.{Formula, Number, Variable, LoopVariable, Size, Id, Binary, Choose, Lanes, Vector, Spread, Each}
-use Rattle.kernel_tree.specs.Code.{Array, Input, Output, Local, Private, Code, End, Assigns, Loads, Stores, AssignsFour, LoadsFour, StoresFour, Loops, Guards, Syncs, Kernel}
-use Rattle.kernel_tree.specs.Grammar.{deepest, height, lanes_height, is_operator, is_constant, names_declared, is_expression, names_declared_in_lanes, are_lanes, is_readable, is_writable, is_shared, has_statement, are_statements, are_lengths, is_group_size, is_kernel}
+use Rattle.kernel_tree.specs.Code.{Code, End, Performs, Loops, Guards, Kernel}
+use Rattle.kernel_tree.specs.Grammar.{deepest, is_constant, is_expression, has_statement, are_statements, are_lengths, is_group_size, is_kernel, is_statement}
 use Rattle.kernel_tree.specs.KernelText.{Piece, space, line, opens, block_begins, local, indent, size, number_limit, Launching, Parameter, Locals, Indent, Notes, counted, Item, texts, kernels, start, nothing, all_of}
 use Rattle.kernel_spelling.specs.Spelling.{spell_code, spell_locals, spell_privates, spell_variables, spell_vectors, spell_sizes, spell_outputs, spell_inputs, first_output, spell_launching, spell_head, spelled_with, spelled, HasText}
 use Rattle.kernel_spelling.specs.Meaning.{CountsFit, AreLocals, AreParameters, fixed, IsLaunching, Means}
 use Rattle.kernel_spelling.proofs.Kept.{at_tokens, at_indent, kept}
 use Rattle.kernel_spelling.proofs.Spelled.{reads_kernel}
+use Rattle.kernel_spelling.proofs.Statements.{expression_same, statement_same}
 
 -- ---- the counts alone say what may stand in the code
 
@@ -19,77 +19,19 @@ module _ (k : Kernel) where
   abbrev bare : Kernel
   bare = counted (all_of k)
 
-  names_same : (l : ℕ) (e : Formula) → names_declared bare l e ≡ names_declared k l e
-  names_same l (Number n) = refl
-  names_same l (Variable v) = refl
-  names_same l (LoopVariable i) = refl
-  names_same l (Size s) = refl
-  names_same l (Id d form) = refl
-  names_same l (Binary o a b) = ap (λ z. is_operator o && (z && names_declared bare l b)) (names_same l a) ∙ ap (λ z. is_operator o && (names_declared k l a && z)) (names_same l b)
-  names_same l (Choose c a b x y) =
-      ap (λ z. (z && names_declared bare l b) && (names_declared bare l x && names_declared bare l y)) (names_same l a)
-      ∙ ap (λ z. (names_declared k l a && z) && (names_declared bare l x && names_declared bare l y)) (names_same l b)
-      ∙ ap (λ z. (names_declared k l a && names_declared k l b) && (z && names_declared bare l y)) (names_same l x)
-      ∙ ap (λ z. (names_declared k l a && names_declared k l b) && (names_declared k l x && z)) (names_same l y)
-
-  expression_same : (l : ℕ) (e : Formula) → is_expression bare l e ≡ is_expression k l e
-  expression_same l e = ap (λ z. z && nat_le (height e) deepest) (names_same l e)
-
-  lanes_names_same : (l : ℕ) (e : Lanes) → names_declared_in_lanes bare l e ≡ names_declared_in_lanes k l e
-  lanes_names_same l (Vector v) = refl
-  lanes_names_same l (Spread e) = names_same l e
-  lanes_names_same l (Each o a b) = ap (λ z. is_operator o && (z && names_declared_in_lanes bare l b)) (lanes_names_same l a) ∙ ap (λ z. is_operator o && (names_declared_in_lanes k l a && z)) (lanes_names_same l b)
-
-  lanes_same : (l : ℕ) (e : Lanes) → are_lanes bare l e ≡ are_lanes k l e
-  lanes_same l e = ap (λ z. z && nat_le (lanes_height e) deepest) (lanes_names_same l e)
-
-  readable_same : (a : Array) → is_readable bare a ≡ is_readable k a
-  readable_same (Input a) = refl
-  readable_same (Output a) = refl
-  readable_same (Local a) = refl
-  readable_same (Private a) = refl
-
-  writable_same : (a : Array) → is_writable bare a ≡ is_writable k a
-  writable_same (Input a) = refl
-  writable_same (Output a) = refl
-  writable_same (Local a) = refl
-  writable_same (Private a) = refl
-
   pub statements_same : (l nest : ℕ) (c : Code) → are_statements bare l nest c ≡ are_statements k l nest c
   statements_same l nest End = refl
-  statements_same l nest (Assigns v e after) =
-      ap (λ z. nat_lt v k.variables && (z && are_statements bare l nest after)) (expression_same l e)
-      ∙ ap (λ z. nat_lt v k.variables && (is_expression k l e && z)) (statements_same l nest after)
-  statements_same l nest (Loads v a i after) =
-      ap (λ z. nat_lt v k.variables && (z && (is_expression bare l i && are_statements bare l nest after))) (readable_same a)
-      ∙ ap (λ z. nat_lt v k.variables && (is_readable k a && (z && are_statements bare l nest after))) (expression_same l i)
-      ∙ ap (λ z. nat_lt v k.variables && (is_readable k a && (is_expression k l i && z))) (statements_same l nest after)
-  statements_same l nest (Stores a i e after) =
-      ap (λ z. z && (is_expression bare l i && (is_expression bare l e && are_statements bare l nest after))) (writable_same a)
-      ∙ ap (λ z. is_writable k a && (z && (is_expression bare l e && are_statements bare l nest after))) (expression_same l i)
-      ∙ ap (λ z. is_writable k a && (is_expression k l i && (z && are_statements bare l nest after))) (expression_same l e)
-      ∙ ap (λ z. is_writable k a && (is_expression k l i && (is_expression k l e && z))) (statements_same l nest after)
-  statements_same l nest (AssignsFour v e after) =
-      ap (λ z. nat_lt v k.vectors && (z && are_statements bare l nest after)) (lanes_same l e)
-      ∙ ap (λ z. nat_lt v k.vectors && (are_lanes k l e && z)) (statements_same l nest after)
-  statements_same l nest (LoadsFour v a i after) =
-      ap (λ z. nat_lt v k.vectors && ((is_shared a && z) && (is_expression bare l i && are_statements bare l nest after))) (readable_same a)
-      ∙ ap (λ z. nat_lt v k.vectors && ((is_shared a && is_readable k a) && (z && are_statements bare l nest after))) (expression_same l i)
-      ∙ ap (λ z. nat_lt v k.vectors && ((is_shared a && is_readable k a) && (is_expression k l i && z))) (statements_same l nest after)
-  statements_same l nest (StoresFour a i e after) =
-      ap (λ z. (is_shared a && z) && (is_expression bare l i && (are_lanes bare l e && are_statements bare l nest after))) (writable_same a)
-      ∙ ap (λ z. (is_shared a && is_writable k a) && (z && (are_lanes bare l e && are_statements bare l nest after))) (expression_same l i)
-      ∙ ap (λ z. (is_shared a && is_writable k a) && (is_expression k l i && (z && are_statements bare l nest after))) (lanes_same l e)
-      ∙ ap (λ z. (is_shared a && is_writable k a) && (is_expression k l i && (are_lanes k l e && z))) (statements_same l nest after)
+  statements_same l nest (Performs s after) =
+      ap (λ z. z && are_statements bare l nest after) (statement_same k l s)
+      ∙ ap (λ z. is_statement k l s && z) (statements_same l nest after)
   statements_same l nest (Loops s b c body after) =
-      ap (λ z. nat_lt nest deepest && (is_constant b && (z && (has_statement body && (are_statements bare (suc l) (suc nest) body && are_statements bare l nest after))))) (expression_same l b)
+      ap (λ z. nat_lt nest deepest && (is_constant b && (z && (has_statement body && (are_statements bare (suc l) (suc nest) body && are_statements bare l nest after))))) (expression_same k l b)
       ∙ ap (λ z. nat_lt nest deepest && (is_constant b && (is_expression k l b && (has_statement body && (z && are_statements bare l nest after))))) (statements_same (suc l) (suc nest) body)
       ∙ ap (λ z. nat_lt nest deepest && (is_constant b && (is_expression k l b && (has_statement body && (are_statements k (suc l) (suc nest) body && z))))) (statements_same l nest after)
   statements_same l nest (Guards s b body after) =
-      ap (λ z. nat_lt nest deepest && (is_constant b && (z && (has_statement body && (are_statements bare l (suc nest) body && are_statements bare l nest after))))) (expression_same l b)
+      ap (λ z. nat_lt nest deepest && (is_constant b && (z && (has_statement body && (are_statements bare l (suc nest) body && are_statements bare l nest after))))) (expression_same k l b)
       ∙ ap (λ z. nat_lt nest deepest && (is_constant b && (is_expression k l b && (has_statement body && (z && are_statements bare l nest after))))) (statements_same l (suc nest) body)
       ∙ ap (λ z. nat_lt nest deepest && (is_constant b && (is_expression k l b && (has_statement body && (are_statements k l (suc nest) body && z))))) (statements_same l nest after)
-  statements_same l nest (Syncs on_local on_global after) = ap (λ z. (on_local || on_global) && z) (statements_same l nest after)
 
 -- ---- a whole text
 

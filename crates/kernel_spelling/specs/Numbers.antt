@@ -1,5 +1,5 @@
--- Numbers and names in pieces: what the proof that the rows are the grammar's (Decided) rests on. It
--- stands beside that, since a definition can cite no proof of its own crate.
+-- Numbers and names in pieces: what the proof that the rows are the grammar's (Decided) rests on.
+-- It stands beside that, since a definition can cite no proof of its own crate.
 use Rattle.std.proofs.Common.{◌≡◌, ℕ, ◌-◌, ◌+◌, ◌^◌, ◌<◌, ◌≤◌, List, [], ◌∷◌, ◌++◌, Option, Some, None, Bool, true, false, cond, refl, ap, sym, ◌∙◌, subst, arith, lit<, length, take, drop}
 use Rattle.std.specs.Prelude.{bytes_eq, nat_lt, nat_eq, ◌&&◌, decimal, codes}
 use Rattle.std.specs.Str.Parse.{digits_value}

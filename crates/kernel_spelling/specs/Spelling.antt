@@ -4,7 +4,7 @@ use Rattle.scalar_ops.specs.declared.op.Op.{Op}
 use Rattle.scalar_ops.specs.declared.op.Op.TheVariants.{Add, Mul, Min, Max, And, Or, Xor, Sub, Shl, Shr, Div, Rem, Lt, Eq}
 use Rattle.kernel_tree.specs.declared.tree.Dimension.{Dimension}
 use Rattle.kernel_tree.specs.Formula.{IdForm, GlobalId, GroupId, LocalId, GlobalSize, GroupCount, LocalSize, Comparison, Less, Equal, Formula, Number, Variable, LoopVariable, Size, Id, Binary, Choose, Lanes, Vector, Spread, Each}
-use Rattle.kernel_tree.specs.Code.{Input, Output, Local, Private, Start, FromZero, FromGlobalId, FromGroupId, FromLocalId, Stride, ByOne, ByGlobalSize, ByGroupCount, ByLocalSize, Code, End, Assigns, Loads, Stores, AssignsFour, LoadsFour, StoresFour, Loops, Guards, Syncs, Kernel}
+use Rattle.kernel_tree.specs.Code.{Input, Output, Local, Private, Statement, Start, FromZero, FromGlobalId, FromGroupId, FromLocalId, Stride, ByOne, ByGlobalSize, ByGroupCount, ByLocalSize, Code, End, Performs, Assigns, Loads, Stores, AssignsFour, LoadsFour, StoresFour, Loops, Guards, Syncs, Kernel}
 use Rattle.kernel_tree.specs.Grammar.{is_kernel}
 use Rattle.kernel_tree.specs.Pieces.{is_word, joined}
 use Rattle.kernel_tree.specs.KernelText.{Piece, space, line, comma, semicolon, star, equals, less, plus, minus, slash, percent, ampersand, bar, caret, greater, question, colon, opens, closes, index_begins, index_ends, block_begins, block_ends, global, local, const, uint, uint4, loads_four, stores_four, for, whether, barrier, local_flag, global_flag, least, greatest, one, dimension, void, attribute, group_size, id_name, indent, array_name, size, variable, vector, loop_variable, literal, zero_literal, one_literal, number_limit}
@@ -153,30 +153,30 @@ assign_line k back = variable k ∷ space ∷ equals ∷ space ∷ back
 abbrev pub assign_four_line : ℕ → List Piece → List Piece
 assign_four_line k back = vector k ∷ space ∷ equals ∷ space ∷ back
 
+-- a statement without a block, behind its indent, up to its semicolon
+abbrev pub spell_statement : Statement → List Piece → List Piece
+spell_statement (Assigns k e) back = assign_line k (spell e back)
+spell_statement (Loads k array i) back =
+    assign_line k (array_name array ∷ index_begins ∷ spell i (index_ends ∷ back))
+spell_statement (Stores array i e) back =
+    array_name array ∷ index_begins
+    ∷ spell i (index_ends ∷ space ∷ equals ∷ space ∷ spell e back)
+spell_statement (AssignsFour k e) back = assign_four_line k (spell_lanes e back)
+spell_statement (LoadsFour k array i) back =
+    assign_four_line k
+    (loads_four ∷ opens ∷ spell i (comma ∷ space ∷ array_name array ∷ closes ∷ back))
+spell_statement (StoresFour array i e) back =
+    stores_four ∷ opens
+    ∷ spell_lanes e
+    (comma ∷ space ∷ spell i (comma ∷ space ∷ array_name array ∷ closes ∷ back))
+spell_statement (Syncs on_local on_global) back =
+    barrier ∷ opens ∷ spell_flags on_local on_global (closes ∷ back)
+
 -- the statements within l loops, at this depth in loops and ifs, and the end of their block
 abbrev pub spell_code : (loops nest : ℕ) → Code → List Piece → List Piece
 spell_code l nest End back = spell_end nest back
-spell_code l nest (Assigns k e after) back =
-    indent (suc nest) ∷ assign_line k (spell e (semicolon ∷ line ∷ spell_code l nest after back))
-spell_code l nest (Loads k array i after) back =
-    indent (suc nest)
-    ∷ assign_line k (array_name array ∷ index_begins ∷ spell i (index_ends ∷ semicolon ∷ line
-    ∷ spell_code l nest after back))
-spell_code l nest (Stores array i e after) back =
-    indent (suc nest)
-    ∷ array_name array ∷ index_begins ∷ spell i (index_ends ∷ space ∷ equals ∷ space
-    ∷ spell e (semicolon ∷ line ∷ spell_code l nest after back))
-spell_code l nest (AssignsFour k e after) back =
-    indent (suc nest)
-    ∷ assign_four_line k (spell_lanes e (semicolon ∷ line ∷ spell_code l nest after back))
-spell_code l nest (LoadsFour k array i after) back =
-    indent (suc nest)
-    ∷ assign_four_line k (loads_four ∷ opens ∷ spell i (comma ∷ space ∷ array_name array ∷ closes
-    ∷ semicolon ∷ line ∷ spell_code l nest after back))
-spell_code l nest (StoresFour array i e after) back =
-    indent (suc nest)
-    ∷ stores_four ∷ opens ∷ spell_lanes e (comma ∷ space ∷ spell i (comma ∷ space
-    ∷ array_name array ∷ closes ∷ semicolon ∷ line ∷ spell_code l nest after back))
+spell_code l nest (Performs s after) back =
+    indent (suc nest) ∷ spell_statement s (semicolon ∷ line ∷ spell_code l nest after back)
 spell_code l nest (Loops start b stride body after) back =
     indent (suc nest)
     ∷ loop_line l (spell_start start (test_line l (spell b (step_line l (spell_stride stride
@@ -185,10 +185,6 @@ spell_code l nest (Guards start b body after) back =
     indent (suc nest)
     ∷ guard_line (spell_start start (below_line (spell b (block_line
     (spell_code l (suc nest) body (spell_code l nest after back))))))
-spell_code l nest (Syncs on_local on_global after) back =
-    indent (suc nest)
-    ∷ barrier ∷ opens ∷ spell_flags on_local on_global (closes ∷ semicolon ∷ line
-    ∷ spell_code l nest after back)
 
 -- ---- declarations
 

@@ -1,6 +1,6 @@
 -- Each event leaves some item fewer events, so no run without a failure
 -- has more than the text allows.
-use Rattle.std.proofs.Common.{◌≡◌, ℕ, zero, suc, ◌+◌, ◌-◌, ◌*◌, ◌/◌, ◌<◌, ◌≤◌, ◌^◌, List, [], ◌∷◌, ◌++◌, length, length-append, inl, inr, ◌⊎◌, Option, Some, None, refl, sym, ap, ◌∙◌, subst, ⊎_elim, arith, Bool, true, false}
+use Rattle.std.proofs.Common.{◌≡◌, ℕ, zero, suc, ◌+◌, ◌-◌, ◌*◌, ◌/◌, ◌<◌, ◌≤◌, ◌^◌, List, [], ◌∷◌, ◌++◌, length, length-append, inl, inr, ◌⊎◌, Some, None, refl, sym, ap, ◌∙◌, subst, ⊎_elim, arith, Bool, true, false}
 use Rattle.std.specs.Prelude.{if◌then◌else◌, nat_lt}
 use Rattle.std.proofs.lemmas.Bool.{cases_lt, eqb-true, eq-eqb, ltb-true, cases_Bool}
 use Rattle.kernel_tree.specs.declared.events.Event.{Event}
@@ -8,14 +8,15 @@ use Rattle.kernel_tree.specs.declared.events.Event.TheVariants.{Step, Release}
 use Rattle.kernel_tree.specs.declared.events.FaultKind.TheVariants.{LoopWrap}
 use Rattle.kernel_tree.specs.declared.tree.Dimension.{Dimension}
 use Rattle.kernel_tree.specs.declared.tree.Dimension.TheVariants.{X, Y}
-use Rattle.kernel_tree.specs.Formula.{IdsAlong, ids_along, Ids, along, Vars, Four, value, bound_value, lanes_value}
-use Rattle.kernel_tree.specs.Code.{Stride, ByOne, ByGlobalSize, ByGroupCount, ByLocalSize, start_value, stride_value, Code, End, Assigns, Loads, Stores, AssignsFour, LoadsFour, StoresFour, Loops, Guards, Syncs, then_rest, Kernel}
+use Rattle.kernel_tree.specs.Formula.{IdsAlong, ids_along, Ids, along, Vars, bound_value}
+use Rattle.kernel_tree.specs.Code.{Stride, ByOne, ByGlobalSize, ByGroupCount, ByLocalSize, start_value, stride_value, Code, End, Performs, Loops, Guards, then_rest, Kernel}
 use Rattle.kernel_tree.specs.Launch.{Launch, Cells, IsDivided, IsWhole, ids_of, item_count, column_of, row_of, first_item}
-use Rattle.kernel_tree.specs.Item.{Frame, Item, item, loop_variables, Wants, Ends, Waits, Moves, Reads, Writes, ReadsFour, WritesFour, Fails, with_value, tested, next_turn, next_at, next}
-use Rattle.kernel_tree.specs.Device.{Device, device_of, cell_at, four_at, four_words, State, IsStart, Memory, wants, CanStep, StandTogether, Enabled, moves, taken, after, run, IsRun}
+use Rattle.kernel_tree.specs.Item.{Frame, Item, item, loop_variables, Wants, Ends, Waits, Moves, Fails, tested, next_turn, next_at, next}
+use Rattle.kernel_tree.specs.Device.{Device, device_of, State, IsStart, wants, CanStep, StandTogether, Enabled, moves, after, run, IsRun}
 use Rattle.kernel_tree.specs.Faults.{failure, failure_of, NoFailure, Run}
 use Rattle.kernel_tree.specs.Bound.{or_zero, turns_in, cost, bound}
 use Rattle.kernel_tree.proofs.EveryRun.{is_run-front, is_run-back}
+use Rattle.kernel_tree.proofs.Leads.{Leads, Rests, leads_if, leads_performed, leads_taken}
 use Rattle.kernel_tree.proofs.Grouping.{first_of_group, first_in_launch, some_items, row_below}
 use Rattle.kernel_tree.proofs.Confluence.{moves-first, items_kept}
 
@@ -48,15 +49,9 @@ stride_positive ids h (ByLocalSize d) = (strides_along ids h d).local_size
 -- a block and the rest cost what both do
 cost-then_rest : (sizes : List ℕ) (body rest : Code) → cost sizes (then_rest body rest) ≡ cost sizes body + cost sizes rest
 cost-then_rest sizes End rest = omega arith
-cost-then_rest sizes (Assigns v e more) rest = let a = cost-then_rest sizes more rest in omega arith
-cost-then_rest sizes (Loads v a i more) rest = let b = cost-then_rest sizes more rest in omega arith
-cost-then_rest sizes (Stores a i e more) rest = let b = cost-then_rest sizes more rest in omega arith
-cost-then_rest sizes (AssignsFour v e more) rest = let b = cost-then_rest sizes more rest in omega arith
-cost-then_rest sizes (LoadsFour v a i more) rest = let b = cost-then_rest sizes more rest in omega arith
-cost-then_rest sizes (StoresFour a i e more) rest = let b = cost-then_rest sizes more rest in omega arith
+cost-then_rest sizes (Performs s more) rest = let a = cost-then_rest sizes more rest in omega arith
 cost-then_rest sizes (Loops s b c body more) rest = let a = cost-then_rest sizes more rest in let n = turns_in sizes b * (1 + cost sizes body) in omega arith
 cost-then_rest sizes (Guards s b body more) rest = let a = cost-then_rest sizes more rest in omega arith
-cost-then_rest sizes (Syncs p q more) rest = let a = cost-then_rest sizes more rest in omega arith
 
 module _ (sizes : List ℕ) where
   -- the events that are left after the innermost block
@@ -75,20 +70,13 @@ module _ (sizes : List ℕ) where
   abbrev pub IsSound : Item → Type 0
   IsSound x = SoundFrames x.frames
 
-  -- whatever comes next is sound and has fewer than n events left
-  abbrev Falls : ℕ → Wants → Type 0
-  Falls n Ends = Unit {0}
-  Falls n (Waits a b x) = IsSound x × (left x < n)
-  Falls n (Moves x) = IsSound x × (left x < n)
-  Falls n (Reads a i f) = (v : ℕ) → IsSound (f v) × (left (f v) < n)
-  Falls n (Writes a i v x) = IsSound x × (left x < n)
-  Falls n (ReadsFour a i f) = (u : Four) → IsSound (f u) × (left (f u) < n)
-  Falls n (WritesFour a i u x) = IsSound x × (left x < n)
-  Falls n (Fails f) = Unit {0}
+  -- an item that is sound and has fewer than n events left
+  abbrev HasFewer : ℕ → Item → Type 0
+  HasFewer n x = IsSound x × (left x < n)
 
-  falls_if : {A : Type 0} (n : ℕ) (o : Option A) (go : A → Wants) → ((v : A) → o ≡ Some v → Falls n (go v)) → Falls n (with_value o go)
-  falls_if n None go h = tt
-  falls_if n (Some v) go h = h v refl
+  -- whatever comes next is such an item
+  abbrev Falls : ℕ → Wants → Type 0
+  Falls n w = Leads (HasFewer n) w
 
   tested_falls : (n b : ℕ) (f : Frame) (fs : List Frame) (vars : Vars) → bound_value sizes f.bound ≡ Some b → f.turn ≤ f.variable → SoundFrames fs → (f.turn < turns_in sizes f.bound → cost sizes f.body + rest_cost (f ∷ fs) < n) → cost sizes f.after + rest_cost fs < n → Falls n (tested b f fs vars)
   tested_falls n b f fs vars q low sfs inside outside = go (nat_lt f.variable b) refl
@@ -115,23 +103,17 @@ module _ (ids : Ids) (strides : Strides ids) where
 
       go : (c : Code) (fs : List Frame) (vars : Vars) → SoundFrames ids.sizes fs → Falls ids.sizes (cost ids.sizes c + rest_cost ids.sizes fs) (next_at ids c fs vars)
       go End [] vars sf = tt
-      go End (f ∷ fs) vars sf = falls_if ids.sizes _ (bound_value ids.sizes f.bound) _ (λ b q. again f fs vars b q sf.0 sf.1 sf.2 _ refl)
-      go (Assigns v e after) fs vars sf = falls_if ids.sizes _ (value ids (loop_variables fs) vars e) _ (λ x q. (sf, omega arith))
-      go (Loads v a i after) fs vars sf = falls_if ids.sizes _ (value ids (loop_variables fs) vars i) _ (λ n q y. (sf, omega arith))
-      go (Stores a i e after) fs vars sf = falls_if ids.sizes _ (value ids (loop_variables fs) vars i) _ (λ n q. falls_if ids.sizes _ (value ids (loop_variables fs) vars e) _ (λ y r. (sf, omega arith)))
-      go (AssignsFour v e after) fs vars sf = falls_if ids.sizes _ (lanes_value ids (loop_variables fs) vars e) _ (λ x q. (sf, omega arith))
-      go (LoadsFour v a i after) fs vars sf = falls_if ids.sizes _ (value ids (loop_variables fs) vars i) _ (λ n q y. (sf, omega arith))
-      go (StoresFour a i e after) fs vars sf = falls_if ids.sizes _ (value ids (loop_variables fs) vars i) _ (λ n q. falls_if ids.sizes _ (lanes_value ids (loop_variables fs) vars e) _ (λ y r. (sf, omega arith)))
-      go (Loops s b c body after) fs vars sf = falls_if ids.sizes _ (bound_value ids.sizes b) _ (λ n q.
+      go End (f ∷ fs) vars sf = leads_if (HasFewer ids.sizes _) (bound_value ids.sizes f.bound) _ (λ b q. again f fs vars b q sf.0 sf.1 sf.2 _ refl)
+      go (Performs s after) fs vars sf = leads_performed (HasFewer ids.sizes _) ids (loop_variables fs) vars s _ (λ u. (sf, omega arith))
+      go (Loops s b c body after) fs vars sf = leads_if (HasFewer ids.sizes _) (bound_value ids.sizes b) _ (λ n q.
           tested_falls ids.sizes _ n (record { turn = 0; variable = start_value ids s; bound = b; stride = c; body = body; after = after }) fs vars q (omega arith) sf
           (λ some. let r = next_round (turns_in ids.sizes b) 0 (cost ids.sizes body) some in let z : turns_in ids.sizes b - 0 ≡ turns_in ids.sizes b = omega arith in let w = ap (λ m. m * (1 + cost ids.sizes body)) z in omega arith)
           (omega arith))
-      go (Guards s b body after) fs vars sf = falls_if ids.sizes _ (bound_value ids.sizes b) _ (λ n q. guarded (nat_lt (start_value ids s) n))
+      go (Guards s b body after) fs vars sf = leads_if (HasFewer ids.sizes _) (bound_value ids.sizes b) _ (λ n q. guarded (nat_lt (start_value ids s) n))
         where
           guarded : (t : Bool) → Falls ids.sizes (1 + cost ids.sizes body + cost ids.sizes after + rest_cost ids.sizes fs) (Moves (if t then item (then_rest body after) fs vars else item after fs vars))
           guarded true = (sf, (let e = cost-then_rest ids.sizes body after in omega arith))
           guarded false = (sf, omega arith)
-      go (Syncs p g after) fs vars sf = (sf, omega arith)
 
 -- over all items
 abbrev pub total : (ℕ → ℕ) → ℕ → ℕ
@@ -154,22 +136,6 @@ total_same : (f : ℕ → ℕ) (n each : ℕ) → ((k : ℕ) → k < n → f k �
 total_same f zero each h = omega arith
 total_same f (suc n) each h = let a = total_same f n each (λ k b. h k (omega arith)) in let b = h n (omega arith) in omega arith
 
-GoesDown : Wants → Type 0
-GoesDown Ends = ⊥
-GoesDown (Fails f) = ⊥
-GoesDown _ = Unit {0}
-
-taken_falls : (sizes : List ℕ) (l : Launch) (k n : ℕ) (w : Wants) (m : Memory) (y : Item) → Falls sizes n w → GoesDown w → IsSound sizes (taken l k w m y) × (left sizes (taken l k w m y) < n)
-unfolding GoesDown
-taken_falls sizes l k n Ends m y f d = absurd d
-taken_falls sizes l k n (Fails x) m y f d = absurd d
-taken_falls sizes l k n (Waits a b x) m y f d = f
-taken_falls sizes l k n (Moves x) m y f d = f
-taken_falls sizes l k n (Reads a i x) m y f d = f (m (cell_at l k a i))
-taken_falls sizes l k n (Writes a i v x) m y f d = f
-taken_falls sizes l k n (ReadsFour a i x) m y f d = f (four_words m (four_at l k a i))
-taken_falls sizes l k n (WritesFour a i u x) m y f d = f
-
 product_positive : (n m : ℕ) → 0 < n * m → 0 < n
 product_positive n m h = grind arith
 
@@ -188,22 +154,15 @@ strides_of l whole k h =
       y = divided l.global.1 l.local.1 (row_of l k) whole.y (let rows : 0 < l.global.1 = omega arith in rows);
     }
 
-step_down : (d : Device) (w : Wants) → CanStep w → failure d w ≡ None → GoesDown w
-unfolding GoesDown
-step_down d Ends c q = c
-step_down d (Fails f) c q = cc
-step_down d (Waits a b x) c q = tt
-step_down d (Moves x) c q = tt
-step_down d (Reads a i x) c q = tt
-step_down d (Writes a i v x) c q = tt
-step_down d (ReadsFour a i x) c q = tt
-step_down d (WritesFour a i u x) c q = tt
+step_on : (d : Device) (w : Wants) → CanStep w → failure d w ≡ None → Rests w → ⊥
+step_on d Ends c q r = c
+step_on d (Fails f) c q r = cc
+step_on d _ c q r = r
 
-stand_down : (v w : Wants) → StandTogether v w → GoesDown w
-unfolding GoesDown
-stand_down (Waits a b x) (Waits c d y) h = tt
-stand_down (Waits a b x) _ h = absurd h
-stand_down _ _ h = absurd h
+stand_on : (v w : Wants) → StandTogether v w → Rests w → ⊥
+stand_on (Waits a b x) (Waits c d y) h r = r
+stand_on (Waits a b x) _ h r = h
+stand_on _ _ h r = h
 
 module _ (d : Device) (whole : IsWhole d.launch) where
   abbrev pub SoundState : State → Type 0
@@ -216,14 +175,16 @@ module _ (d : Device) (whole : IsWhole d.launch) where
   abbrev pub left_in : State → ℕ
   left_in s = total (left_at s) (item_count d.launch)
 
-  goes_down : (s : State) (e : Event) → Enabled d s e → failure_of d s e ≡ None → (j : ℕ) → moves d.launch e j ≡ true → GoesDown (wants d s j)
+  goes_on : (s : State) (e : Event) → Enabled d s e → failure_of d s e ≡ None → (j : ℕ) → moves d.launch e j ≡ true → Rests (wants d s j) → ⊥
   unfolding failure_of
-  goes_down s (Step k) en ok j h = let e = eqb-true j k h in subst (λ x. GoesDown (wants d s x)) (sym e) (step_down d (wants d s k) en.1 ok)
-  goes_down s (Release g) en ok j h = stand_down _ _ (en.1 j (eqb-true _ _ h))
+  goes_on s (Step k) en ok j h = let e = eqb-true j k h in subst (λ x. Rests (wants d s x) → ⊥) (sym e) (step_on d (wants d s k) en.1 ok)
+  goes_on s (Release g) en ok j h = stand_on _ _ (en.1 j (eqb-true _ _ h))
 
   item_falls : (s : State) (e : Event) → SoundState s → Enabled d s e → failure_of d s e ≡ None → (k : ℕ) → k < item_count d.launch → moves d.launch e k ≡ true → IsSound d.launch.sizes ((after d s e).items k) × (left_at (after d s e) k < left_at s k)
   unfolding next after
-  item_falls s e sound en ok k b h = rw h (taken_falls d.launch.sizes d.launch k _ (wants d s k) s.memory (s.items k) (falls (ids_of d.launch k) (strides_of d.launch whole k b) (s.items k) (sound k b)) (goes_down s e en ok k h))
+  item_falls s e sound en ok k b h =
+      rw h (leads_taken (HasFewer d.launch.sizes (left_at s k)) d.launch k (wants d s k) s.memory (s.items k)
+      (falls (ids_of d.launch k) (strides_of d.launch whole k b) (s.items k) (sound k b)) (λ r. absurd (goes_on s e en ok k h r)))
 
   sound_on : (s : State) (e : Event) → SoundState s → Enabled d s e → failure_of d s e ≡ None → SoundState (after d s e)
   sound_on s e sound en ok k b =
@@ -257,15 +218,9 @@ module _ (d : Device) (whole : IsWhole d.launch) where
   left_to_do : (ids : Ids) (c : Code) (fs : List Frame) (vars : Vars) → (next_at ids c fs vars ≡ Ends → ⊥) → 0 < left d.launch.sizes (item c fs vars)
   left_to_do ids End [] vars h = absurd (h refl)
   left_to_do ids End (f ∷ fs) vars h = omega arith
-  left_to_do ids (Assigns v e after) fs vars h = omega arith
-  left_to_do ids (Loads v a i after) fs vars h = omega arith
-  left_to_do ids (Stores a i e after) fs vars h = omega arith
-  left_to_do ids (AssignsFour v e after) fs vars h = omega arith
-  left_to_do ids (LoadsFour v a i after) fs vars h = omega arith
-  left_to_do ids (StoresFour a i e after) fs vars h = omega arith
+  left_to_do ids (Performs s after) fs vars h = omega arith
   left_to_do ids (Loops s b c body after) fs vars h = omega arith
   left_to_do ids (Guards s b body after) fs vars h = omega arith
-  left_to_do ids (Syncs p q after) fs vars h = omega arith
 
   moving_item : (s : State) (e : Event) → Enabled d s e → (j : ℕ) × (j < item_count d.launch) × (wants d s j ≡ Ends → ⊥)
   moving_item s (Step k) en = (k, en.0, λ q. subst CanStep q en.1)

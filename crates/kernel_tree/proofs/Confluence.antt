@@ -4,7 +4,7 @@ use Rattle.std.proofs.lemmas.List.Sums.{sum_by-append}
 use Rattle.std.specs.List.{sum_by}
 use Rattle.std.specs.Prelude.{cond, ◌==◌, ◌&&◌, if◌then◌else◌, count_by}
 use Rattle.std.proofs.Math.Path.{fun_ext}
-use Rattle.std.proofs.lemmas.Bool.{and_parts, both_ways, cases_eq, eq-eqb, eqb-true, ne_eqb}
+use Rattle.std.proofs.lemmas.Bool.{and_parts, both_ways, cases_eq, eq-eqb, eqb-true, ne_eqb, false_from_ne_true}
 use Rattle.kernel_tree.specs.Item.{Item, Wants, Ends, Waits, Reads, ReadsFour, next}
 use Rattle.kernel_tree.specs.declared.events.Event.{Event}
 use Rattle.kernel_tree.specs.declared.events.Event.TheVariants.{Step, Release}
@@ -25,10 +25,6 @@ stands_or_steps v Ends c h = absurd c
 stands_or_steps v (Waits a b x) c h = absurd c
 stands_or_steps (Waits a b x) _ c h = h
 stands_or_steps _ _ c h = h
-
-pub not_true : (b : Bool) → (b ≡ true → ⊥) → b ≡ false
-not_true true h = absurd (h refl)
-not_true false h = refl
 
 pub event_cases : (e f : Event) → (e ≡ f) ⊎ (e ≢ f)
 event_cases (Step k) (Step m) = ⊎_elim (λ h. inl (ap Step h)) (λ n. inr (λ h. n (cc))) (cases_eq k m)
@@ -120,7 +116,7 @@ same_cell-itself c = rw (same_array-itself c.array, eq-eqb c.home _ refl, eq-eqb
 
 pub write-other : (c d : Cell) (v : ℕ) (m : Memory) → d ≢ c → write c v m d ≡ m d
 unfolding write
-write-other c d v m n = rw (not_true (same_cell d c) (λ h. n (same_cell-true d c h))) refl
+write-other c d v m n = rw (false_from_ne_true (same_cell d c) (λ h. n (same_cell-true d c h))) refl
 
 write-commute : (c d : Cell) (v w : ℕ) (m : Memory) → c ≢ d → write c v (write d w m) ≡ write d w (write c v m)
 unfolding write

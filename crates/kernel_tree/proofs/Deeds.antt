@@ -4,7 +4,7 @@ use Rattle.std.specs.Prelude.{◌==◌, if◌then◌else◌, nat_lt}
 use Rattle.std.proofs.lemmas.Bool.{eq-eqb, eqb-true, lt-ltb, le-ltb}
 use Rattle.kernel_tree.specs.declared.events.Event.TheVariants.{Step}
 use Rattle.kernel_tree.specs.Formula.{Formula, Lanes, Four, Vars, set_word, set_vector, value, bound_value, lanes_value}
-use Rattle.kernel_tree.specs.Code.{Array, Start, Stride, start_value, stride_value, Code, End, Assigns, Loads, Stores, AssignsFour, LoadsFour, StoresFour, Loops, Guards, then_rest}
+use Rattle.kernel_tree.specs.Code.{Array, Start, Stride, start_value, stride_value, Code, End, Performs, Assigns, Loads, Stores, AssignsFour, LoadsFour, StoresFour, Loops, Guards, then_rest}
 use Rattle.kernel_tree.specs.Launch.{group_of, ids_of, item_count}
 use Rattle.kernel_tree.specs.Item.{Item, item, Frame, loop_variables, Wants, Moves, Reads, Writes, ReadsFour, WritesFour, next, tested}
 use Rattle.kernel_tree.specs.Device.{Device, Cell, cell_at, four_at, four_words, write_four, State, Memory, Fence, write, wants, CanStep, taken, stored, after}
@@ -24,33 +24,33 @@ module _ (d : Device) (k : ℕ) where
   goes_moved x y m e = goes_once x y m Moved (rw e refl)
 
   module _ (fs : List Frame) (vars : Vars) (m : Memory) where
-    pub goes_assign : (v : ℕ) (e : Formula) (rest : Code) (x : ℕ) → value (ids_of d.launch k) (loop_variables fs) vars e ≡ Some x → Goes d k (item (Assigns v e rest) fs vars) m (Moved ∷ []) (item rest fs (set_word vars v x))
+    pub goes_assign : (v : ℕ) (e : Formula) (rest : Code) (x : ℕ) → value (ids_of d.launch k) (loop_variables fs) vars e ≡ Some x → Goes d k (item (Performs (Assigns v e) rest) fs vars) m (Moved ∷ []) (item rest fs (set_word vars v x))
     unfolding next
-    goes_assign v e rest x h = goes_once (item (Assigns v e rest) fs vars) (item rest fs (set_word vars v x)) m Moved (rw h refl)
+    goes_assign v e rest x h = goes_once (item (Performs (Assigns v e) rest) fs vars) (item rest fs (set_word vars v x)) m Moved (rw h refl)
 
-    pub goes_load : (v : ℕ) (a : Array) (i : Formula) (rest : Code) (c : Cell) (n x : ℕ) → value (ids_of d.launch k) (loop_variables fs) vars i ≡ Some n → cell_at d.launch k a n ≡ c → n < d.lengths a → m c ≡ x → Goes d k (item (Loads v a i rest) fs vars) m (Got c ∷ []) (item rest fs (set_word vars v x))
+    pub goes_load : (v : ℕ) (a : Array) (i : Formula) (rest : Code) (c : Cell) (n x : ℕ) → value (ids_of d.launch k) (loop_variables fs) vars i ≡ Some n → cell_at d.launch k a n ≡ c → n < d.lengths a → m c ≡ x → Goes d k (item (Performs (Loads v a i) rest) fs vars) m (Got c ∷ []) (item rest fs (set_word vars v x))
     unfolding next
-    goes_load v a i rest c n x h e within q = goes_once (item (Loads v a i rest) fs vars) (item rest fs (set_word vars v x)) m (Got c) (rw h (e, within, ap (λ y. item rest fs (set_word vars v y)) q))
+    goes_load v a i rest c n x h e within q = goes_once (item (Performs (Loads v a i) rest) fs vars) (item rest fs (set_word vars v x)) m (Got c) (rw h (e, within, ap (λ y. item rest fs (set_word vars v y)) q))
 
-    pub goes_store : (a : Array) (i e : Formula) (rest : Code) (c : Cell) (n x : ℕ) → value (ids_of d.launch k) (loop_variables fs) vars i ≡ Some n → value (ids_of d.launch k) (loop_variables fs) vars e ≡ Some x → cell_at d.launch k a n ≡ c → n < d.lengths a → Goes d k (item (Stores a i e rest) fs vars) m (Gave c x ∷ []) (item rest fs vars)
+    pub goes_store : (a : Array) (i e : Formula) (rest : Code) (c : Cell) (n x : ℕ) → value (ids_of d.launch k) (loop_variables fs) vars i ≡ Some n → value (ids_of d.launch k) (loop_variables fs) vars e ≡ Some x → cell_at d.launch k a n ≡ c → n < d.lengths a → Goes d k (item (Performs (Stores a i e) rest) fs vars) m (Gave c x ∷ []) (item rest fs vars)
     unfolding next
-    goes_store a i e rest c n x h j q within = goes_once (item (Stores a i e rest) fs vars) (item rest fs vars) m (Gave c x) (rw (h, j) (q, within, refl, refl))
+    goes_store a i e rest c n x h j q within = goes_once (item (Performs (Stores a i e) rest) fs vars) (item rest fs vars) m (Gave c x) (rw (h, j) (q, within, refl, refl))
 
     -- the same of four words
 
-    pub goes_assign_four : (v : ℕ) (e : Lanes) (rest : Code) (u : Four) → lanes_value (ids_of d.launch k) (loop_variables fs) vars e ≡ Some u → Goes d k (item (AssignsFour v e rest) fs vars) m (Moved ∷ []) (item rest fs (set_vector vars v u))
+    pub goes_assign_four : (v : ℕ) (e : Lanes) (rest : Code) (u : Four) → lanes_value (ids_of d.launch k) (loop_variables fs) vars e ≡ Some u → Goes d k (item (Performs (AssignsFour v e) rest) fs vars) m (Moved ∷ []) (item rest fs (set_vector vars v u))
     unfolding next
-    goes_assign_four v e rest u h = goes_once (item (AssignsFour v e rest) fs vars) (item rest fs (set_vector vars v u)) m Moved (rw h refl)
+    goes_assign_four v e rest u h = goes_once (item (Performs (AssignsFour v e) rest) fs vars) (item rest fs (set_vector vars v u)) m Moved (rw h refl)
 
-    pub goes_load_four : (v : ℕ) (a : Array) (i : Formula) (rest : Code) (c : Cell) (n : ℕ) (u : Four) → value (ids_of d.launch k) (loop_variables fs) vars i ≡ Some n → four_at d.launch k a n ≡ c → 4 * n + 3 < d.lengths a → four_words m c ≡ u → Goes d k (item (LoadsFour v a i rest) fs vars) m (GotFour c ∷ []) (item rest fs (set_vector vars v u))
+    pub goes_load_four : (v : ℕ) (a : Array) (i : Formula) (rest : Code) (c : Cell) (n : ℕ) (u : Four) → value (ids_of d.launch k) (loop_variables fs) vars i ≡ Some n → four_at d.launch k a n ≡ c → 4 * n + 3 < d.lengths a → four_words m c ≡ u → Goes d k (item (Performs (LoadsFour v a i) rest) fs vars) m (GotFour c ∷ []) (item rest fs (set_vector vars v u))
     unfolding next
     goes_load_four v a i rest c n u h e within q =
-        goes_once (item (LoadsFour v a i rest) fs vars) (item rest fs (set_vector vars v u)) m (GotFour c) (rw h (e, within, ap (λ y. item rest fs (set_vector vars v y)) q))
+        goes_once (item (Performs (LoadsFour v a i) rest) fs vars) (item rest fs (set_vector vars v u)) m (GotFour c) (rw h (e, within, ap (λ y. item rest fs (set_vector vars v y)) q))
 
-    pub goes_store_four : (a : Array) (i : Formula) (e : Lanes) (rest : Code) (c : Cell) (n : ℕ) (u : Four) → value (ids_of d.launch k) (loop_variables fs) vars i ≡ Some n → lanes_value (ids_of d.launch k) (loop_variables fs) vars e ≡ Some u → four_at d.launch k a n ≡ c → 4 * n + 3 < d.lengths a → Goes d k (item (StoresFour a i e rest) fs vars) m (GaveFour c u ∷ []) (item rest fs vars)
+    pub goes_store_four : (a : Array) (i : Formula) (e : Lanes) (rest : Code) (c : Cell) (n : ℕ) (u : Four) → value (ids_of d.launch k) (loop_variables fs) vars i ≡ Some n → lanes_value (ids_of d.launch k) (loop_variables fs) vars e ≡ Some u → four_at d.launch k a n ≡ c → 4 * n + 3 < d.lengths a → Goes d k (item (Performs (StoresFour a i e) rest) fs vars) m (GaveFour c u ∷ []) (item rest fs vars)
     unfolding next
     goes_store_four a i e rest c n u h j q within =
-        goes_once (item (StoresFour a i e rest) fs vars) (item rest fs vars) m (GaveFour c u) (rw (h, j) (q, within, refl, refl))
+        goes_once (item (Performs (StoresFour a i e) rest) fs vars) (item rest fs vars) m (GaveFour c u) (rw (h, j) (q, within, refl, refl))
 
     -- an if
 

@@ -1,21 +1,20 @@
 -- A kernel of the grammar writes no input, so no run of it does.
-use Rattle.std.proofs.Common.{◌≡◌, ℕ, suc, ◌+◌, ◌<◌, ◌^◌, List, [], ◌∷◌, ◌++◌, length, Option, Some, None, Bool, true, false, refl, ap, sym, ◌∙◌, subst, ⊎_elim, inl, inr}
-use Rattle.std.specs.Prelude.{◌&&◌, if◌then◌else◌, nat_lt, slice_index}
+use Rattle.std.proofs.Common.{◌≡◌, ℕ, suc, ◌+◌, ◌<◌, ◌^◌, List, [], ◌∷◌, ◌++◌, Option, Some, None, Bool, true, false, refl, ap, sym, ◌∙◌, subst, ⊎_elim}
+use Rattle.std.specs.Prelude.{◌&&◌, if◌then◌else◌, nat_lt}
 use Rattle.std.proofs.lemmas.Bool.{and_parts}
 use Rattle.kernel_tree.specs.declared.events.Event.{Event}
 use Rattle.kernel_tree.specs.declared.events.Event.TheVariants.{Step, Release}
 use Rattle.kernel_tree.specs.declared.events.FaultKind.TheVariants.{LoopWrap}
 use Rattle.kernel_tree.specs.Formula.{Ids, Vars, value, lanes_value, bound_value}
-use Rattle.kernel_tree.specs.Code.{Array, Input, start_value, stride_value, Code, End, Assigns, Loads, Stores, AssignsFour, LoadsFour, StoresFour, Loops, Guards, Syncs, then_rest, Kernel}
-use Rattle.kernel_tree.specs.Grammar.{deepest, is_constant, is_expression, are_lanes, is_readable, is_writable, is_shared, has_statement, are_statements, are_lengths, is_group_size, is_kernel}
+use Rattle.kernel_tree.specs.Code.{Array, Input, stride_value, Statement, Code, End, Performs, Assigns, Loads, Stores, AssignsFour, LoadsFour, StoresFour, Loops, Guards, then_rest, Kernel}
+use Rattle.kernel_tree.specs.Grammar.{deepest, is_constant, is_expression, is_writable, is_shared, has_statement, is_statement, are_statements, are_lengths, is_group_size, is_kernel}
 use Rattle.kernel_tree.specs.Launch.{Launch, Cells, item_count, group_of, ids_of}
-use Rattle.kernel_tree.specs.Item.{Frame, Item, item, loop_variables, Wants, Ends, Waits, Moves, Reads, Writes, ReadsFour, WritesFour, Fails, with_value, tested, next_turn, next_at, next}
-use Rattle.kernel_tree.specs.Device.{Device, device_of, Cell, row, Fence, four_at, Memory, State, IsStart, stored, wants, after, run, IsRun}
+use Rattle.kernel_tree.specs.Item.{Frame, Item, loop_variables, Wants, Ends, Waits, Moves, Reads, Writes, ReadsFour, WritesFour, Fails, with_value, tested, next_turn, perform, next_at, next}
+use Rattle.kernel_tree.specs.Device.{Device, device_of, Cell, Fence, Memory, State, IsStart, stored, wants, after, run, IsRun}
 use Rattle.kernel_tree.specs.Faults.{Access, accessed, accesses_of, accesses, Among}
-use Rattle.kernel_tree.specs.Deeds.{Every}
-use Rattle.kernel_tree.specs.Places.{Place, place, around, places, all_places, place_of_item}
+use Rattle.kernel_tree.specs.Places.{Place, place, around, places, all_places}
 use Rattle.kernel_tree.specs.Inputs.{LeavesInputs}
-use Rattle.kernel_tree.proofs.Accessed.{among_every, puts, cells_of, put_all, stored_is}
+use Rattle.kernel_tree.proofs.Accessed.{among_every, puts, cells_of, stored_is}
 use Rattle.kernel_tree.proofs.Confluence.{among-append, put_all-other}
 use Rattle.kernel_tree.proofs.EveryRun.{is_run-front}
 use Rattle.kernel_tree.proofs.Standing.{items_stand}
@@ -27,55 +26,35 @@ writable : (k : Kernel) (a : Array) → is_writable k a ≡ true → NoInput a
 unfolding NoInput
 writable k a h n e = let q : is_writable k (Input n) ≡ true = subst (λ b. is_writable k b ≡ true) e h in cc
 
--- the statement that comes first writes no input
+-- the statement writes no input
+SparesOf : Statement → Type 0
+SparesOf (Stores a i e) = NoInput a
+SparesOf (StoresFour a i e) = NoInput a
+SparesOf _ = Unit {0}
+
+-- nor does the one that comes first
 Spares : Code → Type 0
-Spares (Stores a i e after) = NoInput a
-Spares (StoresFour a i e after) = NoInput a
+Spares (Performs s after) = SparesOf s
 Spares End = Unit {0}
-Spares (Assigns v e after) = Unit {0}
-Spares (Loads v a i after) = Unit {0}
-Spares (AssignsFour v e after) = Unit {0}
-Spares (LoadsFour v a i after) = Unit {0}
 Spares (Loops s b c body after) = Unit {0}
 Spares (Guards s b body after) = Unit {0}
-Spares (Syncs p q after) = Unit {0}
 
 one_more : (c : Code) (fs : List Frame) (ps : List Place) → Spares c → ((p : Place) → Among p ps → Spares p.code) → (p : Place) → Among p (place c fs ∷ ps) → Spares p.code
 one_more c fs ps here more p m = ⊎_elim (λ e. subst (λ x. Spares x.code) (sym e) here) (λ r. more p r) m
 
 module _ (k : Kernel) where
+  statement_spares : (loops : ℕ) (s : Statement) → is_statement k loops s ≡ true → SparesOf s
+  unfolding SparesOf
+  statement_spares l (Stores a i e) h = writable k a (and_parts (is_writable k a) _ h).0
+  statement_spares l (StoresFour a i e) h = writable k a (and_parts (is_shared a) _ (and_parts (is_shared a && is_writable k a) _ h).0).1
+  statement_spares l _ h = tt
+
   spares : (loops depth : ℕ) (c rest : Code) (fs : List Frame) → are_statements k loops depth c ≡ true → (p : Place) → Among p (places c rest fs) → Spares p.code
   unfolding Spares
   spares l d End rest fs h p m = absurd m
-  spares l d (Assigns v e after) rest fs h p m =
-      let h1 = and_parts (nat_lt v k.variables) _ h in
-      let h2 = and_parts (is_expression k l e) _ h1.1 in
-      one_more (Assigns v e (then_rest after rest)) fs (places after rest fs) tt (spares l d after rest fs h2.1) p m
-  spares l d (Loads v a i after) rest fs h p m =
-      let h1 = and_parts (nat_lt v k.variables) _ h in
-      let h2 = and_parts (is_readable k a) _ h1.1 in
-      let h3 = and_parts (is_expression k l i) _ h2.1 in
-      one_more (Loads v a i (then_rest after rest)) fs (places after rest fs) tt (spares l d after rest fs h3.1) p m
-  spares l d (Stores a i e after) rest fs h p m =
-      let h1 = and_parts (is_writable k a) _ h in
-      let h2 = and_parts (is_expression k l i) _ h1.1 in
-      let h3 = and_parts (is_expression k l e) _ h2.1 in
-      one_more (Stores a i e (then_rest after rest)) fs (places after rest fs) (writable k a h1.0) (spares l d after rest fs h3.1) p m
-  spares l d (AssignsFour v e after) rest fs h p m =
-      let h1 = and_parts (nat_lt v k.vectors) _ h in
-      let h2 = and_parts (are_lanes k l e) _ h1.1 in
-      one_more (AssignsFour v e (then_rest after rest)) fs (places after rest fs) tt (spares l d after rest fs h2.1) p m
-  spares l d (LoadsFour v a i after) rest fs h p m =
-      let h1 = and_parts (nat_lt v k.vectors) _ h in
-      let h2 = and_parts (is_shared a && is_readable k a) _ h1.1 in
-      let h3 = and_parts (is_expression k l i) _ h2.1 in
-      one_more (LoadsFour v a i (then_rest after rest)) fs (places after rest fs) tt (spares l d after rest fs h3.1) p m
-  spares l d (StoresFour a i e after) rest fs h p m =
-      let h1 = and_parts (is_shared a && is_writable k a) _ h in
-      let h0 = and_parts (is_shared a) _ h1.0 in
-      let h2 = and_parts (is_expression k l i) _ h1.1 in
-      let h3 = and_parts (are_lanes k l e) _ h2.1 in
-      one_more (StoresFour a i e (then_rest after rest)) fs (places after rest fs) (writable k a h0.1) (spares l d after rest fs h3.1) p m
+  spares l d (Performs s after) rest fs h p m =
+      let h1 = and_parts (is_statement k l s) _ h in
+      one_more (Performs s (then_rest after rest)) fs (places after rest fs) (statement_spares l s h1.0) (spares l d after rest fs h1.1) p m
   spares l d (Loops s b c body after) rest fs h p m =
       let h1 = and_parts (nat_lt d deepest) _ h in
       let h2 = and_parts (is_constant b) _ h1.1 in
@@ -100,9 +79,6 @@ module _ (k : Kernel) where
       one_more (Guards s b body (then_rest after rest)) fs (inside ++ places after rest fs) tt
       (λ q i. ⊎_elim (λ x. spares l (suc d) body (then_rest after rest) fs h5.0 q x) (λ x. spares l d after rest fs h5.1 q x) (among-append q inside (places after rest fs) i))
       p m
-  spares l d (Syncs x y after) rest fs h p m =
-      let h1 = and_parts _ (are_statements k l d after) h in
-      one_more (Syncs x y (then_rest after rest)) fs (places after rest fs) tt (spares l d after rest fs h1.1) p m
 
   spares_all : is_kernel k ≡ true → (p : Place) → Among p (all_places k.code) → Spares p.code
   unfolding Spares
@@ -131,6 +107,16 @@ unfolding Leaves
 leaves_if None go h = tt
 leaves_if (Some v) go h = h v
 
+statement_leaves : (ids : Ids) (loops : List ℕ) (vars : Vars) (s : Statement) (on : Vars → Item) → SparesOf s → Leaves (perform ids loops vars s on)
+unfolding SparesOf Leaves
+statement_leaves ids ls vars (Assigns v e) on h = leaves_if (value ids ls vars e) _ (λ x. tt)
+statement_leaves ids ls vars (Loads v a i) on h = leaves_if (value ids ls vars i) _ (λ n. tt)
+statement_leaves ids ls vars (Stores a i e) on h = leaves_if (value ids ls vars i) _ (λ n. leaves_if (value ids ls vars e) _ (λ x. h))
+statement_leaves ids ls vars (AssignsFour v e) on h = leaves_if (lanes_value ids ls vars e) _ (λ x. tt)
+statement_leaves ids ls vars (LoadsFour v a i) on h = leaves_if (value ids ls vars i) _ (λ n. tt)
+statement_leaves ids ls vars (StoresFour a i e) on h = leaves_if (value ids ls vars i) _ (λ n. leaves_if (lanes_value ids ls vars e) _ (λ u. h))
+statement_leaves ids ls vars _ on h = tt
+
 next_leaves : (ids : Ids) (c : Code) (fs : List Frame) (vars : Vars) → Spares c → Leaves (next_at ids c fs vars)
 unfolding Spares Leaves
 next_leaves ids End [] vars h = tt
@@ -139,15 +125,9 @@ next_leaves ids End (f ∷ fs) vars h = leaves_if (bound_value ids.sizes f.bound
     again : (b : ℕ) (t : Bool) → Leaves (if t then tested b (next_turn ids f) fs vars else Fails LoopWrap)
     again b true = tt
     again b false = tt
-next_leaves ids (Assigns v e after) fs vars h = leaves_if (value ids (loop_variables fs) vars e) _ (λ x. tt)
-next_leaves ids (Loads v a i after) fs vars h = leaves_if (value ids (loop_variables fs) vars i) _ (λ n. tt)
-next_leaves ids (Stores a i e after) fs vars h = leaves_if (value ids (loop_variables fs) vars i) _ (λ n. leaves_if (value ids (loop_variables fs) vars e) _ (λ x. h))
-next_leaves ids (AssignsFour v e after) fs vars h = leaves_if (lanes_value ids (loop_variables fs) vars e) _ (λ x. tt)
-next_leaves ids (LoadsFour v a i after) fs vars h = leaves_if (value ids (loop_variables fs) vars i) _ (λ n. tt)
-next_leaves ids (StoresFour a i e after) fs vars h = leaves_if (value ids (loop_variables fs) vars i) _ (λ n. leaves_if (lanes_value ids (loop_variables fs) vars e) _ (λ x. h))
+next_leaves ids (Performs s after) fs vars h = statement_leaves ids (loop_variables fs) vars s _ h
 next_leaves ids (Loops s b c body after) fs vars h = leaves_if (bound_value ids.sizes b) _ (λ n. tt)
 next_leaves ids (Guards s b body after) fs vars h = leaves_if (bound_value ids.sizes b) _ (λ n. tt)
-next_leaves ids (Syncs p q after) fs vars h = tt
 
 module _ (l : Launch) (k : ℕ) where
   reads_inputs : (w : Wants) (epochs : Fence → ℕ) → Leaves w → (x : Access) (n : ℕ) → Among x (accessed l k w epochs) → x.cell.array ≡ Input n → x.writes ≡ false

@@ -4,6 +4,7 @@ pub mod Accessed
 pub mod Confluence
 pub mod EveryRun
 pub mod Places
+pub mod Leads
 pub mod Standing
 pub mod Lanes
 pub mod Sights

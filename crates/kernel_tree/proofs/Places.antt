@@ -3,7 +3,7 @@
 use Rattle.std.proofs.Common.{◌≡◌, ℕ, suc, ◌+◌, ◌*◌, ◌<◌, ◌≤◌, List, [], ◌∷◌, ◌++◌, length, Option, Some, None, refl, ap, ◌∙◌, ⊎_elim, inl, inr, arith}
 use Rattle.std.specs.Prelude.{◌==◌, if◌then◌else◌}
 use Rattle.std.proofs.lemmas.Bool.{eq-eqb, ne_eqb}
-use Rattle.kernel_tree.specs.Code.{Code, End, Assigns, Loads, Stores, AssignsFour, LoadsFour, StoresFour, Loops, Guards, Syncs, then_rest}
+use Rattle.kernel_tree.specs.Code.{Code, End, Performs, Loops, Guards, then_rest}
 use Rattle.kernel_tree.specs.Item.{Frame}
 use Rattle.kernel_tree.specs.Faults.{Among}
 use Rattle.kernel_tree.specs.Places.{Place, place, around, places, all_places, AllDiffer}
@@ -12,28 +12,16 @@ use Rattle.kernel_tree.proofs.Confluence.{among-append}
 -- how many statements are left, those in loops not counted
 size : Code → ℕ
 size End = 0
-size (Assigns v e after) = suc (size after)
-size (Loads v a i after) = suc (size after)
-size (Stores a i e after) = suc (size after)
-size (AssignsFour v e after) = suc (size after)
-size (LoadsFour v a i after) = suc (size after)
-size (StoresFour a i e after) = suc (size after)
+size (Performs s after) = suc (size after)
 size (Loops s b c body after) = suc (size after)
 size (Guards s b body after) = suc (size body + size after)
-size (Syncs p q after) = suc (size after)
 
 size-then : (c rest : Code) → size (then_rest c rest) ≡ size c + size rest
 unfolding size
 size-then End rest = omega arith
-size-then (Assigns v e after) rest = let h = size-then after rest in omega arith
-size-then (Loads v a i after) rest = let h = size-then after rest in omega arith
-size-then (Stores a i e after) rest = let h = size-then after rest in omega arith
-size-then (AssignsFour v e after) rest = let h = size-then after rest in omega arith
-size-then (LoadsFour v a i after) rest = let h = size-then after rest in omega arith
-size-then (StoresFour a i e after) rest = let h = size-then after rest in omega arith
+size-then (Performs s after) rest = let h = size-then after rest in omega arith
 size-then (Loops s b c body after) rest = let h = size-then after rest in omega arith
 size-then (Guards s b body after) rest = let h = size-then after rest in omega arith
-size-then (Syncs p q after) rest = let h = size-then after rest in omega arith
 
 -- what comes after the loop that has n loops around it
 above : ℕ → List Frame → Option Code
@@ -80,12 +68,7 @@ module _ (n : ℕ) (a : Code) where
   -- all places in a loop's body are in the loop
   all_within : (c rest : Code) (gs : List Frame) → n < length gs → above n gs ≡ Some a → (p : Place) → Among p (places c rest gs) → above n p.loops ≡ Some a
   all_within End rest gs lt h p m = absurd m
-  all_within (Assigns v e after) rest gs lt h p m = ⊎_elim (λ q. ap (λ x. above n x.loops) q ∙ h) (λ r. all_within after rest gs lt h p r) m
-  all_within (Loads v b i after) rest gs lt h p m = ⊎_elim (λ q. ap (λ x. above n x.loops) q ∙ h) (λ r. all_within after rest gs lt h p r) m
-  all_within (Stores b i e after) rest gs lt h p m = ⊎_elim (λ q. ap (λ x. above n x.loops) q ∙ h) (λ r. all_within after rest gs lt h p r) m
-  all_within (AssignsFour v e after) rest gs lt h p m = ⊎_elim (λ q. ap (λ x. above n x.loops) q ∙ h) (λ r. all_within after rest gs lt h p r) m
-  all_within (LoadsFour v b i after) rest gs lt h p m = ⊎_elim (λ q. ap (λ x. above n x.loops) q ∙ h) (λ r. all_within after rest gs lt h p r) m
-  all_within (StoresFour b i e after) rest gs lt h p m = ⊎_elim (λ q. ap (λ x. above n x.loops) q ∙ h) (λ r. all_within after rest gs lt h p r) m
+  all_within (Performs s after) rest gs lt h p m = ⊎_elim (λ q. ap (λ x. above n x.loops) q ∙ h) (λ r. all_within after rest gs lt h p r) m
   all_within (Loops s b c body after) rest gs lt h p m =
       let f = around b c body (then_rest after rest) in
       let deep = still_above n f gs a lt h in
@@ -99,7 +82,6 @@ module _ (n : ℕ) (a : Code) where
       ⊎_elim (λ q. ap (λ x. above n x.loops) q ∙ h)
       (λ r. ⊎_elim (λ x. all_within body (then_rest after rest) gs lt h p x) (λ x. all_within after rest gs lt h p x) (among-append p (places body (then_rest after rest) gs) (places after rest gs) r))
       m
-  all_within (Syncs x y after) rest gs lt h p m = ⊎_elim (λ q. ap (λ z. above n z.loops) q ∙ h) (λ r. all_within after rest gs lt h p r) m
 
 -- a loop's own places, seen from outside it
 inner_rank : (n : ℕ) (body : Code) (f : Frame) (fs : List Frame) → length fs ≡ n → (p : Place) → Among p (places body End (f ∷ fs) ++ place End (f ∷ fs) ∷ []) → rank n p ≡ 2 * size f.after + 1
@@ -132,12 +114,7 @@ ranked n c rest fs e p m = go c rest m
 
     go : (c rest : Code) → Among p (places c rest fs) → Ranked (size rest) (size c + size rest) n p
     go End rest m = absurd m
-    go (Assigns v x after) rest m = ⊎_elim (λ q. first (Assigns v x (then_rest after rest)) after rest refl q) (λ r. on rest after (go after rest r)) m
-    go (Loads v b i after) rest m = ⊎_elim (λ q. first (Loads v b i (then_rest after rest)) after rest refl q) (λ r. on rest after (go after rest r)) m
-    go (Stores b i x after) rest m = ⊎_elim (λ q. first (Stores b i x (then_rest after rest)) after rest refl q) (λ r. on rest after (go after rest r)) m
-    go (AssignsFour v x after) rest m = ⊎_elim (λ q. first (AssignsFour v x (then_rest after rest)) after rest refl q) (λ r. on rest after (go after rest r)) m
-    go (LoadsFour v b i after) rest m = ⊎_elim (λ q. first (LoadsFour v b i (then_rest after rest)) after rest refl q) (λ r. on rest after (go after rest r)) m
-    go (StoresFour b i x after) rest m = ⊎_elim (λ q. first (StoresFour b i x (then_rest after rest)) after rest refl q) (λ r. on rest after (go after rest r)) m
+    go (Performs s after) rest m = ⊎_elim (λ q. first (Performs s (then_rest after rest)) after rest refl q) (λ r. on rest after (go after rest r)) m
     go (Loops s b c body after) rest m =
         let f = around b c body (then_rest after rest) in
         let t = size-then after rest in
@@ -155,7 +132,6 @@ ranked n c rest fs e p m = go c rest m
         (λ x. let k = go after rest x in let low = k.above_low in let high = k.to_high in record { above_low = low; to_high = omega arith })
         (among-append p (places body (then_rest after rest) fs) (places after rest fs) r))
         m
-    go (Syncs x y after) rest m = ⊎_elim (λ q. first (Syncs x y (then_rest after rest)) after rest refl q) (λ r. on rest after (go after rest r)) m
 
 differ-append : {A : Type 0} (xs ys : List A) → AllDiffer xs → AllDiffer ys → ((x : A) → Among x xs → Among x ys → ⊥) → AllDiffer (xs ++ ys)
 differ-append [] ys a b h = b
@@ -173,13 +149,7 @@ first_most fs c after rest s m =
 pub differ : (c rest : Code) (fs : List Frame) → AllDiffer (places c rest fs)
 unfolding size
 differ End rest fs = tt
-differ (Assigns v x after) rest fs = (first_most fs (Assigns v x (then_rest after rest)) after rest refl, differ after rest fs)
-differ (Loads v b i after) rest fs = (first_most fs (Loads v b i (then_rest after rest)) after rest refl, differ after rest fs)
-differ (Stores b i x after) rest fs = (first_most fs (Stores b i x (then_rest after rest)) after rest refl, differ after rest fs)
-differ (AssignsFour v x after) rest fs = (first_most fs (AssignsFour v x (then_rest after rest)) after rest refl, differ after rest fs)
-differ (LoadsFour v b i after) rest fs = (first_most fs (LoadsFour v b i (then_rest after rest)) after rest refl, differ after rest fs)
-differ (StoresFour b i x after) rest fs = (first_most fs (StoresFour b i x (then_rest after rest)) after rest refl, differ after rest fs)
-differ (Syncs x y after) rest fs = (first_most fs (Syncs x y (then_rest after rest)) after rest refl, differ after rest fs)
+differ (Performs s after) rest fs = (first_most fs (Performs s (then_rest after rest)) after rest refl, differ after rest fs)
 differ (Guards s b body after) rest fs =
     let whole = Guards s b body (then_rest after rest) in
     let t = size-then after rest in (

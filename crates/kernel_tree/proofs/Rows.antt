@@ -7,7 +7,7 @@ use Rattle.kernel_tree.specs.declared.tree.Start.{Start}
 use Rattle.kernel_tree.specs.declared.tree.Stride.{Stride}
 use Rattle.kernel_tree.specs.declared.tree.Stmt.{Stmt, Loop, If, the_lemmas, Row_of-Stmt, end_of-Stmt, more_of-Stmt, items-the_row-Stmt}
 use Rattle.kernel_tree.specs.declared.tree.Stmt as stmt
-use Rattle.kernel_tree.specs.Code.{Code, End, Assigns, Loads, Stores, AssignsFour, LoadsFour, StoresFour, Loops, Guards, Syncs, then_rest}
+use Rattle.kernel_tree.specs.Code.{Code, End, Performs, Loops, Guards, then_rest}
 use Rattle.kernel_tree.specs.Tree.{before, code_of, code_then, formula_of, start_of, stride_of}
 
 pub row_then : (n : _) (row : Row_of-Stmt n) → code_of row ≡ code_then (items-the_row-Stmt n row) End
@@ -44,24 +44,12 @@ code_then-append (x ∷ xs) ys rest = ap (before x) (code_then-append xs ys rest
 
 pub then-end : (c : Code) → then_rest c End ≡ c
 then-end End = refl
-then-end (Assigns v e after) = ap (Assigns v e) (then-end after)
-then-end (Loads v a i after) = ap (Loads v a i) (then-end after)
-then-end (Stores a i e after) = ap (Stores a i e) (then-end after)
-then-end (AssignsFour v e after) = ap (AssignsFour v e) (then-end after)
-then-end (LoadsFour v a i after) = ap (LoadsFour v a i) (then-end after)
-then-end (StoresFour a i e after) = ap (StoresFour a i e) (then-end after)
+then-end (Performs s after) = ap (Performs s) (then-end after)
 then-end (Loops s b c body after) = ap (Loops s b c body) (then-end after)
 then-end (Guards s b body after) = ap (Guards s b body) (then-end after)
-then-end (Syncs p q after) = ap (Syncs p q) (then-end after)
 
 pub then-then : (a b c : Code) → then_rest (then_rest a b) c ≡ then_rest a (then_rest b c)
 then-then End b c = refl
-then-then (Assigns v e after) b c = ap (Assigns v e) (then-then after b c)
-then-then (Loads v a i after) b c = ap (Loads v a i) (then-then after b c)
-then-then (Stores a i e after) b c = ap (Stores a i e) (then-then after b c)
-then-then (AssignsFour v e after) b c = ap (AssignsFour v e) (then-then after b c)
-then-then (LoadsFour v a i after) b c = ap (LoadsFour v a i) (then-then after b c)
-then-then (StoresFour a i e after) b c = ap (StoresFour a i e) (then-then after b c)
+then-then (Performs s after) b c = ap (Performs s) (then-then after b c)
 then-then (Loops s p q body after) b c = ap (Loops s p q body) (then-then after b c)
 then-then (Guards s p body after) b c = ap (Guards s p body) (then-then after b c)
-then-then (Syncs p q after) b c = ap (Syncs p q) (then-then after b c)

@@ -1,12 +1,12 @@
 -- What is seen of an event is one.
-use Rattle.std.proofs.Common.{◌≡◌, ◌⊎◌, ℕ, ◌<◌, ◌≤◌, List, Option, Some, None, refl, ap, sym, ◌∙◌, subst, ⊎_elim, inl, inr, arith}
+use Rattle.std.proofs.Common.{◌≡◌, ℕ, List, Option, Some, None, refl, ap, sym, ◌∙◌, subst, ⊎_elim, arith}
 use Rattle.std.proofs.lemmas.Bool.{cases_lt}
 use Rattle.kernel_tree.specs.declared.events.Event.{Event}
 use Rattle.kernel_tree.specs.declared.events.FaultKind.{FaultKind}
 use Rattle.kernel_tree.specs.declared.events.FaultKind.TheVariants.{Race, OutOfRange, ZeroDivisor, Divergent, LoopWrap}
 use Rattle.kernel_tree.specs.declared.events.Seen.{Seen}
-use Rattle.kernel_tree.specs.Device.{Device, State, after, run}
-use Rattle.kernel_tree.specs.Faults.{failure_of, RacesAfter, SomeDiverges, FaultIs}
+use Rattle.kernel_tree.specs.Device.{Device, State, run}
+use Rattle.kernel_tree.specs.Faults.{failure_of, FaultIs}
 use Rattle.kernel_tree.specs.Seen.{seen_of, LaneIs, IsSeen}
 
 -- the failure that a fault tells, if it is one

@@ -1,13 +1,13 @@
 -- Items that stand together are at one place and at the same turns.
-use Rattle.std.proofs.Common.{◌≡◌, ℕ, ◌+◌, ◌<◌, ◌^◌, List, [], ◌∷◌, Option, Some, None, Bool, true, false, refl, ap, sym, ◌∙◌, subst}
+use Rattle.std.proofs.Common.{◌≡◌, ℕ, ◌+◌, ◌^◌, List, [], ◌∷◌, Option, Some, None, Bool, true, false, refl, ap, sym, ◌∙◌, subst}
 use Rattle.std.specs.Prelude.{◌↔◌, if◌then◌else◌, nat_lt, map}
 use Rattle.kernel_tree.specs.declared.events.FaultKind.TheVariants.{LoopWrap}
-use Rattle.kernel_tree.specs.Formula.{Formula, Ids, Vars, value, lanes_value, bound_value}
-use Rattle.kernel_tree.specs.Code.{Stride, start_value, stride_value, Code, End, Assigns, Loads, Stores, AssignsFour, LoadsFour, StoresFour, Loops, Guards, Syncs}
-use Rattle.kernel_tree.specs.Item.{Frame, Item, loop_variables, Wants, Ends, Waits, Moves, Reads, Writes, ReadsFour, WritesFour, Fails, with_value, tested, next_turn, next_at, next}
+use Rattle.kernel_tree.specs.Formula.{Ids, Vars, value, lanes_value, bound_value}
+use Rattle.kernel_tree.specs.Code.{stride_value, Code, End, Performs, Assigns, Loads, Stores, AssignsFour, LoadsFour, StoresFour, Loops, Guards, Syncs}
+use Rattle.kernel_tree.specs.Item.{Frame, loop_variables, Wants, Waits, Fails, with_value, tested, next_turn, next_at, next}
 use Rattle.kernel_tree.specs.Device.{still, StandTogether}
 use Rattle.kernel_tree.specs.Meets.{IsWaiting}
-use Rattle.kernel_tree.specs.Places.{Place, place, untimed, place_of_item, turns_of, TogetherIsOnePlace}
+use Rattle.kernel_tree.specs.Places.{Place, place, untimed, TogetherIsOnePlace}
 
 not_waiting : {A : Type 0} (o : Option A) (go : A → Wants) → ((v : A) → IsWaiting (go v) → ⊥) → IsWaiting (with_value o go) → ⊥
 not_waiting None go h w = w
@@ -19,7 +19,7 @@ pub record AtSyncs (c : Code) : Type 0 where
   on_local : Bool
   on_global : Bool
   rest : Code
-  is : c ≡ Syncs on_local on_global rest
+  is : c ≡ Performs (Syncs on_local on_global) rest
 
 waits_at : (ids : Ids) (c : Code) (fs : List Frame) (vars : Vars) → IsWaiting (next_at ids c fs vars) → AtSyncs c
 waits_at ids End [] vars w = absurd w
@@ -28,17 +28,17 @@ waits_at ids End (f ∷ fs) vars w = absurd (not_waiting (bound_value ids.sizes 
     again : (b : ℕ) (t : Bool) → IsWaiting (if t then tested b (next_turn ids f) fs vars else Fails LoopWrap) → ⊥
     again b true x = x
     again b false x = x
-waits_at ids (Assigns v e after) fs vars w = absurd (not_waiting (value ids (loop_variables fs) vars e) _ (λ x z. z) w)
-waits_at ids (Loads v a i after) fs vars w = absurd (not_waiting (value ids (loop_variables fs) vars i) _ (λ x z. z) w)
-waits_at ids (Stores a i e after) fs vars w =
+waits_at ids (Performs (Assigns v e) after) fs vars w = absurd (not_waiting (value ids (loop_variables fs) vars e) _ (λ x z. z) w)
+waits_at ids (Performs (Loads v a i) after) fs vars w = absurd (not_waiting (value ids (loop_variables fs) vars i) _ (λ x z. z) w)
+waits_at ids (Performs (Stores a i e) after) fs vars w =
     absurd (not_waiting (value ids (loop_variables fs) vars i) _ (λ n. not_waiting (value ids (loop_variables fs) vars e) _ (λ x z. z)) w)
-waits_at ids (AssignsFour v e after) fs vars w = absurd (not_waiting (lanes_value ids (loop_variables fs) vars e) _ (λ x z. z) w)
-waits_at ids (LoadsFour v a i after) fs vars w = absurd (not_waiting (value ids (loop_variables fs) vars i) _ (λ x z. z) w)
-waits_at ids (StoresFour a i e after) fs vars w =
+waits_at ids (Performs (AssignsFour v e) after) fs vars w = absurd (not_waiting (lanes_value ids (loop_variables fs) vars e) _ (λ x z. z) w)
+waits_at ids (Performs (LoadsFour v a i) after) fs vars w = absurd (not_waiting (value ids (loop_variables fs) vars i) _ (λ x z. z) w)
+waits_at ids (Performs (StoresFour a i e) after) fs vars w =
     absurd (not_waiting (value ids (loop_variables fs) vars i) _ (λ n. not_waiting (lanes_value ids (loop_variables fs) vars e) _ (λ x z. z)) w)
 waits_at ids (Loops s b c body after) fs vars w = absurd (not_waiting (bound_value ids.sizes b) _ (λ x z. z) w)
 waits_at ids (Guards s b body after) fs vars w = absurd (not_waiting (bound_value ids.sizes b) _ (λ x z. z) w)
-waits_at ids (Syncs p q after) fs vars w = record { on_local = p; on_global = q; rest = after; is = refl }
+waits_at ids (Performs (Syncs p q) after) fs vars w = record { on_local = p; on_global = q; rest = after; is = refl }
 
 stand_waiting : (v w : Wants) → StandTogether v w → IsWaiting v × IsWaiting w
 stand_waiting (Waits a b x) (Waits c d y) h = (tt, tt)
@@ -73,17 +73,17 @@ module _ (p q : Bool) (after : Code) (fs : List Frame) (a b : Bool) (rest : Code
   Alike = (p ≡ a) × (q ≡ b) × (after ≡ rest) × (map still fs ≡ map still gs)
 
   abbrev AtOnePlace : Type 0
-  AtOnePlace = (place (Syncs p q after) (map untimed fs) ≡ place (Syncs a b rest) (map untimed gs)) × (map (λ f. f.turn) fs ≡ map (λ f. f.turn) gs)
+  AtOnePlace = (place (Performs (Syncs p q) after) (map untimed fs) ≡ place (Performs (Syncs a b) rest) (map untimed gs)) × (map (λ f. f.turn) fs ≡ map (λ f. f.turn) gs)
 
   to_place : Alike → AtOnePlace
   to_place h = (
-    λ i. place (Syncs (h.0 i) (h.1 i) (h.2 i)) ((sym (untimed-still fs) ∙ ap (map untimed) h.3 ∙ untimed-still gs) i),
+    λ i. place (Performs (Syncs (h.0 i) (h.1 i)) (h.2 i)) ((sym (untimed-still fs) ∙ ap (map untimed) h.3 ∙ untimed-still gs) i),
     sym (turns-still fs) ∙ ap (map (λ f. f.turn)) h.3 ∙ turns-still gs,
   )
 
   from_place : AtOnePlace → Alike
   from_place h =
-      let e : Syncs p q after ≡ Syncs a b rest = ap (λ (x : Place). x.code) h.0 in
+      let e : Performs (Syncs p q) after ≡ Performs (Syncs a b) rest = ap (λ (x : Place). x.code) h.0 in
       let l : map untimed fs ≡ map untimed gs = ap (λ (x : Place). x.loops) h.0 in (
         cc,
         cc,
@@ -98,7 +98,7 @@ module _ (i j : Ids) (c e : Code) (fs gs : List Frame) (u v : Vars) where
   at_barriers : AtSyncs c → AtSyncs e → Same c e
   at_barriers a b =
       subst (λ x. Same x e) (sym a.is)
-      (subst (λ y. Same (Syncs a.on_local a.on_global a.rest) y) (sym b.is)
+      (subst (λ y. Same (Performs (Syncs a.on_local a.on_global) a.rest) y) (sym b.is)
       (to_place a.on_local a.on_global a.rest fs b.on_local b.on_global b.rest gs, from_place a.on_local a.on_global a.rest fs b.on_local b.on_global b.rest gs))
 
 pub together_at_one_place : TogetherIsOnePlace

@@ -17,7 +17,7 @@ use Rattle.kernel_tree.specs.Seen.{seen_of, RacesIn, IsSeen}
 use Rattle.kernel_tree.specs.Item.{next, Ends, Frame, item, loop_variables, Moves, Fails}
 use Rattle.kernel_tree.specs.Device.{Device, device_of, start_state, State, wants, CanStep, AllTogether, after, run, IsRun, AllEnded, write, Cell, Enabled}
 use Rattle.kernel_tree.specs.Faults.{Access, access_at, Among, IsRace, failure_of, accesses_of, RacesAfter, SomeDiverges}
-use Rattle.kernel_tree.specs.Worked.{one_output, one_cell, Faults, writes_first, writes_second, writes_local, writes_private, divides_by_zero, some_meet_a_barrier, swaps, to_the_barrier, increments, of_three, three_words, left_at, two_items, first_state, ends_a_turn, meets_in_loops, first_turns, meeting, met, of_two_groups, meets_in_an_if, meets_again, guarded_without_a_bound, assigns_one, stores_it, assigns_in_an_if, one_group, guarded, guarded_start, guarded_events, waiting, waiting_start, stores_four, loads_the_third, divides_by, one_zero, loads_second_four, stores_far, of_fours, first_of_fours}
+use Rattle.kernel_tree.specs.Worked.{one_output, one_cell, Faults, writes_first, writes_second, writes_local, writes_private, divides_by_zero, some_meet_a_barrier, swaps, to_the_barrier, increments, of_three, three_words, left_at, two_items, first_state, ends_a_turn, meets_in_loops, first_turns, meeting, met, meets_in_an_if, meets_again, guarded_without_a_bound, assigns_one, stores_it, assigns_in_an_if, one_group, guarded, guarded_start, guarded_events, waiting, waiting_start, stores_four, loads_the_third, divides_by, one_zero, loads_second_four, stores_far, of_fours, first_of_fours}
 
 pub race : Faults writes_first 2 1 (Step 0 ∷ []) (Step 1) (Some fault.Race)
 unfolding next after failure_of accesses_of

@@ -1,7 +1,7 @@
 -- The number of events that a kernel's text allows.
 use Rattle.std.specs.Prelude.{ℕ, ◌+◌, ◌*◌, List, Option, Some, None}
 use Rattle.kernel_tree.specs.Formula.{Formula, bound_value}
-use Rattle.kernel_tree.specs.Code.{Code, End, Assigns, Loads, Stores, AssignsFour, LoadsFour, StoresFour, Loops, Guards, Syncs, Kernel}
+use Rattle.kernel_tree.specs.Code.{Code, End, Performs, Loops, Guards, Kernel}
 use Rattle.kernel_tree.specs.Launch.{Launch, item_count}
 
 -- 0 in place of none
@@ -16,16 +16,10 @@ turns_in sizes b = or_zero (bound_value sizes b)
 -- the events that statements allow one item
 abbrev pub cost : (sizes : List ℕ) → Code → ℕ
 cost sizes End = 0
-cost sizes (Assigns v e after) = 1 + cost sizes after
-cost sizes (Loads v a i after) = 1 + cost sizes after
-cost sizes (Stores a i e after) = 1 + cost sizes after
-cost sizes (AssignsFour v e after) = 1 + cost sizes after
-cost sizes (LoadsFour v a i after) = 1 + cost sizes after
-cost sizes (StoresFour a i e after) = 1 + cost sizes after
+cost sizes (Performs s after) = 1 + cost sizes after
 cost sizes (Loops s b c body after) =
     1 + turns_in sizes b * (1 + cost sizes body) + cost sizes after
 cost sizes (Guards s b body after) = 1 + cost sizes body + cost sizes after
-cost sizes (Syncs on_local on_global after) = 1 + cost sizes after
 
 -- the events that a kernel's text allows in all
 abbrev pub bound : Kernel → Launch → ℕ

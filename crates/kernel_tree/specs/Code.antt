@@ -35,34 +35,32 @@ stride_value ids (ByGlobalSize d) = (along ids d).global_size
 stride_value ids (ByGroupCount d) = (along ids d).group_count
 stride_value ids (ByLocalSize d) = (along ids d).local_size
 
--- each statement is linked to what comes after it in its block. The three of `Four` are of a
--- variable of four words, and of the four cells at an offset, which counts an array's cells in
--- fours. `Guards` is an `if`: its body is done where the start is below the bound. `Syncs` is a
--- barrier with its flags
+-- a statement without a block of its own. The three of `Four` are of a variable of four words, and
+-- of the four cells at an offset, which counts an array's cells in fours. `Syncs` is a barrier with
+-- its flags
+pub data Statement : Type 0 where
+  Assigns : (var : ℕ) → (value : Formula) → Statement
+  Loads : (var : ℕ) → (array : Array) → (index : Formula) → Statement
+  Stores : (array : Array) → (index value : Formula) → Statement
+  AssignsFour : (var : ℕ) → (value : Lanes) → Statement
+  LoadsFour : (var : ℕ) → (array : Array) → (offset : Formula) → Statement
+  StoresFour : (array : Array) → (offset : Formula) → (value : Lanes) → Statement
+  Syncs : (on_local on_global : Bool) → Statement
+
+-- statements one after another, each with what comes after it in its block. `Guards` is an `if`:
+-- its body is done where the start is below the bound
 pub data Code : Type 0 where
   End : Code
-  Assigns : (var : ℕ) → (value : Formula) → (after : Code) → Code
-  Loads : (var : ℕ) → (array : Array) → (index : Formula) → (after : Code) → Code
-  Stores : (array : Array) → (index value : Formula) → (after : Code) → Code
-  AssignsFour : (var : ℕ) → (value : Lanes) → (after : Code) → Code
-  LoadsFour : (var : ℕ) → (array : Array) → (offset : Formula) → (after : Code) → Code
-  StoresFour : (array : Array) → (offset : Formula) → (value : Lanes) → (after : Code) → Code
+  Performs : (statement : Statement) → (after : Code) → Code
   Loops : (start : Start) → (bound : Formula) → (stride : Stride) → (body after : Code) → Code
   Guards : (start : Start) → (bound : Formula) → (body after : Code) → Code
-  Syncs : (on_local on_global : Bool) → (after : Code) → Code
 
 -- a block, and then the rest
 abbrev pub then_rest : Code → Code → Code
 then_rest End rest = rest
-then_rest (Assigns v e after) rest = Assigns v e (then_rest after rest)
-then_rest (Loads v a i after) rest = Loads v a i (then_rest after rest)
-then_rest (Stores a i e after) rest = Stores a i e (then_rest after rest)
-then_rest (AssignsFour v e after) rest = AssignsFour v e (then_rest after rest)
-then_rest (LoadsFour v a i after) rest = LoadsFour v a i (then_rest after rest)
-then_rest (StoresFour a i e after) rest = StoresFour a i e (then_rest after rest)
+then_rest (Performs s after) rest = Performs s (then_rest after rest)
 then_rest (Loops s b c body after) rest = Loops s b c body (then_rest after rest)
 then_rest (Guards s b body after) rest = Guards s b body (then_rest after rest)
-then_rest (Syncs on_local on_global after) rest = Syncs on_local on_global (then_rest after rest)
 
 -- a kernel: how many inputs, outputs and sizes it takes, what it declares, and its statements
 pub record Kernel : Type 0 where

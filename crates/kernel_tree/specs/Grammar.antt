@@ -3,7 +3,7 @@ use Rattle.std.specs.Prelude.{ℕ, suc, ◌*◌, ◌^◌, max, Option, Some, Non
 use Rattle.scalar_ops.specs.declared.op.Op.{Op}
 use Rattle.scalar_ops.specs.declared.op.Op.TheVariants.{Add, Mul, Min, Max, And, Or, Xor, Sub, Shl, Shr, Div, Rem, Lt, Eq}
 use Rattle.kernel_tree.specs.Formula.{Formula, Number, Variable, LoopVariable, Size, Id, Binary, Choose, Lanes, Vector, Spread, Each}
-use Rattle.kernel_tree.specs.Code.{Array, Input, Output, Local, Private, Code, End, Assigns, Loads, Stores, AssignsFour, LoadsFour, StoresFour, Loops, Guards, Syncs, Kernel}
+use Rattle.kernel_tree.specs.Code.{Array, Input, Output, Local, Private, Statement, Code, End, Performs, Assigns, Loads, Stores, AssignsFour, LoadsFour, StoresFour, Loops, Guards, Syncs, Kernel}
 
 -- how deep loops and ifs nest at most, and so expressions
 abbrev pub deepest : ℕ
@@ -105,36 +105,29 @@ is_shared (Private a) = false
 -- a block that is not empty
 abbrev pub has_statement : Code → Bool
 has_statement End = false
-has_statement (Assigns v e after) = true
-has_statement (Loads v a i after) = true
-has_statement (Stores a i e after) = true
-has_statement (AssignsFour v e after) = true
-has_statement (LoadsFour v a i after) = true
-has_statement (StoresFour a i e after) = true
+has_statement (Performs s after) = true
 has_statement (Loops s b c body after) = true
 has_statement (Guards s b body after) = true
-has_statement (Syncs on_local on_global after) = true
+
+-- a statement within this many loops
+abbrev pub is_statement : Kernel → (loops : ℕ) → Statement → Bool
+is_statement k loops (Assigns v e) = nat_lt v k.variables && is_expression k loops e
+is_statement k loops (Loads v a i) =
+    nat_lt v k.variables && (is_readable k a && is_expression k loops i)
+is_statement k loops (Stores a i e) =
+    is_writable k a && (is_expression k loops i && is_expression k loops e)
+is_statement k loops (AssignsFour v e) = nat_lt v k.vectors && are_lanes k loops e
+is_statement k loops (LoadsFour v a i) =
+    nat_lt v k.vectors && ((is_shared a && is_readable k a) && is_expression k loops i)
+is_statement k loops (StoresFour a i e) =
+    (is_shared a && is_writable k a) && (is_expression k loops i && are_lanes k loops e)
+is_statement k loops (Syncs on_local on_global) = on_local || on_global
 
 -- statements within this many loops, and as deep in loops and ifs together
 abbrev pub are_statements : Kernel → (loops depth : ℕ) → Code → Bool
 are_statements k loops depth End = true
-are_statements k loops depth (Assigns v e after) =
-    nat_lt v k.variables && (is_expression k loops e && are_statements k loops depth after)
-are_statements k loops depth (Loads v a i after) =
-    nat_lt v k.variables
-    && (is_readable k a && (is_expression k loops i && are_statements k loops depth after))
-are_statements k loops depth (Stores a i e after) =
-    is_writable k a
-    && (is_expression k loops i && (is_expression k loops e && are_statements k loops depth after))
-are_statements k loops depth (AssignsFour v e after) =
-    nat_lt v k.vectors && (are_lanes k loops e && are_statements k loops depth after)
-are_statements k loops depth (LoadsFour v a i after) =
-    nat_lt v k.vectors
-    && ((is_shared a && is_readable k a)
-    && (is_expression k loops i && are_statements k loops depth after))
-are_statements k loops depth (StoresFour a i e after) =
-    (is_shared a && is_writable k a)
-    && (is_expression k loops i && (are_lanes k loops e && are_statements k loops depth after))
+are_statements k loops depth (Performs s after) =
+    is_statement k loops s && are_statements k loops depth after
 are_statements k loops depth (Loops s b c body after) =
     nat_lt depth deepest
     && (is_constant b
@@ -148,8 +141,6 @@ are_statements k loops depth (Guards s b body after) =
     && (is_expression k loops b
     && (has_statement body
     && (are_statements k loops (suc depth) body && are_statements k loops depth after))))
-are_statements k loops depth (Syncs on_local on_global after) =
-    (on_local || on_global) && are_statements k loops depth after
 
 -- lengths of arrays
 abbrev pub are_lengths : List ℕ → Bool

@@ -3,7 +3,7 @@ use Rattle.std.specs.Prelude.{ℕ, suc, ◌+◌, ◌^◌, Bool, List, [], ◌∷
 use Rattle.kernel_tree.specs.declared.events.FaultKind.{FaultKind}
 use Rattle.kernel_tree.specs.declared.events.FaultKind.TheVariants.{ZeroDivisor, LoopWrap}
 use Rattle.kernel_tree.specs.Formula.{Formula, Ids, Vars, Four, set_word, set_vector, value, bound_value, lanes_value}
-use Rattle.kernel_tree.specs.Code.{Array, Start, Stride, start_value, stride_value, Code, End, Assigns, Loads, Stores, AssignsFour, LoadsFour, StoresFour, Loops, Guards, Syncs, then_rest}
+use Rattle.kernel_tree.specs.Code.{Array, Start, Stride, start_value, stride_value, Statement, Code, End, Performs, Assigns, Loads, Stores, AssignsFour, LoadsFour, StoresFour, Loops, Guards, Syncs, then_rest}
 
 -- a loop that a work-item is in
 pub record Frame : Type 0 where
@@ -75,6 +75,30 @@ next_turn ids f = record {
   after = f.after;
 }
 
+-- what an item does next that performs a statement, and goes on with these variables
+abbrev pub perform : Ids → (loops : List ℕ) → Vars → Statement → (on : Vars → Item) → Wants
+perform ids loops vars (Assigns v e) on =
+    with_value (value ids loops vars e)
+    (λ x. Moves (on (set_word vars v x)))
+perform ids loops vars (Loads v a i) on =
+    with_value (value ids loops vars i)
+    (λ n. Reads a n (λ x. on (set_word vars v x)))
+perform ids loops vars (Stores a i e) on =
+    with_value (value ids loops vars i)
+    (λ n. with_value (value ids loops vars e)
+    (λ x. Writes a n x (on vars)))
+perform ids loops vars (AssignsFour v e) on =
+    with_value (lanes_value ids loops vars e)
+    (λ u. Moves (on (set_vector vars v u)))
+perform ids loops vars (LoadsFour v a i) on =
+    with_value (value ids loops vars i)
+    (λ n. ReadsFour a n (λ u. on (set_vector vars v u)))
+perform ids loops vars (StoresFour a i e) on =
+    with_value (value ids loops vars i)
+    (λ n. with_value (lanes_value ids loops vars e)
+    (λ u. WritesFour a n u (on vars)))
+perform ids loops vars (Syncs on_local on_global) on = Waits on_local on_global (on vars)
+
 -- what an item does next that stands at this place
 abbrev pub next_at : Ids → Code → List Frame → Vars → Wants
 next_at ids End [] vars = Ends
@@ -83,26 +107,8 @@ next_at ids End (f ∷ fs) vars =
     (λ b. if nat_lt (f.variable + stride_value ids f.stride) (2 ^ 32)
     then tested b (next_turn ids f) fs vars
     else Fails LoopWrap)
-next_at ids (Assigns v e after) fs vars =
-    with_value (value ids (loop_variables fs) vars e)
-    (λ x. Moves (item after fs (set_word vars v x)))
-next_at ids (Loads v a i after) fs vars =
-    with_value (value ids (loop_variables fs) vars i)
-    (λ n. Reads a n (λ x. item after fs (set_word vars v x)))
-next_at ids (Stores a i e after) fs vars =
-    with_value (value ids (loop_variables fs) vars i)
-    (λ n. with_value (value ids (loop_variables fs) vars e)
-    (λ x. Writes a n x (item after fs vars)))
-next_at ids (AssignsFour v e after) fs vars =
-    with_value (lanes_value ids (loop_variables fs) vars e)
-    (λ u. Moves (item after fs (set_vector vars v u)))
-next_at ids (LoadsFour v a i after) fs vars =
-    with_value (value ids (loop_variables fs) vars i)
-    (λ n. ReadsFour a n (λ u. item after fs (set_vector vars v u)))
-next_at ids (StoresFour a i e after) fs vars =
-    with_value (value ids (loop_variables fs) vars i)
-    (λ n. with_value (lanes_value ids (loop_variables fs) vars e)
-    (λ u. WritesFour a n u (item after fs vars)))
+next_at ids (Performs s after) fs vars =
+    perform ids (loop_variables fs) vars s (λ then_vars. item after fs then_vars)
 next_at ids (Loops s b c body after) fs vars =
     with_value (bound_value ids.sizes b)
     (λ n. tested n (first_turn ids s b c body after) fs vars)
@@ -111,7 +117,6 @@ next_at ids (Guards s b body after) fs vars =
     (λ n. Moves (if nat_lt (start_value ids s) n
     then item (then_rest body after) fs vars
     else item after fs vars))
-next_at ids (Syncs on_local on_global after) fs vars = Waits on_local on_global (item after fs vars)
 
 -- what an item does next
 unfoldable pub next : Ids → Item → Wants

@@ -7,7 +7,7 @@ use Rattle.scalar_ops.specs.declared.op.Op.TheVariants.{Add, Mul, Min, Max, And,
 use Rattle.kernel_tree.specs.declared.tree.Dimension.{Dimension}
 use Rattle.kernel_tree.specs.declared.tree.Dimension.TheVariants.{X, Y}
 use Rattle.kernel_tree.specs.Formula.{IdForm, GlobalId, GroupId, LocalId, GlobalSize, GroupCount, LocalSize, Comparison, Less, Equal, Formula, Number, Variable, LoopVariable, Size, Id, Binary, Choose, Lanes, Vector, Spread, Each}
-use Rattle.kernel_tree.specs.Code.{Array, Input, Output, Local, Private, Start, FromZero, FromGlobalId, FromGroupId, FromLocalId, Stride, ByOne, ByGlobalSize, ByGroupCount, ByLocalSize, Code, End, Assigns, Loads, Stores, AssignsFour, LoadsFour, StoresFour, Loops, Guards, Syncs, Kernel}
+use Rattle.kernel_tree.specs.Code.{Array, Input, Output, Local, Private, Start, FromZero, FromGlobalId, FromGroupId, FromLocalId, Stride, ByOne, ByGlobalSize, ByGroupCount, ByLocalSize, Code, End, Performs, Assigns, Loads, Stores, AssignsFour, LoadsFour, StoresFour, Loops, Guards, Syncs, Kernel}
 use Rattle.kernel_tree.specs.Grammar.{deepest, largest_group, is_readable, is_writable, is_shared}
 use Rattle.kernel_tree.specs.Pieces.{ArePieces}
 
@@ -736,36 +736,37 @@ each_of n op _ = None
 -- a statement that assigns four words
 abbrev pub assign_four_of : Notes → ℕ → List Lanes → List Code → Option Notes
 assign_four_of n k (e ∷ lanes) (after ∷ blocks) =
-    Some (with_lanes n n.values lanes (AssignsFour k e after ∷ blocks))
+    Some (with_lanes n n.values lanes (Performs (AssignsFour k e) after ∷ blocks))
 assign_four_of n k _ _ = None
 
 -- one that loads four
 abbrev pub load_four_of : Notes → ℕ → Array → List Formula → List Code → Option Notes
 load_four_of n k array (i ∷ values) (after ∷ blocks) =
-    Some (noted n values (LoadsFour k array i after ∷ blocks))
+    Some (noted n values (Performs (LoadsFour k array i) after ∷ blocks))
 load_four_of n k array _ _ = None
 
 -- one that stores four
 abbrev pub store_four_of : Notes → Array → List Formula → List Lanes → List Code → Option Notes
 store_four_of n array (i ∷ values) (e ∷ lanes) (after ∷ blocks) =
-    Some (with_lanes n values lanes (StoresFour array i e after ∷ blocks))
+    Some (with_lanes n values lanes (Performs (StoresFour array i e) after ∷ blocks))
 store_four_of n array _ _ _ = None
 
 -- a statement that assigns
 abbrev pub assign_of : Notes → ℕ → List Formula → List Code → Option Notes
-assign_of n k (e ∷ values) (after ∷ blocks) = Some (noted n values (Assigns k e after ∷ blocks))
+assign_of n k (e ∷ values) (after ∷ blocks) =
+    Some (noted n values (Performs (Assigns k e) after ∷ blocks))
 assign_of n k _ _ = None
 
 -- one that loads
 abbrev pub load_of : Notes → ℕ → Array → List Formula → List Code → Option Notes
 load_of n k array (i ∷ values) (after ∷ blocks) =
-    Some (noted n values (Loads k array i after ∷ blocks))
+    Some (noted n values (Performs (Loads k array i) after ∷ blocks))
 load_of n k array _ _ = None
 
 -- one that stores
 abbrev pub store_of : Notes → Array → List Formula → List Code → Option Notes
 store_of n array (e ∷ i ∷ values) (after ∷ blocks) =
-    Some (noted n values (Stores array i e after ∷ blocks))
+    Some (noted n values (Performs (Stores array i e) after ∷ blocks))
 store_of n array _ _ = None
 
 -- a loop, of the last two blocks
@@ -783,7 +784,7 @@ guard_of n s _ _ = None
 -- a barrier
 abbrev pub sync_of : Notes → (on_local on_global : Bool) → List Code → Option Notes
 sync_of n on_local on_global (after ∷ blocks) =
-    Some (noted n n.values (Syncs on_local on_global after ∷ blocks))
+    Some (noted n n.values (Performs (Syncs on_local on_global) after ∷ blocks))
 sync_of n on_local on_global [] = None
 
 -- the notes after a note, if it fits them

@@ -2,7 +2,7 @@
 use Rattle.std.specs.Prelude.{◌≡◌, ◌↔◌, ℕ, ◌<◌, List, [], ◌∷◌, ◌++◌, map}
 use Rattle.kernel_tree.specs.declared.events.Event.{Event}
 use Rattle.kernel_tree.specs.Formula.{Formula, Ids}
-use Rattle.kernel_tree.specs.Code.{Stride, Code, End, Assigns, Loads, Stores, AssignsFour, LoadsFour, StoresFour, Loops, Guards, Syncs, then_rest, Kernel}
+use Rattle.kernel_tree.specs.Code.{Stride, Code, End, Performs, Loops, Guards, then_rest, Kernel}
 use Rattle.kernel_tree.specs.Launch.{Launch, Cells, item_count}
 use Rattle.kernel_tree.specs.Item.{Frame, Item, next}
 use Rattle.kernel_tree.specs.Device.{State, IsStart, device_of, run, IsRun, StandTogether}
@@ -27,18 +27,8 @@ around b c body after =
 -- loop's body the end too, where its test comes
 abbrev pub places : Code → (rest : Code) → List Frame → List Place
 places End rest fs = []
-places (Assigns v e after) rest fs =
-    place (Assigns v e (then_rest after rest)) fs ∷ places after rest fs
-places (Loads v a i after) rest fs =
-    place (Loads v a i (then_rest after rest)) fs ∷ places after rest fs
-places (Stores a i e after) rest fs =
-    place (Stores a i e (then_rest after rest)) fs ∷ places after rest fs
-places (AssignsFour v e after) rest fs =
-    place (AssignsFour v e (then_rest after rest)) fs ∷ places after rest fs
-places (LoadsFour v a i after) rest fs =
-    place (LoadsFour v a i (then_rest after rest)) fs ∷ places after rest fs
-places (StoresFour a i e after) rest fs =
-    place (StoresFour a i e (then_rest after rest)) fs ∷ places after rest fs
+places (Performs s after) rest fs =
+    place (Performs s (then_rest after rest)) fs ∷ places after rest fs
 places (Loops s b c body after) rest fs =
     let inner = around b c body (then_rest after rest) ∷ fs in
     place (Loops s b c body (then_rest after rest)) fs
@@ -46,8 +36,6 @@ places (Loops s b c body after) rest fs =
 places (Guards s b body after) rest fs =
     place (Guards s b body (then_rest after rest)) fs ∷ places body (then_rest after rest) fs
     ++ places after rest fs
-places (Syncs p q after) rest fs =
-    place (Syncs p q (then_rest after rest)) fs ∷ places after rest fs
 
 -- those of a whole text, its end too
 abbrev pub all_places : Code → List Place

@@ -16,7 +16,7 @@ use Rattle.kernel_tree.specs.declared.tree.Stride.TheVariants as stride_form
 use Rattle.kernel_tree.specs.declared.tree.Stmt.{Stmt, Row_of-Stmt, end_of-Stmt, more_of-Stmt}
 use Rattle.kernel_tree.specs.declared.tree.Stmt as stmt
 use Rattle.kernel_tree.specs.Formula.{IdForm, GlobalId, GroupId, LocalId, GlobalSize, GroupCount, LocalSize, Comparison, Less, Equal, Formula, Number, Variable, LoopVariable, Size, Id, Binary, Choose, Lanes, Vector, Spread, Each}
-use Rattle.kernel_tree.specs.Code.{Array, Input, Output, Local, Private, Start, FromZero, FromGlobalId, FromGroupId, FromLocalId, Stride, ByOne, ByGlobalSize, ByGroupCount, ByLocalSize, Code, End, Assigns, Loads, Stores, AssignsFour, LoadsFour, StoresFour, Loops, Guards, Syncs, Kernel}
+use Rattle.kernel_tree.specs.Code.{Array, Input, Output, Local, Private, Start, FromZero, FromGlobalId, FromGroupId, FromLocalId, Stride, ByOne, ByGlobalSize, ByGroupCount, ByLocalSize, Code, End, Performs, Assigns, Loads, Stores, AssignsFour, LoadsFour, StoresFour, Loops, Guards, Syncs, Kernel}
 
 -- the form of an id
 abbrev pub id_of : id.IdForm → IdForm
@@ -73,16 +73,18 @@ stride_of (stride_form.LocalSize d) = ByLocalSize d
 abbrev mutual
   -- a statement, and what comes after it
   pub before : Stmt → Code → Code
-  before (stmt.Assign v e) after = Assigns v (formula_of e) after
-  before (stmt.Load v a i) after = Loads v (array_of a) (formula_of i) after
-  before (stmt.Store a i e) after = Stores (array_of a) (formula_of i) (formula_of e) after
-  before (stmt.AssignFour v e) after = AssignsFour v (lanes_of e) after
-  before (stmt.LoadFour v a i) after = LoadsFour v (array_of a) (formula_of i) after
-  before (stmt.StoreFour a i e) after = StoresFour (array_of a) (formula_of i) (lanes_of e) after
+  before (stmt.Assign v e) after = Performs (Assigns v (formula_of e)) after
+  before (stmt.Load v a i) after = Performs (Loads v (array_of a) (formula_of i)) after
+  before (stmt.Store a i e) after =
+      Performs (Stores (array_of a) (formula_of i) (formula_of e)) after
+  before (stmt.AssignFour v e) after = Performs (AssignsFour v (lanes_of e)) after
+  before (stmt.LoadFour v a i) after = Performs (LoadsFour v (array_of a) (formula_of i)) after
+  before (stmt.StoreFour a i e) after =
+      Performs (StoresFour (array_of a) (formula_of i) (lanes_of e)) after
   before (stmt.Loop' s b c shape body) after =
       Loops (start_of s) (formula_of b) (stride_of c) (code_of body) after
   before (stmt.If' s b shape body) after = Guards (start_of s) (formula_of b) (code_of body) after
-  before (stmt.Barrier on_local on_global) after = Syncs on_local on_global after
+  before (stmt.Barrier on_local on_global) after = Performs (Syncs on_local on_global) after
 
   -- a block
   pub code_of : {m : _} → Row_of-Stmt m → Code

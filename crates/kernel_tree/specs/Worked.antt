@@ -6,7 +6,7 @@ use Rattle.kernel_tree.specs.declared.events.Event.TheVariants.{Step, Release}
 use Rattle.kernel_tree.specs.declared.events.FaultKind.{FaultKind}
 use Rattle.kernel_tree.specs.declared.tree.Dimension.TheVariants.{X}
 use Rattle.kernel_tree.specs.Formula.{Formula, Number, Variable, LoopVariable, Size, Id, LocalId, Binary, Choose, Equal, Four, Vector, Spread, spread, Each, Vars, no_vars}
-use Rattle.kernel_tree.specs.Code.{Input, Output, Local, Private, FromZero, FromGlobalId, FromLocalId, ByOne, Code, End, Assigns, Loads, Stores, AssignsFour, LoadsFour, StoresFour, Loops, Guards, Syncs, Kernel}
+use Rattle.kernel_tree.specs.Code.{Input, Output, Local, Private, FromZero, FromGlobalId, FromLocalId, ByOne, Code, End, Performs, Assigns, Loads, Stores, AssignsFour, LoadsFour, StoresFour, Loops, Guards, Syncs, Kernel}
 use Rattle.kernel_tree.specs.Launch.{Launch, in_a_row, Cells}
 use Rattle.kernel_tree.specs.Item.{Item, item, Wants, WritesFour}
 use Rattle.kernel_tree.specs.Device.{Device, device_of, State, start_state, run, IsRun}
@@ -44,33 +44,42 @@ Faults code global local es e kind =
 
 -- o0[0u] = 1u;
 abbrev pub writes_first : Code
-writes_first = Stores (Output 0) (Number 0) (Number 1) End
+writes_first = Performs (Stores (Output 0) (Number 0) (Number 1)) End
 
 -- o0[1u] = 1u;
 abbrev pub writes_second : Code
-writes_second = Stores (Output 0) (Number 1) (Number 1) End
+writes_second = Performs (Stores (Output 0) (Number 1) (Number 1)) End
 
 -- l0[0u] = 1u;
 abbrev pub writes_local : Code
-writes_local = Stores (Local 0) (Number 0) (Number 1) End
+writes_local = Performs (Stores (Local 0) (Number 0) (Number 1)) End
 
 -- p0[0u] = 1u;
 abbrev pub writes_private : Code
-writes_private = Stores (Private 0) (Number 0) (Number 1) End
+writes_private = Performs (Stores (Private 0) (Number 0) (Number 1)) End
 
 -- v0 = (1u / 0u);
 abbrev pub divides_by_zero : Code
-divides_by_zero = Assigns 0 (Binary Div (Number 1) (Number 0)) End
+divides_by_zero = Performs (Assigns 0 (Binary Div (Number 1) (Number 0))) End
+
+-- barrier(CLK_LOCAL_MEM_FENCE); and the rest
+abbrev pub meets : (after : Code) → Code
+meets after = Performs (Syncs true false) after
+
+-- a barrier without a flag
+abbrev pub unflagged : Code
+unflagged = Performs (Syncs false false) End
 
 -- for (uint i0 = (uint)get_local_id(0); i0 < 1u; i0 += 1u) { barrier(CLK_LOCAL_MEM_FENCE); }
 abbrev pub some_meet_a_barrier : Code
-some_meet_a_barrier = Loops (FromLocalId X) (Number 1) ByOne (Syncs true false End) End
+some_meet_a_barrier = Loops (FromLocalId X) (Number 1) ByOne (meets End) End
 
 -- l0[local id] = 1u; barrier(..); v0 = l0[(1u - local id)];
 abbrev pub swaps : (on_local on_global : Bool) → Code
 swaps on_local on_global =
-    Stores (Local 0) (Id X LocalId) (Number 1)
-    (Syncs on_local on_global (Loads 0 (Local 0) (Binary Sub (Number 1) (Id X LocalId)) End))
+    Performs (Stores (Local 0) (Id X LocalId) (Number 1))
+    (Performs (Syncs on_local on_global)
+    (Performs (Loads 0 (Local 0) (Binary Sub (Number 1) (Id X LocalId))) End))
 
 -- two items of one group come to the barrier, and are released
 abbrev pub to_the_barrier : List Event
@@ -89,8 +98,8 @@ increments = record {
   local = None;
   code =
       Loops FromZero (Size 0) ByOne
-      (Loads 0 (Input 0) (LoopVariable 0)
-      (Stores (Output 0) (LoopVariable 0) (Binary Add (Variable 0) (Number 1)) End))
+      (Performs (Loads 0 (Input 0) (LoopVariable 0))
+      (Performs (Stores (Output 0) (LoopVariable 0) (Binary Add (Variable 0) (Number 1))) End))
       End;
 }
 
@@ -145,7 +154,8 @@ divides_unchosen = Choose Equal (Number 0) (Number 0) (Number 1) (Binary Div (Nu
 -- for (uint i0 = 0u; i0 < (1u / 0u); i0 += 1u) { v0 = 0u; }
 abbrev pub without_a_bound : Code
 without_a_bound =
-    Loops FromZero (Binary Div (Number 1) (Number 0)) ByOne (Assigns 0 (Number 0) End) End
+    Loops FromZero (Binary Div (Number 1) (Number 0)) ByOne
+    (Performs (Assigns 0 (Number 0)) End) End
 
 -- an item at the end of a turn of a loop up to 4294967295u, its variable at this word
 abbrev pub ends_a_turn : (variable : ℕ) → Item
@@ -167,7 +177,7 @@ ends_a_turn v =
 abbrev pub meets_in_loops : Code
 meets_in_loops =
     Loops FromZero (Number 2) ByOne
-    (Loops (FromLocalId X) (Number 2) ByOne (Syncs true false End) End) End
+    (Loops (FromLocalId X) (Number 2) ByOne (meets End) End) End
 
 -- two items of one group come to that barrier in their first turns
 abbrev pub first_turns : List Event
@@ -183,24 +193,24 @@ met = run meeting (start_state (one_output meets_in_loops) one_cell) first_turns
 
 -- if ((uint)get_local_id(0) < 1u) { barrier(..); }
 abbrev pub meets_in_an_if : Code
-meets_in_an_if = Guards (FromLocalId X) (Number 1) (Syncs true false End) End
+meets_in_an_if = Guards (FromLocalId X) (Number 1) (meets End) End
 
 -- if ((uint)get_local_id(0) < 1u) { barrier(..); } barrier(..);
 abbrev pub meets_again : Code
-meets_again = Guards (FromLocalId X) (Number 1) (Syncs true false End) (Syncs true false End)
+meets_again = Guards (FromLocalId X) (Number 1) (meets End) (meets End)
 
 -- if (0u < (1u / 0u)) { v0 = 1u; }
 abbrev pub guarded_without_a_bound : Code
 guarded_without_a_bound =
-    Guards FromZero (Binary Div (Number 1) (Number 0)) (Assigns 0 (Number 1) End) End
+    Guards FromZero (Binary Div (Number 1) (Number 0)) (Performs (Assigns 0 (Number 1)) End) End
 
 -- v0 = 1u; and behind it o0[(uint)get_local_id(0)] = v0;
 abbrev pub assigns_one : Code
-assigns_one = Assigns 0 (Number 1) End
+assigns_one = Performs (Assigns 0 (Number 1)) End
 
 -- o0[(uint)get_local_id(0)] = v0;
 abbrev pub stores_it : Code
-stores_it = Stores (Output 0) (Id X LocalId) (Variable 0) End
+stores_it = Performs (Stores (Output 0) (Id X LocalId) (Variable 0)) End
 
 -- if ((uint)get_local_id(0) < 1u) { v0 = 1u; } o0[(uint)get_local_id(0)] = v0;
 abbrev pub assigns_in_an_if : Code
@@ -228,24 +238,25 @@ of_pairs = record { global = (4, 6); local = (2, 3); sizes = [] }
 
 -- all of them stand at a barrier from the start
 abbrev pub waiting : Device
-waiting = device_of (one_output (Syncs true false End)) of_pairs one_cell
+waiting = device_of (one_output (meets End)) of_pairs one_cell
 
 -- where they begin
 abbrev pub waiting_start : State
-waiting_start = start_state (one_output (Syncs true false End)) one_cell
+waiting_start = start_state (one_output (meets End)) one_cell
 
 -- vstore4((uint4)(1u), 1u, o0);
 abbrev pub stores_four : Code
-stores_four = StoresFour (Output 0) (Number 1) (Spread (Number 1)) End
+stores_four = Performs (StoresFour (Output 0) (Number 1) (Spread (Number 1))) End
 
 -- if ((uint)get_global_id(0) < 1u) { v0 = o0[6u]; } vstore4((uint4)(1u), 1u, o0);
 abbrev pub loads_the_third : Code
-loads_the_third = Guards (FromGlobalId X) (Number 1) (Loads 0 (Output 0) (Number 6) End) stores_four
+loads_the_third =
+    Guards (FromGlobalId X) (Number 1) (Performs (Loads 0 (Output 0) (Number 6)) End) stores_four
 
 -- an item that is to do w0 = ((uint4)(8u) / w0); where w0 has these words
 abbrev pub divides_by : Four → Item
 divides_by u =
-    item (AssignsFour 0 (Each Div (Spread (Number 8)) (Vector 0)) End) []
+    item (Performs (AssignsFour 0 (Each Div (Spread (Number 8)) (Vector 0))) End) []
     (record { words = []; vectors = u ∷ [] })
 
 -- vstore4((uint4)(1u), 1073741824u, o0); as an item wants it
@@ -254,11 +265,11 @@ wants_far = WritesFour (Output 0) 1073741824 (spread 1) (item End [] no_vars)
 
 -- w0 = vload4(1u, o0);
 abbrev pub loads_second_four : Code
-loads_second_four = LoadsFour 0 (Output 0) (Number 1) End
+loads_second_four = Performs (LoadsFour 0 (Output 0) (Number 1)) End
 
 -- vstore4((uint4)(1u), 1073741824u, o0);
 abbrev pub stores_far : Code
-stores_far = StoresFour (Output 0) (Number 1073741824) (Spread (Number 1)) End
+stores_far = Performs (StoresFour (Output 0) (Number 1073741824) (Spread (Number 1))) End
 
 -- an output, a variable of a word and one of four words
 abbrev pub fours : Code → Kernel

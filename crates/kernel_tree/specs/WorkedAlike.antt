@@ -3,7 +3,7 @@ use Rattle.std.specs.Prelude.{◌≡◌, ℕ, ◌*◌, ◌/◌, ◌%◌, ◌-◌
 use Rattle.scalar_ops.specs.declared.op.Op.TheVariants.{Add, Sub}
 use Rattle.kernel_tree.specs.declared.tree.Dimension.TheVariants.{X}
 use Rattle.kernel_tree.specs.Formula.{Formula, Number, Id, LocalId, Binary, Choose, Equal, Ids, Vars, value}
-use Rattle.kernel_tree.specs.Code.{Array, Input, Output, Local, Private, End, Loads, Stores, Syncs, Kernel}
+use Rattle.kernel_tree.specs.Code.{Array, Input, Output, Local, Private, End, Performs, Loads, Stores, Kernel}
 use Rattle.kernel_tree.specs.Launch.{Launch, in_a_row, Cells}
 use Rattle.kernel_tree.specs.declared.events.Event.{Event}
 use Rattle.kernel_tree.specs.Device.{Cell, device_of, State, IsStart, run, IsRun, IsStuck}
@@ -11,6 +11,7 @@ use Rattle.kernel_tree.specs.Faults.{accesses}
 use Rattle.kernel_tree.specs.Deeds.{Got, Gave}
 use Rattle.kernel_tree.specs.Histories.{Did, Past, is_release}
 use Rattle.kernel_tree.specs.Alike.{Histories}
+use Rattle.kernel_tree.specs.Worked.{meets}
 
 -- l0[own] = 1u; barrier(CLK_LOCAL_MEM_FENCE); v0 = l0[other];
 abbrev pub swap_kernel : (own other : Formula) → Kernel
@@ -23,7 +24,8 @@ swap_kernel own other = record {
   variables = 1;
   vectors = 0;
   local = None;
-  code = Stores (Local 0) own (Number 1) (Syncs true false (Loads 0 (Local 0) other End));
+  code =
+      Performs (Stores (Local 0) own (Number 1)) (meets (Performs (Loads 0 (Local 0) other) End));
 }
 
 -- the own word is the local id's, and the other one the other's

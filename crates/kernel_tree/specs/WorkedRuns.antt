@@ -5,7 +5,7 @@ use Rattle.kernel_tree.specs.declared.events.Event.{Event}
 use Rattle.kernel_tree.specs.declared.events.Event.TheVariants.{Step}
 use Rattle.kernel_tree.specs.declared.tree.Dimension.TheVariants.{X, Y}
 use Rattle.kernel_tree.specs.Formula.{Formula, Number, Variable, LoopVariable, Size, Id, LocalId, Binary, Vector, Spread, Each}
-use Rattle.kernel_tree.specs.Code.{Input, Output, Local, FromGlobalId, FromGroupId, FromLocalId, ByGlobalSize, ByGroupCount, End, Loads, Stores, LoadsFour, StoresFour, Loops, Guards, Kernel}
+use Rattle.kernel_tree.specs.Code.{Input, Output, Local, FromGlobalId, FromGroupId, FromLocalId, ByGlobalSize, ByGroupCount, End, Performs, Loads, Stores, LoadsFour, StoresFour, Loops, Guards, Kernel}
 use Rattle.kernel_tree.specs.Launch.{Launch, in_a_row, Cells}
 use Rattle.kernel_tree.specs.Device.{Device, device_of, State, start_state, run}
 use Rattle.kernel_tree.specs.Histories.{touches, history}
@@ -29,8 +29,8 @@ row_kernel = record {
   local = None;
   code = Loops (FromGlobalId Y) (Number 2) (ByGlobalSize Y)
       (Loops (FromGlobalId X) (Number 3) (ByGlobalSize X)
-      (Loads 0 (Input 0) cell_index
-      (Stores (Output 0) cell_index (Binary Add (Variable 0) (Number 1)) End))
+      (Performs (Loads 0 (Input 0) cell_index)
+      (Performs (Stores (Output 0) cell_index (Binary Add (Variable 0) (Number 1))) End))
       End)
       End;
 }
@@ -86,10 +86,11 @@ if_kernel = record {
   local = Some (4, 1);
   code = Loops (FromGroupId X) (Binary Div (Size 0) (Number 2)) (ByGroupCount X)
       (Guards (FromLocalId X) (Number 2)
-      (Loads 0 (Input 0) tile_index (Stores (Local 0) (Id X LocalId) (Variable 0) End))
+      (Performs (Loads 0 (Input 0) tile_index)
+      (Performs (Stores (Local 0) (Id X LocalId) (Variable 0)) End))
       (Guards (FromLocalId X) (Number 2)
-      (Loads 1 (Local 0) (Id X LocalId)
-      (Stores (Output 0) tile_index (Binary Add (Variable 1) (Number 1)) End))
+      (Performs (Loads 1 (Local 0) (Id X LocalId))
+      (Performs (Stores (Output 0) tile_index (Binary Add (Variable 1) (Number 1))) End))
       End))
       End;
 }
@@ -129,8 +130,9 @@ vector_kernel = record {
   vectors = 1;
   local = None;
   code = Loops (FromGlobalId X) (Number 2) (ByGlobalSize X)
-      (LoadsFour 0 (Input 0) (LoopVariable 0)
-      (StoresFour (Output 0) (LoopVariable 0) (Each Add (Vector 0) (Spread (Number 1))) End))
+      (Performs (LoadsFour 0 (Input 0) (LoopVariable 0))
+      (Performs
+      (StoresFour (Output 0) (LoopVariable 0) (Each Add (Vector 0) (Spread (Number 1)))) End))
       End;
 }
 

@@ -4,7 +4,7 @@ use Rattle.std.specs.Prelude.{ℕ, List, [], ◌∷◌, ◌++◌, Some, codes}
 use Rattle.scalar_ops.specs.declared.op.Op.TheVariants.{Add}
 use Rattle.kernel_tree.specs.declared.tree.Dimension.TheVariants.{Y}
 use Rattle.kernel_tree.specs.Formula.{Number, LoopVariable, Id, LocalId, Vector, Spread, Each}
-use Rattle.kernel_tree.specs.Code.{Input, Output, FromGlobalId, FromLocalId, ByGlobalSize, Code, End, LoadsFour, StoresFour, Loops, Guards, Kernel}
+use Rattle.kernel_tree.specs.Code.{Input, Output, FromGlobalId, FromLocalId, ByGlobalSize, Code, End, Performs, LoadsFour, StoresFour, Loops, Guards, Kernel}
 
 -- each line, and the end of it
 abbrev pub lines : List (List ℕ) → List ℕ
@@ -32,8 +32,8 @@ abbrev pub worked_code : Code
 worked_code =
     Guards (FromLocalId Y) (Number 2)
     (Loops (FromGlobalId Y) (Number 2) (ByGlobalSize Y)
-    (LoadsFour 0 (Input 0) (LoopVariable 0)
-    (StoresFour (Output 0) (Id Y LocalId) (Each Add (Vector 0) (Spread (Number 1))) End))
+    (Performs (LoadsFour 0 (Input 0) (LoopVariable 0))
+    (Performs (StoresFour (Output 0) (Id Y LocalId) (Each Add (Vector 0) (Spread (Number 1)))) End))
     End)
     End
 

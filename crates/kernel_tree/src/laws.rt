@@ -6,7 +6,7 @@ ghost use Rattle.kernel_tree.specs.declared.events.Event.TheVariants.{Release};
 ghost use Rattle.kernel_tree.specs.Formula.{Formula, Lanes, Four, Vars, set_word, set_vector, value, bound_value, lanes_value};
 ghost use Rattle.kernel_tree.specs.Launch.{Launch, in_a_row, Cells, IsDivided, IsWhole, IsFlat, item_count, ids_of};
 ghost use Rattle.kernel_tree.specs.Numbering.{LaidOut, LaidInARow};
-ghost use Rattle.kernel_tree.specs.Code.{Array, Code, Assigns, Loads, Stores, AssignsFour, LoadsFour, StoresFour, Guards, Start, start_value, then_rest, Kernel};
+ghost use Rattle.kernel_tree.specs.Code.{Array, Code, Assigns, Loads, Stores, AssignsFour, LoadsFour, StoresFour, Guards, Start, start_value, then_rest, Kernel, Performs};
 ghost use Rattle.kernel_tree.specs.Item.{Frame, Item, item, loop_variables};
 ghost use Rattle.kernel_tree.specs.Bound.{bound};
 ghost use Rattle.kernel_tree.specs.Faults.{Access, accesses, accesses_of, Among, OfOneEvent, RacesAfter, NoFailure, FaultIs, IsFaultless, Run};
@@ -120,35 +120,35 @@ pub fn statements()
     ensures assignment { (d : Device) (k : ℕ) (fs : List Frame) (vars : Vars) (m : Memory) (v : ℕ)
         (e : Formula) (rest : Code) (x : ℕ)
         → value (ids_of d.launch k) (loop_variables fs) vars e ≡ Some x
-        → Goes d k (item (Assigns v e rest) fs vars) m (Moved ∷ [])
+        → Goes d k (item (Performs (Assigns v e) rest) fs vars) m (Moved ∷ [])
         (item rest fs (set_word vars v x)) }
     ensures load { (d : Device) (k : ℕ) (fs : List Frame) (vars : Vars) (m : Memory) (v : ℕ)
         (a : Array) (i : Formula) (rest : Code) (n : ℕ)
         → value (ids_of d.launch k) (loop_variables fs) vars i ≡ Some n → n < d.lengths a
-        → Goes d k (item (Loads v a i rest) fs vars) m (Got (cell_at d.launch k a n) ∷ [])
+        → Goes d k (item (Performs (Loads v a i) rest) fs vars) m (Got (cell_at d.launch k a n) ∷ [])
         (item rest fs (set_word vars v (m (cell_at d.launch k a n)))) }
     ensures store { (d : Device) (k : ℕ) (fs : List Frame) (vars : Vars) (m : Memory) (a : Array)
         (i e : Formula) (rest : Code) (n x : ℕ)
         → value (ids_of d.launch k) (loop_variables fs) vars i ≡ Some n
         → value (ids_of d.launch k) (loop_variables fs) vars e ≡ Some x → n < d.lengths a
-        → Goes d k (item (Stores a i e rest) fs vars) m (Gave (cell_at d.launch k a n) x ∷ [])
+        → Goes d k (item (Performs (Stores a i e) rest) fs vars) m (Gave (cell_at d.launch k a n) x ∷ [])
         (item rest fs vars) }
     ensures four_assignment { (d : Device) (k : ℕ) (fs : List Frame) (vars : Vars) (m : Memory)
         (v : ℕ) (e : Lanes) (rest : Code) (u : Four)
         → lanes_value (ids_of d.launch k) (loop_variables fs) vars e ≡ Some u
-        → Goes d k (item (AssignsFour v e rest) fs vars) m (Moved ∷ [])
+        → Goes d k (item (Performs (AssignsFour v e) rest) fs vars) m (Moved ∷ [])
         (item rest fs (set_vector vars v u)) }
     ensures four_load { (d : Device) (k : ℕ) (fs : List Frame) (vars : Vars) (m : Memory) (v : ℕ)
         (a : Array) (i : Formula) (rest : Code) (n : ℕ)
         → value (ids_of d.launch k) (loop_variables fs) vars i ≡ Some n → 4 * n + 3 < d.lengths a
-        → Goes d k (item (LoadsFour v a i rest) fs vars) m (GotFour (four_at d.launch k a n) ∷ [])
+        → Goes d k (item (Performs (LoadsFour v a i) rest) fs vars) m (GotFour (four_at d.launch k a n) ∷ [])
         (item rest fs (set_vector vars v (four_words m (four_at d.launch k a n)))) }
     ensures four_store { (d : Device) (k : ℕ) (fs : List Frame) (vars : Vars) (m : Memory)
         (a : Array) (i : Formula) (e : Lanes) (rest : Code) (n : ℕ) (u : Four)
         → value (ids_of d.launch k) (loop_variables fs) vars i ≡ Some n
         → lanes_value (ids_of d.launch k) (loop_variables fs) vars e ≡ Some u
         → 4 * n + 3 < d.lengths a
-        → Goes d k (item (StoresFour a i e rest) fs vars) m
+        → Goes d k (item (Performs (StoresFour a i e) rest) fs vars) m
         (GaveFour (four_at d.launch k a n) u ∷ []) (item rest fs vars) }
     ensures enters { (d : Device) (k : ℕ) (fs : List Frame) (vars : Vars) (m : Memory) (s : Start)
         (b : Formula) (body rest : Code) (n : ℕ) → bound_value d.launch.sizes b ≡ Some n

@@ -8,7 +8,7 @@ ghost use Rattle.kernel_tree.specs.declared.events.FaultKind.TheVariants as faul
 ghost use Rattle.scalar_ops.specs.declared.op.Op.TheVariants.{Add, Div, Lt};
 ghost use Rattle.kernel_tree.specs.Formula.{Number, Variable, LoopVariable, Binary, Vector, Spread, Each, value, lanes_value, sizes_alone, no_vars, ids_along};
 ghost use Rattle.kernel_tree.specs.Launch.{ids_of, group_of, first_item, in_a_row};
-ghost use Rattle.kernel_tree.specs.Code.{Input, Output, Local, Private, FromZero, ByOne, End, Stores, Loops, Syncs, then_rest};
+ghost use Rattle.kernel_tree.specs.Code.{Input, Output, Local, Private, FromZero, ByOne, End, Performs, Stores, Loops, then_rest};
 ghost use Rattle.kernel_tree.specs.Grammar.{is_kernel, is_expression};
 ghost use Rattle.kernel_tree.specs.Device.{AllEnded, Enabled, IsRun, device_of, run, start_state};
 ghost use Rattle.kernel_tree.specs.Item.{Fails, Moves, Reads, Writes, item, loop_variables, next};
@@ -23,7 +23,7 @@ ghost use Rattle.kernel_tree.specs.Alike.{KernelsAlike};
 ghost use Rattle.kernel_tree.specs.WorkedAlike.{plain_kernel, choosing_kernel, pairs, SwapsCount};
 ghost use Rattle.kernel_tree.specs.Schedule.{Numbers, Seed, number_at, choose_event, place_of, AreEnabled};
 ghost use Rattle.kernel_tree.specs.Numbering.{member_at};
-ghost use Rattle.kernel_tree.specs.Worked.{Faults, one_output, writes_first, writes_second, writes_local, writes_private, two_items, first_state, of_two_groups, divides_by_zero, some_meet_a_barrier, swaps, to_the_barrier, increments, of_three, three_words, nested, left_at, of_six, meets_in_an_if, meets_again, guarded_without_a_bound, assigns_one, stores_it, assigns_in_an_if, one_group, guarded, guarded_start, guarded_events, of_four, of_pairs, waiting, waiting_start, stores_four, loads_the_third, divides_by, one_zero, wants_far, loads_second_four, stores_far, of_fours, first_of_fours, four_vars, divides_unchosen, without_a_bound, ends_a_turn, meets_in_loops, first_turns, meeting, met, in_loops};
+ghost use Rattle.kernel_tree.specs.Worked.{unflagged, Faults, one_output, writes_first, writes_second, writes_local, writes_private, two_items, first_state, of_two_groups, divides_by_zero, some_meet_a_barrier, swaps, to_the_barrier, increments, of_three, three_words, nested, left_at, of_six, meets_in_an_if, meets_again, guarded_without_a_bound, assigns_one, stores_it, assigns_in_an_if, one_group, guarded, guarded_start, guarded_events, of_four, of_pairs, waiting, waiting_start, stores_four, loads_the_third, divides_by, one_zero, wants_far, loads_second_four, stores_far, of_fours, first_of_fours, four_vars, divides_unchosen, without_a_bound, ends_a_turn, meets_in_loops, first_turns, meeting, met, in_loops};
 
 /// Two items that write one cell race. A write past the array is out of range. A divisor of 0 is a
 /// fault. Where one item of a group ends and the other stands at a barrier, the group diverges.
@@ -263,18 +263,18 @@ pub fn worked_sights()
 /// and no bound looks at a variable. Expressions and loops nest 1,024 deep.
 pub fn worked_kernels()
     ensures increments { is_kernel increments ≡ true }
-    ensures undeclared { is_kernel (one_output (Stores (Output 1) (Number 0) (Number 0) End))
+    ensures undeclared { is_kernel (one_output (Performs (Stores (Output 1) (Number 0) (Number 0)) End))
         ≡ false }
-    ensures outside { is_kernel (one_output (Stores (Output 0) (LoopVariable 0) (Number 0) End))
+    ensures outside { is_kernel (one_output (Performs (Stores (Output 0) (LoopVariable 0) (Number 0)) End))
         ≡ false }
-    ensures constant { is_kernel (one_output (Stores (Input 0) (Number 0) (Number 0) End)) ≡ false }
+    ensures constant { is_kernel (one_output (Performs (Stores (Input 0) (Number 0) (Number 0)) End)) ≡ false }
     ensures empty { is_kernel (one_output (Loops FromZero (Number 1) ByOne End End)) ≡ false }
     ensures varying { is_kernel (one_output
-        (Loops FromZero (Variable 0) ByOne (Stores (Output 0) (Number 0) (Number 0) End) End))
+        (Loops FromZero (Variable 0) ByOne (Performs (Stores (Output 0) (Number 0) (Number 0)) End) End))
         ≡ false }
-    ensures unflagged { is_kernel (one_output (Syncs false false End)) ≡ false }
+    ensures unflagged { is_kernel (one_output unflagged) ≡ false }
     ensures compared { is_kernel (one_output
-        (Stores (Output 0) (Number 0) (Binary Lt (Number 0) (Number 1)) End))
+        (Performs (Stores (Output 0) (Number 0) (Binary Lt (Number 0) (Number 1))) End))
         ≡ false }
     ensures deep_loops { is_kernel (one_output (in_loops 1024 writes_first)) ≡ true }
     ensures deeper_loops { is_kernel (one_output (in_loops 1025 writes_first)) ≡ false }

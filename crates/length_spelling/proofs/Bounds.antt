@@ -2,7 +2,7 @@
 use Rattle.std.proofs.Common.{◌≡◌, ℕ, suc, ◌+◌, ◌^◌, Bool, true, false, List, [], ◌∷◌, length, refl, arith}
 use Rattle.std.specs.Prelude.{◌&&◌}
 use Rattle.std.proofs.Math.Nat.{mod-lt}
-use Rattle.std.proofs.lemmas.Bool.{lt-ltb}
+use Rattle.std.proofs.lemmas.Bool.{and_from, lt-ltb}
 use Rattle.size_arith.specs.declared.names.Name.{Name}
 use Rattle.size_arith.specs.declared.poly.Monomial.{Monomial}
 use Rattle.size_arith.specs.Polynomial.{degree}
@@ -15,10 +15,6 @@ use Rattle.kernel_tree.specs.Grammar.{is_constant, is_operator, names_declared}
 use Rattle.length_spelling.specs.Formulas.{in_words, index_formula, length_formula, operator_of}
 use Rattle.length_spelling.specs.Laws.{IsBound, LengthsAreBounds, length_height}
 use Rattle.length_spelling.proofs.Lengths.{HasCoefficients, HasDivisors, IsKept, of_length}
-
-both : (a b : Bool) → a ≡ true → b ≡ true → (a && b) ≡ true
-both true b h k = k
-both false b h k = absurd (cc)
 
 operators : (o : Operation) → is_operator (operator_of o) ≡ true
 operators Sum = refl
@@ -47,8 +43,8 @@ module _ (k : Kernel) where
 
   bounds_binary : (h : ℕ) (o : Operation) (a b : Expression) → Bounds h a → Bounds h b → Bounds (suc h) (Binary o a b)
   bounds_binary h o a b p q = record {
-    constant = both (is_constant (index_formula (in_words a))) (is_constant (index_formula (in_words b))) p.constant q.constant;
-    declared = λ loops. both (is_operator (operator_of o)) _ (operators o) (both (names_declared k loops (index_formula (in_words a))) (names_declared k loops (index_formula (in_words b))) (p.declared loops) (q.declared loops));
+    constant = and_from (is_constant (index_formula (in_words a))) (is_constant (index_formula (in_words b))) p.constant q.constant;
+    declared = λ loops. and_from (is_operator (operator_of o)) _ (operators o) (and_from (names_declared k loops (index_formula (in_words a))) (names_declared k loops (index_formula (in_words b))) (p.declared loops) (q.declared loops));
     low = (let x = p.low in let y = q.low in omega arith);
   }
 
@@ -73,7 +69,7 @@ constant_kept : (count : ℕ) → IsKept count Any Constant
 constant_kept count = record {
   size = λ s lt. refl;
   literal = λ n _. refl;
-  binary = λ h o a b p q. both (is_constant (index_formula (in_words a))) (is_constant (index_formula (in_words b))) p q;
+  binary = λ h o a b p q. and_from (is_constant (index_formula (in_words a))) (is_constant (index_formula (in_words b))) p q;
   higher = λ h i e le p. p;
 }
 

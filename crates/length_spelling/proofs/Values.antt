@@ -2,7 +2,7 @@
 use Rattle.std.proofs.Common.{◌≡◌, ◌≢◌, ◌∙◌, ℕ, zero, suc, ℤ, pos, ◌<◌, ◌^◌, Bool, true, false, Some, None, List, [], ◌∷◌, refl, sym, ap, subst, ⊎_elim, arith}
 use Rattle.std.specs.Prelude.{unsigned_abs, ◌==◌, ◌&&◌, if◌then◌else◌, slice_index}
 use Rattle.std.proofs.Math.Nat.{mod-eq_of_lt}
-use Rattle.std.proofs.lemmas.Bool.{cases_Bool, eqb-true}
+use Rattle.std.proofs.lemmas.Bool.{and_parts, ne_eqb}
 use Rattle.std.proofs.lemmas.Int.{ints}
 use Rattle.scalar_ops.specs.Operators.{apply_op}
 use Rattle.size_arith.specs.declared.names.Name.{Name}
@@ -23,15 +23,12 @@ use Rattle.length_spelling.specs.Formulas.{in_words, index_formula, operator_of}
 use Rattle.length_spelling.specs.Laws.{AreWords, IndicesAreSpelled, LengthsAreSpelled}
 use Rattle.length_spelling.proofs.Bounds.{lengths_are_constant}
 
-nonzero : (n : ℕ) → n ≢ 0 → (n == 0) ≡ false
-nonzero n h = ⊎_elim (λ t. absurd (h (eqb-true n 0 t))) (λ f. f) (cases_Bool (n == 0))
-
 pub operates : (o : Operation) (x y : ℕ) → (Divides o → y ≢ 0) → operate (operator_of o) x y ≡ Some (operate_words o x y)
 operates Sum x y h = refl
 operates Difference x y h = refl
 operates Product x y h = refl
-operates Quotient x y h = ap (λ (b : Bool). if b then None else Some (apply_op (operator_of Quotient) x y)) (nonzero y (h tt))
-operates Remainder x y h = ap (λ (b : Bool). if b then None else Some (apply_op (operator_of Remainder) x y)) (nonzero y (h tt))
+operates Quotient x y h = ap (λ (b : Bool). if b then None else Some (apply_op (operator_of Quotient) x y)) (ne_eqb y 0 (h tt))
+operates Remainder x y h = ap (λ (b : Bool). if b then None else Some (apply_op (operator_of Remainder) x y)) (ne_eqb y 0 (h tt))
 operates Least x y h = refl
 operates Greatest x y h = refl
 
@@ -76,14 +73,6 @@ no_turns_fit sizes (suc (suc k)) = omega arith
 is_word : (z : ℤ) (n : ℕ) → z ≡ pos n → n < 2 ^ 32 → IsWord z
 is_word z n e lt = (omega (arith, ints), omega (arith, ints))
 
-first_of : (a b : Bool) → (a && b) ≡ true → a ≡ true
-first_of true b h = refl
-first_of false b h = absurd (cc)
-
-second_of : (a b : Bool) → (a && b) ≡ true → b ≡ true
-second_of true b h = h
-second_of false b h = absurd (cc)
-
 turn_varies : (k : ℕ) → is_constant (turn_formula k) ≡ true → ⊥
 turn_varies zero h = absurd (cc)
 turn_varies (suc zero) h = absurd (cc)
@@ -96,8 +85,8 @@ module _ (ids : Ids) (loops : List ℕ) (vars : Vars) where
   constant_value (index.Literal n) h = refl
   constant_value (index.Size k) h = refl
   constant_value (index.Binary o a b) h =
-      ap (λ z. with_both (operate (operator_of o)) z (value ids loops vars (index_formula (in_words b)))) (constant_value a (first_of (is_constant (index_formula (in_words a))) (is_constant (index_formula (in_words b))) h))
-      ∙ ap (λ z. with_both (operate (operator_of o)) (bound_value ids.sizes (index_formula (in_words a))) z) (constant_value b (second_of (is_constant (index_formula (in_words a))) (is_constant (index_formula (in_words b))) h))
+      ap (λ z. with_both (operate (operator_of o)) z (value ids loops vars (index_formula (in_words b)))) (constant_value a (and_parts (is_constant (index_formula (in_words a))) (is_constant (index_formula (in_words b))) h).0)
+      ∙ ap (λ z. with_both (operate (operator_of o)) (bound_value ids.sizes (index_formula (in_words a))) z) (constant_value b (and_parts (is_constant (index_formula (in_words a))) (is_constant (index_formula (in_words b))) h).1)
 
 -- what is known of lengths as index expressions
 pub record Exact : Type 0 where

@@ -1,26 +1,34 @@
--- What the typing relation says of lengths holds of their values.
-use Rattle.std.proofs.Common.{◌≡◌, ℕ, zero, suc, ◌+◌, ◌-◌, ◌*◌, ◌/◌, ◌<◌, ◌≤◌, List, [], ◌∷◌, length, refl, sym, ap, ◌∙◌, subst, arith, ℤ, pos, negsuc, ◌+ℤ◌, ◌*ℤ◌, ◌≤ℤ◌}
+-- Layouts of the source, case by case: at a launch their lengths have the values that the typing
+-- relation says, and what each is lowered to has its type and its source.
+use Rattle.std.proofs.Common.{◌≡◌, ℕ, zero, suc, ◌+◌, ◌-◌, ◌*◌, ◌/◌, ◌<◌, ◌≤◌, ◌^◌, List, [], ◌∷◌, length, refl, sym, ap, ◌∙◌, subst, arith, ℤ, pos, negsuc, ◌+ℤ◌, ◌*ℤ◌, ◌≤ℤ◌, inl, inr}
 use Rattle.std.proofs.lemmas.Int.{ints}
-use Rattle.std.proofs.Math.Nat.{mul-div_cancel_left}
+use Rattle.std.proofs.Math.Nat.{mul-div_cancel_left, mul-le-mul_left, mul-le-mul_right}
 use Rattle.size_arith.specs.declared.names.Name.{Name}
 use Rattle.size_arith.specs.declared.poly.Monomial.{Monomial}
 use Rattle.size_arith.specs.Polynomial.{value_at, monomial_at, product, number, of_monomial, plus, minus, times, quotient}
 use Rattle.size_arith.specs.Shown.{ShownAtLeast}
 use Rattle.size_arith.proofs.Values.{value-plus, value-minus, value-times}
+use Rattle.lift_tree.specs.declared.layout.Layout as layouts
 use Rattle.lift_tree.specs.declared.layout.Layout.TheVariants as layout
 use Rattle.lift_tree.specs.declared.length.Factor.{Factor}
 use Rattle.lift_tree.specs.declared.length.Factor.TheVariants as factor
 use Rattle.lift_tree.specs.declared.term.UnaryForm.{UnaryForm}
 use Rattle.lift_tree.specs.declared.term.UnaryForm.TheVariants as unary
 use Rattle.lift_tree.specs.Meaning.{World, product_at}
+use Rattle.lift_tree.specs.Tree as tree
+use Rattle.lift_tree.specs.Tree.{Tree}
 use Rattle.lift_tree.specs.Types as types
 use Rattle.lift_tree.specs.Types.{PlainTy, IsFormed}
 use Rattle.lift_tree.specs.WorkedOut.{nth_name, factor_monomial, product_of}
-use Rattle.lift_tree.specs.Typing.{Declared, UnaryRow, constant, IsAdmissible}
+use Rattle.lift_tree.specs.Typing.{Declared, LayoutRow, UnaryRow, constant, IsAdmissible}
 use Rattle.lift_tree.proofs.Sizes.{number_at, value-of_monomial, value-constant, value-quotient, product_value}
-use Rattle.lift_ir.specs.Types.{ArrayOf}
-use Rattle.lift_ir.specs.Layouts.{Split, Transpose, Reverse, Slide, Reshapes}
+use Rattle.lift_ir.specs.Types.{ArrayOf, IsShort, Ty}
+use Rattle.lift_ir.specs.Layouts.{IsInvertible, Join, Layout, Split, Transpose, Reverse, Slide, Reshapes}
+use Rattle.lift_ir.specs.Terms.{HasType, Reshape}
+use Rattle.lift_ir.specs.Sources.{Lowers}
 use Rattle.lift_ir.specs.AtLaunch.{natural, inner_of, outer_of, length_at, ty_at, layout_of}
+use Rattle.lift_ir.specs.Lowering.{Lowered, Place, lower_stride, lower_unary}
+use Rattle.lift_ir.proofs.Positions.{some_first, some_second}
 
 -- a length that is shown at least 1
 natural_is : (z : ℤ) → pos 0 ≤ℤ z → pos (natural z) ≡ z
@@ -60,14 +68,6 @@ value_of_product names ys fs =
 other_factor : (k n : ℕ) (z : ℤ) → pos n ≡ pos k *ℤ z → 0 < n → (q : ℕ) × (z ≡ pos q) × (n ≡ k * q)
 other_factor k n (pos q) e h = (q, refl, pos_same n (k * q) e)
 other_factor k n (negsuc q) e h = absurd (omega (arith, ints))
-
-some_first : (m q n : ℕ) → n ≡ m * q → 0 < n → 0 < m
-some_first zero q n e h = absurd (omega arith)
-some_first (suc m) q n e h = omega arith
-
-some_second : (m q n : ℕ) → n ≡ m * q → 0 < n → 0 < q
-some_second m zero n e h = absurd (omega arith)
-some_second m (suc q) n e h = omega arith
 
 module _ (d : Declared) (bases : List ℕ) (shown : (k : ℕ) (p : List Monomial) → ShownAtLeast k d.names p → pos k ≤ℤ value_at bases p) where
   abbrev at : List Monomial → ℕ
@@ -158,6 +158,43 @@ module _ (d : Declared) (bases : List ℕ) (shown : (k : ℕ) (p : List Monomial
         result = ap (ty_at bases) r.4 ∙ array;
       }
 
+  -- a stride, through its rows and its columns
+  short_rows : (m q : ℕ) → m * q < 2 ^ 31 → 0 < m → 0 < q → (m < 2 ^ 31) × (q < 2 ^ 31)
+  short_rows zero q lt a b = absurd (omega arith)
+  short_rows (suc m) zero lt a b = absurd (omega arith)
+  short_rows (suc m) (suc q) lt a b =
+      let wide = mul-le-mul_left {m = 1} {n = suc q} (suc m) (omega arith) in
+      let deep = mul-le-mul_right {m = 1} {n = suc m} (suc q) (omega arith) in
+      (omega arith, omega arith)
+
+  stride_typed : (src E : ℕ → Ty) (fs : List Factor) (b a : PlainTy) (t : Lowered) → Strides fs b a → HasType (length_at bases) src E t (ty_at bases b) → IsShort (ty_at bases b) → IsShort (ty_at bases a) → HasType (length_at bases) src E (lower_stride d.names fs b t) (ty_at bases a)
+  stride_typed src E fs b a t s h short_b short_a =
+      let m = s.step in
+      let q = s.rest in
+      let x = ty_at bases s.element in
+      let whole = subst IsShort s.operand short_b in
+      let sides = short_rows m q whole.0 s.some_step s.some_rest in
+      let rows = ArrayOf q (ArrayOf m x) in
+      let columns = ArrayOf m (ArrayOf q x) in
+      let split : Reshapes (length_at bases) (Split (of_monomial (product_of d.names fs))) (ty_at bases b) rows =
+      subst (λ z. Reshapes (length_at bases) (Split (of_monomial (product_of d.names fs))) z rows) (sym s.operand)
+      (rw s.step_is (s.some_step, back m q s.some_step, ap (λ z. ArrayOf z (ArrayOf m x)) (sym (mul-div_cancel_left q s.some_step)))) in
+      let join : Reshapes (length_at bases) (Join (quotient (product_of d.names fs) (outer_of b))) columns (ty_at bases a) =
+      rw s.rest_is (s.some_rest, refl, s.result) in
+      (columns, (rows, (ty_at bases b, h, split, short_b, (sides.1, (sides.0, whole.1)), tt), (s.some_rest, refl), (sides.1, (sides.0, whole.1)), (sides.0, (sides.1, whole.1)), tt), join, (sides.0, (sides.1, whole.1)), short_a, tt)
+    where
+      back : (m q : ℕ) → 0 < m → m * q / m * m ≡ m * q
+      back m q h = ap (λ z. z * m) (mul-div_cancel_left q h) ∙ (let y : q * m ≡ m * q = grind arith in y)
+
+  -- what a layout is lowered to has its type
+  pub layout_typed : (src E : ℕ → Ty) (p : Place) (l : layouts.Layout) (b a : PlainTy) (t : Lowered) → IsFormed d.names b → UnaryRow d.names (unary.Layout l) b a → HasType (length_at bases) src E t (ty_at bases b) → IsShort (ty_at bases b) → IsShort (ty_at bases a)
+      → HasType (length_at bases) src E (lower_unary d.names p (unary.Layout l) a b t) (ty_at bases a)
+  layout_typed src E p layout.Join b a t f r h short_b short_a = (ty_at bases b, h, join_reshapes b a f r, short_b, short_a, tt)
+  layout_typed src E p layout.Transpose b a t f r h short_b short_a = (ty_at bases b, h, transpose_reshapes b a f r, short_b, short_a, tt)
+  layout_typed src E p (layout.Split fs) b a t f r h short_b short_a = (ty_at bases b, h, split_reshapes fs b a f r, short_b, short_a, tt)
+  layout_typed src E p layout.Reverse b a t f r h short_b short_a = (ty_at bases b, h, reverse_reshapes b a f r, short_b, short_a, tt)
+  layout_typed src E p (layout.Stride fs) b a t f r h short_b short_a = stride_typed src E fs b a t (stride_lengths fs b a f r) h short_b short_a
+
   pub slide_reshapes : (s t : ℕ) (b a : PlainTy) → IsFormed d.names b → UnaryRow d.names (unary.Slide s t) b a → Of b a (unary.Slide s t)
   slide_reshapes s t b a fb r =
       let x = r.0 in
@@ -206,3 +243,35 @@ module _ (d : Declared) (w : World) (ok : IsAdmissible d w) (few : length d.name
   split_size fs =
       let e : monomial_at w.bases (product_of d.names fs) ≡ pos (product_at w.sizes fs) = product_value d.names w.bases ok.bases few fs ∙ ap (λ ss. pos (product_at ss fs)) (sym ok.sizes) in
       ap natural (value-of_monomial w.bases (product_of d.names fs) ∙ e)
+
+  -- what a layout is lowered to is lowered from it
+  pub layout_lowers : (p : Place) (l : layouts.Layout) (b a : PlainTy) (n i : ℕ) (t : Tree) (x : Lowered) → LayoutRow d.names l b a → Lowers (length_at w.bases) w n i t x → Lowers (length_at w.bases) w n i (tree.Unary (unary.Layout l) t) (lower_unary d.names p (unary.Layout l) a b x)
+  layout_lowers p layout.Join b a n i t x r h = (t, inl refl, h)
+  layout_lowers p layout.Transpose b a n i t x r h = (t, refl, h)
+  layout_lowers p (layout.Split fs) b a n i t x r h = (t, (fs, refl, sym (ap (λ z. length_at w.bases (inner_of z)) r.4 ∙ split_size fs)), h)
+  layout_lowers p layout.Reverse b a n i t x r h = (t, refl, h)
+  layout_lowers p (layout.Stride fs) b a n i t x r h =
+      let split = tree.Unary (unary.Layout (layout.Split fs)) t in
+      (tree.Unary (unary.Layout layout.Transpose) split, inr (fs, t, refl, refl), (split, refl, (t, (fs, refl, sym (split_size fs)), h)))
+
+-- ---- a layout is lowered to a few reshapes that can be written through
+-- what holds of so many reshapes of a term, at least one and at most three, holds of this one
+pub record AfterReshapes (P : ℕ → Lowered → Type 0) (t : Lowered) : Type 0 where
+  pub count : ℕ
+  pub some : 1 ≤ count
+  pub few : count ≤ 3
+  pub holds : P count t
+
+-- from the operand to the layout of it, reshape by reshape
+pub by_reshapes : (P : ℕ → Lowered → Type 0) → ((k : ℕ) (y : Layout (List Monomial)) (t : Lowered) → k < 3 → IsInvertible y → P k t → P (suc k) (Reshape y t))
+    → (names : List Name) (p : Place) (l : layouts.Layout) (a b : PlainTy) (t : Lowered) → P 0 t → AfterReshapes P (lower_unary names p (unary.Layout l) a b t)
+by_reshapes P h names p layout.Join a b t k = record { count = 1; some = omega arith; few = omega arith; holds = h 0 _ t (omega arith) tt k }
+by_reshapes P h names p layout.Transpose a b t k = record { count = 1; some = omega arith; few = omega arith; holds = h 0 _ t (omega arith) tt k }
+by_reshapes P h names p (layout.Split fs) a b t k = record { count = 1; some = omega arith; few = omega arith; holds = h 0 _ t (omega arith) tt k }
+by_reshapes P h names p layout.Reverse a b t k = record { count = 1; some = omega arith; few = omega arith; holds = h 0 _ t (omega arith) tt k }
+by_reshapes P h names p (layout.Stride fs) a b t k = record {
+  count = 3;
+  some = omega arith;
+  few = omega arith;
+  holds = h 2 _ _ (omega arith) tt (h 1 _ _ (omega arith) tt (h 0 _ t (omega arith) tt k));
+}

@@ -12,3 +12,4 @@ pub mod Owner
 pub mod Values
 pub mod Served
 pub mod Reshaped
+pub mod Elements

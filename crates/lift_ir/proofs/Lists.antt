@@ -4,6 +4,7 @@ use Rattle.std.specs.Prelude.{map, replicate}
 use Rattle.std.proofs.lemmas.Bool.{cases_lt}
 use Rattle.std.proofs.Math.ListN.{get_or-append}
 use Rattle.std.proofs.Math.Seq.{get_or-append_right}
+use Rattle.std.proofs.lemmas.List.{get_or-map}
 use Rattle.lift_tree.specs.Values.{Value, Word, array, list_of}
 use Rattle.lift_tree.specs.Values as value
 use Rattle.lift_tree.proofs.Members.{length-map}
@@ -111,11 +112,6 @@ choices_long (PairOf a b) =
     omega arith
 choices_long (ArrayOf n t) = choices_long t
 
-at-map : {A B : Type 0} (f : A → B) (xs : List A) (i : ℕ) (d : A) (e : B) → i < length xs → get_or (map f xs) i e ≡ f (get_or xs i d)
-at-map f [] i d e lt = absurd (omega arith)
-at-map f (x ∷ xs) zero d e lt = refl
-at-map f (x ∷ xs) (suc i) d e lt = at-map f xs i d e (omega arith)
-
 choice_at : (t : Ty) (cs : List Bool) → Leads t cs → (component t cs < width t) × (get_or (choices_of t) (component t cs) [] ≡ cs)
 choice_at Scalar [] l = (omega arith, refl)
 choice_at Scalar (c ∷ cs) l = absurd l
@@ -126,7 +122,7 @@ choice_at (PairOf a b) (false ∷ cs) l =
     let m = length-map (λ ds. false ∷ ds) (choices_of a) in (
       let z = r.0 in omega arith,
       get_or-append (map (λ ds. false ∷ ds) (choices_of a)) (map (λ ds. true ∷ ds) (choices_of b)) [] (component a cs) (let z = r.0 in omega arith)
-          ∙ at-map (λ ds. false ∷ ds) (choices_of a) (component a cs) [] [] (let z = r.0 in omega arith) ∙ ap (λ ds. false ∷ ds) r.1,
+          ∙ get_or-map (λ ds. false ∷ ds) (choices_of a) (component a cs) [] [] (let z = r.0 in omega arith) ∙ ap (λ ds. false ∷ ds) r.1,
     )
 choice_at (PairOf a b) (true ∷ cs) l =
     let r = choice_at b cs l in
@@ -137,7 +133,7 @@ choice_at (PairOf a b) (true ∷ cs) l =
       let z = r.0 in omega arith,
       get_or-append_right (map (λ ds. false ∷ ds) (choices_of a)) (map (λ ds. true ∷ ds) (choices_of b)) c [] (omega arith)
           ∙ ap (λ j. get_or (map (λ ds. true ∷ ds) (choices_of b)) j []) (let z : c - length (map (λ ds. false ∷ ds) (choices_of a)) ≡ component b cs = omega arith in z)
-          ∙ at-map (λ ds. true ∷ ds) (choices_of b) (component b cs) [] [] (let z = r.0 in omega arith) ∙ ap (λ ds. true ∷ ds) r.1,
+          ∙ get_or-map (λ ds. true ∷ ds) (choices_of b) (component b cs) [] [] (let z = r.0 in omega arith) ∙ ap (λ ds. true ∷ ds) r.1,
     )
 choice_at (ArrayOf n t) cs l = choice_at t cs l
 
@@ -162,12 +158,12 @@ are_lists t v s f h a i lt =
     let c = leads_at t a la in
     let k = choice_at t c.0 c.1 in
     let here : get_or (lists_of t v) a [] ≡ list_of v (map side_of c.0) =
-    at-map (λ cs. list_of v (map side_of cs)) (choices_of t) a [] [] (let z = choices_long t in omega arith) ∙ ap (λ cs. list_of v (map side_of cs)) (ap (λ j. get_or (choices_of t) j []) (sym c.2) ∙ k.1) in
+    get_or-map (λ cs. list_of v (map side_of cs)) (choices_of t) a [] [] (let z = choices_long t in omega arith) ∙ ap (λ cs. list_of v (map side_of cs)) (ap (λ j. get_or (choices_of t) j []) (sym c.2) ∙ k.1) in
     let long = list_long t v s c.0 f c.1 h in
     let li : i < size t = (let z = ap length here in omega arith) in
     let p = position_at t a i f la li in
     let same : get_or (lists_of t v) a [] ≡ list_of v (map side_of p.0) =
-    at-map (λ cs. list_of v (map side_of cs)) (choices_of t) a [] [] (let z = choices_long t in omega arith) ∙ ap (λ cs. list_of v (map side_of cs)) (ap (λ j. get_or (choices_of t) j []) (sym p.2) ∙ (choice_at t p.0 (leads t p.0 (unflat t i) p.1)).1) in
+    get_or-map (λ cs. list_of v (map side_of cs)) (choices_of t) a [] [] (let z = choices_long t in omega arith) ∙ ap (λ cs. list_of v (map side_of cs)) (ap (λ j. get_or (choices_of t) j []) (sym p.2) ∙ (choice_at t p.0 (leads t p.0 (unflat t i) p.1)).1) in
     (p.0, unflat t i, p.1, p.2, p.3, ap (λ xs. get_or xs i 0) same ∙ ap (λ j. get_or (list_of v (map side_of p.0)) j 0) (sym p.3) ∙ list_at t v s p.0 (unflat t i) f p.1 h))
     (λ ge. absurd (no_row (lists_of t v) a i (let z = choices_long t in let y = length-map (λ cs. list_of v (map side_of cs)) (choices_of t) in omega arith) lt))
     (cases_lt a (width t))
@@ -196,7 +192,7 @@ list_holds t v s cs q f w h =
     let l = leads t cs q w in
     let k = choice_at t cs l in
     let here : get_or (lists_of t v) (component t cs) [] ≡ list_of v (map side_of cs) =
-    at-map (λ cs. list_of v (map side_of cs)) (choices_of t) (component t cs) [] [] (let z = k.0 in let y = choices_long t in omega arith) ∙ ap (λ cs. list_of v (map side_of cs)) k.1 in
+    get_or-map (λ cs. list_of v (map side_of cs)) (choices_of t) (component t cs) [] [] (let z = k.0 in let y = choices_long t in omega arith) ∙ ap (λ cs. list_of v (map side_of cs)) k.1 in
     let long = ap length here ∙ list_long t v s cs f l h in
     let below = flat_below t cs q f w in
     (omega arith, ap (λ xs. get_or xs (flat t q) 0) here ∙ list_at t v s cs q f w h)

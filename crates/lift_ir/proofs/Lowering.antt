@@ -1,8 +1,7 @@
 -- A typed term's lowered term has its value, and its type at each admissible launch.
-use Rattle.std.proofs.Common.{◌≡◌, ℕ, zero, suc, ◌+◌, ◌<◌, ◌≤◌, Bool, true, false, List, [], ◌∷◌, length, Some, refl, sym, ap, ◌∙◌, inl, inr, arith}
+use Rattle.std.proofs.Common.{◌≡◌, ℕ, zero, suc, ◌+◌, ◌<◌, ◌≤◌, Bool, true, false, List, [], ◌∷◌, length, Some, refl, inl, inr, arith}
 use Rattle.std.specs.Prelude.{slice_get, if◌then◌else◌, nat_eq}
 use Rattle.size_arith.specs.declared.poly.Monomial.{Monomial}
-use Rattle.lift_tree.specs.declared.layout.Layout.TheVariants as layout
 use Rattle.lift_tree.specs.declared.term.UnaryForm.TheVariants as unary
 use Rattle.lift_tree.specs.declared.term.BinaryForm.TheVariants as binary
 use Rattle.lift_tree.specs.Tree as tree
@@ -18,8 +17,7 @@ use Rattle.lift_ir.specs.Sources.{Lowers}
 use Rattle.lift_ir.specs.AtLaunch.{length_at, ty_at}
 use Rattle.lift_ir.specs.Lowering.{Place, Written, Argument, Element, element_ty, is_element, Lowered, placed, all_scalars, reached, merged, named, operand_place, value_place, body_place, lower_let, placed_element, lower}
 use Rattle.lift_ir.specs.Lowerable.{IsLowerable}
-use Rattle.lift_ir.specs.AtLaunch.{inner_of}
-use Rattle.lift_ir.proofs.AtLaunch.{split_size}
+use Rattle.lift_ir.proofs.AtLaunch.{layout_lowers}
 
 there_is : (g : List PlainTy) (v : ℕ) (a : PlainTy) → slice_get g v ≡ Some a → v < length g
 there_is [] v a e = absurd (cc)
@@ -61,13 +59,7 @@ module _ (d : Declared) (w : World) (ok : IsAdmissible d w) (few : length d.name
   lowers_is (tree.Unary (unary.Rem m) t) p g (One a x) n e h l = lowers_put p a n _ _ (t, inr (refl, refl), lowers_is t Element g x n e h.0 l.3)
   lowers_is (tree.Unary unary.First t) p g (One a x) n e h l = lowers_put p a n _ _ (t, refl, lowers_is t (operand_place unary.First p) g x n e h.0 l.3)
   lowers_is (tree.Unary unary.Second t) p g (One a x) n e h l = lowers_put p a n _ _ (t, refl, lowers_is t (operand_place unary.Second p) g x n e h.0 l.3)
-  lowers_is (tree.Unary (unary.Layout layout.Join) t) p g (One a x) n e h l = (t, inl refl, lowers_is t p g x n e h.0 l.3)
-  lowers_is (tree.Unary (unary.Layout layout.Transpose) t) p g (One a x) n e h l = (t, refl, lowers_is t p g x n e h.0 l.3)
-  lowers_is (tree.Unary (unary.Layout layout.Reverse) t) p g (One a x) n e h l = (t, refl, lowers_is t p g x n e h.0 l.3)
-  lowers_is (tree.Unary (unary.Layout (layout.Stride fs)) t) p g (One a x) n e h l =
-      let split = tree.Unary (unary.Layout (layout.Split fs)) t in
-      (tree.Unary (unary.Layout layout.Transpose) split, inr (fs, t, refl, refl), (split, refl, (t, (fs, refl, sym (split_size d w ok few fs)), lowers_is t p g x n e h.0 l.3)))
-  lowers_is (tree.Unary (unary.Layout (layout.Split fs)) t) p g (One a x) n e h l = (t, (fs, refl, sym (ap (λ z. length_at w.bases (inner_of z)) h.1.4 ∙ split_size d w ok few fs)), lowers_is t p g x n e h.0 l.3)
+  lowers_is (tree.Unary (unary.Layout y) t) p g (One a x) n e h l = layout_lowers d w ok few p y (type_in x) a n (length d.inputs) t (lower d.names p t x) h.1 (lowers_is t p g x n e h.0 l.3)
   lowers_is (tree.Unary (unary.Slide s k) t) p g (One a x) n e h l = (t, refl, lowers_is t p g x n e h.0 l.3)
   lowers_is (tree.Unary (unary.Pad s k) t) p g (One a x) n e h l = (t, refl, lowers_is t p g x n e h.0 l.3)
   lowers_is (tree.Unary unary.ToLocal t) p g (One a x) n e h l = (t, refl, lowers_is t Written g x n e h.0 l.3)

@@ -1,41 +1,23 @@
 -- A lowered term's value by position is the source value on nested lists.
-use Rattle.std.proofs.Common.{◌≡◌, ℕ, zero, suc, ◌+◌, ◌/◌, ◌<◌, true, false, List, [], ◌∷◌, length, get_or, refl, sym, ap, ◌∙◌, subst, ⊎_elim, arith}
+use Rattle.std.proofs.Common.{◌≡◌, ℕ, zero, suc, ◌+◌, ◌<◌, true, false, List, [], ◌∷◌, length, get_or, refl, sym, ap, ◌∙◌, subst, ⊎_elim, arith}
+use Rattle.std.proofs.lemmas.List.{get_or-map}
 use Rattle.std.specs.Prelude.{map}
 use Rattle.scalar_ops.specs.Operators.{apply_op, choose}
 use Rattle.lift_tree.specs.Tree as tree
 use Rattle.lift_tree.specs.Tree.{Tree}
 use Rattle.lift_tree.specs.Values.{Value, Word, members, array, word, first, second, nth}
 use Rattle.lift_tree.specs.Values as value
-use Rattle.lift_tree.specs.Lists.{concat, fold_left, zip_with, pieces}
-use Rattle.lift_tree.specs.Meaning.{World, meaning, rows, array_of_rows, product_at}
+use Rattle.lift_tree.specs.Lists.{fold_left, zip_with}
+use Rattle.lift_tree.specs.Meaning.{World, meaning}
 use Rattle.lift_tree.proofs.Members.{length-map}
 use Rattle.lift_ir.specs.Types.{Ty, Scalar, PairOf, ArrayOf}
 use Rattle.lift_ir.specs.Scalars.{Scalars, at_index, by_side, folded, scalars_of, HasScalars}
 use Rattle.lift_ir.specs.Terms.{LocalMemory, PrivateMemory, push, Term, Literal, Bound, Source, Apply, ApplyNumber, Select, Both, Project, Reshape, LetArray, LetElement, Map, Fold, Store, Copy, HasType}
-use Rattle.lift_ir.specs.Layouts.{Layout, Split, Join, Transpose, Reverse, Slide, Pad, operand_position, Reshapes}
-use Rattle.lift_ir.specs.Sources.{IsJoin, IsLayout, Lowers}
-use Rattle.lift_ir.proofs.Nested.{at-map, members_of, is_as, split_is, slide_is, join_is, transpose_is, reverse_is, pad_is, stride_is}
+use Rattle.lift_ir.specs.Sources.{Lowers}
+use Rattle.lift_ir.proofs.Nested.{members_of, is_as}
+use Rattle.lift_ir.proofs.Positions.{laid_is}
 
 module _ {A : Type 0} (num : A → ℕ) (w : World) where
-  joined : (vs : List Value) (x y : Tree) → IsJoin x y → meaning w vs x ≡ array (concat (rows (meaning w vs y)))
-  joined vs x y i =
-      ⊎_elim
-      (λ e. ap (meaning w vs) e)
-      (λ s. ap (meaning w vs) s.2 ∙ stride_is (product_at w.sizes s.0) (members (meaning w vs s.1)) ∙ ap (λ z. array (concat (rows (meaning w vs z)))) (sym s.3))
-      i
-
-  pub laid_is : (vs : List Value) (l : Layout A) (x y : Tree) (t u : Ty) (s : Scalars) → IsLayout num w x l y → Reshapes num l t u → HasScalars t (meaning w vs y) s → HasScalars u (meaning w vs x) (λ cs q. s cs (operand_position num l q))
-  laid_is vs (Split m) x y (ArrayOf n t) u s i r h =
-      let v = meaning w vs y in
-      subst (λ z. HasScalars u (meaning w vs z) (λ cs q. s cs (operand_position num (Split m) q))) (sym i.1)
-      (subst (λ k. HasScalars u (array_of_rows (pieces (length (members v) / k) k k (members v))) (λ cs q. s cs (operand_position num (Split m) q))) (sym i.2) (split_is num m n t u v s r h))
-  laid_is vs (Join m) x y (ArrayOf n (ArrayOf k t)) u s i r h = subst (λ z. HasScalars u z (λ cs q. s cs (operand_position num (Join m) q))) (sym (joined vs x y i)) (join_is num m n k t u (meaning w vs y) s r h)
-  laid_is vs Transpose x y (ArrayOf n (ArrayOf m t)) u s i r h = subst (λ z. HasScalars u (meaning w vs z) (λ cs q. s cs (operand_position num Transpose q))) (sym i) (transpose_is num n m t u (meaning w vs y) s r h)
-  laid_is vs (Reverse k) x y (ArrayOf n t) u s i r h = subst (λ z. HasScalars u (meaning w vs z) (λ cs q. s cs (operand_position num (Reverse k) q))) (sym i) (reverse_is num k n t u (meaning w vs y) s r h)
-  laid_is vs (Slide m k) x y (ArrayOf n t) u s i r h = subst (λ z. HasScalars u (meaning w vs z) (λ cs q. s cs (operand_position num (Slide m k) q))) (sym i) (slide_is num m k n t u (meaning w vs y) s r h)
-  laid_is vs (Pad a b k) x y (ArrayOf n t) u s i r h = subst (λ z. HasScalars u (meaning w vs z) (λ cs q. s cs (operand_position num (Pad a b k) q))) (sym i) (pad_is num a b k n t u (meaning w vs y) s r h)
-  laid_is vs _ x y t u s i r h = absurd (assumption)
-
   is_value : (vs : List Value) (x y : Tree) (t : Ty) (s : Scalars) → x ≡ y → HasScalars t (meaning w vs y) s → HasScalars t (meaning w vs x) s
   is_value vs x y t s e h = subst (λ z. HasScalars t (meaning w vs z) s) (sym e) h
 
@@ -121,7 +103,7 @@ module _ {A : Type 0} (num : A → ℕ) (w : World) where
     means (Project true a) n x g vs sems u lo ok es =
         let p = means a n lo.0 g vs sems (PairOf ok.0 u) lo.2 ok.1 es in
         is_value vs x _ u _ lo.1 (subst (λ v. HasScalars u (second v) (λ cs. scalars_of num sources sems a (true ∷ cs))) (sym p.2) p.4)
-    means (Reshape l a) n x g vs sems u lo ok es = laid_is vs l x lo.0 ok.0 u (scalars_of num sources sems a) lo.1 ok.2 (means a n lo.0 g vs sems ok.0 lo.2 ok.1 es)
+    means (Reshape l a) n x g vs sems u lo ok es = laid_is num w vs l x lo.0 ok.0 u (scalars_of num sources sems a) lo.1 ok.2 (means a n lo.0 g vs sems ok.0 lo.2 ok.1 es)
     means (LetArray v b) n x g vs sems u lo ok es =
         let p = means v n lo.0 g vs sems ok.0 lo.3 ok.1 es in
         is_value vs x _ u _ lo.2 (means b (n + 1) lo.1 (push ok.0 g) (meaning w vs lo.0 ∷ vs) (push (scalars_of num sources sems v) sems) u lo.4 ok.2 (bounds_push n g vs sems ok.0 (meaning w vs lo.0) (scalars_of num sources sems v) p es))
@@ -138,7 +120,7 @@ module _ {A : Type 0} (num : A → ℕ) (w : World) where
           map f r.0,
           refl,
           length-map f r.0 ∙ r.2,
-          λ i lt. subst (λ y. HasScalars ok.1 y (scalars_of num sources (push (at_index i D) sems) b)) (sym (at-map f r.0 i (Word 0) (let z = r.2 in omega arith)))
+          λ i lt. subst (λ y. HasScalars ok.1 y (scalars_of num sources (push (at_index i D) sems) b)) (sym (get_or-map f r.0 i (Word 0) (Word 0) (let z = r.2 in omega arith)))
               (means b (n + 1) lo.2 (push ok.0 g) (get_or r.0 i (Word 0) ∷ vs) (push (at_index i D) sems) ok.1 lo.5 ok.5 (bounds_push n g vs sems ok.0 (get_or r.0 i (Word 0)) (at_index i D) (r.3 i lt) es)),
         ) in
         is_value vs x _ u _ lo.3 (is_as (ArrayOf m ok.1) u _ _ ok.6 (subst (λ ys. HasScalars (ArrayOf m ok.1) (array (map f ys)) (scalars_of num sources sems (Map k z0 loads xs b))) (sym e) k2))

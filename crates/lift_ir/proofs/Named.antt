@@ -2,8 +2,6 @@
 use Rattle.std.proofs.Common.{arith, ◌≡◌, ℕ, zero, suc, ◌++◌, Bool, true, false, List, [], ◌∷◌, Some, refl, sym, ap, ◌∙◌, subst, inl, inr}
 use Rattle.std.proofs.lemmas.Bool.Decides.{nat_tests}
 use Rattle.std.specs.Prelude.{slice_get, if◌then◌else◌, nat_eq}
-use Rattle.lift_tree.specs.declared.layout.Layout as layout
-use Rattle.lift_tree.specs.declared.layout.Layout.TheVariants as layouts
 use Rattle.lift_tree.specs.declared.term.UnaryForm.TheVariants as unary
 use Rattle.lift_tree.specs.declared.term.BinaryForm.TheVariants as binary
 use Rattle.size_arith.specs.declared.names.Name.{Name}
@@ -19,8 +17,9 @@ use Rattle.lift_ir.specs.Types.{Ty, PairOf, IsPosition}
 use Rattle.lift_ir.specs.Terms.{LoadSet, Skip, Take, Each, Term, push}
 use Rattle.lift_ir.specs.AtLaunch.{ty_at}
 use Rattle.lift_ir.specs.Loads.{covers, all, none, held_scalars, IsHeld, AllHeld, AreLetsHeld, LoadsSuffice}
-use Rattle.lift_ir.specs.Lowering.{Place, Written, Argument, Element, element_ty, is_element, element_of, Lowered, all_scalars, reached, merged, named, value_place, lower_let, lower_unary, placed_element, lower}
+use Rattle.lift_ir.specs.Lowering.{Place, Written, Argument, Element, element_ty, is_element, element_of, Lowered, all_scalars, reached, merged, named, value_place, lower_let, placed_element, lower}
 use Rattle.lift_ir.specs.Lowerable.{HoldsNoScalar, IsElementTerm, IsStaged, IsLowerable}
+use Rattle.lift_ir.proofs.Reshaped.{through_layout}
 use Rattle.lift_ir.proofs.Typed.{element_same, told}
 
 covers_left : (x y : LoadSet) (cs : List Bool) → covers x cs ≡ true → covers (merged x y) cs ≡ true
@@ -243,13 +242,6 @@ module _ (d : Declared) where
   known_whole : (h : ℕ → List Bool → Bool) (g : List PlainTy) (q : List Bool) (t : Tree) → q ≡ [] → Known h g q t → Known h g [] t
   known_whole h g q t e k = subst (λ z. Known h g z t) e k
 
-  through : (f : layout.Layout) (p : Place) (a b : PlainTy) (h : ℕ → List Bool → Bool) (t : Lowered) → LoadsSuffice h t → LoadsSuffice h (lower_unary d.names p (unary.Layout f) a b t)
-  through layouts.Join p a b h t s = s
-  through layouts.Transpose p a b h t s = s
-  through (layouts.Split fs) p a b h t s = s
-  through layouts.Reverse p a b h t s = s
-  through (layouts.Stride fs) p a b h t s = s
-
   suffices : (ys : List ℕ) (t : Tree) (p : Place) (g : List PlainTy) (a : Annotation) (h : ℕ → List Bool → Bool) (q : List Bool) → Chain p q → Annotates d g t a → IsLowerable ys p t a → IsStaged p t a → Known h g q t → LoadsSuffice h (lower d.names p t a)
   suffices ys (tree.Variable v) Written g (Leaf a) h q z s l o k = suffices_put (tree.Variable v) g (Leaf a) h a s o (known_whole h g q (tree.Variable v) z k) refl l
   suffices ys (tree.Variable v) Argument g (Leaf a) h q z s l o k = tt
@@ -261,8 +253,8 @@ module _ (d : Declared) where
   suffices ys (tree.Unary unary.First t) Argument g (One a x) h q z s l o k = suffices ys t Argument g x h (false ∷ q) tt s.0 l.3 o k
   suffices ys (tree.Unary unary.Second t) Written g (One a x) h q z s l o k = suffices_put (tree.Unary unary.Second t) g (One a x) h a s o (known_whole h g q (tree.Unary unary.Second t) z k) refl l.2
   suffices ys (tree.Unary unary.Second t) Argument g (One a x) h q z s l o k = suffices ys t Argument g x h (true ∷ q) tt s.0 l.3 o k
-  suffices ys (tree.Unary (unary.Layout f) t) Written g (One a x) h q z s l o k = through f Written a (type_in x) h (lower d.names Written t x) (suffices ys t Written g x h [] refl s.0 l.3 o k)
-  suffices ys (tree.Unary (unary.Layout f) t) Argument g (One a x) h q z s l o k = through f Argument a (type_in x) h (lower d.names Argument t x) (suffices ys t Argument g x h [] tt s.0 l.3 o k)
+  suffices ys (tree.Unary (unary.Layout f) t) Written g (One a x) h q z s l o k = through_layout (LoadsSuffice h) (λ y u i k. k) d.names Written f a (type_in x) (lower d.names Written t x) (suffices ys t Written g x h [] refl s.0 l.3 o k)
+  suffices ys (tree.Unary (unary.Layout f) t) Argument g (One a x) h q z s l o k = through_layout (LoadsSuffice h) (λ y u i k. k) d.names Argument f a (type_in x) (lower d.names Argument t x) (suffices ys t Argument g x h [] tt s.0 l.3 o k)
   suffices ys (tree.Unary (unary.Slide i j) t) Written g (One a x) h q z s l o k = suffices ys t Written g x h [] refl s.0 l.3 o k
   suffices ys (tree.Unary (unary.Slide i j) t) Argument g (One a x) h q z s l o k = suffices ys t Argument g x h [] tt s.0 l.3 o k
   suffices ys (tree.Unary (unary.Pad i j) t) Written g (One a x) h q z s l o k = suffices ys t Written g x h [] refl s.0 l.3 o k

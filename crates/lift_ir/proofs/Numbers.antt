@@ -4,7 +4,7 @@ use Rattle.std.proofs.Common.{◌≡◌, ℕ, zero, suc, ◌+◌, ◌-◌, ◌*�
 use Rattle.std.proofs.lemmas.Bool.{cases_lt}
 use Rattle.std.proofs.Math.Nat.{mul-le-mul_right, mod-lt, div-lt_iff_lt-mul}
 use Rattle.lift_ir.specs.Types.{Ty, Scalar, PairOf, ArrayOf, IsPosition, IsElement, IsFlat, width, component, size, flat, unflat}
-use Rattle.lift_ir.proofs.Positions.{quotient, remainder, element_position}
+use Rattle.lift_ir.proofs.Positions.{quotient, remainder, element_position, whole}
 
 pub component_below : (t : Ty) (cs : List Bool) (q : List ℕ) → IsPosition t cs q → component t cs < width t
 component_below Scalar cs q w = omega arith
@@ -68,9 +68,6 @@ choose_at (PairOf x y) a e lt =
     (cases_lt a (width x))
 choose_at (ArrayOf n t) a e lt = absurd e
 
-whole_of : (i s : ℕ) → 0 < s → i / s * s + i % s ≡ i
-whole_of i s h = omega arith
-
 positive : (i n s : ℕ) → i < n * s → 0 < s
 positive i n zero h = let e : n * 0 ≡ 0 = omega arith in absurd (omega arith)
 positive i n (suc s) h = omega arith
@@ -81,4 +78,4 @@ position_at (PairOf x y) a i f la li = let r = choose_at (PairOf x y) a f la in 
 position_at (ArrayOf n t) a i f la li =
     let pos = positive i n (size t) li in
     let r = position_at t a (i % size t) f la (mod-lt i pos) in
-    (r.0, ((div-lt_iff_lt-mul {k = size t} {x = i} {y = n} pos).1 li, r.1), r.2, ap (λ x. i / size t * size t + x) r.3 ∙ whole_of i (size t) pos)
+    (r.0, ((div-lt_iff_lt-mul {k = size t} {x = i} {y = n} pos).1 li, r.1), r.2, ap (λ x. i / size t * size t + x) r.3 ∙ whole i (size t) pos)

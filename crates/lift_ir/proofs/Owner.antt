@@ -6,7 +6,7 @@ use Rattle.kernel_tree.proofs.Grouping.{some_items}
 use Rattle.lift_ir.specs.Layouts.{operand_position}
 use Rattle.lift_ir.specs.Terms.{Term, Global, WorkGroup, Local, Reshape, LetArray, Map}
 use Rattle.lift_ir.specs.Owner.{local_owner, owner}
-use Rattle.lift_ir.proofs.Positions.{join_in}
+use Rattle.lift_ir.proofs.Positions.{join_in, some_first}
 
 local_owner_below : {A : Type 0} (num : A → ℕ) (l : Launch) (t : Term A) (q : List ℕ) → 0 < l.local.0 → local_owner num l t q < l.local.0
 local_owner_below num l (Reshape y t) q h = local_owner_below num l t (operand_position num y q) h
@@ -23,12 +23,8 @@ owner_in_row num l (Map Global n loads xs b) [] w h = h
 owner_in_row num l (Map Global n loads xs b) (i ∷ q) w h = mod-lt i h
 owner_in_row num l (Map WorkGroup n loads xs b) [] w h = h
 owner_in_row num l (Map WorkGroup n loads xs b) (i ∷ q) w h =
-    let some = some_groups (groups_across l) l.local.0 l.global.0 w.x.divides h in
+    let some = some_first (groups_across l) l.local.0 l.global.0 w.x.divides h in
     subst (λ g. (i % groups_across l) * l.local.0 + local_owner num l b q < g) (sym w.x.divides) (join_in (i % groups_across l) (local_owner num l b q) l.local.0 (groups_across l) (mod-lt i some) (local_owner_below num l b q w.x.positive))
-  where
-    some_groups : (c n g : ℕ) → g ≡ c * n → 0 < g → 0 < c
-    some_groups zero n g e h = let z : 0 * n ≡ 0 = omega arith in absurd (omega arith)
-    some_groups (suc c) n g e h = omega arith
 owner_in_row num l _ q w h = h
 
 in_some_rows : (n m x : ℕ) → 0 < n * m → x < n → x < n * m

@@ -1,9 +1,32 @@
--- Layouts lead positions of a type to positions of the operand's.
-use Rattle.std.proofs.Common.{◌≡◌, ℕ, suc, ◌+◌, ◌-◌, ◌*◌, ◌/◌, ◌%◌, ◌<◌, ◌≤◌, Bool, true, false, List, [], ◌∷◌, refl, sym, ap, ◌∙◌, subst, arith}
-use Rattle.std.proofs.Math.Nat.{mul-le-mul_right, mod-lt, div-lt_iff_lt-mul, mul-add-div_right, mul-add-mod_self_right, mod-eq_of_lt, div-eq_of_lt}
+-- Layouts, case by case: they lead positions of a type to positions of the operand's, and values on
+-- nested lists as they lead positions.
+use Rattle.std.proofs.Common.{◌≡◌, ℕ, zero, suc, ◌+◌, ◌-◌, ◌*◌, ◌/◌, ◌%◌, ◌<◌, ◌≤◌, Bool, true, false, List, [], ◌∷◌, refl, sym, ap, ◌∙◌, subst, arith, length, get_or, ⊎_elim}
+use Rattle.std.proofs.Math.Nat.{mul-le-mul_right, mod-lt, div-lt_iff_lt-mul, mul-add-div_right, mul-add-mod_self_right, mod-eq_of_lt, div-eq_of_lt, mul-div_cancel}
+use Rattle.std.specs.Prelude.{map, min, max, reverse}
+use Rattle.std.proofs.lemmas.List.{get_or-reverse, length-reverse}
+use Rattle.lift_tree.specs.Values.{Value, Word, members, array}
+use Rattle.lift_tree.specs.Lists.{concat, pieces, pieces_that_fit, padded, width, columns, strided}
+use Rattle.lift_tree.specs.Meaning.{rows, array_of_rows, World, meaning, product_at}
+use Rattle.lift_tree.specs.Tree.{Tree}
+use Rattle.lift_tree.proofs.Members.{length-map, length-columns, length-padded}
+use Rattle.lift_tree.proofs.Strides.{rows_array, strided_through}
 use Rattle.lift_ir.specs.Types.{Ty, Scalar, PairOf, ArrayOf, IsPosition, IsElement}
 use Rattle.lift_ir.specs.Layouts.{Layout, Split, Join, Transpose, Reverse, Slide, Pad, operand_position, Reshapes, result_position, IsInvertible}
+use Rattle.lift_ir.specs.Scalars.{at_index, Scalars, HasScalars}
+use Rattle.lift_ir.specs.Sources.{IsJoin, IsLayout}
+use Rattle.lift_ir.proofs.Nested.{at_padded, column_at, concat_at, concat_long, is_as, members_of, pieces_is, row_at, width_is}
 
+-- an element has one scalar a component
+pub element_position : (t : Ty) (cs : List Bool) (q : List ℕ) → IsElement t → IsPosition t cs q → q ≡ []
+element_position Scalar [] [] e w = refl
+element_position Scalar [] (i ∷ q) e w = absurd w
+element_position Scalar (c ∷ cs) q e w = absurd w
+element_position (PairOf a b) [] q e w = absurd w
+element_position (PairOf a b) (false ∷ cs) q e w = element_position a cs q e.0 w
+element_position (PairOf a b) (true ∷ cs) q e w = element_position b cs q e.1 w
+element_position (ArrayOf n t) cs q e w = absurd e
+
+-- ---- positions
 split_in : (i j m n : ℕ) → n / m * m ≡ n → i < n / m → j < m → i * m + j < n
 split_in i j m n e a b = let h = mul-le-mul_right {m = suc i} {n = n / m} m a in omega arith
 
@@ -64,8 +87,17 @@ quotient i j m h = mul-add-div_right (omega arith) i j ∙ (let e : i + j / m �
 pub remainder : (i j m : ℕ) → j < m → (i * m + j) % m ≡ j
 remainder i j m h = mul-add-mod_self_right i m j ∙ mod-eq_of_lt h
 
-whole : (i m : ℕ) → 0 < m → i / m * m + i % m ≡ i
+pub whole : (i m : ℕ) → 0 < m → i / m * m + i % m ≡ i
 whole i m h = omega arith
+
+-- both parts of a product that isn't 0
+pub some_first : (m q n : ℕ) → n ≡ m * q → 0 < n → 0 < m
+some_first zero q n e h = let z : 0 * q ≡ 0 = omega arith in absurd (omega arith)
+some_first (suc m) q n e h = omega arith
+
+pub some_second : (m q n : ℕ) → n ≡ m * q → 0 < n → 0 < q
+some_second m zero n e h = let z : m * 0 ≡ 0 = omega arith in absurd (omega arith)
+some_second m (suc q) n e h = omega arith
 
 back_again : (i k n : ℕ) → k ≡ n → i < n → k - 1 - (k - 1 - i) ≡ i
 back_again i k n e h = omega arith
@@ -116,12 +148,140 @@ result_operand num (Slide s k) t u cs q z a w = absurd z
 result_operand num (Pad x y k) t u cs q z a w = absurd z
 result_operand num _ t u cs q z a w = absurd (assumption)
 
--- an element has one scalar a component
-pub element_position : (t : Ty) (cs : List Bool) (q : List ℕ) → IsElement t → IsPosition t cs q → q ≡ []
-element_position Scalar [] [] e w = refl
-element_position Scalar [] (i ∷ q) e w = absurd w
-element_position Scalar (c ∷ cs) q e w = absurd w
-element_position (PairOf a b) [] q e w = absurd w
-element_position (PairOf a b) (false ∷ cs) q e w = element_position a cs q e.0 w
-element_position (PairOf a b) (true ∷ cs) q e w = element_position b cs q e.1 w
-element_position (ArrayOf n t) cs q e w = absurd e
+-- ---- values through layouts
+split_room : (i m n : ℕ) → n / m * m ≡ n → i < n / m → i * m + m ≤ n
+split_room i m n e a = let h = mul-le-mul_right {m = suc i} {n = n / m} m a in omega arith
+
+pub split_is : {A : Type 0} (num : A → ℕ) (z : A) (n : ℕ) (t u : Ty) (v : Value) (s : Scalars) → Reshapes num (Split z) (ArrayOf n t) u → HasScalars (ArrayOf n t) v s → HasScalars u (array_of_rows (pieces (length (members v) / num z) (num z) (num z) (members v))) (λ cs q. s cs (operand_position num (Split z) q))
+split_is num z n t u v s r h =
+    let m = num z in
+    let xs = h.0 in
+    let e = members_of v xs h.1 in
+    let f = pieces_is num t n (n / m) m m xs s h.2 (λ i a. split_room i m n r.1 a) h.3 in
+    let g : array_of_rows (pieces (n / m) m m xs) ≡ array_of_rows (pieces (length (members v) / m) m m (members v)) =
+    ap (λ k. array_of_rows (pieces (k / m) m m xs)) (sym h.2) ∙ ap (λ ys. array_of_rows (pieces (length ys / m) m m ys)) (sym e) in
+    is_as (ArrayOf (n / m) (ArrayOf m t)) u _ _ r.2 (subst (λ y. HasScalars (ArrayOf (n / m) (ArrayOf m t)) y (λ cs q. s cs (operand_position num (Slide m m) q))) g f)
+
+piece_in : (i k m n count : ℕ) → i < suc count → m ≤ n → count * k ≡ n - m → i * k + m ≤ n
+piece_in i k m n count a le e = let h = mul-le-mul_right {m = i} {n = count} k (omega arith) in omega arith
+
+fit_is : (m k n : ℕ) → 0 < k → m ≤ n → (n - m) / k * k ≡ n - m → (n + k - m) / k ≡ (n - m) / k + 1
+fit_is m k n pos le e =
+    let c = (n - m) / k in
+    let z : n + k - m ≡ suc c * k = omega arith in
+    ap (λ x. x / k) z ∙ mul-div_cancel (suc c) pos ∙ (let y : suc c ≡ c + 1 = omega arith in y)
+
+pub slide_is : {A : Type 0} (num : A → ℕ) (m k n : ℕ) (t u : Ty) (v : Value) (s : Scalars) → Reshapes num (Slide m k) (ArrayOf n t) u → HasScalars (ArrayOf n t) v s → HasScalars u (array_of_rows (pieces (pieces_that_fit m k (length (members v))) m k (members v))) (λ cs q. s cs (operand_position num (Slide m k) q))
+slide_is num m k n t u v s r h =
+    let xs = h.0 in
+    let e = members_of v xs h.1 in
+    let count = (n - m) / k in
+    let f = pieces_is num t n (count + 1) m k xs s h.2 (λ i a. piece_in i k m n count (omega arith) r.1 r.2) h.3 in
+    let g : array_of_rows (pieces (count + 1) m k xs) ≡ array_of_rows (pieces (pieces_that_fit m k (length (members v))) m k (members v)) =
+    ap (λ c. array_of_rows (pieces c m k xs)) (sym (fit_is m k n r.0 r.1 r.2)) ∙ ap (λ y. array_of_rows (pieces (pieces_that_fit m k y) m k xs)) (sym h.2) ∙ ap (λ ys. array_of_rows (pieces (pieces_that_fit m k (length ys)) m k ys)) (sym e) in
+    is_as (ArrayOf (count + 1) (ArrayOf m t)) u _ _ r.3 (subst (λ y. HasScalars (ArrayOf (count + 1) (ArrayOf m t)) y (λ cs q. s cs (operand_position num (Slide m k) q))) g f)
+
+pub join_is : {A : Type 0} (num : A → ℕ) (z : A) (n k : ℕ) (t u : Ty) (v : Value) (s : Scalars) → Reshapes num (Join z) (ArrayOf n (ArrayOf k t)) u → HasScalars (ArrayOf n (ArrayOf k t)) v s → HasScalars u (array (concat (rows v))) (λ cs q. s cs (operand_position num (Join z) q))
+join_is num z n k t u v s r h =
+    let m = num z in
+    let xs = h.0 in
+    let e = members_of v xs h.1 in
+    let row = λ (i : ℕ) (lt : i < n). h.3 i lt in
+    let row_items = λ (i : ℕ) (lt : i < n). members_of (get_or xs i (Word 0)) (row i lt).0 (row i lt).1 in
+    let row_len = λ (i : ℕ) (lt : i < length xs). let lt2 : i < n = (let z = h.2 in omega arith) in ap length (row_items i lt2) ∙ (row i lt2).2 ∙ r.1 in
+    let f : HasScalars (ArrayOf (n * m) t) (array (concat (map members xs))) (λ cs q. s cs (operand_position num (Join z) q)) = (
+      concat (map members xs),
+      refl,
+      concat_long m xs row_len ∙ ap (λ y. y * m) h.2,
+      λ i lt.
+          let a = i / m in
+          let b = i % m in
+          let alt : a < n = (div-lt_iff_lt-mul {k = m} {x = i} {y = n} r.0).1 lt in
+          let blt : b < m = mod-lt i r.0 in
+          let al : a < length xs = (let z = h.2 in omega arith) in
+          let get : get_or (concat (map members xs)) i (Word 0) ≡ get_or (row a alt).0 b (Word 0) =
+          ap (λ z. get_or (concat (map members xs)) z (Word 0)) (sym (whole i m r.0)) ∙ concat_at m xs a b row_len al blt ∙ ap (λ ys. get_or ys b (Word 0)) (row_items a alt) in
+          subst (λ y. HasScalars t y (λ cs q. s cs (a ∷ b ∷ q))) (sym get) ((row a alt).3 b (let z = r.1 in omega arith)),
+    ) in
+    is_as (ArrayOf (n * m) t) u _ _ r.2 (subst (λ ys. HasScalars (ArrayOf (n * m) t) (array (concat (map members ys))) (λ cs q. s cs (operand_position num (Join z) q))) (sym e) f)
+
+pub transpose_is : {A : Type 0} (num : A → ℕ) (n m : ℕ) (t u : Ty) (v : Value) (s : Scalars) → Reshapes num Transpose (ArrayOf n (ArrayOf m t)) u → HasScalars (ArrayOf n (ArrayOf m t)) v s → HasScalars u (array_of_rows (columns (width (rows v)) (rows v))) (λ cs q. s cs (operand_position num Transpose q))
+transpose_is num n m t u v s r h =
+    let xs = h.0 in
+    let e = members_of v xs h.1 in
+    let row = λ (i : ℕ) (lt : i < n). h.3 i lt in
+    let row_items = λ (i : ℕ) (lt : i < n). members_of (get_or xs i (Word 0)) (row i lt).0 (row i lt).1 in
+    let rs = map members xs in
+    let wide : width rs ≡ m = width_is xs (let z = h.2 in let p = r.0 in omega arith) ∙ ap length (row_items 0 r.0) ∙ (row 0 r.0).2 in
+    let f : HasScalars (ArrayOf m (ArrayOf n t)) (array_of_rows (columns m rs)) (λ cs q. s cs (operand_position num Transpose q)) = (
+      map array (columns m rs),
+      refl,
+      length-map array (columns m rs) ∙ length-columns m rs,
+      λ j jlt.
+          let c = column_at m j rs jlt in
+          let long = length-map members xs in (
+            c.0,
+            c.1,
+            c.2 ∙ long ∙ h.2,
+            λ i lt.
+                let get : get_or c.0 i (Word 0) ≡ get_or (row i lt).0 j (Word 0) = c.3 i (let z = h.2 in omega arith) ∙ ap (λ y. get_or y j (Word 0)) (row_at xs i (let z = h.2 in omega arith) ∙ row_items i lt) in
+                subst (λ y. HasScalars t y (λ cs q. s cs (i ∷ j ∷ q))) (sym get) ((row i lt).3 j jlt),
+          ),
+    ) in
+    let g : array_of_rows (columns m rs) ≡ array_of_rows (columns (width (rows v)) (rows v)) = ap (λ c. array_of_rows (columns c rs)) (sym wide) ∙ ap (λ ys. array_of_rows (columns (width (map members ys)) (map members ys))) (sym e) in
+    is_as (ArrayOf m (ArrayOf n t)) u _ _ r.1 (subst (λ y. HasScalars (ArrayOf m (ArrayOf n t)) y (λ cs q. s cs (operand_position num Transpose q))) g f)
+
+pub pad_is : {A : Type 0} (num : A → ℕ) (a b : ℕ) (k : A) (n : ℕ) (t u : Ty) (v : Value) (s : Scalars) → Reshapes num (Pad a b k) (ArrayOf n t) u → HasScalars (ArrayOf n t) v s → HasScalars u (array (padded a b (members v))) (λ cs q. s cs (operand_position num (Pad a b k) q))
+pad_is num a b k n t u v s r h =
+    let xs = h.0 in
+    let e = members_of v xs h.1 in
+    let f : HasScalars (ArrayOf (a + n + b) t) (array (padded a b xs)) (λ cs q. s cs (operand_position {A = ℕ} (λ z. z) (Pad a b n) q)) = (
+      padded a b xs,
+      refl,
+      length-padded a b xs ∙ ap (λ y. a + y + b) h.2,
+      λ i lt. subst (λ y. HasScalars t y (at_index (min (max i a - a) (n - 1)) s)) (sym (at_padded a b xs i n h.2 r.0 lt)) (h.3 (min (max i a - a) (n - 1)) (let z = r.0 in omega arith)),
+    ) in
+    let f2 = subst (λ y. HasScalars (ArrayOf (a + n + b) t) (array (padded a b xs)) (λ cs q. s cs (operand_position {A = ℕ} (λ z. z) (Pad a b y) q))) (sym r.1) f in
+    is_as (ArrayOf (a + n + b) t) u _ _ r.2 (subst (λ ys. HasScalars (ArrayOf (a + n + b) t) (array (padded a b ys)) (λ cs q. s cs (operand_position num (Pad a b k) q))) (sym e) f2)
+
+pub reverse_is : {A : Type 0} (num : A → ℕ) (k : A) (n : ℕ) (t u : Ty) (v : Value) (s : Scalars) → Reshapes num (Reverse k) (ArrayOf n t) u → HasScalars (ArrayOf n t) v s → HasScalars u (array (reverse (members v))) (λ cs q. s cs (operand_position num (Reverse k) q))
+reverse_is num k n t u v s r h =
+    let xs = h.0 in
+    let e = members_of v xs h.1 in
+    let f : HasScalars (ArrayOf n t) (array (reverse xs)) (λ cs q. s cs (operand_position num (Reverse k) q)) = (
+      reverse xs,
+      refl,
+      length-reverse xs ∙ h.2,
+      λ i lt.
+          let z = h.2 in
+          let y = r.0 in
+          subst (λ x. HasScalars t x (at_index (num k - 1 - i) s)) (sym (get_or-reverse xs i (Word 0) (omega arith) ∙ ap (λ j. get_or xs j (Word 0)) (let p : length xs - 1 - i ≡ num k - 1 - i = omega arith in p))) (h.3 (num k - 1 - i) (omega arith)),
+    ) in
+    is_as (ArrayOf n t) u _ _ r.1 (subst (λ ys. HasScalars (ArrayOf n t) (array (reverse ys)) (λ cs q. s cs (operand_position num (Reverse k) q))) (sym e) f)
+
+-- a stride is the join of its split's transposition
+pub stride_is : (k : ℕ) (xs : List Value) → let split = array_of_rows (pieces (length xs / k) k k xs) in array (strided k xs) ≡ array (concat (rows (array_of_rows (columns (width (rows split)) (rows split)))))
+stride_is k xs =
+    let rs = pieces (length xs / k) k k xs in
+    let split = rows (array_of_rows rs) in
+    ap array (sym (strided_through k xs) ∙ sym (ap (λ ys. concat (columns (width ys) ys)) (rows_array rs)) ∙ sym (ap concat (rows_array (columns (width split) split))))
+
+module _ {A : Type 0} (num : A → ℕ) (w : World) where
+  joined : (vs : List Value) (x y : Tree) → IsJoin x y → meaning w vs x ≡ array (concat (rows (meaning w vs y)))
+  joined vs x y i =
+      ⊎_elim
+      (λ e. ap (meaning w vs) e)
+      (λ s. ap (meaning w vs) s.2 ∙ stride_is (product_at w.sizes s.0) (members (meaning w vs s.1)) ∙ ap (λ z. array (concat (rows (meaning w vs z)))) (sym s.3))
+      i
+
+  pub laid_is : (vs : List Value) (l : Layout A) (x y : Tree) (t u : Ty) (s : Scalars) → IsLayout num w x l y → Reshapes num l t u → HasScalars t (meaning w vs y) s → HasScalars u (meaning w vs x) (λ cs q. s cs (operand_position num l q))
+  laid_is vs (Split m) x y (ArrayOf n t) u s i r h =
+      let v = meaning w vs y in
+      subst (λ z. HasScalars u (meaning w vs z) (λ cs q. s cs (operand_position num (Split m) q))) (sym i.1)
+      (subst (λ k. HasScalars u (array_of_rows (pieces (length (members v) / k) k k (members v))) (λ cs q. s cs (operand_position num (Split m) q))) (sym i.2) (split_is num m n t u v s r h))
+  laid_is vs (Join m) x y (ArrayOf n (ArrayOf k t)) u s i r h = subst (λ z. HasScalars u z (λ cs q. s cs (operand_position num (Join m) q))) (sym (joined vs x y i)) (join_is num m n k t u (meaning w vs y) s r h)
+  laid_is vs Transpose x y (ArrayOf n (ArrayOf m t)) u s i r h = subst (λ z. HasScalars u (meaning w vs z) (λ cs q. s cs (operand_position num Transpose q))) (sym i) (transpose_is num n m t u (meaning w vs y) s r h)
+  laid_is vs (Reverse k) x y (ArrayOf n t) u s i r h = subst (λ z. HasScalars u (meaning w vs z) (λ cs q. s cs (operand_position num (Reverse k) q))) (sym i) (reverse_is num k n t u (meaning w vs y) s r h)
+  laid_is vs (Slide m k) x y (ArrayOf n t) u s i r h = subst (λ z. HasScalars u (meaning w vs z) (λ cs q. s cs (operand_position num (Slide m k) q))) (sym i) (slide_is num m k n t u (meaning w vs y) s r h)
+  laid_is vs (Pad a b k) x y (ArrayOf n t) u s i r h = subst (λ z. HasScalars u (meaning w vs z) (λ cs q. s cs (operand_position num (Pad a b k) q))) (sym i) (pad_is num a b k n t u (meaning w vs y) s r h)
+  laid_is vs _ x y t u s i r h = absurd (assumption)

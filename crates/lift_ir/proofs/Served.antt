@@ -10,8 +10,8 @@ use Rattle.lift_ir.specs.Terms.{no_type}
 use Rattle.lift_ir.specs.Scalars.{no_scalars}
 use Rattle.lift_ir.specs.Lowering.{Written}
 use Rattle.lift_ir.specs.Promises.{LayoutsLeadPositions, LayoutsAreByPosition, TermsHaveTheSourceValue, ValuesAreByPosition, LoweredTermsServe, OwnersAreOfTheLaunch}
-use Rattle.lift_ir.proofs.Positions.{operand_in, result_in, result_operand}
-use Rattle.lift_ir.proofs.Meaning.{laid_is, means}
+use Rattle.lift_ir.proofs.Meaning.{means}
+use Rattle.lift_ir.proofs.Positions.{laid_is, operand_in, result_in, result_operand}
 use Rattle.lift_ir.proofs.Lists.{are_lists, list_holds}
 use Rattle.lift_ir.proofs.Values.{has_scalars, same_lists}
 use Rattle.lift_ir.proofs.Lowering.{lowers_is}

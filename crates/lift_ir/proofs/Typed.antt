@@ -1,15 +1,12 @@
 -- A typed term's lowered term has its type at each admissible launch.
-use Rattle.std.proofs.Common.{◌≡◌, ℕ, zero, suc, ◌*◌, ◌/◌, ◌<◌, ◌^◌, arith, Bool, true, false, List, [], ◌∷◌, Some, refl, sym, ap, ◌∙◌, subst, pos, ◌≤ℤ◌}
-use Rattle.std.proofs.Math.Nat.{mul-div_cancel_left, mul-le-mul_left, mul-le-mul_right}
+use Rattle.std.proofs.Common.{◌≡◌, ℕ, zero, suc, Bool, true, false, List, [], ◌∷◌, Some, refl, sym, ap, ◌∙◌, subst, pos, ◌≤ℤ◌}
 use Rattle.std.specs.Prelude.{slice_get, if◌then◌else◌}
 use Rattle.size_arith.specs.declared.poly.Monomial.{Monomial}
-use Rattle.size_arith.specs.Polynomial.{value_at, of_monomial, quotient}
+use Rattle.size_arith.specs.Polynomial.{value_at}
 use Rattle.size_arith.specs.Shown.{ShownAtLeast}
 use Rattle.scalar_ops.specs.declared.op.Reducer.TheVariants as reducer
 use Rattle.lift_tree.specs.declared.term.Operator.{Operator}
 use Rattle.lift_tree.specs.declared.term.Operator.TheVariants as operator
-use Rattle.lift_tree.specs.declared.layout.Layout.TheVariants as layout
-use Rattle.lift_tree.specs.declared.length.Factor.{Factor}
 use Rattle.lift_tree.specs.declared.term.UnaryForm.TheVariants as unary
 use Rattle.lift_tree.specs.declared.term.BinaryForm.TheVariants as binary
 use Rattle.lift_tree.specs.Lists.{Every}
@@ -19,19 +16,16 @@ use Rattle.lift_tree.specs.Types as types
 use Rattle.lift_tree.specs.Types.{PlainTy, IsFormed}
 use Rattle.lift_tree.specs.Meaning.{scalar_op}
 use Rattle.lift_tree.specs.Typing.{Declared, constant}
-use Rattle.lift_tree.specs.WorkedOut.{product_of}
 use Rattle.lift_tree.specs.Annotations.{Annotation, Leaf, One, Two, Three, type_in, Annotates}
-use Rattle.lift_tree.proofs.Formed.{formed}
-use Rattle.lift_tree.proofs.Annotated.{annotated_is_typed}
+use Rattle.lift_tree.proofs.Formed.{formed_in}
 use Rattle.lift_tree.proofs.Sizes.{value-constant}
 use Rattle.kernel_tree.specs.Formula.{divides}
-use Rattle.lift_ir.specs.Types.{Ty, PairOf, ArrayOf, IsElement, IsFlat, IsShort}
-use Rattle.lift_ir.specs.Layouts.{Split, Join, Reshapes}
+use Rattle.lift_ir.specs.Types.{Ty, PairOf, ArrayOf, IsElement, IsFlat}
 use Rattle.lift_ir.specs.Terms.{LoadsScalars, Term, HasType, push}
 use Rattle.lift_ir.specs.AtLaunch.{natural, length_at, ty_at, outer_of, types_at}
-use Rattle.lift_ir.specs.Lowering.{Place, Written, Argument, Element, element_ty, is_element, element_of, Lowered, placed, named, operand_place, value_place, body_place, lower_let, lower_stride, placed_element, lower}
+use Rattle.lift_ir.specs.Lowering.{Place, Written, Argument, Element, element_ty, is_element, element_of, Lowered, placed, named, operand_place, value_place, body_place, lower_let, placed_element, lower}
 use Rattle.lift_ir.specs.Lowerable.{SuitsPlace, IsLowerable}
-use Rattle.lift_ir.proofs.AtLaunch.{Strides, split_reshapes, join_reshapes, transpose_reshapes, reverse_reshapes, stride_lengths, slide_reshapes, pad_reshapes}
+use Rattle.lift_ir.proofs.AtLaunch.{layout_typed, slide_reshapes, pad_reshapes}
 use Rattle.lift_ir.proofs.Lowering.{suits_named}
 
 no_division : (o : Operator) → divides (scalar_op o) ≡ false
@@ -109,9 +103,6 @@ module _ (d : Declared) (bases : List ℕ) (shown : (k : ℕ) (p : List Monomial
           (element_is c i, subst (λ z. Is g v z) s h, subst (λ z. HasType num src (push z (types_at bases g)) b t) s k)
       go false e = (ty c, h, k)
 
-  formed_in : (g : List PlainTy) (t : Tree) (a : Annotation) → Every (IsFormed d.names) g → Annotates d g t a → IsFormed d.names (type_in a)
-  formed_in g t a all h = formed d proper g t (type_in a) all (annotated_is_typed d g t a h)
-
   -- the element of an array, and the names in a body over it
   suits_body : (b x : PlainTy) (l : List Monomial) (t : Tree) → b ≡ types.ArrayOf x l → LoadsScalars (named 0 (element_of b) [] t) (ty x)
   suits_body b x l t e = subst (λ z. LoadsScalars (named 0 (element_of z) [] t) (ty x)) (sym e) (suits_named bases 0 x [] t)
@@ -121,34 +112,6 @@ module _ (d : Declared) (bases : List ℕ) (shown : (k : ℕ) (p : List Monomial
 
   length_is : (b x : PlainTy) (l : List Monomial) → b ≡ types.ArrayOf x l → num l ≡ num (outer_of b)
   length_is b x l e = subst (λ z. num l ≡ num (outer_of z)) (sym e) refl
-
-  short_rows : (m q : ℕ) → m * q < 2 ^ 31 → 0 < m → 0 < q → (m < 2 ^ 31) × (q < 2 ^ 31)
-  short_rows zero q lt a b = absurd (omega arith)
-  short_rows (suc m) zero lt a b = absurd (omega arith)
-  short_rows (suc m) (suc q) lt a b =
-      let wide = mul-le-mul_left {m = 1} {n = suc q} (suc m) (omega arith) in
-      let deep = mul-le-mul_right {m = 1} {n = suc m} (suc q) (omega arith) in
-      (omega arith, omega arith)
-
-  -- a stride, through its rows and its columns
-  has_stride : (fs : List Factor) (b a : PlainTy) (g : List PlainTy) (t : Lowered) → Strides d bases shown fs b a → Is g t (ty b) → IsShort (ty b) → IsShort (ty a) → Is g (lower_stride d.names fs b t) (ty a)
-  has_stride fs b a g t s h short_b short_a =
-      let m = s.step in
-      let q = s.rest in
-      let x = ty s.element in
-      let whole = subst IsShort s.operand short_b in
-      let sides = short_rows m q whole.0 s.some_step s.some_rest in
-      let rows = ArrayOf q (ArrayOf m x) in
-      let columns = ArrayOf m (ArrayOf q x) in
-      let split : Reshapes num (Split (of_monomial (product_of d.names fs))) (ty b) rows =
-      subst (λ z. Reshapes num (Split (of_monomial (product_of d.names fs))) z rows) (sym s.operand)
-      (rw s.step_is (s.some_step, back m q s.some_step, ap (λ z. ArrayOf z (ArrayOf m x)) (sym (mul-div_cancel_left q s.some_step)))) in
-      let join : Reshapes num (Join (quotient (product_of d.names fs) (outer_of b))) columns (ty a) =
-      rw s.rest_is (s.some_rest, refl, s.result) in
-      (columns, (rows, (ty b, h, split, short_b, (sides.1, (sides.0, whole.1)), tt), (s.some_rest, refl), (sides.1, (sides.0, whole.1)), (sides.0, (sides.1, whole.1)), tt), join, (sides.0, (sides.1, whole.1)), short_a, tt)
-    where
-      back : (m q : ℕ) → 0 < m → m * q / m * m ≡ m * q
-      back m q h = ap (λ z. z * m) (mul-div_cancel_left q h) ∙ (let y : q * m ≡ m * q = grind arith in y)
 
   pub has_is : (t : Tree) (p : Place) (g : List PlainTy) (a : Annotation) → Every (IsFormed d.names) g → Annotates d g t a → IsLowerable bases p t a → Is g (lower d.names p t a) (ty (type_in a))
   has_is (tree.Variable v) p g (Leaf a) all h l = has_put g p a _ l (typed_at bases g v a h)
@@ -162,21 +125,12 @@ module _ (d : Declared) (bases : List ℕ) (shown : (k : ℕ) (p : List Monomial
       has_put g p a _ l.2 (ty h.1.0, subst (λ z. Is g (lower d.names (operand_place unary.First p) t x) (ty z)) h.1.1 (has_is t (operand_place unary.First p) g x all h.0 l.3))
   has_is (tree.Unary unary.Second t) p g (One a x) all h l =
       has_put g p a _ l.2 (ty h.1.0, subst (λ z. Is g (lower d.names (operand_place unary.Second p) t x) (ty z)) h.1.1 (has_is t (operand_place unary.Second p) g x all h.0 l.3))
-  has_is (tree.Unary (unary.Layout layout.Join) t) p g (One a x) all h l =
-      (ty (type_in x), has_is t p g x all h.0 l.3, join_reshapes d bases shown (type_in x) a (formed_in g t x all h.0) h.1, l.1, l.0, tt)
-  has_is (tree.Unary (unary.Layout layout.Transpose) t) p g (One a x) all h l =
-      (ty (type_in x), has_is t p g x all h.0 l.3, transpose_reshapes d bases shown (type_in x) a (formed_in g t x all h.0) h.1, l.1, l.0, tt)
-  has_is (tree.Unary (unary.Layout (layout.Split fs)) t) p g (One a x) all h l =
-      (ty (type_in x), has_is t p g x all h.0 l.3, split_reshapes d bases shown fs (type_in x) a (formed_in g t x all h.0) h.1, l.1, l.0, tt)
-  has_is (tree.Unary (unary.Layout layout.Reverse) t) p g (One a x) all h l =
-      (ty (type_in x), has_is t p g x all h.0 l.3, reverse_reshapes d bases shown (type_in x) a (formed_in g t x all h.0) h.1, l.1, l.0, tt)
-  has_is (tree.Unary (unary.Layout (layout.Stride fs)) t) p g (One a x) all h l =
-      let s = stride_lengths d bases shown fs (type_in x) a (formed_in g t x all h.0) h.1 in
-      has_stride fs (type_in x) a g (lower d.names p t x) s (has_is t p g x all h.0 l.3) l.1 l.0
+  has_is (tree.Unary (unary.Layout y) t) p g (One a x) all h l =
+      layout_typed d bases shown src (types_at bases g) p y (type_in x) a (lower d.names p t x) (formed_in d proper g t x all h.0) h.1 (has_is t p g x all h.0 l.3) l.1 l.0
   has_is (tree.Unary (unary.Slide s k) t) p g (One a x) all h l =
-      (ty (type_in x), has_is t p g x all h.0 l.3, slide_reshapes d bases shown s k (type_in x) a (formed_in g t x all h.0) h.1, l.1, l.0, l.2)
+      (ty (type_in x), has_is t p g x all h.0 l.3, slide_reshapes d bases shown s k (type_in x) a (formed_in d proper g t x all h.0) h.1, l.1, l.0, l.2)
   has_is (tree.Unary (unary.Pad s k) t) p g (One a x) all h l =
-      (ty (type_in x), has_is t p g x all h.0 l.3, pad_reshapes d bases shown s k (type_in x) a (formed_in g t x all h.0) h.1, l.1, l.0, tt)
+      (ty (type_in x), has_is t p g x all h.0 l.3, pad_reshapes d bases shown s k (type_in x) a (formed_in d proper g t x all h.0) h.1, l.1, l.0, tt)
   has_is (tree.Unary unary.ToLocal t) p g (One a x) all h l =
       (l.2.1, l.2.0, subst (λ z. Is g (lower d.names Written t x) (ty z)) h.1 (has_is t Written g x all h.0 l.3))
   has_is (tree.Unary unary.ToPrivate t) p g (One a x) all h l =
@@ -205,12 +159,12 @@ module _ (d : Declared) (bases : List ℕ) (shown : (k : ℕ) (p : List Monomial
         subst (λ s. Is g (lower d.names Element v z) (ty s)) h.5 (has_is v Element g z all h.2 l.2),
       )
   has_is (tree.Let v b) p g (Two a x y) all h l =
-      let f = formed_in g v x all h.0 in
+      let f = formed_in d proper g v x all h.0 in
       let body = has_is b (body_place p a) (type_in x ∷ g) y (f, all) h.1 l.1 in
-      has_put_element g p a _ (has_let g (type_in x) _ _ (ty a) (has_is v (value_place x) g x all h.0 l.0) (subst (λ z. Is (type_in x ∷ g) (lower d.names (body_place p a) b y) (ty z)) (sym h.2) body))
+      has_put_element g p a (lower_let (type_in x) (lower d.names (value_place x) v x) (lower d.names (body_place p a) b y)) (has_let g (type_in x) (lower d.names (value_place x) v x) (lower d.names (body_place p a) b y) (ty a) (has_is v (value_place x) g x all h.0 l.0) (subst (λ z. Is (type_in x ∷ g) (lower d.names (body_place p a) b y) (ty z)) (sym h.2) body))
   has_is (tree.Map k xs b) p g (Two a x y) all h l =
       let e = h.3 in
-      let f = subst (IsFormed d.names) e (formed_in g xs x all h.2) in
+      let f = subst (IsFormed d.names) e (formed_in d proper g xs x all h.2) in
       let body = has_is b Written (h.0 ∷ g) y (f.1, all) h.4 l.2 in (
         ty h.0,
         ty (type_in y),
@@ -224,9 +178,9 @@ module _ (d : Declared) (bases : List ℕ) (shown : (k : ℕ) (p : List Monomial
       let e = h.3 in
       let i = h.5 in
       let same = element_same bases (type_in y) i in
-      let f = subst (IsFormed d.names) e (formed_in g xs x all h.2) in
+      let f = subst (IsFormed d.names) e (formed_in d proper g xs x all h.2) in
       let start = has_is s Element g y all h.4 l.2 in
-      let body = has_is b Element (h.0 ∷ type_in y ∷ g) z (f.1, (formed_in g s y all h.4, all)) h.6 l.3 in
+      let body = has_is b Element (h.0 ∷ type_in y ∷ g) z (f.1, (formed_in d proper g s y all h.4, all)) h.6 l.3 in
       let typed = subst (λ t. Is (h.0 ∷ type_in y ∷ g) (lower d.names Element b z) (ty t)) h.7 body in
       let one : num (constant 1) ≡ 1 = ap natural (value-constant bases 1) in (
         ty h.0,

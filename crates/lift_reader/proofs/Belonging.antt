@@ -1,6 +1,6 @@
 -- What reading a program does to the notes, so: a program that is read has proper sizes and arrays
 -- as inputs, and its term is one that a text may have.
-use Rattle.std.proofs.Common.{◌≡◌, ◌∙◌, ◌+◌, ◌<◌, ◌≤◌, ◌%◌, ℕ, suc, List, [], ◌∷◌, ◌++◌, ap, sym, subst, refl, length, map, Option, Some, None, Bool, true, false, cond, arith}
+use Rattle.std.proofs.Common.{rules, ◌≡◌, ◌∙◌, ◌+◌, ◌<◌, ◌≤◌, ◌%◌, ℕ, suc, List, [], ◌∷◌, ◌++◌, ap, sym, subst, refl, length, map, Option, Some, None, Bool, true, false, cond, arith}
 use Rattle.std.specs.Prelude.{position, ◌==◌, nat_lt}
 use Rattle.std.proofs.lemmas.Option.{same_Some}
 use Rattle.std.proofs.lemmas.Bool.{and_parts, eqb-true, ltb-false}
@@ -24,7 +24,6 @@ use Rattle.lift_tree.specs.Tree.{Tree}
 use Rattle.lift_tree.specs.Lists.{Every}
 use Rattle.lift_tree.specs.WorkedOut.{range_of}
 use Rattle.lift_reader.specs.declared.word.Word.{Word}
-use Rattle.lift_reader.specs.declared.word.Word.TheVariants as word
 use Rattle.lift_reader.specs.Meant.{unary_of, split_by, stride_by}
 use Rattle.lift_reader.specs.Tokens.{Lexeme}
 use Rattle.lift_reader.specs.Grammar as grammar
@@ -242,12 +241,7 @@ AreTextForms k None = Unit {0}
 AreTextForms k (Some f) = IsTextForm k f
 
 of_a_word : (k : ℕ) (w : Word) → AreTextForms k (unary_of w)
-of_a_word k word.First = (tt, tt)
-of_a_word k word.Second = (tt, tt)
-of_a_word k word.Join = (tt, tt)
-of_a_word k word.Transpose = (tt, tt)
-of_a_word k word.Reverse = (tt, tt)
-of_a_word k _ = tt
+of_a_word k _ = search rules
 
 unary_fits : (k : ℕ) (w : Word) (f : UnaryForm) → unary_of w ≡ Some f → IsTextForm k f
 unary_fits k w f e = subst (AreTextForms k) e (of_a_word k w)

@@ -331,11 +331,7 @@ only_binary d w f h =
 
 no_binary : (w : Word) (f : UnaryForm) → unary_of w ≡ Some f → binary_of w ≡ None
 no_binary word.First f e = refl
-no_binary word.Second f e = refl
-no_binary word.Join f e = refl
-no_binary word.Transpose f e = refl
-no_binary word.Reverse f e = refl
-no_binary _ f e = absurd (cc)
+no_binary _ f e = cc
 
 only_unary : (d : ℕ) (w : Word) (f : UnaryForm) → unary_of w ≡ Some f
     → compound d w ≡ Some (one_term d f)
@@ -345,9 +341,6 @@ only_unary d w f h =
     (or_else (option_map (one_term d) (unary_of w)) (special d w)))
     (no_binary w f h)
     ∙ ap (λ o. or_else (option_map (one_term d) o) (special d w)) h
-
-both : (a b : Bool) → a ≡ true → b ≡ true → (a && b) ≡ true
-both a b p q = and_from a b p q
 
 only : (n : Noted) (f : Nonterminal) (t : Lexeme) (alt : List Item) → Gives n f t alt
     → row n f t ≡ Some alt
@@ -361,13 +354,13 @@ only n f t alt multiple = refl
 only n f t alt no_multiple = refl
 only n f t alt (multiple_number {m = m} p q) =
     guard (nat_le 1 m && nat_le m 1048576) _ None
-    (both (nat_le 1 m) (nat_le m 1048576) (le-leb 1 m p) (le-leb m 1048576 q))
+    (and_from (nat_le 1 m) (nat_le m 1048576) (le-leb 1 m p) (le-leb m 1048576 q))
 only n f t alt (from {m = m} {a = a} p q) =
-    guard (nat_le 1 a && divides m a) _ None (both (nat_le 1 a) (divides m a) (le-leb 1 a p) q)
+    guard (nat_le 1 a && divides m a) _ None (and_from (nat_le 1 a) (divides m a) (le-leb 1 a p) q)
 only n f t alt (to {m = m} {a = a} {b = b} p q r) =
     guard (nat_le a b && (nat_le b 1048576 && divides m b)) _ None
-    (both (nat_le a b) (nat_le b 1048576 && divides m b) (le-leb a b p)
-    (both (nat_le b 1048576) (divides m b) (le-leb b 1048576 q) r))
+    (and_from (nat_le a b) (nat_le b 1048576 && divides m b) (le-leb a b p)
+    (and_from (nat_le b 1048576) (divides m b) (le-leb b 1048576 q) r))
 only n f t alt (input_name h) = guard (is_new n _) _ None h
 only n f t alt (array_type {d = d} h) = guard (nat_le d 64) _ None (le-leb d 64 h)
 only n f t alt element = refl

@@ -2,8 +2,6 @@
 use Rattle.std.specs.Prelude.{ℕ, List}
 use Rattle.readings.specs.declared.owed.Owed.{Owed}
 use Rattle.readings.specs.Views.{items_of}
-use Rattle.lift_tree.specs.declared.layout.Layout.TheVariants as layouts
-use Rattle.lift_tree.specs.declared.length.Factor.{Factor}
 use Rattle.lift_tree.specs.declared.term.UnaryForm.{UnaryForm}
 use Rattle.lift_tree.specs.declared.term.UnaryForm.TheVariants as unaries
 use Rattle.lift_tree.specs.declared.term.BinaryForm.TheVariants as binaries
@@ -14,8 +12,6 @@ use Rattle.lift_reader.specs.declared.grammar.Nonterminal.{Nonterminal}
 use Rattle.lift_reader.specs.declared.grammar.Nonterminal.TheVariants as form
 use Rattle.lift_reader.specs.declared.grammar.Action.{Action}
 use Rattle.lift_reader.specs.declared.grammar.Action.TheVariants as action
-use Rattle.lift_reader.specs.declared.grammar.Single.{Single}
-use Rattle.lift_reader.specs.declared.grammar.Single.TheVariants as single
 use Rattle.lift_reader.specs.declared.grammar.Double.{Double}
 use Rattle.lift_reader.specs.declared.grammar.Double.TheVariants as double
 use Rattle.lift_reader.specs.declared.grammar.Triple.{Triple}
@@ -24,24 +20,10 @@ use Rattle.lift_reader.specs.declared.grammar.Division.{Division}
 use Rattle.lift_reader.specs.declared.grammar.Division.TheVariants as division
 use Rattle.lift_reader.specs.declared.grammar.Window.{Window}
 use Rattle.lift_reader.specs.declared.grammar.Window.TheVariants as window
-use Rattle.lift_reader.specs.declared.grammar.Grouping.{Grouping}
-use Rattle.lift_reader.specs.declared.grammar.Grouping.TheVariants as grouping
 use Rattle.lift_reader.specs.declared.token.Kind.{Kind}
-use Rattle.lift_reader.specs.Meant.{split_by, stride_by}
+use Rattle.lift_reader.specs.Meant.{form_of, grouping_form}
 use Rattle.lift_reader.specs.Shown.{lexeme}
 use Rattle.lift_reader.specs.Grammar as grammar
-
--- the form of a node with one child
-abbrev pub form_of : Single → UnaryForm
-form_of (single.Div n) = unaries.Div n
-form_of (single.Rem n) = unaries.Rem n
-form_of single.First = unaries.First
-form_of single.Second = unaries.Second
-form_of single.Join = unaries.Layout layouts.Join
-form_of single.Transpose = unaries.Layout layouts.Transpose
-form_of single.Reverse = unaries.Layout layouts.Reverse
-form_of (single.Slide s t) = unaries.Slide s t
-form_of (single.Pad l r) = unaries.Pad l r
 
 -- the term that is made of the last two, in the order in which they are written
 abbrev pub double_of : Double → trees.Tree → trees.Tree → trees.Tree
@@ -64,11 +46,6 @@ division_form division.Rem n = unaries.Rem n
 abbrev pub window_form : Window → ℕ → ℕ → UnaryForm
 window_form window.Slide s t = unaries.Slide s t
 window_form window.Pad l r = unaries.Pad l r
-
--- the form of split or stride by a product
-abbrev pub grouping_form : Grouping → List Factor → UnaryForm
-grouping_form grouping.Split product = split_by product
-grouping_form grouping.Stride product = stride_by product
 
 -- the least number that slide or pad may be given
 abbrev pub window_least : Window → ℕ

@@ -266,7 +266,7 @@ pub data Gives : Noted → Nonterminal → Lexeme → List Item → Type 0 where
       → Gives n (Term d) (AWord w)
       (opens ∷ term (d + 1) ∷ comma ∷ term (d + 1) ∷ closes ∷ Mark (Make2 (trees.Binary f))
       ∷ [])
-  -- "first", "second", "join", "transpose" or "reverse" "(" term ")"
+  -- "first", "second" or the word of a layout that takes no product "(" term ")"
   unary : {n : Noted} → {d : ℕ} → {w : Word} → {f : UnaryForm} → unary_of w ≡ Some f → d < 256
       → Gives n (Term d) (AWord w)
       (opens ∷ term (d + 1) ∷ closes ∷ Mark (Make1 (trees.Unary f)) ∷ [])

@@ -1,4 +1,4 @@
--- What the reserved words stand for in a term.
+-- What the reserved words stand for in a term, and the code's forms with one child.
 use Rattle.std.specs.Prelude.{List, Option, Some, None}
 use Rattle.scalar_ops.specs.declared.op.Reducer.{Reducer}
 use Rattle.scalar_ops.specs.declared.op.Reducer.TheVariants as reducer
@@ -8,7 +8,11 @@ use Rattle.lift_tree.specs.declared.term.Operator.TheVariants as operator
 use Rattle.lift_tree.specs.declared.term.BinaryForm.{BinaryForm}
 use Rattle.lift_tree.specs.declared.term.BinaryForm.TheVariants as binary
 use Rattle.lift_tree.specs.declared.term.UnaryForm.{UnaryForm}
-use Rattle.lift_tree.specs.declared.term.UnaryForm.TheVariants as unary
+use Rattle.lift_tree.specs.declared.term.UnaryForm.TheVariants as unaries
+use Rattle.lift_reader.specs.declared.grammar.Single.{Single}
+use Rattle.lift_reader.specs.declared.grammar.Single.TheVariants as single
+use Rattle.lift_reader.specs.declared.grammar.Grouping.{Grouping}
+use Rattle.lift_reader.specs.declared.grammar.Grouping.TheVariants as grouping
 use Rattle.lift_reader.specs.declared.word.Word.{Word}
 use Rattle.lift_reader.specs.declared.word.Word.TheVariants as word
 
@@ -43,17 +47,34 @@ binary_of _ = None
 
 -- what is written before one term
 abbrev pub unary_of : Word → Option UnaryForm
-unary_of word.First = Some unary.First
-unary_of word.Second = Some unary.Second
-unary_of word.Join = Some (unary.Layout layouts.Join)
-unary_of word.Transpose = Some (unary.Layout layouts.Transpose)
-unary_of word.Reverse = Some (unary.Layout layouts.Reverse)
+unary_of word.First = Some unaries.First
+unary_of word.Second = Some unaries.Second
+unary_of word.Join = Some (unaries.Layout layouts.Join)
+unary_of word.Transpose = Some (unaries.Layout layouts.Transpose)
+unary_of word.Reverse = Some (unaries.Layout layouts.Reverse)
 unary_of _ = None
 
 -- a split by the product that is written before its term
 abbrev pub split_by : List Factor → UnaryForm
-split_by product = unary.Layout (layouts.Split product)
+split_by product = unaries.Layout (layouts.Split product)
 
 -- a stride by the product that is written before its term
 abbrev pub stride_by : List Factor → UnaryForm
-stride_by product = unary.Layout (layouts.Stride product)
+stride_by product = unaries.Layout (layouts.Stride product)
+
+-- the form of a node with one child
+abbrev pub form_of : Single → UnaryForm
+form_of (single.Div n) = unaries.Div n
+form_of (single.Rem n) = unaries.Rem n
+form_of single.First = unaries.First
+form_of single.Second = unaries.Second
+form_of single.Join = unaries.Layout layouts.Join
+form_of single.Transpose = unaries.Layout layouts.Transpose
+form_of single.Reverse = unaries.Layout layouts.Reverse
+form_of (single.Slide s t) = unaries.Slide s t
+form_of (single.Pad l r) = unaries.Pad l r
+
+-- the form of split or stride by a product
+abbrev pub grouping_form : Grouping → List Factor → UnaryForm
+grouping_form grouping.Split product = split_by product
+grouping_form grouping.Stride product = stride_by product

@@ -1,8 +1,8 @@
 //! The forms and marks of the grammar of programs, as the reader owes them.
 
 ghost use Rattle.std.specs.Prelude.{◌≡◌, option_map};
-ghost use Rattle.lift_reader.specs.Meant.{reducer_of, binary_of, unary_of};
-ghost use Rattle.lift_reader.specs.Forms.{form_of, division_form, grouping_form, window_form, window_least};
+ghost use Rattle.lift_reader.specs.Meant.{reducer_of, binary_of, unary_of, form_of, grouping_form};
+ghost use Rattle.lift_reader.specs.Forms.{division_form, window_form, window_least};
 
 use crate::token::Kind;
 use crate::word::Word;

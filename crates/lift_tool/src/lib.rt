@@ -82,15 +82,8 @@ fn fail<E: Sink>(err: &mut E, failure: Failure) -> u8
     failure.status()
 }
 
-/// Does what the words of the command line ask for, and answers the status that the program ends
-/// with. `compile PROGRAM SCRIPT` writes the text of a kernel, `steps PROGRAM SCRIPT` a line for
-/// each term that the script's steps make, and `run PROGRAM SCRIPT LAUNCH [--trace]` the result
-/// line of the kernel's run, and before it, with `--trace`, a line for each event.
-/// `eval PROGRAM LAUNCH` writes the result line of the value of the program's source expression,
-/// and `demo SEED` the line of the demo, for which no file is read. `stages PROGRAM SCRIPT` writes
-/// the text of the kernels in order that the script's last term is cut into, and
-/// `run-stages PROGRAM SCRIPT LAUNCH` the result line of their runs, each on what those before it
-/// left.
+/// Does what the words of the command line ask for (`Request` of command_line says what each
+/// command writes), and answers the status that the program ends with.
 ///
 /// Each file is read, and then its length is judged; all are, before the first is looked at.
 /// Want of memory (status 13) may come at any point.

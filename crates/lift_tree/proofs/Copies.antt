@@ -208,5 +208,5 @@ module _ (d : Declared) where
       )
   arrays_by g _ a _ h k = absurd k
 
-  pub copied_arrays : (g : List PlainTy) (t : Tree) (n : Annotation) → IsCopyingArrays d g t → Annotates d g t n → CopiesArrays t n
-  copied_arrays g t n h k = arrays_by g t (type_in h.types) n (types_copying d g t h.types h.nodes h.arrays) k
+  pub copies_arrays_however_typed : (g : List PlainTy) (t : Tree) (n : Annotation) → IsCopyingArrays d g t → Annotates d g t n → CopiesArrays t n
+  copies_arrays_however_typed g t n h k = arrays_by g t (type_in h.types) n (types_copying d g t h.types h.nodes h.arrays) k

@@ -1,13 +1,12 @@
 -- A typed term's type is formed.
-use Rattle.std.proofs.Common.{◌≡◌, ℕ, zero, suc, List, [], ◌∷◌, sym, ◌∙◌, subst, arith, Some}
-use Rattle.std.specs.Prelude.{slice_get}
+use Rattle.std.proofs.Common.{◌≡◌, List, ◌∷◌, sym, subst, arith, inl, inr}
+use Rattle.std.specs.Prelude.{◌⊎◌}
 use Rattle.std.proofs.lemmas.Int.{ints}
 use Rattle.size_arith.specs.declared.names.Name.{Name}
 use Rattle.size_arith.specs.Shown.{ShownAtLeast, part}
 use Rattle.size_arith.specs.Polynomial.{no_powers}
 use Rattle.size_arith.specs.Ranges.{leasts}
 use Rattle.lift_tree.specs.declared.layout.Layout as layout
-use Rattle.lift_tree.specs.declared.layout.Layout.TheVariants.{Join, Transpose, Split, Reverse, Stride}
 use Rattle.lift_tree.specs.declared.term.UnaryForm.{UnaryForm}
 use Rattle.lift_tree.specs.declared.term.UnaryForm.TheVariants.{Div, Rem, First, Second, Layout, Slide, Pad, ToLocal, ToPrivate, Then}
 use Rattle.lift_tree.specs.declared.term.BinaryForm.{BinaryForm}
@@ -15,30 +14,26 @@ use Rattle.lift_tree.specs.declared.term.BinaryForm.TheVariants as binary
 use Rattle.lift_tree.specs.Tree.{Tree, Variable, Number, Input, Unary, Binary, Select, Let, Map, Fold}
 use Rattle.lift_tree.specs.Lists.{Every}
 use Rattle.lift_tree.specs.Types.{PlainTy, ArrayOf, IsFormed}
-use Rattle.lift_tree.specs.Typing.{Declared, LayoutRow, UnaryRow, BinaryRow, Types, constant}
+use Rattle.lift_tree.specs.Typing.{Declared, UnaryRow, BinaryRow, Types, constant}
+use Rattle.lift_tree.specs.Annotations.{Annotates, Annotation, type_in}
+use Rattle.lift_tree.proofs.Annotated.{annotated_is_typed}
+use Rattle.lift_tree.proofs.EveryAt.{every_at}
+use Rattle.lift_tree.proofs.Layouts.{FormsAnew, layout_cases}
 
-one_shown : (names : List Name) → ShownAtLeast 1 names (constant 1)
+pub one_shown : (names : List Name) → ShownAtLeast 1 names (constant 1)
 one_shown names js h = let n = part (leasts names) no_powers js in omega (arith, ints)
 
-every_get : {A : Type 0} (p : A → Type 0) (xs : List A) (n : ℕ) (x : A) → Every p xs → slice_get xs n ≡ Some x → p x
-every_get p [] n x a e = absurd (cc)
-every_get p (y ∷ xs) zero x a e = let d : y ≡ x = cc in subst p d a.0
-every_get p (y ∷ xs) (suc n) x a e = every_get p xs n x a.1 e
-
 module _ (d : Declared) (inputs : Every (IsFormed d.names) d.inputs) where
-  layout_formed : (l : layout.Layout) (b a : PlainTy) → LayoutRow d.names l b a → IsFormed d.names b → IsFormed d.names a
-  layout_formed Join b a r h = r.5
-  layout_formed Transpose b a r h = r.5
-  layout_formed (Split fs) b a r h = r.5
-  layout_formed Reverse b a r h = subst (IsFormed d.names) (r.2 ∙ sym r.3) h
-  layout_formed (Stride fs) b a r h = subst (IsFormed d.names) (r.2 ∙ sym r.4) h
+  layout_formed : (l : layout.Layout) (b a : PlainTy) → (b ≡ a) ⊎ FormsAnew d.names l b a → IsFormed d.names b → IsFormed d.names a
+  layout_formed l b a (inl e) h = subst (IsFormed d.names) e h
+  layout_formed l b a (inr r) h = r.formed
 
   unary_formed : (f : UnaryForm) (b a : PlainTy) → UnaryRow d.names f b a → IsFormed d.names b → IsFormed d.names a
   unary_formed (Div n) b a r h = subst (IsFormed d.names) (sym r.2) tt
   unary_formed (Rem n) b a r h = subst (IsFormed d.names) (sym r.2) tt
   unary_formed First b a r h = (subst (IsFormed d.names) r.1 h).0
   unary_formed Second b a r h = (subst (IsFormed d.names) r.1 h).1
-  unary_formed (Layout l) b a r h = layout_formed l b a r h
+  unary_formed (Layout l) b a r h = layout_formed l b a (layout_cases d.names l b a r) h
   unary_formed (Slide s t) b a r h = r.7
   unary_formed (Pad l k) b a r h = r.4
   unary_formed ToLocal b a r h = subst (IsFormed d.names) r h
@@ -55,9 +50,9 @@ module _ (d : Declared) (inputs : Every (IsFormed d.names) d.inputs) where
   binary_formed (binary.Reduce o) b c a r h k = subst (IsFormed d.names) (sym r.3) (one_shown d.names, tt)
 
   pub formed : (g : List PlainTy) (t : Tree) (a : PlainTy) → Every (IsFormed d.names) g → Types d g t a → IsFormed d.names a
-  formed g (Variable n) a all h = every_get (IsFormed d.names) g n a all h
+  formed g (Variable n) a all h = every_at (IsFormed d.names) g n a all h
   formed g (Number n) a all h = subst (IsFormed d.names) (sym h.1) tt
-  formed g (Input n) a all h = every_get (IsFormed d.names) d.inputs n a inputs h
+  formed g (Input n) a all h = every_at (IsFormed d.names) d.inputs n a inputs h
   formed g (Unary f t) a all h = unary_formed f h.0 a h.2 (formed g t h.0 all h.1)
   formed g (Binary f t u) a all h = binary_formed f h.0 h.1 a h.4 (formed g t h.0 all h.2) (formed g u h.1 all h.3)
   formed g (Select t u v) a all h = subst (IsFormed d.names) (sym h.3) tt
@@ -66,3 +61,6 @@ module _ (d : Declared) (inputs : Every (IsFormed d.names) d.inputs) where
       let x = formed g xs (ArrayOf h.0 h.2) all h.3 in
       subst (IsFormed d.names) (sym h.5) (x.0, formed (h.0 ∷ g) b h.1 (x.1, all) h.4)
   formed g (Fold k xs s b) a all h = subst (IsFormed d.names) (sym h.7) (one_shown d.names, formed g s h.1 all h.4)
+
+  pub formed_in : (g : List PlainTy) (t : Tree) (n : Annotation) → Every (IsFormed d.names) g → Annotates d g t n → IsFormed d.names (type_in n)
+  formed_in g t n all y = formed g t (type_in n) all (annotated_is_typed d g t n y)

@@ -1,6 +1,6 @@
 -- What lists keep through the patterns.
 use Rattle.std.proofs.Common.{◌≡◌, ℕ, zero, suc, ◌+◌, ◌*◌, ◌≤◌, ◌<◌, List, [], ◌∷◌, ◌++◌, length, take, drop, refl, sym, ap, ◌∙◌, subst, arith, length-append, length-drop}
-use Rattle.std.proofs.lemmas.List.{length-take-le}
+use Rattle.std.proofs.lemmas.List.{length-replicate, length-take-le}
 use Rattle.std.proofs.lemmas.Grind.{reverse_onto}
 use Rattle.std.specs.Prelude.{map, replicate, reverse, ◌/◌}
 use Rattle.lift_tree.specs.Values.{Value, members, array}
@@ -71,10 +71,6 @@ pub last_has : (p : Value → Type 0) (xs : List Value) → 0 < length xs → Ev
 last_has p [] h a = absurd (omega arith)
 last_has p (x ∷ []) h a = a.0
 last_has p (x ∷ y ∷ xs) h a = last_has p (y ∷ xs) (omega arith) a.1
-
-length-replicate : {A : Type 0} (n : ℕ) (x : A) → length (replicate n x) ≡ n
-length-replicate zero x = refl
-length-replicate (suc n) x = ap suc (length-replicate n x)
 
 pub length-padded : (l r : ℕ) (xs : List Value) → length (padded l r xs) ≡ l + length xs + r
 length-padded l r xs =

@@ -14,7 +14,8 @@ use Rattle.lift_tree.specs.Types.{PlainTy, U32, ArrayOf, HasType, HaveTypes, IsF
 use Rattle.lift_tree.specs.Typing.{Declared, Types, constant, IsAdmissible, ValuesHaveTypes}
 use Rattle.lift_tree.proofs.Members.{length-map, every_map}
 use Rattle.lift_tree.proofs.Sizes.{value-constant}
-use Rattle.lift_tree.proofs.Rows.{list_have, list_has, unary_has, binary_has}
+use Rattle.lift_tree.proofs.Forms.{binary_has, unary_has}
+use Rattle.lift_tree.proofs.Rows.{list_has, list_have}
 use Rattle.lift_tree.proofs.Formed.{formed}
 
 choose_has : (ys : List ℕ) (n : ℕ) (v u : Value) → HasType ys U32 v → HasType ys U32 u → HasType ys U32 (choose n v u)

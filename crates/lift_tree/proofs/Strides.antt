@@ -1,4 +1,5 @@
--- Reverse and stride by position, and a stride by the layouts that it is made of.
+-- What is reversed, and what is gone through by a stride, by position; and a stride by the layouts
+-- that it is made of.
 use Rattle.std.proofs.Common.{◌≡◌, ℕ, zero, suc, ◌+◌, ◌-◌, ◌*◌, ◌/◌, ◌%◌, ◌<◌, ◌≤◌, List, [], ◌∷◌, ◌++◌, length, take, drop, refl, sym, ap, ◌∙◌, subst, arith}
 use Rattle.std.specs.Prelude.{map, reverse, get_or, ◌⊎◌}
 use Rattle.std.proofs.Math.Logic.{inl, inr}

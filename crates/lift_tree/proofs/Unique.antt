@@ -1,34 +1,14 @@
 -- A term has one type.
 use Rattle.std.proofs.Common.{◌≡◌, List, ◌∷◌, sym, ◌∙◌, subst}
 use Rattle.size_arith.specs.declared.names.Name.{Name}
-use Rattle.size_arith.specs.declared.poly.Monomial.{Monomial}
-use Rattle.lift_tree.specs.declared.layout.Layout as layout
-use Rattle.lift_tree.specs.declared.layout.Layout.TheVariants.{Join, Transpose, Split, Reverse, Stride}
 use Rattle.lift_tree.specs.declared.term.UnaryForm.{UnaryForm}
 use Rattle.lift_tree.specs.declared.term.UnaryForm.TheVariants.{Div, Rem, First, Second, Layout, Slide, Pad, ToLocal, ToPrivate, Then}
 use Rattle.lift_tree.specs.declared.term.BinaryForm.{BinaryForm}
 use Rattle.lift_tree.specs.declared.term.BinaryForm.TheVariants as binary
 use Rattle.lift_tree.specs.Tree.{Tree, Variable, Number, Input, Unary, Binary, Select, Let, Map, Fold}
 use Rattle.lift_tree.specs.Types.{PlainTy, ArrayOf}
-use Rattle.lift_tree.specs.Typing.{Declared, LayoutRow, UnaryRow, BinaryRow, Types, OneType}
-
-same_array : (x y : PlainTy) (n m : List Monomial) → ArrayOf x n ≡ ArrayOf y m → (x ≡ y) × (n ≡ m)
-same_array x y n m e = (cc, cc)
-
-layout_unique : (names : List Name) (l : layout.Layout) (b a c : PlainTy) → LayoutRow names l b a → LayoutRow names l b c → a ≡ c
-layout_unique names Join b a c h k =
-    let i = same_array (ArrayOf h.0 h.1) (ArrayOf k.0 k.1) h.2 k.2 (sym h.3 ∙ k.3) in
-    let m = same_array h.0 k.0 h.1 k.1 i.0 in
-    let p = h.4 in let q = k.4 in let r = i.1 in let s = m.0 in let t = m.1 in cc
-layout_unique names Transpose b a c h k =
-    let i = same_array (ArrayOf h.0 h.1) (ArrayOf k.0 k.1) h.2 k.2 (sym h.3 ∙ k.3) in
-    let m = same_array h.0 k.0 h.1 k.1 i.0 in
-    let p = h.4 in let q = k.4 in let r = i.1 in let s = m.0 in let t = m.1 in cc
-layout_unique names (Split fs) b a c h k =
-    let i = same_array h.0 k.0 h.1 k.1 (sym h.2 ∙ k.2) in
-    let p = h.4 in let q = k.4 in let r = i.0 in let s = i.1 in cc
-layout_unique names Reverse b a c h k = h.3 ∙ sym h.2 ∙ k.2 ∙ sym k.3
-layout_unique names (Stride fs) b a c h k = h.4 ∙ sym h.2 ∙ k.2 ∙ sym k.4
+use Rattle.lift_tree.specs.Typing.{Declared, UnaryRow, BinaryRow, Types, OneType}
+use Rattle.lift_tree.proofs.Layouts.{layout_unique, same_array}
 
 unary_unique : (names : List Name) (f : UnaryForm) (b a c : PlainTy) → UnaryRow names f b a → UnaryRow names f b c → a ≡ c
 unary_unique names (Div n) b a c h k = h.2 ∙ sym k.2

@@ -1,6 +1,7 @@
 //! Places in a term.
 
-ghost use Rattle.std.specs.Prelude.{◌≡◌, Some, None, IfOk, IfErr, OnOk, option_map};
+ghost use Rattle.std.specs.Prelude.{◌≡◌, ◌∷◌, Some, None, IfOk, IfErr, OnOk, option_map};
+ghost use Rattle.lift_tree.specs.Tree as tree;
 ghost use Rattle.lift_tree.specs.Tree.{tree_of};
 ghost use Rattle.lift_tree.specs.Places.{node_at, with_at};
 
@@ -76,48 +77,83 @@ pub fn replaced(mut term: Term, place: &Place, new: Term) -> Result<Term, (Term,
 }
 
 // Puts the new node at the place, and gives it back where there is no such place.
+#[cycle(putting)]
 fn put_at(term: &mut Term, numbers: &[u32], new: Term) -> Result<(), Term>
     ensures ok { OnOk result (with_at (tree_of term.old) numbers.now (tree_of new)
         ≡ Some (tree_of term.new)) }
     ensures none { IfErr result (λ t. node_at (tree_of term.old) numbers.now ≡ None) }
     ensures kept { IfErr result (λ t. (t ≡ new) × (term.new ≡ term.old)) }
 {
-    let Some((first, rest)) = numbers.split_first() else {
-        *term = new;
-        return Ok(());
-    };
+    match numbers.split_first() {
+        None => {
+            *term = new;
+            Ok(())
+        }
+        Some((first, rest)) => put_in_child(term, *first, rest, new),
+    }
+}
+
+// The same in the child of this number.
+#[tactic(auto, using(crate::proofs::Replaced::other_forms))]
+#[cycle(putting)]
+fn put_in_child(term: &mut Term, number: u32, rest: &[u32], new: Term) -> Result<(), Term>
+    ensures ok { OnOk result (with_at (tree_of term.old) (number ∷ rest.now) (tree_of new)
+        ≡ Some (tree_of term.new)) }
+    ensures none { IfErr result (λ t. node_at (tree_of term.old) (number ∷ rest.now) ≡ None) }
+    ensures kept { IfErr result (λ t. (t ≡ new) × (term.new ≡ term.old)) }
+{
     match term {
         Term::Variable(_) | Term::Number(_) | Term::Input(_) => Err(new),
-        Term::Unary(_, a) => match *first {
+        Term::Unary(_, a) => match number {
             0 => put_at(a, rest, new),
             _ => Err(new),
         },
-        Term::Binary(_, a, b) => match *first {
-            0 => put_at(a, rest, new),
-            1 => put_at(b, rest, new),
-            _ => Err(new),
-        },
-        Term::Select(a, b, c) => match *first {
-            0 => put_at(a, rest, new),
-            1 => put_at(b, rest, new),
-            2 => put_at(c, rest, new),
-            _ => Err(new),
-        },
-        Term::Let(a, b) => match *first {
-            0 => put_at(a, rest, new),
-            1 => put_at(b, rest, new),
-            _ => Err(new),
-        },
-        Term::Map(_, a, b) => match *first {
-            0 => put_at(a, rest, new),
-            1 => put_at(b, rest, new),
-            _ => Err(new),
-        },
-        Term::Fold(_, a, b, c) => match *first {
-            0 => put_at(a, rest, new),
-            1 => put_at(b, rest, new),
-            2 => put_at(c, rest, new),
-            _ => Err(new),
-        },
+        Term::Binary(_, a, b) => put_in_two(a, b, number, rest, new),
+        Term::Select(a, b, c) => put_in_three(a, b, c, number, rest, new),
+        Term::Let(a, b) => put_in_two(a, b, number, rest, new),
+        Term::Map(_, a, b) => put_in_two(a, b, number, rest, new),
+        Term::Fold(_, a, b, c) => put_in_three(a, b, c, number, rest, new),
+    }
+}
+
+// The same in the child of this number of two children, here those of a binding.
+#[cycle(putting)]
+fn put_in_two(a: &mut Term, b: &mut Term, number: u32, rest: &[u32], new: Term) -> Result<(), Term>
+    ensures ok { OnOk result (with_at (tree.Let (tree_of a.old) (tree_of b.old))
+        (number ∷ rest.now) (tree_of new) ≡ Some (tree.Let (tree_of a.new) (tree_of b.new))) }
+    ensures none { IfErr result (λ t. node_at (tree.Let (tree_of a.old) (tree_of b.old))
+        (number ∷ rest.now) ≡ None) }
+    ensures kept { IfErr result (λ t. (t ≡ new) × (a.new ≡ a.old) × (b.new ≡ b.old)) }
+{
+    match number {
+        0 => put_at(a, rest, new),
+        1 => put_at(b, rest, new),
+        _ => Err(new),
+    }
+}
+
+// The same in the child of this number of three children, here those of a selection.
+#[cycle(putting)]
+fn put_in_three(
+    a: &mut Term,
+    b: &mut Term,
+    c: &mut Term,
+    number: u32,
+    rest: &[u32],
+    new: Term,
+) -> Result<(), Term>
+    ensures ok { OnOk result (with_at (tree.Select (tree_of a.old) (tree_of b.old) (tree_of c.old))
+        (number ∷ rest.now) (tree_of new)
+        ≡ Some (tree.Select (tree_of a.new) (tree_of b.new) (tree_of c.new))) }
+    ensures none { IfErr result (λ t. node_at (tree.Select (tree_of a.old) (tree_of b.old)
+        (tree_of c.old)) (number ∷ rest.now) ≡ None) }
+    ensures kept { IfErr result (λ t. (t ≡ new) × (a.new ≡ a.old) × (b.new ≡ b.old)
+        × (c.new ≡ c.old)) }
+{
+    match number {
+        0 => put_at(a, rest, new),
+        1 => put_at(b, rest, new),
+        2 => put_at(c, rest, new),
+        _ => Err(new),
     }
 }

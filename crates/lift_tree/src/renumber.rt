@@ -219,6 +219,7 @@ fn filled_variable(alloc: Global, number: u32, value: &Term, from: u64) -> Resul
 }
 
 // Puts the value for the binder `from` into the term.
+#[cycle(filling)]
 fn fill(alloc: Global, term: &mut Term, value: &Term, from: u64) -> Result<(), AllocError>
     requires numbers_small { AllBelow (2 ^ 31) (tree_of term.old) }
     requires from_small { from + 2 * height (tree_of term.old) < 2 ^ 34 }
@@ -232,27 +233,61 @@ fn fill(alloc: Global, term: &mut Term, value: &Term, from: u64) -> Result<(), A
         }
         Term::Number(_) | Term::Input(_) => Ok(()),
         Term::Unary(_, a) => fill(alloc, a, value, from),
-        Term::Binary(_, a, b) => {
-            fill(alloc, a, value, from)?;
-            fill(alloc, b, value, from)
-        }
-        Term::Select(a, b, c) => {
-            fill(alloc, a, value, from)?;
-            fill(alloc, b, value, from)?;
-            fill(alloc, c, value, from)
-        }
-        Term::Let(bound, body) => {
-            fill(alloc, bound, value, from)?;
-            fill(alloc, body, value, from + 1)
-        }
-        Term::Map(_, array, body) => {
-            fill(alloc, array, value, from)?;
-            fill(alloc, body, value, from + 1)
-        }
-        Term::Fold(_, array, start, body) => {
-            fill(alloc, array, value, from)?;
-            fill(alloc, start, value, from)?;
-            fill(alloc, body, value, from + 2)
-        }
+        Term::Binary(_, a, b) => fill_two(alloc, a, b, value, from, from),
+        Term::Select(a, b, c) => fill_three(alloc, a, b, c, value, from, from),
+        Term::Let(a, b) => fill_two(alloc, a, b, value, from, from + 1),
+        Term::Map(_, a, b) => fill_two(alloc, a, b, value, from, from + 1),
+        Term::Fold(_, a, b, c) => fill_three(alloc, a, b, c, value, from, from + 2),
     }
+}
+
+// Puts the value into two terms: for the binder `from` into the first, and into the second for
+// that binder as it is told inside that term.
+#[cycle(filling)]
+fn fill_two(
+    alloc: Global,
+    a: &mut Term,
+    b: &mut Term,
+    value: &Term,
+    from: u64,
+    inside: u64,
+) -> Result<(), AllocError>
+    requires first_small { AllBelow (2 ^ 31) (tree_of a.old) }
+    requires second_small { AllBelow (2 ^ 31) (tree_of b.old) }
+    requires from_small { from + 2 * height (tree_of a.old) < 2 ^ 34 }
+    requires inside_small { inside + 2 * height (tree_of b.old) < 2 ^ 34 }
+    requires value { IsRenumberable (tree_of value.now) }
+    ensures first { OnOk result (tree_of a.new ≡ put from (tree_of value.now) (tree_of a.old)) }
+    ensures second { OnOk result
+        (tree_of b.new ≡ put inside (tree_of value.now) (tree_of b.old)) }
+{
+    fill(alloc, a, value, from)?;
+    fill(alloc, b, value, inside)
+}
+
+// The same with two terms before the last.
+#[cycle(filling)]
+fn fill_three(
+    alloc: Global,
+    a: &mut Term,
+    b: &mut Term,
+    c: &mut Term,
+    value: &Term,
+    from: u64,
+    inside: u64,
+) -> Result<(), AllocError>
+    requires first_small { AllBelow (2 ^ 31) (tree_of a.old) }
+    requires second_small { AllBelow (2 ^ 31) (tree_of b.old) }
+    requires third_small { AllBelow (2 ^ 31) (tree_of c.old) }
+    requires from_first { from + 2 * height (tree_of a.old) < 2 ^ 34 }
+    requires from_second { from + 2 * height (tree_of b.old) < 2 ^ 34 }
+    requires inside_small { inside + 2 * height (tree_of c.old) < 2 ^ 34 }
+    requires value { IsRenumberable (tree_of value.now) }
+    ensures first { OnOk result (tree_of a.new ≡ put from (tree_of value.now) (tree_of a.old)) }
+    ensures second { OnOk result (tree_of b.new ≡ put from (tree_of value.now) (tree_of b.old)) }
+    ensures third { OnOk result
+        (tree_of c.new ≡ put inside (tree_of value.now) (tree_of c.old)) }
+{
+    fill(alloc, a, value, from)?;
+    fill_two(alloc, b, c, value, from, inside)
 }

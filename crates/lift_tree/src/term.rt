@@ -139,8 +139,8 @@ impl Term {
     pub fn binary(alloc: Global, form: BinaryForm, a: Term, b: Term) -> Result<Self, AllocError>
         ensures { IfOk result (λ t. tree_of t ≡ tree.Binary form (tree_of a) (tree_of b)) }
     {
-        let a = Box::new(alloc, a)?;
-        Ok(Term::Binary(form, a, Box::new(alloc, b)?))
+        let (a, b) = boxed_two(alloc, a, b)?;
+        Ok(Term::Binary(form, a, b))
     }
 
     /// `yes` where the condition isn't 0, else `no`.
@@ -148,8 +148,7 @@ impl Term {
         ensures { IfOk result (λ t. tree_of t
             ≡ tree.Select (tree_of condition) (tree_of yes) (tree_of no)) }
     {
-        let condition = Box::new(alloc, condition)?;
-        let yes = Box::new(alloc, yes)?;
+        let (condition, yes) = boxed_two(alloc, condition, yes)?;
         Ok(Term::Select(condition, yes, Box::new(alloc, no)?))
     }
 
@@ -157,16 +156,16 @@ impl Term {
     pub fn bind(alloc: Global, value: Term, body: Term) -> Result<Self, AllocError>
         ensures { IfOk result (λ t. tree_of t ≡ tree.Let (tree_of value) (tree_of body)) }
     {
-        let value = Box::new(alloc, value)?;
-        Ok(Term::Let(value, Box::new(alloc, body)?))
+        let (value, body) = boxed_two(alloc, value, body)?;
+        Ok(Term::Let(value, body))
     }
 
     /// The array of the body's values, where its binder has each value of the array.
     pub fn map(alloc: Global, kind: MapKind, array: Term, body: Term) -> Result<Self, AllocError>
         ensures { IfOk result (λ t. tree_of t ≡ tree.Map kind (tree_of array) (tree_of body)) }
     {
-        let array = Box::new(alloc, array)?;
-        Ok(Term::Map(kind, array, Box::new(alloc, body)?))
+        let (array, body) = boxed_two(alloc, array, body)?;
+        Ok(Term::Map(kind, array, body))
     }
 
     /// The left fold of the array, from the start by the body.
@@ -180,12 +179,12 @@ impl Term {
         ensures { IfOk result (λ t. tree_of t
             ≡ tree.Fold kind (tree_of array) (tree_of start) (tree_of body)) }
     {
-        let array = Box::new(alloc, array)?;
-        let start = Box::new(alloc, start)?;
+        let (array, start) = boxed_two(alloc, array, start)?;
         Ok(Term::Fold(kind, array, start, Box::new(alloc, body)?))
     }
 
     /// An equal term in memory of its own.
+    #[cycle(copying)]
     pub fn copy(&self, alloc: Global) -> Result<Self, AllocError>
         ensures { IfOk result (λ t. tree_of t ≡ tree_of self.now) }
     {
@@ -193,29 +192,12 @@ impl Term {
             Term::Variable(n) => Ok(Term::Variable(*n)),
             Term::Number(n) => Ok(Term::Number(*n)),
             Term::Input(n) => Ok(Term::Input(*n)),
-            Term::Unary(form, a) => Term::unary(alloc, form.copy(alloc)?, a.copy(alloc)?),
-            Term::Binary(form, a, b) => {
-                let a = a.copy(alloc)?;
-                Term::binary(alloc, *form, a, b.copy(alloc)?)
-            }
-            Term::Select(a, b, c) => {
-                let a = a.copy(alloc)?;
-                let b = b.copy(alloc)?;
-                Term::select(alloc, a, b, c.copy(alloc)?)
-            }
-            Term::Let(value, body) => {
-                let value = value.copy(alloc)?;
-                Term::bind(alloc, value, body.copy(alloc)?)
-            }
-            Term::Map(kind, array, body) => {
-                let array = array.copy(alloc)?;
-                Term::map(alloc, *kind, array, body.copy(alloc)?)
-            }
-            Term::Fold(kind, array, start, body) => {
-                let array = array.copy(alloc)?;
-                let start = start.copy(alloc)?;
-                Term::fold(alloc, *kind, array, start, body.copy(alloc)?)
-            }
+            Term::Unary(form, a) => copied_unary(alloc, form, a),
+            Term::Binary(form, a, b) => copied_binary(alloc, *form, a, b),
+            Term::Select(a, b, c) => copied_select(alloc, a, b, c),
+            Term::Let(value, body) => copied_let(alloc, value, body),
+            Term::Map(kind, array, body) => copied_map(alloc, *kind, array, body),
+            Term::Fold(kind, array, start, body) => copied_fold(alloc, *kind, array, start, body),
         }
     }
 
@@ -278,4 +260,79 @@ impl Term {
             }
         }
     }
+}
+
+// Each of two terms in a box of its own.
+fn boxed_two(alloc: Global, a: Term, b: Term) -> Result<(Box<Term>, Box<Term>), AllocError>
+    ensures { IfOk result (λ boxes. (boxes.0.value ≡ a) × (boxes.1.value ≡ b)) }
+{
+    let a = Box::new(alloc, a)?;
+    Ok((a, Box::new(alloc, b)?))
+}
+
+// A child, equal and in memory of its own.
+#[cycle(copying)]
+fn copied_child(alloc: Global, child: &Term) -> Result<Box<Term>, AllocError>
+    ensures { IfOk result (λ c. tree_of c.value ≡ tree_of child.now) }
+{
+    Ok(Box::new(alloc, child.copy(alloc)?)?)
+}
+
+#[cycle(copying)]
+fn copied_unary(alloc: Global, form: &UnaryForm, a: &Term) -> Result<Term, AllocError>
+    ensures { IfOk result (λ t. tree_of t ≡ tree.Unary form.now (tree_of a.now)) }
+{
+    let a = copied_child(alloc, a)?;
+    Ok(Term::Unary(form.copy(alloc)?, a))
+}
+
+#[cycle(copying)]
+fn copied_binary(alloc: Global, form: BinaryForm, a: &Term, b: &Term) -> Result<Term, AllocError>
+    ensures { IfOk result (λ t. tree_of t ≡ tree.Binary form (tree_of a.now) (tree_of b.now)) }
+{
+    let a = copied_child(alloc, a)?;
+    Ok(Term::Binary(form, a, copied_child(alloc, b)?))
+}
+
+#[cycle(copying)]
+fn copied_select(alloc: Global, a: &Term, b: &Term, c: &Term) -> Result<Term, AllocError>
+    ensures { IfOk result (λ t. tree_of t
+        ≡ tree.Select (tree_of a.now) (tree_of b.now) (tree_of c.now)) }
+{
+    let a = copied_child(alloc, a)?;
+    let b = copied_child(alloc, b)?;
+    Ok(Term::Select(a, b, copied_child(alloc, c)?))
+}
+
+#[cycle(copying)]
+fn copied_let(alloc: Global, value: &Term, body: &Term) -> Result<Term, AllocError>
+    ensures { IfOk result (λ t. tree_of t ≡ tree.Let (tree_of value.now) (tree_of body.now)) }
+{
+    let value = copied_child(alloc, value)?;
+    Ok(Term::Let(value, copied_child(alloc, body)?))
+}
+
+#[cycle(copying)]
+fn copied_map(alloc: Global, kind: MapKind, array: &Term, body: &Term) -> Result<Term, AllocError>
+    ensures { IfOk result (λ t. tree_of t
+        ≡ tree.Map kind (tree_of array.now) (tree_of body.now)) }
+{
+    let array = copied_child(alloc, array)?;
+    Ok(Term::Map(kind, array, copied_child(alloc, body)?))
+}
+
+#[cycle(copying)]
+fn copied_fold(
+    alloc: Global,
+    kind: FoldKind,
+    array: &Term,
+    start: &Term,
+    body: &Term,
+) -> Result<Term, AllocError>
+    ensures { IfOk result (λ t. tree_of t
+        ≡ tree.Fold kind (tree_of array.now) (tree_of start.now) (tree_of body.now)) }
+{
+    let array = copied_child(alloc, array)?;
+    let start = copied_child(alloc, start)?;
+    Ok(Term::Fold(kind, array, start, copied_child(alloc, body)?))
 }

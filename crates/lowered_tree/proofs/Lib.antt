@@ -1,3 +1,2 @@
 pub mod Legal
-mod InputTypes
 mod Whole

@@ -9,12 +9,8 @@ use Rattle.lift_tree.specs.Types.{PlainTy}
 use Rattle.lift_tree.specs.Typing.{Declared, declared_by}
 use Rattle.lift_tree.specs.WorkedOut.{worked_out}
 use Rattle.lift_tree.proofs.Fitting.{limits_fit}
-use Rattle.lowered_tree.specs.Inputs.{HasTypedInputs}
 use Rattle.lowered_tree.specs.Whole.{IsSoundTerm, IsTypedWithin}
 use Rattle.lowered_tree.specs.Words.{FormsHaveWords}
-
-pub typed_inputs : (p : PlainProgram) (t : Tree) (n : Annotation) → IsTypedWithin p t n → HasTypedInputs p
-typed_inputs p t n h = record { proper = h.proper; declared = h.declared; within = h.within.inputs }
 
 -- a program's term is sound over what the program declares
 pub sound : (p : PlainProgram) (t : Tree) (n : Annotation) → IsTypedWithin p t n → FormsHaveWords t → IsSoundTerm (declared_by p) t n

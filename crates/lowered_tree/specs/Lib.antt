@@ -6,7 +6,6 @@ pub mod Nest
 pub mod Nodes
 pub mod Spaces
 pub mod Copies
-pub mod Inputs
 pub mod Kind
 pub mod Words
 pub mod Whole

@@ -7,7 +7,6 @@
 pub mod around;
 pub mod copies;
 pub mod forms;
-mod inputs;
 pub mod kind;
 pub mod laws;
 pub mod lowered;

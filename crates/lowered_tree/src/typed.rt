@@ -10,10 +10,10 @@ ghost use Rattle.lowered_tree.specs.Whole.{IsTypedWithin};
 ghost use Rattle.lowered_tree.specs.Words.{FormsHaveWords};
 
 use crate::copies::copied_types;
-use crate::inputs::input_types;
 use crate::lowered::Lowered;
 use crate::words::forms_have_words;
 use lift_tree::typed::Typed;
+use pattern_types::input_types;
 use std::alloc::{AllocError, Global};
 
 /// The typed term, with what it may name. It keeps the term, and so its value, and its types.

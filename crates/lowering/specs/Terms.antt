@@ -13,6 +13,8 @@ use Rattle.lowering.specs.declared.term.Space.TheVariants as space
 use Rattle.lowering.specs.declared.term.LoadSet.{LoadSet}
 use Rattle.lowering.specs.declared.term.LoadSet as load_set
 use Rattle.lowering.specs.declared.term.Layout.{Layout}
+use Rattle.lowering.specs.declared.term.Map.{Map}
+use Rattle.lowering.specs.declared.term.Fold.{Fold}
 use Rattle.lowering.specs.declared.term.Term.{Term}
 use Rattle.lowering.specs.declared.term.Term as term
 
@@ -54,9 +56,20 @@ term_of (term.Reshape' l p a) = terms.Reshape (layout_in l) (term_of a)
 term_of (term.LetArray' p v q b) = terms.LetArray (term_of v) (term_of b)
 term_of (term.LetElement' t p v q b) =
     terms.LetElement (element_ty (ty_of t)) (term_of v) (term_of b)
-term_of (term.Map' k n loads p xs q b) =
+term_of (term.Map' p k n loads xs b) =
     terms.Map (kind_of k) n (load_set_of loads) (term_of xs) (term_of b)
-term_of (term.Fold' n loads t p xs q s r b) =
+term_of (term.Fold' p n loads t xs s b) =
     terms.Fold n (load_set_of loads) (element_ty (ty_of t)) (term_of xs) (term_of s) (term_of b)
 term_of (term.Store' t p a) = terms.Store (element_ty (ty_of t)) (term_of a)
 term_of (term.Copy' s t p a) = terms.Copy (space_of s) (ty_at [] (ty_of t)) (term_of a)
+
+-- a map
+abbrev pub map_of : Map → Lowered
+map_of m =
+    terms.Map (kind_of m.kind) m.length (load_set_of m.loads) (term_of m.array) (term_of m.body)
+
+-- a fold
+abbrev pub fold_of : Fold → Lowered
+fold_of f =
+    terms.Fold f.length (load_set_of f.loads) (element_ty (ty_of f.accumulator)) (term_of f.array)
+    (term_of f.start) (term_of f.body)

@@ -17,7 +17,7 @@ ghost use Rattle.lowering.specs.Terms.{kind_of, term_of};
 use crate::loads::loads;
 use crate::place::{Place, is_element};
 use crate::strides::{by_product, product};
-use crate::term::{Kind, Layout, Space, Term};
+use crate::term::{Fold, Kind, Layout, Map, Space, Term};
 use lift_tree::layout as forms;
 use lift_tree::length::Product;
 use lift_tree::term::{BinaryForm, MapKind, Operator, Term as Source, UnaryForm};
@@ -260,17 +260,22 @@ fn mapped(
     map_kind: MapKind,
     ty: &Ty,
     source: &Source,
-    array: Box<Term>,
-    body: Box<Term>,
+    array: Term,
+    body: Term,
 ) -> Result<Term, AllocError>
     ensures { IfOk result (λ t. term_of t
         ≡ terms.Map (spec.kind_of map_kind) (at.outer_of (ty_of ty.now))
         (spec.named 0 (spec.element_of (ty_of ty.now)) [] (tree_of source.now))
-        (term_of array.value) (term_of body.value)) }
+        (term_of array) (term_of body)) }
 {
-    let loads = loads(alloc, elements(ty), source)?;
-    let length = length(alloc, ty)?;
-    Ok(Term::Map(kind(map_kind), length, loads, array, body))
+    let map = Map {
+        kind: kind(map_kind),
+        length: length(alloc, ty)?,
+        loads: loads(alloc, elements(ty), source)?,
+        array,
+        body,
+    };
+    Ok(Term::Map(Box::new(alloc, map)?))
 }
 
 // A fold over an array of this type with an accumulator of that type,
@@ -280,19 +285,24 @@ fn folded(
     ty: &Ty,
     accumulator: &Ty,
     source: &Source,
-    array: Box<Term>,
-    start: Box<Term>,
-    body: Box<Term>,
+    array: Term,
+    start: Term,
+    body: Term,
 ) -> Result<Term, AllocError>
     ensures { IfOk result (λ t. term_of t ≡ terms.Fold (at.outer_of (ty_of ty.now))
         (spec.named 0 (spec.element_of (ty_of ty.now)) [] (tree_of source.now))
         (spec.element_ty (ty_of accumulator.now))
-        (term_of array.value) (term_of start.value) (term_of body.value)) }
+        (term_of array) (term_of start) (term_of body)) }
 {
-    let loads = loads(alloc, elements(ty), source)?;
-    let length = length(alloc, ty)?;
-    let accumulator = accumulator.copy(alloc)?;
-    Ok(Term::Fold(length, loads, accumulator, array, start, body))
+    let fold = Fold {
+        length: length(alloc, ty)?,
+        loads: loads(alloc, elements(ty), source)?,
+        accumulator: accumulator.copy(alloc)?,
+        array,
+        start,
+        body,
+    };
+    Ok(Term::Fold(Box::new(alloc, fold)?))
 }
 
 #[cycle(lowering)]
@@ -348,14 +358,14 @@ fn lower_at(
             placed_element(alloc, place, ty, whole)
         }
         (Source::Map(map_kind, a, b), NodeTypes::Two(_, n, m)) => {
-            let array = boxed(alloc, names, Place::Argument, a, n)?;
-            let body = boxed(alloc, names, Place::Written, b, m)?;
+            let array = lower_at(alloc, names, Place::Argument, a, n)?;
+            let body = lower_at(alloc, names, Place::Written, b, m)?;
             mapped(alloc, *map_kind, n.own_type(), b, array, body)
         }
         (Source::Fold(_, a, b, c), NodeTypes::Three(_, n, m, k)) => {
-            let array = boxed(alloc, names, Place::Argument, a, n)?;
-            let start = boxed(alloc, names, Place::Element, b, m)?;
-            let body = boxed(alloc, names, Place::Element, c, k)?;
+            let array = lower_at(alloc, names, Place::Argument, a, n)?;
+            let start = lower_at(alloc, names, Place::Element, b, m)?;
+            let body = lower_at(alloc, names, Place::Element, c, k)?;
             folded(alloc, n.own_type(), m.own_type(), c, array, start, body)
         }
         _ => Ok(Term::Literal(0)),

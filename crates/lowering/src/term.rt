@@ -42,8 +42,33 @@ pub struct Layout {
     pub operand: Ty,
 }
 
+/// A map over an array of this length, whose body stands under one binder.
+#[cycle(terms)]
+#[derive(Drop)]
+pub struct Map {
+    pub kind: Kind,
+    pub length: Poly,
+    pub loads: LoadSet,
+    pub array: Term,
+    pub body: Term,
+}
+
+/// A fold over an array of this length, with an accumulator of this type, whose body stands under
+/// two binders.
+#[cycle(terms)]
+#[derive(Drop)]
+pub struct Fold {
+    pub length: Poly,
+    pub loads: LoadSet,
+    pub accumulator: Ty,
+    pub array: Term,
+    pub start: Term,
+    pub body: Term,
+}
+
 /// A term. A binder is counted from the nearest, which is 0; a fold binds the
 /// element, then the accumulator.
+#[cycle(terms)]
 #[derive(Drop)]
 pub enum Term {
     Literal(u32),
@@ -64,11 +89,8 @@ pub enum Term {
     LetArray(Box<Term>, Box<Term>),
     /// The value, an element of this type, and the body under one binder.
     LetElement(Ty, Box<Term>, Box<Term>),
-    /// Over an array of this length: the array, and the body under one binder.
-    Map(Kind, Poly, LoadSet, Box<Term>, Box<Term>),
-    /// Over an array of this length, with an accumulator of this type: the array, the start, and
-    /// the body under two binders.
-    Fold(Poly, LoadSet, Ty, Box<Term>, Box<Term>, Box<Term>),
+    Map(Box<Map>),
+    Fold(Box<Fold>),
     /// An element of this type, in writing position.
     Store(Ty, Box<Term>),
     /// A copy of a value of this type, whose lengths name no size.

@@ -2,9 +2,9 @@
 use Rattle.std.proofs.Common.{◌≡◌, ℕ, ◌+◌, ◌-◌, ◌<◌, ◌≤◌, suc, max, List, [], ◌∷◌, ◌++◌, length, get_or, drop, sym, ap, ◌∙◌, arith, append_assoc}
 use Rattle.std.specs.Prelude.{map}
 use Rattle.std.proofs.lemmas.List.{append-nil, drop_more}
-use Rattle.kernel_tree.specs.Code.{Code, End, Assigns, Loads, Stores, AssignsFour, LoadsFour, StoresFour, Loops, Guards, Syncs}
+use Rattle.kernel_tree.specs.Code.{Code, End, Performs, Loops, Guards}
 use Rattle.ndrange_machine.specs.declared.line.Line as held
-use Rattle.ndrange_machine.specs.Lines.{Line, Assign, Load, Store, AssignFour, LoadFour, StoreFour, Test, Head, Tail, Barrier, past_line, lines_at, exit_of, past_if, depth}
+use Rattle.ndrange_machine.specs.Lines.{Line, Does, Test, Head, Tail, past_line, lines_at, exit_of, past_if, depth}
 use Rattle.ndrange_machine.specs.Wants.{text_of}
 
 -- an item is inside some loops and was in most, and these lines follow
@@ -14,12 +14,9 @@ deepest inside most (l ∷ ls) = deepest (past_line l inside) (max most (past_li
 
 deepest_past : (inside most n : ℕ) (code : Code) (rest : List Line) → inside ≤ most → deepest inside most (lines_at n code ++ rest) ≡ deepest inside (max most (inside + depth code)) rest
 deepest_past inside most n End rest h = let e : most ≡ max most (inside + 0) = omega arith in ap (λ m. deepest inside m rest) e
-deepest_past inside most n (Assigns v e after) rest h = let q : max most inside ≡ most = omega arith in ap (λ m. deepest inside m (lines_at (suc n) after ++ rest)) q ∙ deepest_past inside most (suc n) after rest h
-deepest_past inside most n (Loads v a i after) rest h = let q : max most inside ≡ most = omega arith in ap (λ m. deepest inside m (lines_at (suc n) after ++ rest)) q ∙ deepest_past inside most (suc n) after rest h
-deepest_past inside most n (Stores a i e after) rest h = let q : max most inside ≡ most = omega arith in ap (λ m. deepest inside m (lines_at (suc n) after ++ rest)) q ∙ deepest_past inside most (suc n) after rest h
-deepest_past inside most n (AssignsFour v e after) rest h = let q : max most inside ≡ most = omega arith in ap (λ m. deepest inside m (lines_at (suc n) after ++ rest)) q ∙ deepest_past inside most (suc n) after rest h
-deepest_past inside most n (LoadsFour v a i after) rest h = let q : max most inside ≡ most = omega arith in ap (λ m. deepest inside m (lines_at (suc n) after ++ rest)) q ∙ deepest_past inside most (suc n) after rest h
-deepest_past inside most n (StoresFour a i e after) rest h = let q : max most inside ≡ most = omega arith in ap (λ m. deepest inside m (lines_at (suc n) after ++ rest)) q ∙ deepest_past inside most (suc n) after rest h
+deepest_past inside most n (Performs s after) rest h =
+    let q : max most inside ≡ most = omega arith in
+    ap (λ m. deepest inside m (lines_at (suc n) after ++ rest)) q ∙ deepest_past inside most (suc n) after rest h
 deepest_past inside most n (Guards s b body after) rest h =
     let q : max most inside ≡ most = omega arith in
     let m = max most (inside + depth body) in
@@ -29,7 +26,6 @@ deepest_past inside most n (Guards s b body after) rest h =
     ∙ deepest_past inside most (suc n) body (lines_at (past_if n body) after ++ rest) h
     ∙ deepest_past inside m (past_if n body) after rest (omega arith)
     ∙ ap (λ k. deepest inside k rest) same
-deepest_past inside most n (Syncs x y after) rest h = let q : max most inside ≡ most = omega arith in ap (λ m. deepest inside m (lines_at (suc n) after ++ rest)) q ∙ deepest_past inside most (suc n) after rest h
 deepest_past inside most n (Loops s b c body after) rest h =
     let m = max most (inside + 1) in
     let tail = Tail n ∷ lines_at (exit_of n body) after in
@@ -55,11 +51,5 @@ deepest_on inside most ls i l lt e = ap (λ z. deepest inside most (map text_of 
 pub past_low : (l : Line) (inside : ℕ) → past_line l inside ≤ inside + 1
 past_low (Head s b c exit) inside = omega arith
 past_low (Tail head) inside = omega arith
-past_low (Assign v e) inside = omega arith
-past_low (Load v a i) inside = omega arith
-past_low (Store a i e) inside = omega arith
-past_low (AssignFour v e) inside = omega arith
-past_low (LoadFour v a i) inside = omega arith
-past_low (StoreFour a i e) inside = omega arith
 past_low (Test s b exit) inside = omega arith
-past_low (Barrier p q) inside = omega arith
+past_low (Does s) inside = omega arith

@@ -1,20 +1,20 @@
 -- What the machine's lines want is what the work-item does next.
 use Rattle.std.proofs.Common.{◌≡◌, ℕ, ◌+◌, ◌-◌, ◌%◌, ◌<◌, ◌≤◌, ◌^◌, zero, suc, List, [], ◌∷◌, ◌++◌, length, take, Option, Some, None, Bool, true, false, refl, sym, ap, ◌∙◌, subst, arith, add-one, length-append}
+use Rattle.std.proofs.lemmas.Option.{slice_get_past}
 use Rattle.std.specs.Prelude.{map, slice_get, slice_set, nat_lt, if◌then◌else◌}
 use Rattle.std.proofs.lemmas.List.{length-map, map-append, take_at, set_at}
 use Rattle.std.proofs.lemmas.Bool.{lt-ltb, ltb-true}
 use Rattle.kernel_tree.specs.declared.tree.Expr.{Expr}
-use Rattle.kernel_tree.specs.declared.tree.Lanes as held_lanes
 use Rattle.kernel_tree.specs.declared.tree.Array as held_array
 use Rattle.kernel_tree.specs.declared.tree.Start as held_start
 use Rattle.kernel_tree.specs.declared.tree.Stride as held_stride
 use Rattle.kernel_tree.specs.declared.events.FaultKind.{FaultKind}
 use Rattle.kernel_tree.specs.declared.events.FaultKind.TheVariants.{Race, OutOfRange, ZeroDivisor, Divergent, LoopWrap}
-use Rattle.kernel_tree.specs.Formula.{Formula, Lanes, Ids, Four, Vars, set_word, set_vector, value, bound_value, lanes_value}
-use Rattle.kernel_tree.specs.Code.{Array, Start, Stride, start_value, stride_value, Code, End, Assigns, Loads, Stores, AssignsFour, LoadsFour, StoresFour, Loops, Guards, Syncs, then_rest}
+use Rattle.kernel_tree.specs.Formula.{Formula, Ids, Four, Vars, set_word, set_vector, value, bound_value, lanes_value}
+use Rattle.kernel_tree.specs.Code.{Start, Stride, start_value, stride_value, Statement, Code, End, Performs, Loops, Guards, then_rest}
 use Rattle.kernel_tree.specs.Tree.{formula_of, lanes_of, array_of, start_of, stride_of}
 use Rattle.kernel_tree.specs.Item as kernel_item
-use Rattle.kernel_tree.specs.Item.{Frame, Item, item, loop_variables, Wants, with_value, tested, next_turn, next_at}
+use Rattle.kernel_tree.specs.Item.{Frame, Item, item, loop_variables, Wants, with_value, tested, next_turn, perform, next_at}
 use Rattle.ndrange_machine.specs.declared.line.Line as held
 use Rattle.ndrange_machine.specs.declared.line.Line.TheVariants as held_line
 use Rattle.ndrange_machine.specs.declared.change.Change.TheVariants.{Sets, SetsFour, Begins, Repeats, Leaves, Keeps}
@@ -25,12 +25,11 @@ use Rattle.ndrange_machine.specs.declared.want.Want.TheVariants.{Ends, Waits, Fa
 use Rattle.ndrange_machine.specs.Changes.{changed}
 use Rattle.ndrange_machine.specs.ItemView.{ItemView}
 use Rattle.ndrange_machine.specs.Known.{four_of, held_four, turn_of, turns_of, variables}
-use Rattle.ndrange_machine.specs.Lines.{Line, Assign, Load, Store, AssignFour, LoadFour, StoreFour, Test, Head, Tail, Barrier, depth, exit_of, past_if, head_of, IsAt, HaveRoom, AreNumbered}
+use Rattle.ndrange_machine.specs.Lines.{Line, Does, Test, Head, Tail, depth, exit_of, past_if, head_of, IsAt, HaveRoom, AreNumbered}
 use Rattle.ndrange_machine.specs.Stands.{HoldsItem}
 use Rattle.ndrange_machine.specs.Wants.{text_of, last_of, want_if, turn_after, want_head, want_test, want_turn, want_last, want_back, want_in, wanted}
-use Rattle.ndrange_machine.proofs.Places.{drop_here, drop_within, drop_beyond, frame, depth-then}
+use Rattle.ndrange_machine.proofs.Places.{drop_within, drop_beyond, frame, depth-then}
 use Rattle.ndrange_machine.proofs.Places as places
-use Rattle.ndrange_machine.proofs.Rows.{get_beyond}
 
 -- the machine holds a work-item whole
 pub record Stands (lines : List Line) (it : ItemView) (x : Item) : Type 0 where
@@ -65,30 +64,6 @@ length_turns [] = refl
 length_turns (f ∷ fs) = length-append (turns_of fs) (turn_of f ∷ []) ∙ (let a = length_turns fs in omega arith)
 
 -- a line by its text
-is_assign : (l : held.Line) (v : ℕ) (e : Formula) → text_of l ≡ Assign v e → (d : Expr) × (l ≡ held_line.Assign v d) × (formula_of d ≡ e)
-is_assign (held_line.Assign w d) v e h = (d, ap (λ u. held_line.Assign u d) cc, cc)
-is_assign _ v e h = cc
-
-is_load : (l : held.Line) (v : ℕ) (a : Array) (e : Formula) → text_of l ≡ Load v a e → (b : held_array.Array) × (d : Expr) × (l ≡ held_line.Load v b d) × (array_of b ≡ a) × (formula_of d ≡ e)
-is_load (held_line.Load w b d) v a e h = (b, d, ap (λ u. held_line.Load u b d) cc, cc, cc)
-is_load _ v a e h = cc
-
-is_store : (l : held.Line) (a : Array) (i e : Formula) → text_of l ≡ Store a i e → (b : held_array.Array) × (j d : Expr) × (l ≡ held_line.Store b j d) × (array_of b ≡ a) × (formula_of j ≡ i) × (formula_of d ≡ e)
-is_store (held_line.Store b j d) a i e h = (b, j, d, refl, cc, cc, cc)
-is_store _ a i e h = cc
-
-is_assign_four : (l : held.Line) (v : ℕ) (e : Lanes) → text_of l ≡ AssignFour v e → (d : held_lanes.Lanes) × (l ≡ held_line.AssignFour v d) × (lanes_of d ≡ e)
-is_assign_four (held_line.AssignFour w d) v e h = (d, ap (λ u. held_line.AssignFour u d) cc, cc)
-is_assign_four _ v e h = cc
-
-is_load_four : (l : held.Line) (v : ℕ) (a : Array) (e : Formula) → text_of l ≡ LoadFour v a e → (b : held_array.Array) × (d : Expr) × (l ≡ held_line.LoadFour v b d) × (array_of b ≡ a) × (formula_of d ≡ e)
-is_load_four (held_line.LoadFour w b d) v a e h = (b, d, ap (λ u. held_line.LoadFour u b d) cc, cc, cc)
-is_load_four _ v a e h = cc
-
-is_store_four : (l : held.Line) (a : Array) (i : Formula) (e : Lanes) → text_of l ≡ StoreFour a i e → (b : held_array.Array) × (j : Expr) × (d : held_lanes.Lanes) × (l ≡ held_line.StoreFour b j d) × (array_of b ≡ a) × (formula_of j ≡ i) × (lanes_of d ≡ e)
-is_store_four (held_line.StoreFour b j d) a i e h = (b, j, d, refl, cc, cc, cc)
-is_store_four _ a i e h = cc
-
 is_test : (l : held.Line) (s : Start) (b : Formula) (n : ℕ) → text_of l ≡ Test s b n → (t : held_start.Start) × (d : Expr) × (l ≡ held_line.Test t d n) × (start_of t ≡ s) × (formula_of d ≡ b)
 is_test (held_line.Test t d m) s b n h = (t, d, ap (λ u. held_line.Test t d u) cc, cc, cc)
 is_test _ s b n h = cc
@@ -101,12 +76,8 @@ is_tail : (l : held.Line) (n : ℕ) → text_of l ≡ Tail n → l ≡ held_line
 is_tail (held_line.Tail m) n h = ap held_line.Tail cc
 is_tail _ n h = cc
 
-is_barrier : (l : held.Line) (p q : Bool) → text_of l ≡ Barrier p q → l ≡ held_line.Barrier p q
-is_barrier (held_line.Barrier a b) p q h =
-    let e : a ≡ p = cc in
-    let f : b ≡ q = cc in
-    ap (λ u. held_line.Barrier u b) e ∙ ap (held_line.Barrier p) f
-is_barrier _ p q h = cc
+same_statement : (s u : Statement) → Does s ≡ Does u → s ≡ u
+same_statement s u h = cc
 
 held_at : (ls : List held.Line) (n : ℕ) (t : Line) → slice_get (map text_of ls) n ≡ Some t → (l : held.Line) × (slice_get ls n ≡ Some l) × (text_of l ≡ t)
 held_at [] zero t h = cc
@@ -151,35 +122,50 @@ module _ (ls : List held.Line) (ids : Ids) (room : ℕ) (strides : (c : Stride) 
   }
 
   module _ (n : ℕ) (fs : List Frame) (vars : Vars) (within : n < length (map text_of ls)) where
-    if_sets : (v : ℕ) (after : Code) → Fits fs after → ((new : Vars) → IsAt (map text_of ls) (suc n) (item after fs new)) → (o : Option ℕ) → IsNext (map text_of ls) (view n fs vars) (want_if o (λ x. Changes (Sets v x) (n + 1))) (with_value o (λ x. kernel_item.Moves (item after fs (set_word vars v x))))
-    if_sets v after fits at None = (refl, within, tt)
-    if_sets v after fits at (Some x) = (item after fs (set_word vars v x), refl, on n after fs (set_word vars v x) fits (at (set_word vars v x)), within)
+    -- at a line that is a statement without a block, whatever holds it
+    module _ (after : Code) (fits : Fits fs after) (at : (new : Vars) → IsAt (map text_of ls) (suc n) (item after fs new)) where
+      onward : (new : Vars) → Stands (map text_of ls) (view (n + 1) fs new) (item after fs new)
+      onward new = on n after fs new fits (at new)
 
-    if_reads : (v : ℕ) (b : held_array.Array) (a : Array) (after : Code) → array_of b ≡ a → Fits fs after → ((new : Vars) → IsAt (map text_of ls) (suc n) (item after fs new)) → (o : Option ℕ) → IsNext (map text_of ls) (view n fs vars) (want_if o (λ i. Reads v b i (n + 1))) (with_value o (λ i. kernel_item.Reads a i (λ x. item after fs (set_word vars v x))))
-    if_reads v b a after e fits at None = (refl, within, tt)
-    if_reads v b a after e fits at (Some i) =
-        let f : ℕ → Item = λ x. item after fs (set_word vars v x) in
-        (f, ap (λ z. kernel_item.Reads z i f) (sym e), λ y. on n after fs (set_word vars v y) fits (at (set_word vars v y)), within)
+      if_sets : (v : ℕ) (o : Option ℕ) → IsNext (map text_of ls) (view n fs vars) (want_if o (λ x. Changes (Sets v x) (n + 1))) (with_value o (λ x. kernel_item.Moves (item after fs (set_word vars v x))))
+      if_sets v None = (refl, within, tt)
+      if_sets v (Some x) = (item after fs (set_word vars v x), refl, onward (set_word vars v x), within)
 
-    if_writes : (b : held_array.Array) (a : Array) (after : Code) → array_of b ≡ a → Fits fs after → IsAt (map text_of ls) (suc n) (item after fs vars) → (o p : Option ℕ) → IsNext (map text_of ls) (view n fs vars) (want_if o (λ i. want_if p (λ x. Writes b i x (n + 1)))) (with_value o (λ i. with_value p (λ x. kernel_item.Writes a i x (item after fs vars))))
-    if_writes b a after e fits at None p = (refl, within, tt)
-    if_writes b a after e fits at (Some i) None = (refl, within, tt)
-    if_writes b a after e fits at (Some i) (Some x) = (item after fs vars, ap (λ z. kernel_item.Writes z i x (item after fs vars)) (sym e), on n after fs vars fits at, within)
+      if_reads : (v : ℕ) (a : held_array.Array) (o : Option ℕ) → IsNext (map text_of ls) (view n fs vars) (want_if o (λ i. Reads v a i (n + 1))) (with_value o (λ i. kernel_item.Reads (array_of a) i (λ x. item after fs (set_word vars v x))))
+      if_reads v a None = (refl, within, tt)
+      if_reads v a (Some i) = ((λ x. item after fs (set_word vars v x)), refl, λ x. onward (set_word vars v x), within)
 
-    if_sets_four : (v : ℕ) (after : Code) → Fits fs after → ((new : Vars) → IsAt (map text_of ls) (suc n) (item after fs new)) → (o : Option Four) → IsNext (map text_of ls) (view n fs vars) (want_if o (λ u. Changes (SetsFour v (held_four u)) (n + 1))) (with_value o (λ u. kernel_item.Moves (item after fs (set_vector vars v u))))
-    if_sets_four v after fits at None = (refl, within, tt)
-    if_sets_four v after fits at (Some u) = (item after fs (set_vector vars v u), refl, on n after fs (set_vector vars v u) fits (at (set_vector vars v u)), within)
+      if_writes : (a : held_array.Array) (o p : Option ℕ) → IsNext (map text_of ls) (view n fs vars) (want_if o (λ i. want_if p (λ x. Writes a i x (n + 1)))) (with_value o (λ i. with_value p (λ x. kernel_item.Writes (array_of a) i x (item after fs vars))))
+      if_writes a None p = (refl, within, tt)
+      if_writes a (Some i) None = (refl, within, tt)
+      if_writes a (Some i) (Some x) = (item after fs vars, refl, onward vars, within)
 
-    if_reads_four : (v : ℕ) (b : held_array.Array) (a : Array) (after : Code) → array_of b ≡ a → Fits fs after → ((new : Vars) → IsAt (map text_of ls) (suc n) (item after fs new)) → (o : Option ℕ) → IsNext (map text_of ls) (view n fs vars) (want_if o (λ i. ReadsFour v b i (n + 1))) (with_value o (λ i. kernel_item.ReadsFour a i (λ u. item after fs (set_vector vars v u))))
-    if_reads_four v b a after e fits at None = (refl, within, tt)
-    if_reads_four v b a after e fits at (Some i) =
-        let f : Four → Item = λ u. item after fs (set_vector vars v u) in
-        (f, ap (λ z. kernel_item.ReadsFour z i f) (sym e), λ u. on n after fs (set_vector vars v (four_of u)) fits (at (set_vector vars v (four_of u))), within)
+      if_sets_four : (v : ℕ) (o : Option Four) → IsNext (map text_of ls) (view n fs vars) (want_if o (λ u. Changes (SetsFour v (held_four u)) (n + 1))) (with_value o (λ u. kernel_item.Moves (item after fs (set_vector vars v u))))
+      if_sets_four v None = (refl, within, tt)
+      if_sets_four v (Some u) = (item after fs (set_vector vars v u), refl, onward (set_vector vars v u), within)
 
-    if_writes_four : (b : held_array.Array) (a : Array) (after : Code) → array_of b ≡ a → Fits fs after → IsAt (map text_of ls) (suc n) (item after fs vars) → (o : Option ℕ) (p : Option Four) → IsNext (map text_of ls) (view n fs vars) (want_if o (λ i. want_if p (λ u. WritesFour b i (held_four u) (n + 1)))) (with_value o (λ i. with_value p (λ u. kernel_item.WritesFour a i u (item after fs vars))))
-    if_writes_four b a after e fits at None p = (refl, within, tt)
-    if_writes_four b a after e fits at (Some i) None = (refl, within, tt)
-    if_writes_four b a after e fits at (Some i) (Some u) = (item after fs vars, ap (λ z. kernel_item.WritesFour z i u (item after fs vars)) (sym e), on n after fs vars fits at, within)
+      if_reads_four : (v : ℕ) (a : held_array.Array) (o : Option ℕ) → IsNext (map text_of ls) (view n fs vars) (want_if o (λ i. ReadsFour v a i (n + 1))) (with_value o (λ i. kernel_item.ReadsFour (array_of a) i (λ u. item after fs (set_vector vars v u))))
+      if_reads_four v a None = (refl, within, tt)
+      if_reads_four v a (Some i) = ((λ u. item after fs (set_vector vars v u)), refl, λ u. onward (set_vector vars v (four_of u)), within)
+
+      if_writes_four : (a : held_array.Array) (o : Option ℕ) (p : Option Four) → IsNext (map text_of ls) (view n fs vars) (want_if o (λ i. want_if p (λ u. WritesFour a i (held_four u) (n + 1)))) (with_value o (λ i. with_value p (λ u. kernel_item.WritesFour (array_of a) i u (item after fs vars))))
+      if_writes_four a None p = (refl, within, tt)
+      if_writes_four a (Some i) None = (refl, within, tt)
+      if_writes_four a (Some i) (Some u) = (item after fs vars, refl, onward vars, within)
+
+      -- what the line wants is what the statement does, by the values that the machine's turns tell
+      abbrev IsPerformed : held.Line → Statement → Type 0
+      IsPerformed l s = IsNext (map text_of ls) (view n fs vars) (want_in ls ids n (turns_of fs) vars (Some l)) (perform ids (variables (turns_of fs)) vars s (λ new. item after fs new))
+
+      performed : (l : held.Line) (s : Statement) → text_of l ≡ Does s → IsPerformed l s
+      performed (held_line.Assign v e) s h = subst (IsPerformed (held_line.Assign v e)) (same_statement _ s h) (if_sets v (value ids (variables (turns_of fs)) vars (formula_of e)))
+      performed (held_line.Load v a i) s h = subst (IsPerformed (held_line.Load v a i)) (same_statement _ s h) (if_reads v a (value ids (variables (turns_of fs)) vars (formula_of i)))
+      performed (held_line.Store a i e) s h = subst (IsPerformed (held_line.Store a i e)) (same_statement _ s h) (if_writes a (value ids (variables (turns_of fs)) vars (formula_of i)) (value ids (variables (turns_of fs)) vars (formula_of e)))
+      performed (held_line.AssignFour v e) s h = subst (IsPerformed (held_line.AssignFour v e)) (same_statement _ s h) (if_sets_four v (lanes_value ids (variables (turns_of fs)) vars (lanes_of e)))
+      performed (held_line.LoadFour v a i) s h = subst (IsPerformed (held_line.LoadFour v a i)) (same_statement _ s h) (if_reads_four v a (value ids (variables (turns_of fs)) vars (formula_of i)))
+      performed (held_line.StoreFour a i e) s h = subst (IsPerformed (held_line.StoreFour a i e)) (same_statement _ s h) (if_writes_four a (value ids (variables (turns_of fs)) vars (formula_of i)) (lanes_value ids (variables (turns_of fs)) vars (lanes_of e)))
+      performed (held_line.Barrier p q) s h = subst (IsPerformed (held_line.Barrier p q)) (same_statement _ s h) (item after fs vars, refl, onward vars, within)
+      performed _ s h = cc
 
     if_tests : (x exit : ℕ) (inside after : Code) → Fits fs inside → Fits fs after → IsAt (map text_of ls) (suc n) (item inside fs vars) → IsAt (map text_of ls) exit (item after fs vars) → (o : Option ℕ)
         → IsNext (map text_of ls) (view n fs vars) (want_if o (λ k. if nat_lt x k then Changes Keeps (n + 1) else Changes Keeps exit)) (with_value o (λ k. kernel_item.Moves (if nat_lt x k then item inside fs vars else item after fs vars)))
@@ -245,7 +231,7 @@ module _ (ls : List held.Line) (ids : Ids) (room : ℕ) (strides : (c : Stride) 
   is_next n End [] vars h =
       let le : length (map text_of ls) ≤ n = drop_beyond (map text_of ls) n h.place.from in
       let same = length-map ls text_of in
-      let e : wanted ls ids (view n [] vars) ≡ Ends = ap (want_in ls ids n [] vars) (get_beyond ls n (omega arith)) in
+      let e : wanted ls ids (view n [] vars) ≡ Ends = ap (want_in ls ids n [] vars) (slice_get_past ls n (omega arith)) in
       subst (λ z. IsNext (map text_of ls) (view n [] vars) z kernel_item.Ends) (sym e) (refl, le)
   is_next n End (f ∷ fs) vars h =
       let at = h.place in
@@ -270,62 +256,12 @@ module _ (ls : List held.Line) (ids : Ids) (room : ℕ) (strides : (c : Stride) 
       ((omega arith, h.numbered.1), r.0, (r.0, r.1, r.2))
       (h.numbered.1, r.1, r.2)
       (places.repeats (map text_of ls) n f fs vars at (suc f.turn) y) (places.leaves (map text_of ls) n f fs vars at) (bound_value ids.sizes f.bound))
-  is_next n (Assigns v e after) fs vars h =
+  is_next n (Performs s after) fs vars h =
       let at = h.place in
-      let l = held_at ls n (Assign v e) (drop_here (map text_of ls) n (Assign v e) _ at.from) in
-      let i = is_assign l.0 v e l.2 in
-      let w : wanted ls ids (view n fs vars) ≡ want_if (value ids (loop_variables fs) vars e) (λ x. Changes (Sets v x) (n + 1)) =
-      ap (want_in ls ids n (turns_of fs) vars) (l.1 ∙ ap Some i.1) ∙ ap (λ o. want_if o (λ x. Changes (Sets v x) (n + 1))) (ap (λ z. value ids z vars (formula_of i.0)) (variables_of fs) ∙ ap (value ids (loop_variables fs) vars) i.2) in
-      subst (λ z. IsNext (map text_of ls) (view n fs vars) z (next_at ids (Assigns v e after) fs vars)) (sym w)
-      (if_sets n fs vars (drop_within (map text_of ls) n (Assign v e) _ at.from) v after (h.numbered, h.room, h.rooms) (λ new. places.goes_on (map text_of ls) n (Assign v e) (Assigns v e after) after fs vars new refl refl at) (value ids (loop_variables fs) vars e))
-  is_next n (Loads v a e after) fs vars h =
-      let at = h.place in
-      let l = held_at ls n (Load v a e) (drop_here (map text_of ls) n (Load v a e) _ at.from) in
-      let i = is_load l.0 v a e l.2 in
-      let w : wanted ls ids (view n fs vars) ≡ want_if (value ids (loop_variables fs) vars e) (λ x. Reads v i.0 x (n + 1)) =
-      ap (want_in ls ids n (turns_of fs) vars) (l.1 ∙ ap Some i.2) ∙ ap (λ o. want_if o (λ x. Reads v i.0 x (n + 1))) (ap (λ z. value ids z vars (formula_of i.1)) (variables_of fs) ∙ ap (value ids (loop_variables fs) vars) i.4) in
-      subst (λ z. IsNext (map text_of ls) (view n fs vars) z (next_at ids (Loads v a e after) fs vars)) (sym w)
-      (if_reads n fs vars (drop_within (map text_of ls) n (Load v a e) _ at.from) v i.0 a after i.3 (h.numbered, h.room, h.rooms) (λ new. places.goes_on (map text_of ls) n (Load v a e) (Loads v a e after) after fs vars new refl refl at) (value ids (loop_variables fs) vars e))
-  is_next n (Stores a e d after) fs vars h =
-      let at = h.place in
-      let loops = loop_variables fs in
-      let l = held_at ls n (Store a e d) (drop_here (map text_of ls) n (Store a e d) _ at.from) in
-      let i = is_store l.0 a e d l.2 in
-      let w : wanted ls ids (view n fs vars) ≡ want_if (value ids loops vars e) (λ j. want_if (value ids loops vars d) (λ x. Writes i.0 j x (n + 1))) =
-      ap (want_in ls ids n (turns_of fs) vars) (l.1 ∙ ap Some i.3)
-      ∙ ap (λ z. want_if (value ids z vars (formula_of i.1)) (λ j. want_if (value ids z vars (formula_of i.2)) (λ x. Writes i.0 j x (n + 1)))) (variables_of fs)
-      ∙ ap (λ z. want_if (value ids loops vars z) (λ j. want_if (value ids loops vars (formula_of i.2)) (λ x. Writes i.0 j x (n + 1)))) i.5
-      ∙ ap (λ z. want_if (value ids loops vars e) (λ j. want_if (value ids loops vars z) (λ x. Writes i.0 j x (n + 1)))) i.6 in
-      subst (λ z. IsNext (map text_of ls) (view n fs vars) z (next_at ids (Stores a e d after) fs vars)) (sym w)
-      (if_writes n fs vars (drop_within (map text_of ls) n (Store a e d) _ at.from) i.0 a after i.4 (h.numbered, h.room, h.rooms) (places.goes_on (map text_of ls) n (Store a e d) (Stores a e d after) after fs vars vars refl refl at) (value ids loops vars e) (value ids loops vars d))
-  is_next n (AssignsFour v e after) fs vars h =
-      let at = h.place in
-      let l = held_at ls n (AssignFour v e) (drop_here (map text_of ls) n (AssignFour v e) _ at.from) in
-      let i = is_assign_four l.0 v e l.2 in
-      let w : wanted ls ids (view n fs vars) ≡ want_if (lanes_value ids (loop_variables fs) vars e) (λ u. Changes (SetsFour v (held_four u)) (n + 1)) =
-      ap (want_in ls ids n (turns_of fs) vars) (l.1 ∙ ap Some i.1) ∙ ap (λ o. want_if o (λ u. Changes (SetsFour v (held_four u)) (n + 1))) (ap (λ z. lanes_value ids z vars (lanes_of i.0)) (variables_of fs) ∙ ap (lanes_value ids (loop_variables fs) vars) i.2) in
-      subst (λ z. IsNext (map text_of ls) (view n fs vars) z (next_at ids (AssignsFour v e after) fs vars)) (sym w)
-      (if_sets_four n fs vars (drop_within (map text_of ls) n (AssignFour v e) _ at.from) v after (h.numbered, h.room, h.rooms) (λ new. places.goes_on (map text_of ls) n (AssignFour v e) (AssignsFour v e after) after fs vars new refl refl at) (lanes_value ids (loop_variables fs) vars e))
-  is_next n (LoadsFour v a e after) fs vars h =
-      let at = h.place in
-      let l = held_at ls n (LoadFour v a e) (drop_here (map text_of ls) n (LoadFour v a e) _ at.from) in
-      let i = is_load_four l.0 v a e l.2 in
-      let w : wanted ls ids (view n fs vars) ≡ want_if (value ids (loop_variables fs) vars e) (λ x. ReadsFour v i.0 x (n + 1)) =
-      ap (want_in ls ids n (turns_of fs) vars) (l.1 ∙ ap Some i.2) ∙ ap (λ o. want_if o (λ x. ReadsFour v i.0 x (n + 1))) (ap (λ z. value ids z vars (formula_of i.1)) (variables_of fs) ∙ ap (value ids (loop_variables fs) vars) i.4) in
-      subst (λ z. IsNext (map text_of ls) (view n fs vars) z (next_at ids (LoadsFour v a e after) fs vars)) (sym w)
-      (if_reads_four n fs vars (drop_within (map text_of ls) n (LoadFour v a e) _ at.from) v i.0 a after i.3 (h.numbered, h.room, h.rooms) (λ new. places.goes_on (map text_of ls) n (LoadFour v a e) (LoadsFour v a e after) after fs vars new refl refl at) (value ids (loop_variables fs) vars e))
-  is_next n (StoresFour a e d after) fs vars h =
-      let at = h.place in
-      let loops = loop_variables fs in
-      let l = held_at ls n (StoreFour a e d) (drop_here (map text_of ls) n (StoreFour a e d) _ at.from) in
-      let i = is_store_four l.0 a e d l.2 in
-      let w : wanted ls ids (view n fs vars) ≡ want_if (value ids loops vars e) (λ j. want_if (lanes_value ids loops vars d) (λ u. WritesFour i.0 j (held_four u) (n + 1))) =
-      ap (want_in ls ids n (turns_of fs) vars) (l.1 ∙ ap Some i.3)
-      ∙ ap (λ z. want_if (value ids z vars (formula_of i.1)) (λ j. want_if (lanes_value ids z vars (lanes_of i.2)) (λ u. WritesFour i.0 j (held_four u) (n + 1)))) (variables_of fs)
-      ∙ ap (λ z. want_if (value ids loops vars z) (λ j. want_if (lanes_value ids loops vars (lanes_of i.2)) (λ u. WritesFour i.0 j (held_four u) (n + 1)))) i.5
-      ∙ ap (λ z. want_if (value ids loops vars e) (λ j. want_if (lanes_value ids loops vars z) (λ u. WritesFour i.0 j (held_four u) (n + 1)))) i.6 in
-      subst (λ z. IsNext (map text_of ls) (view n fs vars) z (next_at ids (StoresFour a e d after) fs vars)) (sym w)
-      (if_writes_four n fs vars (drop_within (map text_of ls) n (StoreFour a e d) _ at.from) i.0 a after i.4 (h.numbered, h.room, h.rooms) (places.goes_on (map text_of ls) n (StoreFour a e d) (StoresFour a e d after) after fs vars vars refl refl at) (value ids loops vars e) (lanes_value ids loops vars d))
+      let l = held_at ls n (Does s) (places.done_here (map text_of ls) n s after fs vars at) in
+      let is = performed n fs vars (places.done_within (map text_of ls) n s after fs vars at) after (h.numbered, h.room, h.rooms) (places.goes_on (map text_of ls) n s after fs vars at) l.0 s l.2 in
+      subst (λ o. IsNext (map text_of ls) (view n fs vars) (want_in ls ids n (turns_of fs) vars o) (next_at ids (Performs s after) fs vars)) (sym l.1)
+      (subst (λ z. IsNext (map text_of ls) (view n fs vars) (want_in ls ids n (turns_of fs) vars (Some l.0)) (perform ids z vars s (λ new. item after fs new))) (variables_of fs) is)
   is_next n (Guards s b body after) fs vars h =
       let at = h.place in
       let exit = past_if n body in
@@ -362,12 +298,6 @@ module _ (ls : List held.Line) (ids : Ids) (room : ℕ) (strides : (c : Stride) 
       ((omega arith, h.numbered), inner, (inner, outer, h.rooms))
       (h.numbered, outer, h.rooms)
       (places.enters (map text_of ls) n s b c body after fs vars at 0 x) (places.passes (map text_of ls) n s b c body after fs vars at) (bound_value ids.sizes b))
-  is_next n (Syncs p q after) fs vars h =
-      let at = h.place in
-      let l = held_at ls n (Barrier p q) (drop_here (map text_of ls) n (Barrier p q) _ at.from) in
-      let w : wanted ls ids (view n fs vars) ≡ Waits p q (n + 1) = ap (want_in ls ids n (turns_of fs) vars) (l.1 ∙ ap Some (is_barrier l.0 p q l.2)) in
-      subst (λ z. IsNext (map text_of ls) (view n fs vars) z (next_at ids (Syncs p q after) fs vars)) (sym w)
-      (item after fs vars, refl, on n after fs vars (h.numbered, h.room, h.rooms) (places.goes_on (map text_of ls) n (Barrier p q) (Syncs p q after) after fs vars vars refl refl at), drop_within (map text_of ls) n (Barrier p q) _ at.from)
 
 -- whatever the work-item, and whatever holds the text
 pub next_is : (ls : List held.Line) (ids : Ids) → ((c : Stride) → 0 < stride_value ids c) → (it : ItemView) (x : Item) → Stands (map text_of ls) it x → IsNext (map text_of ls) it (wanted ls ids it) (next_at ids x.code x.frames x.vars)

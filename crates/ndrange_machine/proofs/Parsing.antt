@@ -1,28 +1,22 @@
 -- One text at one line: what is left to do there is told by the lines.
-use Rattle.std.proofs.Common.{◌≡◌, Bool, ℕ, ◌+◌, ◌-◌, ◌<◌, suc, List, [], ◌∷◌, ◌++◌, length, drop, Some, refl, sym, ap, ◌∙◌, subst, arith, append_assoc, length-append, length-drop}
+use Rattle.std.proofs.Common.{◌≡◌, ℕ, ◌+◌, ◌-◌, ◌<◌, suc, List, [], ◌∷◌, ◌++◌, length, drop, Some, refl, sym, ap, ◌∙◌, subst, arith, append_assoc, length-append, length-drop}
 use Rattle.std.specs.Prelude.{map, slice_get}
 use Rattle.std.proofs.lemmas.List.{map-append}
-use Rattle.kernel_tree.specs.Formula.{Formula, Lanes}
-use Rattle.kernel_tree.specs.Code.{Array, Start, Stride, Code, End, Assigns, Loads, Stores, AssignsFour, LoadsFour, StoresFour, Loops, Guards, Syncs}
+use Rattle.kernel_tree.specs.Formula.{Formula}
+use Rattle.kernel_tree.specs.Code.{Start, Stride, Statement, Code, End, Performs, Loops, Guards}
 use Rattle.kernel_tree.specs.Item.{Frame, Item}
-use Rattle.kernel_tree.specs.Device.{still}
+use Rattle.kernel_tree.specs.Places.{Place, place, around, untimed, place_of_item, turns_of as item_turns}
 use Rattle.ndrange_machine.specs.Known.{turn_of, turns_of, numbers}
-use Rattle.ndrange_machine.specs.Lines.{Line, Assign, Load, Store, AssignFour, LoadFour, StoreFour, Test, Head, Tail, Barrier, size, exit_of, past_if, lines_at, head_of, lines_after, IsLoop, AreLoops, IsAt}
+use Rattle.ndrange_machine.specs.Lines.{Line, Does, Test, Head, Tail, size, exit_of, past_if, lines_at, head_of, lines_after, IsLoop, AreLoops, IsAt}
 use Rattle.ndrange_machine.proofs.Laying.{length-lines_at}
 
 -- nothing, or the end of a loop's body
 abbrev Closes : List Line → Type 0
 Closes [] = Unit {0}
 Closes (Tail h ∷ xs) = Unit {0}
-Closes (Assign v e ∷ xs) = ⊥
-Closes (Load v a e ∷ xs) = ⊥
-Closes (Store a i e ∷ xs) = ⊥
-Closes (AssignFour v e ∷ xs) = ⊥
-Closes (LoadFour v a e ∷ xs) = ⊥
-Closes (StoreFour a i e ∷ xs) = ⊥
+Closes (Does s ∷ xs) = ⊥
 Closes (Test s b n ∷ xs) = ⊥
 Closes (Head s b c n ∷ xs) = ⊥
-Closes (Barrier p q ∷ xs) = ⊥
 
 closes_after : (n : ℕ) (fs : List Frame) → Closes (lines_after n fs)
 closes_after n [] = tt
@@ -35,82 +29,17 @@ unclosed xs ys c e bare = absurd (bare (subst Closes e c))
 
 at_end : (n : ℕ) (zs : List Line) (b : Code) (ys : List Line) → Closes zs → zs ≡ lines_at n b ++ ys → End ≡ b
 at_end n zs End ys c h = refl
-at_end n zs (Assigns v e r) ys c h = unclosed zs _ c h (λ z. z)
-at_end n zs (Loads v a e r) ys c h = unclosed zs _ c h (λ z. z)
-at_end n zs (Stores a i e r) ys c h = unclosed zs _ c h (λ z. z)
-at_end n zs (AssignsFour v e r) ys c h = unclosed zs _ c h (λ z. z)
-at_end n zs (LoadsFour v a e r) ys c h = unclosed zs _ c h (λ z. z)
-at_end n zs (StoresFour a i e r) ys c h = unclosed zs _ c h (λ z. z)
+at_end n zs (Performs s r) ys c h = unclosed zs _ c h (λ z. z)
 at_end n zs (Loops s p k m r) ys c h = unclosed zs _ c h (λ z. z)
 at_end n zs (Guards s p m r) ys c h = unclosed zs _ c h (λ z. z)
-at_end n zs (Syncs x y r) ys c h = unclosed zs _ c h (λ z. z)
 
-at_assign : (n : ℕ) (v : ℕ) (e : Formula) (zs : List Line) (b : Code) (ys : List Line) → Closes ys → Assign v e ∷ zs ≡ lines_at n b ++ ys → (r : Code) × (Assigns v e r ≡ b) × (zs ≡ lines_at (suc n) r ++ ys)
-at_assign n v e zs (Assigns w x r) ys c h =
-    let p : v ≡ w = cc in
-    let q : e ≡ x = cc in
+at_statement : (n : ℕ) (s : Statement) (zs : List Line) (b : Code) (ys : List Line) → Closes ys → Does s ∷ zs ≡ lines_at n b ++ ys → (r : Code) × (Performs s r ≡ b) × (zs ≡ lines_at (suc n) r ++ ys)
+at_statement n s zs (Performs u r) ys c h =
+    let p : s ≡ u = cc in
     let t : zs ≡ lines_at (suc n) r ++ ys = cc in
-    (r, ap (λ z. Assigns z e r) p ∙ ap (λ z. Assigns w z r) q, t)
-at_assign n v e zs End ys c h = unclosed ys _ c (sym h) (λ z. z)
-at_assign n v e zs _ ys c h = cc
-
-at_load : (n : ℕ) (v : ℕ) (a : Array) (e : Formula) (zs : List Line) (b : Code) (ys : List Line) → Closes ys → Load v a e ∷ zs ≡ lines_at n b ++ ys → (r : Code) × (Loads v a e r ≡ b) × (zs ≡ lines_at (suc n) r ++ ys)
-at_load n v a e zs (Loads w d x r) ys c h =
-    let p : v ≡ w = cc in
-    let o : a ≡ d = cc in
-    let q : e ≡ x = cc in
-    let t : zs ≡ lines_at (suc n) r ++ ys = cc in
-    (r, ap (λ z. Loads z a e r) p ∙ ap (λ z. Loads w z e r) o ∙ ap (λ z. Loads w d z r) q, t)
-at_load n v a e zs End ys c h = unclosed ys _ c (sym h) (λ z. z)
-at_load n v a e zs _ ys c h = cc
-
-at_store : (n : ℕ) (a : Array) (i e : Formula) (zs : List Line) (b : Code) (ys : List Line) → Closes ys → Store a i e ∷ zs ≡ lines_at n b ++ ys → (r : Code) × (Stores a i e r ≡ b) × (zs ≡ lines_at (suc n) r ++ ys)
-at_store n a i e zs (Stores d j x r) ys c h =
-    let o : a ≡ d = cc in
-    let p : i ≡ j = cc in
-    let q : e ≡ x = cc in
-    let t : zs ≡ lines_at (suc n) r ++ ys = cc in
-    (r, ap (λ z. Stores z i e r) o ∙ ap (λ z. Stores d z e r) p ∙ ap (λ z. Stores d j z r) q, t)
-at_store n a i e zs End ys c h = unclosed ys _ c (sym h) (λ z. z)
-at_store n a i e zs _ ys c h = cc
-
-at_assign_four : (n : ℕ) (v : ℕ) (e : Lanes) (zs : List Line) (b : Code) (ys : List Line) → Closes ys → AssignFour v e ∷ zs ≡ lines_at n b ++ ys → (r : Code) × (AssignsFour v e r ≡ b) × (zs ≡ lines_at (suc n) r ++ ys)
-at_assign_four n v e zs (AssignsFour w x r) ys c h =
-    let p : v ≡ w = cc in
-    let q : e ≡ x = cc in
-    let t : zs ≡ lines_at (suc n) r ++ ys = cc in
-    (r, ap (λ z. AssignsFour z e r) p ∙ ap (λ z. AssignsFour w z r) q, t)
-at_assign_four n v e zs End ys c h = unclosed ys _ c (sym h) (λ z. z)
-at_assign_four n v e zs _ ys c h = cc
-
-at_load_four : (n : ℕ) (v : ℕ) (a : Array) (e : Formula) (zs : List Line) (b : Code) (ys : List Line) → Closes ys → LoadFour v a e ∷ zs ≡ lines_at n b ++ ys → (r : Code) × (LoadsFour v a e r ≡ b) × (zs ≡ lines_at (suc n) r ++ ys)
-at_load_four n v a e zs (LoadsFour w d x r) ys c h =
-    let p : v ≡ w = cc in
-    let o : a ≡ d = cc in
-    let q : e ≡ x = cc in
-    let t : zs ≡ lines_at (suc n) r ++ ys = cc in
-    (r, ap (λ z. LoadsFour z a e r) p ∙ ap (λ z. LoadsFour w z e r) o ∙ ap (λ z. LoadsFour w d z r) q, t)
-at_load_four n v a e zs End ys c h = unclosed ys _ c (sym h) (λ z. z)
-at_load_four n v a e zs _ ys c h = cc
-
-at_store_four : (n : ℕ) (a : Array) (i : Formula) (e : Lanes) (zs : List Line) (b : Code) (ys : List Line) → Closes ys → StoreFour a i e ∷ zs ≡ lines_at n b ++ ys → (r : Code) × (StoresFour a i e r ≡ b) × (zs ≡ lines_at (suc n) r ++ ys)
-at_store_four n a i e zs (StoresFour d j x r) ys c h =
-    let o : a ≡ d = cc in
-    let p : i ≡ j = cc in
-    let q : e ≡ x = cc in
-    let t : zs ≡ lines_at (suc n) r ++ ys = cc in
-    (r, ap (λ z. StoresFour z i e r) o ∙ ap (λ z. StoresFour d z e r) p ∙ ap (λ z. StoresFour d j z r) q, t)
-at_store_four n a i e zs End ys c h = unclosed ys _ c (sym h) (λ z. z)
-at_store_four n a i e zs _ ys c h = cc
-
-at_sync : (n : ℕ) (x y : Bool) (zs : List Line) (b : Code) (ys : List Line) → Closes ys → Barrier x y ∷ zs ≡ lines_at n b ++ ys → (r : Code) × (Syncs x y r ≡ b) × (zs ≡ lines_at (suc n) r ++ ys)
-at_sync n x y zs (Syncs u w r) ys c h =
-    let p : x ≡ u = cc in
-    let q : y ≡ w = cc in
-    let t : zs ≡ lines_at (suc n) r ++ ys = cc in
-    (r, ap (λ z. Syncs z y r) p ∙ ap (λ z. Syncs u z r) q, t)
-at_sync n x y zs End ys c h = unclosed ys _ c (sym h) (λ z. z)
-at_sync n x y zs _ ys c h = cc
+    (r, ap (λ z. Performs z r) p, t)
+at_statement n s zs End ys c h = unclosed ys _ c (sym h) (λ z. z)
+at_statement n s zs _ ys c h = cc
 
 at_head : (n : ℕ) (s : Start) (p : Formula) (k : Stride) (exit : ℕ) (zs : List Line) (b : Code) (ys : List Line) → Closes ys → Head s p k exit ∷ zs ≡ lines_at n b ++ ys → (m : Code) × (r : Code) × (Loops s p k m r ≡ b) × (zs ≡ (lines_at (suc n) m ++ (Tail n ∷ lines_at (exit_of n m) r)) ++ ys)
 at_head n s p k exit zs (Loops u w x m r) ys c h =
@@ -150,34 +79,10 @@ same_code : (n : ℕ) (a b : Code) (xs ys : List Line) → Same n a b xs ys
 same_code n End b xs ys cx cy h =
     let e = at_end n xs b ys cx h in
     (e, h ∙ ap (λ z. lines_at n z ++ ys) (sym e))
-same_code n (Assigns v e r) b xs ys cx cy h =
-    let t = at_assign n v e (lines_at (suc n) r ++ xs) b ys cy h in
+same_code n (Performs s r) b xs ys cx cy h =
+    let t = at_statement n s (lines_at (suc n) r ++ xs) b ys cy h in
     let rest = same_code (suc n) r t.0 xs ys cx cy t.2 in
-    (ap (Assigns v e) rest.0 ∙ t.1, rest.1)
-same_code n (Loads v a e r) b xs ys cx cy h =
-    let t = at_load n v a e (lines_at (suc n) r ++ xs) b ys cy h in
-    let rest = same_code (suc n) r t.0 xs ys cx cy t.2 in
-    (ap (Loads v a e) rest.0 ∙ t.1, rest.1)
-same_code n (Stores a i e r) b xs ys cx cy h =
-    let t = at_store n a i e (lines_at (suc n) r ++ xs) b ys cy h in
-    let rest = same_code (suc n) r t.0 xs ys cx cy t.2 in
-    (ap (Stores a i e) rest.0 ∙ t.1, rest.1)
-same_code n (AssignsFour v e r) b xs ys cx cy h =
-    let t = at_assign_four n v e (lines_at (suc n) r ++ xs) b ys cy h in
-    let rest = same_code (suc n) r t.0 xs ys cx cy t.2 in
-    (ap (AssignsFour v e) rest.0 ∙ t.1, rest.1)
-same_code n (LoadsFour v a e r) b xs ys cx cy h =
-    let t = at_load_four n v a e (lines_at (suc n) r ++ xs) b ys cy h in
-    let rest = same_code (suc n) r t.0 xs ys cx cy t.2 in
-    (ap (LoadsFour v a e) rest.0 ∙ t.1, rest.1)
-same_code n (StoresFour a i e r) b xs ys cx cy h =
-    let t = at_store_four n a i e (lines_at (suc n) r ++ xs) b ys cy h in
-    let rest = same_code (suc n) r t.0 xs ys cx cy t.2 in
-    (ap (StoresFour a i e) rest.0 ∙ t.1, rest.1)
-same_code n (Syncs x y r) b xs ys cx cy h =
-    let t = at_sync n x y (lines_at (suc n) r ++ xs) b ys cy h in
-    let rest = same_code (suc n) r t.0 xs ys cx cy t.2 in
-    (ap (Syncs x y) rest.0 ∙ t.1, rest.1)
+    (ap (Performs s) rest.0 ∙ t.1, rest.1)
 same_code n (Loops s p c m r) b xs ys cx cy h =
     let t = at_head n s p c (exit_of n m) ((lines_at (suc n) m ++ (Tail n ∷ lines_at (exit_of n m) r)) ++ xs) b ys cy h in
     let left = sym (append_assoc (lines_at (suc n) m) (Tail n ∷ lines_at (exit_of n m) r) xs) in
@@ -232,15 +137,6 @@ same_numbers (f ∷ fs) (g ∷ gs) h =
     let tail : turn_numbers fs ≡ turn_numbers gs = cc in
     numbers_push fs f ∙ ap (λ z. z ++ f.turn ∷ []) (same_numbers fs gs tail) ∙ ap (λ z. numbers (turns_of gs) ++ z ∷ []) head ∙ sym (numbers_push gs g)
 
-still_turns : (fs gs : List Frame) → map still fs ≡ map still gs → turn_numbers fs ≡ turn_numbers gs
-still_turns [] [] h = refl
-still_turns [] (g ∷ gs) h = cc
-still_turns (f ∷ fs) [] h = cc
-still_turns (f ∷ fs) (g ∷ gs) h =
-    let head : still f ≡ still g = cc in
-    let tail : map still fs ≡ map still gs = cc in
-    ap (λ z. z ∷ turn_numbers fs) (ap (λ (z : Frame). z.turn) head) ∙ ap (λ z. g.turn ∷ z) (still_turns fs gs tail)
-
 -- the loops at one line
 module _ (lines : List Line) where
   same_loop : (n : ℕ) (f g : Frame) (fs gs : List Frame) → IsLoop lines n f fs → IsLoop lines n g gs → head_of n f ≡ head_of n g → (f.bound ≡ g.bound) × (f.stride ≡ g.stride) × (f.body ≡ g.body)
@@ -252,34 +148,28 @@ module _ (lines : List Line) where
       (sym a.body ∙ ap (λ z. drop (suc z) lines) h ∙ b.body ∙ ap (λ z. lines_at (suc z) g.body ++ lines_after n (g ∷ gs)) (sym h)) in
       (bounds, strides, bodies.0)
 
-  same_still : (n : ℕ) (fs gs : List Frame) → AreLoops lines n fs → AreLoops lines n gs → lines_after n fs ≡ lines_after n gs → turn_numbers fs ≡ turn_numbers gs → map still fs ≡ map still gs
-  same_still n [] [] a b h t = refl
-  same_still n [] (g ∷ gs) a b h t = cc
-  same_still n (f ∷ fs) [] a b h t = cc
-  same_still n (f ∷ fs) (g ∷ gs) a b h t =
+  -- but for their turns
+  same_loops : (n : ℕ) (fs gs : List Frame) → AreLoops lines n fs → AreLoops lines n gs → lines_after n fs ≡ lines_after n gs → map untimed fs ≡ map untimed gs
+  same_loops n [] [] a b h = refl
+  same_loops n [] (g ∷ gs) a b h = cc
+  same_loops n (f ∷ fs) [] a b h = cc
+  same_loops n (f ∷ fs) (g ∷ gs) a b h =
       let heads : head_of n f ≡ head_of n g = cc in
       let tails : lines_at (suc n) f.after ++ lines_after (suc n + size f.after) fs ≡ lines_at (suc n) g.after ++ lines_after (suc n + size g.after) gs = cc in
       let rest = same_code (suc n) f.after g.after (lines_after (suc n + size f.after) fs) (lines_after (suc n + size g.after) gs) (closes_after _ fs) (closes_after _ gs) tails in
       let same = same_loop n f g fs gs a.0 b.0 heads in
-      let turn : f.turn ≡ g.turn = cc in
-      let turns : turn_numbers fs ≡ turn_numbers gs = cc in
       let far : suc n + size g.after ≡ suc n + size f.after = ap (λ z. suc n + size z) (sym rest.0) in
-      let more = same_still (suc n + size f.after) fs gs a.1 (subst (λ z. AreLoops lines z gs) far b.1) (rest.1 ∙ ap (λ z. lines_after z gs) far) turns in
-      ap (λ z. z ∷ map still fs)
-      (ap (λ z. record { turn = z; variable = 0; bound = f.bound; stride = f.stride; body = f.body; after = f.after }) turn
-      ∙ ap (λ z. record { turn = g.turn; variable = 0; bound = z; stride = f.stride; body = f.body; after = f.after }) same.0
-      ∙ ap (λ z. record { turn = g.turn; variable = 0; bound = g.bound; stride = z; body = f.body; after = f.after }) same.1
-      ∙ ap (λ z. record { turn = g.turn; variable = 0; bound = g.bound; stride = g.stride; body = z; after = f.after }) same.2
-      ∙ ap (λ z. record { turn = g.turn; variable = 0; bound = g.bound; stride = g.stride; body = g.body; after = z }) rest.0)
-      ∙ ap (λ z. still g ∷ z) more
+      let more = same_loops (suc n + size f.after) fs gs a.1 (subst (λ z. AreLoops lines z gs) far b.1) (rest.1 ∙ ap (λ z. lines_after z gs) far) in
+      λ i. around (same.0 i) (same.1 i) (same.2 i) (rest.0 i) ∷ more i
 
   -- at one line, in turns of the same numbers, the same is left to do
-  pub same_rest : (n : ℕ) (x y : Item) → IsAt lines n x → IsAt lines n y → numbers (turns_of x.frames) ≡ numbers (turns_of y.frames) → (x.code ≡ y.code) × (map still x.frames ≡ map still y.frames)
+  pub same_rest : (n : ℕ) (x y : Item) → IsAt lines n x → IsAt lines n y → numbers (turns_of x.frames) ≡ numbers (turns_of y.frames) → (place_of_item x ≡ place_of_item y) × (item_turns x ≡ item_turns y)
   same_rest n x y a b t =
       let whole : lines_at n x.code ++ lines_after a.end x.frames ≡ lines_at n y.code ++ lines_after b.end y.frames = sym a.from ∙ b.from in
       let same = same_code n x.code y.code (lines_after a.end x.frames) (lines_after b.end y.frames) (closes_after a.end x.frames) (closes_after b.end y.frames) whole in
       let end : b.end ≡ a.end = b.counts ∙ ap (λ z. n + size z) (sym same.0) ∙ sym a.counts in
-      (same.0, same_still a.end x.frames y.frames a.loops (subst (λ z. AreLoops lines z y.frames) end b.loops) (same.1 ∙ ap (λ z. lines_after z y.frames) end) (same_turns x.frames y.frames t))
+      let loops = same_loops a.end x.frames y.frames a.loops (subst (λ z. AreLoops lines z y.frames) end b.loops) (same.1 ∙ ap (λ z. lines_after z y.frames) end) in
+      (λ i. place (same.0 i) (loops i), same_turns x.frames y.frames t)
 
   -- how many lines are left
   abbrev left_after : List Frame → ℕ
@@ -294,13 +184,13 @@ module _ (lines : List Line) where
       let c = length_after (suc n + size f.after) fs in
       omega arith
 
-  same_left : (fs gs : List Frame) → map still fs ≡ map still gs → left_after fs ≡ left_after gs
+  same_left : (fs gs : List Frame) → map untimed fs ≡ map untimed gs → left_after fs ≡ left_after gs
   same_left [] [] h = refl
   same_left [] (g ∷ gs) h = cc
   same_left (f ∷ fs) [] h = cc
   same_left (f ∷ fs) (g ∷ gs) h =
-      let head : still f ≡ still g = cc in
-      let tail : map still fs ≡ map still gs = cc in
+      let head : untimed f ≡ untimed g = cc in
+      let tail : map untimed fs ≡ map untimed gs = cc in
       let after : size f.after ≡ size g.after = ap (λ (z : Frame). size z.after) head in
       let rest = same_left fs gs tail in
       omega arith
@@ -315,10 +205,10 @@ module _ (lines : List Line) where
       omega arith
 
   -- where the same is left to do, it is at one line, in turns of the same numbers
-  pub same_place : (n m : ℕ) (x y : Item) → IsAt lines n x → IsAt lines m y → n < length lines → m < length lines → x.code ≡ y.code → map still x.frames ≡ map still y.frames → (n ≡ m) × (numbers (turns_of x.frames) ≡ numbers (turns_of y.frames))
-  same_place n m x y a b low high code still_same =
+  pub same_place : (n m : ℕ) (x y : Item) → IsAt lines n x → IsAt lines m y → n < length lines → m < length lines → place_of_item x ≡ place_of_item y → item_turns x ≡ item_turns y → (n ≡ m) × (numbers (turns_of x.frames) ≡ numbers (turns_of y.frames))
+  same_place n m x y a b low high at turns =
       let p = lines_left n x a in
       let q = lines_left m y b in
-      let sizes : size x.code ≡ size y.code = ap size code in
-      let rest = same_left x.frames y.frames still_same in
-      (omega arith, same_numbers x.frames y.frames (still_turns x.frames y.frames still_same))
+      let sizes : size x.code ≡ size y.code = ap (λ (z : Place). size z.code) at in
+      let rest = same_left x.frames y.frames (ap (λ (z : Place). z.loops) at) in
+      (omega arith, same_numbers x.frames y.frames turns)

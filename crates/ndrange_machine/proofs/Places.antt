@@ -3,10 +3,10 @@ use Rattle.std.proofs.Common.{◌≡◌, ℕ, ◌+◌, ◌<◌, ◌≤◌, zero,
 use Rattle.std.specs.Prelude.{slice_get}
 use Rattle.std.proofs.lemmas.List.{drop-drop, drop_at}
 use Rattle.kernel_tree.specs.Formula.{Formula, Vars}
-use Rattle.kernel_tree.specs.Code.{Start, Stride, Code, End, Assigns, Loads, Stores, AssignsFour, LoadsFour, StoresFour, Loops, Guards, Syncs, then_rest}
+use Rattle.kernel_tree.specs.Code.{Start, Stride, Statement, Code, End, Performs, Loops, Guards, then_rest}
 use Rattle.kernel_tree.specs.Item.{Frame, item}
-use Rattle.ndrange_machine.specs.Lines.{Line, Assign, Load, Store, AssignFour, LoadFour, StoreFour, Test, Head, Tail, Barrier, size, exit_of, past_if, depth, lines_at, head_of, lines_after, AreLoops, IsAt}
-use Rattle.ndrange_machine.proofs.Laying.{length-lines_at}
+use Rattle.ndrange_machine.specs.Lines.{Line, Does, Test, Head, Tail, size, exit_of, past_if, depth, lines_at, head_of, lines_after, AreLoops, IsAt}
+use Rattle.ndrange_machine.proofs.Laying.{length-lines_at, size-then, lines-then}
 
 pub drop_here : {A : Type 0} (xs : List A) (n : ℕ) (y : A) (ys : List A) → drop n xs ≡ y ∷ ys → slice_get xs n ≡ Some y
 drop_here [] zero y ys h = cc
@@ -29,62 +29,33 @@ drop_within xs n y ys h = let a = length-drop n xs in let b = ap length h in ome
 pub drop_beyond : {A : Type 0} (xs : List A) (n : ℕ) → drop n xs ≡ [] → length xs ≤ n
 drop_beyond xs n h = let a = length-drop n xs in let b = ap length h in omega arith
 
--- the lines of a block, and then of what follows it
-
-pub size-then : (a b : Code) → size (then_rest a b) ≡ size a + size b
-size-then End b = omega arith
-size-then (Assigns v e after) b = let h = size-then after b in omega arith
-size-then (Loads v a i after) b = let h = size-then after b in omega arith
-size-then (Stores a i e after) b = let h = size-then after b in omega arith
-size-then (AssignsFour v e after) b = let h = size-then after b in omega arith
-size-then (LoadsFour v a i after) b = let h = size-then after b in omega arith
-size-then (StoresFour a i e after) b = let h = size-then after b in omega arith
-size-then (Loops s p c body after) b = let h = size-then after b in omega arith
-size-then (Guards s p body after) b = let h = size-then after b in omega arith
-size-then (Syncs x y after) b = let h = size-then after b in omega arith
-
+-- how deep a block nests, and then what follows it
 pub depth-then : (a b : Code) → depth (then_rest a b) ≡ max (depth a) (depth b)
 depth-then End b = omega arith
-depth-then (Assigns v e after) b = depth-then after b
-depth-then (Loads v a i after) b = depth-then after b
-depth-then (Stores a i e after) b = depth-then after b
-depth-then (AssignsFour v e after) b = depth-then after b
-depth-then (LoadsFour v a i after) b = depth-then after b
-depth-then (StoresFour a i e after) b = depth-then after b
+depth-then (Performs s after) b = depth-then after b
 depth-then (Loops s p c body after) b = let h = depth-then after b in omega arith
 depth-then (Guards s p body after) b = let h = depth-then after b in omega arith
-depth-then (Syncs x y after) b = depth-then after b
-
-lines-then : (n m : ℕ) (a b : Code) → m ≡ n + size a → lines_at n (then_rest a b) ≡ lines_at n a ++ lines_at m b
-lines-then n m End b e = ap (λ k. lines_at k b) (let z : n ≡ m = omega arith in z)
-lines-then n m (Assigns v x after) b e = ap (λ z. Assign v x ∷ z) (lines-then (suc n) m after b (omega arith))
-lines-then n m (Loads v a i after) b e = ap (λ z. Load v a i ∷ z) (lines-then (suc n) m after b (omega arith))
-lines-then n m (Stores a i x after) b e = ap (λ z. Store a i x ∷ z) (lines-then (suc n) m after b (omega arith))
-lines-then n m (AssignsFour v x after) b e = ap (λ z. AssignFour v x ∷ z) (lines-then (suc n) m after b (omega arith))
-lines-then n m (LoadsFour v a i after) b e = ap (λ z. LoadFour v a i ∷ z) (lines-then (suc n) m after b (omega arith))
-lines-then n m (StoresFour a i x after) b e = ap (λ z. StoreFour a i x ∷ z) (lines-then (suc n) m after b (omega arith))
-lines-then n m (Loops s p c body after) b e =
-    let inner = lines_at (suc n) body in
-    ap (λ z. Head s p c (exit_of n body) ∷ (inner ++ (Tail n ∷ z))) (lines-then (exit_of n body) m after b (omega arith))
-    ∙ ap (λ z. Head s p c (exit_of n body) ∷ z) (sym (append_assoc inner (Tail n ∷ lines_at (exit_of n body) after) (lines_at m b)))
-lines-then n m (Guards s p body after) b e =
-    let inner = lines_at (suc n) body in
-    ap (λ z. Test s p (past_if n body) ∷ (inner ++ z)) (lines-then (past_if n body) m after b (omega arith))
-    ∙ ap (λ z. Test s p (past_if n body) ∷ z) (sym (append_assoc inner (lines_at (past_if n body) after) (lines_at m b)))
-lines-then n m (Syncs x y after) b e = ap (λ z. Barrier x y ∷ z) (lines-then (suc n) m after b (omega arith))
 
 -- an item at the end of a block
 abbrev pub frame : (turn variable : ℕ) → Formula → Stride → (body after : Code) → Frame
 frame t v b c body after = record { turn = t; variable = v; bound = b; stride = c; body = body; after = after }
 
 module _ (lines : List Line) where
-  pub goes_on : (n : ℕ) (y : Line) (code after : Code) (fs : List Frame) (vars new : Vars) → lines_at n code ≡ y ∷ lines_at (suc n) after → size code ≡ suc (size after) → IsAt lines n (item code fs vars) → IsAt lines (suc n) (item after fs new)
-  goes_on n y code after fs vars new h l at = record {
-    end = at.end;
-    counts = (let a = at.counts in omega arith);
-    from = drop_on lines n y (lines_at (suc n) after ++ lines_after at.end fs) (at.from ∙ ap (λ z. z ++ lines_after at.end fs) h);
-    loops = at.loops;
-  }
+  -- at a statement without a block
+  module _ (n : ℕ) (s : Statement) (after : Code) (fs : List Frame) (vars : Vars) (at : IsAt lines n (item (Performs s after) fs vars)) where
+    pub goes_on : (new : Vars) → IsAt lines (suc n) (item after fs new)
+    goes_on new = record {
+      end = at.end;
+      counts = (let a = at.counts in omega arith);
+      from = drop_on lines n (Does s) (lines_at (suc n) after ++ lines_after at.end fs) at.from;
+      loops = at.loops;
+    }
+
+    pub done_here : slice_get lines n ≡ Some (Does s)
+    done_here = drop_here lines n (Does s) _ at.from
+
+    pub done_within : n < length lines
+    done_within = drop_within lines n (Does s) _ at.from
 
   module _ (n : ℕ) (s : Start) (b : Formula) (c : Stride) (body after : Code) (fs : List Frame) (vars : Vars) (at : IsAt lines n (item (Loops s b c body after) fs vars)) where
     inside : drop (suc n) lines ≡ lines_at (suc n) body ++ (Tail n ∷ (lines_at (exit_of n body) after ++ lines_after at.end fs))

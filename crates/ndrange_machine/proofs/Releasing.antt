@@ -13,8 +13,9 @@ use Rattle.enabled_events.specs.Laws.{FlagsFollow}
 use Rattle.enabled_events.specs.Listed.{AreFlags}
 use Rattle.race_marks.specs.Marked.{MarksTell}
 use Rattle.ndrange_machine.specs.Groups.{Refreshed, Refreshes, MarksRelease}
-use Rattle.kernel_tree.specs.Device.{Memory, State, still, device_of, start_state, wants, Enabled, taken, has_flag, after}
+use Rattle.kernel_tree.specs.Device.{Memory, State, device_of, start_state, wants, Enabled, taken, has_flag, after}
 use Rattle.kernel_tree.specs.Faults.{accesses_of, failure_of, RacesAfter, SomeDiverges, IsFaultless}
+use Rattle.kernel_tree.specs.Meets.{IsWaiting}
 use Rattle.ndrange_machine.specs.declared.machine.Machine.{Machine}
 use Rattle.ndrange_machine.specs.declared.want.Want.{Want}
 use Rattle.ndrange_machine.specs.declared.want.Want.TheVariants as want
@@ -28,8 +29,8 @@ use Rattle.ndrange_machine.specs.Stands.{HoldsItem, Holds, StandsFor, state_afte
 use Rattle.ndrange_machine.specs.Takes.{Advanced, IsWanted, SameCore, PassesGroup, past, past_want}
 use Rattle.ndrange_machine.proofs.Next.{IsNext, Stands}
 use Rattle.ndrange_machine.proofs.Standing.{here, its_item}
-use Rattle.ndrange_machine.proofs.Waiting.{IsWaiting, stand_waits}
-use Rattle.ndrange_machine.proofs.Together.{alike_calm, taken_alike, calm_after, refreshed}
+use Rattle.ndrange_machine.proofs.Waiting.{stand_waits}
+use Rattle.ndrange_machine.proofs.Together.{AtOnePlace, alike_calm, taken_alike, calm_after, refreshed}
 use Rattle.ndrange_machine.proofs.Stepping.{stands_on, same_holds}
 
 -- past a barrier, if it stands there
@@ -121,13 +122,13 @@ module _ (k : Kernel) (l : Launch) (c : Cells) (m : Machine) (es : List Event) (
   waits_at_first : IsWaiting (wants (device_of k l c) now (first_item l g))
   waits_at_first = stand_waits _ _ (en.1 (first_item l g) (first_of_group l st.holds.whole g))
 
-  -- all of the group have the same left to do
-  alike_later : (j : ℕ) → group_of l j ≡ g → ((later.items (first_item l g)).code ≡ (later.items j).code) × (map still (later.items (first_item l g)).frames ≡ map still (later.items j).frames)
+  -- all of the group stand at one place
+  alike_later : (j : ℕ) → group_of l j ≡ g → AtOnePlace (later.items (first_item l g)) (later.items j)
   alike_later j q =
       let first = moved_later (first_item l g) (first_of_group l st.holds.whole g) in
       let other = moved_later j q in
       let same = taken_alike l (first_item l g) j (wants (device_of k l c) now (first_item l g)) (wants (device_of k l c) now j) now.memory (now.items (first_item l g)) (now.items j) (en.1 j q) in
-      (ap (λ (x : Item). x.code) first ∙ same.0 ∙ ap (λ (x : Item). x.code) (sym other), ap (λ (x : Item). map still x.frames) first ∙ same.1 ∙ ap (λ (x : Item). map still x.frames) (sym other))
+      subst (λ x. AtOnePlace x (later.items j)) (sym first) (subst (AtOnePlace (taken l (first_item l g) (wants (device_of k l c) now (first_item l g)) now.memory (now.items (first_item l g)))) (sym other) same)
 
   calm : SomeDiverges (device_of k l c) later → ⊥
   calm = calm_after (device_of k l c) now (Release g) st.holds.whole (st.steady clean) (alike_calm (device_of k l c) later g st.holds.whole alike_later)

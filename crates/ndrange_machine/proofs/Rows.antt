@@ -1,17 +1,12 @@
 -- Rows of cells, and lists of them.
 use Rattle.std.proofs.Common.{◌≡◌, ◌≢◌, ℕ, ◌<◌, ◌≤◌, zero, suc, List, [], ◌∷◌, length, Option, Some, None, true, false, refl, sym, ap, ◌∙◌, ⊎_elim, arith}
+use Rattle.std.proofs.lemmas.Option.{slice_get_past}
 use Rattle.std.specs.Global.{Global}
 use Rattle.std.specs.Prelude.{Vec, map, is_some, nat_lt, replicate, slice_get, slice_index, slice_index_or, slice_set, ◌==◌, if◌then◌else◌}
 use Rattle.std.proofs.lemmas.Bool.{cases_lt, lt-ltb, le-ltb}
 use Rattle.std.proofs.lemmas.Bool.Decides.{eqb_tells}
 use Rattle.kernel_tree.specs.Device.{row}
 use Rattle.ndrange_machine.specs.Memory.{cell_in, rows_of}
-
-pub get_beyond : {A : Type 0} (xs : List A) (n : ℕ) → length xs ≤ n → slice_get xs n ≡ None
-get_beyond [] zero h = refl
-get_beyond [] (suc n) h = refl
-get_beyond (x ∷ xs) zero h = absurd (omega arith)
-get_beyond (x ∷ xs) (suc n) h = get_beyond xs n (omega arith)
 
 pub get_there : {A : Type 0} (xs : List A) (n : ℕ) → n < length xs → (x : A) × (slice_get xs n ≡ Some x)
 get_there [] n h = absurd (omega arith)
@@ -71,7 +66,7 @@ pub is_some-get : (xs : List ℕ) (i : ℕ) → is_some (slice_get xs i) ≡ nat
 is_some-get xs i =
     ⊎_elim
     (λ lt. ap is_some (get_is xs i lt) ∙ sym (lt-ltb i (length xs) lt))
-    (λ le. ap is_some (get_beyond xs i le) ∙ sym (le-ltb i (length xs) le))
+    (λ le. ap is_some (slice_get_past xs i le) ∙ sym (le-ltb i (length xs) le))
     (cases_lt i (length xs))
 
 pub index_is : (xs : List ℕ) (i x : ℕ) → slice_get xs i ≡ Some x → slice_index xs i ≡ x

@@ -22,8 +22,8 @@ use Rattle.ndrange_machine.proofs.Grids.{group_members, member_there}
 use Rattle.ndrange_machine.proofs.Standing.{its_item, going_is, waits_nowhere, ended_there, goes_on, stand_if, if_stand}
 use Rattle.ndrange_machine.proofs.Stepping.{same_holds}
 use Rattle.ndrange_machine.proofs.Telling.{going_at}
-use Rattle.ndrange_machine.proofs.Waiting.{not_both}
-use Rattle.ndrange_machine.proofs.Together.{first_waits, goes, some_go, met}
+use Rattle.ndrange_machine.proofs.Waiting.{not_both, first_waits}
+use Rattle.ndrange_machine.proofs.Together.{goes, some_go, met}
 
 no_true : {A : Type 0} → false ≡ true → A
 no_true e = cc

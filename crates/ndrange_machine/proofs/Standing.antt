@@ -13,6 +13,8 @@ use Rattle.kernel_tree.specs.declared.tree.Dimension.TheVariants.{X, Y}
 use Rattle.kernel_tree.specs.Launch.{Launch, Cells, IsDivided, IsWhole, ids_of, item_count}
 use Rattle.kernel_tree.specs.Item.{Wants, Ends, Waits, Moves, Fails, next}
 use Rattle.kernel_tree.specs.Device.{State, device_of, wants, CanStep, StandTogether, AllEnded}
+use Rattle.kernel_tree.specs.Meets.{IsWaiting}
+use Rattle.kernel_tree.proofs.Together.{together_at_one_place}
 use Rattle.ndrange_machine.specs.declared.line.Line as held
 use Rattle.ndrange_machine.specs.declared.line.Line.TheVariants as line
 use Rattle.ndrange_machine.specs.declared.machine.Machine.{Machine}
@@ -28,9 +30,8 @@ use Rattle.ndrange_machine.specs.Groups.{SamePlace}
 use Rattle.ndrange_machine.specs.Takes.{is_barrier, is_going, IsGoing}
 use Rattle.ndrange_machine.specs.Wants.{text_of, turn_after, want_if, want_in, want_last, want_back, last_of, wanted}
 use Rattle.ndrange_machine.proofs.Next.{IsNext, next_is}
-use Rattle.ndrange_machine.proofs.Waiting.{IsWaiting, steps_or_not, not_both, stand_waits}
+use Rattle.ndrange_machine.proofs.Waiting.{steps_or_not, not_both, stand_waits}
 use Rattle.ndrange_machine.proofs.Parsing.{same_rest, same_place}
-use Rattle.ndrange_machine.proofs.Together.{first_waits, rest_together, together_rest}
 use Rattle.ndrange_machine.proofs.Rows.{get_there, get_within}
 
 abbrev pub is_waiting : Want → Bool
@@ -64,17 +65,8 @@ waits_at lines ids it = by_line (slice_get lines it.line)
         (either (nat_lt x k) (want.Changes (change.Repeats (turn_after t x)) (head + 1)) (want.Changes change.Leaves exit) refl refl) refl)
 
     by_head : (head : ℕ) (o : Option held.Line) → is_waiting (want_back ids it.turns head o) ≡ false
-    by_head head None = refl
-    by_head head (Some (line.Assign v e)) = refl
-    by_head head (Some (line.Load v a i)) = refl
-    by_head head (Some (line.Store a i e)) = refl
     by_head head (Some (line.Head s b c exit)) = by_last (formula_of b) c head exit (last_of it.turns)
-    by_head head (Some (line.AssignFour v e)) = refl
-    by_head head (Some (line.LoadFour v a i)) = refl
-    by_head head (Some (line.StoreFour a i e)) = refl
-    by_head head (Some (line.Test s b exit)) = refl
-    by_head head (Some (line.Tail n)) = refl
-    by_head head (Some (line.Barrier p q)) = refl
+    by_head head _ = refl
 
     by_line : (o : Option held.Line) → is_waiting (want_in lines ids it.line it.turns it.vars o) ≡ is_barrier o
     by_line None = refl
@@ -280,16 +272,16 @@ module _ (k : Kernel) (l : Launch) (c : Cells) (m : Machine) (s : State) (h : Ho
       let x = h.items i a at in
       let y = h.items j b bt in
       let rest = same_rest (lines_at 0 k.code) a.line (s.items i) (s.items j) x.place (subst (λ n. IsAt (lines_at 0 k.code) n (s.items j)) (sym same.0) y.place) (ap numbers (sym x.turns) ∙ same.1 ∙ ap numbers y.turns) in
-      rest_together (s.items i) (s.items j) (ids_of l i) (ids_of l j) rest.0 rest.1 (waits_there k l c m s h i a at barrier)
+      (together_at_one_place (ids_of l i) (ids_of l j) (s.items i) (s.items j)).1 (waits_there k l c m s h i a at barrier, rest.0, rest.1)
 
   pub if_stand : StandTogether (wants (device_of k l c) s i) (wants (device_of k l c) s j) → SamePlace a b
   if_stand t =
       let x = h.items i a at in
       let y = h.items j b bt in
-      let rest = together_rest (s.items i) (s.items j) (ids_of l i) (ids_of l j) t in
+      let at_one = (together_at_one_place (ids_of l i) (ids_of l j) (s.items i) (s.items j)).0 t in
       let same = length-map m.lines.items text_of in
       let lines = ap length h.text in
-      let low : a.line < length m.lines.items = ⊎_elim (λ lt. lt) (λ le. absurd (subst IsWaiting (ended_there k l c m s h i a at le) (first_waits (wants (device_of k l c) s i) (wants (device_of k l c) s j) t))) (cases_lt a.line (length m.lines.items)) in
+      let low : a.line < length m.lines.items = ⊎_elim (λ lt. lt) (λ le. absurd (subst IsWaiting (ended_there k l c m s h i a at le) at_one.0)) (cases_lt a.line (length m.lines.items)) in
       let high : b.line < length m.lines.items = ⊎_elim (λ lt. lt) (λ le. absurd (subst IsWaiting (ended_there k l c m s h j b bt le) (stand_waits (wants (device_of k l c) s i) (wants (device_of k l c) s j) t))) (cases_lt b.line (length m.lines.items)) in
-      let place = same_place (lines_at 0 k.code) a.line b.line (s.items i) (s.items j) x.place y.place (omega arith) (omega arith) rest.0 rest.1 in
+      let place = same_place (lines_at 0 k.code) a.line b.line (s.items i) (s.items j) x.place y.place (omega arith) (omega arith) at_one.1 at_one.2 in
       (place.0, ap numbers x.turns ∙ place.1 ∙ ap numbers (sym y.turns))

@@ -1,61 +1,37 @@
 -- The lines of a kernel's text, and where in them a work-item stands.
-use Rattle.std.specs.Prelude.{◌≡◌, ℕ, ◌+◌, ◌-◌, ◌≤◌, suc, max, Bool, List, [], ◌∷◌, ◌++◌, Some, length, drop, slice_get}
-use Rattle.kernel_tree.specs.Formula.{Formula, Lanes}
-use Rattle.kernel_tree.specs.Code.{Array, Start, Stride, Code, End, Assigns, Loads, Stores, AssignsFour, LoadsFour, StoresFour, Loops, Guards, Syncs}
+use Rattle.std.specs.Prelude.{◌≡◌, ℕ, ◌+◌, ◌-◌, ◌≤◌, suc, max, List, [], ◌∷◌, ◌++◌, Some, length, drop, slice_get}
+use Rattle.kernel_tree.specs.Formula.{Formula}
+use Rattle.kernel_tree.specs.Code.{Start, Stride, Statement, Code, End, Performs, Loops, Guards}
 use Rattle.kernel_tree.specs.Item.{Frame, Item}
 
--- a loop's head tells the line after the loop, and the line at the end of its body the head. The
--- test of an `if` tells the line after its body
+-- a statement without a block is one line. A loop's head tells the line after the loop, and the
+-- line at the end of its body the head. The test of an `if` tells the line after its body
 pub data Line : Type 0 where
-  Assign : (var : ℕ) → Formula → Line
-  Load : (var : ℕ) → Array → Formula → Line
-  Store : Array → (index value : Formula) → Line
-  AssignFour : (var : ℕ) → Lanes → Line
-  LoadFour : (var : ℕ) → Array → (offset : Formula) → Line
-  StoreFour : Array → (offset : Formula) → (value : Lanes) → Line
+  Does : Statement → Line
   Test : Start → (bound : Formula) → (exit : ℕ) → Line
   Head : Start → (bound : Formula) → Stride → (exit : ℕ) → Line
   Tail : (head : ℕ) → Line
-  Barrier : (on_local on_global : Bool) → Line
 
 -- how many lines
 abbrev pub size : Code → ℕ
 size End = 0
-size (Assigns v e after) = suc (size after)
-size (Loads v a i after) = suc (size after)
-size (Stores a i e after) = suc (size after)
-size (AssignsFour v e after) = suc (size after)
-size (LoadsFour v a i after) = suc (size after)
-size (StoresFour a i e after) = suc (size after)
+size (Performs s after) = suc (size after)
 size (Loops s b c body after) = suc (size body + suc (size after))
 size (Guards s b body after) = suc (size body + size after)
-size (Syncs on_local on_global after) = suc (size after)
 
 -- how many loops stand around one another at most
 abbrev pub depth : Code → ℕ
 depth End = 0
-depth (Assigns v e after) = depth after
-depth (Loads v a i after) = depth after
-depth (Stores a i e after) = depth after
-depth (AssignsFour v e after) = depth after
-depth (LoadsFour v a i after) = depth after
-depth (StoresFour a i e after) = depth after
+depth (Performs s after) = depth after
 depth (Loops s b c body after) = max (suc (depth body)) (depth after)
 depth (Guards s b body after) = max (depth body) (depth after)
-depth (Syncs on_local on_global after) = depth after
 
 -- in how many loops an item is past the line, which was in so many
 abbrev pub past_line : Line → (inside : ℕ) → ℕ
 past_line (Head s b c exit) inside = inside + 1
 past_line (Tail head) inside = inside - 1
-past_line (Assign v e) inside = inside
-past_line (Load v a i) inside = inside
-past_line (Store a i e) inside = inside
-past_line (AssignFour v e) inside = inside
-past_line (LoadFour v a i) inside = inside
-past_line (StoreFour a i e) inside = inside
 past_line (Test s b exit) inside = inside
-past_line (Barrier on_local on_global) inside = inside
+past_line (Does s) inside = inside
 
 -- the line after a loop whose head is at line n
 abbrev pub exit_of : ℕ → Code → ℕ
@@ -68,18 +44,12 @@ past_if n body = suc n + size body
 -- the lines of statements that begin at line n
 abbrev pub lines_at : ℕ → Code → List Line
 lines_at n End = []
-lines_at n (Assigns v e after) = Assign v e ∷ lines_at (suc n) after
-lines_at n (Loads v a i after) = Load v a i ∷ lines_at (suc n) after
-lines_at n (Stores a i e after) = Store a i e ∷ lines_at (suc n) after
-lines_at n (AssignsFour v e after) = AssignFour v e ∷ lines_at (suc n) after
-lines_at n (LoadsFour v a i after) = LoadFour v a i ∷ lines_at (suc n) after
-lines_at n (StoresFour a i e after) = StoreFour a i e ∷ lines_at (suc n) after
+lines_at n (Performs s after) = Does s ∷ lines_at (suc n) after
 lines_at n (Guards s b body after) =
     Test s b (past_if n body) ∷ (lines_at (suc n) body ++ lines_at (past_if n body) after)
 lines_at n (Loops s b c body after) =
     Head s b c (exit_of n body)
     ∷ (lines_at (suc n) body ++ (Tail n ∷ lines_at (exit_of n body) after))
-lines_at n (Syncs on_local on_global after) = Barrier on_local on_global ∷ lines_at (suc n) after
 
 -- the head of a loop whose body ends at line n
 abbrev pub head_of : ℕ → Frame → ℕ

@@ -1,7 +1,7 @@
 -- What the machine's lines say, and what they want.
 use Rattle.std.specs.Prelude.{ℕ, ◌+◌, ◌-◌, ◌%◌, ◌^◌, List, Option, Some, None, length, slice_get, nat_lt, if◌then◌else◌}
 use Rattle.kernel_tree.specs.Formula.{Formula, Ids, Vars, value, bound_value, lanes_value}
-use Rattle.kernel_tree.specs.Code.{Start, start_value, stride_value}
+use Rattle.kernel_tree.specs.Code.{Start, start_value, stride_value, Assigns, Loads, Stores, AssignsFour, LoadsFour, StoresFour, Syncs}
 use Rattle.kernel_tree.specs.Tree.{formula_of, lanes_of, array_of, start_of, stride_of}
 use Rattle.kernel_tree.specs.declared.events.FaultKind.TheVariants.{ZeroDivisor, LoopWrap}
 use Rattle.kernel_tree.specs.declared.tree.Stride.{Stride}
@@ -17,29 +17,22 @@ use Rattle.ndrange_machine.specs.Lines as text
 
 -- a line, whatever holds its expressions
 abbrev pub text_of : Line → text.Line
-text_of (Assign v e) = text.Assign v (formula_of e)
-text_of (Load v a i) = text.Load v (array_of a) (formula_of i)
-text_of (Store a i e) = text.Store (array_of a) (formula_of i) (formula_of e)
-text_of (AssignFour v e) = text.AssignFour v (lanes_of e)
-text_of (LoadFour v a i) = text.LoadFour v (array_of a) (formula_of i)
-text_of (StoreFour a i e) = text.StoreFour (array_of a) (formula_of i) (lanes_of e)
+text_of (Assign v e) = text.Does (Assigns v (formula_of e))
+text_of (Load v a i) = text.Does (Loads v (array_of a) (formula_of i))
+text_of (Store a i e) = text.Does (Stores (array_of a) (formula_of i) (formula_of e))
+text_of (AssignFour v e) = text.Does (AssignsFour v (lanes_of e))
+text_of (LoadFour v a i) = text.Does (LoadsFour v (array_of a) (formula_of i))
+text_of (StoreFour a i e) = text.Does (StoresFour (array_of a) (formula_of i) (lanes_of e))
 text_of (Test s b exit) = text.Test (start_of s) (formula_of b) exit
 text_of (Head s b c exit) = text.Head (start_of s) (formula_of b) (stride_of c) exit
 text_of (Tail head) = text.Tail head
-text_of (Barrier on_local on_global) = text.Barrier on_local on_global
+text_of (Barrier on_local on_global) = text.Does (Syncs on_local on_global)
 
 -- the same line with another exit, where its kind has one
 abbrev pub with_exit : Line → ℕ → Line
 with_exit (Head s b c old) exit = Head s b c exit
 with_exit (Test s b old) exit = Test s b exit
-with_exit (Assign v e) exit = Assign v e
-with_exit (Load v a i) exit = Load v a i
-with_exit (Store a i e) exit = Store a i e
-with_exit (AssignFour v e) exit = AssignFour v e
-with_exit (LoadFour v a i) exit = LoadFour v a i
-with_exit (StoreFour a i e) exit = StoreFour a i e
-with_exit (Tail head) exit = Tail head
-with_exit (Barrier on_local on_global) exit = Barrier on_local on_global
+with_exit line exit = line
 
 -- the innermost loop's turn
 abbrev pub last_of : List Turn → Option Turn

@@ -1,6 +1,6 @@
 //! The kernel's text, line by line.
 
-ghost use Rattle.std.specs.Prelude.{◌≡◌, ◌+◌, ◌<◌, ◌^◌, ◌++◌, map, length, slice_get, IfOk, OnOk};
+ghost use Rattle.std.specs.Prelude.{◌≡◌, ◌+◌, ◌<◌, ◌^◌, [], ◌∷◌, ◌++◌, map, length, slice_get, IfOk, OnOk};
 ghost use Rattle.kernel_tree.specs.Code.{Code, End};
 ghost use Rattle.kernel_tree.specs.Tree.{before, code_then};
 ghost use Rattle.ndrange_machine.specs.Lines.{lines_at, depth, past_line};
@@ -76,35 +76,48 @@ fn lay_one(alloc: Global, lines: &mut Vec<Line>, statement: Stmt) -> Result<(), 
         ≡ map text_of lines.old.items ++ lines_at (length lines.old.items) (before statement End)) }
 {
     match statement {
-        Stmt::Assign(v, e) => lines.push(Line::Assign(v, e))?,
-        Stmt::Load(v, a, i) => lines.push(Line::Load(v, a, i))?,
-        Stmt::Store(a, i, e) => lines.push(Line::Store(a, i, e))?,
-        Stmt::AssignFour(v, e) => lines.push(Line::AssignFour(v, e))?,
-        Stmt::LoadFour(v, a, i) => lines.push(Line::LoadFour(v, a, i))?,
-        Stmt::StoreFour(a, i, e) => lines.push(Line::StoreFour(a, i, e))?,
+        Stmt::Assign(v, e) => add_line(lines, Line::Assign(v, e)),
+        Stmt::Load(v, a, i) => add_line(lines, Line::Load(v, a, i)),
+        Stmt::Store(a, i, e) => add_line(lines, Line::Store(a, i, e)),
+        Stmt::AssignFour(v, e) => add_line(lines, Line::AssignFour(v, e)),
+        Stmt::LoadFour(v, a, i) => add_line(lines, Line::LoadFour(v, a, i)),
+        Stmt::StoreFour(a, i, e) => add_line(lines, Line::StoreFour(a, i, e)),
         Stmt::If(start, bound, body) => {
             let test = lines.len();
-            lines.push(Line::Test(start, bound, 0))?;
+            add_line(lines, Line::Test(start, bound, 0))?;
             lay(alloc, lines, body)?;
             let exit = lines.len();
             lines[test].set_exit(exit);
+            Ok(())
         }
         Stmt::Loop(start, bound, stride, body) => {
             let head = lines.len();
-            lines.push(Line::Head(start, bound, stride, 0))?;
+            add_line(lines, Line::Head(start, bound, stride, 0))?;
             lay(alloc, lines, body)?;
-            lines.push(Line::Tail(head))?;
+            add_line(lines, Line::Tail(head))?;
             let exit = lines.len();
             lines[head].set_exit(exit);
+            Ok(())
         }
         Stmt::Barrier {
             on_local,
             on_global,
-        } => lines.push(Line::Barrier {
-            on_local,
-            on_global,
-        })?,
+        } => add_line(
+            lines,
+            Line::Barrier {
+                on_local,
+                on_global,
+            },
+        ),
     }
+}
+
+// Puts a line after those that are there.
+fn add_line(lines: &mut Vec<Line>, line: Line) -> Result<(), AllocError>
+    ensures { OnOk result (map text_of lines.new.items
+        ≡ map text_of lines.old.items ++ text_of line ∷ []) }
+{
+    lines.push(line)?;
     Ok(())
 }
 

@@ -4,7 +4,7 @@ ghost use Rattle.std.specs.Prelude.{◌≡◌, ◌↔◌, ◌+◌, ◌%◌, ◌^
 ghost use Rattle.ndrange_machine.specs.Known.{numbers};
 
 /// A turn of a loop: its number, from 0, and the loop variable's value.
-#[derive(Clone, Copy, PartialEq, Eq)]
+#[derive(Clone, Copy)]
 pub struct Turn {
     pub number: u32,
     pub variable: u32,

@@ -1,8 +1,10 @@
 //! What a work-item does in its next event.
 
-ghost use Rattle.std.specs.Prelude.{◌≡◌, ◌+◌, ◌<◌, ◌^◌};
-ghost use Rattle.ndrange_machine.specs.Known.{known, vars_of};
-ghost use Rattle.ndrange_machine.specs.Wants.{want_head, want_tail, want_test, want_line};
+ghost use Rattle.std.specs.Prelude.{◌≡◌, ◌+◌, ◌<◌, ◌^◌, option_map};
+ghost use Rattle.ndrange_machine.specs.declared.change.Change.TheVariants as change;
+ghost use Rattle.ndrange_machine.specs.declared.want.Want.TheVariants as form;
+ghost use Rattle.ndrange_machine.specs.Known.{known, vars_of, four_of, held_four};
+ghost use Rattle.ndrange_machine.specs.Wants.{want_if, want_head, want_tail, want_test, want_line};
 ghost use Rattle.kernel_tree.specs.Launch.{ids_of};
 ghost use Rattle.kernel_tree.specs.Tree.{formula_of, start_of};
 
@@ -58,38 +60,36 @@ pub fn want_at(
 {
     match lines.get(at) {
         None => Want::Ends,
-        Some(Line::Assign(v, e)) => match value_of(&ids, sizes, turns, words, vectors, e) {
-            Some(word) => Want::Changes(Change::Sets(*v, word), at + 1),
-            None => Want::Fails(FaultKind::ZeroDivisor),
-        },
-        Some(Line::Load(v, array, i)) => match value_of(&ids, sizes, turns, words, vectors, i) {
-            Some(index) => Want::Reads(*v, *array, index, at + 1),
-            None => Want::Fails(FaultKind::ZeroDivisor),
-        },
+        Some(Line::Assign(v, e)) => {
+            let word = value_of(&ids, sizes, turns, words, vectors, e);
+            want_to_set(*v, word, at + 1)
+        }
+        Some(Line::Load(v, array, i)) => {
+            let index = value_of(&ids, sizes, turns, words, vectors, i);
+            want_to_read(*v, *array, index, at + 1)
+        }
         Some(Line::Store(array, i, e)) => match value_of(&ids, sizes, turns, words, vectors, i) {
-            Some(index) => match value_of(&ids, sizes, turns, words, vectors, e) {
-                Some(word) => Want::Writes(*array, index, word, at + 1),
-                None => Want::Fails(FaultKind::ZeroDivisor),
-            },
+            Some(index) => {
+                let word = value_of(&ids, sizes, turns, words, vectors, e);
+                want_to_write(*array, index, word, at + 1)
+            }
             None => Want::Fails(FaultKind::ZeroDivisor),
         },
-        Some(Line::AssignFour(v, e)) => match lanes_value_of(
-            &ids, sizes, turns, words, vectors, e,
-        ) {
-            Some(four) => Want::Changes(Change::SetsFour(*v, four), at + 1),
-            None => Want::Fails(FaultKind::ZeroDivisor),
-        },
-        Some(Line::LoadFour(v, array, i)) => match value_of(&ids, sizes, turns, words, vectors, i) {
-            Some(offset) => Want::ReadsFour(*v, *array, offset, at + 1),
-            None => Want::Fails(FaultKind::ZeroDivisor),
-        },
+        Some(Line::AssignFour(v, e)) => {
+            let four = lanes_value_of(&ids, sizes, turns, words, vectors, e);
+            want_to_set_four(*v, four, at + 1)
+        }
+        Some(Line::LoadFour(v, array, i)) => {
+            let offset = value_of(&ids, sizes, turns, words, vectors, i);
+            want_to_read_four(*v, *array, offset, at + 1)
+        }
         Some(Line::StoreFour(array, i, e)) => match value_of(
             &ids, sizes, turns, words, vectors, i,
         ) {
-            Some(offset) => match lanes_value_of(&ids, sizes, turns, words, vectors, e) {
-                Some(four) => Want::WritesFour(*array, offset, four, at + 1),
-                None => Want::Fails(FaultKind::ZeroDivisor),
-            },
+            Some(offset) => {
+                let four = lanes_value_of(&ids, sizes, turns, words, vectors, e);
+                want_to_write_four(*array, offset, four, at + 1)
+            }
             None => Want::Fails(FaultKind::ZeroDivisor),
         },
         Some(Line::Test(start, bound, exit)) => want_at_test(ids, sizes, *start, bound, at, *exit),
@@ -107,6 +107,74 @@ pub fn want_at(
             on_global: *on_global,
             next: at + 1,
         },
+    }
+}
+
+// What an item wants that sets the variable to the word, if it has one.
+#[inline(always)]
+fn want_to_set(variable: u32, word: Option<u32>, next: usize) -> Want
+    ensures { result ≡ want_if word (λ x. form.Changes (change.Sets variable x) next) }
+{
+    match word {
+        Some(word) => Want::Changes(Change::Sets(variable, word), next),
+        None => Want::Fails(FaultKind::ZeroDivisor),
+    }
+}
+
+// What an item wants that reads the array's element at the index, if it has one.
+#[inline(always)]
+fn want_to_read(variable: u32, array: Array, index: Option<u32>, next: usize) -> Want
+    ensures { result ≡ want_if index (λ k. form.Reads variable array k next) }
+{
+    match index {
+        Some(index) => Want::Reads(variable, array, index, next),
+        None => Want::Fails(FaultKind::ZeroDivisor),
+    }
+}
+
+// What an item wants that writes the word at the index of the array, if it has one.
+#[inline(always)]
+fn want_to_write(array: Array, index: u32, word: Option<u32>, next: usize) -> Want
+    ensures { result ≡ want_if word (λ x. form.Writes array index x next) }
+{
+    match word {
+        Some(word) => Want::Writes(array, index, word, next),
+        None => Want::Fails(FaultKind::ZeroDivisor),
+    }
+}
+
+// What an item wants that sets the variable to the four words, if it has them.
+#[inline(always)]
+fn want_to_set_four(variable: u32, four: Option<Four>, next: usize) -> Want
+    ensures { result ≡ want_if (option_map four_of four)
+        (λ u. form.Changes (change.SetsFour variable (held_four u)) next) }
+{
+    match four {
+        Some(four) => Want::Changes(Change::SetsFour(variable, four), next),
+        None => Want::Fails(FaultKind::ZeroDivisor),
+    }
+}
+
+// What an item wants that reads the array's four elements at the offset, if it has one.
+#[inline(always)]
+fn want_to_read_four(variable: u32, array: Array, offset: Option<u32>, next: usize) -> Want
+    ensures { result ≡ want_if offset (λ k. form.ReadsFour variable array k next) }
+{
+    match offset {
+        Some(offset) => Want::ReadsFour(variable, array, offset, next),
+        None => Want::Fails(FaultKind::ZeroDivisor),
+    }
+}
+
+// What an item wants that writes the four words at the offset of the array, if it has them.
+#[inline(always)]
+fn want_to_write_four(array: Array, offset: u32, four: Option<Four>, next: usize) -> Want
+    ensures { result ≡ want_if (option_map four_of four)
+        (λ u. form.WritesFour array offset (held_four u) next) }
+{
+    match four {
+        Some(four) => Want::WritesFour(array, offset, four, next),
+        None => Want::Fails(FaultKind::ZeroDivisor),
     }
 }
 

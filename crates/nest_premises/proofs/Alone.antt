@@ -1,6 +1,6 @@
 -- Where no parallel map stands in a term without a broken rule.
 use Rattle.std.proofs.Common.{◌≡◌, Bool, true, false, List, ◌∷◌, refl}
-use Rattle.std.proofs.lemmas.Bool.{or_left, not_from_false}
+use Rattle.std.proofs.lemmas.Bool.{and_from, or_left, not_from_false}
 use Rattle.std.specs.Prelude.{not, ◌&&◌, ◌||◌}
 use Rattle.lift_tree.specs.declared.term.UnaryForm.TheVariants as unary
 use Rattle.lift_tree.specs.declared.term.BinaryForm.TheVariants as binary
@@ -26,10 +26,6 @@ three true true false e h k = absurd (cc)
 three true false z e h k = absurd (cc)
 three false y z e h k = absurd (cc)
 
-pub two : (x y : Bool) → x ≡ true → y ≡ true → (x && y) ≡ true
-two true y e h = h
-two false y e h = absurd (cc)
-
 -- in an element term
 pub element_alone : (t : Tree) (n : Annotation) → IsElementTerm t n → is_task t ≡ true
 element_alone (tree.Variable v) (Leaf a) o = refl
@@ -38,10 +34,10 @@ element_alone (tree.Unary (unary.Div j) t) (One a n) o = element_alone t n o
 element_alone (tree.Unary (unary.Rem j) t) (One a n) o = element_alone t n o
 element_alone (tree.Unary unary.First t) (One a n) o = element_alone t n o
 element_alone (tree.Unary unary.Second t) (One a n) o = element_alone t n o
-element_alone (tree.Binary (binary.Operator q) t u) (Two a n m) o = two _ _ (element_alone t n o.0) (element_alone u m o.1)
-element_alone (tree.Binary binary.Pair t u) (Two a n m) o = two _ _ (element_alone t n o.0) (element_alone u m o.1)
+element_alone (tree.Binary (binary.Operator q) t u) (Two a n m) o = and_from _ _ (element_alone t n o.0) (element_alone u m o.1)
+element_alone (tree.Binary binary.Pair t u) (Two a n m) o = and_from _ _ (element_alone t n o.0) (element_alone u m o.1)
 element_alone (tree.Select t u x) (Three a n m l) o = three _ _ _ (element_alone t n o.0) (element_alone u m o.1) (element_alone x l o.2)
-element_alone (tree.Let v b) (Two a n m) o = two _ _ (element_alone v n o.1) (element_alone b m o.2)
+element_alone (tree.Let v b) (Two a n m) o = and_from _ _ (element_alone v n o.1) (element_alone b m o.2)
 element_alone _ _ o = absurd o
 
 module _ (d : Declared) where
@@ -60,10 +56,10 @@ module _ (d : Declared) where
   argument_alone s g (tree.Unary unary.ToLocal t) (One a n) y h w i q = true_is_not_false (not s.in_group) (not_from_false s.in_group q) (not_left (not s.in_group) s.in_local (not_left (not s.in_group || s.in_local) (not (shows_local_map t)) (h.0 N5)))
   argument_alone s g (tree.Unary unary.ToPrivate t) (One a n) y h w i q = true_is_not_false (not s.in_item) (not_from_false s.in_item i) (not_left (not s.in_item) (hangs_on_sizes a) (h.0 N8))
   argument_alone s g (tree.Unary unary.Then t) (One a n) y h w i q = argument_alone _ g t n y.0 h.1 w i q
-  argument_alone s g (tree.Binary f t u) (Two a n m) y h w i q = two _ _ (argument_alone _ g t n y.0 h.1 w i q) (argument_alone _ g u m y.1 h.2 w i q)
+  argument_alone s g (tree.Binary f t u) (Two a n m) y h w i q = and_from _ _ (argument_alone _ g t n y.0 h.1 w i q) (argument_alone _ g u m y.1 h.2 w i q)
   argument_alone s g (tree.Select t u x) (Three a n m l) y h w i q = three _ _ _ (argument_alone _ g t n y.0 h.1 w i q) (argument_alone _ g u m y.1 h.2 w i q) (argument_alone _ g x l y.2 h.3 w i q)
   argument_alone s g (tree.Let v b) (Two a n m) y h w i q =
-      two _ _ (argument_alone _ g v n y.0 h.1 (or_left s.in_argument (not (is_element (type_in n))) w) i q) (argument_alone _ (type_in n ∷ g) b m y.1 h.2 w i q)
+      and_from _ _ (argument_alone _ g v n y.0 h.1 (or_left s.in_argument (not (is_element (type_in n))) w) i q) (argument_alone _ (type_in n ∷ g) b m y.1 h.2 w i q)
   argument_alone s g (tree.Map j xs b) (Two a n m) y h w i q = no_map s j xs b a n m h.0 w
   argument_alone s g (tree.Fold j xs x b) (Three a n m l) y h w i q = no_fold s j xs x b a n m l h.0 w
   argument_alone s g _ _ y h w i q = absurd y
@@ -83,11 +79,11 @@ module _ (d : Declared) where
   body_alone s g (tree.Unary unary.ToLocal t) (One a n) y h w i = body_alone _ g t n y.0 h.1 w i
   body_alone s g (tree.Unary unary.ToPrivate t) (One a n) y h w i = body_alone _ g t n y.0 h.1 w i
   body_alone s g (tree.Unary unary.Then t) (One a n) y h w i = body_alone _ g t n y.0 h.1 w i
-  body_alone s g (tree.Binary f t u) (Two a n m) y h w i = two _ _ (body_alone _ g t n y.0 h.1 w i) (body_alone _ g u m y.1 h.2 w i)
+  body_alone s g (tree.Binary f t u) (Two a n m) y h w i = and_from _ _ (body_alone _ g t n y.0 h.1 w i) (body_alone _ g u m y.1 h.2 w i)
   body_alone s g (tree.Select t u x) (Three a n m l) y h w i = three _ _ _ (body_alone _ g t n y.0 h.1 w i) (body_alone _ g u m y.1 h.2 w i) (body_alone _ g x l y.2 h.3 w i)
-  body_alone s g (tree.Let v b) (Two a n m) y h w i = two _ _ (body_alone _ g v n y.0 h.1 w i) (body_alone _ (type_in n ∷ g) b m y.1 h.2 w i)
-  body_alone s g (tree.Map map_kind.Plain xs b) (Two a n m) y h w i = two _ _ (body_alone _ g xs n y.2 h.1 w i) (body_alone _ (y.0 ∷ g) b m y.4 h.2 (or_left s.in_parallel false w) refl)
-  body_alone s g (tree.Map map_kind.Sequential xs b) (Two a n m) y h w i = two _ _ (body_alone _ g xs n y.2 h.1 w i) (body_alone _ (y.0 ∷ g) b m y.4 h.2 (or_left s.in_parallel false w) refl)
+  body_alone s g (tree.Let v b) (Two a n m) y h w i = and_from _ _ (body_alone _ g v n y.0 h.1 w i) (body_alone _ (type_in n ∷ g) b m y.1 h.2 w i)
+  body_alone s g (tree.Map map_kind.Plain xs b) (Two a n m) y h w i = and_from _ _ (body_alone _ g xs n y.2 h.1 w i) (body_alone _ (y.0 ∷ g) b m y.4 h.2 (or_left s.in_parallel false w) refl)
+  body_alone s g (tree.Map map_kind.Sequential xs b) (Two a n m) y h w i = and_from _ _ (body_alone _ g xs n y.2 h.1 w i) (body_alone _ (y.0 ∷ g) b m y.4 h.2 (or_left s.in_parallel false w) refl)
   body_alone s g (tree.Map map_kind.Global xs b) (Two a n m) y h w i = true_is_not_false s.in_parallel w (h.0 N3)
   body_alone s g (tree.Map map_kind.WorkGroup xs b) (Two a n m) y h w i = true_is_not_false s.in_parallel w (h.0 N3)
   body_alone s g (tree.Map map_kind.Local xs b) (Two a n m) y h w i = true_is_not_false (not s.is_next_to_group) (not_from_false s.is_next_to_group i) (h.0 N2)

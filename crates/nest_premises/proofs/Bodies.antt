@@ -1,6 +1,6 @@
 -- In the body of a map over work-groups, outside its local maps: what the group's items do
 -- together.
-use Rattle.std.proofs.Common.{◌≡◌, ◌∙◌, Bool, true, false, List, ◌∷◌, refl, sym, ap, subst}
+use Rattle.std.proofs.Common.{◌≡◌, ◌∙◌, true, false, List, ◌∷◌, refl, sym, ap, subst}
 use Rattle.std.proofs.lemmas.Bool.{true≢false, both_ways, and_from, or_parts, not_from_false}
 use Rattle.std.specs.Prelude.{not, ◌&&◌, ◌||◌}
 use Rattle.lift_tree.specs.declared.term.UnaryForm.TheVariants as unary
@@ -25,17 +25,12 @@ use Rattle.lowered_tree.specs.Kinds.{is_sequential}
 use Rattle.nest_premises.specs.Unbroken.{IsUnbrokenAt, AllUnbroken}
 use Rattle.group_form.specs.Forms.{StandsInGroup}
 use Rattle.nest_premises.proofs.Known.{Known}
-use Rattle.nest_premises.proofs.Rules.{of_layout}
+use Rattle.nest_premises.proofs.Rules.{of_layout, spared}
 use Rattle.nest_premises.proofs.Inputs.{no_private_copy}
 
 -- in a mapWrg's body, and in no work-item's
 abbrev pub IsInGroup : Around → Type 0
 IsInGroup s = (s.in_group ≡ true) × (s.in_local ≡ false) × (s.in_item ≡ false) × (s.in_parallel ≡ true)
-
--- what a rule asks besides isn't so
-spared : (x y : Bool) → (x && y) ≡ false → x ≡ true → y ≡ false
-spared true y e h = e
-spared false y e h = absurd (cc)
 
 -- in writing position, where no element is written
 written_array : (s : Around) (a : PlainTy) → s.is_written ≡ true → is_element a ≡ false → (s.is_written && not (is_element a)) ≡ true

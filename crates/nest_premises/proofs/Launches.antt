@@ -12,12 +12,12 @@ use Rattle.lift_tree.specs.Annotations.{Annotation, One, Two, type_in, Annotates
 use Rattle.lift_ir.specs.Forms.{StandsOverLaunch}
 use Rattle.lift_ir.specs.Lowering.{Written, lower}
 use Rattle.lift_ir.specs.Lowerable.{IsStaged}
+use Rattle.lift_ir.proofs.Elements.{told_ir}
 use Rattle.lift_ir.proofs.Lets.{written_let, let_parts}
 use Rattle.lift_ir.proofs.Reshaped.{through_layout}
 use Rattle.lowered_tree.specs.declared.around.Around.{Around}
 use Rattle.lowered_tree.specs.Kinds.{is_global}
 use Rattle.nest_premises.specs.Unbroken.{AllUnbroken}
-use Rattle.nest_premises.proofs.Rules.{told_ir}
 use Rattle.nest_premises.proofs.Stands.{argument_stands, written_stands}
 use Rattle.nest_premises.proofs.Alone.{argument_alone, body_alone}
 use Rattle.nest_premises.proofs.Top.{Over, let_of_array, global_parallel}

@@ -1,11 +1,10 @@
 -- Each node of a term within the limits on types has few scalars.
-use Rattle.std.proofs.Common.{◌≡◌, ◌∙◌, ℕ, zero, suc, ◌*◌, ◌<◌, ◌≤◌, ◌^◌, List, [], ◌∷◌, Some, sym, subst, arith}
-use Rattle.std.specs.Prelude.{slice_get}
+use Rattle.std.proofs.Common.{◌≡◌, ℕ, ◌*◌, ◌<◌, ◌≤◌, ◌^◌, List, [], ◌∷◌, sym, subst, arith, inl, inr}
+use Rattle.std.specs.Prelude.{◌⊎◌}
 use Rattle.std.proofs.lemmas.Nat.{mul-le}
 use Rattle.size_arith.specs.declared.poly.Monomial.{Monomial}
 use Rattle.size_arith.specs.Ranges.{Admissible}
 use Rattle.lift_tree.specs.declared.layout.Layout as layout
-use Rattle.lift_tree.specs.declared.layout.Layout.TheVariants as layouts
 use Rattle.lift_tree.specs.declared.term.UnaryForm.{UnaryForm}
 use Rattle.lift_tree.specs.declared.term.UnaryForm.TheVariants as unary
 use Rattle.lift_tree.specs.declared.term.BinaryForm.{BinaryForm}
@@ -16,20 +15,16 @@ use Rattle.lift_tree.specs.Tree.{Tree}
 use Rattle.lift_tree.specs.Types as types
 use Rattle.lift_tree.specs.Types.{PlainTy, IsFormed}
 use Rattle.lift_tree.specs.Limits.{ArrayFits, OuterFits, HasFewScalars, LayoutFits, UnaryFits, NodesFit}
-use Rattle.lift_tree.specs.Typing.{Declared, IsDeclared, LayoutRow, UnaryRow, BinaryRow}
+use Rattle.lift_tree.specs.Typing.{Declared, IsDeclared, UnaryRow, BinaryRow}
 use Rattle.lift_tree.specs.Annotations.{Annotation, Leaf, One, Two, Three, type_in, Annotates}
-use Rattle.lift_tree.proofs.Formed.{formed}
-use Rattle.lift_tree.proofs.Annotated.{annotated_is_typed}
+use Rattle.lift_tree.proofs.EveryAt.{every_at}
+use Rattle.lift_tree.proofs.Formed.{formed_in}
+use Rattle.lift_tree.proofs.Layouts.{FormsAnew, layout_cases}
 use Rattle.lift_ir.specs.Types.{IsShort, size}
 use Rattle.lift_ir.specs.AtLaunch.{length_at, ty_at}
 use Rattle.lowered_tree.specs.Words.{FormHasWords, FormsHaveWords}
 use Rattle.nest_premises.proofs.Fits.{FormFits, Fits}
 use Rattle.nest_premises.proofs.Few.{Few, fewer, short_of, size_of, few_of}
-
-every_at : {A : Type 0} (P : A → Type 0) (xs : List A) (i : ℕ) (x : A) → Every P xs → slice_get xs i ≡ Some x → P x
-every_at P [] i x h e = absurd (cc)
-every_at P (y ∷ xs) zero x h e = let c : y ≡ x = cc in subst P c h.0
-every_at P (y ∷ xs) (suc i) x h e = every_at P xs i x h.1 e
 
 module _ (d : Declared) (declared : IsDeclared d) (scalars : Every (HasFewScalars d.names) d.inputs) (bases : List ℕ) (ok : Admissible d.names bases) where
   abbrev pub IsFew : PlainTy → Type 0
@@ -64,19 +59,16 @@ module _ (d : Declared) (declared : IsDeclared d) (scalars : Every (HasFewScalar
   outer : (a x : PlainTy) (l : List Monomial) → a ≡ types.ArrayOf x l → IsFormed d.names a → OuterFits d.names a → IsFew a
   outer a x l e f h = formed_few a x l e f (subst (OuterFits d.names) e h)
 
-  layout_few : (l : layout.Layout) (b a : PlainTy) → LayoutRow d.names l b a → LayoutFits d.names l b → IsFormed d.names a → IsFew b → IsFew a
-  layout_few layouts.Join b a r u f h = formed_few a _ _ r.4 f (subst (LayoutFits d.names layouts.Join) r.3 u).1
-  layout_few layouts.Transpose b a r u f h = formed_few a _ _ r.4 f (subst (LayoutFits d.names layouts.Transpose) r.3 u).1
-  layout_few (layouts.Split fs) b a r u f h = formed_few a _ _ r.4 f (subst (LayoutFits d.names (layouts.Split fs)) r.2 u).2
-  layout_few layouts.Reverse b a r u f h = subst IsFew (r.2 ∙ sym r.3) h
-  layout_few (layouts.Stride fs) b a r u f h = subst IsFew (r.2 ∙ sym r.4) h
+  layout_few : (l : layout.Layout) (b a : PlainTy) → (b ≡ a) ⊎ FormsAnew d.names l b a → LayoutFits d.names l b → IsFew b → IsFew a
+  layout_few l b a (inl e) u h = subst IsFew e h
+  layout_few l b a (inr r) u h = formed_few a r.element r.length r.is r.formed (r.fits u)
 
   unary_few : (f : UnaryForm) (b a : PlainTy) → UnaryRow d.names f b a → UnaryFits d.names f b → IsFormed d.names a → IsFew b → IsFew a
   unary_few (unary.Div n) b a r u f h = number a r.2
   unary_few (unary.Rem n) b a r u f h = number a r.2
   unary_few unary.First b a r u f h = (subst IsFew r.1 h).0
   unary_few unary.Second b a r u f h = (subst IsFew r.1 h).1
-  unary_few (unary.Layout l) b a r u f h = layout_few l b a r u f h
+  unary_few (unary.Layout l) b a r u f h = layout_few l b a (layout_cases d.names l b a r) u h
   unary_few (unary.Slide s t) b a r u f h = formed_few a _ _ r.6 f (subst (UnaryFits d.names (unary.Slide s t)) r.2 u).3
   unary_few (unary.Pad l k) b a r u f h = formed_few a _ _ r.3 f (subst (UnaryFits d.names (unary.Pad l k)) r.2 u).2
   unary_few unary.ToLocal b a r u f h = subst IsFew r h
@@ -101,41 +93,38 @@ module _ (d : Declared) (declared : IsDeclared d) (scalars : Every (HasFewScalar
   form_fits unary.ToPrivate a s h = small a h
   form_fits unary.Then a s h = tt
 
-  formed_in : (g : List PlainTy) (t : Tree) (n : Annotation) → Every (IsFormed d.names) g → Annotates d g t n → IsFormed d.names (type_in n)
-  formed_in g t n all y = formed d declared.inputs g t (type_in n) all (annotated_is_typed d g t n y)
-
   pub fits_in : (g : List PlainTy) (t : Tree) (n : Annotation) → Every (IsFormed d.names) g → Every IsFew g → Annotates d g t n → NodesFit d.names t n → FormsHaveWords t → Fits bases t n × IsFew (type_in n)
   fits_in g (tree.Variable v) (Leaf a) all few y h s = let b = every_at IsFew g v a few y in (short a b, b)
   fits_in g (tree.Number v) (Leaf a) all few y h s = let b = number a y.1 in (short a b, b)
   fits_in g (tree.Input i) (Leaf a) all few y h s = let b = every_at IsFew d.inputs i a (few_all d.inputs declared.inputs scalars) y in (short a b, b)
   fits_in g (tree.Unary f t) (One a n) all few y h s =
       let r = fits_in g t n all few y.0 h.0 s.1 in
-      let b = unary_few f (type_in n) a y.1 h.1 (formed_in g (tree.Unary f t) (One a n) all y) r.1 in
+      let b = unary_few f (type_in n) a y.1 h.1 (formed_in d declared.inputs g (tree.Unary f t) (One a n) all y) r.1 in
       ((short a b, form_fits f a s.0 b, r.0), b)
   fits_in g (tree.Binary f t u) (Two a n m) all few y h s =
       let r = fits_in g t n all few y.0 h.0 s.0 in
       let q = fits_in g u m all few y.1 h.1 s.1 in
-      let b = binary_few f (type_in n) (type_in m) a y.2 h.2 (formed_in g (tree.Binary f t u) (Two a n m) all y) r.1 q.1 in
+      let b = binary_few f (type_in n) (type_in m) a y.2 h.2 (formed_in d declared.inputs g (tree.Binary f t u) (Two a n m) all y) r.1 q.1 in
       ((short a b, r.0, q.0), b)
   fits_in g (tree.Select t u x) (Three a n m l) all few y h s =
       let b = number a y.6 in
       ((short a b, (fits_in g t n all few y.0 h.0 s.0).0, (fits_in g u m all few y.1 h.1 s.1).0, (fits_in g x l all few y.2 h.2 s.2).0), b)
   fits_in g (tree.Let v c) (Two a n m) all few y h s =
       let r = fits_in g v n all few y.0 h.0 s.0 in
-      let q = fits_in (type_in n ∷ g) c m (formed_in g v n all y.0, all) (r.1, few) y.1 h.1 s.1 in
+      let q = fits_in (type_in n ∷ g) c m (formed_in d declared.inputs g v n all y.0, all) (r.1, few) y.1 h.1 s.1 in
       let b = subst IsFew (sym y.2) q.1 in
       ((short a b, r.0, q.0), b)
   fits_in g (tree.Map j xs c) (Two a n m) all few y h s =
       let r = fits_in g xs n all few y.2 h.0 s.0 in
-      let x = subst (IsFormed d.names) y.3 (formed_in g xs n all y.2) in
+      let x = subst (IsFormed d.names) y.3 (formed_in d declared.inputs g xs n all y.2) in
       let q = fits_in (y.0 ∷ g) c m (x.1, all) (element (type_in n) y.0 y.1 y.3 r.1, few) y.4 h.1 s.1 in
-      let b = outer a _ _ y.5 (formed_in g (tree.Map j xs c) (Two a n m) all y) h.2 in
+      let b = outer a _ _ y.5 (formed_in d declared.inputs g (tree.Map j xs c) (Two a n m) all y) h.2 in
       ((short a b, r.0, q.0), b)
   fits_in g (tree.Fold j xs z c) (Three a n m l) all few y h s =
       let r = fits_in g xs n all few y.2 h.0 s.0 in
       let p = fits_in g z m all few y.4 h.1 s.1 in
-      let x = subst (IsFormed d.names) y.3 (formed_in g xs n all y.2) in
-      let q = fits_in (y.0 ∷ type_in m ∷ g) c l (x.1, (formed_in g z m all y.4, all)) (element (type_in n) y.0 y.1 y.3 r.1, (p.1, few)) y.6 h.2 s.2 in
-      let b = outer a _ _ y.8 (formed_in g (tree.Fold j xs z c) (Three a n m l) all y) h.3 in
+      let x = subst (IsFormed d.names) y.3 (formed_in d declared.inputs g xs n all y.2) in
+      let q = fits_in (y.0 ∷ type_in m ∷ g) c l (x.1, (formed_in d declared.inputs g z m all y.4, all)) (element (type_in n) y.0 y.1 y.3 r.1, (p.1, few)) y.6 h.2 s.2 in
+      let b = outer a _ _ y.8 (formed_in d declared.inputs g (tree.Fold j xs z c) (Three a n m l) all y) h.3 in
       ((short a b, r.0, p.0, q.0), b)
   fits_in g _ _ all few y h s = absurd y

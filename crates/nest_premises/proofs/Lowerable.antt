@@ -15,13 +15,14 @@ use Rattle.lift_ir.specs.Types.{IsShort}
 use Rattle.lift_ir.specs.AtLaunch.{length_at, ty_at, outer_of}
 use Rattle.lift_ir.specs.Lowering.{Written, Argument, Element}
 use Rattle.lift_ir.specs.Lowerable.{IsElementTerm, IsStaged, IsLowerable}
+use Rattle.lift_ir.proofs.Elements.{from_ir, told_element, told_ir}
 use Rattle.lift_ir.proofs.Typed.{told, flat_at}
 use Rattle.lowered_tree.specs.declared.around.Around.{Around}
 use Rattle.lowered_tree.specs.declared.rule.NestRule.TheVariants.{N6, N8, N10, N11}
 use Rattle.lowered_tree.specs.Elements.{hangs_on_sizes}
 use Rattle.nest_premises.specs.Unbroken.{AllUnbroken}
 use Rattle.nest_premises.proofs.Fits.{Fits}
-use Rattle.nest_premises.proofs.Rules.{moved, of_layout, not_right, told_element, told_ir, from_ir}
+use Rattle.nest_premises.proofs.Rules.{moved, of_layout, not_right}
 use Rattle.nest_premises.proofs.Staged.{passes, refused, same_literal}
 
 element_holds : (a : PlainTy) → is_element a ≡ true → types.HoldsElements a

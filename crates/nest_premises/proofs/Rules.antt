@@ -1,7 +1,6 @@
 -- Rules of the nest, at each node of a term.
 use Rattle.std.proofs.Common.{◌≡◌, ℕ, Bool, true, false, List, [], ◌∷◌, ◌++◌, refl, sym, subst}
-use Rattle.std.proofs.lemmas.Bool.{and_from}
-use Rattle.std.specs.Prelude.{◌&&◌, ◌||◌, if◌then◌else◌}
+use Rattle.std.specs.Prelude.{◌&&◌, ◌||◌}
 use Rattle.size_arith.specs.declared.names.Name.{Name}
 use Rattle.lift_tree.specs.declared.layout.Layout as layout
 use Rattle.lift_tree.specs.Tree as tree
@@ -13,7 +12,6 @@ use Rattle.lift_tree.specs.Typing.{LayoutRow}
 use Rattle.lift_tree.specs.Annotations.{Annotation, Leaf, One, Two, Three}
 use Rattle.lift_tree.proofs.Layouts.{layout_operand, layout_result}
 use Rattle.lift_ir.specs.Lowerable.{HoldsNoScalar}
-use Rattle.lift_ir.specs.Lowering as ir
 use Rattle.lowered_tree.specs.declared.around.Around.{Around}
 use Rattle.lowered_tree.specs.Nest.{Site, sites, under, in_child, IsUnbroken}
 use Rattle.nest_premises.specs.Unbroken.{AllUnbroken}
@@ -47,11 +45,6 @@ true_is_not_false false e h = absurd (cc)
 
 -- ---- types
 
-pub told_element : (a : PlainTy) → types.IsElement a → is_element a ≡ true
-told_element types.U32 h = refl
-told_element (types.PairOf a b) h = and_from (is_element a) (is_element b) (told_element a h.0) (told_element b h.1)
-told_element (types.ArrayOf a n) h = absurd h
-
 pub no_array : (a : PlainTy) → is_element a ≡ true → is_array a ≡ false
 no_array types.U32 e = refl
 no_array (types.PairOf a b) e = refl
@@ -61,21 +54,6 @@ pub holds_none : (a : PlainTy) → is_array a ≡ true → HoldsNoScalar a
 holds_none types.U32 e = absurd (cc)
 holds_none (types.PairOf a b) e = absurd (cc)
 holds_none (types.ArrayOf a n) e = tt
-
--- a pair with a part that is no element is no element
-pub left_part : (a b : PlainTy) → is_element a ≡ false → is_element (types.PairOf a b) ≡ false
-left_part a b e = go (is_element a) e
-  where
-    go : (x : Bool) → x ≡ false → (x && is_element b) ≡ false
-    go true h = absurd (cc)
-    go false h = refl
-
-pub right_part : (a b : PlainTy) → is_element b ≡ false → is_element (types.PairOf a b) ≡ false
-right_part a b e = go (is_element a)
-  where
-    go : (x : Bool) → (x && is_element b) ≡ false
-    go true = e
-    go false = refl
 
 -- of a node's type, told by an equation
 module _ {A : Type 0} (a b : PlainTy) (e : a ≡ b) where
@@ -94,24 +72,6 @@ of_layout names l b a r = moved is_element false a _ (layout_result names l b a 
 
 pub under_layout : (names : List Name) (l : layout.Layout) (b a : PlainTy) → LayoutRow names l b a → is_element b ≡ false
 under_layout names l b a r = moved is_element false b _ (layout_operand names l b a r).is refl
-
--- the intermediate representation's test of element types
-pub in_ir : (a : PlainTy) → ir.is_element a ≡ is_element a
-in_ir types.U32 = refl
-in_ir (types.PairOf a b) = go (ir.is_element a) (ir.is_element b) (is_element a) (is_element b) (in_ir a) (in_ir b)
-  where
-    go : (x y z w : Bool) → x ≡ z → y ≡ w → (if x then y else false) ≡ (z && w)
-    go true y true w e h = h
-    go false y false w e h = refl
-    go true y false w e h = absurd (cc)
-    go false y true w e h = absurd (cc)
-in_ir (types.ArrayOf a n) = refl
-
-pub told_ir : (v : Bool) (a : PlainTy) → is_element a ≡ v → ir.is_element a ≡ v
-told_ir v a e = subst (λ z. z ≡ v) (sym (in_ir a)) e
-
-pub from_ir : (v : Bool) (a : PlainTy) → ir.is_element a ≡ v → is_element a ≡ v
-from_ir v a e = subst (λ z. z ≡ v) (in_ir a) e
 
 -- ---- nodes
 

@@ -23,6 +23,7 @@ use Rattle.lift_ir.specs.Types.{PairOf, ArrayOf, IsShort, size}
 use Rattle.lift_ir.specs.AtLaunch.{natural, length_at, ty_at}
 use Rattle.lift_ir.specs.Lowering.{Written, Argument}
 use Rattle.lift_ir.specs.Lowerable.{IsElementTerm, HoldsNoScalar, IsStaged}
+use Rattle.lift_ir.proofs.Elements.{left_part, right_part, told_element, told_ir}
 use Rattle.lowered_tree.specs.declared.around.Around.{Around}
 use Rattle.lowered_tree.specs.declared.rule.NestRule.TheVariants.{N1, N6, N7, N8, N10, N11, N13}
 use Rattle.lowered_tree.specs.Around.{under_form}
@@ -31,7 +32,7 @@ use Rattle.lowered_tree.specs.Kinds.{is_plain}
 use Rattle.lowered_tree.specs.Copies.{CopiesArrays}
 use Rattle.nest_premises.specs.Unbroken.{IsUnbrokenAt, AllUnbroken}
 use Rattle.nest_premises.proofs.Fits.{Fits}
-use Rattle.nest_premises.proofs.Rules.{not_left, not_right, spared, true_is_not_false, told_element, no_array, holds_none, left_part, right_part, clash_array, clash_element, moved, under_layout, told_ir}
+use Rattle.nest_premises.proofs.Rules.{not_left, not_right, spared, true_is_not_false, no_array, holds_none, clash_array, clash_element, moved, under_layout}
 
 -- a program's inputs are arrays
 input_is_array : (inputs : List PlainTy) (i : ℕ) (a : PlainTy) → Every IsInput inputs → slice_get inputs i ≡ Some a → is_array a ≡ true

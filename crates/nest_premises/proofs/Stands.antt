@@ -17,6 +17,7 @@ use Rattle.lift_ir.specs.Forms.{Stands}
 use Rattle.lift_ir.specs.Lowering as ir
 use Rattle.lift_ir.specs.Lowering.{Written, Argument, Element, element_ty, lower}
 use Rattle.lift_ir.specs.Lowerable.{IsStaged}
+use Rattle.lift_ir.proofs.Elements.{from_ir}
 use Rattle.lift_ir.proofs.Lets.{argument_let}
 use Rattle.lift_ir.proofs.Reshaped.{through_layout}
 use Rattle.lowered_tree.specs.declared.around.Around.{Around}
@@ -24,7 +25,7 @@ use Rattle.lowered_tree.specs.declared.rule.NestRule.TheVariants.{N5, N10}
 use Rattle.lowered_tree.specs.Forms.{shows_local_map}
 use Rattle.lowered_tree.specs.Kinds.{is_task}
 use Rattle.nest_premises.specs.Unbroken.{AllUnbroken}
-use Rattle.nest_premises.proofs.Rules.{moved, of_layout, and_left, and_right, not_right, from_ir, true_is_not_false}
+use Rattle.nest_premises.proofs.Rules.{moved, of_layout, and_left, and_right, not_right, true_is_not_false}
 use Rattle.nest_premises.proofs.Staged.{passes, refused}
 
 body_staged : (v b : Tree) (a : PlainTy) (n m : Annotation) → IsStaged Written (tree.Let v b) (Two a n m) → ir.is_element a ≡ false → IsStaged Written b m

@@ -1,6 +1,6 @@
 -- Which parallel map is on top of a term without a broken rule.
 use Rattle.std.proofs.Common.{◌≡◌, Bool, true, false, List, ◌∷◌, refl, inl, inr}
-use Rattle.std.proofs.lemmas.Bool.{or_left, or_right, not_from_false}
+use Rattle.std.proofs.lemmas.Bool.{and_from, or_left, or_right, not_from_false, and_right}
 use Rattle.std.specs.Prelude.{not, ◌&&◌, ◌||◌, ◌⊎◌, T}
 use Rattle.lift_tree.specs.declared.term.UnaryForm.TheVariants as unary
 use Rattle.lift_tree.specs.declared.term.BinaryForm.TheVariants as binary
@@ -14,14 +14,15 @@ use Rattle.lift_tree.specs.Typing.{Declared}
 use Rattle.lift_tree.specs.Annotations.{Annotation, Leaf, One, Two, Three, type_in, Annotates}
 use Rattle.lift_ir.specs.Lowering.{Written}
 use Rattle.lift_ir.specs.Lowerable.{IsStaged}
+use Rattle.lift_ir.proofs.Elements.{from_ir}
 use Rattle.lowered_tree.specs.declared.around.Around.{Around}
 use Rattle.lowered_tree.specs.declared.rule.NestRule.TheVariants.{N1, N2, N9, N10}
 use Rattle.lowered_tree.specs.Kinds.{is_global, is_over_groups, is_parallel, is_task}
 use Rattle.lowered_tree.specs.Kind.{shows_map}
 use Rattle.nest_premises.specs.Unbroken.{AllUnbroken}
-use Rattle.nest_premises.proofs.Rules.{spared, true_is_not_false, moved, of_layout, from_ir}
+use Rattle.nest_premises.proofs.Rules.{spared, true_is_not_false, moved, of_layout}
 use Rattle.nest_premises.proofs.Staged.{passes, refused}
-use Rattle.nest_premises.proofs.Alone.{two, three, element_alone, argument_alone}
+use Rattle.nest_premises.proofs.Alone.{three, element_alone, argument_alone}
 
 -- a map of such a kind, seen through join, split, transpose and the bodies of lets
 abbrev pub Over : (MapKind → Bool) → Tree → Annotation → Type 0
@@ -37,10 +38,6 @@ told false e = absurd (cc)
 tells : (x : Bool) → T x → x ≡ true
 tells true h = refl
 tells false h = absurd h
-
-behind_false : (x y : Bool) → y ≡ false → (x && y) ≡ false
-behind_false true y h = h
-behind_false false y h = refl
 
 module _ (p : MapKind → Bool) where
   pub over_shows : (t : Tree) (n : Annotation) → Over p t n → shows_map p t ≡ true
@@ -65,7 +62,7 @@ module _ (p : MapKind → Bool) where
 module _ (p : MapKind → Bool) (parallel : (k : MapKind) → T (p k) → is_parallel k ≡ true) where
   pub over_no_task : (t : Tree) (n : Annotation) → Over p t n → is_task t ≡ false
   over_no_task (tree.Unary (unary.Layout l) t) (One a n) e = over_no_task t n e
-  over_no_task (tree.Let v b) (Two a n m) e = behind_false (is_task v) (is_task b) (over_no_task b m e)
+  over_no_task (tree.Let v b) (Two a n m) e = and_right (is_task v) (is_task b) (over_no_task b m e)
   over_no_task (tree.Map k xs b) (Two a n m) e = no_turn (is_parallel k) (is_task xs) (is_task b) (parallel k e)
     where
       no_turn : (x y z : Bool) → x ≡ true → (not x && y && z) ≡ false
@@ -110,7 +107,7 @@ abbrev pub IsOfAKind : Tree → Annotation → Type 0
 IsOfAKind t n = (is_task t ≡ true) ⊎ Over is_global t n ⊎ Over is_over_groups t n
 
 with_value : (v b : Tree) (a : PlainTy) (n m : Annotation) → is_task v ≡ true → IsOfAKind b m → IsOfAKind (tree.Let v b) (Two a n m)
-with_value v b a n m z (inl e) = inl (two _ _ z e)
+with_value v b a n m z (inl e) = inl (and_from _ _ z e)
 with_value v b a n m z (inr e) = inr e
 
 module _ (d : Declared) where
@@ -125,10 +122,10 @@ module _ (d : Declared) where
   of_a_kind s g (tree.Unary (unary.Layout l) t) (One a n) y h o w i q k = of_a_kind _ g t n y.0 h.1 o (passes s.is_written (is_element a) w (of_layout d.names l _ a y.1)) i q k
   of_a_kind s g (tree.Unary (unary.Slide j l) t) (One a n) y h o w i q k = refused s.is_written (is_element a) (h.0 N10) w (moved is_element false a (types.ArrayOf _ _) y.1.6 refl)
   of_a_kind s g (tree.Unary (unary.Pad j l) t) (One a n) y h o w i q k = refused s.is_written (is_element a) (h.0 N10) w (moved is_element false a (types.ArrayOf _ _) y.1.3 refl)
-  of_a_kind s g (tree.Binary (binary.Operator r) t u) (Two a n m) y h o w i q k = inl (two _ _ (element_alone t n o.0) (element_alone u m o.1))
-  of_a_kind s g (tree.Binary binary.Pair t u) (Two a n m) y h o w i q k = inl (two _ _ (element_alone t n o.0) (element_alone u m o.1))
+  of_a_kind s g (tree.Binary (binary.Operator r) t u) (Two a n m) y h o w i q k = inl (and_from _ _ (element_alone t n o.0) (element_alone u m o.1))
+  of_a_kind s g (tree.Binary binary.Pair t u) (Two a n m) y h o w i q k = inl (and_from _ _ (element_alone t n o.0) (element_alone u m o.1))
   of_a_kind s g (tree.Select t u x) (Three a n m l) y h o w i q k = inl (three _ _ _ (element_alone t n o.0) (element_alone u m o.1) (element_alone x l o.2))
-  of_a_kind s g (tree.Let v b) (Two a n m) y h (inl o) w i q k = inl (two _ _ (element_alone v n o.2) (element_alone b m o.3))
+  of_a_kind s g (tree.Let v b) (Two a n m) y h (inl o) w i q k = inl (and_from _ _ (element_alone v n o.2) (element_alone b m o.3))
   of_a_kind s g (tree.Let v b) (Two a n m) y h (inr (inl o)) w i q k =
       with_value v b a n m (element_alone v n o.2) (of_a_kind _ (type_in n ∷ g) b m y.1 h.2 o.3 (passes s.is_written (is_element a) w (from_ir false a o.0)) i q k)
   of_a_kind s g (tree.Let v b) (Two a n m) y h (inr (inr o)) w i q k =
@@ -150,7 +147,7 @@ module _ (d : Declared) where
       nor false e = refl
 
       go : IsOfAKind b m → IsOfAKind (tree.Map map_kind.Sequential xs b) (Two a n m)
-      go (inl e) = inl (two _ _ (argument_alone d _ g xs n y.2 h.1 (or_right s.in_argument true refl) i q) e)
+      go (inl e) = inl (and_from _ _ (argument_alone d _ g xs n y.2 h.1 (or_right s.in_argument true refl) i q) e)
       go (inr (inl e)) = not_serial is_global global_parallel d _ (y.0 ∷ g) b m y.4 h.2 (or_right s.in_serial true refl) e
       go (inr (inr e)) = not_serial is_over_groups group_parallel d _ (y.0 ∷ g) b m y.4 h.2 (or_right s.in_serial true refl) e
   of_a_kind s g (tree.Fold j xs x b) (Three a n m l) y h o w i q k = inl (three _ _ _ (argument_alone d _ g xs n y.2 h.1 (or_right s.in_argument true refl) i q) (element_alone x m o.1) (element_alone b l o.2))

@@ -1,15 +1,15 @@
 -- Legal terms can be lowered and printed.
-use Rattle.std.proofs.Common.{◌≡◌, ℕ, ◌/◌, ◌<◌, ◌^◌, Bool, true, false, List, [], ◌∷◌, refl, sym, ◌∙◌, subst, inl, inr, arith, Option}
+use Rattle.std.proofs.Common.{◌≡◌, ℕ, ◌<◌, ◌^◌, Bool, true, false, List, [], ◌∷◌, refl, sym, ◌∙◌, subst, inl, inr, Option}
 use Rattle.std.specs.Prelude.{◌↔◌}
-use Rattle.std.proofs.Math.Nat.{mul-div-le, mod-eq-sub-mul-div}
-use Rattle.size_arith.specs.declared.names.Name.{Name}
-use Rattle.size_arith.specs.Ranges.{AreNames, IsName, IsAdmissible, Admissible, leasts}
+use Rattle.size_arith.specs.Ranges.{Admissible, leasts}
+use Rattle.size_arith.proofs.LeastSizes.{leasts_are_admissible}
 use Rattle.lift_tree.specs.Tree.{Tree}
 use Rattle.lift_tree.specs.Types.{PlainTy, IsInput, IsOutput, is_element}
 use Rattle.lift_tree.specs.Lists.{Every}
-use Rattle.lift_tree.specs.Limits.{HasFewScalars, TypeFits}
+use Rattle.lift_tree.specs.Limits.{HasFewScalars}
 use Rattle.lift_tree.specs.Typing.{Declared}
 use Rattle.lift_tree.specs.Annotations.{Annotation, type_in}
+use Rattle.lift_tree.proofs.WithinLimits.{all_few}
 use Rattle.kernel_tree.specs.Launch.{Launch}
 use Rattle.kernel_tree.proofs.Grouping.{flat_items}
 use Rattle.lift_ir.specs.Types.{IsFlat, IsShort, IsPlaced, size}
@@ -39,26 +39,6 @@ use Rattle.nest_premises.proofs.OfKinds.{task_kind, kind_of_task, groups_kind, s
 use Rattle.nest_premises.proofs.Launches.{over_launch}
 use Rattle.nest_premises.proofs.Limited.{IsFew, few_all, short, small, fits_in}
 
--- ---- the least sizes are admissible
-
-least_admissible : (n : Name) → IsName n → IsAdmissible n (n.from / n.multiple)
-least_admissible n h =
-    let a = mod-eq-sub-mul-div n.from n.multiple in
-    let b = mul-div-le n.from n.multiple in
-    let c = h.from_divides in
-    let o = h.ordered in
-    (omega (arith, a, b, c), omega (arith, b, o))
-
-leasts_admissible : (names : List Name) → AreNames names → Admissible names (leasts names)
-leasts_admissible [] h = tt
-leasts_admissible (n ∷ names) h = (least_admissible n h.0, leasts_admissible names h.1)
-
--- ---- inputs
-
-all_few : (names : List Name) (tys : List PlainTy) → Every (TypeFits names) tys → Every (HasFewScalars names) tys
-all_few names [] h = tt
-all_few names (a ∷ tys) h = (h.0.scalars, all_few names tys h.1)
-
 -- ---- a legal term
 
 module _ (d : Declared) (t : Tree) (n : Annotation) (r : IsLegalTerm d t n) (copies : CopiesArrays t n) where
@@ -73,7 +53,7 @@ module _ (d : Declared) (t : Tree) (n : Annotation) (r : IsLegalTerm d t n) (cop
 
   -- at the least sizes, and so at all
   staged : IsStaged ir.Written t n
-  staged = written d r.declared.arrays (leasts d.names) (is_element (type_in n)) (at_root t) [] t n r.nodes unbroken copies (limited (leasts d.names) (leasts_admissible d.names r.declared.names)).0 refl refl
+  staged = written d r.declared.arrays (leasts d.names) (is_element (type_in n)) (at_root t) [] t n r.nodes unbroken copies (limited (leasts d.names) (leasts_are_admissible d.names r.declared.names)).0 refl refl
 
   placed : (bases : List ℕ) (ok : Admissible d.names bases) (a : PlainTy) → IsOutput a → IsFew d r.declared scalars bases ok a → IsPlaced (length_at bases) (shape_of a)
   placed bases ok a o h =

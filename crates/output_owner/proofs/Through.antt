@@ -1,7 +1,8 @@
 -- Through layouts and the bodies of lets to the map on top.
-use Rattle.std.proofs.Common.{◌≡◌, ℕ, ◌*◌, ◌/◌, ◌%◌, ◌<◌, ◌^◌, Bool, true, false, List, [], ◌∷◌, refl, sym, ap, ◌∙◌, subst, arith, pos, ◌≤ℤ◌, ◌⊎◌, inl, inr}
+use Rattle.std.proofs.Common.{◌≡◌, ℕ, ◌+◌, ◌-◌, ◌*◌, ◌/◌, ◌%◌, ◌<◌, ◌^◌, Bool, true, false, List, [], ◌∷◌, refl, sym, ap, ap₂, ◌∙◌, subst, arith, pos, ◌≤ℤ◌, ◌⊎◌, inl, inr}
 use Rattle.std.specs.Prelude.{if◌then◌else◌, IfSome, MatchOption, Option, Some, None}
 use Rattle.std.proofs.Math.Nat.{mod-lt, mul-div_cancel_left}
+use Rattle.std.proofs.lemmas.Nat.{div-add-mod'}
 use Rattle.size_arith.specs.declared.names.Name.{Name}
 use Rattle.size_arith.specs.declared.poly.Monomial.{Monomial}
 use Rattle.size_arith.specs.Polynomial.{of_monomial, quotient, value_at}
@@ -30,6 +31,7 @@ use Rattle.lift_ir.specs.Terms.{Kind, Global, WorkGroup, Local, Sequential, Load
 use Rattle.lift_ir.specs.Terms as terms
 use Rattle.lift_ir.specs.Types as shapes
 use Rattle.lift_ir.specs.Types.{Ty, size, unflat}
+use Rattle.lift_ir.proofs.Positions as positions
 use Rattle.lift_ir.proofs.AtLaunch.{join_reshapes, split_reshapes, stride_lengths, Strides}
 use Rattle.output_owner.specs.Bases.{bases_of}
 use Rattle.output_owner.specs.declared.walk.OnTop.{OnTop}
@@ -38,7 +40,72 @@ use Rattle.output_owner.specs.Numbers.{HasStep, IsOfComponent, IsStepOf, moved, 
 use Rattle.output_owner.specs.Written.{IsScalarOf, IsWritten}
 use Rattle.output_owner.proofs.Legal.{below_layout, below_let, below_map, no_pad, no_slide, one_test, operand_formed}
 use Rattle.output_owner.proofs.Products.{second_below, second_some}
-use Rattle.output_owner.proofs.Rows.{join_position, moves, reverse_position, split_position, stride_position, transpose_position, turns}
+use Rattle.output_owner.proofs.Rows.{Moves, Turns, in_rows, moves, stride_moves, turns}
+
+-- ---- the positions of numbers through layouts
+
+join_position : {A : Type 0} (num : A → ℕ) (m : A) (t u : Ty) (k : ℕ) → Reshapes num (layouts.Join m) t u → 0 < size u → operand_position num (layouts.Join m) (unflat u k) ≡ unflat t k
+join_position num m (shapes.ArrayOf n (shapes.ArrayOf c e)) u k h some = go c h.1
+  where
+    go : (d : ℕ) → d ≡ num m → operand_position num (layouts.Join m) (unflat u k) ≡ k / (d * size e) ∷ k % (d * size e) / size e ∷ unflat e (k % (d * size e) % size e)
+    go d same =
+        let s = size e in
+        let hs : 0 < s = second_some (n * num m) s (subst (λ z. 0 < size z) h.2 some) in
+        let rows = in_rows k s (num m) hs h.0 in
+        subst (λ z. operand_position num (layouts.Join m) (unflat z k) ≡ k / (d * s) ∷ k % (d * s) / s ∷ unflat e (k % (d * s) % s)) (sym h.2)
+        (subst (λ z. k / s / num m ∷ k / s % num m ∷ unflat e (k % s) ≡ k / (z * s) ∷ k % (z * s) / s ∷ unflat e (k % (z * s) % s)) (sym same)
+        (ap (λ z. z ∷ k / s % num m ∷ unflat e (k % s)) (sym rows.row) ∙ ap (λ z. k / (num m * s) ∷ z ∷ unflat e (k % s)) (sym rows.element) ∙ ap (λ z. k / (num m * s) ∷ k % (num m * s) / s ∷ unflat e z) (sym rows.scalar)))
+join_position num m _ u k h some = absurd (assumption)
+
+split_position : {A : Type 0} (num : A → ℕ) (m : A) (t u : Ty) (k : ℕ) → Reshapes num (layouts.Split m) t u → 0 < size u → operand_position num (layouts.Split m) (unflat u k) ≡ unflat t k
+split_position num m (shapes.ArrayOf n e) u k h some =
+    let s = size e in
+    let M = num m in
+    let hs : 0 < s = second_some M s (second_some (n / M) (M * s) (subst (λ z. 0 < size z) h.2 some)) in
+    let rows = in_rows k s M hs h.0 in
+    subst (λ z. operand_position num (layouts.Split m) (unflat z k) ≡ k / s ∷ unflat e (k % s)) (sym h.2)
+    (ap₂ (λ a b. (a * M + b) ∷ unflat e (k % (M * s) % s)) rows.row rows.element ∙ ap (λ z. z ∷ unflat e (k % (M * s) % s)) (div-add-mod' (k / s) M) ∙ ap (λ z. k / s ∷ unflat e z) rows.scalar)
+split_position num m _ u k h some = absurd (assumption)
+
+transpose_position : {A : Type 0} (num : A → ℕ) (n m : ℕ) (e u : Ty) (k : ℕ) → u ≡ shapes.ArrayOf m (shapes.ArrayOf n e) → k < n * (m * size e) → operand_position {A = A} num layouts.Transpose (unflat u k) ≡ unflat (shapes.ArrayOf n (shapes.ArrayOf m e)) (moved n m (size e) k)
+transpose_position num n m e u k is low =
+    let s = size e in
+    let v = moves n m s k low in
+    let i = k / (n * s) in
+    let j = k % (n * s) / s in
+    let r = k % (n * s) % s in
+    let lr : r < s = mod-lt (k % (n * s)) v.scalar in
+    let li = v.place in
+    let x = moved n m s k in
+    let rows = in_rows x s m v.scalar (omega arith) in
+    let q : x / s ≡ j * m + i = positions.quotient (j * m + i) r s lr in
+    let f : x % s ≡ r = positions.remainder (j * m + i) r s lr in
+    let a : x / (m * s) ≡ j = rows.row ∙ ap (λ z. z / m) q ∙ positions.quotient j i m li in
+    let b : x % (m * s) / s ≡ i = rows.element ∙ ap (λ z. z % m) q ∙ positions.remainder j i m li in
+    let c : x % (m * s) % s ≡ r = rows.scalar ∙ f in
+    subst (λ z. operand_position num layouts.Transpose (unflat z k) ≡ x / (m * s) ∷ x % (m * s) / s ∷ unflat e (x % (m * s) % s)) (sym is)
+    (ap (λ z. z ∷ i ∷ unflat e r) (sym a) ∙ ap (λ z. x / (m * s) ∷ z ∷ unflat e r) (sym b) ∙ ap (λ z. x / (m * s) ∷ x % (m * s) / s ∷ unflat e z) (sym c))
+
+reverse_position : {A : Type 0} (num : A → ℕ) (m : A) (n : ℕ) (e : Ty) (k : ℕ) → num m ≡ n → k < n * size e → operand_position num (layouts.Reverse m) (unflat (shapes.ArrayOf n e) k) ≡ unflat (shapes.ArrayOf n e) (turned n (size e) k)
+reverse_position num m n e k is low =
+    let s = size e in
+    let v = turns n s k low in
+    ap (λ z. (z - 1 - k / s) ∷ unflat e (k % s)) is ∙ ap (λ z. z ∷ unflat e (k % s)) (sym v.element) ∙ ap (λ z. turned n s k / s ∷ unflat e z) (sym v.rest)
+
+-- the position of such an element in the rows that are joined, of their
+-- transposition in those that are split
+stride_position : {A : Type 0} (num : A → ℕ) (a c : A) (p r : ℕ) (e : Ty) (k : ℕ) → num a ≡ p → num c ≡ r → 0 < p → 0 < r → k < p * r * size e
+    → operand_position num (layouts.Split a) (operand_position {A = A} num layouts.Transpose (operand_position num (layouts.Join c) (unflat (shapes.ArrayOf (p * r) e) k))) ≡ unflat (shapes.ArrayOf (p * r) e) (moved r p (size e) k)
+stride_position num a c p r e k ea ec hp hr low =
+    let s = size e in
+    let hs : 0 < s = second_some (p * r) s (omega arith) in
+    let i = k / s % r * p + k / s / r in
+    let lr : k % s < s = mod-lt k hs in
+    let j = stride_moves p r s k hs hr in
+    let q : moved r p s k / s ≡ i = ap (λ z. z / s) j ∙ positions.quotient i (k % s) s lr in
+    let f : moved r p s k % s ≡ k % s = ap (λ z. z % s) j ∙ positions.remainder i (k % s) s lr in
+    ap (λ z. (k / s % z * num a + k / s / z) ∷ unflat e (k % s)) ec ∙ ap (λ z. (k / s % r * z + k / s / r) ∷ unflat e (k % s)) ea
+    ∙ ap (λ z. z ∷ unflat e (k % s)) (sym q) ∙ ap (λ z. moved r p s k / s ∷ unflat e z) (sym f)
 
 -- ---- of one owner
 

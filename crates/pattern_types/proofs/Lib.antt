@@ -4,6 +4,7 @@ pub mod Fitted
 pub mod Forms
 pub mod Inputs
 pub mod Judging
+pub mod Layouts
 pub mod Named
 pub mod Products
 pub mod Proper
@@ -14,4 +15,5 @@ pub mod Right
 pub mod Table
 pub mod Tried
 pub mod Typed
+pub mod Unary
 pub mod Whole

@@ -37,7 +37,8 @@ use Rattle.pattern_types.proofs.Right.{judged_right, get_nth}
 use Rattle.pattern_types.proofs.Whole.{every_formed}
 use Rattle.pattern_types.proofs.Judging.{done, Judges, Comes, Refuses, itself, of_node, answers, judges_same, judges_then, judges_alone, judges_three, judges_demand, judges_here, judges_under}
 use Rattle.pattern_types.proofs.Fitted.{judges_formed, judges_inputs, fault_in}
-use Rattle.pattern_types.proofs.Forms.{judges_unary, judges_binary, element_is}
+use Rattle.pattern_types.proofs.Unary.{judges_unary}
+use Rattle.pattern_types.proofs.Forms.{judges_binary, element_is}
 use Rattle.pattern_types.proofs.Typed.{named, nodes_of}
 
 -- ---- rows with binders

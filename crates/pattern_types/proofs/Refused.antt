@@ -40,7 +40,8 @@ use Rattle.pattern_types.proofs.Fitted.{judges_input}
 use Rattle.pattern_types.proofs.Reached.{judging, output_is}
 use Rattle.pattern_types.proofs.Whole.{is_declared}
 use Rattle.pattern_types.proofs.Proper.{inputs_fit}
-use Rattle.pattern_types.proofs.Faults.{Faults, none, one, faults_then, demand_faults, within_faults, product_faults, array_faults, unary_faults, binary_faults, select_faults, map_start_faults, map_end_faults, fold_start_faults, fold_end_faults}
+use Rattle.pattern_types.proofs.Unary.{unary_faults}
+use Rattle.pattern_types.proofs.Faults.{Faults, none, one, faults_then, demand_faults, within_faults, product_faults, array_faults, binary_faults, select_faults, map_start_faults, map_end_faults, fold_start_faults, fold_end_faults}
 
 -- ---- places
 pub here_faults : {A : Type 0} {P : Fault → Type 0} {Q : NodeFault → Type 0} {r : Result A Fault} → Faults P r → ((f : Fault) → P f → Q (record { place = []; fault = f })) → Faults Q (here r)

@@ -18,7 +18,8 @@ use Rattle.pattern_types.specs.Scopes.{nth_type}
 use Rattle.pattern_types.specs.Tests.{is_same_element}
 use Rattle.pattern_types.specs.Judged.{and_then, demand, here, under, unary_row, binary_row, select_row, operator_row, number_row, element_in, map_end, fold_start, fold_end, judged}
 use Rattle.pattern_types.proofs.Results.{yes, and_ok, demand_ok, here_ok, under_ok}
-use Rattle.pattern_types.proofs.Table.{IsGood, formed_right, unary_right, binary_right, number_right, constant_low, is_element_so, same_element}
+use Rattle.pattern_types.proofs.Unary.{unary_right}
+use Rattle.pattern_types.proofs.Table.{IsGood, formed_right, binary_right, number_right, constant_low, is_element_so, same_element}
 
 pub get_nth : (g : List PlainTy) (n : ℕ) → n < length g → slice_get g n ≡ Some (nth_type g n)
 get_nth [] n h = absurd (omega arith)

@@ -10,9 +10,9 @@ use Rattle.size_arith.specs.Shown.{part, ShownAtLeast}
 use Rattle.lift_tree.specs.declared.length.Factor.{Factor}
 use Rattle.lift_tree.specs.declared.length.Factor.TheVariants as factor
 use Rattle.lift_tree.specs.declared.layout.Layout as layout
-use Rattle.lift_tree.specs.declared.layout.Layout.TheVariants.{Join, Transpose, Split, Reverse, Stride}
+use Rattle.lift_tree.specs.declared.layout.Layout.TheVariants.{Split, Stride}
 use Rattle.lift_tree.specs.declared.term.UnaryForm.{UnaryForm}
-use Rattle.lift_tree.specs.declared.term.UnaryForm.TheVariants.{Div, Rem, First, Second, Layout, Slide, Pad, ToLocal, ToPrivate, Then}
+use Rattle.lift_tree.specs.declared.term.UnaryForm.TheVariants.{Div, Rem, Layout, Slide}
 use Rattle.lift_tree.specs.Tree.{Tree, Variable, Number, Input, Unary, Binary, Select, Let, Map, Fold}
 use Rattle.lift_tree.specs.Types.{PlainTy, U32, ArrayOf, IsElement, IsFormed}
 use Rattle.lift_tree.specs.Typing.{Declared, constant, LayoutRow, UnaryRow, BinaryRow, Types}
@@ -83,23 +83,16 @@ size_is names zero h = absurd (none_shown names h)
 size_is names (suc s) h = omega arith
 
 layout_is : (names : List Name) (l : layout.Layout) (b a : PlainTy) → LayoutRow names l b a → IsFormed names b → LayoutIsNamed (length names) l
-layout_is names Join b a r h = tt
-layout_is names Transpose b a r h = tt
 layout_is names (Split fs) b a r h = product_is names fs (divisor_is names (product_of names fs) r.1 (subst (IsFormed names) r.2 h).0 r.3)
-layout_is names Reverse b a r h = tt
 layout_is names (Stride fs) b a r h = product_is names fs (divisor_is names (product_of names fs) r.1 (subst (IsFormed names) r.2 h).0 r.3)
+layout_is names _ b a r h = tt
 
 form_is : (names : List Name) (f : UnaryForm) (b a : PlainTy) → UnaryRow names f b a → IsFormed names b → IsFormed names a → FormIsNamed (length names) f
 form_is names (Div n) b a r h o = let e = r.0 in omega arith
 form_is names (Rem n) b a r h o = let e = r.0 in omega arith
-form_is names First b a r h o = tt
-form_is names Second b a r h o = tt
 form_is names (Layout l) b a r h o = layout_is names l b a r h
 form_is names (Slide s t) b a r h o = let e = r.3 in (size_is names s (subst (IsFormed names) r.6 o).1.0, omega arith)
-form_is names (Pad l k) b a r h o = tt
-form_is names ToLocal b a r h o = tt
-form_is names ToPrivate b a r h o = tt
-form_is names Then b a r h o = tt
+form_is names _ b a r h o = tt
 
 -- ---- terms
 below : {A : Type 0} (xs : List A) (n : ℕ) (x : A) → slice_get xs n ≡ Some x → n < length xs

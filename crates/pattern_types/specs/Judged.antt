@@ -109,37 +109,28 @@ formed names a n =
 -- an operand that is a number
 abbrev pub number_row : PlainTy → Result PlainTy Fault
 number_row U32 = Ok U32
-number_row (PairOf a b) = Err (Breaks rule.Operator)
-number_row (ArrayOf a n) = Err (Breaks rule.Operator)
+number_row _ = Err (Breaks rule.Operator)
 
 -- a pair's first part
 abbrev pub first_row : PlainTy → Result PlainTy Fault
-first_row U32 = Err (Breaks rule.Project)
 first_row (PairOf a b) = Ok a
-first_row (ArrayOf a n) = Err (Breaks rule.Project)
+first_row _ = Err (Breaks rule.Project)
 
 -- a pair's second part
 abbrev pub second_row : PlainTy → Result PlainTy Fault
-second_row U32 = Err (Breaks rule.Project)
 second_row (PairOf a b) = Ok b
-second_row (ArrayOf a n) = Err (Breaks rule.Project)
+second_row _ = Err (Breaks rule.Project)
 
 -- an array of arrays, joined to one array
 abbrev pub join_row : List Name → PlainTy → Result PlainTy Fault
-join_row names U32 = Err (Breaks rule.Join)
-join_row names (PairOf a b) = Err (Breaks rule.Join)
-join_row names (ArrayOf U32 n) = Err (Breaks rule.Join)
-join_row names (ArrayOf (PairOf a b) n) = Err (Breaks rule.Join)
 join_row names (ArrayOf (ArrayOf a m) n) = and_then (within (times n m)) (λ l. formed names a l)
+join_row names _ = Err (Breaks rule.Join)
 
 -- an array of arrays, with its two lengths exchanged
 abbrev pub transpose_row : List Name → PlainTy → Result PlainTy Fault
-transpose_row names U32 = Err (Breaks rule.Transpose)
-transpose_row names (PairOf a b) = Err (Breaks rule.Transpose)
-transpose_row names (ArrayOf U32 n) = Err (Breaks rule.Transpose)
-transpose_row names (ArrayOf (PairOf a b) n) = Err (Breaks rule.Transpose)
 transpose_row names (ArrayOf (ArrayOf a m) n) =
     and_then (formed names a n) (λ row. formed names row m)
+transpose_row names _ = Err (Breaks rule.Transpose)
 
 -- pieces of length m of an array that has the quotient of them
 abbrev pub pieces_row : List Name → PlainTy → List Monomial → Option (List Monomial)
@@ -149,15 +140,13 @@ pieces_row names a m (Some q) = and_then (formed names a m) (λ piece. formed na
 
 -- an array in pieces of the length m
 abbrev pub split_row : List Name → List Monomial → PlainTy → Result PlainTy Fault
-split_row names m U32 = Err (Breaks rule.Split)
-split_row names m (PairOf a b) = Err (Breaks rule.Split)
 split_row names m (ArrayOf a n) = pieces_row names a m (exact_quotient m n)
+split_row names m _ = Err (Breaks rule.Split)
 
 -- an array in the opposite order, of the same type
 abbrev pub reverse_row : PlainTy → Result PlainTy Fault
-reverse_row U32 = Err (Breaks rule.Reverse)
-reverse_row (PairOf a b) = Err (Breaks rule.Reverse)
 reverse_row (ArrayOf a n) = Ok (ArrayOf a n)
+reverse_row _ = Err (Breaks rule.Reverse)
 
 -- the array itself, where its length has a quotient
 abbrev pub strided_row : PlainTy → List Monomial → Option (List Monomial) → Result PlainTy Fault
@@ -166,9 +155,8 @@ strided_row a n (Some q) = Ok (ArrayOf a n)
 
 -- an array read in strides of m, of the same type
 abbrev pub stride_row : List Monomial → PlainTy → Result PlainTy Fault
-stride_row m U32 = Err (Breaks rule.Stride)
-stride_row m (PairOf a b) = Err (Breaks rule.Stride)
 stride_row m (ArrayOf a n) = strided_row a n (exact_quotient m n)
+stride_row m _ = Err (Breaks rule.Stride)
 
 -- what each layout makes of a type
 abbrev pub layout_row : List Name → layout.Layout → PlainTy → Result PlainTy Fault
@@ -189,20 +177,18 @@ windows_row names a s (Some q) =
 
 -- an array's windows of this size, each so many elements behind the one before
 abbrev pub slide_row : List Name → (size step : ℕ) → PlainTy → Result PlainTy Fault
-slide_row names s t U32 = Err (Breaks rule.Slide)
-slide_row names s t (PairOf a b) = Err (Breaks rule.Slide)
 slide_row names s t (ArrayOf a n) =
     and_then (within (minus n (constant s))) (λ left.
     and_then (demand (is_shown 0 names left) rule.Slide) (λ _.
     windows_row names a s (exact_quotient (constant t) left)))
+slide_row names s t _ = Err (Breaks rule.Slide)
 
 -- an array with so many elements more before and after it
 abbrev pub pad_row : List Name → (before after : ℕ) → PlainTy → Result PlainTy Fault
-pad_row names l r U32 = Err (Breaks rule.Pad)
-pad_row names l r (PairOf a b) = Err (Breaks rule.Pad)
 pad_row names l r (ArrayOf a n) =
     and_then (within (plus (constant l) n)) (λ m.
     and_then (within (plus m (constant r))) (λ k. formed names a k))
+pad_row names l r _ = Err (Breaks rule.Pad)
 
 -- the type of a node with one child, from the child's type
 abbrev pub unary_row : List Name → UnaryForm → PlainTy → Result PlainTy Fault
@@ -229,20 +215,12 @@ pair_row a b = and_then (demand (is_element a && is_element b) rule.Pair) (λ _.
 abbrev pub zip_row : List Name → PlainTy → PlainTy → Result PlainTy Fault
 zip_row names (ArrayOf a n) (ArrayOf b m) =
     and_then (demand (is_same n m) rule.Zip) (λ _. formed names (PairOf a b) n)
-zip_row names (ArrayOf a n) U32 = Err (Breaks rule.Zip)
-zip_row names (ArrayOf a n) (PairOf b c) = Err (Breaks rule.Zip)
-zip_row names U32 b = Err (Breaks rule.Zip)
-zip_row names (PairOf a c) b = Err (Breaks rule.Zip)
+zip_row names _ _ = Err (Breaks rule.Zip)
 
 -- the type of a reduction, from its array's type and its start's
 abbrev pub reduce_row : List Name → PlainTy → PlainTy → Result PlainTy Fault
 reduce_row names (ArrayOf U32 n) U32 = formed names U32 (constant 1)
-reduce_row names (ArrayOf U32 n) (PairOf b c) = Err (Breaks rule.Reduce)
-reduce_row names (ArrayOf U32 n) (ArrayOf b m) = Err (Breaks rule.Reduce)
-reduce_row names (ArrayOf (PairOf a c) n) b = Err (Breaks rule.Reduce)
-reduce_row names (ArrayOf (ArrayOf a m) n) b = Err (Breaks rule.Reduce)
-reduce_row names U32 b = Err (Breaks rule.Reduce)
-reduce_row names (PairOf a c) b = Err (Breaks rule.Reduce)
+reduce_row names _ _ = Err (Breaks rule.Reduce)
 
 -- the type of a node with two children, from the children's types
 abbrev pub binary_row : List Name → BinaryForm → PlainTy → PlainTy → Result PlainTy Fault
@@ -257,15 +235,13 @@ select_row a b c = and_then (operator_row a b) (λ _. number_row c)
 
 -- the element type of an array, which the rule demands
 abbrev pub element_in : Rule → PlainTy → Result PlainTy Fault
-element_in r U32 = Err (Breaks r)
-element_in r (PairOf a b) = Err (Breaks r)
 element_in r (ArrayOf a n) = Ok a
+element_in r _ = Err (Breaks r)
 
 -- a map's type, from its array's and its body's
 abbrev pub map_end : List Name → PlainTy → PlainTy → Result PlainTy Fault
-map_end names U32 b = Err (Breaks rule.Map)
-map_end names (PairOf a c) b = Err (Breaks rule.Map)
 map_end names (ArrayOf a n) b = formed names b n
+map_end names _ b = Err (Breaks rule.Map)
 
 -- the element type that a fold's body is given, from its array's type and its start's
 abbrev pub fold_start : PlainTy → PlainTy → Result PlainTy Fault

@@ -1,5 +1,5 @@
 -- What a refusal says, by the typing relation: the first spot without a type within the limits.
-use Rattle.std.specs.Prelude.{ℕ, zero, suc, ◌≡◌, ◌≤◌, ◌<◌, ◌⊎◌, List, [], ◌∷◌, ◌++◌, length, map, pos, Option, Some, None, Err}
+use Rattle.std.specs.Prelude.{ℕ, zero, suc, ◌≡◌, ◌≤◌, ◌<◌, ◌⊎◌, List, [], ◌∷◌, ◌++◌, codes, length, map, pos, Option, Some, None, Err}
 use Rattle.size_arith.specs.declared.names.Name.{Name}
 use Rattle.size_arith.specs.declared.poly.Monomial.{Monomial}
 use Rattle.size_arith.specs.Polynomial.{number, of_monomial, plus, minus, times, quotient, AllDivide, degree, greatest}
@@ -91,6 +91,25 @@ CountsOuter limit.Scalars c a = ⊥
 abbrev pub CountsArray : List Name → TypeLimit → ℕ → Formed → Type 0
 CountsArray names l c a = CountsOuter l c a ⊎ CountsInside names l c a.length a.element
 
+-- a rule's name in messages
+abbrev pub rule_name : Rule → List ℕ
+rule_name rule.Operator = codes "operator"
+rule_name rule.Pair = codes "pair"
+rule_name rule.Project = codes "project"
+rule_name rule.Map = codes "map"
+rule_name rule.Reduce = codes "reduce"
+rule_name rule.Fold = codes "fold"
+rule_name rule.Zip = codes "zip"
+rule_name rule.Split = codes "split"
+rule_name rule.Join = codes "join"
+rule_name rule.Transpose = codes "transpose"
+rule_name rule.Reverse = codes "reverse"
+rule_name rule.Stride = codes "stride"
+rule_name rule.Slide = codes "slide"
+rule_name rule.Pad = codes "pad"
+rule_name rule.Output = codes "output"
+rule_name rule.Length = codes "length"
+
 -- ---- faults
 -- the demand of the rule isn't met; or it is, and an array that is formed has a length that isn't
 -- shown to be at least 1; or a quantity of such an array, or of a sum or a product that is worked
@@ -155,15 +174,18 @@ IsArray b = (x : PlainTy) × (n : List Monomial) × (b ≡ ArrayOf x n)
 abbrev pub IsArrayOfArrays : PlainTy → Type 0
 IsArrayOfArrays b = (x : PlainTy) × (m n : List Monomial) × (b ≡ ArrayOf (ArrayOf x m) n)
 
+-- the type is an array's, and the product of the factors divides its length
+abbrev pub IsDivided : List Name → List Factor → PlainTy → Type 0
+IsDivided names fs b =
+    (x : PlainTy) × (n : List Monomial) × (b ≡ ArrayOf x n) × AllDivide (product_of names fs) n
+
 -- what a layout demands of its child's type
 abbrev pub LayoutDemand : List Name → layout.Layout → PlainTy → Type 0
 LayoutDemand names Join b = IsArrayOfArrays b
 LayoutDemand names Transpose b = IsArrayOfArrays b
-LayoutDemand names (Split fs) b =
-    (x : PlainTy) × (n : List Monomial) × (b ≡ ArrayOf x n) × AllDivide (product_of names fs) n
+LayoutDemand names (Split fs) b = IsDivided names fs b
 LayoutDemand names Reverse b = IsArray b
-LayoutDemand names (Stride fs) b =
-    (x : PlainTy) × (n : List Monomial) × (b ≡ ArrayOf x n) × AllDivide (product_of names fs) n
+LayoutDemand names (Stride fs) b = IsDivided names fs b
 
 -- what a form demands of its one child's type
 abbrev pub UnaryDemand : List Name → UnaryForm → PlainTy → Type 0
@@ -193,11 +215,7 @@ layout_formed names Transpose (ArrayOf (ArrayOf x m) n) = formed x n ∷ formed 
 layout_formed names (Split fs) (ArrayOf x n) =
     let m = product_of names fs in
     formed x (of_monomial m) ∷ formed (ArrayOf x (of_monomial m)) (quotient m n) ∷ []
-layout_formed names Join b = []
-layout_formed names Transpose b = []
-layout_formed names (Split fs) b = []
-layout_formed names Reverse b = []
-layout_formed names (Stride fs) b = []
+layout_formed names l b = []
 
 -- the arrays that a form with one child forms
 abbrev pub unary_formed : List Name → UnaryForm → PlainTy → List Formed
@@ -206,24 +224,14 @@ unary_formed names (Slide s t) (ArrayOf x n) =
     formed x (constant s) ∷ formed (ArrayOf x (constant s)) (windows s t n) ∷ []
 unary_formed names (Pad l r) (ArrayOf x n) =
     formed x (plus (plus (constant l) n) (constant r)) ∷ []
-unary_formed names (Slide s t) b = []
-unary_formed names (Pad l r) b = []
-unary_formed names (Div n) b = []
-unary_formed names (Rem n) b = []
-unary_formed names First b = []
-unary_formed names Second b = []
-unary_formed names ToLocal b = []
-unary_formed names ToPrivate b = []
-unary_formed names Then b = []
+unary_formed names f b = []
 
 -- the sums and products that are worked out for a layout
 abbrev pub layout_lengths : List Name → layout.Layout → PlainTy → List (List Monomial)
 layout_lengths names Join (ArrayOf (ArrayOf x m) n) = times n m ∷ []
-layout_lengths names Join b = []
-layout_lengths names Transpose b = []
 layout_lengths names (Split fs) b = products_along names (constant 1) fs
-layout_lengths names Reverse b = []
 layout_lengths names (Stride fs) b = products_along names (constant 1) fs
+layout_lengths names l b = []
 
 -- the sums and products that are worked out for a form with one child
 abbrev pub unary_lengths : List Name → UnaryForm → PlainTy → List (List Monomial)
@@ -231,15 +239,7 @@ unary_lengths names (Layout l) b = layout_lengths names l b
 unary_lengths names (Slide s t) (ArrayOf x n) = minus n (constant s) ∷ windows s t n ∷ []
 unary_lengths names (Pad l r) (ArrayOf x n) =
     plus (constant l) n ∷ plus (plus (constant l) n) (constant r) ∷ []
-unary_lengths names (Slide s t) b = []
-unary_lengths names (Pad l r) b = []
-unary_lengths names (Div n) b = []
-unary_lengths names (Rem n) b = []
-unary_lengths names First b = []
-unary_lengths names Second b = []
-unary_lengths names ToLocal b = []
-unary_lengths names ToPrivate b = []
-unary_lengths names Then b = []
+unary_lengths names f b = []
 
 -- a fault of a node with one child of this type
 abbrev pub UnaryFault : List Name → UnaryForm → PlainTy → Fault → Type 0

@@ -109,7 +109,7 @@ fn layout_is_named(sizes: usize, layout: &Layout) -> bool
 {
     match layout {
         Layout::Split(step) | Layout::Stride(step) => are_named(sizes, 1, step.factors()),
-        Layout::Join | Layout::Transpose | Layout::Reverse => true,
+        _ => true,
     }
 }
 

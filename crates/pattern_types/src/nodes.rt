@@ -2,7 +2,10 @@
 
 ghost use Rattle.std.specs.Prelude.{◌≡◌, ◌≢◌, ◌<◌, IfErr, IfOk, OnOk, Err, Ok, ◌∷◌, length, map};
 ghost use Rattle.lift_tree.specs.Types.{ty_of};
+ghost use Rattle.lift_tree.specs.Tree as tree;
 ghost use Rattle.lift_tree.specs.Tree.{tree_of};
+ghost use Rattle.lift_tree.specs.declared.term.FoldKind.TheVariants as fold_kind;
+ghost use Rattle.lift_tree.specs.declared.term.MapKind.TheVariants as map_kind;
 ghost use Rattle.lift_tree.specs.Annotations.{annotation_of, type_in, Leaf, Two};
 ghost use Rattle.pattern_types.specs.declared.fault.Fault.TheVariants.{Memory};
 ghost use Rattle.lift_tree.specs.Belonging.{Belongs, FormIsNamed};
@@ -268,41 +271,12 @@ pub fn judge(
             let a = judge_child(alloc, names, inputs, scope, 0, a)?;
             unary_node(alloc, names, form, a)
         }
-        Term::Binary(form, a, b) => {
-            let a = judge_child(alloc, names, inputs, scope, 0, a)?;
-            let b = judge_child(alloc, names, inputs, scope, 1, b)?;
-            binary_node(alloc, names, *form, a, b)
-        }
-        Term::Select(a, b, c) => {
-            let a = judge_child(alloc, names, inputs, scope, 0, a)?;
-            let b = judge_child(alloc, names, inputs, scope, 1, b)?;
-            let c = judge_child(alloc, names, inputs, scope, 2, c)?;
-            select_node(alloc, a, b, c)
-        }
-        Term::Let(value, body) => {
-            let value = judge_child(alloc, names, inputs, scope, 0, value)?;
-            bind(alloc, scope, value.own_type())?;
-            let body = judge_child(alloc, names, inputs, scope, 1, body)?;
-            scope.pop_front();
-            let_node(alloc, value, body)
-        }
-        Term::Map(_, array, body) => {
-            let array = judge_child(alloc, names, inputs, scope, 0, array)?;
-            bind(alloc, scope, map_start(alloc, array.own_type())?)?;
-            let body = judge_child(alloc, names, inputs, scope, 1, body)?;
-            scope.pop_front();
-            map_node(alloc, names, array, body)
-        }
+        Term::Binary(form, a, b) => judge_binary(alloc, names, inputs, scope, *form, a, b),
+        Term::Select(a, b, c) => judge_select(alloc, names, inputs, scope, a, b, c),
+        Term::Let(value, body) => judge_let(alloc, names, inputs, scope, value, body),
+        Term::Map(_, array, body) => judge_map(alloc, names, inputs, scope, array, body),
         Term::Fold(_, array, start, body) => {
-            let array = judge_child(alloc, names, inputs, scope, 0, array)?;
-            let start = judge_child(alloc, names, inputs, scope, 1, start)?;
-            let element = fold_start(alloc, array.own_type(), start.own_type())?;
-            bind(alloc, scope, start.own_type())?;
-            bind(alloc, scope, element)?;
-            let body = judge_child(alloc, names, inputs, scope, 2, body)?;
-            scope.pop_front();
-            scope.pop_front();
-            fold_node(alloc, names, array, start, body)
+            judge_fold(alloc, names, inputs, scope, array, start, body)
         }
     }
 }
@@ -331,4 +305,223 @@ fn judge_child(
         Ok(types) => boxed(alloc, types),
         Err(fault) => Err(fault.under(alloc, number)),
     }
+}
+
+// The same under one more binder, of this type.
+#[cycle(judging)]
+fn judge_under(
+    alloc: Global,
+    names: &Names,
+    inputs: &VecDeque<Ty>,
+    scope: &mut VecDeque<Ty>,
+    ty: &Ty,
+    number: u32,
+    term: &Term,
+) -> Result<Box<NodeTypes>, NodeFault>
+    requires { Belongs (length names.now) (length (map ty_of inputs.now.items))
+        (length (ty_of ty.now ∷ map ty_of scope.old.items)) (tree_of term.now) }
+    ensures ok { IfOk result (λ n. under number (judged (declared_as names.now inputs.now.items)
+        (ty_of ty.now ∷ map ty_of scope.old.items) (tree_of term.now))
+        ≡ Ok (annotation_of n.value)) }
+    ensures numbers { IfOk result (λ _. NumbersFit (tree_of term.now)) }
+    ensures kept { IfOk result (λ _. map ty_of scope.new.items ≡ map ty_of scope.old.items) }
+    ensures refused { IfErr result (λ e. e.fault ≢ Memory
+        → under number (judged (declared_as names.now inputs.now.items)
+        (ty_of ty.now ∷ map ty_of scope.old.items) (tree_of term.now)) ≡ Err e) }
+{
+    bind(alloc, scope, ty)?;
+    let types = judge_child(alloc, names, inputs, scope, number, term)?;
+    scope.pop_front();
+    Ok(types)
+}
+
+// The same under two more binders, of these types, the second the nearer.
+#[cycle(judging)]
+fn judge_under_two(
+    alloc: Global,
+    names: &Names,
+    inputs: &VecDeque<Ty>,
+    scope: &mut VecDeque<Ty>,
+    outer: &Ty,
+    ty: &Ty,
+    number: u32,
+    term: &Term,
+) -> Result<Box<NodeTypes>, NodeFault>
+    requires { Belongs (length names.now) (length (map ty_of inputs.now.items))
+        (length (ty_of ty.now ∷ ty_of outer.now ∷ map ty_of scope.old.items)) (tree_of term.now) }
+    ensures ok { IfOk result (λ n. under number (judged (declared_as names.now inputs.now.items)
+        (ty_of ty.now ∷ ty_of outer.now ∷ map ty_of scope.old.items) (tree_of term.now))
+        ≡ Ok (annotation_of n.value)) }
+    ensures numbers { IfOk result (λ _. NumbersFit (tree_of term.now)) }
+    ensures kept { IfOk result (λ _. map ty_of scope.new.items ≡ map ty_of scope.old.items) }
+    ensures refused { IfErr result (λ e. e.fault ≢ Memory
+        → under number (judged (declared_as names.now inputs.now.items)
+        (ty_of ty.now ∷ ty_of outer.now ∷ map ty_of scope.old.items) (tree_of term.now))
+        ≡ Err e) }
+{
+    bind(alloc, scope, outer)?;
+    let types = judge_under(alloc, names, inputs, scope, ty, number, term)?;
+    scope.pop_front();
+    Ok(types)
+}
+
+// The types of a node and of its two children.
+#[cycle(judging)]
+fn judge_binary(
+    alloc: Global,
+    names: &Names,
+    inputs: &VecDeque<Ty>,
+    scope: &mut VecDeque<Ty>,
+    form: BinaryForm,
+    a: &Term,
+    b: &Term,
+) -> Result<NodeTypes, NodeFault>
+    requires { Belongs (length names.now) (length (map ty_of inputs.now.items))
+        (length (map ty_of scope.old.items)) (tree.Binary form (tree_of a.now) (tree_of b.now)) }
+    ensures ok { IfOk result (λ n. judged (declared_as names.now inputs.now.items)
+        (map ty_of scope.old.items) (tree.Binary form (tree_of a.now) (tree_of b.now))
+        ≡ Ok (annotation_of n)) }
+    ensures numbers { IfOk result (λ _. NumbersFit
+        (tree.Binary form (tree_of a.now) (tree_of b.now))) }
+    ensures kept { IfOk result (λ _. map ty_of scope.new.items ≡ map ty_of scope.old.items) }
+    ensures refused { IfErr result (λ e. e.fault ≢ Memory
+        → judged (declared_as names.now inputs.now.items)
+        (map ty_of scope.old.items) (tree.Binary form (tree_of a.now) (tree_of b.now)) ≡ Err e) }
+{
+    let a = judge_child(alloc, names, inputs, scope, 0, a)?;
+    let b = judge_child(alloc, names, inputs, scope, 1, b)?;
+    binary_node(alloc, names, form, a, b)
+}
+
+// The types of a choice.
+#[cycle(judging)]
+fn judge_select(
+    alloc: Global,
+    names: &Names,
+    inputs: &VecDeque<Ty>,
+    scope: &mut VecDeque<Ty>,
+    a: &Term,
+    b: &Term,
+    c: &Term,
+) -> Result<NodeTypes, NodeFault>
+    requires { Belongs (length names.now) (length (map ty_of inputs.now.items))
+        (length (map ty_of scope.old.items))
+        (tree.Select (tree_of a.now) (tree_of b.now) (tree_of c.now)) }
+    ensures ok { IfOk result (λ n. judged (declared_as names.now inputs.now.items)
+        (map ty_of scope.old.items)
+        (tree.Select (tree_of a.now) (tree_of b.now) (tree_of c.now))
+        ≡ Ok (annotation_of n)) }
+    ensures numbers { IfOk result (λ _. NumbersFit
+        (tree.Select (tree_of a.now) (tree_of b.now) (tree_of c.now))) }
+    ensures kept { IfOk result (λ _. map ty_of scope.new.items ≡ map ty_of scope.old.items) }
+    ensures refused { IfErr result (λ e. e.fault ≢ Memory
+        → judged (declared_as names.now inputs.now.items)
+        (map ty_of scope.old.items)
+        (tree.Select (tree_of a.now) (tree_of b.now) (tree_of c.now)) ≡ Err e) }
+{
+    let a = judge_child(alloc, names, inputs, scope, 0, a)?;
+    let b = judge_child(alloc, names, inputs, scope, 1, b)?;
+    let c = judge_child(alloc, names, inputs, scope, 2, c)?;
+    select_node(alloc, a, b, c)
+}
+
+// The types of a binding.
+#[cycle(judging)]
+fn judge_let(
+    alloc: Global,
+    names: &Names,
+    inputs: &VecDeque<Ty>,
+    scope: &mut VecDeque<Ty>,
+    value: &Term,
+    body: &Term,
+) -> Result<NodeTypes, NodeFault>
+    requires { Belongs (length names.now) (length (map ty_of inputs.now.items))
+        (length (map ty_of scope.old.items)) (tree.Let (tree_of value.now) (tree_of body.now)) }
+    ensures ok { IfOk result (λ n. judged (declared_as names.now inputs.now.items)
+        (map ty_of scope.old.items) (tree.Let (tree_of value.now) (tree_of body.now))
+        ≡ Ok (annotation_of n)) }
+    ensures numbers { IfOk result (λ _. NumbersFit
+        (tree.Let (tree_of value.now) (tree_of body.now))) }
+    ensures kept { IfOk result (λ _. map ty_of scope.new.items ≡ map ty_of scope.old.items) }
+    ensures refused { IfErr result (λ e. e.fault ≢ Memory
+        → judged (declared_as names.now inputs.now.items)
+        (map ty_of scope.old.items) (tree.Let (tree_of value.now) (tree_of body.now)) ≡ Err e) }
+{
+    let value = judge_child(alloc, names, inputs, scope, 0, value)?;
+    let body = judge_under(alloc, names, inputs, scope, value.own_type(), 1, body)?;
+    let_node(alloc, value, body)
+}
+
+// The types of a map: all kinds have the same.
+#[cycle(judging)]
+fn judge_map(
+    alloc: Global,
+    names: &Names,
+    inputs: &VecDeque<Ty>,
+    scope: &mut VecDeque<Ty>,
+    array: &Term,
+    body: &Term,
+) -> Result<NodeTypes, NodeFault>
+    requires { Belongs (length names.now) (length (map ty_of inputs.now.items))
+        (length (map ty_of scope.old.items))
+        (tree.Map map_kind.Plain (tree_of array.now) (tree_of body.now)) }
+    ensures ok { IfOk result (λ n. judged (declared_as names.now inputs.now.items)
+        (map ty_of scope.old.items)
+        (tree.Map map_kind.Plain (tree_of array.now) (tree_of body.now))
+        ≡ Ok (annotation_of n)) }
+    ensures numbers { IfOk result (λ _. NumbersFit
+        (tree.Map map_kind.Plain (tree_of array.now) (tree_of body.now))) }
+    ensures kept { IfOk result (λ _. map ty_of scope.new.items ≡ map ty_of scope.old.items) }
+    ensures refused { IfErr result (λ e. e.fault ≢ Memory
+        → judged (declared_as names.now inputs.now.items)
+        (map ty_of scope.old.items)
+        (tree.Map map_kind.Plain (tree_of array.now) (tree_of body.now)) ≡ Err e) }
+{
+    let array = judge_child(alloc, names, inputs, scope, 0, array)?;
+    let element = map_start(alloc, array.own_type())?;
+    let body = judge_under(alloc, names, inputs, scope, element, 1, body)?;
+    map_node(alloc, names, array, body)
+}
+
+// The types of a fold: both kinds have the same.
+#[cycle(judging)]
+fn judge_fold(
+    alloc: Global,
+    names: &Names,
+    inputs: &VecDeque<Ty>,
+    scope: &mut VecDeque<Ty>,
+    array: &Term,
+    start: &Term,
+    body: &Term,
+) -> Result<NodeTypes, NodeFault>
+    requires { Belongs (length names.now) (length (map ty_of inputs.now.items))
+        (length (map ty_of scope.old.items))
+        (tree.Fold fold_kind.Plain (tree_of array.now) (tree_of start.now) (tree_of body.now)) }
+    ensures ok { IfOk result (λ n. judged (declared_as names.now inputs.now.items)
+        (map ty_of scope.old.items)
+        (tree.Fold fold_kind.Plain (tree_of array.now) (tree_of start.now) (tree_of body.now))
+        ≡ Ok (annotation_of n)) }
+    ensures numbers { IfOk result (λ _. NumbersFit
+        (tree.Fold fold_kind.Plain (tree_of array.now) (tree_of start.now) (tree_of body.now))) }
+    ensures kept { IfOk result (λ _. map ty_of scope.new.items ≡ map ty_of scope.old.items) }
+    ensures refused { IfErr result (λ e. e.fault ≢ Memory
+        → judged (declared_as names.now inputs.now.items)
+        (map ty_of scope.old.items)
+        (tree.Fold fold_kind.Plain (tree_of array.now) (tree_of start.now) (tree_of body.now))
+        ≡ Err e) }
+{
+    let array = judge_child(alloc, names, inputs, scope, 0, array)?;
+    let start = judge_child(alloc, names, inputs, scope, 1, start)?;
+    let element = fold_start(alloc, array.own_type(), start.own_type())?;
+    let body = judge_under_two(
+        alloc,
+        names,
+        inputs,
+        scope,
+        start.own_type(),
+        element,
+        2,
+        body,
+    )?;
+    fold_node(alloc, names, array, start, body)
 }

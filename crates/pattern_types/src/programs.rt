@@ -4,14 +4,16 @@ ghost use Rattle.std.specs.Prelude.{◌≡◌, ◌≢◌, ◌≤◌, ◌<◌, �
 ghost use Rattle.lift_tree.specs.InputTypes.{written_of};
 ghost use Rattle.lift_tree.specs.Types.{ty_of, PairOf};
 ghost use Rattle.lift_tree.specs.Tree.{tree_of};
-ghost use Rattle.lift_tree.specs.Programs.{input_of, program_of};
+ghost use Rattle.lift_tree.specs.Lists.{Every};
+ghost use Rattle.lift_tree.specs.Programs.{PlainInput, input_of, program_of};
+ghost use Rattle.lift_tree.specs.Typing.{IsDeclared, declared_by};
 ghost use Rattle.lift_tree.specs.Annotations.{annotation_of, IsTyped};
 ghost use Rattle.pattern_types.specs.declared.fault.Fault.TheVariants.{Memory};
 ghost use Rattle.pattern_types.specs.declared.refusal.TypeRefusal.TheVariants as refusal;
 ghost use Rattle.lift_tree.specs.Belonging.{Belongs, TypeIsNamed, InputsAreNamed, IsProper, IsTermOf};
 ghost use Rattle.pattern_types.specs.Judged.{and_then, input_judged, inputs_judged, judged, output_judged, program_judged};
 ghost use Rattle.pattern_types.specs.Numbers.{NumbersFit};
-ghost use Rattle.lift_tree.specs.Limits.{IsWithinLimits, HasProperInputs};
+ghost use Rattle.lift_tree.specs.Limits.{InputFits, IsWithinLimits, HasProperInputs};
 ghost use Rattle.pattern_types.specs.Judgement.{Explains};
 ghost use Rattle.pattern_types.specs.Scopes.{declared_as};
 
@@ -94,6 +96,25 @@ fn judge_inputs(
                 Err(_) => Err(TypeRefusal::Memory),
             }
         }
+    }
+}
+
+/// The types of a program's inputs, in their order, where they have types within the limits, as
+/// they do wherever a term of the program is typed within them.
+pub fn input_types(alloc: Global, program: &Program) -> Result<Vec<Ty>, AllocError>
+    requires proper { IsProper (program_of program.now) }
+    requires declared { IsDeclared (declared_by (program_of program.now)) }
+    requires within { Every (λ (i : PlainInput). InputFits
+        (declared_by (program_of program.now)).names i.ty) (program_of program.now).inputs }
+    ensures { IfOk result
+        (λ types. map ty_of types.items ≡ (declared_by (program_of program.now)).inputs) }
+{
+    let names = program.names(alloc)?;
+    match judge_inputs(alloc, &names, 0, &program.inputs) {
+        Ok(types) => Ok(Vec::from(types)),
+        Err(TypeRefusal::Memory) => Err(AllocError),
+        Err(TypeRefusal::IllTyped { .. }) => unreachable!(),
+        Err(TypeRefusal::Limit { .. }) => unreachable!(),
     }
 }
 

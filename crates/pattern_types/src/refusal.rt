@@ -1,5 +1,8 @@
 //! Why a program is refused.
 
+ghost use Rattle.std.specs.Prelude.{◌≡◌};
+ghost use Rattle.pattern_types.specs.Refusals.{rule_name};
+
 use lift_tree::place::Place;
 
 /// A rule of the typing table, by the pattern that demands it.
@@ -37,6 +40,32 @@ pub enum Rule {
     Output,
     /// Each array that is formed has a length shown to be at least 1.
     Length,
+}
+
+impl Rule {
+    /// The rule's name in messages.
+    pub fn name(self) -> &'static [u8]
+        ensures { result.now ≡ rule_name self }
+    {
+        match self {
+            Rule::Operator => b"operator".as_slice(),
+            Rule::Pair => b"pair".as_slice(),
+            Rule::Project => b"project".as_slice(),
+            Rule::Map => b"map".as_slice(),
+            Rule::Reduce => b"reduce".as_slice(),
+            Rule::Fold => b"fold".as_slice(),
+            Rule::Zip => b"zip".as_slice(),
+            Rule::Split => b"split".as_slice(),
+            Rule::Join => b"join".as_slice(),
+            Rule::Transpose => b"transpose".as_slice(),
+            Rule::Reverse => b"reverse".as_slice(),
+            Rule::Stride => b"stride".as_slice(),
+            Rule::Slide => b"slide".as_slice(),
+            Rule::Pad => b"pad".as_slice(),
+            Rule::Output => b"output".as_slice(),
+            Rule::Length => b"length".as_slice(),
+        }
+    }
 }
 
 /// A limit on types.

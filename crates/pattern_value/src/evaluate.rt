@@ -4,6 +4,7 @@ ghost use Rattle.std.specs.Prelude.{◌≡◌, ◌∷◌, ◌/◌, [], IfOk, map
 ghost use Rattle.size_arith.specs.Ranges.{sizes_at};
 ghost use Rattle.lift_tree.specs.Lists.{pieces, strided};
 ghost use Rattle.lift_tree.specs.Meaning.{meaning, layout_value, unary_value, binary_value, array_of_rows, product_at, factor_at, nth_size};
+ghost use Rattle.lift_tree.specs.Tree as tree;
 ghost use Rattle.lift_tree.specs.Tree.{tree_of};
 ghost use Rattle.lift_tree.specs.Values.{value_of, array, members};
 ghost use Rattle.lift_tree.specs.WorkedOut.{range_of};
@@ -143,24 +144,56 @@ impl World<'_> {
                 let v = self.value(alloc, binders, a)?;
                 self.unary(alloc, form, v)
             }
-            Term::Binary(form, a, b) => {
-                let v = self.value(alloc, binders, a)?;
-                let u = self.value(alloc, binders, b)?;
-                binary(alloc, *form, v, u)
-            }
-            Term::Select(condition, yes, no) => {
-                if word_of(&self.value(alloc, binders, condition)?) != 0 {
-                    self.value(alloc, binders, yes)
-                } else {
-                    self.value(alloc, binders, no)
-                }
-            }
+            Term::Binary(form, a, b) => self.binary(alloc, binders, *form, a, b),
+            Term::Select(condition, yes, no) => self.select(alloc, binders, condition, yes, no),
             Term::Let(value, body) => {
                 let v = self.value(alloc, binders, value)?;
                 self.under(alloc, binders, v, body)
             }
             Term::Map(_, array, body) => self.map(alloc, binders, array, body),
             Term::Fold(_, array, start, body) => self.fold(alloc, binders, array, start, body),
+        }
+    }
+
+    #[cycle(valuing)]
+    fn binary(
+        &self,
+        alloc: Global,
+        binders: &mut Vec<Val>,
+        form: BinaryForm,
+        a: &Term,
+        b: &Term,
+    ) -> Result<Val, AllocError>
+        ensures { IfOk result (λ v. (value_of v
+            ≡ meaning (world_of self.now) (stack binders.old.items)
+            (tree.Binary form (tree_of a.now) (tree_of b.now)))
+            × (binders.new.items ≡ binders.old.items)) }
+    {
+        let v = self.value(alloc, binders, a)?;
+        let u = self.value(alloc, binders, b)?;
+        binary(alloc, form, v, u)
+    }
+
+    #[tactic(auto, using(crate::proofs::Under::under))]
+    #[cycle(valuing)]
+    fn select(
+        &self,
+        alloc: Global,
+        binders: &mut Vec<Val>,
+        condition: &Term,
+        yes: &Term,
+        no: &Term,
+    ) -> Result<Val, AllocError>
+        ensures { IfOk result (λ v. (value_of v
+            ≡ meaning (world_of self.now) (stack binders.old.items)
+            (tree.Select (tree_of condition.now) (tree_of yes.now) (tree_of no.now)))
+            × (binders.new.items ≡ binders.old.items)) }
+    {
+        let test = self.value(alloc, binders, condition)?;
+        if word_of(&test) != 0 {
+            self.value(alloc, binders, yes)
+        } else {
+            self.value(alloc, binders, no)
         }
     }
 

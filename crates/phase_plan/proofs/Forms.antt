@@ -1,7 +1,7 @@
 -- What a term stands as, it stands as in one way.
 use Rattle.std.proofs.Common.{Bool, true, false}
 use Rattle.std.specs.Coded.{×_prop, Unit-prop}
-use Rattle.lift_ir.specs.Layouts.{IsInvertible, Layout, Split, Join, Transpose, Reverse, Slide, Pad}
+use Rattle.lift_ir.specs.Layouts.{IsInvertible, Layout, Slide, Pad}
 use Rattle.lift_ir.specs.Forms.{Stands}
 use Rattle.lift_ir.specs.Terms.{Term, Literal, Bound, Source, Apply, ApplyNumber, Select, Both, Project, Reshape, LetArray, LetElement, Map, Fold, Store, Copy, Global, WorkGroup, Local, Sequential, LocalMemory, PrivateMemory}
 use Rattle.group_form.specs.Forms.{IsOfInputs, StandsInGroup, StandsOverGroups}
@@ -10,12 +10,9 @@ never : IsProp ⊥
 never a b = absurd a
 
 invertible_once : {A : Type 0} → (y : Layout A) → IsProp (IsInvertible y)
-invertible_once (Split m) = Unit-prop
-invertible_once (Join m) = Unit-prop
-invertible_once Transpose = Unit-prop
-invertible_once (Reverse n) = Unit-prop
 invertible_once (Slide s k) = never
 invertible_once (Pad l r k) = never
+invertible_once _ = Unit-prop
 
 stands_once : {A : Type 0} → (w : Bool) (t : Term A) → IsProp (Stands w t)
 stands_once true (Literal c) = never

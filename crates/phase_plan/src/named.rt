@@ -6,7 +6,7 @@ ghost use Rattle.lowering.specs.Terms.{load_set_of, term_of};
 
 use crate::component::{Component, add_components, add_nearest, add_outside};
 use crate::way::{Way, add_after, after, onward, whole};
-use lowering::term::{LoadSet, Term};
+use lowering::term::{LoadSet, Map, Term};
 use std::alloc::{AllocError, Global};
 
 // The ways to the scalars that are loaded.
@@ -106,16 +106,26 @@ fn add_named(
             add_named(alloc, value, &whole(alloc)?, all)?;
             add_outside(alloc, &named(alloc, body, ways)?, all)
         }
-        Term::Map(_, _, loads, array, body) => {
-            let inner = named(alloc, body, ways)?;
-            add_named(alloc, array, &of_element(alloc, loads, &inner)?, all)?;
+        Term::Map(map) => {
+            let inner = named(alloc, &map.body, ways)?;
+            add_named(
+                alloc,
+                &map.array,
+                &of_element(alloc, &map.loads, &inner)?,
+                all,
+            )?;
             add_outside(alloc, &inner, all)
         }
-        Term::Fold(_, loads, _, array, start, body) => {
+        Term::Fold(fold) => {
             let whole = whole(alloc)?;
-            let inner = named(alloc, body, &whole)?;
-            add_named(alloc, array, &of_element(alloc, loads, &inner)?, all)?;
-            add_named(alloc, start, &whole, all)?;
+            let inner = named(alloc, &fold.body, &whole)?;
+            add_named(
+                alloc,
+                &fold.array,
+                &of_element(alloc, &fold.loads, &inner)?,
+                all,
+            )?;
+            add_named(alloc, &fold.start, &whole, all)?;
             add_outside(alloc, &outside(alloc, &inner)?, all)
         }
     }
@@ -129,16 +139,16 @@ pub struct Names {
     pub variables: Vec<Component>,
 }
 
-/// What a local map with these loads and this body names.
-pub fn named_by_map(alloc: Global, loads: &LoadSet, body: &Term) -> Result<Names, AllocError>
-    ensures element { IfOk result (λ names.
-        names.element.items ≡ spec.element_ways (load_set_of loads.now) (term_of body.now)) }
+/// What a local map names.
+pub fn named_by_map(alloc: Global, map: &Map) -> Result<Names, AllocError>
+    ensures element { IfOk result (λ names. names.element.items
+        ≡ spec.element_ways (load_set_of map.now.loads) (term_of map.now.body)) }
     ensures variables { IfOk result
-        (λ names. names.variables.items ≡ spec.named_outside (term_of body.now)) }
+        (λ names. names.variables.items ≡ spec.named_outside (term_of map.now.body)) }
 {
-    let inner = named(alloc, body, &whole(alloc)?)?;
+    let inner = named(alloc, &map.body, &whole(alloc)?)?;
     Ok(Names {
-        element: of_element(alloc, loads, &inner)?,
+        element: of_element(alloc, &map.loads, &inner)?,
         variables: outside(alloc, &inner)?,
     })
 }

@@ -32,7 +32,7 @@ fn is_once(names: &Names, local: Option<u32>, term: &Term) -> bool
 {
     match term {
         Term::Reshape(_, a) | Term::LetArray(_, a) => is_once(names, local, a),
-        Term::Map(_, count, _, _, _) => is_over_one(names, local, count),
+        Term::Map(map) => is_over_one(names, local, &map.length),
         Term::Literal(_)
         | Term::Bound(_)
         | Term::Source(_)
@@ -44,7 +44,7 @@ fn is_once(names: &Names, local: Option<u32>, term: &Term) -> bool
         | Term::First(_)
         | Term::Second(_)
         | Term::LetElement(_, _, _)
-        | Term::Fold(_, _, _, _, _, _)
+        | Term::Fold(_)
         | Term::Store(_, _)
         | Term::Copy(_, _, _) => false,
     }

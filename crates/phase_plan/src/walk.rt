@@ -17,7 +17,7 @@ use crate::scope::Scope;
 use crate::uses::{add_element_reads, add_variable_reads, add_writes};
 use barrier_placement::Touch;
 use lift_tree::ty::Ty;
-use lowering::term::{LoadSet, Term};
+use lowering::term::{Map, Term};
 use std::alloc::{AllocError, Global};
 
 /// Where a phase's value goes.
@@ -110,18 +110,18 @@ impl Walk {
         alloc: Global,
         scope: &Scope,
         argument: &Origin,
-        loads: &LoadSet,
-        body: &Term,
+        map: &Map,
         to: Destination,
         direct: bool,
     ) -> Result<Origin, AllocError>
         ensures origin { IfOk result (λ o. origin_in o ≡ origin_from self.old.arrays to.entry) }
         ensures goes_on { OnOk result (GoesOn self.old self.new
-            (uses.loop_uses (origins_in scope.now) (origin_in argument.now) (load_set_of loads.now)
-            (term_of body.now) (destination_from self.old.arrays to.entry) direct ∷ [])
+            (uses.loop_uses (origins_in scope.now) (origin_in argument.now)
+            (load_set_of map.now.loads) (term_of map.now.body)
+            (destination_from self.old.arrays to.entry) direct ∷ [])
             (width_of to.entry)) }
     {
-        let names = named_by_map(alloc, loads, body)?;
+        let names = named_by_map(alloc, map)?;
         let origin = self.write(alloc, to, direct)?;
         add_element_reads(argument, &names.element, self.phases, &mut self.touches)?;
         add_variable_reads(
@@ -173,8 +173,8 @@ impl Walk {
             | Term::Select(_, _, _)
             | Term::Pair(_, _)
             | Term::LetElement(_, _, _)
-            | Term::Map(_, _, _, _, _)
-            | Term::Fold(_, _, _, _, _, _)
+            | Term::Map(_)
+            | Term::Fold(_)
             | Term::Store(_, _) => Ok(Origin::Elsewhere),
         }
     }
@@ -207,9 +207,9 @@ impl Walk {
                 let inner = Scope::Bound(&value, &*scope);
                 self.written(alloc, &inner, body, to, direct)
             }
-            Term::Map(_, _, loads, array, body) => {
-                let argument = self.argument(alloc, scope, array)?;
-                self.add_phase(alloc, scope, &argument, loads, body, to, direct)
+            Term::Map(map) => {
+                let argument = self.argument(alloc, scope, &map.array)?;
+                self.add_phase(alloc, scope, &argument, map, to, direct)
             }
             Term::Literal(_)
             | Term::Bound(_)
@@ -222,7 +222,7 @@ impl Walk {
             | Term::First(_)
             | Term::Second(_)
             | Term::LetElement(_, _, _)
-            | Term::Fold(_, _, _, _, _, _)
+            | Term::Fold(_)
             | Term::Store(_, _)
             | Term::Copy(_, _, _) => Ok(Origin::Elsewhere),
         }
@@ -239,8 +239,8 @@ impl Walk {
         let mut walk = Walk::new(alloc);
         match root {
             Term::Reshape(_, term) | Term::LetArray(_, term) => return Walk::through(alloc, term),
-            Term::Map(_, _, _, _, body) => {
-                walk.written(alloc, &Scope::Empty, body, Destination::Outputs, false)?;
+            Term::Map(map) => {
+                walk.written(alloc, &Scope::Empty, &map.body, Destination::Outputs, false)?;
             }
             Term::Literal(_)
             | Term::Bound(_)
@@ -253,7 +253,7 @@ impl Walk {
             | Term::First(_)
             | Term::Second(_)
             | Term::LetElement(_, _, _)
-            | Term::Fold(_, _, _, _, _, _)
+            | Term::Fold(_)
             | Term::Store(_, _)
             | Term::Copy(_, _, _) => {}
         }

@@ -1,7 +1,7 @@
 -- Any two codes printed for one term are alike.
 use Rattle.std.proofs.Common.{◌≡◌, ℕ, ◌+◌, ◌<◌, Bool, true, false, List, [], ◌∷◌, ◌++◌, Option, Some, refl, sym, ◌∙◌, subst}
 use Rattle.kernel_tree.specs.Formula.{Formula}
-use Rattle.kernel_tree.specs.Code.{Array, Private, Code, End, Assigns, Loads, Stores, Loops}
+use Rattle.kernel_tree.specs.Code.{Array, Private, Code, End, Performs, Assigns, Loads, Stores, Loops}
 use Rattle.kernel_tree.specs.Launch.{Launch}
 use Rattle.lift_ir.specs.Types.{Ty, Scalar, PairOf, ArrayOf, width}
 use Rattle.lift_ir.specs.Terms.{PrivateMemory, LoadSet, Skip, Take, Each, Kind, Global, Sequential, Term, Literal, Bound, Source, Apply, ApplyNumber, Select, Both, Project, Reshape, LetArray, LetElement, Map, Fold, Store, Copy, push}
@@ -22,7 +22,7 @@ alike_by grouped l item ts a b c d p q h = subst (λ x. Alike grouped l item ts 
 
 module _ (grouped : Bool) (l : Launch) (item : ℕ) (ins : ℕ → Marks) where
   alike_assigned : (ts : List ℕ) (ty : Ty) (f : List Bool → Option Formula) (n : ℕ) (a b c d : Code) → IsAssigned ty f n a c → IsAssigned ty f n b d → Alike grouped l item ts c d → Alike grouped l item ts a b
-  alike_assigned ts Scalar f n a b c d x y h = alike_by grouped l item ts a b (Assigns n x.0 c) (Assigns n y.0 d) x.2 y.2 (refl, same_some (f []) x.0 y.0 x.1 y.1, h)
+  alike_assigned ts Scalar f n a b c d x y h = alike_by grouped l item ts a b (Performs (Assigns n x.0) c) (Performs (Assigns n y.0) d) x.2 y.2 ((refl, same_some (f []) x.0 y.0 x.1 y.1), h)
   alike_assigned ts (PairOf t u) f n a b c d x y h =
       alike_assigned ts t (λ cs. f (false ∷ cs)) n a b x.0 y.0 x.1 y.1 (alike_assigned ts u (λ cs. f (true ∷ cs)) (n + width t) x.0 y.0 c d x.2 y.2 h)
   alike_assigned ts (ArrayOf m t) f n a b c d x y h = absurd x
@@ -55,7 +55,7 @@ module _ (grouped : Bool) (l : Launch) (item : ℕ) (ins : ℕ → Marks) where
   alike_stored : (ts : List ℕ) (ty : Ty) (f : List Bool → Option Formula) (w : Marks) (a b c d : Code) → IsStored l item ins ts ty f w a c → IsStored l item ins ts ty f w b d → Alike grouped l item ts c d → Alike grouped l item ts a b
   alike_stored ts Scalar f w a b c d x y h =
       let s = spots_alike ts (w [] []) x.0 y.0 x.1 y.1 x.4 y.4 in
-      alike_by grouped l item ts a b (Stores x.0 x.1 x.2 c) (Stores y.0 y.1 y.2 d) x.5 y.5 (s.0, s.1, same_some (f []) x.2 y.2 x.3 y.3, h)
+      alike_by grouped l item ts a b (Performs (Stores x.0 x.1 x.2) c) (Performs (Stores y.0 y.1 y.2) d) x.5 y.5 ((s.0, s.1, same_some (f []) x.2 y.2 x.3 y.3), h)
   alike_stored ts (PairOf t u) f w a b c d x y h =
       alike_stored ts t (λ cs. f (false ∷ cs)) (λ cs. w (false ∷ cs)) a b x.0 y.0 x.1 y.1 (alike_stored ts u (λ cs. f (true ∷ cs)) (λ cs. w (true ∷ cs)) x.0 y.0 c d x.2 y.2 h)
   alike_stored ts (ArrayOf m t) f w a b c d x y h = absurd x
@@ -64,7 +64,7 @@ module _ (grouped : Bool) (l : Launch) (item : ℕ) (ins : ℕ → Marks) where
   alike_loaded ts Skip e n a b c d x y h = alike_by grouped l item ts a b c d x y h
   alike_loaded ts Take e n a b c d x y h =
       let s = spots_alike ts (e [] []) x.0 y.0 x.1 y.1 x.2 y.2 in
-      alike_by grouped l item ts a b (Loads n x.0 x.1 c) (Loads n y.0 y.1 d) x.3 y.3 (refl, s.0, s.1, h)
+      alike_by grouped l item ts a b (Performs (Loads n x.0 x.1) c) (Performs (Loads n y.0 y.1) d) x.3 y.3 ((refl, s.0, s.1), h)
   alike_loaded ts (Each p q) e n a b c d x y h =
       alike_loaded ts p (λ cs. e (false ∷ cs)) n a b x.0 y.0 x.1 y.1 (alike_loaded ts q (λ cs. e (true ∷ cs)) (n + load_count p) x.0 y.0 c d x.2 y.2 h)
 

@@ -1,9 +1,10 @@
 -- Loads and stores of one item.
 use Rattle.std.proofs.Common.{◌≡◌, ℕ, ◌+◌, ◌<◌, ◌≤◌, Bool, true, false, List, [], ◌∷◌, length, Option, Some, refl, sym, ap, ◌∙◌, subst, ◌⊎◌, inl, inr, arith}
+use Rattle.std.proofs.lemmas.Bool.{false_from_ne_true}
 use Rattle.std.specs.Prelude.{if◌then◌else◌}
 use Rattle.std.proofs.lemmas.List.{get_or-set_same}
 use Rattle.kernel_tree.specs.Formula.{Formula, word, set_word, value}
-use Rattle.kernel_tree.specs.Code.{Array, Input, Output, Local, Private, Code, Loads, Stores}
+use Rattle.kernel_tree.specs.Code.{Array, Input, Output, Local, Private, Code, Loads, Stores, Performs}
 use Rattle.kernel_tree.specs.Launch.{ids_of}
 use Rattle.kernel_tree.specs.Item.{Frame, item, loop_variables}
 use Rattle.kernel_tree.specs.Device.{Cell, write, same_cell}
@@ -19,18 +20,14 @@ use Rattle.printed_form.specs.Marks.{Mark, Nowhere, Register, Spot, Marks, loade
 use Rattle.printed_form.specs.Counts.{load_count}
 use Rattle.printed_form.specs.Form.{IsIndex, IsSpot, IsStored, IsLoaded}
 use Rattle.printed_form.specs.Runs.{Setting, Known, IsFilled, IsOpen, spot_cell, mark_cell, HoldsAt, Holds, Values, DueAt, Due, Targets, nothing, no_target, known_after, Ran, Apart}
-use Rattle.printed_form.proofs.Runs.{kept, kept_set, holds_later, values_later, silent, ran_on, after_silence, ran_at_once}
+use Rattle.printed_form.proofs.Runs.{kept, kept_set, holds_later, values_later, silent, ran_on, after_silence, ran_at_once, ran_so}
 use Rattle.printed_form.proofs.Elements.{holds_two}
-
-not_true : (b : Bool) → (b ≡ true → ⊥) → b ≡ false
-not_true true h = absurd (h refl)
-not_true false h = refl
 
 module _ (st : Setting) (ts : List ℕ) (fs : List Frame) (at : loop_variables fs ≡ ts) (ins : ℕ → Marks) where
   here : (x : Known) (i : Formula) (n : ℕ) → IsIndex st.device.launch st.item ins ts i n → value (ids_of st.device.launch st.item) (loop_variables fs) x.vars i ≡ Some n
   here x i n h = subst (λ t. value (ids_of st.device.launch st.item) t x.vars i ≡ Some n) (sym at) (h x.vars)
 
-  load_one : (m : Mark) (s : Scalars) (x : Known) (code rest : Code) (a : Array) (i : Formula) → IsSpot st.device.launch st.item ins ts m a i → code ≡ Loads x.count a i rest → x.count < length x.vars.words → HoldsAt st x m (s [] [])
+  load_one : (m : Mark) (s : Scalars) (x : Known) (code rest : Code) (a : Array) (i : Formula) → IsSpot st.device.launch st.item ins ts m a i → code ≡ Performs (Loads x.count a i) rest → x.count < length x.vars.words → HoldsAt st x m (s [] [])
       → Ran st x fs code rest (x.count + 1) x.arrays nothing no_target (λ y. Holds st y Scalar (λ cs q. Register x.count) s)
   load_one Nowhere s x code rest a i h is room holds = absurd h
   load_one (Register r) s x code rest a i h is room holds = absurd h
@@ -41,7 +38,7 @@ module _ (st : Setting) (ts : List ℕ) (fs : List Frame) (at : loop_variables f
       record {
         after = vars;
         deeds = Got c ∷ [];
-        goes = λ m ag. subst (λ z. Goes st.device st.item (item z fs x.vars) m (Got c ∷ []) (item rest fs vars)) (sym (is ∙ ap (λ y. Loads x.count y i rest) h.0))
+        goes = λ m ag. subst (λ z. Goes st.device st.item (item z fs x.vars) m (Got c ∷ []) (item rest fs vars)) (sym (is ∙ ap (λ y. Performs (Loads x.count y i) rest) h.0))
             (goes_load st.device st.item fs x.vars m x.count b i rest c n v (here x i n h.1) refl holds.within (ag c holds.may ∙ holds.holds));
         later = record { more = omega arith; more_arrays = omega arith; kept = kept_set x.count x.count v x.vars (omega arith); same = λ c f. refl };
         allowed = (holds.may, tt);
@@ -73,26 +70,14 @@ module _ (st : Setting) (ts : List ℕ) (fs : List Frame) (at : loop_variables f
       let r2 = loads_run q b (λ cs. e (true ∷ cs)) other y h.0 rest ok.1 h.2 (subst (λ z. x.count + load_count p + load_count q ≤ z) (sym r.later.kept.long) (omega arith)) (holds_later st x y b (λ cs. e (true ∷ cs)) other r.later (λ cs. holds (true ∷ cs))) in
       let z = known_after y r2.deeds r2.after (x.count + load_count p + load_count q) x.arrays in
       let eq : x.count + load_count p + load_count q ≡ x.count + (load_count p + load_count q) = omega arith in
-      let r3 : Ran st y fs h.0 rest (x.count + load_count p + load_count q) x.arrays nothing no_target (λ y. Holds st y (PairOf a b) (loaded_marks (Each p q) e x.count) s) = record {
-        after = r2.after;
-        deeds = r2.deeds;
-        goes = r2.goes;
-        later = r2.later;
-        allowed = r2.allowed;
-        wrote = r2.wrote;
-        good = holds_two st z a b _ _ s (holds_later st y z a _ left r2.later r.good) r2.good;
-      } in
+      let r3 : Ran st y fs h.0 rest (x.count + load_count p + load_count q) x.arrays nothing no_target (λ y. Holds st y (PairOf a b) (loaded_marks (Each p q) e x.count) s) = ran_so r2 (holds_two st z a b _ _ s (holds_later st y z a _ left r2.later r.good) r2.good) in
       subst (λ n. Ran st x fs code rest n x.arrays nothing no_target (λ y. Holds st y (PairOf a b) (loaded_marks (Each p q) e x.count) s)) eq
       (ran_on st x fs code h.0 rest (x.count + load_count p) x.arrays (x.count + load_count p + load_count q) x.arrays after_silence r r3)
 
   -- targets
 
   tail_is : (b : Bool) (cs ds : List Bool) → b ∷ cs ≡ b ∷ ds → cs ≡ ds
-  tail_is b cs ds e = ap drop_one e
-    where
-      drop_one : List Bool → List Bool
-      drop_one [] = []
-      drop_one (c ∷ cs) = cs
+  tail_is b cs ds e = cc
 
   head_differs : (cs ds : List Bool) → false ∷ cs ≡ true ∷ ds → ⊥
   head_differs cs ds e = cc
@@ -108,7 +93,7 @@ module _ (st : Setting) (ts : List ℕ) (fs : List Frame) (at : loop_variables f
   same_count b c v e = ap (λ t. (if t then 1 else 0) + 0) (subst (λ z. same_cell b z ≡ true) (sym e) (same_cell-itself b))
 
   other_count : (b c : Cell) (v : ℕ) → (c ≡ b → ⊥) → write_count c (Gave b v ∷ []) ≡ 0
-  other_count b c v n = ap (λ t. (if t then 1 else 0) + 0) (not_true (same_cell b c) (λ e. n (sym (same_cell-true b c e))))
+  other_count b c v n = ap (λ t. (if t then 1 else 0) + 0) (false_from_ne_true (same_cell b c) (λ e. n (sym (same_cell-true b c e))))
 
   only_position : (w : Marks) (s : Scalars) (c : Cell) (v : ℕ) (P : Type 0) → Targets st Scalar w s c v → (c ≡ mark_cell st (w [] []) → v ≡ s [] [] → P) → P
   only_position w s c v P t f = go t.0 t.1 t.2 t.3 t.4
@@ -125,7 +110,7 @@ module _ (st : Setting) (ts : List ℕ) (fs : List Frame) (at : loop_variables f
   open_unfilled l a (Local n) h f = let z : n < n = omega arith in omega arith
   open_unfilled l a (Private n) h f = let z : n < n = omega arith in omega arith
 
-  store_one : (m : Mark) (w : Marks) (s : Scalars) (x : Known) (code rest : Code) (a : Array) (i e : Formula) → w [] [] ≡ m → IsSpot st.device.launch st.item ins ts m a i → code ≡ Stores a i e rest → value (ids_of st.device.launch st.item) ts x.vars e ≡ Some (s [] []) → DueAt st x.arrays m
+  store_one : (m : Mark) (w : Marks) (s : Scalars) (x : Known) (code rest : Code) (a : Array) (i e : Formula) → w [] [] ≡ m → IsSpot st.device.launch st.item ins ts m a i → code ≡ Performs (Stores a i e) rest → value (ids_of st.device.launch st.item) ts x.vars e ≡ Some (s [] []) → DueAt st x.arrays m
       → Ran st x fs code rest x.count x.arrays nothing (Targets st Scalar w s) (λ y. Unit {0})
   store_one Nowhere w s x code rest a i e is h q v d = absurd h
   store_one (Register r) w s x code rest a i e is h q v d = absurd h
@@ -136,7 +121,7 @@ module _ (st : Setting) (ts : List ℕ) (fs : List Frame) (at : loop_variables f
       record {
         after = x.vars;
         deeds = Gave c u ∷ [];
-        goes = λ m ag. subst (λ z. Goes st.device st.item (item z fs x.vars) m (Gave c u ∷ []) (item rest fs x.vars)) (sym (q ∙ ap (λ y. Stores y i e rest) h.0))
+        goes = λ m ag. subst (λ z. Goes st.device st.item (item z fs x.vars) m (Gave c u ∷ []) (item rest fs x.vars)) (sym (q ∙ ap (λ y. Performs (Stores y i e) rest) h.0))
             (goes_store st.device st.item fs x.vars m b i e rest c n u (here x i n h.1) (subst (λ t. value (ids_of st.device.launch st.item) t x.vars e ≡ Some u) (sym at) v) refl d.0);
         later = record { more = omega arith; more_arrays = omega arith; kept = kept x.count x.vars; same = λ z f. write-cases c z u x.memory (λ y. y ≡ x.memory z) (λ p. absurd (open_unfilled st.locals x.arrays b d.2 (subst (λ y. IsFilled st.locals x.arrays y.array) p f))) (λ p. refl) };
         allowed = (d.1, tt);

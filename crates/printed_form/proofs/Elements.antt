@@ -7,7 +7,7 @@ use Rattle.scalar_ops.specs.declared.op.Op.{Op}
 use Rattle.scalar_ops.specs.declared.op.Op.TheVariants as op
 use Rattle.scalar_ops.specs.Operators.{apply_op, choose}
 use Rattle.kernel_tree.specs.Formula.{Formula, Vars, word, set_word, Number, Variable, Binary, divides, operate, value}
-use Rattle.kernel_tree.specs.Code.{Code, Assigns}
+use Rattle.kernel_tree.specs.Code.{Code, Assigns, Performs}
 use Rattle.kernel_tree.specs.Launch.{ids_of}
 use Rattle.kernel_tree.specs.Item.{Frame, item, loop_variables}
 use Rattle.kernel_tree.specs.Deeds.{Moved, Goes}
@@ -20,7 +20,7 @@ use Rattle.printed_form.specs.Counts.{let_variables}
 use Rattle.printed_form.specs.Expressions.{held, of_one, of_both, of_three, operation, selection, exprs}
 use Rattle.printed_form.specs.Form.{IsAssigned, IsElementWork}
 use Rattle.printed_form.specs.Runs.{Setting, Known, Kept, Later, HoldsAt, Holds, AllHold, Values, nothing, no_target, known_after, Ran}
-use Rattle.printed_form.proofs.Runs.{kept, kept_set, later_on, holds_later, all_hold_later, values_later, silent, ran_on, after_silence, ran_at_once}
+use Rattle.printed_form.proofs.Runs.{kept, kept_set, later_on, holds_later, all_hold_later, values_later, silent, ran_on, after_silence, ran_at_once, ran_so}
 
 -- what is known, with these variables
 abbrev pub with_vars : Known → Vars → (count : ℕ) → Known
@@ -49,7 +49,7 @@ module _ (st : Setting) where
 
   module _ (ts : List ℕ) (fs : List Frame) (at : loop_variables fs ≡ ts) where
     -- one assignment
-    pub assign : (x : Known) (e : Formula) (v : ℕ) (code rest : Code) → code ≡ Assigns x.count e rest → x.count < length x.vars.words → value (ids_of st.device.launch st.item) ts x.vars e ≡ Some v → Ran st x fs code rest (suc x.count) x.arrays nothing no_target (λ y. word y.vars x.count ≡ v)
+    pub assign : (x : Known) (e : Formula) (v : ℕ) (code rest : Code) → code ≡ Performs (Assigns x.count e) rest → x.count < length x.vars.words → value (ids_of st.device.launch st.item) ts x.vars e ≡ Some v → Ran st x fs code rest (suc x.count) x.arrays nothing no_target (λ y. word y.vars x.count ≡ v)
     assign x e v code rest is room h = record {
       after = set_word x.vars x.count v;
       deeds = Moved ∷ [];
@@ -71,7 +71,7 @@ module _ (st : Setting) where
         let e : suc x.count ≡ x.count + 1 = omega arith in
         let r = assign x h.0 (s [] []) code rest h.2 (omega arith) (right [] h.0 tt h.1 x.vars (kept x.count x.vars)) in
         subst (λ n. Ran st x fs code rest n x.arrays nothing no_target (λ y. Holds st y Scalar (held_marks Scalar x.count) s)) e
-        (record { after = r.after; deeds = r.deeds; goes = r.goes; later = r.later; allowed = r.allowed; wrote = r.wrote; good = held_one (known_after x r.deeds r.after (suc x.count) x.arrays) x.count (s [] []) s (omega arith) r.good })
+        (ran_so r (held_one (known_after x r.deeds r.after (suc x.count) x.arrays) x.count (s [] []) s (omega arith) r.good))
     assigned (PairOf a b) f s x code rest h room right =
         let left = λ (cs : List Bool). s (false ∷ cs) in
         let other = λ (cs : List Bool). s (true ∷ cs) in
@@ -80,15 +80,7 @@ module _ (st : Setting) where
         let r2 = assigned b (λ cs. f (true ∷ cs)) other y h.0 rest h.2 (long_enough x (x.count + width a + width b) r.after r.later.kept (omega arith)) (values_later st ts x y b (λ cs. f (true ∷ cs)) other r.later (λ cs. right (true ∷ cs))) in
         let z = known_after y r2.deeds r2.after (x.count + width a + width b) x.arrays in
         let e : x.count + width a + width b ≡ x.count + (width a + width b) = omega arith in
-        let r3 : Ran st y fs h.0 rest (x.count + width a + width b) x.arrays nothing no_target (λ y. Holds st y (PairOf a b) (held_marks (PairOf a b) x.count) s) = record {
-          after = r2.after;
-          deeds = r2.deeds;
-          goes = r2.goes;
-          later = r2.later;
-          allowed = r2.allowed;
-          wrote = r2.wrote;
-          good = holds_two z a b _ _ s (holds_later st y z a (held_marks a x.count) left r2.later r.good) r2.good;
-        } in
+        let r3 : Ran st y fs h.0 rest (x.count + width a + width b) x.arrays nothing no_target (λ y. Holds st y (PairOf a b) (held_marks (PairOf a b) x.count) s) = ran_so r2 (holds_two z a b _ _ s (holds_later st y z a (held_marks a x.count) left r2.later r.good) r2.good) in
         subst (λ n. Ran st x fs code rest n x.arrays nothing no_target (λ y. Holds st y (PairOf a b) (held_marks (PairOf a b) x.count) s)) e
         (ran_on st x fs code h.0 rest (x.count + width a) x.arrays (x.count + width a + width b) x.arrays after_silence r r3)
     assigned (ArrayOf n t) f s x code rest h room right = absurd h
@@ -197,30 +189,14 @@ module _ (st : Setting) where
           let v = scalars_of num sources sems b [] [] in
           let va = values_later st ts y z Scalar (exprs env x.count a) (scalars_of num sources sems a) r2.later r.good in
           let e : x.count + let_variables a + let_variables b ≡ x.count + (let_variables a + let_variables b) = omega arith in
-          let r3 : Ran st y fs h.0 rest (x.count + let_variables a + let_variables b) x.arrays nothing no_target (λ y. Values st ts y ty (exprs env x.count (Apply o a b)) (scalars_of num sources sems (Apply o a b))) = record {
-            after = r2.after;
-            deeds = r2.deeds;
-            goes = r2.goes;
-            later = r2.later;
-            allowed = r2.allowed;
-            wrote = r2.wrote;
-            good = λ cs e w q later k. let p = both_are (operation o) (exprs env x.count a []) (exprs env (x.count + let_variables a) b []) e q in
-                values_is (operation o p.0 p.1) e later (apply_op o u v) p.4 (value_operation o p.0 p.1 later u v ok.1 (va [] p.0 tt p.2 later k) (r2.good [] p.1 tt p.3 later k));
-          } in
+          let r3 : Ran st y fs h.0 rest (x.count + let_variables a + let_variables b) x.arrays nothing no_target (λ y. Values st ts y ty (exprs env x.count (Apply o a b)) (scalars_of num sources sems (Apply o a b))) = ran_so r2 (λ cs e w q later k. let p = both_are (operation o) (exprs env x.count a []) (exprs env (x.count + let_variables a) b []) e q in
+          values_is (operation o p.0 p.1) e later (apply_op o u v) p.4 (value_operation o p.0 p.1 later u v ok.1 (va [] p.0 tt p.2 later k) (r2.good [] p.1 tt p.3 later k))) in
           subst (λ n. Ran st x fs code rest n x.arrays nothing no_target (λ y. Values st ts y ty (exprs env x.count (Apply o a b)) (scalars_of num sources sems (Apply o a b)))) e
           (ran_on st x fs code h.0 rest (x.count + let_variables a) x.arrays (x.count + let_variables a + let_variables b) x.arrays after_silence r r3)
       elements (ApplyNumber o m a) g env sems ty x code rest ok h room es =
           let r = elements a g env sems Scalar x code rest ok.2 h room es in
-          record {
-            after = r.after;
-            deeds = r.deeds;
-            goes = r.goes;
-            later = r.later;
-            allowed = r.allowed;
-            wrote = r.wrote;
-            good = λ cs e w q later k. let p = one_is (λ y. Binary o y (Number m)) (exprs env x.count a []) e q in
-                values_is (Binary o p.0 (Number m)) e later _ p.2 (value_scale o p.0 m later (scalars_of num sources sems a [] []) ok.1 (r.good [] p.0 tt p.1 later k));
-          }
+          ran_so r (λ cs e w q later k. let p = one_is (λ y. Binary o y (Number m)) (exprs env x.count a []) e q in
+          values_is (Binary o p.0 (Number m)) e later _ p.2 (value_scale o p.0 m later (scalars_of num sources sems a [] []) ok.1 (r.good [] p.0 tt p.1 later k)))
       elements (Select c a b) g env sems ty x code rest ok h room es =
           let r = elements c g env sems Scalar x code h.0 ok.1 h.2 (omega arith) es in
           let y = known_after x r.deeds r.after (x.count + let_variables c) x.arrays in
@@ -233,16 +209,8 @@ module _ (st : Setting) where
           let vc = values_later st ts y u Scalar (exprs env x.count c) (scalars_of num sources sems c) (later_on st y z u r2.later r3.later) r.good in
           let va = values_later st ts z u Scalar (exprs env (x.count + let_variables c) a) (scalars_of num sources sems a) r3.later r2.good in
           let e : x.count + let_variables c + let_variables a + let_variables b ≡ x.count + (let_variables c + (let_variables a + let_variables b)) = omega arith in
-          let r4 : Ran st z fs h.1 rest (x.count + let_variables c + let_variables a + let_variables b) x.arrays nothing no_target (λ y. Values st ts y ty (exprs env x.count (Select c a b)) (scalars_of num sources sems (Select c a b))) = record {
-            after = r3.after;
-            deeds = r3.deeds;
-            goes = r3.goes;
-            later = r3.later;
-            allowed = r3.allowed;
-            wrote = r3.wrote;
-            good = λ cs e w q later k. let p = three_are selection (exprs env x.count c []) (exprs env (x.count + let_variables c) a []) (exprs env (x.count + let_variables c + let_variables a) b []) e q in
-                values_is (selection p.0 p.1 p.2) e later _ p.6 (value_selection p.0 p.1 p.2 later _ _ _ (vc [] p.0 tt p.3 later k) (va [] p.1 tt p.4 later k) (r3.good [] p.2 tt p.5 later k));
-          } in
+          let r4 : Ran st z fs h.1 rest (x.count + let_variables c + let_variables a + let_variables b) x.arrays nothing no_target (λ y. Values st ts y ty (exprs env x.count (Select c a b)) (scalars_of num sources sems (Select c a b))) = ran_so r3 (λ cs e w q later k. let p = three_are selection (exprs env x.count c []) (exprs env (x.count + let_variables c) a []) (exprs env (x.count + let_variables c + let_variables a) b []) e q in
+          values_is (selection p.0 p.1 p.2) e later _ p.6 (value_selection p.0 p.1 p.2 later _ _ _ (vc [] p.0 tt p.3 later k) (va [] p.1 tt p.4 later k) (r3.good [] p.2 tt p.5 later k))) in
           subst (λ n. Ran st x fs code rest n x.arrays nothing no_target (λ y. Values st ts y ty (exprs env x.count (Select c a b)) (scalars_of num sources sems (Select c a b)))) e
           (ran_on st x fs code h.0 rest (x.count + let_variables c) x.arrays (x.count + let_variables c + let_variables a + let_variables b) x.arrays after_silence r
           (ran_on st y fs h.0 h.1 rest (x.count + let_variables c + let_variables a) x.arrays (x.count + let_variables c + let_variables a + let_variables b) x.arrays after_silence r2 r4))
@@ -254,23 +222,15 @@ module _ (st : Setting) where
           let z = known_after y r2.deeds r2.after (x.count + let_variables a + let_variables b) x.arrays in
           let va = values_later st ts y z p.0 (exprs env x.count a) (scalars_of num sources sems a) r2.later r.good in
           let e : x.count + let_variables a + let_variables b ≡ x.count + (let_variables a + let_variables b) = omega arith in
-          let r3 : Ran st y fs h.0 rest (x.count + let_variables a + let_variables b) x.arrays nothing no_target (λ y. Values st ts y ty (exprs env x.count (Both zips a b)) (scalars_of num sources sems (Both zips a b))) = record {
-            after = r2.after;
-            deeds = r2.deeds;
-            goes = r2.goes;
-            later = r2.later;
-            allowed = r2.allowed;
-            wrote = r2.wrote;
-            good = p.4 z (exprs env x.count a) (exprs env (x.count + let_variables a) b) (scalars_of num sources sems a) (scalars_of num sources sems b) va r2.good;
-          } in
+          let r3 : Ran st y fs h.0 rest (x.count + let_variables a + let_variables b) x.arrays nothing no_target (λ y. Values st ts y ty (exprs env x.count (Both zips a b)) (scalars_of num sources sems (Both zips a b))) = ran_so r2 (p.4 z (exprs env x.count a) (exprs env (x.count + let_variables a) b) (scalars_of num sources sems a) (scalars_of num sources sems b) va r2.good) in
           subst (λ n. Ran st x fs code rest n x.arrays nothing no_target (λ y. Values st ts y ty (exprs env x.count (Both zips a b)) (scalars_of num sources sems (Both zips a b)))) e
           (ran_on st x fs code h.0 rest (x.count + let_variables a) x.arrays (x.count + let_variables a + let_variables b) x.arrays after_silence r r3)
       elements (Project false a) g env sems ty x code rest ok h room es =
           let r = elements a g env sems (PairOf ty ok.0) x code rest ok.1 h room es in
-          record { after = r.after; deeds = r.deeds; goes = r.goes; later = r.later; allowed = r.allowed; wrote = r.wrote; good = λ cs. r.good (false ∷ cs) }
+          ran_so r (λ cs. r.good (false ∷ cs))
       elements (Project true a) g env sems ty x code rest ok h room es =
           let r = elements a g env sems (PairOf ok.0 ty) x code rest ok.1 h room es in
-          record { after = r.after; deeds = r.deeds; goes = r.goes; later = r.later; allowed = r.allowed; wrote = r.wrote; good = λ cs. r.good (true ∷ cs) }
+          ran_so r (λ cs. r.good (true ∷ cs))
       elements (LetElement u v b) g env sems ty x code rest ok h room es =
           let r = elements v g env sems u x code h.0 ok.1 h.2 (omega arith) es in
           let y = known_after x r.deeds r.after (x.count + let_variables v) x.arrays in

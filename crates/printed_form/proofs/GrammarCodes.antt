@@ -1,10 +1,10 @@
 -- The printer's code is of the kernel grammar.
 use Rattle.std.proofs.Common.{◌≡◌, ℕ, zero, suc, ◌+◌, ◌*◌, ◌<◌, ◌≤◌, Bool, true, false, List, [], ◌∷◌, nat_lt, refl, subst, arith}
 use Rattle.std.specs.Prelude.{max, Option}
-use Rattle.std.proofs.lemmas.Bool.{lt-ltb}
+use Rattle.std.proofs.lemmas.Bool.{lt-ltb, and_from}
 use Rattle.kernel_tree.specs.Formula.{Formula}
-use Rattle.kernel_tree.specs.Code.{Code, End, Assigns, Loops, Guards, Kernel}
-use Rattle.kernel_tree.specs.Grammar.{is_constant, is_expression, is_readable, is_writable, has_statement, are_statements, deepest}
+use Rattle.kernel_tree.specs.Code.{Assigns, Loads, Stores, Code, End, Performs, Loops, Guards, Kernel}
+use Rattle.kernel_tree.specs.Grammar.{is_constant, is_expression, is_readable, is_writable, has_statement, is_statement, are_statements, deepest}
 use Rattle.lift_ir.specs.Types.{Ty, Scalar, PairOf, ArrayOf, IsElement, width}
 use Rattle.lift_ir.specs.Terms.{LoadSet, Skip, Take, Each, Kind, Term, Literal, Bound, Source, Apply, ApplyNumber, Select, Both, Project, Reshape, LetArray, LetElement, Map, Fold, Store, Copy, push}
 use Rattle.printed_form.specs.Counts.{let_variables, load_count, temporaries}
@@ -13,7 +13,7 @@ use Rattle.printed_form.specs.Views.{Sign, Blank, Held, Read, View, held_sign, h
 use Rattle.printed_form.specs.Printer.{or_number, sign_exprs, print_assigned, print_reassigned, print_element, print_store, print_load, print_stored, print_loaded, print_fold_turn}
 use Rattle.printed_form.specs.Sound.{IsGood, IsSpelledIn, IsSound, expression_height}
 use Rattle.printed_form.specs.GrammarViews.{IsGoodSign, IsTargetSign, IsGoodView, IsTarget, AllReadWithin}
-use Rattle.printed_form.proofs.GrammarExpressions.{both, as_expression, good_number, or_good, some_higher, good_both, good_one, good_three, IsGoodSome}
+use Rattle.printed_form.proofs.GrammarExpressions.{as_expression, good_number, or_good, some_higher, good_both, good_one, good_three, IsGoodSome}
 use Rattle.printed_form.proofs.GrammarViews.{view_more, part_good, part_target, held_good, loaded_good}
 
 module _ (k : Kernel) (S : ℕ) (one : 1 ≤ S) (small : S ≤ 1024) (ifs : ℕ) where
@@ -25,18 +25,18 @@ module _ (k : Kernel) (S : ℕ) (one : 1 ≤ S) (small : S ≤ 1024) (ifs : ℕ)
   Does c = has_statement c ≡ true
 
   -- ---- single statements
-  assign_fine : (l v : ℕ) (e : Formula) (rest : Code) → v < k.variables → IsGood k l 1024 e → Fine l rest → Fine l (Assigns v e rest)
-  assign_fine l v e rest lt g f = both (nat_lt v k.variables) _ (lt-ltb v k.variables lt) (both (is_expression k l e) _ (as_expression k l 1024 e (omega arith) g) f)
+  assign_fine : (l v : ℕ) (e : Formula) (rest : Code) → v < k.variables → IsGood k l 1024 e → Fine l rest → Fine l (Performs (Assigns v e) rest)
+  assign_fine l v e rest lt g f = and_from (is_statement k l (Assigns v e)) _ (and_from (nat_lt v k.variables) _ (lt-ltb v k.variables lt) (as_expression k l 1024 e (omega arith) g)) f
 
   load_fine : (l v : ℕ) (s : Sign) (rest : Code) (n h : ℕ) → v < k.variables → h ≤ 1024 → IsGoodSign k n l h s → Fine l rest → Fine l (print_load s v rest)
   load_fine l v Blank rest n h lt le g f = f
   load_fine l v (Held u) rest n h lt le g f = f
-  load_fine l v (Read a i) rest n h lt le g f = both (nat_lt v k.variables) _ (lt-ltb v k.variables lt) (both (is_readable k a) _ g.0 (both (is_expression k l i) _ (as_expression k l h i le g.1) f))
+  load_fine l v (Read a i) rest n h lt le g f = and_from (is_statement k l (Loads v a i)) _ (and_from (nat_lt v k.variables) _ (lt-ltb v k.variables lt) (and_from (is_readable k a) _ g.0 (as_expression k l h i le g.1))) f
 
   store_fine : (l : ℕ) (s : Sign) (e : Formula) (rest : Code) (h : ℕ) → h ≤ 1024 → IsTargetSign k l h s → IsGood k l 1024 e → Fine l rest → Fine l (print_store s e rest)
   store_fine l Blank e rest h le g x f = absurd g
   store_fine l (Held u) e rest h le g x f = absurd g
-  store_fine l (Read a i) e rest h le g x f = both (is_writable k a) _ g.0 (both (is_expression k l i) _ (as_expression k l h i le g.1) (both (is_expression k l e) _ (as_expression k l 1024 e (omega arith) x) f))
+  store_fine l (Read a i) e rest h le g x f = and_from (is_statement k l (Stores a i e)) _ (and_from (is_writable k a) _ g.0 (and_from (is_expression k l i) _ (as_expression k l h i le g.1) (as_expression k l 1024 e (omega arith) x))) f
 
   store_does : (l : ℕ) (s : Sign) (e : Formula) (rest : Code) (h : ℕ) → IsTargetSign k l h s → Does (print_store s e rest)
   store_does l Blank e rest h g = absurd g
@@ -138,18 +138,18 @@ module _ (k : Kernel) (S : ℕ) (one : 1 ≤ S) (small : S ≤ 1024) (ifs : ℕ)
   pub loop_fine : (l : ℕ) (kind : Kind) (b : Formula) (body rest : Code) → ifs + l < 1024 → IsSpelledIn k S b → Does body → Fine (suc l) body → Fine l rest → Fine l (Loops (start_of kind) b (stride_of kind) body rest)
   loop_fine l kind b body rest lt s d f r =
       let e : ifs + suc l ≡ suc (ifs + l) = omega arith in
-      both (nat_lt (ifs + l) deepest) _ (lt-ltb (ifs + l) 1024 lt)
-      (both (is_constant b) _ s.constant
-      (both (is_expression k l b) _ (as_expression k l S b small (s.declared l, s.low))
-      (both (has_statement body) _ d (both (are_statements k (suc l) (suc (ifs + l)) body) _ (subst (λ z. are_statements k (suc l) z body ≡ true) e f) r))))
+      and_from (nat_lt (ifs + l) deepest) _ (lt-ltb (ifs + l) 1024 lt)
+      (and_from (is_constant b) _ s.constant
+      (and_from (is_expression k l b) _ (as_expression k l S b small (s.declared l, s.low))
+      (and_from (has_statement body) _ d (and_from (are_statements k (suc l) (suc (ifs + l)) body) _ (subst (λ z. are_statements k (suc l) z body ≡ true) e f) r))))
 
   pub guard_fine : (l : ℕ) (kind : Kind) (b : Formula) (body rest : Code) → ifs + l < 1024 → IsSpelledIn k S b → Does body → are_statements k l (suc ifs + l) body ≡ true → Fine l rest → Fine l (Guards (start_of kind) b body rest)
   guard_fine l kind b body rest lt s d f r =
       let e : suc ifs + l ≡ suc (ifs + l) = omega arith in
-      both (nat_lt (ifs + l) deepest) _ (lt-ltb (ifs + l) 1024 lt)
-      (both (is_constant b) _ s.constant
-      (both (is_expression k l b) _ (as_expression k l S b small (s.declared l, s.low))
-      (both (has_statement body) _ d (both (are_statements k l (suc (ifs + l)) body) _ (subst (λ z. are_statements k l z body ≡ true) e f) r))))
+      and_from (nat_lt (ifs + l) deepest) _ (lt-ltb (ifs + l) 1024 lt)
+      (and_from (is_constant b) _ s.constant
+      (and_from (is_expression k l b) _ (as_expression k l S b small (s.declared l, s.low))
+      (and_from (has_statement body) _ d (and_from (are_statements k l (suc (ifs + l)) body) _ (subst (λ z. are_statements k l z body ≡ true) e f) r))))
 
   module _ {A : Type 0} (P : A → Type 0) (Q : ℕ → Type 0) where
     high_some : (t : Term A) → 1 ≤ expression_height t

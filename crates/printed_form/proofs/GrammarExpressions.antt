@@ -1,7 +1,7 @@
 -- Expressions of the kernel grammar.
 use Rattle.std.proofs.Common.{◌≡◌, ℕ, suc, ◌<◌, ◌≤◌, ◌^◌, Bool, true, false, refl, arith}
 use Rattle.std.specs.Prelude.{◌&&◌, nat_le, Option, Some, None}
-use Rattle.std.proofs.lemmas.Bool.{ltb-true, lt-ltb, le-leb}
+use Rattle.std.proofs.lemmas.Bool.{ltb-true, lt-ltb, le-leb, and_from}
 use Rattle.scalar_ops.specs.declared.op.Op.{Op}
 use Rattle.scalar_ops.specs.declared.op.Op.TheVariants as op
 use Rattle.kernel_tree.specs.Formula.{Formula, Number, Variable, LoopVariable, Size, Id, Binary, Choose, Comparison, Less, Equal}
@@ -10,10 +10,6 @@ use Rattle.kernel_tree.specs.Grammar.{height, is_operator, is_expression, names_
 use Rattle.printed_form.specs.Expressions.{operation, selection, of_one, of_both, of_three}
 use Rattle.printed_form.specs.Printer.{or_number}
 use Rattle.printed_form.specs.Sound.{IsGood}
-
-pub both : (a b : Bool) → a ≡ true → b ≡ true → (a && b) ≡ true
-both true b h k = k
-both false b h k = absurd (cc)
 
 pub first_of : (a b : Bool) → (a && b) ≡ true → a ≡ true
 first_of true b h = refl
@@ -33,14 +29,14 @@ module _ (k : Kernel) where
   deeper l m (Id d form) le h = h
   deeper l m (Binary o a b) le h =
       let r = second_of (is_operator o) (names_declared k l a && names_declared k l b) h in
-      both (is_operator o) (names_declared k m a && names_declared k m b) (first_of (is_operator o) (names_declared k l a && names_declared k l b) h)
-      (both (names_declared k m a) (names_declared k m b) (deeper l m a le (first_of (names_declared k l a) (names_declared k l b) r)) (deeper l m b le (second_of (names_declared k l a) (names_declared k l b) r)))
+      and_from (is_operator o) (names_declared k m a && names_declared k m b) (first_of (is_operator o) (names_declared k l a && names_declared k l b) h)
+      (and_from (names_declared k m a) (names_declared k m b) (deeper l m a le (first_of (names_declared k l a) (names_declared k l b) r)) (deeper l m b le (second_of (names_declared k l a) (names_declared k l b) r)))
   deeper l m (Choose c a b x y) le h =
       let p = first_of (names_declared k l a && names_declared k l b) (names_declared k l x && names_declared k l y) h in
       let q = second_of (names_declared k l a && names_declared k l b) (names_declared k l x && names_declared k l y) h in
-      both (names_declared k m a && names_declared k m b) (names_declared k m x && names_declared k m y)
-      (both (names_declared k m a) (names_declared k m b) (deeper l m a le (first_of (names_declared k l a) (names_declared k l b) p)) (deeper l m b le (second_of (names_declared k l a) (names_declared k l b) p)))
-      (both (names_declared k m x) (names_declared k m y) (deeper l m x le (first_of (names_declared k l x) (names_declared k l y) q)) (deeper l m y le (second_of (names_declared k l x) (names_declared k l y) q)))
+      and_from (names_declared k m a && names_declared k m b) (names_declared k m x && names_declared k m y)
+      (and_from (names_declared k m a) (names_declared k m b) (deeper l m a le (first_of (names_declared k l a) (names_declared k l b) p)) (deeper l m b le (second_of (names_declared k l a) (names_declared k l b) p)))
+      (and_from (names_declared k m x) (names_declared k m y) (deeper l m x le (first_of (names_declared k l x) (names_declared k l y) q)) (deeper l m y le (second_of (names_declared k l x) (names_declared k l y) q)))
 
   pub good_deeper : (l m h : ℕ) (e : Formula) → l ≤ m → IsGood k l h e → IsGood k m h e
   good_deeper l m h e le g = (deeper l m e le g.0, g.1)
@@ -54,15 +50,15 @@ module _ (k : Kernel) where
   pub good_binary : (l h : ℕ) (o : Op) (a b : Formula) → is_operator o ≡ true → IsGood k l h a → IsGood k l h b → IsGood k l (suc h) (Binary o a b)
   good_binary l h o a b e x y =
       let p = x.1 in let q = y.1 in
-      (both (is_operator o) (names_declared k l a && names_declared k l b) e (both (names_declared k l a) (names_declared k l b) x.0 y.0), omega arith)
+      (and_from (is_operator o) (names_declared k l a && names_declared k l b) e (and_from (names_declared k l a) (names_declared k l b) x.0 y.0), omega arith)
 
   pub good_choose : (l h : ℕ) (c : Comparison) (a b x y : Formula) → IsGood k l h a → IsGood k l h b → IsGood k l h x → IsGood k l h y → IsGood k l (suc h) (Choose c a b x y)
   good_choose l h c a b x y p q r s =
       let p1 = p.1 in let q1 = q.1 in let r1 = r.1 in let s1 = s.1 in
-      (both (names_declared k l a && names_declared k l b) (names_declared k l x && names_declared k l y) (both (names_declared k l a) (names_declared k l b) p.0 q.0) (both (names_declared k l x) (names_declared k l y) r.0 s.0), omega arith)
+      (and_from (names_declared k l a && names_declared k l b) (names_declared k l x && names_declared k l y) (and_from (names_declared k l a) (names_declared k l b) p.0 q.0) (and_from (names_declared k l x) (names_declared k l y) r.0 s.0), omega arith)
 
   pub as_expression : (l h : ℕ) (e : Formula) → h ≤ 1024 → IsGood k l h e → is_expression k l e ≡ true
-  as_expression l h e le g = both (names_declared k l e) (nat_le (height e) deepest) g.0 (let x = g.1 in le-leb (height e) 1024 (omega arith))
+  as_expression l h e le g = and_from (names_declared k l e) (nat_le (height e) deepest) g.0 (let x = g.1 in le-leb (height e) 1024 (omega arith))
 
   -- ---- expressions of element terms
   abbrev pub IsGoodSome : (l h : ℕ) → Option Formula → Type 0

@@ -1,6 +1,6 @@
 -- The kernel that the printer makes of a typed term is of the kernel grammar.
 use Rattle.std.proofs.Common.{◌≡◌, ℕ, ◌+◌, ◌*◌, ◌≤◌, true, Option, Some, None, nat_lt, refl, arith}
-use Rattle.std.proofs.lemmas.Bool.{lt-ltb, le-leb}
+use Rattle.std.proofs.lemmas.Bool.{lt-ltb, le-leb, and_from}
 use Rattle.kernel_tree.specs.Code.{Output, End}
 use Rattle.kernel_tree.specs.Grammar.{is_group_size, largest_group}
 use Rattle.lift_tree.specs.Annotations.{type_in}
@@ -12,7 +12,6 @@ use Rattle.printed_form.specs.Programs.{lowered_root, row_of, printed_kernel}
 use Rattle.printed_form.proofs.Lengths.{counted}
 use Rattle.printed_form.specs.KernelGrammar.{KernelsAreOfTheGrammar}
 use Rattle.printed_form.specs.GrammarPieces.{CanBePrinted}
-use Rattle.printed_form.proofs.GrammarExpressions.{both}
 use Rattle.printed_form.proofs.GrammarViews.{blank_good}
 use Rattle.printed_form.proofs.GrammarPieces.{terms_printed}
 
@@ -21,7 +20,7 @@ pub is_size : (local : Option ℕ) → IsLocalSize local → is_group_size (row_
 is_size None h = refl
 is_size (Some size) h =
     let few : size * 1 ≤ largest_group = omega arith in
-    both (nat_lt 0 size) _ (lt-ltb 0 size h.0) (both (nat_lt 0 1) _ refl (le-leb (size * 1) largest_group few))
+    and_from (nat_lt 0 size) _ (lt-ltb 0 size h.0) (and_from (nat_lt 0 1) _ refl (le-leb (size * 1) largest_group few))
 
 pub of_the_grammar : KernelsAreOfTheGrammar
 of_the_grammar spell S M d local t a h =

@@ -1,7 +1,7 @@
 -- The pieces of a printed kernel are of the kernel grammar.
 use Rattle.std.proofs.Common.{◌≡◌, ℕ, zero, suc, ◌+◌, ◌*◌, ◌<◌, ◌≤◌, ◌^◌, true, List, [], ◌∷◌, ◌++◌, length, nat_lt, refl, sym, subst, arith}
 use Rattle.std.specs.Prelude.{◌&&◌, replicate}
-use Rattle.std.proofs.lemmas.Bool.{lt-ltb}
+use Rattle.std.proofs.lemmas.Bool.{lt-ltb, and_from}
 use Rattle.size_arith.specs.declared.poly.Monomial.{Monomial}
 use Rattle.lift_tree.specs.Types.{PlainTy}
 use Rattle.lift_tree.specs.Typing.{Declared}
@@ -17,7 +17,7 @@ use Rattle.printed_form.specs.Sound.{IsSpelledIn, IsSound, dimensions}
 use Rattle.printed_form.specs.GrammarViews.{IsGoodView}
 use Rattle.printed_form.specs.KernelGrammar.{IsSourceIn}
 use Rattle.printed_form.specs.GrammarPieces.{ViewsStayWithin, MapsAreOfTheGrammar, HasRoomFor, views_of_inputs, TermsAreOfTheGrammar, TermsArePrintedWithin, ArraysCanBeDeclared}
-use Rattle.printed_form.proofs.GrammarExpressions.{both, first_of, second_of}
+use Rattle.printed_form.proofs.GrammarExpressions.{first_of, second_of}
 use Rattle.printed_form.proofs.GrammarViews.{view_more, target_within, blank_good, sides_good, part_good, at_turn_good, at_turn_target, loaded_good, reshaped_good, reshaped_target, placed_good, placed_target, some_width, laid_reads, laid_fills}
 use Rattle.printed_form.proofs.GrammarCodes.{loads_fine, loads_does, loop_fine, guard_fine}
 use Rattle.printed_form.proofs.GrammarTerms.{viewed_good, written_kept, written_does, written_fine}
@@ -27,12 +27,12 @@ lengths_append : (xs ys : List ℕ) → are_lengths xs ≡ true → are_lengths 
 lengths_append [] ys h k = k
 lengths_append (x ∷ xs) ys h k =
     let r = second_of (nat_lt 0 x) (nat_lt x (2 ^ 32) && are_lengths xs) h in
-    both (nat_lt 0 x) _ (first_of (nat_lt 0 x) (nat_lt x (2 ^ 32) && are_lengths xs) h)
-    (both (nat_lt x (2 ^ 32)) _ (first_of (nat_lt x (2 ^ 32)) (are_lengths xs) r) (lengths_append xs ys (second_of (nat_lt x (2 ^ 32)) (are_lengths xs) r) k))
+    and_from (nat_lt 0 x) _ (first_of (nat_lt 0 x) (nat_lt x (2 ^ 32) && are_lengths xs) h)
+    (and_from (nat_lt x (2 ^ 32)) _ (first_of (nat_lt x (2 ^ 32)) (are_lengths xs) r) (lengths_append xs ys (second_of (nat_lt x (2 ^ 32)) (are_lengths xs) r) k))
 
 lengths_same : (n x : ℕ) → 0 < x → x < 2 ^ 32 → are_lengths (replicate n x) ≡ true
 lengths_same zero x p q = refl
-lengths_same (suc n) x p q = both (nat_lt 0 x) _ (lt-ltb 0 x p) (both (nat_lt x (2 ^ 32)) _ (lt-ltb x (2 ^ 32) q) (lengths_same n x p q))
+lengths_same (suc n) x p q = and_from (nat_lt 0 x) _ (lt-ltb 0 x p) (and_from (nat_lt x (2 ^ 32)) _ (lt-ltb x (2 ^ 32) q) (lengths_same n x p q))
 
 module _ {A : Type 0} (P : A → Type 0) (Q : ℕ → Type 0) where
   copied_lengths : (s m : Space) (ty : Ty) → 0 < size ty → size ty < 2 ^ 32 → are_lengths (copied s m ty) ≡ true
@@ -123,9 +123,9 @@ module _ (k : Kernel) (spell : List Monomial → Formula) (S M : ℕ) (d : Decla
     statements = λ l depth above n a g env t w rest f c. written_does k S room.some small 0 spell ins Q inputs M room.fits l env a n t w (8 + 3 * above) rest c.written c.sound f;
     kept = λ l n a env t w rest r. written_kept k S room.some small 0 spell ins Q inputs M room.fits l env a n t w rest r;
     kernel = λ ty t outs locals privates s group has are.
-        both (nat_lt 0 k.outputs) _ (lt-ltb 0 k.outputs (let x = some_width k S room.some spell ty in omega arith))
-        (both (are_lengths k.locals) _ (subst (λ ns. are_lengths ns ≡ true) (sym locals) (arrays_declared k spell S d LocalMemory t s))
-        (both (are_lengths k.privates) _ (subst (λ ns. are_lengths ns ≡ true) (sym privates) (arrays_declared k spell S d PrivateMemory t s)) (both (is_group_size k.local) _ group (both (has_statement k.code) _ has are))));
+        and_from (nat_lt 0 k.outputs) _ (lt-ltb 0 k.outputs (let x = some_width k S room.some spell ty in omega arith))
+        (and_from (are_lengths k.locals) _ (subst (λ ns. are_lengths ns ≡ true) (sym locals) (arrays_declared k spell S d LocalMemory t s))
+        (and_from (are_lengths k.privates) _ (subst (λ ns. are_lengths ns ≡ true) (sym privates) (arrays_declared k spell S d PrivateMemory t s)) (and_from (is_group_size k.local) _ group (and_from (has_statement k.code) _ has are))));
   }
 
 pub terms_printed : TermsArePrintedWithin

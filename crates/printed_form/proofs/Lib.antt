@@ -11,6 +11,8 @@ pub mod Writes
 pub mod Whole
 pub mod Theorem
 pub mod Indices
+pub mod Shown
+pub mod Arguments
 pub mod Printer
 pub mod Alike
 pub mod SameRuns

@@ -170,8 +170,4 @@ module _ (st : Setting) (row : ℕ → ℕ) (y : Ty) (w : Marks) (s : Scalars) w
   }
     where
       tail_is : (i : ℕ) (q p : List ℕ) → i ∷ q ≡ i ∷ p → q ≡ p
-      tail_is i q p e = ap tail e
-        where
-          tail : List ℕ → List ℕ
-          tail [] = []
-          tail (n ∷ q) = q
+      tail_is i q p e = cc

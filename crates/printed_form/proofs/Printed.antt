@@ -11,7 +11,8 @@ use Rattle.printed_form.specs.Printer.{no_view, input_views, input_marks}
 use Rattle.lift_ir.specs.Types.{measured}
 use Rattle.printed_form.specs.PrinterLaw.{PrinterPrints}
 use Rattle.printed_form.proofs.Indices.{placed_cells}
-use Rattle.printed_form.proofs.Printer.{cells_show, HeldIn, written_is, over_launch_is}
+use Rattle.printed_form.proofs.Shown.{cells_show, HeldIn}
+use Rattle.printed_form.proofs.Printer.{written_is, over_launch_is}
 
 nothing_shown : (l : Launch) (item : ℕ) → AllShow l item [] no_type no_view no_marks
 nothing_shown l item v us cs is [] w g = absurd w

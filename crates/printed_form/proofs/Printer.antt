@@ -1,80 +1,28 @@
 -- What the printer prints is printed.
-use Rattle.std.proofs.Common.{◌≡◌, ℕ, zero, suc, ◌+◌, ◌-◌, ◌<◌, ◌^◌, Bool, true, false, List, [], ◌∷◌, ◌++◌, length, Option, Some, refl, sym, ap, ◌∙◌, subst, arith, append_assoc, length-append}
-use Rattle.std.specs.Prelude.{slice_index}
-use Rattle.std.proofs.Math.ListN.{get_or-append}
-use Rattle.std.proofs.Math.Seq.{get_or-append_right}
+use Rattle.std.proofs.Common.{◌≡◌, ℕ, suc, ◌+◌, ◌<◌, ◌^◌, Bool, true, false, List, [], ◌∷◌, ◌++◌, length, Option, Some, refl, sym, ap, ◌∙◌, subst, arith, append-nil, length-append}
 use Rattle.kernel_tree.specs.Formula.{Formula, Number, Variable, LoopVariable, Binary}
-use Rattle.kernel_tree.specs.Code.{Array, Private, Code, End, Assigns, Loads, Stores, Loops}
+use Rattle.kernel_tree.specs.Code.{Array, Private, Code, End, Performs, Assigns, Stores, Loops}
 use Rattle.kernel_tree.specs.Launch.{Launch}
-use Rattle.lift_ir.specs.Types.{Ty, Scalar, PairOf, ArrayOf, IsPosition, IsElement, IsShort, width}
-use Rattle.lift_ir.specs.Layouts.{HasWordStep, Layout, Split, Join, Transpose, Reverse, Slide, Pad, operand_position, Reshapes, result_position, IsInvertible}
-use Rattle.lift_ir.specs.Terms.{PrivateMemory, LoadSet, Skip, Take, Each, LoadsScalars, Global, Sequential, Term, Literal, Bound, Source, Apply, ApplyNumber, Select, Both, Project, Reshape, LetArray, LetElement, Map, Fold, Store, Copy, push, HasType}
-use Rattle.lift_ir.specs.Scalars.{by_side, at_index}
+use Rattle.lift_ir.specs.Types.{Ty, Scalar, PairOf, ArrayOf, IsPosition, IsElement, width}
+use Rattle.lift_ir.specs.Layouts.{result_position}
+use Rattle.lift_ir.specs.Terms.{PrivateMemory, LoadSet, LoadsScalars, Global, Sequential, Term, Literal, Bound, Source, Apply, ApplyNumber, Select, Both, Project, Reshape, LetArray, LetElement, Map, Fold, Store, Copy, push, HasType}
+use Rattle.lift_ir.specs.Scalars.{at_index}
+use Rattle.printed_form.specs.Arguments.{private_arrays}
 use Rattle.printed_form.specs.Marks.{Mark, Nowhere, Register, Spot, Marks, laid_in, held_marks, loaded_marks}
-use Rattle.printed_form.specs.Form.{start_of, stride_of, IsAssigned, IsReassigned, IsElementWork, IsSpot, IsStored, IsLoaded, IsFoldTurn, argument_marks, IsArgumentWork, IsWritten}
+use Rattle.printed_form.specs.Form.{start_of, stride_of, IsAssigned, IsReassigned, IsElementWork, IsSpot, IsStored, IsFoldTurn, argument_marks, IsArgumentWork, IsWritten}
 use Rattle.printed_form.specs.Counts.{let_variables, load_count, variable_count, private_count}
 use Rattle.printed_form.specs.Expressions.{held, of_one, of_both, of_three, operation, selection, exprs}
 use Rattle.printed_form.specs.Whole.{IsOverLaunch}
-use Rattle.printed_form.specs.Views.{Sign, Blank, Held, Read, View, held_sign, held_view, loaded_view, view_at, operand_indices, result_indices, laid_view}
-use Rattle.printed_form.specs.Printer.{or_number, sign_exprs, print_assigned, print_reassigned, print_element, print_store, print_load, print_stored, print_loaded, print_fold_turn, argument_view, print_argument, print_written}
+use Rattle.printed_form.specs.Views.{Sign, Blank, Held, Read, View, held_sign, held_view, loaded_view, view_at, result_indices, laid_view}
+use Rattle.printed_form.specs.Printer.{or_number, sign_exprs, print_assigned, print_reassigned, print_element, print_store, print_stored, print_loaded, print_fold_turn, argument_view, print_argument, print_written}
 use Rattle.lift_ir.specs.Loads.{covers, all, held_scalars, IsHeld, AllHeld, AreLetsHeld, LoadsSuffice}
 use Rattle.lift_ir.specs.Forms.{Stands, StandsOverLaunch}
-use Rattle.printed_form.specs.Means.{IsSpelled, Means, AllMean, IsCell, IsScalar, HasCells, Shows, AllShow}
-use Rattle.lift_ir.proofs.Positions.{operand_in, result_in}
-use Rattle.printed_form.proofs.Indices.{operand_means, result_means, laid_cells}
+use Rattle.printed_form.specs.Means.{IsSpelled, IsCell, IsScalar, HasCells, Shows, AllShow}
+use Rattle.printed_form.proofs.Indices.{laid_cells}
+use Rattle.printed_form.proofs.Shown.{cells_side, all_within, all_push, turned_cells, HeldIn, held_push, loaded_held, loaded_is, loaded_shows, back_cells}
+use Rattle.printed_form.proofs.Arguments.{kept_is, argument_shows, argument_view_is, stands_argument}
 
 module _ (l : Launch) (item : ℕ) where
-  cell_scalar : (ts : List ℕ) (s : Sign) (m : Mark) → IsCell l item ts s m → IsScalar l item ts s m
-  cell_scalar ts (Read a f) (Spot b i) h = h
-  cell_scalar ts Blank m h = absurd h
-  cell_scalar ts (Held v) m h = absurd h
-  cell_scalar ts (Read a f) Nowhere h = absurd h
-  cell_scalar ts (Read a f) (Register r) h = absurd h
-
-  cells_side : (ts : List ℕ) (b : Bool) (t u : Ty) (x : View) (y : Marks) → ((cs : List Bool) (q : List ℕ) → IsPosition t cs q → IsPosition u (b ∷ cs) q) → HasCells l item ts u x y → HasCells l item ts t (λ cs. x (b ∷ cs)) (λ cs. y (b ∷ cs))
-  cells_side ts b t u x y up h us cs is q w g = h us (b ∷ cs) is q (up cs q w) g
-
-  -- what has cells shows
-  pub cells_show : (ts : List ℕ) (t : Ty) (x : View) (y : Marks) → HasCells l item ts t x y → Shows l item ts t x y
-  cells_show ts Scalar x y h = λ us. cell_scalar (ts ++ us) (x [] []) (y [] []) (h us [] [] [] tt tt)
-  cells_show ts (PairOf a b) x y h = (
-    cells_show ts a (λ cs. x (false ∷ cs)) (λ cs. y (false ∷ cs)) (cells_side ts false a (PairOf a b) x y (λ cs q w. w) h),
-    cells_show ts b (λ cs. x (true ∷ cs)) (λ cs. y (true ∷ cs)) (cells_side ts true b (PairOf a b) x y (λ cs q w. w) h),
-  )
-  cells_show ts (ArrayOf n t) x y h = h
-
-  -- within one more loop
-
-  cells_within : (ts : List ℕ) (i : ℕ) (t : Ty) (x : View) (y : Marks) → HasCells l item ts t x y → HasCells l item (ts ++ i ∷ []) t x y
-  cells_within ts i t x y h us cs is q w g =
-      let e = append_assoc ts (i ∷ []) us in
-      subst (λ z. IsCell l item z (x cs is) (y cs q)) (sym e) (h (i ∷ us) cs is q w (subst (λ z. AllMean l item z is q) e g))
-
-  shows_within : (ts : List ℕ) (i : ℕ) (t : Ty) (x : View) (y : Marks) → Shows l item ts t x y → Shows l item (ts ++ i ∷ []) t x y
-  shows_within ts i Scalar x y h = λ us. subst (λ z. IsScalar l item z (x [] []) (y [] [])) (sym (append_assoc ts (i ∷ []) us)) (h (i ∷ us))
-  shows_within ts i (PairOf a b) x y h = (shows_within ts i a _ _ h.0, shows_within ts i b _ _ h.1)
-  shows_within ts i (ArrayOf n t) x y h = cells_within ts i (ArrayOf n t) x y h
-
-  all_within : (ts : List ℕ) (i : ℕ) (g : ℕ → Ty) (views : ℕ → View) (env : ℕ → Marks) → AllShow l item ts g views env → AllShow l item (ts ++ i ∷ []) g views env
-  all_within ts i g views env h v = shows_within ts i (g v) (views v) (env v) (h v)
-
-  all_push : (ts : List ℕ) (t : Ty) (x : View) (y : Marks) (g : ℕ → Ty) (views : ℕ → View) (env : ℕ → Marks) → Shows l item ts t x y → AllShow l item ts g views env → AllShow l item ts (push t g) (push x views) (push y env)
-  all_push ts t x y g views env h es zero = h
-  all_push ts t x y g views env h es (suc v) = es v
-
-  -- the loop variable of the innermost loop
-  loop_means : (ts us : List ℕ) (d i : ℕ) → length ts ≡ d → i < 2 ^ 31 → Means l item ((ts ++ i ∷ []) ++ us) (LoopVariable d) i
-  loop_means ts us d i e lt =
-      let more = length-append ts (i ∷ []) in
-      record {
-        fits = omega arith;
-        always = λ vs. ap Some (
-            get_or-append (ts ++ i ∷ []) us 0 d (omega arith) ∙ get_or-append_right ts (i ∷ []) d 0 (omega arith) ∙ ap (λ z. slice_index (i ∷ []) z) (let z : d - length ts ≡ 0 = omega arith in z));
-      }
-
-  turned_cells : (ts : List ℕ) (d i n : ℕ) (t : Ty) (x : View) (y : Marks) → length ts ≡ d → i < n → n < 2 ^ 31 → HasCells l item ts (ArrayOf n t) x y → HasCells l item (ts ++ i ∷ []) t (view_at (LoopVariable d) x) (at_index i y)
-  turned_cells ts d i n t x y e lt small h us cs is q w g = cells_within ts i (ArrayOf n t) x y h us cs (LoopVariable d ∷ is) (i ∷ q) (lt, w) (loop_means ts us d i e (omega arith), g)
-
   first_cells : (ts : List ℕ) (t : Ty) (x : View) (y : Marks) → HasCells l item ts (ArrayOf 1 t) x y → HasCells l item ts t (view_at (Number 0) x) (at_index 0 y)
   first_cells ts t x y h us cs is q w g = h us cs (Number 0 ∷ is) (0 ∷ q) (omega arith, w) (record { fits = omega arith; always = λ vs. refl }, g)
 
@@ -125,17 +73,8 @@ module _ (l : Launch) (item : ℕ) where
     exprs_same (Project false a) g views env n ty cs ok w es = exprs_same a g views env n (PairOf ty ok.0) (false ∷ cs) ok.1 w es
     exprs_same (Project true a) g views env n ty cs ok w es = exprs_same a g views env n (PairOf ok.0 ty) (true ∷ cs) ok.1 w es
     exprs_same (LetElement u v b) g views env n ty cs ok w es =
-        exprs_same b (push u g) (push (held_view u (n + let_variables v)) views) (push (held_marks u (n + let_variables v)) env) (n + let_variables v + width u) ty cs ok.2 w (all_push ts u _ _ g views env (held_shows ts u (n + let_variables v) ok.0) es)
+        exprs_same b (push u g) (push (held_view u (n + let_variables v)) views) (push (held_marks u (n + let_variables v)) env) (n + let_variables v + width u) ty cs ok.2 w (all_push l item ts u _ _ g views env (held_shows ts u (n + let_variables v) ok.0) es)
     exprs_same _ g views env n ty cs ok w es = refl
-
-  -- scalars in variables
-
-  abbrev pub HeldIn : (ℕ → Ty) → (ℕ → Marks) → (ℕ → List Bool → Bool) → Type 0
-  HeldIn g env h = (v : ℕ) (cs : List Bool) → IsPosition (g v) cs [] → h v cs ≡ true → (e : Formula) × (held (env v cs []) ≡ Some e)
-
-  held_push : (t : Ty) (y : Marks) (k : List Bool → Bool) (g : ℕ → Ty) (env : ℕ → Marks) (h : ℕ → List Bool → Bool) → ((cs : List Bool) → IsPosition t cs [] → k cs ≡ true → (e : Formula) × (held (y cs []) ≡ Some e)) → HeldIn g env h → HeldIn (push t g) (push y env) (push k h)
-  held_push t y k g env h a r zero = a
-  held_push t y k g env h a r (suc v) = r v
 
   held_all : (t : Ty) (n : ℕ) (cs : List Bool) → IsPosition t cs [] → (e : Formula) × (held (held_marks t n cs []) ≡ Some e)
   held_all Scalar n [] w = (Variable n, refl)
@@ -145,28 +84,8 @@ module _ (l : Launch) (item : ℕ) where
   held_all (PairOf a b) n (true ∷ cs) w = held_all b (n + width a) cs w
   held_all (ArrayOf m t) n cs w = absurd w
 
-  loaded_held : (loads : LoadSet) (y : Marks) (n : ℕ) (cs : List Bool) → covers loads cs ≡ true → (e : Formula) × (held (loaded_marks loads y n cs []) ≡ Some e)
-  loaded_held Skip y n cs h = absurd (cc)
-  loaded_held Take y n cs h = (Variable n, refl)
-  loaded_held (Each a b) y n [] h = absurd (cc)
-  loaded_held (Each a b) y n (false ∷ cs) h = loaded_held a (λ ds. y (false ∷ ds)) n cs h
-  loaded_held (Each a b) y n (true ∷ cs) h = loaded_held b (λ ds. y (true ∷ ds)) (n + load_count a) cs h
-
   module _ {A : Type 0} (num : A → ℕ) (src : ℕ → Ty) where
-    kept_is : (ins : ℕ → Marks) (t : Term A) (g : ℕ → Ty) (env : ℕ → Marks) (h : ℕ → List Bool → Bool) (a : ℕ) (ty : Ty) (cs : List Bool) → HasType num src g t ty → IsPosition ty cs [] → held_scalars h t cs ≡ true → HeldIn g env h → (e : Formula) × (held (argument_marks l ins num env a t cs []) ≡ Some e)
-    kept_is ins (Bound v) g env h a ty cs ok w k r = r v cs (subst (λ z. IsPosition z cs []) ok w) k
-    kept_is ins (Both false x y) g env h a ty [] ok w k r = absurd (cc)
-    kept_is ins (Both false x y) g env h a ty (false ∷ cs) ok w k r = kept_is ins x g env h a ok.0 cs ok.5 (subst (λ z. IsPosition z (false ∷ cs) []) ok.2 w) k r
-    kept_is ins (Both false x y) g env h a ty (true ∷ cs) ok w k r = kept_is ins y g env h (a + private_count x) ok.1 cs ok.6 (subst (λ z. IsPosition z (true ∷ cs) []) ok.2 w) k r
-    kept_is ins (Both true x y) g env h a ty cs ok w k r = absurd (subst (λ z. IsPosition z cs []) ok.3 w)
-    kept_is ins (Project false x) g env h a ty cs ok w k r = kept_is ins x g env h a (PairOf ty ok.0) (false ∷ cs) ok.1 w k r
-    kept_is ins (Project true x) g env h a ty cs ok w k r = kept_is ins x g env h a (PairOf ok.0 ty) (true ∷ cs) ok.1 w k r
-    kept_is ins (LetArray v b) g env h a ty cs ok w k r =
-        kept_is ins b (push ok.0 g) (push (argument_marks l ins num env a v) env) (push (held_scalars h v) h) (a + private_count v) ty cs ok.2 w k
-        (held_push ok.0 (argument_marks l ins num env a v) (held_scalars h v) g env h (λ cs w k. kept_is ins v g env h a ok.0 cs ok.1 w k r) r)
-    kept_is ins _ g env h a ty cs ok w k r = absurd (cc)
-
-    defined : (t : Term A) (g : ℕ → Ty) (env : ℕ → Marks) (h : ℕ → List Bool → Bool) (n : ℕ) (ty : Ty) (cs : List Bool) → HasType num src g t ty → IsPosition ty cs [] → IsHeld h t cs → HeldIn g env h → (e : Formula) × (exprs env n t cs ≡ Some e)
+    defined : (t : Term A) (g : ℕ → Ty) (env : ℕ → Marks) (h : ℕ → List Bool → Bool) (n : ℕ) (ty : Ty) (cs : List Bool) → HasType num src g t ty → IsPosition ty cs [] → IsHeld h t cs → HeldIn l item g env h → (e : Formula) × (exprs env n t cs ≡ Some e)
     defined (Literal c) g env h n ty cs ok w nm r = (Number c, refl)
     defined (Bound v) g env h n ty cs ok w nm r = r v cs (subst (λ z. IsPosition z cs []) ok w) nm
     defined (Apply o a b) g env h n ty cs ok w nm r =
@@ -189,7 +108,7 @@ module _ (l : Launch) (item : ℕ) where
     defined (Project false a) g env h n ty cs ok w nm r = defined a g env h n (PairOf ty ok.0) (false ∷ cs) ok.1 w nm r
     defined (Project true a) g env h n ty cs ok w nm r = defined a g env h n (PairOf ok.0 ty) (true ∷ cs) ok.1 w nm r
     defined (LetElement u v b) g env h n ty cs ok w nm r =
-        defined b (push u g) (push (held_marks u (n + let_variables v)) env) (push all h) (n + let_variables v + width u) ty cs ok.2 w nm (held_push u (held_marks u (n + let_variables v)) all g env h (λ ds z q. held_all u (n + let_variables v) ds z) r)
+        defined b (push u g) (push (held_marks u (n + let_variables v)) env) (push all h) (n + let_variables v + width u) ty cs ok.2 w nm (held_push l item u (held_marks u (n + let_variables v)) all g env h (λ ds z q. held_all u (n + let_variables v) ds z) r)
     defined _ g env h n ty cs ok w nm r = absurd nm
 
   -- statements
@@ -202,7 +121,7 @@ module _ (l : Launch) (item : ℕ) where
     Defines ty f = (cs : List Bool) → IsPosition ty cs [] → (e : Formula) × (f cs ≡ Some e)
 
     assigned_is : (ty : Ty) (f k : List Bool → Option Formula) (n : ℕ) (rest : Code) → IsElement ty → Sames ty f k → Defines ty f → IsAssigned ty f n (print_assigned ty k n rest) rest
-    assigned_is Scalar f k n rest el s d = let e = d [] tt in (e.0, e.1, ap (λ z. Assigns n (or_number z) rest) (s [] tt ∙ e.1))
+    assigned_is Scalar f k n rest el s d = let e = d [] tt in (e.0, e.1, ap (λ z. Performs (Assigns n (or_number z)) rest) (s [] tt ∙ e.1))
     assigned_is (PairOf a b) f k n rest el s d = (
       print_assigned b (λ cs. k (true ∷ cs)) (n + width a) rest,
       assigned_is a (λ cs. f (false ∷ cs)) (λ cs. k (false ∷ cs)) n _ el.0 (λ cs. s (false ∷ cs)) (λ cs. d (false ∷ cs)),
@@ -220,63 +139,27 @@ module _ (l : Launch) (item : ℕ) where
     )
     again_is (ArrayOf m t) f k acc n rest el s d = absurd el
 
-    nil_after : (ts : List ℕ) → ts ++ [] ≡ ts
-    nil_after [] = refl
-    nil_after (i ∷ ts) = ap (λ z. i ∷ z) (nil_after ts)
-
-    store_is : (ts : List ℕ) (s : Sign) (m : Mark) (e : Formula) (rest : Code) → IsCell l item ts s m → (a : Array) × (i : Formula) × IsSpot l item ins ts m a i × (print_store s e rest ≡ Stores a i e rest)
+    store_is : (ts : List ℕ) (s : Sign) (m : Mark) (e : Formula) (rest : Code) → IsCell l item ts s m → (a : Array) × (i : Formula) × IsSpot l item ins ts m a i × (print_store s e rest ≡ Performs (Stores a i e) rest)
     store_is ts (Read a f) (Spot b j) e rest h = (a, f, (h.0, h.1.always), refl)
     store_is ts (Read a f) Nowhere e rest h = absurd h
     store_is ts (Read a f) (Register r) e rest h = absurd h
     store_is ts (Held v) m e rest h = absurd h
     store_is ts Blank m e rest h = absurd h
 
-    load_is : (ts : List ℕ) (s : Sign) (m : Mark) (n : ℕ) (rest : Code) → IsCell l item ts s m → (a : Array) × (i : Formula) × IsSpot l item ins ts m a i × (print_load s n rest ≡ Loads n a i rest)
-    load_is ts (Read a f) (Spot b j) n rest h = (a, f, (h.0, h.1.always), refl)
-    load_is ts (Read a f) Nowhere n rest h = absurd h
-    load_is ts (Read a f) (Register r) n rest h = absurd h
-    load_is ts (Held v) m n rest h = absurd h
-    load_is ts Blank m n rest h = absurd h
-
     stored_is : (ts : List ℕ) (ty : Ty) (f k : List Bool → Option Formula) (w : Marks) (v : View) (rest : Code) → IsElement ty → Sames ty f k → Defines ty f → HasCells l item ts ty v w → IsStored l item ins ts ty f w (print_stored ty k v rest) rest
     stored_is ts Scalar f k w v rest el s d h =
         let e = d [] tt in
-        let c = store_is ts (v [] []) (w [] []) (or_number (k [])) rest (subst (λ z. IsCell l item z (v [] []) (w [] [])) (nil_after ts) (h [] [] [] [] tt tt)) in
-        (c.0, c.1, e.0, e.1, c.2, c.3 ∙ ap (λ z. Stores c.0 c.1 (or_number z) rest) (s [] tt ∙ e.1))
+        let c = store_is ts (v [] []) (w [] []) (or_number (k [])) rest (subst (λ z. IsCell l item z (v [] []) (w [] [])) (append-nil ts) (h [] [] [] [] tt tt)) in
+        (c.0, c.1, e.0, e.1, c.2, c.3 ∙ ap (λ z. Performs (Stores c.0 c.1 (or_number z)) rest) (s [] tt ∙ e.1))
     stored_is ts (PairOf a b) f k w v rest el s d h = (
       print_stored b (λ cs. k (true ∷ cs)) (λ cs. v (true ∷ cs)) rest,
-      stored_is ts a (λ cs. f (false ∷ cs)) (λ cs. k (false ∷ cs)) (λ cs. w (false ∷ cs)) (λ cs. v (false ∷ cs)) _ el.0 (λ cs. s (false ∷ cs)) (λ cs. d (false ∷ cs)) (cells_side ts false a (PairOf a b) v w (λ cs q z. z) h),
-      stored_is ts b (λ cs. f (true ∷ cs)) (λ cs. k (true ∷ cs)) (λ cs. w (true ∷ cs)) (λ cs. v (true ∷ cs)) rest el.1 (λ cs. s (true ∷ cs)) (λ cs. d (true ∷ cs)) (cells_side ts true b (PairOf a b) v w (λ cs q z. z) h),
+      stored_is ts a (λ cs. f (false ∷ cs)) (λ cs. k (false ∷ cs)) (λ cs. w (false ∷ cs)) (λ cs. v (false ∷ cs)) _ el.0 (λ cs. s (false ∷ cs)) (λ cs. d (false ∷ cs)) (cells_side l item ts false a (PairOf a b) v w (λ cs q z. z) h),
+      stored_is ts b (λ cs. f (true ∷ cs)) (λ cs. k (true ∷ cs)) (λ cs. w (true ∷ cs)) (λ cs. v (true ∷ cs)) rest el.1 (λ cs. s (true ∷ cs)) (λ cs. d (true ∷ cs)) (cells_side l item ts true b (PairOf a b) v w (λ cs q z. z) h),
     )
     stored_is ts (ArrayOf m t) f k w v rest el s d h = absurd el
 
-    loaded_is : (ts : List ℕ) (loads : LoadSet) (ty : Ty) (x : View) (y : Marks) (n : ℕ) (rest : Code) → LoadsScalars loads ty → HasCells l item ts ty x y → IsLoaded l item ins ts loads y n (print_loaded loads x n rest) rest
-    loaded_is ts Skip ty x y n rest ok h = refl
-    loaded_is ts Take Scalar x y n rest ok h = load_is ts (x [] []) (y [] []) n rest (subst (λ z. IsCell l item z (x [] []) (y [] [])) (nil_after ts) (h [] [] [] [] tt tt))
-    loaded_is ts Take (PairOf a b) x y n rest ok h = absurd ok
-    loaded_is ts Take (ArrayOf m t) x y n rest ok h = absurd ok
-    loaded_is ts (Each p q) Scalar x y n rest ok h = absurd ok
-    loaded_is ts (Each p q) (ArrayOf m t) x y n rest ok h = absurd ok
-    loaded_is ts (Each p q) (PairOf a b) x y n rest ok h = (
-      print_loaded q (λ cs. x (true ∷ cs)) (n + load_count p) rest,
-      loaded_is ts p a (λ cs. x (false ∷ cs)) (λ cs. y (false ∷ cs)) n _ ok.0 (cells_side ts false a (PairOf a b) x y (λ cs q z. z) h),
-      loaded_is ts q b (λ cs. x (true ∷ cs)) (λ cs. y (true ∷ cs)) (n + load_count p) rest ok.1 (cells_side ts true b (PairOf a b) x y (λ cs q z. z) h),
-    )
-
-    loaded_shows : (ts : List ℕ) (loads : LoadSet) (ty : Ty) (x : View) (y : Marks) (n : ℕ) → LoadsScalars loads ty → HasCells l item ts ty x y → Shows l item ts ty (loaded_view loads x n) (loaded_marks loads y n)
-    loaded_shows ts Skip ty x y n ok h = cells_show ts ty x y h
-    loaded_shows ts Take Scalar x y n ok h = λ us. refl
-    loaded_shows ts Take (PairOf a b) x y n ok h = absurd ok
-    loaded_shows ts Take (ArrayOf m t) x y n ok h = absurd ok
-    loaded_shows ts (Each p q) Scalar x y n ok h = absurd ok
-    loaded_shows ts (Each p q) (ArrayOf m t) x y n ok h = absurd ok
-    loaded_shows ts (Each p q) (PairOf a b) x y n ok h = (
-      loaded_shows ts p a (λ cs. x (false ∷ cs)) (λ cs. y (false ∷ cs)) n ok.0 (cells_side ts false a (PairOf a b) x y (λ cs q z. z) h),
-      loaded_shows ts q b (λ cs. x (true ∷ cs)) (λ cs. y (true ∷ cs)) (n + load_count p) ok.1 (cells_side ts true b (PairOf a b) x y (λ cs q z. z) h),
-    )
-
     module _ {A : Type 0} (num : A → ℕ) (src : ℕ → Ty) (ts : List ℕ) where
-      element_is : (t : Term A) (g : ℕ → Ty) (views : ℕ → View) (env : ℕ → Marks) (h : ℕ → List Bool → Bool) (n : ℕ) (ty : Ty) (rest : Code) → HasType num src g t ty → AreLetsHeld h t → AllShow l item ts g views env → HeldIn g env h → IsElementWork env n t (print_element views n t rest) rest
+      element_is : (t : Term A) (g : ℕ → Ty) (views : ℕ → View) (env : ℕ → Marks) (h : ℕ → List Bool → Bool) (n : ℕ) (ty : Ty) (rest : Code) → HasType num src g t ty → AreLetsHeld h t → AllShow l item ts g views env → HeldIn l item g env h → IsElementWork env n t (print_element views n t rest) rest
       element_is (Literal c) g views env h n ty rest ok nm es r = refl
       element_is (Bound v) g views env h n ty rest ok nm es r = refl
       element_is (Apply o a b) g views env h n ty rest ok nm es r =
@@ -297,8 +180,8 @@ module _ (l : Launch) (item : ℕ) where
       element_is (Project true a) g views env h n ty rest ok nm es r = element_is a g views env h n (PairOf ok.0 ty) rest ok.1 nm es r
       element_is (LetElement u v b) g views env h n ty rest ok nm es r =
           let n1 = n + let_variables v in
-          let es2 = all_push ts u (held_view u n1) (held_marks u n1) g views env (held_shows ts u n1 ok.0) es in
-          let r2 = held_push u (held_marks u n1) all g env h (λ ds z q. held_all u n1 ds z) r in
+          let es2 = all_push l item ts u (held_view u n1) (held_marks u n1) g views env (held_shows ts u n1 ok.0) es in
+          let r2 = held_push l item u (held_marks u n1) all g env h (λ ds z q. held_all u n1 ds z) r in
           let last = print_element (push (held_view u n1) views) (n1 + width u) b rest in (
             print_assigned u (sign_exprs views n v) n1 last,
             last,
@@ -309,27 +192,6 @@ module _ (l : Launch) (item : ℕ) where
       element_is _ g views env h n ty rest ok nm es r = absurd nm
 
 module _ (l : Launch) (item : ℕ) {A : Type 0} (num : A → ℕ) (spell : A → Formula) (spelled : (n : A) → num n < 2 ^ 31 → IsSpelled l (spell n) (num n)) where
-  back_cells : (ts : List ℕ) (y : Layout A) (t u : Ty) (v : View) (w : Marks) → IsInvertible y → Reshapes num y t u → IsShort t → IsShort u → HasCells l item ts u v w → HasCells l item ts t (λ cs is. v cs (result_indices spell y is)) (λ cs q. w cs (result_position num y q))
-  back_cells ts y t u v w turn rel st su h us cs is q i g = h us cs (result_indices spell y is) (result_position num y q) (result_in num y t u cs q turn rel i).0 (result_means l item num spell spelled (ts ++ us) y t u cs is q turn rel st su i g)
-
-  moved_cells : (ts : List ℕ) (y : Layout A) (t u : Ty) (x : View) (e : Marks) → HasWordStep y → Reshapes num y t u → IsShort t → IsShort u → HasCells l item ts t x e → HasCells l item ts u (λ cs is. x cs (operand_indices spell y is)) (λ cs q. e cs (operand_position num y q))
-  moved_cells ts y t u x e sp rel st su h us cs is q i g = h us cs (operand_indices spell y is) (operand_position num y q) (operand_in num y t u cs q rel i) (operand_means l item num spell spelled (ts ++ us) y t u cs is q sp rel st su i g)
-
-  moved_shows : (ts : List ℕ) (y : Layout A) (t u : Ty) (x : View) (e : Marks) → HasWordStep y → Reshapes num y t u → IsShort t → IsShort u → Shows l item ts t x e → Shows l item ts u (λ cs is. x cs (operand_indices spell y is)) (λ cs q. e cs (operand_position num y q))
-  moved_shows ts (Split m) (ArrayOf n t) u x e sp rel st su h = cells_show l item ts u _ _ (moved_cells ts (Split m) (ArrayOf n t) u x e sp rel st su h)
-  moved_shows ts (Join m) (ArrayOf n (ArrayOf k t)) u x e sp rel st su h = cells_show l item ts u _ _ (moved_cells ts (Join m) (ArrayOf n (ArrayOf k t)) u x e sp rel st su h)
-  moved_shows ts Transpose (ArrayOf n (ArrayOf m t)) u x e sp rel st su h = cells_show l item ts u _ _ (moved_cells ts Transpose (ArrayOf n (ArrayOf m t)) u x e sp rel st su h)
-  moved_shows ts (Reverse k) (ArrayOf n t) u x e sp rel st su h = cells_show l item ts u _ _ (moved_cells ts (Reverse k) (ArrayOf n t) u x e sp rel st su h)
-  moved_shows ts (Slide s k) (ArrayOf n t) u x e sp rel st su h = cells_show l item ts u _ _ (moved_cells ts (Slide s k) (ArrayOf n t) u x e sp rel st su h)
-  moved_shows ts (Pad a b k) (ArrayOf n t) u x e sp rel st su h = cells_show l item ts u _ _ (moved_cells ts (Pad a b k) (ArrayOf n t) u x e sp rel st su h)
-  moved_shows ts _ t u x e sp rel st su h = absurd (assumption)
-
-  zip_cells : (ts : List ℕ) (n : ℕ) (a b : Ty) (x y : View) (e f : Marks) → HasCells l item ts (ArrayOf n a) x e → HasCells l item ts (ArrayOf n b) y f → HasCells l item ts (ArrayOf n (PairOf a b)) (by_side (λ is. Blank) x y) (by_side (λ q. Nowhere) e f)
-  zip_cells ts n a b x y e f h k us cs is [] w g = absurd w
-  zip_cells ts n a b x y e f h k us [] is (i ∷ q) w g = absurd w.1
-  zip_cells ts n a b x y e f h k us (false ∷ cs) is (i ∷ q) w g = h us cs is (i ∷ q) w g
-  zip_cells ts n a b x y e f h k us (true ∷ cs) is (i ∷ q) w g = k us cs is (i ∷ q) w g
-
   module _ (src : ℕ → Ty) (ins : ℕ → Marks) (sins : ℕ → View) where
     -- a fold's turn
     turn_is : (ts : List ℕ) (g : ℕ → Ty) (views : ℕ → View) (env : ℕ → Marks) (h : ℕ → List Bool → Bool) (loads : LoadSet) (xt ty : Ty) (x : View) (y : Marks) (acc : ℕ) (b : Term A) → LoadsScalars loads xt → IsElement ty → HasType num src (push xt (push ty g)) b ty
@@ -353,37 +215,37 @@ module _ (l : Launch) (item : ℕ) {A : Type 0} (num : A → ℕ) (spell : A →
           again_is l item ins ty (exprs env2 n2 b) (sign_exprs views2 n2 b) acc (n2 + let_variables b) End el (λ cs w. exprs_same l item num src ts b g2 views2 env2 n2 ty cs ok w es2) (λ cs w. defined l item num src b g2 env2 h2 n2 ty cs ok w (nm cs w) r2),
         )
 
+    -- what stands for an argument shows it
+    shown : (t : Term A) (ts : List ℕ) (g : ℕ → Ty) (views : ℕ → View) (env : ℕ → Marks) (h : ℕ → List Bool → Bool) (a : ℕ) (ty : Ty) → HasType num src g t ty → LoadsSuffice h t → Stands false t → AllShow l item ts g views env → AllShow l item ts src sins ins → Shows l item ts ty (argument_view spell sins views a t) (argument_marks l ins num env a t)
+    shown t ts g views env h a ty ok nm sd es gs =
+        subst (λ v. Shows l item ts ty v (argument_marks l ins num env a t)) (sym (argument_view_is spell sins views a t)) (argument_shows private_arrays l item num spell spelled src ins sins ts gs t g views env h a ty (stands_argument t sd) ok nm es)
+
     mutual
       gathered_is : (t : Term A) (ts : List ℕ) (depth : ℕ) (g : ℕ → Ty) (views : ℕ → View) (env : ℕ → Marks) (h : ℕ → List Bool → Bool) (a n : ℕ) (ty : Ty) (rest : Code) → length ts ≡ depth → HasType num src g t ty → LoadsSuffice h t → Stands false t → AllShow l item ts g views env → AllShow l item ts src sins ins → HeldIn l item g env h
-          → IsArgumentWork l item ins num ts env a n t (print_argument spell sins depth views a n t rest) rest × Shows l item ts ty (argument_view spell sins views a t) (argument_marks l ins num env a t)
-      gathered_is (Bound v) ts depth g views env h a n ty rest d ok nm sd es gs r = (refl, subst (λ z. Shows l item ts z (views v) (env v)) (sym ok) (es v))
-      gathered_is (Source v) ts depth g views env h a n ty rest d ok nm sd es gs r = (refl, subst (λ z. Shows l item ts z (sins v) (ins v)) (sym ok) (gs v))
+          → IsArgumentWork l item ins num ts env a n t (print_argument spell sins depth views a n t rest) rest
+      gathered_is (Bound v) ts depth g views env h a n ty rest d ok nm sd es gs r = refl
+      gathered_is (Source v) ts depth g views env h a n ty rest d ok nm sd es gs r = refl
       gathered_is (Both false x y) ts depth g views env h a n ty rest d ok nm sd es gs r =
-          let p = gathered_is x ts depth g views env h a n ok.0 (print_argument spell sins depth views (a + private_count x) (n + variable_count x) y rest) d ok.5 nm.0 sd.0 es gs r in
-          let q = gathered_is y ts depth g views env h (a + private_count x) (n + variable_count x) ok.1 rest d ok.6 nm.1 sd.1 es gs r in
-          ((print_argument spell sins depth views (a + private_count x) (n + variable_count x) y rest, p.0, q.0), subst (λ z. Shows l item ts z (argument_view spell sins views a (Both false x y)) (argument_marks l ins num env a (Both false x y))) (sym ok.2) (p.1, q.1))
+          let next = print_argument spell sins depth views (a + private_count x) (n + variable_count x) y rest in
+          (next, gathered_is x ts depth g views env h a n ok.0 next d ok.5 nm.0 sd.0 es gs r, gathered_is y ts depth g views env h (a + private_count x) (n + variable_count x) ok.1 rest d ok.6 nm.1 sd.1 es gs r)
       gathered_is (Both true x y) ts depth g views env h a n ty rest d ok nm sd es gs r =
-          let p = gathered_is x ts depth g views env h a n (ArrayOf ok.0 ok.1) (print_argument spell sins depth views (a + private_count x) (n + variable_count x) y rest) d ok.4 nm.0 sd.0 es gs r in
-          let q = gathered_is y ts depth g views env h (a + private_count x) (n + variable_count x) (ArrayOf ok.0 ok.2) rest d ok.5 nm.1 sd.1 es gs r in
-          ((print_argument spell sins depth views (a + private_count x) (n + variable_count x) y rest, p.0, q.0), subst (λ z. Shows l item ts z (argument_view spell sins views a (Both true x y)) (argument_marks l ins num env a (Both true x y))) (sym ok.3) (zip_cells ts ok.0 ok.1 ok.2 _ _ _ _ p.1 q.1))
-      gathered_is (Project false x) ts depth g views env h a n ty rest d ok nm sd es gs r = let p = gathered_is x ts depth g views env h a n (PairOf ty ok.0) rest d ok.1 nm sd es gs r in (p.0, p.1.0)
-      gathered_is (Project true x) ts depth g views env h a n ty rest d ok nm sd es gs r = let p = gathered_is x ts depth g views env h a n (PairOf ok.0 ty) rest d ok.1 nm sd es gs r in (p.0, p.1.1)
-      gathered_is (Reshape y x) ts depth g views env h a n ty rest d ok nm sd es gs r =
-          let p = gathered_is x ts depth g views env h a n ok.0 rest d ok.1 nm sd es gs r in
-          (p.0, moved_shows ts y ok.0 ty (argument_view spell sins views a x) (argument_marks l ins num env a x) ok.5 ok.2 ok.3 ok.4 p.1)
+          let next = print_argument spell sins depth views (a + private_count x) (n + variable_count x) y rest in
+          (next, gathered_is x ts depth g views env h a n (ArrayOf ok.0 ok.1) next d ok.4 nm.0 sd.0 es gs r, gathered_is y ts depth g views env h (a + private_count x) (n + variable_count x) (ArrayOf ok.0 ok.2) rest d ok.5 nm.1 sd.1 es gs r)
+      gathered_is (Project false x) ts depth g views env h a n ty rest d ok nm sd es gs r = gathered_is x ts depth g views env h a n (PairOf ty ok.0) rest d ok.1 nm sd es gs r
+      gathered_is (Project true x) ts depth g views env h a n ty rest d ok nm sd es gs r = gathered_is x ts depth g views env h a n (PairOf ok.0 ty) rest d ok.1 nm sd es gs r
+      gathered_is (Reshape y x) ts depth g views env h a n ty rest d ok nm sd es gs r = gathered_is x ts depth g views env h a n ok.0 rest d ok.1 nm sd es gs r
       gathered_is (LetArray v b) ts depth g views env h a n ty rest d ok nm sd es gs r =
           let x = argument_view spell sins views a v in
           let y = argument_marks l ins num env a v in
-          let next = print_argument spell sins depth (push x views) (a + private_count v) (n + variable_count v) b rest in
-          let p = gathered_is v ts depth g views env h a n ok.0 next d ok.1 nm.0 sd.0 es gs r in
-          let q = gathered_is b ts depth (push ok.0 g) (push x views) (push y env) (push (held_scalars h v) h) (a + private_count v) (n + variable_count v) ty rest d ok.2 nm.1 sd.1 (all_push l item ts ok.0 x y g views env p.1 es) gs (held_push l item ok.0 y (held_scalars h v) g env h (λ cs w z. kept_is l item num src ins v g env h a ok.0 cs ok.1 w z r) r) in
-          ((next, p.0, q.0), q.1)
+          let next = print_argument spell sins depth (push x views) (a + private_count v) (n + variable_count v) b rest in (
+            next,
+            gathered_is v ts depth g views env h a n ok.0 next d ok.1 nm.0 sd.0 es gs r,
+            gathered_is b ts depth (push ok.0 g) (push x views) (push y env) (push (held_scalars h v) h) (a + private_count v) (n + variable_count v) ty rest d ok.2 nm.1 sd.1 (all_push l item ts ok.0 x y g views env (shown v ts g views env h a ok.0 ok.1 nm.0 sd.0 es gs) es) gs
+                (held_push l item ok.0 y (held_scalars h v) g env h (λ cs w z. kept_is private_arrays l item num src ins v g env h a ok.0 cs ok.1 w z r) r),
+          )
       gathered_is (Copy PrivateMemory u x) ts depth g views env h a n ty rest d ok nm sd es gs r =
           let first = a + private_count x in
-          let c = laid_cells l item num spell spelled ts Private first u ok.1 nm.1 nm.0 in (
-            written_is x ts depth g views env h a n u (laid_view Private first u) (laid_in Private first u) rest d (subst (HasType num src g x) ok.0 ok.2) nm.2 sd es gs r c,
-            subst (λ z. Shows l item ts z (laid_view Private first u) (laid_in Private first u)) (sym ok.0) (cells_show l item ts u _ _ c),
-          )
+          written_is x ts depth g views env h a n u (laid_view Private first u) (laid_in Private first u) rest d (subst (HasType num src g x) ok.0 ok.2) nm.2 sd es gs r (laid_cells l item num spell spelled ts Private first u ok.1 nm.1 nm.0)
       gathered_is _ ts depth g views env h a n ty rest d ok nm sd es gs r = absurd sd
 
       pub written_is : (t : Term A) (ts : List ℕ) (depth : ℕ) (g : ℕ → Ty) (views : ℕ → View) (env : ℕ → Marks) (h : ℕ → List Bool → Bool) (a n : ℕ) (ty : Ty) (v : View) (w : Marks) (rest : Code) → length ts ≡ depth → HasType num src g t ty → LoadsSuffice h t → Stands true t → AllShow l item ts g views env → AllShow l item ts src sins ins → HeldIn l item g env h → HasCells l item ts ty v w
@@ -395,13 +257,13 @@ module _ (l : Launch) (item : ℕ) {A : Type 0} (num : A → ℕ) (spell : A →
             stored_is l item ins ts u (exprs env n t) (sign_exprs views n t) w v rest ok.1 (λ cs z. exprs_same l item num src ts t g views env n u cs (subst (HasType num src g t) ok.0 ok.2) z es) (λ cs z. defined l item num src t g env h n u cs (subst (HasType num src g t) ok.0 ok.2) z (nm.0 cs z) r) (subst (λ z. HasCells l item ts z v w) ok.0 cells),
           )
       written_is (Reshape y t) ts depth g views env h a n ty v w rest d ok nm sd es gs r cells =
-          (sd.0, written_is t ts depth g views env h a n ok.0 (λ cs is. v cs (result_indices spell y is)) (λ cs q. w cs (result_position num y q)) rest d ok.1 nm sd.1 es gs r (back_cells ts y ok.0 ty v w sd.0 ok.2 ok.3 ok.4 cells))
+          (sd.0, written_is t ts depth g views env h a n ok.0 (λ cs is. v cs (result_indices spell y is)) (λ cs q. w cs (result_position num y q)) rest d ok.1 nm sd.1 es gs r (back_cells l item num spell spelled ts y ok.0 ty v w sd.0 ok.2 ok.3 ok.4 cells))
       written_is (LetArray x b) ts depth g views env h a n ty v w rest d ok nm sd es gs r cells =
           let e = argument_view spell sins views a x in
           let f = argument_marks l ins num env a x in
           let next = print_written spell sins depth (push e views) (a + private_count x) (n + variable_count x) b v rest in
           let p = gathered_is x ts depth g views env h a n ok.0 next d ok.1 nm.0 sd.0 es gs r in
-          (next, p.0, written_is b ts depth (push ok.0 g) (push e views) (push f env) (push (held_scalars h x) h) (a + private_count x) (n + variable_count x) ty v w rest d ok.2 nm.1 sd.1 (all_push l item ts ok.0 e f g views env p.1 es) gs (held_push l item ok.0 f (held_scalars h x) g env h (λ cs i z. kept_is l item num src ins x g env h a ok.0 cs ok.1 i z r) r) cells)
+          (next, p, written_is b ts depth (push ok.0 g) (push e views) (push f env) (push (held_scalars h x) h) (a + private_count x) (n + variable_count x) ty v w rest d ok.2 nm.1 sd.1 (all_push l item ts ok.0 e f g views env (shown x ts g views env h a ok.0 ok.1 nm.0 sd.0 es gs) es) gs (held_push l item ok.0 f (held_scalars h x) g env h (λ cs i z. kept_is private_arrays l item num src ins x g env h a ok.0 cs ok.1 i z r) r) cells)
       written_is (LetElement u x b) ts depth g views env h a n ty v w rest d ok nm sd es gs r cells =
           let n1 = n + let_variables x in
           let views2 = push (held_view u n1) views in
@@ -426,7 +288,7 @@ module _ (l : Launch) (item : ℕ) {A : Type 0} (num : A → ℕ) (spell : A →
           let p = gathered_is xs ts depth g views env h a n (ArrayOf len ok.0) loop d ok.4 nm.0 sd.0 es gs r in
           let cells2 = subst (λ z. HasCells l item ts z v w) ok.6 cells in (
             loop,
-            p.0,
+            p,
             (
               spell z0,
               body,
@@ -435,7 +297,7 @@ module _ (l : Launch) (item : ℕ) {A : Type 0} (num : A → ℕ) (spell : A →
               λ i lt own.
                   let ts2 = ts ++ i ∷ [] in
                   let y = loaded_marks loads (at_index i f) n1 in
-                  let c = turned_cells l item ts depth i len ok.0 e f d lt ok.2 p.1 in
+                  let c = turned_cells l item ts depth i len ok.0 e f d lt ok.2 (shown xs ts g views env h a (ArrayOf len ok.0) ok.4 nm.0 sd.0 es gs) in
                   let d2 : length ts2 ≡ suc depth = (let z = length-append ts (i ∷ []) in omega arith) in
                   let es2 = all_push l item ts2 ok.0 x y g views env (loaded_shows l item ins ts2 loads ok.0 (view_at (LoopVariable depth) e) (at_index i f) n1 ok.3 c) (all_within l item ts i g views env es) in
                   let r2 = held_push l item ok.0 y (covers loads) g env h (λ cs z q. loaded_held l item loads (at_index i f) n1 cs q) r in (
@@ -463,7 +325,7 @@ module _ (l : Launch) (item : ℕ) {A : Type 0} (num : A → ℕ) (spell : A →
             assign,
             loop,
             last,
-            p.0,
+            p,
             element_is l item ins num src ts s g views env h n1 yt assign ok.5 nm.2 es r,
             assigned_is l item ins yt (exprs env n1 s) (sign_exprs views n1 s) n2 loop ok.3 (λ cs z. exprs_same l item num src ts s g views env n1 yt cs ok.5 z es) (λ cs z. defined l item num src s g env h n1 yt cs ok.5 z (nm.1 cs z) r),
             (
@@ -472,7 +334,7 @@ module _ (l : Launch) (item : ℕ) {A : Type 0} (num : A → ℕ) (spell : A →
               refl,
               (spelled z0 ok.1).0,
               λ i lt own.
-                  turn_is (ts ++ i ∷ []) g views env h loads ok.0 yt (view_at (LoopVariable depth) e) (at_index i f) n2 b ok.2 ok.3 ok.6 nm.3 nm.4 (turned_cells l item ts depth i len ok.0 e f d lt ok.1 p.1) (all_within l item ts i g views env es) r,
+                  turn_is (ts ++ i ∷ []) g views env h loads ok.0 yt (view_at (LoopVariable depth) e) (at_index i f) n2 b ok.2 ok.3 ok.6 nm.3 nm.4 (turned_cells l item ts depth i len ok.0 e f d lt ok.1 (shown xs ts g views env h a (ArrayOf len ok.0) ok.4 nm.0 sd es gs)) (all_within l item ts i g views env es) r,
             ),
             stored_is l item ins ts yt (λ cs. held (held_marks yt n2 cs [])) (λ cs. held_sign (held_view yt n2 cs [])) (at_index 0 w) (view_at (Number 0) v) rest ok.3
                 (λ cs z. bound_same l item ts yt (held_view yt n2) (held_marks yt n2) cs z (held_shows l item ts yt n2 ok.3)) (λ cs z. held_all l item yt n2 cs z) (first_cells l item ts yt v w cells2),
@@ -482,13 +344,13 @@ module _ (l : Launch) (item : ℕ) {A : Type 0} (num : A → ℕ) (spell : A →
     pub over_launch_is : (t : Term A) (g : ℕ → Ty) (views : ℕ → View) (env : ℕ → Marks) (h : ℕ → List Bool → Bool) (a n : ℕ) (ty : Ty) (v : View) (w : Marks) (rest : Code) → HasType num src g t ty → LoadsSuffice h t → StandsOverLaunch t → AllShow l item [] g views env → AllShow l item [] src sins ins → HeldIn l item g env h → HasCells l item [] ty v w
         → IsOverLaunch l item ins num env a n t w (print_written spell sins 0 views a n t v rest) rest
     over_launch_is (Reshape y t) g views env h a n ty v w rest ok nm sd es gs r cells =
-        (sd.0, over_launch_is t g views env h a n ok.0 (λ cs is. v cs (result_indices spell y is)) (λ cs q. w cs (result_position num y q)) rest ok.1 nm sd.1 es gs r (back_cells [] y ok.0 ty v w sd.0 ok.2 ok.3 ok.4 cells))
+        (sd.0, over_launch_is t g views env h a n ok.0 (λ cs is. v cs (result_indices spell y is)) (λ cs q. w cs (result_position num y q)) rest ok.1 nm sd.1 es gs r (back_cells l item num spell spelled [] y ok.0 ty v w sd.0 ok.2 ok.3 ok.4 cells))
     over_launch_is (LetArray x b) g views env h a n ty v w rest ok nm sd es gs r cells =
         let e = argument_view spell sins views a x in
         let f = argument_marks l ins num env a x in
         let next = print_written spell sins 0 (push e views) (a + private_count x) (n + variable_count x) b v rest in
         let p = gathered_is x [] 0 g views env h a n ok.0 next refl ok.1 nm.0 sd.0 es gs r in
-        (next, p.0, over_launch_is b (push ok.0 g) (push e views) (push f env) (push (held_scalars h x) h) (a + private_count x) (n + variable_count x) ty v w rest ok.2 nm.1 sd.1 (all_push l item [] ok.0 e f g views env p.1 es) gs (held_push l item ok.0 f (held_scalars h x) g env h (λ cs i z. kept_is l item num src ins x g env h a ok.0 cs ok.1 i z r) r) cells)
+        (next, p, over_launch_is b (push ok.0 g) (push e views) (push f env) (push (held_scalars h x) h) (a + private_count x) (n + variable_count x) ty v w rest ok.2 nm.1 sd.1 (all_push l item [] ok.0 e f g views env (shown x [] g views env h a ok.0 ok.1 nm.0 sd.0 es gs) es) gs (held_push l item ok.0 f (held_scalars h x) g env h (λ cs i z. kept_is private_arrays l item num src ins x g env h a ok.0 cs ok.1 i z r) r) cells)
     over_launch_is (Map Global z0 loads xs b) g views env h a n ty v w rest ok nm sd es gs r cells =
         let len = num z0 in
         let e = argument_view spell sins views a xs in
@@ -502,7 +364,7 @@ module _ (l : Launch) (item : ℕ) {A : Type 0} (num : A → ℕ) (spell : A →
         let p = gathered_is xs [] 0 g views env h a n (ArrayOf len ok.0) loop refl ok.4 nm.0 sd.0 es gs r in
         let cells2 = subst (λ z. HasCells l item [] z v w) ok.6 cells in (
           loop,
-          p.0,
+          p,
           (
             spell z0,
             body,
@@ -511,7 +373,7 @@ module _ (l : Launch) (item : ℕ) {A : Type 0} (num : A → ℕ) (spell : A →
             λ i lt own.
                 let ts2 = [] ++ i ∷ [] in
                 let y = loaded_marks loads (at_index i f) n1 in
-                let c = turned_cells l item [] 0 i len ok.0 e f refl lt ok.2 p.1 in
+                let c = turned_cells l item [] 0 i len ok.0 e f refl lt ok.2 (shown xs [] g views env h a (ArrayOf len ok.0) ok.4 nm.0 sd.0 es gs) in
                 let es2 = all_push l item ts2 ok.0 x y g views env (loaded_shows l item ins ts2 loads ok.0 (view_at (LoopVariable 0) e) (at_index i f) n1 ok.3 c) (all_within l item [] i g views env es) in
                 let r2 = held_push l item ok.0 y (covers loads) g env h (λ cs z q. loaded_held l item loads (at_index i f) n1 cs q) r in (
                   inner,

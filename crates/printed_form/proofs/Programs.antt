@@ -46,7 +46,7 @@ use Rattle.lift_ir.proofs.Numbers.{component_below}
 use Rattle.lift_ir.proofs.Typed.{has_is, output_flat}
 use Rattle.lift_ir.proofs.Values.{shape_is, has_scalars, same_lists}
 use Rattle.printed_form.specs.Headline.{EveryRunKeeps}
-use Rattle.printed_form.specs.Whole.{IsCode, IsPrinted}
+use Rattle.printed_form.specs.Whole.{IsCode, IsMadeFor, IsPrinted}
 use Rattle.printed_form.specs.Printer.{input_marks, kernel_code}
 use Rattle.printed_form.specs.Programs.{input_shape, first_buffer, buffer_count, lowered_root, cell_owner, row_of, IsLaunchOf, SameContents, DeclaresFor, declared_kernel, PrintedProgramsKeep, PrintedProgramsStart, ProgramsArePrinted, PrintedProgramsGoAlike, Prints, AreBuffersOf, IsLowerableProgram}
 use Rattle.printed_form.proofs.Printed.{code_is}
@@ -245,20 +245,23 @@ module _ (d : Declared) (asks : Asks) (w : World) (t : Tree) (a : Annotation) (l
   pub outputs_long : map length c.outs ≡ replicate (width result) (size result)
   outputs_long = buffers.outputs ∙ ap (map length) (same_lists w.bases (type_in a) (meaning w [] t)) ∙ lists_long result (meaning w [] t) (scalars_of num sources no_scalars low) flat_type valued
 
-  is_printed : (k : Kernel) → Prints d asks.local w.bases t a l k → IsPrinted l num src (input_marks num (first_buffer d.inputs) (input_shape d.inputs)) sources low result k c
-  is_printed k printed = record {
+  -- the kernel is one for it, whatever its code
+  pub made : (k : Kernel) → DeclaresFor d asks.local t a k → IsMadeFor l num src (input_marks num (first_buffer d.inputs) (input_shape d.inputs)) sources low result k c
+  made k declares = record {
     whole = whole l asks d.names w.bases launch.flat launch.admissible;
     flat = launch.flat;
     some = subst (λ n. 0 < n) (sym (flat_items l launch.flat)) (let z = launch.admissible.global_least in omega arith);
     few = subst (λ n. n < 2 ^ 31) (sym (flat_items l launch.flat)) (let z = launch.admissible.global_most in omega arith);
     typed = has;
     flat_type = flat_type;
-    code = printed.code;
-    variables = printed.declares.variables;
-    privates = printed.declares.privates;
+    variables = declares.variables;
+    privates = declares.privates;
     outputs = outputs_long;
     inputs = input_given d w program.declared ok c buffers.inputs;
   }
+
+  is_printed : (k : Kernel) → Prints d asks.local w.bases t a l k → IsPrinted l num src (input_marks num (first_buffer d.inputs) (input_shape d.inputs)) sources low result k c
+  is_printed k printed = record { made = made k printed.declares; code = printed.code }
 
   keeps : (k : Kernel) → Prints d asks.local w.bases t a l k → EveryRunKeeps k l c (cell_owner d.names w.bases l t a) (launches.lists_of (type_in a) (meaning w [] t))
   keeps k printed =

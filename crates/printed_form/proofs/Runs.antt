@@ -39,6 +39,10 @@ filled_more l a b (Output n) le h = absurd h
 filled_more l a b (Local n) le h = h
 filled_more l a b (Private n) le h = omega arith
 
+-- the same run, of which something else is told
+pub ran_so : {st : Setting} {x : Known} {fs : List Frame} {code rest : Code} {n a : ℕ} {S : Cell → Type 0} {T : Cell → ℕ → Type 0} {G H : Known → Type 0} (r : Ran st x fs code rest n a S T G) → H (known_after x r.deeds r.after n a) → Ran st x fs code rest n a S T H
+ran_so r good = record { after = r.after; deeds = r.deeds; goes = r.goes; later = r.later; allowed = r.allowed; wrote = r.wrote; good = good }
+
 module _ (st : Setting) where
   pub later_same : (x : Known) → Later st x x
   later_same x = record { more = omega arith; more_arrays = omega arith; kept = kept x.count x.vars; same = λ c f. refl }

@@ -7,9 +7,9 @@ use Rattle.kernel_tree.specs.declared.events.Event.TheVariants.{Step, Release}
 use Rattle.kernel_tree.specs.declared.events.FaultKind.{FaultKind}
 use Rattle.kernel_tree.specs.declared.events.FaultKind.TheVariants.{LoopWrap, OutOfRange}
 use Rattle.kernel_tree.specs.Formula.{Vars, set_word, value, bound_value}
-use Rattle.kernel_tree.specs.Code.{Array, Input, Output, Local, Private, Start, Code, End, Assigns, Loads, Stores, Loops, Guards, Syncs, Kernel, start_value, stride_value, then_rest}
+use Rattle.kernel_tree.specs.Code.{Array, Input, Output, Local, Private, Start, Statement, Assigns, Loads, Stores, Syncs, Code, End, Performs, Loops, Guards, Kernel, start_value, stride_value, then_rest}
 use Rattle.kernel_tree.specs.Launch.{Launch, Cells, IsWhole, item_count, ids_of, group_of, first_item}
-use Rattle.kernel_tree.specs.Item.{Frame, Item, item, loop_variables, Wants, Ends, Waits, Moves, Reads, Writes, ReadsFour, WritesFour, Fails, with_value, tested, next_turn, next_at, next}
+use Rattle.kernel_tree.specs.Item.{Frame, Item, item, loop_variables, Wants, Ends, Waits, Moves, Reads, Writes, ReadsFour, WritesFour, Fails, with_value, tested, next_turn, perform, next_at, next}
 use Rattle.kernel_tree.specs.Device.{Device, State, Memory, Fence, device_of, length_in, cell_at, fence_of, wants, CanStep, StandTogether, Enabled, moves, taken, stored, memory_after, has_flag, releases, after, run, IsRun}
 use Rattle.kernel_tree.specs.Faults.{Access, Among, IsRace, accessed, accesses_of, accesses, failure, failure_of}
 use Rattle.kernel_tree.specs.Deeds.{Got, Gave}
@@ -22,7 +22,7 @@ use Rattle.lift_ir.specs.Terms.{Global, Term, Reshape, LetArray, Map}
 use Rattle.printed_form.specs.Marks.{Marks}
 use Rattle.printed_form.specs.Form.{IsWritten}
 use Rattle.printed_form.specs.Whole.{no_marks, output_marks, IsOverLaunch, IsCode}
-use Rattle.printed_form.specs.Alike.{Alike, AlikeFrames, AlikeItems, AlikeWants, AlikeStates, SameRun, PrintedKernelsAreAlike}
+use Rattle.printed_form.specs.Alike.{AlikeStatement, Alike, AlikeFrames, AlikeItems, AlikeWants, AlikeStates, SameRun, PrintedKernelsAreAlike}
 use Rattle.printed_form.proofs.Alike.{alike_written, alike_over_launch}
 
 pub waits_too : (w v : Wants) → StandTogether w v → IsWaiting v
@@ -56,12 +56,9 @@ module _ (grouped : Bool) (l : Launch) (k : ℕ) where
   -- code before whatever follows
   before_rest : (ts : List ℕ) (a b r q : Code) → Alike grouped l k ts a b → Alike grouped l k ts r q → Alike grouped l k ts (then_rest a r) (then_rest b q)
   before_rest ts End End r q a h = h
-  before_rest ts (Assigns v e x) (Assigns u f y) r q a h = (a.0, a.1, before_rest ts x y r q a.2 h)
-  before_rest ts (Loads v m i x) (Loads u n j y) r q a h = (a.0, a.1, a.2, before_rest ts x y r q a.3 h)
-  before_rest ts (Stores m i e x) (Stores n j f y) r q a h = (a.0, a.1, a.2, before_rest ts x y r q a.3 h)
+  before_rest ts (Performs s x) (Performs t y) r q a h = (a.0, before_rest ts x y r q a.1 h)
   before_rest ts (Loops s b c body x) (Loops t d e other y) r q a h = (a.0, a.1, a.2, a.3, a.4, a.5, before_rest ts x y r q a.6 h)
   before_rest ts (Guards s b body x) (Guards t d other y) r q a h = (a.0, a.1, a.2, a.3, a.4, a.5, before_rest ts x y r q a.6 h)
-  before_rest ts (Syncs m n x) (Syncs i j y) r q a h = (a.0, a.1, a.2, before_rest ts x y r q a.3 h)
   before_rest ts _ _ r q a h = absurd a
 
   -- an `if` is entered in both, or in neither
@@ -105,6 +102,20 @@ module _ (grouped : Bool) (l : Launch) (k : ℕ) where
       go true = h
       go false = refl
 
+  -- what is performed is alike, where what comes after it is
+  perform_alike : (ts : List ℕ) (s t : Statement) (vars : Vars) (on go : Vars → Item) → AlikeStatement grouped l k ts s t → ((vs : Vars) → AlikeItems grouped l k (on vs) (go vs)) → AlikeWants grouped l k (perform (ids_of l k) ts vars s on) (perform (ids_of l k) ts vars t go)
+  perform_alike ts (Assigns v e) (Assigns u f) vars on go a h =
+      with_value_alike _ _ _ _ (ap (value (ids_of l k) ts vars) a.1)
+      (λ x. subst (λ z. AlikeItems grouped l k (on (set_word vars v x)) (go (set_word vars z x))) a.0 (h (set_word vars v x)))
+  perform_alike ts (Loads v p i) (Loads u p2 j) vars on go a h =
+      with_value_alike _ _ _ _ (a.2 vars)
+      (λ n. (a.1, refl, λ x. subst (λ z. AlikeItems grouped l k (on (set_word vars v x)) (go (set_word vars z x))) a.0 (h (set_word vars v x))))
+  perform_alike ts (Stores p i e) (Stores p2 j f) vars on go a h =
+      with_value_alike _ _ _ _ (a.1 vars)
+      (λ n. with_value_alike _ _ _ _ (ap (value (ids_of l k) ts vars) a.2) (λ x. (a.0, refl, refl, h vars)))
+  perform_alike ts (Syncs b c) (Syncs d e) vars on go a h = (a.0, a.1, a.2, h vars)
+  perform_alike ts _ _ vars on go a h = absurd a
+
   next_at_alike : (c d : Code) (fs hs : List Frame) (vars : Vars) → Alike grouped l k (loop_variables fs) c d → AlikeFrames grouped l k fs hs → AlikeWants grouped l k (next_at (ids_of l k) c fs vars) (next_at (ids_of l k) d hs vars)
   next_at_alike End End [] [] vars a b = tt
   next_at_alike End End [] (h ∷ hs) vars a b = absurd b
@@ -116,16 +127,9 @@ module _ (grouped : Bool) (l : Launch) (k : ℕ) where
       let go = λ (g : Frame) (gs : List Frame) (n : ℕ). if nat_lt (g.variable + stride_value ids g.stride) (2 ^ 32) then tested n (next_turn ids g) gs vars else Fails LoopWrap in
       subst (λ o. AlikeWants grouped l k (with_value o (go f fs)) (with_value (bound_value l.sizes h.bound) (go h hs))) (sym b.4)
       (subst (λ o. AlikeWants grouped l k (go f fs b.3) (with_value o (go h hs))) (sym b.5) after_test)
-  next_at_alike (Assigns v e r) (Assigns u f q) fs hs vars a b =
-      with_value_alike _ _ _ _ (ap (λ x. value (ids_of l k) (loop_variables fs) vars x) a.1 ∙ ap (λ x. value (ids_of l k) x vars f) (same_loops fs hs b))
-      (λ x. subst (λ z. AlikeItems grouped l k (item r fs (set_word vars v x)) (item q hs (set_word vars z x))) a.0 (moved_alike r q fs hs (set_word vars v x) a.2 b))
-  next_at_alike (Loads v p i r) (Loads u p2 j q) fs hs vars a b =
-      with_value_alike _ _ _ _ (a.2 vars ∙ ap (λ x. value (ids_of l k) x vars j) (same_loops fs hs b))
-      (λ n. (a.1, refl, λ x. subst (λ z. AlikeItems grouped l k (item r fs (set_word vars v x)) (item q hs (set_word vars z x))) a.0 (moved_alike r q fs hs (set_word vars v x) a.3 b)))
-  next_at_alike (Stores p i e r) (Stores p2 j f q) fs hs vars a b =
-      with_value_alike _ _ _ _ (a.1 vars ∙ ap (λ x. value (ids_of l k) x vars j) (same_loops fs hs b))
-      (λ n. with_value_alike _ _ _ _ (ap (λ x. value (ids_of l k) (loop_variables fs) vars x) a.2 ∙ ap (λ x. value (ids_of l k) x vars f) (same_loops fs hs b))
-      (λ x. (a.0, refl, refl, moved_alike r q fs hs vars a.3 b)))
+  next_at_alike (Performs s r) (Performs t q) fs hs vars a b =
+      subst (λ ts. AlikeWants grouped l k (perform (ids_of l k) (loop_variables fs) vars s (λ vs. item r fs vs)) (perform (ids_of l k) ts vars t (λ vs. item q hs vs))) (same_loops fs hs b)
+      (perform_alike (loop_variables fs) s t vars (λ vs. item r fs vs) (λ vs. item q hs vs) a.0 (λ vs. moved_alike r q fs hs vs a.1 b))
   next_at_alike (Loops s c e body r) (Loops t c2 e2 other q) fs hs vars a b =
       let ids = ids_of l k in
       let f : Frame = record { turn = 0; variable = start_value ids s; bound = c; stride = e; body = body; after = r } in
@@ -140,7 +144,6 @@ module _ (grouped : Bool) (l : Launch) (k : ℕ) where
       subst (λ o. AlikeWants grouped l k (with_value o (go s body r fs)) (with_value (bound_value l.sizes c2) (go t other q hs))) (sym a.3)
       (subst (λ o. AlikeWants grouped l k (go s body r fs a.2) (with_value o (go t other q hs))) (sym a.4)
       (subst (λ u. AlikeWants grouped l k (go s body r fs a.2) (go u other q hs a.2)) a.1 (guarded_alike a.2 s body r other q fs hs vars a.5 a.6 b)))
-  next_at_alike (Syncs x y r) (Syncs z w q) fs hs vars a b = (a.0, a.1, a.2, moved_alike r q fs hs vars a.3 b)
   next_at_alike _ _ fs hs vars a b = absurd a
 
   pub next_alike : (x y : Item) → AlikeItems grouped l k x y → AlikeWants grouped l k (next (ids_of l k) x) (next (ids_of l k) y)

@@ -82,11 +82,7 @@ module _ {A : Type 0} (num : A → ℕ) (ins : ℕ → Marks) (src : ℕ → Ty)
   }
     where
       tail_is : (i : ℕ) (q p : List ℕ) → i ∷ q ≡ i ∷ p → q ≡ p
-      tail_is i q p e = ap tail e
-        where
-          tail : List ℕ → List ℕ
-          tail [] = []
-          tail (k ∷ q) = q
+      tail_is i q p e = cc
 
   own_row : ℕ → ℕ
   own_row t = st.item + t * g
@@ -241,28 +237,28 @@ module _ {A : Type 0} (num : A → ℕ) (l : Launch) (src : ℕ → Ty) (ins : �
   nothing_bound j v cs (i ∷ q) w = let z = w.0 in absurd (omega arith)
 
   all_given : (j : ℕ) → AllHold (setting j) (known j) src ins sources
-  all_given j v cs q w = given_holds j (ins v cs q) (sources v cs q) (h.inputs v cs q w)
+  all_given j v cs q w = given_holds j (ins v cs q) (sources v cs q) (h.made.inputs v cs q w)
 
   -- an output's cell
   here_is : (cs : List Bool) (q : List ℕ) → IsPosition ty cs q → owner_of (flat ty q) ≡ owner num l t q
-  here_is cs q w = ap (owner num l t) (unflat_flat ty cs q h.flat_type w)
+  here_is cs q w = ap (owner num l t) (unflat_flat ty cs q h.made.flat_type w)
 
   due_at : (j : ℕ) (cs : List Bool) (q : List ℕ) → IsPosition ty cs q → owner num l t q ≡ j → DueAt (setting j) (0 + private_count t) (output_marks ty cs q)
   due_at j cs q w o =
       let a = component_below ty cs q w in
-      let b = flat_below ty cs q h.flat_type w in
-      let long = row_long c.outs (width ty) (size ty) (0 + component ty cs) h.outputs (omega arith) in
+      let b = flat_below ty cs q h.made.flat_type w in
+      let long = row_long c.outs (width ty) (size ty) (0 + component ty cs) h.made.outputs (omega arith) in
       (omega arith, ap Some (here_is cs q w ∙ o), tt)
 
   same_choices : (j : ℕ) (cs ds : List Bool) (q p : List ℕ) → IsPosition ty cs q → IsPosition ty ds p → mark_cell (setting j) (output_marks ty cs q) ≡ mark_cell (setting j) (output_marks ty ds p) → cs ≡ ds
   same_choices j cs ds q p w z e = let x = output_same (0 + component ty cs) (0 + component ty ds) (ap Cell.array e) in component_same ty cs ds q p w z (omega arith)
 
   same_places : (j : ℕ) (cs ds : List Bool) (q p : List ℕ) → IsPosition ty cs q → IsPosition ty ds p → mark_cell (setting j) (output_marks ty cs q) ≡ mark_cell (setting j) (output_marks ty ds p) → q ≡ p
-  same_places j cs ds q p w z e = flat_same ty cs ds q p h.flat_type w z (ap Cell.index e)
+  same_places j cs ds q p w z e = flat_same ty cs ds q p h.made.flat_type w z (ap Cell.index e)
 
   -- private arrays are as long as the term wants them
   declared : Declares (length_in k c) 0 t
-  declared = declares (length_in k c) 0 t (λ i lt. let z : 0 + i ≡ i = omega arith in ap (λ j. slice_index k.privates j) z ∙ ap (λ ns. slice_index ns i) h.privates)
+  declared = declares (length_in k c) 0 t (λ i lt. let z : 0 + i ≡ i = omega arith in ap (λ j. slice_index k.privates j) z ∙ ap (λ ns. slice_index ns i) h.made.privates)
 
   own : (j p i : ℕ) → (setting j).owners (spot_cell (setting j) (Private p) i) ≡ Some (setting j).item
   own j p i = refl
@@ -274,19 +270,19 @@ module _ {A : Type 0} (num : A → ℕ) (l : Launch) (src : ℕ → Ty) (ins : �
   Runs j = Ran (setting j) (known j) [] k.code End (0 + variable_count t) (0 + private_count t) (Scratch 0 (0 + private_count t)) (Mine j) (λ y. Unit {0})
 
   all_in_a_row : item_count l ≡ l.global.0
-  all_in_a_row = flat_items l h.flat
+  all_in_a_row = flat_items l h.made.flat
 
   item_runs : (j : ℕ) → j < item_count l → Runs j
   item_runs j lt =
-      let room : 0 + variable_count t ≤ length (start.vars j).words = (let a = h.variables in let b = start.long j lt in omega arith) in
+      let room : 0 + variable_count t ≤ length (start.vars j).words = (let a = h.made.variables in let b = start.long j lt in omega arith) in
       ⊎_elim
       (λ z.
-      let only = λ (q : List ℕ). (let a = owner_below num l t q h.whole h.some in let b = z.0 in let e : owner num l t q ≡ j = omega arith in e) in
+      let only = λ (q : List ℕ). (let a = owner_below num l t q h.made.whole h.made.some in let b = z.0 in let e : owner num l t q ≡ j = omega arith in e) in
       ran_as (setting j) (known j) [] k.code End (0 + variable_count t) (0 + private_count t) (0 + variable_count t) (0 + private_count t) (λ y. Unit {0}) (omega arith) (omega arith) (λ m vars u. u) (λ b u. u)
       (λ b v u. inl (u.0, u.1, u.2, only u.1, u.3, u.4)) (λ b v u. (u.0, u.1, u.2, u.4, u.5))
-      (writes (setting j) num ins src sources (own j) t [] [] refl no_type no_marks no_scalars ty (output_marks ty) (known j) k.code End h.typed (subst (λ i. IsWritten l i ins num [] no_marks 0 0 t (output_marks ty) k.code End) (let b = z.0 in omega arith) z.1) room declared
+      (writes (setting j) num ins src sources (own j) t [] [] refl no_type no_marks no_scalars ty (output_marks ty) (known j) k.code End h.made.typed (subst (λ i. IsWritten l i ins num [] no_marks 0 0 t (output_marks ty) k.code End) (let b = z.0 in omega arith) z.1) room declared
       (record { at = λ cs q w. due_at j cs q w (only q); choices = same_choices j; places = same_places j }) (nothing_bound j) (all_given j)))
-      (λ z. tops num ins src sources (setting j) (own j) (subst (λ n. j < n) all_in_a_row lt) (subst (λ n. n < 2 ^ 31) all_in_a_row h.few) t no_type no_marks no_scalars ty (output_marks ty) (known j) k.code End h.typed (z j lt) room declared
+      (λ z. tops num ins src sources (setting j) (own j) (subst (λ n. j < n) all_in_a_row lt) (subst (λ n. n < 2 ^ 31) all_in_a_row h.made.few) t no_type no_marks no_scalars ty (output_marks ty) (known j) k.code End h.made.typed (z j lt) room declared
       (record { at = λ cs q w o. due_at j cs q w o; choices = same_choices j; places = same_places j }) (nothing_bound j) (all_given j))
       h.code
 
@@ -329,7 +325,7 @@ module _ {A : Type 0} (num : A → ℕ) (l : Launch) (src : ℕ → Ty) (ins : �
 
   all : AsAllowed d s owners deeds_of ends_of the_run
   unfolding the_run
-  all = as_allowed d s owners deeds_of ends_of independent h.whole
+  all = as_allowed d s owners deeds_of ends_of independent h.made.whole
 
   -- the items one after another run to their ends
   pub completed : (es : List Event) × Completes d s es
@@ -344,11 +340,11 @@ module _ {A : Type 0} (num : A → ℕ) (l : Launch) (src : ℕ → Ty) (ins : �
       ⊎_elim
       (λ la. ⊎_elim
       (λ li.
-      let p = position_at ty a i h.flat_type la li in
+      let p = position_at ty a i h.made.flat_type la li in
       let cell : output_cell a i ≡ output_cell (0 + component ty p.0) (flat ty (unflat ty i)) = ap (λ x. output_cell x i) (let z = p.2 in let e : a ≡ 0 + component ty p.0 = omega arith in e) ∙ ap (output_cell (0 + component ty p.0)) (sym p.3) in
       let e = w.once (output_cell a i) (value p.0 (unflat ty i)) (p.0, unflat ty i, p.1, o, cell, refl) in
       omega arith)
-      (λ gi. none (λ v m. let b = flat_below ty m.0 m.1 h.flat_type m.2 in let e = ap Cell.index m.4 in absurd (omega arith)))
+      (λ gi. none (λ v m. let b = flat_below ty m.0 m.1 h.made.flat_type m.2 in let e = ap Cell.index m.4 in absurd (omega arith)))
       (cases_lt i (size ty)))
       (λ ga. none (λ v m. let b = component_below ty m.0 m.1 m.2 in let e = output_same a (0 + component ty m.0) (ap Cell.array m.4) in absurd (omega arith)))
       (cases_lt a (width ty))
@@ -358,7 +354,7 @@ module _ {A : Type 0} (num : A → ℕ) (l : Launch) (src : ℕ → Ty) (ins : �
 
   module _ (lists : List (List ℕ)) (shape : map length lists ≡ map length c.outs) (listed : AreLists ty value lists) where
     in_range : (i : ℕ) → owner_of i < item_count l
-    in_range i = owner_below num l t (unflat ty i) h.whole h.some
+    in_range i = owner_below num l t (unflat ty i) h.made.whole h.made.some
 
     -- a scalar of the lists is its owner's
     listed_mine : (a i : ℕ) → i < length (row lists a) → Mine (owner_of i) (output_cell a i) (slice_index (row lists a) i)
@@ -373,7 +369,7 @@ module _ {A : Type 0} (num : A → ℕ) (l : Launch) (src : ℕ → Ty) (ins : �
       leaves = record {
         shape = shape;
         faultless = all.every.faultless es r;
-        bounded = within_bound k l c s es h.whole start r (all.every.faultless es r).no_failure;
+        bounded = within_bound k l c s es h.made.whole start r (all.every.faultless es r).no_failure;
         at_most_once = λ a i.
             let x = all.every.count es r (is_write (output_cell a i)) in
             let y = all.counted (owner_of i) (in_range i) (output_cell a i) refl in

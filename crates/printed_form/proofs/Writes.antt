@@ -16,7 +16,7 @@ use Rattle.printed_form.specs.Counts.{let_variables, load_count, temporaries, va
 use Rattle.printed_form.specs.Expressions.{held, exprs}
 use Rattle.printed_form.specs.Runs.{Setting, Known, IsBetween, Scratch, spot_cell, mark_cell, Later, Holds, AllHold, Values, Due, Targets, nothing, no_target, known_after, Ran, Apart}
 use Rattle.lift_ir.proofs.Positions.{operand_in, result_in, result_operand}
-use Rattle.printed_form.proofs.Runs.{later_on, holds_later, all_hold_later, ran_on, after_silence, ran_at_once}
+use Rattle.printed_form.proofs.Runs.{later_on, holds_later, all_hold_later, ran_on, after_silence, ran_at_once, ran_so}
 use Rattle.printed_form.proofs.Elements.{all_hold_push, assigned, elements, values_held}
 use Rattle.printed_form.proofs.Cells.{loads_run, stores_run}
 use Rattle.printed_form.proofs.Loops.{at, from, ran_from, TurnRuns, looped, Rows, Row, due_unscratched, PlacesDiffer, rows_apart, no_rows, due_row}
@@ -334,26 +334,18 @@ module _ (st : Setting) {A : Type 0} (num : A → ℕ) (ins : ℕ → Marks) (sr
         let e = argument_marks st.device.launch ins num env x.arrays a in
         let f = argument_marks st.device.launch ins num env (x.arrays + private_count a) b in
         let H = λ (k : Known). Holds st k ty (by_side (λ q. Nowhere) e f) (by_side (λ q. 0) (scalars_of num sources sems a) (scalars_of num sources sems b)) in
-        let r3 : Ran st y fs h.0 rest n2 a2 (Scratch (x.arrays + private_count a) a2) no_target H = record {
-          after = r2.after;
-          deeds = r2.deeds;
-          goes = r2.goes;
-          later = r2.later;
-          allowed = r2.allowed;
-          wrote = r2.wrote;
-          good = p.4 z e f (scalars_of num sources sems a) (scalars_of num sources sems b) (holds_later st y z p.0 e (scalars_of num sources sems a) r2.later r.good) r2.good;
-        } in
+        let r3 : Ran st y fs h.0 rest n2 a2 (Scratch (x.arrays + private_count a) a2) no_target H = ran_so r2 (p.4 z e f (scalars_of num sources sems a) (scalars_of num sources sems b) (holds_later st y z p.0 e (scalars_of num sources sems a) r2.later r.good) r2.good) in
         ran_eq st x fs code rest n2 a2 (x.count + (variable_count a + variable_count b)) (x.arrays + (private_count a + private_count b)) x.arrays (omega arith) (omega arith)
         (ran_on st x fs code h.0 rest (x.count + variable_count a) (x.arrays + private_count a) n2 a2 (scratch_then st x.arrays (x.arrays + private_count a) a2 no_target (omega arith) (omega arith) (λ d v t q. t)) r r3)
     gathers (Project false a) ts fs at_ts g env sems ty x code rest ok h room long es gs =
         let r = gathers a ts fs at_ts g env sems (PairOf ty ok.0) x code rest ok.1 h room long es gs in
-        record { after = r.after; deeds = r.deeds; goes = r.goes; later = r.later; allowed = r.allowed; wrote = r.wrote; good = λ cs. r.good (false ∷ cs) }
+        ran_so r (λ cs. r.good (false ∷ cs))
     gathers (Project true a) ts fs at_ts g env sems ty x code rest ok h room long es gs =
         let r = gathers a ts fs at_ts g env sems (PairOf ok.0 ty) x code rest ok.1 h room long es gs in
-        record { after = r.after; deeds = r.deeds; goes = r.goes; later = r.later; allowed = r.allowed; wrote = r.wrote; good = λ cs. r.good (true ∷ cs) }
+        ran_so r (λ cs. r.good (true ∷ cs))
     gathers (Reshape y a) ts fs at_ts g env sems ty x code rest ok h room long es gs =
         let r = gathers a ts fs at_ts g env sems ok.0 x code rest ok.1 h room long es gs in
-        record { after = r.after; deeds = r.deeds; goes = r.goes; later = r.later; allowed = r.allowed; wrote = r.wrote; good = λ cs q w. r.good cs (operand_position num y q) (operand_in num y ok.0 ty cs q ok.2 w) }
+        ran_so r (λ cs q w. r.good cs (operand_position num y q) (operand_in num y ok.0 ty cs q ok.2 w))
     gathers (LetArray v b) ts fs at_ts g env sems ty x code rest ok h room long es gs =
         let r = gathers v ts fs at_ts g env sems ok.0 x code h.0 ok.1 h.1 (omega arith) long.0 es gs in
         let y = known_after x r.deeds r.after (x.count + variable_count v) (x.arrays + private_count v) in
@@ -375,15 +367,7 @@ module _ (st : Setting) {A : Type 0} (num : A → ℕ) (ins : ℕ → Marks) (sr
         let n2 = x.count + variable_count a in
         let a2 = x.arrays + (private_count a + width ty2) in
         let y = known_after x r.deeds r.after n2 a2 in
-        let r2 : Ran st x fs code rest n2 first (Scratch x.arrays first) (Targets st ty2 w D) (λ k. Holds st (from k n2 a2) ty w D) = record {
-          after = r.after;
-          deeds = r.deeds;
-          goes = r.goes;
-          later = r.later;
-          allowed = r.allowed;
-          wrote = r.wrote;
-          good = holds_as st y ty2 ty w D ok.0 (kept_reads y first ty2 D (λ c lt. let e = long.1 c lt in omega arith) (omega arith) due r.wrote.holds);
-        } in
+        let r2 : Ran st x fs code rest n2 first (Scratch x.arrays first) (Targets st ty2 w D) (λ k. Holds st (from k n2 a2) ty w D) = ran_so r (holds_as st y ty2 ty w D ok.0 (kept_reads y first ty2 D (λ c lt. let e = long.1 c lt in omega arith) (omega arith) due r.wrote.holds)) in
         ran_as st x fs code rest n2 first n2 a2 (λ k. Holds st k ty w D) (omega arith) (omega arith) (λ m vars z. z)
         (λ c s. between_more x.arrays first x.arrays a2 c.array (omega arith) (omega arith) s)
         (λ c v t. inr (laid_scratch x.arrays first a2 ty2 D (omega arith) (omega arith) c v t))

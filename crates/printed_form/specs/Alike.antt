@@ -2,7 +2,7 @@
 use Rattle.std.specs.Prelude.{◌≡◌, ℕ, ◌+◌, ◌*◌, ◌<◌, Bool, true, false, List, [], ◌∷◌, ◌++◌, Some}
 use Rattle.kernel_tree.specs.declared.events.Event.{Event}
 use Rattle.kernel_tree.specs.Formula.{Formula, Vars, value, bound_value}
-use Rattle.kernel_tree.specs.Code.{Array, Code, End, Assigns, Loads, Stores, Loops, Guards, Syncs, Kernel, start_value, stride_value}
+use Rattle.kernel_tree.specs.Code.{Array, Statement, Assigns, Loads, Stores, Syncs, Code, End, Performs, Loops, Guards, Kernel, start_value, stride_value}
 use Rattle.kernel_tree.specs.Launch.{Launch, Cells, IsWhole, item_count, ids_of}
 use Rattle.kernel_tree.specs.Item.{Frame, Item, item, loop_variables, Wants, Ends, Waits, Moves, Reads, Writes, Fails}
 use Rattle.kernel_tree.specs.Device.{Device, State, Fence, device_of, length_in, run, IsRun}
@@ -26,15 +26,19 @@ module _ (l : Launch) (item : ℕ) where
 
 -- and, where `grouped`, with the ifs and barriers of a map over groups
 module _ (grouped : Bool) (l : Launch) (item : ℕ) where
-  -- at these turns of the loops around them, and the turns that the item takes of those within;
-  -- without variables of four words
+  -- statements of one kind, at these turns of the loops around them; none has variables of four
+  -- words
+  abbrev pub AlikeStatement : List ℕ → Statement → Statement → Type 0
+  AlikeStatement ts (Assigns v e) (Assigns u f) = (v ≡ u) × (e ≡ f)
+  AlikeStatement ts (Loads v a i) (Loads u b j) = (v ≡ u) × (a ≡ b) × SameIndex l item ts i j
+  AlikeStatement ts (Stores a i e) (Stores b j f) = (a ≡ b) × SameIndex l item ts i j × (e ≡ f)
+  AlikeStatement ts (Syncs a b) (Syncs c d) = (grouped ≡ true) × (a ≡ c) × (b ≡ d)
+  AlikeStatement ts _ _ = ⊥
+
+  -- codes so, at the turns that the item takes of the loops within
   abbrev pub Alike : List ℕ → Code → Code → Type 0
   Alike ts End End = Unit {0}
-  Alike ts (Assigns v e r) (Assigns u f q) = (v ≡ u) × (e ≡ f) × Alike ts r q
-  Alike ts (Loads v a i r) (Loads u b j q) =
-      (v ≡ u) × (a ≡ b) × SameIndex l item ts i j × Alike ts r q
-  Alike ts (Stores a i e r) (Stores b j f q) =
-      (a ≡ b) × SameIndex l item ts i j × (e ≡ f) × Alike ts r q
+  Alike ts (Performs s r) (Performs t q) = AlikeStatement ts s t × Alike ts r q
   Alike ts (Loops s b c body r) (Loops t d e other q) =
       (s ≡ t) × (c ≡ e) × (n : ℕ) × (bound_value l.sizes b ≡ Some n)
       × (bound_value l.sizes d ≡ Some n)
@@ -43,7 +47,6 @@ module _ (grouped : Bool) (l : Launch) (item : ℕ) where
       (grouped ≡ true) × (s ≡ t) × (n : ℕ) × (bound_value l.sizes b ≡ Some n)
       × (bound_value l.sizes d ≡ Some n)
       × (start_value (ids_of l item) s < n → Alike ts body other) × Alike ts r q
-  Alike ts (Syncs a b r) (Syncs c d q) = (grouped ≡ true) × (a ≡ c) × (b ≡ d) × Alike ts r q
   Alike ts _ _ = ⊥
 
   -- loops that are under way, in the same turns

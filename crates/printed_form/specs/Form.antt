@@ -4,14 +4,15 @@
 use Rattle.std.specs.Prelude.{◌≡◌, ℕ, ◌+◌, ◌*◌, ◌<◌, Bool, true, false, List, [], ◌∷◌, ◌++◌, Option, Some}
 use Rattle.kernel_tree.specs.declared.tree.Dimension.TheVariants.{X}
 use Rattle.kernel_tree.specs.Formula.{Formula, Vars, value, bound_value}
-use Rattle.kernel_tree.specs.Code.{Array, Private, Start, FromZero, FromGlobalId, FromGroupId, FromLocalId, Stride, ByOne, ByGlobalSize, ByGroupCount, ByLocalSize, start_value, stride_value, Code, End, Assigns, Loads, Stores, Loops}
+use Rattle.kernel_tree.specs.Code.{Array, Private, Start, FromZero, FromGlobalId, FromGroupId, FromLocalId, Stride, ByOne, ByGlobalSize, ByGroupCount, ByLocalSize, start_value, stride_value, Code, End, Performs, Assigns, Loads, Stores, Loops}
 use Rattle.kernel_tree.specs.Launch.{Launch, ids_of}
 use Rattle.lift_ir.specs.Types.{Ty, Scalar, PairOf, ArrayOf, width, size}
-use Rattle.lift_ir.specs.Layouts.{operand_position, result_position, IsInvertible}
+use Rattle.lift_ir.specs.Layouts.{result_position, IsInvertible}
 use Rattle.lift_ir.specs.Terms.{LoadSet, Skip, Take, Each, Kind, Global, WorkGroup, Local, Sequential, LocalMemory, PrivateMemory, Term, Literal, Bound, Source, Apply, ApplyNumber, Select, Both, Project, Reshape, LetArray, LetElement, Map, Fold, Store, Copy, push}
-use Rattle.lift_ir.specs.Scalars.{by_side, at_index}
+use Rattle.lift_ir.specs.Scalars.{at_index}
+use Rattle.printed_form.specs.Arguments.{private_arrays, marks_in}
 use Rattle.printed_form.specs.Counts.{let_variables, load_count, variable_count, private_count}
-use Rattle.printed_form.specs.Marks.{Mark, Nowhere, Spot, Marks, laid_in, held_marks, loaded_marks}
+use Rattle.printed_form.specs.Marks.{Mark, Spot, Marks, laid_in, held_marks, loaded_marks}
 use Rattle.printed_form.specs.Expressions.{held, exprs}
 
 -- where an item's turns of a map of a kind begin
@@ -39,7 +40,8 @@ IsTurnOf l item k i = IsTurn l item (start_of k) (stride_of k) i
 
 -- one assignment for each component, each to the next variable
 abbrev pub IsAssigned : Ty → (List Bool → Option Formula) → ℕ → (code rest : Code) → Type 0
-IsAssigned Scalar f n code rest = (e : Formula) × (f [] ≡ Some e) × (code ≡ Assigns n e rest)
+IsAssigned Scalar f n code rest =
+    (e : Formula) × (f [] ≡ Some e) × (code ≡ Performs (Assigns n e) rest)
 IsAssigned (PairOf a b) f n code rest =
     (mid : Code) × IsAssigned a (λ cs. f (false ∷ cs)) n code mid
     × IsAssigned b (λ cs. f (true ∷ cs)) (n + width a) mid rest
@@ -84,18 +86,7 @@ module _ (l : Launch) (ins : ℕ → Marks) where
 
   -- what stands for an argument, whose first private array is this
   abbrev pub argument_marks : {A : Type 0} → (A → ℕ) → (ℕ → Marks) → ℕ → Term A → Marks
-  argument_marks num env a (Bound v) = env v
-  argument_marks num env a (Source s) = ins s
-  argument_marks num env a (Both zips x y) =
-      by_side (λ q. Nowhere) (argument_marks num env a x)
-      (argument_marks num env (a + private_count x) y)
-  argument_marks num env a (Project s x) = λ cs q. argument_marks num env a x (s ∷ cs) q
-  argument_marks num env a (Reshape y x) =
-      λ cs q. argument_marks num env a x cs (operand_position num y q)
-  argument_marks num env a (LetArray v b) =
-      argument_marks num (push (argument_marks num env a v) env) (a + private_count v) b
-  argument_marks num env a (Copy PrivateMemory ty x) = laid_in Private (a + private_count x) ty
-  argument_marks num env a _ = λ cs q. Nowhere
+  argument_marks num env a t = marks_in private_arrays num ins env a t
 
 -- as this item comes there
 module _ (l : Launch) (item : ℕ) (ins : ℕ → Marks) where
@@ -113,7 +104,7 @@ module _ (l : Launch) (item : ℕ) (ins : ℕ → Marks) where
       → Type 0
   IsStored ts Scalar f w code rest =
       (a : Array) × (i e : Formula) × (f [] ≡ Some e) × IsSpot ts (w [] []) a i
-      × (code ≡ Stores a i e rest)
+      × (code ≡ Performs (Stores a i e) rest)
   IsStored ts (PairOf a b) f w code rest =
       (mid : Code) × IsStored ts a (λ cs. f (false ∷ cs)) (λ cs. w (false ∷ cs)) code mid
       × IsStored ts b (λ cs. f (true ∷ cs)) (λ cs. w (true ∷ cs)) mid rest
@@ -123,7 +114,7 @@ module _ (l : Launch) (item : ℕ) (ins : ℕ → Marks) where
   abbrev pub IsLoaded : List ℕ → LoadSet → Marks → ℕ → (code rest : Code) → Type 0
   IsLoaded ts Skip x n code rest = code ≡ rest
   IsLoaded ts Take x n code rest =
-      (a : Array) × (i : Formula) × IsSpot ts (x [] []) a i × (code ≡ Loads n a i rest)
+      (a : Array) × (i : Formula) × IsSpot ts (x [] []) a i × (code ≡ Performs (Loads n a i) rest)
   IsLoaded ts (Each a b) x n code rest =
       (mid : Code) × IsLoaded ts a (λ cs. x (false ∷ cs)) n code mid
       × IsLoaded ts b (λ cs. x (true ∷ cs)) (n + load_count a) mid rest

@@ -3,6 +3,7 @@ pub mod FromHistories
 pub mod Counts
 pub mod Marks
 pub mod Expressions
+pub mod Arguments
 pub mod Form
 pub mod MapForms
 pub mod Runs

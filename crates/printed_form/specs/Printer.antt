@@ -1,7 +1,7 @@
 -- A printer of terms: its code is one for all launches.
 use Rattle.std.specs.Prelude.{ℕ, suc, ◌+◌, Bool, true, false, List, [], ◌∷◌, Option, Some, None}
 use Rattle.kernel_tree.specs.Formula.{Formula, Number, LoopVariable, Binary}
-use Rattle.kernel_tree.specs.Code.{Input, Private, Output, Code, End, Assigns, Loads, Stores, Loops}
+use Rattle.kernel_tree.specs.Code.{Input, Private, Output, Code, End, Performs, Assigns, Loads, Stores, Loops}
 use Rattle.lift_ir.specs.Types.{Shape, Ty, Scalar, PairOf, ArrayOf, width, measured}
 use Rattle.lift_ir.specs.Terms.{LoadSet, Skip, Take, Each, Sequential, PrivateMemory, Term, Literal, Bound, Source, Apply, ApplyNumber, Select, Both, Project, Reshape, LetArray, LetElement, Map, Fold, Store, Copy, push}
 use Rattle.lift_ir.specs.Scalars.{by_side}
@@ -36,7 +36,7 @@ sign_exprs env n _ = λ cs. None
 
 -- one assignment for each component, each to the next variable
 abbrev pub print_assigned : Ty → (List Bool → Option Formula) → ℕ → (rest : Code) → Code
-print_assigned Scalar f n rest = Assigns n (or_number (f [])) rest
+print_assigned Scalar f n rest = Performs (Assigns n (or_number (f []))) rest
 print_assigned (PairOf a b) f n rest =
     print_assigned a (λ cs. f (false ∷ cs)) n
     (print_assigned b (λ cs. f (true ∷ cs)) (n + width a) rest)
@@ -71,12 +71,12 @@ print_element env n _ rest = rest
 
 -- a store, where an array holds the scalar
 abbrev pub print_store : Sign → Formula → (rest : Code) → Code
-print_store (Read a i) e rest = Stores a i e rest
+print_store (Read a i) e rest = Performs (Stores a i e) rest
 print_store _ e rest = rest
 
 -- a load to this variable, where an array holds the scalar
 abbrev pub print_load : Sign → ℕ → (rest : Code) → Code
-print_load (Read a i) n rest = Loads n a i rest
+print_load (Read a i) n rest = Performs (Loads n a i) rest
 print_load _ n rest = rest
 
 -- one store for each component

@@ -58,8 +58,10 @@ abbrev pub IsGiven : Cells → Mark → ℕ → Type 0
 IsGiven c (Spot (Input a) i) v = (i < length (row c.ins a)) × (slice_index (row c.ins a) i ≡ v)
 IsGiven c _ v = ⊥
 
--- the kernel is printed for the term of this type, at this launch of one row and with these cells
-pub record IsPrinted {A : Type 0} (l : Launch) (num : A → ℕ) (src : ℕ → Ty) (ins : ℕ → Marks)
+-- but for its code the kernel is one for the term of this type, at this launch of one row and with
+-- these cells: the term has the type, the kernel declares its variables and its private arrays, and
+-- the cells are as many as the value's, with the inputs' scalars where these stand
+pub record IsMadeFor {A : Type 0} (l : Launch) (num : A → ℕ) (src : ℕ → Ty) (ins : ℕ → Marks)
     (sources : ℕ → Scalars) (t : Term A) (ty : Ty) (k : Kernel) (c : Cells) : Type 0 where
   pub whole : IsWhole l
   pub flat : launch.IsFlat l
@@ -67,9 +69,14 @@ pub record IsPrinted {A : Type 0} (l : Launch) (num : A → ℕ) (src : ℕ → 
   pub few : item_count l < 2 ^ 31
   pub typed : HasType num src no_type t ty
   pub flat_type : IsFlat ty
-  pub code : IsCode l ins num t ty k.code
   pub variables : k.variables ≡ variable_count t
   pub privates : k.privates ≡ copy_lengths PrivateMemory t
   pub outputs : map length c.outs ≡ replicate (width ty) (size ty)
   pub inputs : (v : ℕ) (cs : List Bool) (q : List ℕ) → IsPosition (src v) cs q
       → IsGiven c (ins v cs q) (sources v cs q)
+
+-- and so it is with its code
+pub record IsPrinted {A : Type 0} (l : Launch) (num : A → ℕ) (src : ℕ → Ty) (ins : ℕ → Marks)
+    (sources : ℕ → Scalars) (t : Term A) (ty : Ty) (k : Kernel) (c : Cells) : Type 0 where
+  pub made : IsMadeFor l num src ins sources t ty k c
+  pub code : IsCode l ins num t ty k.code

@@ -34,7 +34,7 @@ fn seeded_line(alloc: Global, compiled: &Compiled, seed: u32) -> Result<Vec<u8>,
     let (outcome, seen) = run_back(alloc, compiled, &file, false)?;
     let sum = wrapped_sum(&outcome.outputs);
     let line = demo_line(alloc, seed, (outcome.events, outcome.releases), sum)?;
-    lines_of(alloc, &seen, &line)
+    lines_of(alloc, &seen, line)
 }
 
 /// The line of the demo at a seed: its program is compiled along its script, and what is read back

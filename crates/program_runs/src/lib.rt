@@ -11,8 +11,6 @@ mod run;
 mod sequence;
 
 pub use command::{Command, command_text};
-pub use demo::demo_text;
-pub use eval::eval_text;
 pub use laws::{one_end, printed_kernels_go_alike, texts_run_alike};
-pub use run::{run_launch, run_text};
-pub use sequence::{run_sequence, run_stages_text};
+pub use run::run_launch;
+pub use sequence::run_sequence;

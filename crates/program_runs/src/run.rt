@@ -141,12 +141,15 @@ fn line_left(
     listed_text(alloc, &compiled.output, &file.sizes, outs, Some(counts))
 }
 
-// The lines of what is seen of a run, and then its last line.
-pub(crate) fn lines_of(alloc: Global, seen: &[Seen], last: &[u8]) -> Result<Vec<u8>, AllocError>
-    ensures { IfOk result (λ lines. lines.items ≡ trace_lines seen.now ++ last.now) }
+// The lines of what is seen of a run, and then its last line, which is all where nothing is seen.
+pub(crate) fn lines_of(alloc: Global, seen: &[Seen], last: Vec<u8>) -> Result<Vec<u8>, AllocError>
+    ensures { IfOk result (λ lines. lines.items ≡ trace_lines seen.now ++ last.items) }
 {
+    if seen.is_empty() {
+        return Ok(last);
+    }
     let mut lines = trace_text(alloc, seen)?;
-    lines.extend_from_slice(last)?;
+    lines.extend_from_slice(&last)?;
     Ok(lines)
 }
 
@@ -169,7 +172,7 @@ pub fn run_launch(
     let (outcome, seen) = run_back(alloc, compiled, file, trace)?;
     let counts = (outcome.events, outcome.releases);
     let line = line_left(alloc, compiled, file, &outcome.outputs, counts)?;
-    lines_of(alloc, &seen, &line)
+    lines_of(alloc, &seen, line)
 }
 
 /// The run of a program, a script and a launch file: compiles, runs what is read back from the

@@ -6,7 +6,7 @@ use Rattle.lift_tree.specs.Programs.{program_of}
 use Rattle.lift_tree.specs.Tree.{tree_of}
 use Rattle.lift_tree.specs.Typing.{declared_by}
 use Rattle.lift_tree.specs.declared.typed.Typed.{Typed}
-use Rattle.lift_tree.proofs.Copies.{copied_arrays, copying}
+use Rattle.lift_tree.proofs.Copies.{copies_arrays_however_typed, copying}
 use Rattle.lift_reader.specs.TextTerms.{BodiesAreTextTerms}
 use Rattle.lowered_tree.specs.Whole.{IsTypedWithin}
 use Rattle.program_source.specs.SourceTerms.{IsLastTerm}
@@ -17,7 +17,7 @@ last_copies law program script t last =
     let p = program_of t.program in
     let d = declared_by p in
     let source = text_copies d (length p.sizes) (length p.inputs) 0 1 [] p.body (type_in (annotation_of t.types)) (law program p last.read.is) last.output.typed in
-    copied_arrays d [] (tree_of t.term) (annotation_of t.types) (last.term.keeps.copies (copying d [] p.body (type_in (annotation_of t.types)) source)) last.term.typed.nodes
+    copies_arrays_however_typed d [] (tree_of t.term) (annotation_of t.types) (last.term.keeps.copies (copying d [] p.body (type_in (annotation_of t.types)) source)) last.term.typed.nodes
 
 pub typed_within : BodiesAreTextTerms → (program script : List ℕ) (t : Typed) → IsLastTerm program script t → IsTypedWithin (program_of t.program) (tree_of t.term) (annotation_of t.types)
 typed_within law program script t last = record {

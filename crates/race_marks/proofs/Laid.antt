@@ -1,7 +1,7 @@
 -- Where the cells of rows are.
 use Rattle.std.proofs.Common.{◌≡◌, ℕ, zero, suc, ◌+◌, ◌*◌, ◌^◌, ◌<◌, ◌≤◌, ◌++◌, ◌∷◌, Bool, true, false, List, [], length, Some, None, refl, sym, ap, ◌∙◌, ⊎_elim, ◌⊎◌, inl, inr, arith, length-append}
 use Rattle.std.specs.Prelude.{◌&&◌, nat_lt, slice_get, slice_index, slice_index_or, if◌then◌else◌}
-use Rattle.std.proofs.lemmas.Bool.{cases_eq, cases_lt, lt-ltb, ltb-true}
+use Rattle.std.proofs.lemmas.Bool.{cases_eq, cases_lt, lt-ltb, ltb-true, and_parts}
 use Rattle.std.proofs.lemmas.List.{length-map, map-append}
 use Rattle.std.proofs.lemmas.Nat.{mul-add-lt}
 use Rattle.race_marks.specs.declared.rows.Row.{Row}
@@ -29,10 +29,6 @@ cells_push : (h : ℕ) (ns : List ℕ) (n : ℕ) → cells_of h (ns ++ n ∷ [])
 cells_push h [] n = let e : n * h + 0 ≡ 0 + n * h = omega arith in e
 cells_push h (m ∷ ns) n = let e = cells_push h ns n in omega arith
 
-both_true : (p q : Bool) → (p && q) ≡ true → (p ≡ true) × (q ≡ true)
-both_true true q h = (refl, h)
-both_true false q h = cc
-
 index_within : (ns : List ℕ) (r i : ℕ) → i < slice_index ns r → r < length ns
 index_within [] r i lt = absurd (omega arith)
 index_within (n ∷ ns) zero i lt = omega arith
@@ -40,10 +36,10 @@ index_within (n ∷ ns) (suc r) i lt = let e = index_within ns r i lt in omega a
 
 module _ (v : Shape) (r h i : ℕ) (placed : is_placed v r h i ≡ true) where
   at_home : h < v.homes
-  at_home = ltb-true h v.homes (both_true (nat_lt h v.homes) (nat_lt i (slice_index v.lengths r)) placed).0
+  at_home = ltb-true h v.homes (and_parts (nat_lt h v.homes) (nat_lt i (slice_index v.lengths r)) placed).0
 
   in_row : i < slice_index v.lengths r
-  in_row = ltb-true i (slice_index v.lengths r) (both_true (nat_lt h v.homes) (nat_lt i (slice_index v.lengths r)) placed).1
+  in_row = ltb-true i (slice_index v.lengths r) (and_parts (nat_lt h v.homes) (nat_lt i (slice_index v.lengths r)) placed).1
 
   pub before_end : place_at v r h i < cells_of v.homes v.lengths (suc r)
   before_end =

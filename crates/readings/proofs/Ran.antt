@@ -50,3 +50,8 @@ module _ {A T F M N : Type 0} (noted : A → N) (g : Grammar T F M N) (b : Table
   told_refused (Ok x) h = tt
   told_refused (Err Memory) h = tt
   told_refused (Err (Refused i)) h = stops_at i h.0 h.1
+
+-- an error tells the same, whatever would have been answered
+pub told_error : {A B T F M N : Type 0} (noted : A → N) (other : B → N) (b : Table T F M N) (o : List (Owed T F M)) (n : N) (ts : List T) (e : ReadError) → Tells noted b o n ts (Err e) → Tells other b o n ts (Err e)
+told_error noted other b o n ts Memory h = h
+told_error noted other b o n ts (Refused i) h = h

@@ -122,6 +122,31 @@ fn end<N: Notes>(
     Ok(true)
 }
 
+/// Takes all the tokens, after which nothing more is owed.
+fn take_all<N: Notes>(
+    alloc: Global,
+    notes: &mut N,
+    owed: &mut VecDeque<Owed<N::Token, N::Form, N::Mark>>,
+    tokens: &[N::Token],
+) -> Result<(), ReadError>
+    ensures { let items = items_of N.token_of N.form_of N.mark_of in
+        Tells (λ _. N.notes_of notes.new) N.table (items owed.old.items) (N.notes_of notes.old)
+        (map N.token_of tokens.now) result }
+{
+    for i in 0..tokens.len() {
+        if !take(alloc, notes, owed, tokens[i])? {
+            return Err(ReadError::Refused { taken: i });
+        }
+    }
+    if !end(alloc, notes, owed)? {
+        return Err(ReadError::Refused {
+            taken: tokens.len(),
+        });
+    }
+    Ok(())
+}
+
+#[tactic(auto, using(crate::proofs::Ran::told_error))]
 fn run<N: Notes>(
     alloc: Global,
     start: &[Owed<N::Token, N::Form, N::Mark>],
@@ -134,17 +159,10 @@ fn run<N: Notes>(
     let mut notes = notes;
     let mut owed = VecDeque::new(alloc);
     owe(&mut owed, start)?;
-    for i in 0..tokens.len() {
-        if !take(alloc, &mut notes, &mut owed, tokens[i])? {
-            return Err(ReadError::Refused { taken: i });
-        }
+    match take_all(alloc, &mut notes, &mut owed, tokens) {
+        Ok(()) => Ok(notes),
+        Err(error) => Err(error),
     }
-    if !end(alloc, &mut notes, &mut owed)? {
-        return Err(ReadError::Refused {
-            taken: tokens.len(),
-        });
-    }
-    Ok(notes)
 }
 
 /// Reads all the tokens, where `start` is owed and `notes` are noted at first: the notes once

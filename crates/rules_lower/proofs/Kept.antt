@@ -1,5 +1,6 @@
 -- The rules keep types, copies and values.
 use Rattle.std.proofs.Common.{◌≡◌, Bool, true, false, List, [], ◌∷◌, refl, sym, ap, ◌∙◌, subst}
+use Rattle.std.proofs.lemmas.Bool.{and_parts}
 use Rattle.std.specs.Prelude.{map, ◌&&◌, if◌then◌else◌, Result, Ok, Err, IfOk}
 use Rattle.size_arith.specs.declared.poly.Monomial.{Monomial}
 use Rattle.lift_tree.specs.declared.term.MapKind.{MapKind}
@@ -102,19 +103,14 @@ on_array_keeps a t s u (PairOf x y) e k b = absurd (cc)
 on_array_keeps a t s u (ArrayOf x n) e k b = subst (KeepsIn a t) (becomes_of s u b) (k x n e)
 
 -- ---- what stands for an array that a kernel of its own makes
-both_true : (a b : Bool) → (a && b) ≡ true → (a ≡ true) × (b ≡ true)
-both_true true true e = (refl, refl)
-both_true true false e = absurd (cc)
-both_true false b e = absurd (cc)
-
 element_so : (a : PlainTy) → is_element a ≡ true → IsElement a
 element_so U32 h = tt
-element_so (PairOf a b) h = let p = both_true (is_element a) (is_element b) h in (element_so a p.0, element_so b p.1)
+element_so (PairOf a b) h = let p = and_parts (is_element a) (is_element b) h in (element_so a p.0, element_so b p.1)
 element_so (ArrayOf a n) h = absurd (cc)
 
 holds_so : (a : PlainTy) → holds_elements a ≡ true → HoldsElements a
 holds_so U32 h = tt
-holds_so (PairOf a b) h = let p = both_true (is_element a) (is_element b) h in (element_so a p.0, element_so b p.1)
+holds_so (PairOf a b) h = let p = and_parts (is_element a) (is_element b) h in (element_so a p.0, element_so b p.1)
 holds_so (ArrayOf a n) h = holds_so a h
 
 closed_becomes : (bs : List PlainTy) (s u : Tree) → if_closed bs (Becomes s) ≡ Becomes u → s ≡ u

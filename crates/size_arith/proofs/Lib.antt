@@ -12,3 +12,4 @@ pub mod Signs
 pub mod Soundness
 pub mod Decisions
 pub mod Quotients
+pub mod LeastSizes

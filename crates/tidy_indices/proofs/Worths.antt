@@ -3,7 +3,7 @@
 use Rattle.std.proofs.Common.{◌≡◌, ◌≢◌, ℕ, zero, suc, ◌+◌, ◌-◌, ◌*◌, ◌/◌, ◌%◌, ◌^◌, ◌<◌, ◌≤◌, Bool, true, false, Option, Some, None, List, [], refl, sym, ap, ◌∙◌, subst, arith}
 use Rattle.std.specs.Prelude.{◌==◌, ◌&&◌, ◌||◌, nat_lt, nat_le, is_some, unwrap_or, option_map, if◌then◌else◌, slice_get, slice_index, replicate}
 use Rattle.std.proofs.Math.Nat.{mod-lt, mod-le, mod-eq_of_lt, div-le_self, div-add-mod, mul_assoc, mul_comm, div-one, mod-one}
-use Rattle.std.proofs.lemmas.Bool.{and_parts, false_from_ne_true, eqb-true, eq-eqb, ltb-true, leb-true}
+use Rattle.std.proofs.lemmas.Bool.{and_parts, eqb-true, eq-eqb, ne_eqb, ltb-true, leb-true}
 use Rattle.std.proofs.lemmas.Option.{same_Some}
 use Rattle.index_expr.specs.declared.operation.Operation.{Operation}
 use Rattle.index_expr.specs.declared.operation.Operation.TheVariants.{Sum, Difference, Product, Quotient, Remainder, Least, Greatest}
@@ -34,9 +34,6 @@ use Rattle.tidy_indices.proofs.Readings.{AreWide}
 use Rattle.tidy_indices.proofs.Spelled.{turn_value}
 
 -- ---- words
-word_same : (x : ℕ) → x < 2 ^ 32 → x % 2 ^ 32 ≡ x
-word_same x lt = mod-eq_of_lt lt
-
 past_word : (x : ℕ) → x < 2 ^ 32 → (x + 2 ^ 32) % 2 ^ 32 ≡ x
 past_word x lt = omega arith
 
@@ -59,15 +56,12 @@ word_of_result Least x y h k = omega arith
 word_of_result Greatest x y h k = omega arith
 
 -- ---- an operation with its result
-nonzero : (n : ℕ) → n ≢ 0 → (n == 0) ≡ false
-nonzero n h = false_from_ne_true (n == 0) (λ t. h (eqb-true n 0 t))
-
 result_is : (o : Operation) (x y : ℕ) → (Divides o → y ≢ 0) → operate (operator_of o) x y ≡ Some (operate_words o x y)
 result_is Sum x y h = refl
 result_is Difference x y h = refl
 result_is Product x y h = refl
-result_is Quotient x y h = ap (λ (b : Bool). if b then None else Some (x / y)) (nonzero y (h tt))
-result_is Remainder x y h = ap (λ (b : Bool). if b then None else Some (x % y)) (nonzero y (h tt))
+result_is Quotient x y h = ap (λ (b : Bool). if b then None else Some (x / y)) (ne_eqb y 0 (h tt))
+result_is Remainder x y h = ap (λ (b : Bool). if b then None else Some (x % y)) (ne_eqb y 0 (h tt))
 result_is Least x y h = refl
 result_is Greatest x y h = refl
 

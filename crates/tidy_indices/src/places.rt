@@ -1,6 +1,6 @@
 //! What is known at a place in a kernel.
 
-ghost use Rattle.std.specs.Prelude.{◌≡◌, IfOk, Some, map, min};
+ghost use Rattle.std.specs.Prelude.{◌≡◌, IfOk, Some, [], ◌∷◌, map, min};
 ghost use Rattle.index_expr.specs.Expression.{expression_of};
 ghost use Rattle.kernel_tree.specs.Tree.{formula_of, start_of};
 ghost use Rattle.index_simplify.specs.PlainRanges.{ranges_of};
@@ -143,6 +143,27 @@ fn lower(lasts: &mut Vec<u32>, turn: u32, last: u32)
     }
 }
 
+// What a group's id and an item's own are below, in a kernel that asks for groups of this size.
+fn id_lengths(alloc: Global, local: Option<(u32, u32)>) -> Result<Vec<Index>, AllocError>
+    ensures { IfOk result (λ v. map expression_of v.items
+        ≡ spec.group_length ∷ spec.local_length local ∷ []) }
+{
+    let mut lengths = Vec::with_capacity(alloc, 2)?;
+    lengths.push(Index::Literal(ROW_LIMIT))?;
+    lengths.push(local_length(alloc, local)?)?;
+    Ok(lengths)
+}
+
+// And how great they are at most.
+fn id_lasts(alloc: Global, local: Option<(u32, u32)>) -> Result<Vec<u32>, AllocError>
+    ensures { IfOk result (λ v. v.items ≡ spec.group_last ∷ spec.local_last local ∷ []) }
+{
+    let mut lasts = Vec::with_capacity(alloc, 2)?;
+    lasts.push(ROW_LIMIT - 1)?;
+    lasts.push(local_last(local))?;
+    Ok(lasts)
+}
+
 impl Place {
     /// Outside of all loops, in a kernel that asks for groups of this size.
     pub fn outside(
@@ -154,16 +175,11 @@ impl Place {
     {
         let sizes = Vec::from_slice(alloc, names.as_slice())?;
         let multiples = multiples_of(alloc, names.as_slice())?;
-        let mut lengths = Vec::with_capacity(alloc, 2)?;
-        lengths.push(Index::Literal(ROW_LIMIT))?;
-        lengths.push(local_length(alloc, local)?)?;
-        let mut lasts = Vec::with_capacity(alloc, 2)?;
-        lasts.push(ROW_LIMIT - 1)?;
-        lasts.push(local_last(local))?;
+        let lengths = id_lengths(alloc, local)?;
         Ok(Place {
             sizes,
             around: Ranges { lengths, multiples },
-            lasts,
+            lasts: id_lasts(alloc, local)?,
             is_known: true,
         })
     }

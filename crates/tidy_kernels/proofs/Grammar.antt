@@ -1,13 +1,13 @@
 -- A tidied kernel is of the kernel grammar.
 use Rattle.std.proofs.Common.{◌≡◌, ℕ, suc, true, List, [], ◌∷◌, ◌++◌, nat_lt, refl, sym, ap, ◌∙◌, arith}
-use Rattle.std.specs.Prelude.{◌&&◌, ◌||◌, nat_le}
+use Rattle.std.specs.Prelude.{◌&&◌, nat_le}
 use Rattle.std.proofs.lemmas.Bool.{and_from, and_parts, leb-true, le-leb}
 use Rattle.kernel_tree.specs.Formula.{Formula, Number, Variable, LoopVariable, Size, Id, Binary, Choose, Lanes, Vector, Spread, Each}
-use Rattle.kernel_tree.specs.Code.{Array, Input, Output, Local, Private, Code, End, Assigns, Loads, Stores, AssignsFour, LoadsFour, StoresFour, Loops, Guards, Syncs, Kernel}
-use Rattle.kernel_tree.specs.Grammar.{deepest, height, is_constant, names_declared, is_expression, is_readable, is_writable, is_shared, lanes_height, names_declared_in_lanes, are_lanes, has_statement, are_statements, are_lengths, is_group_size}
+use Rattle.kernel_tree.specs.Code.{Array, Input, Output, Local, Private, Statement, Assigns, Loads, Stores, AssignsFour, LoadsFour, StoresFour, Code, End, Performs, Loops, Guards, Kernel}
+use Rattle.kernel_tree.specs.Grammar.{deepest, height, is_constant, names_declared, is_expression, is_readable, is_writable, is_shared, lanes_height, names_declared_in_lanes, are_lanes, has_statement, is_statement, are_statements, are_lengths, is_group_size}
 use Rattle.tidy_indices.specs.Around.{Around, InLoop, InIf}
 use Rattle.tidy_indices.specs.Laws.{Change, KeepsSmall}
-use Rattle.tidy_kernels.specs.Pass.{tidied_code, tidied_kernel}
+use Rattle.tidy_kernels.specs.Pass.{with_index, tidied_code, tidied_kernel}
 use Rattle.tidy_kernels.specs.Laws.{TidiedKernelsAreKernels}
 
 module _ (k m : Kernel) (sizes : k.sizes ≡ m.sizes) (variables : k.variables ≡ m.variables) (vectors : k.vectors ≡ m.vectors) where
@@ -62,52 +62,45 @@ module _ (tidy : Change) (k : Kernel) (small : KeepsSmall tidy) where
 
   has : (around : List Around) (code : Code) → has_statement code ≡ true → has_statement (tidied_code tidy around code) ≡ true
   has around End h = h
-  has around (Assigns v e after) h = refl
-  has around (Loads v a i after) h = refl
-  has around (Stores a i e after) h = refl
-  has around (AssignsFour v e after) h = refl
-  has around (LoadsFour v a i after) h = refl
-  has around (StoresFour a i e after) h = refl
+  has around (Performs s after) h = refl
   has around (Loops s b c body after) h = refl
   has around (Guards s b body after) h = refl
-  has around (Syncs on_local on_global after) h = refl
+
+  statement : (l : ℕ) (around : List Around) (s : Statement) → is_statement k l s ≡ true → is_statement tidied l (with_index (tidy around) s) ≡ true
+  statement l around (Assigns v e) h =
+      let p = and_parts (nat_lt v k.variables) (is_expression k l e) h in
+      and_from (nat_lt v k.variables) (is_expression tidied l e) p.0 (kept l e p.1)
+  statement l around (Loads v a i) h =
+      let p = and_parts (nat_lt v k.variables) (is_readable k a && is_expression k l i) h in
+      let q = and_parts (is_readable k a) (is_expression k l i) p.1 in
+      and_from (nat_lt v k.variables) _ p.0 (and_from (is_readable tidied a) _ (readable a q.0) (made l around i q.1))
+  statement l around (Stores a i e) h =
+      let p = and_parts (is_writable k a) (is_expression k l i && is_expression k l e) h in
+      let q = and_parts (is_expression k l i) (is_expression k l e) p.1 in
+      and_from (is_writable tidied a) _ (writable a p.0) (and_from (is_expression tidied l (tidy around i)) _ (made l around i q.0) (kept l e q.1))
+  statement l around (AssignsFour v e) h =
+      let p = and_parts (nat_lt v k.vectors) (are_lanes k l e) h in
+      and_from (nat_lt v k.vectors) (are_lanes tidied l e) p.0 (kept_lanes l e p.1)
+  statement l around (LoadsFour v a i) h =
+      let p = and_parts (nat_lt v k.vectors) ((is_shared a && is_readable k a) && is_expression k l i) h in
+      let q = and_parts (is_shared a && is_readable k a) (is_expression k l i) p.1 in
+      let r = and_parts (is_shared a) (is_readable k a) q.0 in
+      and_from (nat_lt v k.vectors) _ p.0
+      (and_from (is_shared a && is_readable tidied a) _ (and_from (is_shared a) (is_readable tidied a) r.0 (readable a r.1)) (made l around i q.1))
+  statement l around (StoresFour a i e) h =
+      let p = and_parts (is_shared a && is_writable k a) (is_expression k l i && are_lanes k l e) h in
+      let q = and_parts (is_shared a) (is_writable k a) p.0 in
+      let r = and_parts (is_expression k l i) (are_lanes k l e) p.1 in
+      and_from (is_shared a && is_writable tidied a) _ (and_from (is_shared a) (is_writable tidied a) q.0 (writable a q.1))
+      (and_from (is_expression tidied l (tidy around i)) _ (made l around i r.0) (kept_lanes l e r.1))
+  -- where a statement names nothing, it stays
+  statement l around _ h = h
 
   are : (l d : ℕ) (around : List Around) (code : Code) → are_statements k l d code ≡ true → are_statements tidied l d (tidied_code tidy around code) ≡ true
   are l d around End h = refl
-  are l d around (Assigns v e after) h =
-      let p = and_parts (nat_lt v k.variables) _ h in
-      let q = and_parts (is_expression k l e) _ p.1 in
-      and_from (nat_lt v k.variables) _ p.0 (and_from (is_expression tidied l e) _ (kept l e q.0) (are l d around after q.1))
-  are l d around (Loads v a i after) h =
-      let p = and_parts (nat_lt v k.variables) _ h in
-      let q = and_parts (is_readable k a) _ p.1 in
-      let r = and_parts (is_expression k l i) _ q.1 in
-      and_from (nat_lt v k.variables) _ p.0 (and_from (is_readable tidied a) _ (readable a q.0) (and_from (is_expression tidied l (tidy around i)) _ (made l around i r.0) (are l d around after r.1)))
-  are l d around (Stores a i e after) h =
-      let p = and_parts (is_writable k a) _ h in
-      let q = and_parts (is_expression k l i) _ p.1 in
-      let r = and_parts (is_expression k l e) _ q.1 in
-      and_from (is_writable tidied a) _ (writable a p.0) (and_from (is_expression tidied l (tidy around i)) _ (made l around i q.0) (and_from (is_expression tidied l e) _ (kept l e r.0) (are l d around after r.1)))
-  are l d around (AssignsFour v e after) h =
-      let p = and_parts (nat_lt v k.vectors) _ h in
-      let q = and_parts (are_lanes k l e) _ p.1 in
-      and_from (nat_lt v k.vectors) _ p.0 (and_from (are_lanes tidied l e) _ (kept_lanes l e q.0) (are l d around after q.1))
-  are l d around (LoadsFour v a i after) h =
-      let p = and_parts (nat_lt v k.vectors) _ h in
-      let q = and_parts (is_shared a && is_readable k a) _ p.1 in
-      let r = and_parts (is_shared a) (is_readable k a) q.0 in
-      let t = and_parts (is_expression k l i) _ q.1 in
-      and_from (nat_lt v k.vectors) _ p.0
-      (and_from (is_shared a && is_readable tidied a) _ (and_from (is_shared a) (is_readable tidied a) r.0 (readable a r.1))
-      (and_from (is_expression tidied l (tidy around i)) _ (made l around i t.0) (are l d around after t.1)))
-  are l d around (StoresFour a i e after) h =
-      let p = and_parts (is_shared a && is_writable k a) _ h in
-      let q = and_parts (is_shared a) (is_writable k a) p.0 in
-      let r = and_parts (is_expression k l i) _ p.1 in
-      let t = and_parts (are_lanes k l e) _ r.1 in
-      and_from (is_shared a && is_writable tidied a) _ (and_from (is_shared a) (is_writable tidied a) q.0 (writable a q.1))
-      (and_from (is_expression tidied l (tidy around i)) _ (made l around i r.0)
-      (and_from (are_lanes tidied l e) _ (kept_lanes l e t.0) (are l d around after t.1)))
+  are l d around (Performs s after) h =
+      let p = and_parts (is_statement k l s) _ h in
+      and_from (is_statement tidied l (with_index (tidy around) s)) _ (statement l around s p.0) (are l d around after p.1)
   are l d around (Loops s b c body after) h =
       let p = and_parts (nat_lt d deepest) _ h in
       let q = and_parts (is_constant b) _ p.1 in
@@ -130,9 +123,6 @@ module _ (tidy : Change) (k : Kernel) (small : KeepsSmall tidy) where
       (and_from (is_expression tidied l (tidy [] b)) _ (made l [] b r.0)
       (and_from (has_statement (tidied_code tidy (around ++ InIf s b ∷ []) body)) _ (has (around ++ InIf s b ∷ []) body t.0)
       (and_from (are_statements tidied l (suc d) (tidied_code tidy (around ++ InIf s b ∷ []) body)) _ (are l (suc d) (around ++ InIf s b ∷ []) body u.0) (are l d around after u.1)))))
-  are l d around (Syncs on_local on_global after) h =
-      let p = and_parts (on_local || on_global) _ h in
-      and_from (on_local || on_global) _ p.0 (are l d around after p.1)
 
 pub are_kernels : TidiedKernelsAreKernels
 are_kernels tidy k small h =

@@ -5,11 +5,11 @@ use Rattle.kernel_tree.specs.declared.tree.Kernel as held
 use Rattle.kernel_tree.specs.declared.tree.Stmt.{Stmt}
 use Rattle.kernel_tree.specs.Kernels.{kernel_of}
 use Rattle.kernel_tree.specs.Tree.{code_then, kernel_with}
-use Rattle.kernel_tree.specs.Code.{Code, End, Assigns, Loads, Stores, AssignsFour, LoadsFour, StoresFour, Loops, Guards, Syncs}
+use Rattle.kernel_tree.specs.Code.{Code, End, Performs, Loops, Guards}
 use Rattle.tidy_indices.specs.Around.{Around, InLoop, InIf}
 use Rattle.tidy_indices.specs.Places.{PlainPlace, outside, within, within_all, place_of}
 use Rattle.tidy_indices.specs.Tidy.{tidy_formula}
-use Rattle.tidy_kernels.specs.Pass.{tidied_code, tidied_kernel}
+use Rattle.tidy_kernels.specs.Pass.{with_index, tidied_code, tidied_kernel}
 use Rattle.tidy_kernels.specs.Places.{tidied_in}
 
 within_last : (p : PlainPlace) (around : List Around) (x : Around) → within_all p (around ++ x ∷ []) ≡ within (within_all p around) x
@@ -18,12 +18,7 @@ within_last p (y ∷ around) x = within_last (within p y) around x
 
 pub by_statements : (names : List Name) (local : Option (ℕ × ℕ)) (around : List Around) (code : Code) → tidied_in (outside names local) (place_of names local around) code ≡ tidied_code (tidy_formula names local) around code
 by_statements names local around End = refl
-by_statements names local around (Assigns v e after) = ap (Assigns v e) (by_statements names local around after)
-by_statements names local around (Loads v a i after) = ap (Loads v a (tidy_formula names local around i)) (by_statements names local around after)
-by_statements names local around (Stores a i e after) = ap (Stores a (tidy_formula names local around i) e) (by_statements names local around after)
-by_statements names local around (AssignsFour v e after) = ap (AssignsFour v e) (by_statements names local around after)
-by_statements names local around (LoadsFour v a i after) = ap (LoadsFour v a (tidy_formula names local around i)) (by_statements names local around after)
-by_statements names local around (StoresFour a i e after) = ap (StoresFour a (tidy_formula names local around i) e) (by_statements names local around after)
+by_statements names local around (Performs s after) = ap (Performs (with_index (tidy_formula names local around) s)) (by_statements names local around after)
 by_statements names local around (Loops s b c body after) =
     ap (λ k. Loops s (tidy_formula names local [] b) c k (tidied_in (outside names local) (place_of names local around) after))
     (ap (λ p. tidied_in (outside names local) p body) (sym (within_last _ around (InLoop b))) ∙ by_statements names local (around ++ InLoop b ∷ []) body)
@@ -32,7 +27,6 @@ by_statements names local around (Guards s b body after) =
     ap (λ k. Guards s (tidy_formula names local [] b) k (tidied_in (outside names local) (place_of names local around) after))
     (ap (λ p. tidied_in (outside names local) p body) (sym (within_last _ around (InIf s b))) ∙ by_statements names local (around ++ InIf s b ∷ []) body)
     ∙ ap (Guards s (tidy_formula names local [] b) (tidied_code (tidy_formula names local) (around ++ InIf s b ∷ []) body)) (by_statements names local around after)
-by_statements names local around (Syncs on_local on_global after) = ap (Syncs on_local on_global) (by_statements names local around after)
 
 -- a kernel whose statements are tidy so
 pub whole : (names : List Name) (local : Option (ℕ × ℕ)) (k : held.Kernel) (outermost : PlainPlace) (body : List Stmt) → outermost ≡ outside names local → code_then body End ≡ tidied_in outermost outermost (kernel_of k).code

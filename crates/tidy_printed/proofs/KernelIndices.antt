@@ -1,13 +1,13 @@
 -- What the printers make has declared indices alone for indices and bounds; and tidied it is tidy.
-use Rattle.std.proofs.Common.{◌≡◌, ℕ, suc, ◌≤◌, arith, Bool, true, List, [], ◌∷◌, ◌++◌, refl, Some, inl, inr}
-use Rattle.std.specs.Prelude.{◌&&◌, ◌||◌, nat_lt, nat_le}
+use Rattle.std.proofs.Common.{◌≡◌, ℕ, suc, ◌≤◌, arith, Bool, true, List, [], ◌∷◌, ◌++◌, Some, inl, inr}
+use Rattle.std.specs.Prelude.{◌&&◌, nat_lt, nat_le}
 use Rattle.std.proofs.lemmas.Bool.{ltb-true}
 use Rattle.size_arith.specs.declared.names.Name.{Name}
 use Rattle.size_arith.specs.Ranges.{AreNames}
 use Rattle.index_expr.specs.Expression.{Expression}
 use Rattle.kernel_tree.specs.Formula.{Formula}
-use Rattle.kernel_tree.specs.Code.{Input, Output, Start, Code, End, Assigns, Loads, Stores, AssignsFour, LoadsFour, StoresFour, Loops, Guards, Syncs, Kernel}
-use Rattle.kernel_tree.specs.Grammar.{deepest, height, is_constant, names_declared, is_expression, is_readable, is_writable, is_shared, are_lanes, has_statement, are_statements, are_lengths, is_group_size, is_kernel}
+use Rattle.kernel_tree.specs.Code.{Input, Output, Start, Statement, Loads, Stores, LoadsFour, StoresFour, Code, End, Performs, Loops, Guards, Kernel}
+use Rattle.kernel_tree.specs.Grammar.{deepest, height, is_constant, names_declared, is_expression, is_readable, is_writable, is_shared, are_lanes, has_statement, is_statement, are_statements, are_lengths, is_group_size, is_kernel}
 use Rattle.lift_tree.specs.Annotations.{Annotation, type_in}
 use Rattle.lift_tree.specs.Typing.{Declared}
 use Rattle.lift_ir.specs.AtLaunch.{shape_of}
@@ -20,8 +20,8 @@ use Rattle.group_form.specs.Printer.{printed_group_kernel}
 use Rattle.tidy_indices.specs.Around.{Around, InLoop, InIf}
 use Rattle.tidy_indices.specs.Laws.{Change, HaveIndexBounds}
 use Rattle.tidy_indices.specs.Reading.{reading}
-use Rattle.tidy_kernels.specs.Pass.{tidied_code}
-use Rattle.tidy_printed.specs.Indices.{EachWithin, IsDeclaredIndex, indices_then}
+use Rattle.tidy_kernels.specs.Pass.{with_index, tidied_code}
+use Rattle.tidy_printed.specs.Indices.{EachWithin, IsDeclaredIndex, index_then, indices_then}
 use Rattle.tidy_printed.specs.Limits.{no_index, array_nodes, limits_of}
 use Rattle.tidy_printed.specs.Tidy.{IsTidyIndex, MakesTidy}
 use Rattle.tidy_printed.specs.TidyLaws.{TermsHaveIndexFormulas, GroupsHaveIndexFormulas, TidiedCodesAreTidy, TidiedTermsAreTidy, TidiedGroupsAreTidy}
@@ -48,36 +48,34 @@ module _ (names : List Name) (k : Kernel) where
   abbrev Read : (from to : List Formula) → Type 0
   Read fs gs = Goes (Spelled names) (IsDeclaredIndex names) fs gs
 
-  read : (loops : ℕ) (f : Formula) (rest : Bool) → loops ≤ 1024 → (is_expression k loops f && rest) ≡ true → (most : ℕ) → Spelled names most f → IsDeclaredIndex names most f
-  read loops f rest few h most s = spelled_read names k loops most f few (first_of (names_declared k loops f) (nat_le (height f) deepest) (first_of (is_expression k loops f) rest h)) s
+  read : (loops : ℕ) (f : Formula) → loops ≤ 1024 → is_expression k loops f ≡ true → (most : ℕ) → Spelled names most f → IsDeclaredIndex names most f
+  read loops f few h most s = spelled_read names k loops most f few (first_of (names_declared k loops f) (nat_le (height f) deepest) h) s
 
   -- an index or a bound, and what follows it
-  read_next : (loops : ℕ) (f : Formula) (rest : Bool) (fs : List Formula) → loops ≤ 1024 → (is_expression k loops f && rest) ≡ true → Read fs fs → Read (f ∷ fs) (f ∷ fs)
-  read_next loops f rest fs few h go = next (Spelled names) (IsDeclaredIndex names) f f fs fs (λ n s. (read loops f rest few h n s, go))
+  read_next : (loops : ℕ) (f : Formula) (fs : List Formula) → loops ≤ 1024 → is_expression k loops f ≡ true → Read fs fs → Read (f ∷ fs) (f ∷ fs)
+  read_next loops f fs few h go = next (Spelled names) (IsDeclaredIndex names) f f fs fs (λ n s. (read loops f few h n s, go))
+
+  statement_read : (loops : ℕ) (s : Statement) (fs : List Formula) → loops ≤ 1024 → is_statement k loops s ≡ true → Read fs fs → Read (index_then s fs) (index_then s fs)
+  statement_read loops (Loads v a i) fs few h go = read_next loops i fs few (after_two (nat_lt v k.variables) (is_readable k a) (is_expression k loops i) h) go
+  statement_read loops (Stores a i e) fs few h go =
+      read_next loops i fs few (first_of (is_expression k loops i) (is_expression k loops e) (second_of (is_writable k a) (is_expression k loops i && is_expression k loops e) h)) go
+  statement_read loops (LoadsFour v a i) fs few h go = read_next loops i fs few (after_two (nat_lt v k.vectors) (is_shared a && is_readable k a) (is_expression k loops i) h) go
+  statement_read loops (StoresFour a i e) fs few h go =
+      read_next loops i fs few (first_of (is_expression k loops i) (are_lanes k loops e) (second_of (is_shared a && is_writable k a) (is_expression k loops i && are_lanes k loops e) h)) go
+  statement_read loops _ fs few h go = go
 
   -- what is spelled in the grammar is read
   all_read : (loops depth : ℕ) (c : Code) (fs : List Formula) → loops ≤ depth → depth ≤ 1024 → are_statements k loops depth c ≡ true → Read fs fs → Read (indices_then c fs) (indices_then c fs)
   all_read loops depth End fs le few h s = s
-  all_read loops depth (Assigns v e after) fs le few h s = all_read loops depth after fs le few (after_two (nat_lt v k.variables) (is_expression k loops e) (are_statements k loops depth after) h) s
-  all_read loops depth (Loads v a i after) fs le few h s =
-      let here = after_two (nat_lt v k.variables) (is_readable k a) (is_expression k loops i && are_statements k loops depth after) h in
-      read_next loops i (are_statements k loops depth after) (indices_then after fs) (omega arith) here (all_read loops depth after fs le few (second_of (is_expression k loops i) (are_statements k loops depth after) here) s)
-  all_read loops depth (Stores a i e after) fs le few h s =
-      let here = second_of (is_writable k a) (is_expression k loops i && (is_expression k loops e && are_statements k loops depth after)) h in
-      read_next loops i (is_expression k loops e && are_statements k loops depth after) (indices_then after fs) (omega arith) here (all_read loops depth after fs le few (after_two (is_expression k loops i) (is_expression k loops e) (are_statements k loops depth after) here) s)
-  all_read loops depth (AssignsFour v e after) fs le few h s = all_read loops depth after fs le few (after_two (nat_lt v k.vectors) (are_lanes k loops e) (are_statements k loops depth after) h) s
-  all_read loops depth (LoadsFour v a i after) fs le few h s =
-      let here = after_two (nat_lt v k.vectors) (is_shared a && is_readable k a) (is_expression k loops i && are_statements k loops depth after) h in
-      read_next loops i (are_statements k loops depth after) (indices_then after fs) (omega arith) here (all_read loops depth after fs le few (second_of (is_expression k loops i) (are_statements k loops depth after) here) s)
-  all_read loops depth (StoresFour a i e after) fs le few h s =
-      let here = second_of (is_shared a && is_writable k a) (is_expression k loops i && (are_lanes k loops e && are_statements k loops depth after)) h in
-      read_next loops i (are_lanes k loops e && are_statements k loops depth after) (indices_then after fs) (omega arith) here (all_read loops depth after fs le few (after_two (is_expression k loops i) (are_lanes k loops e) (are_statements k loops depth after) here) s)
+  all_read loops depth (Performs st after) fs le few h s =
+      statement_read loops st (indices_then after fs) (omega arith) (first_of (is_statement k loops st) (are_statements k loops depth after) h)
+      (all_read loops depth after fs le few (second_of (is_statement k loops st) (are_statements k loops depth after) h) s)
   all_read loops depth (Loops st b c body after) fs le few h s =
       let codes = are_statements k (suc loops) (suc depth) body && are_statements k loops depth after in
       let here = after_two (nat_lt depth deepest) (is_constant b) (is_expression k loops b && (has_statement body && codes)) h in
       let inside = after_two (is_expression k loops b) (has_statement body) codes here in
       let lt = ltb-true depth deepest (first_of (nat_lt depth deepest) _ h) in
-      read_next loops b (has_statement body && codes) (indices_then body (indices_then after fs)) (omega arith) here
+      read_next loops b (indices_then body (indices_then after fs)) (omega arith) (first_of (is_expression k loops b) (has_statement body && codes) here)
       (all_read (suc loops) (suc depth) body (indices_then after fs) (omega arith) (omega arith) (first_of (are_statements k (suc loops) (suc depth) body) (are_statements k loops depth after) inside)
       (all_read loops depth after fs le few (second_of (are_statements k (suc loops) (suc depth) body) (are_statements k loops depth after) inside) s))
   all_read loops depth (Guards st b body after) fs le few h s =
@@ -85,10 +83,9 @@ module _ (names : List Name) (k : Kernel) where
       let here = after_two (nat_lt depth deepest) (is_constant b) (is_expression k loops b && (has_statement body && codes)) h in
       let inside = after_two (is_expression k loops b) (has_statement body) codes here in
       let lt = ltb-true depth deepest (first_of (nat_lt depth deepest) _ h) in
-      read_next loops b (has_statement body && codes) (indices_then body (indices_then after fs)) (omega arith) here
+      read_next loops b (indices_then body (indices_then after fs)) (omega arith) (first_of (is_expression k loops b) (has_statement body && codes) here)
       (all_read loops (suc depth) body (indices_then after fs) (omega arith) (omega arith) (first_of (are_statements k loops (suc depth) body) (are_statements k loops depth after) inside)
       (all_read loops depth after fs le few (second_of (are_statements k loops (suc depth) body) (are_statements k loops depth after) inside) s))
-  all_read loops depth (Syncs l g after) fs le few h s = all_read loops depth after fs le few (second_of (l || g) (are_statements k loops depth after) h) s
 
   nothing_left : Read [] []
   nothing_left [] h = tt
@@ -158,19 +155,20 @@ module _ (names : List Name) (tidy : Change) (makes : MakesTidy names tidy) wher
   tidied_next : (around : List Around) (f : Formula) (fs gs : List Formula) → HaveIndexBounds around → ((n : ℕ) → IsDeclaredIndex names n f → Tidied fs gs) → Tidied (f ∷ fs) (tidy around f ∷ gs)
   tidied_next around f fs gs all go = next (IsDeclaredIndex names) IsTidyIndex f (tidy around f) fs gs (λ n h. (tidied_index around f n all h, go n h))
 
+  tidied_statement : (around : List Around) (s : Statement) (fs gs : List Formula) → HaveIndexBounds around → Tidied fs gs → Tidied (index_then s fs) (index_then (with_index (tidy around) s) gs)
+  tidied_statement around (Loads v a i) fs gs all go = tidied_next around i fs gs all (λ n h. go)
+  tidied_statement around (Stores a i e) fs gs all go = tidied_next around i fs gs all (λ n h. go)
+  tidied_statement around (LoadsFour v a i) fs gs all go = tidied_next around i fs gs all (λ n h. go)
+  tidied_statement around (StoresFour a i e) fs gs all go = tidied_next around i fs gs all (λ n h. go)
+  tidied_statement around _ fs gs all go = go
+
   tidied_fine : (around : List Around) (c : Code) (fs gs : List Formula) → HaveIndexBounds around → Tidied fs gs → Tidied (indices_then c fs) (indices_then (tidied_code tidy around c) gs)
   tidied_fine around End fs gs all go = go
-  tidied_fine around (Assigns v e after) fs gs all go = tidied_fine around after fs gs all go
-  tidied_fine around (Loads v a i after) fs gs all go = tidied_next around i _ _ all (λ n h. tidied_fine around after fs gs all go)
-  tidied_fine around (Stores a i e after) fs gs all go = tidied_next around i _ _ all (λ n h. tidied_fine around after fs gs all go)
-  tidied_fine around (AssignsFour v e after) fs gs all go = tidied_fine around after fs gs all go
-  tidied_fine around (LoadsFour v a i after) fs gs all go = tidied_next around i _ _ all (λ n h. tidied_fine around after fs gs all go)
-  tidied_fine around (StoresFour a i e after) fs gs all go = tidied_next around i _ _ all (λ n h. tidied_fine around after fs gs all go)
+  tidied_fine around (Performs s after) fs gs all go = tidied_statement around s _ _ all (tidied_fine around after fs gs all go)
   tidied_fine around (Loops s b c body after) fs gs all go =
       tidied_next [] b _ _ tt (λ n h. tidied_fine (around ++ InLoop b ∷ []) body _ _ (in_loop around b h.expression all h.spelled) (tidied_fine around after fs gs all go))
   tidied_fine around (Guards s b body after) fs gs all go =
       tidied_next [] b _ _ tt (λ n h. tidied_fine (around ++ InIf s b ∷ []) body _ _ (in_if around s b all) (tidied_fine around after fs gs all go))
-  tidied_fine around (Syncs l g after) fs gs all go = tidied_fine around after fs gs all go
 
   none_tidied : Tidied [] []
   none_tidied [] h = tt

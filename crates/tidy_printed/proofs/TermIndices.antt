@@ -5,7 +5,7 @@ use Rattle.kernel_tree.specs.Formula.{Formula, Number, LoopVariable}
 use Rattle.kernel_tree.specs.Code.{Private, Code, End, Loops}
 use Rattle.lift_ir.specs.Forms.{Stands, StandsOverLaunch}
 use Rattle.lift_ir.specs.Types.{Shape, width}
-use Rattle.lift_ir.specs.Terms.{Global, Sequential, PrivateMemory, Term, Bound, Source, Both, Project, Reshape, LetArray, LetElement, Map, Fold, Store, Copy, push}
+use Rattle.lift_ir.specs.Terms.{LoadSet, Kind, Global, Sequential, PrivateMemory, Term, Bound, Source, Both, Project, Reshape, LetArray, LetElement, Map, Fold, Store, Copy, push}
 use Rattle.index_expr.specs.Expression.{Expression, Literal, short_nodes}
 use Rattle.printed_form.specs.Counts.{let_variables, load_count, variable_count, private_count}
 use Rattle.printed_form.specs.Form.{start_of, stride_of}
@@ -50,6 +50,28 @@ module _ (names : List Name) {A : Type 0} (spell : A → Expression) (text : A �
   viewed_indexed counts env a (Copy PrivateMemory ty x) stands all = placed_indexed names Literal Number (spelled_number names) Private (a + private_count x) ty
   viewed_indexed counts env a _ stands all = absurd stands
 
+  -- a map by turns of one work-item, whose body is so wherever it stands
+  map_fine : (kind : Kind) (d : ℕ) (counts : ℕ → IndexNodes) (env : ℕ → View) (a n : ℕ) (m : A) (ls : LoadSet) (x b : Term A) (to : IndexNodes) (w : View) (rest : Code) (limits : List ℕ) (fs : List Formula)
+      → ((code : Code) (inside : List ℕ) → Right inside code fs → Right (argued counts x inside) (print_argument text ins d env a n x code) fs)
+      → ((counts : ℕ → IndexNodes) (env : ℕ → View) (a n : ℕ) (to : IndexNodes) (w : View) (limits : List ℕ) (fs : List Formula) → Views counts env → IsIndexed names to w → Right limits End fs → Right (written counts b to limits) (print_written text ins (suc d) env a n b w End) fs)
+      → Stands false x → Views counts env → IsIndexed names to w → Right limits rest fs
+      → Right (argued counts x (short_nodes (spell m) ∷ load_limits ls (element_nodes spell forms src counts x) (written (push (after_loads ls (element_nodes spell forms src counts x)) counts) b (at_one_node to) limits))) (print_written text ins d env a n (Map kind m ls x b) w rest) fs
+  map_fine kind d counts env a n m ls x b to w rest limits fs argument body stands all goes f =
+      let element = view_at (LoopVariable d) (viewed env a x) in
+      let inner = push (loaded_view ls element (n + variable_count x)) env in
+      let first = n + variable_count x + load_count ls in
+      let at = element_nodes spell forms src counts x in
+      let within = push (after_loads ls at) counts in
+      let inside = written within b (at_one_node to) limits in
+      let code = print_written text ins (suc d) inner (a + private_count x) first b (view_at (LoopVariable d) w) End in
+      let turned = turned_indexed names (LoopVariable d) (counted counts x) (viewed env a x) (index_loop names d) (viewed_indexed counts env a x stands all) in
+      argument (Loops (start_of kind) (text m) (stride_of kind) (print_loaded ls element (n + variable_count x) code) rest) (short_nodes (spell m) ∷ load_limits ls at inside) (
+        lengths m,
+        loads_fine names ls at element (n + variable_count x) code inside (indices_then rest fs) turned
+            (body within inner (a + private_count x) first (at_one_node to) (view_at (LoopVariable d) w) limits (indices_then rest fs)
+            (pushed names counts env (after_loads ls at) (loaded_view ls element (n + variable_count x)) (loaded_indexed names ls at element (n + variable_count x) turned) all) (turned_indexed names (LoopVariable d) to w (index_loop names d) goes) f),
+      )
+
   mutual
     pub argument_fine : (d : ℕ) (counts : ℕ → IndexNodes) (env : ℕ → View) (a n : ℕ) (t : Term A) (rest : Code) (limits : List ℕ) (fs : List Formula) → Stands false t → Views counts env → Right limits rest fs → Right (argued counts t limits) (print_argument text ins d env a n t rest) fs
     argument_fine d counts env a n (Bound v) rest limits fs stands all f = f
@@ -86,20 +108,8 @@ module _ (names : List Name) {A : Type 0} (spell : A → Expression) (text : A �
         (assigned_fine names (written within b to limits) fs ty (sign_exprs env n v) (n + let_variables v) after
         (written_fine d within inner a (n + let_variables v + width ty) b to w rest limits fs stands (pushed names counts env no_index (held_view ty (n + let_variables v)) (held_indexed names ty (n + let_variables v)) all) goes f))
     written_fine d counts env a n (Map Sequential m ls x b) to w rest limits fs stands all goes f =
-        let element = view_at (LoopVariable d) (viewed env a x) in
-        let inner = push (loaded_view ls element (n + variable_count x)) env in
-        let first = n + variable_count x + load_count ls in
-        let body = print_written text ins (suc d) inner (a + private_count x) first b (view_at (LoopVariable d) w) End in
-        let at = element_nodes spell forms src counts x in
-        let within = push (after_loads ls at) counts in
-        let inside = written within b (at_one_node to) limits in
-        let turned = turned_indexed names (LoopVariable d) (counted counts x) (viewed env a x) (index_loop names d) (viewed_indexed counts env a x stands.0 all) in
-        argument_fine d counts env a n x (Loops (start_of Sequential) (text m) (stride_of Sequential) (print_loaded ls element (n + variable_count x) body) rest) (short_nodes (spell m) ∷ load_limits ls at inside) fs stands.0 all (
-          lengths m,
-          loads_fine names ls at element (n + variable_count x) body inside (indices_then rest fs) turned
-              (written_fine (suc d) within inner (a + private_count x) first b (at_one_node to) (view_at (LoopVariable d) w) End limits (indices_then rest fs) stands.1
-              (pushed names counts env (after_loads ls at) (loaded_view ls element (n + variable_count x)) (loaded_indexed names ls at element (n + variable_count x) turned) all) (turned_indexed names (LoopVariable d) to w (index_loop names d) goes) f),
-        )
+        map_fine Sequential d counts env a n m ls x b to w rest limits fs (λ code inside r. argument_fine d counts env a n x code inside fs stands.0 all r)
+        (λ counts env a n to w limits fs all goes f. written_fine (suc d) counts env a n b to w End limits fs stands.1 all goes f) stands.0 all goes f
     written_fine d counts env a n (Fold m ls ty x s b) to w rest limits fs stands all goes f =
         let start = n + variable_count x in
         let acc = start + let_variables s in
@@ -129,18 +139,6 @@ module _ (names : List Name) {A : Type 0} (spell : A → Expression) (text : A �
       argument_fine d counts env a n v (print_written text ins d inner (a + private_count v) (n + variable_count v) b w rest) (written within b to limits) fs stands.0 all
       (launch_fine d within inner (a + private_count v) (n + variable_count v) b to w rest limits fs stands.1 (pushed names counts env (counted counts v) (viewed env a v) (viewed_indexed counts env a v stands.0 all) all) goes f)
   launch_fine d counts env a n (Map Global m ls x b) to w rest limits fs stands all goes f =
-      let element = view_at (LoopVariable d) (viewed env a x) in
-      let inner = push (loaded_view ls element (n + variable_count x)) env in
-      let first = n + variable_count x + load_count ls in
-      let body = print_written text ins (suc d) inner (a + private_count x) first b (view_at (LoopVariable d) w) End in
-      let at = element_nodes spell forms src counts x in
-      let within = push (after_loads ls at) counts in
-      let inside = written within b (at_one_node to) limits in
-      let turned = turned_indexed names (LoopVariable d) (counted counts x) (viewed env a x) (index_loop names d) (viewed_indexed counts env a x stands.0 all) in
-      argument_fine d counts env a n x (Loops (start_of Global) (text m) (stride_of Global) (print_loaded ls element (n + variable_count x) body) rest) (short_nodes (spell m) ∷ load_limits ls at inside) fs stands.0 all (
-        lengths m,
-        loads_fine names ls at element (n + variable_count x) body inside (indices_then rest fs) turned
-            (written_fine (suc d) within inner (a + private_count x) first b (at_one_node to) (view_at (LoopVariable d) w) End limits (indices_then rest fs) stands.1
-            (pushed names counts env (after_loads ls at) (loaded_view ls element (n + variable_count x)) (loaded_indexed names ls at element (n + variable_count x) turned) all) (turned_indexed names (LoopVariable d) to w (index_loop names d) goes) f),
-      )
+      map_fine Global d counts env a n m ls x b to w rest limits fs (λ code inside r. argument_fine d counts env a n x code inside fs stands.0 all r)
+      (λ counts env a n to w limits fs all goes f. written_fine (suc d) counts env a n b to w End limits fs stands.1 all goes f) stands.0 all goes f
   launch_fine d counts env a n _ to w rest limits fs stands all goes f = absurd stands

@@ -2,7 +2,6 @@
 -- formulas of its array and of the layouts around it put into one another, a bound as many as its
 -- length. They stand in the order of the kernel's statements.
 use Rattle.std.specs.Prelude.{ℕ, Bool, true, false, List, [], ◌∷◌, Option, Some, None}
-use Rattle.size_arith.specs.declared.names.Name.{Name}
 use Rattle.lift_tree.specs.Annotations.{Annotation, type_in}
 use Rattle.lift_tree.specs.Tree.{Tree}
 use Rattle.lift_tree.specs.Typing.{Declared}

@@ -6,7 +6,7 @@ use Rattle.std.proofs.lemmas.List.{length-map, get_or-map}
 use Rattle.scalar_ops.specs.declared.op.Op.TheVariants.{Add, Sub, Div}
 use Rattle.scalar_ops.specs.Operators.{apply_op}
 use Rattle.kernel_tree.specs.Formula.{Number, Size, Variable, LoopVariable, Binary, Vars, value, bound_value}
-use Rattle.kernel_tree.specs.Code.{Input, Output, Local as LocalArray, End, Stores, Assigns, Syncs}
+use Rattle.kernel_tree.specs.Code.{Input, Output, Local as LocalArray, Assigns, Stores, End, Performs}
 use Rattle.kernel_tree.specs.Launch.{Launch, in_a_row, Cells, item_count, ids_of}
 use Rattle.kernel_tree.proofs.Grouping.{whole_in_a_row, flat_in_a_row}
 use Rattle.barrier_placement.specs.declared.touches.Touch.{Touch}
@@ -19,6 +19,7 @@ use Rattle.printed_form.specs.MapForms.{all_loops, MakeTurns}
 use Rattle.printed_form.specs.Marks.{Spot}
 use Rattle.printed_form.specs.Whole.{IsGiven, no_marks, output_marks}
 use Rattle.worked_kernels.specs.Tiles.{tile_index, copy_turn, add_turn, phase_code, tile_body, tile_kernel, tile_cells, AreTiles, added, no_barriers, tile_touches, two_barriers}
+use Rattle.group_phases.specs.Epochs.{fenced}
 use Rattle.group_form.specs.Uses.{phase_count, group_touches}
 use Rattle.group_form.specs.Form.{IsOverGroups}
 use Rattle.group_form.specs.Theorem.{AlignedNeedNone, IsPrintedOverGroups, NeededKeepApart, SeparatedGroupsKeep, UsesTellBarriers}
@@ -111,9 +112,9 @@ module _ (l : Launch) (tiles : ℕ) (xs out : List ℕ) (rest : ℕ) (h : AreTil
               refl,
               refl,
               λ u ul mine. (
-                Stores (LocalArray 0) (LoopVariable 1) (Variable 0) End,
+                Performs (Stores (LocalArray 0) (LoopVariable 1) (Variable 0)) End,
                 (Input 0, tile_index, (refl, λ vs. place_is k i u [] vs il (omega arith) ∙ (let e : i * 2 + u ≡ (i * 2 + u) * 1 + 0 = omega arith in ap Some e)), refl),
-                (Stores (LocalArray 0) (LoopVariable 1) (Variable 0) End, refl, (LocalArray 0, LoopVariable 1, Variable 0, refl, (refl, λ vs. let e : u ≡ u * 1 + 0 = omega arith in ap Some e), refl)),
+                (Performs (Stores (LocalArray 0) (LoopVariable 1) (Variable 0)) End, refl, (LocalArray 0, LoopVariable 1, Variable 0, refl, (refl, λ vs. let e : u ≡ u * 1 + 0 = omega arith in ap Some e), refl)),
               ),
             ),
           ),
@@ -124,11 +125,11 @@ module _ (l : Launch) (tiles : ℕ) (xs out : List ℕ) (rest : ℕ) (h : AreTil
             refl,
             refl,
             λ u ul mine. (
-              Stores (Output 0) tile_index (Binary Add (Variable 1) (Number 1)) End,
+              Performs (Stores (Output 0) tile_index (Binary Add (Variable 1) (Number 1))) End,
               (LocalArray 0, LoopVariable 1, (refl, λ vs. let e : u ≡ u * 1 + 0 = omega arith in ap Some e), refl),
               (
-                Stores (Output 0) tile_index (Binary Add (Variable 1) (Number 1)) End,
-                (Stores (Output 0) tile_index (Binary Add (Variable 1) (Number 1)) End, refl, refl),
+                Performs (Stores (Output 0) tile_index (Binary Add (Variable 1) (Number 1))) End,
+                (Performs (Stores (Output 0) tile_index (Binary Add (Variable 1) (Number 1))) End, refl, refl),
                 (Output 0, tile_index, Binary Add (Variable 1) (Number 1), refl, (refl, λ vs. place_is k i u [] vs il (omega arith) ∙ (let e : i * 2 + u ≡ (i * 2 + u) * 1 + 0 = omega arith in ap Some e)), refl),
               ),
             ),
@@ -141,20 +142,22 @@ module _ (l : Launch) (tiles : ℕ) (xs out : List ℕ) (rest : ℕ) (h : AreTil
 
   added_printed : IsPrintedOverGroups l itself all_loops (input_types n) (input_marks n) (input_scalars xs) no_barriers (added_tiles tiles) (numbers n) (tile_kernel false no_barriers) c
   added_printed = record {
-    whole = h.whole;
-    flat = h.flat;
+    made = record {
+      whole = h.whole;
+      flat = h.flat;
+      some = h.some_items;
+      few = few;
+      typed = added_typed;
+      flat_type = tt;
+      variables = refl;
+      privates = refl;
+      outputs = ap (λ z. z ∷ []) (h.out_long ∙ (let e : n ≡ n * 1 = omega arith in e));
+      inputs = given;
+    };
     makes = loops_make_turns l;
-    some = h.some_items;
-    few = few;
     stands = (tt, (tt, ((tt, tt), tt)));
-    typed = added_typed;
-    flat_type = tt;
     code = added_code;
-    variables = refl;
     locals = refl;
-    privates = refl;
-    outputs = ap (λ z. z ∷ []) (h.out_long ∙ (let e : n ≡ n * 1 = omega arith in e));
-    inputs = given;
   }
 
   added_listed : AreLists (numbers n) (scalars_of itself (input_scalars xs) no_scalars (added_tiles tiles)) (added false xs ∷ [])
@@ -273,10 +276,10 @@ module _ (l : Launch) (tiles : ℕ) (xs out : List ℕ) (rest : ℕ) (h : AreTil
         halved l tiles xs out rest h,
         (
           sums_body,
-          Syncs true false End,
+          fenced (two_barriers 2) End,
           (λ k i here il own. refl),
           (
-            Syncs true false windows,
+            fenced (two_barriers 1) windows,
             windows,
             (
               sums_body,
@@ -289,9 +292,9 @@ module _ (l : Launch) (tiles : ℕ) (xs out : List ℕ) (rest : ℕ) (h : AreTil
                 refl,
                 refl,
                 λ u ul mine. (
-                  Stores (LocalArray 0) (LoopVariable 1) (Variable 0) End,
+                  Performs (Stores (LocalArray 0) (LoopVariable 1) (Variable 0)) End,
                   (Input 0, padded_place, (refl, λ vs. padded_is k i u vs il ul), refl),
-                  (Stores (LocalArray 0) (LoopVariable 1) (Variable 0) End, refl, (LocalArray 0, LoopVariable 1, Variable 0, refl, (refl, λ vs. let e : u ≡ u * 1 + 0 = omega arith in ap Some e), refl)),
+                  (Performs (Stores (LocalArray 0) (LoopVariable 1) (Variable 0)) End, refl, (LocalArray 0, LoopVariable 1, Variable 0, refl, (refl, λ vs. let e : u ≡ u * 1 + 0 = omega arith in ap Some e), refl)),
                 ),
               ),
             ),
@@ -318,10 +321,10 @@ module _ (l : Launch) (tiles : ℕ) (xs out : List ℕ) (rest : ℕ) (h : AreTil
                     refl,
                     refl,
                     λ t tl turn. (
-                      Assigns 1 (Binary Add (Variable 1) (Variable 2)) End,
-                      Assigns 1 (Binary Add (Variable 1) (Variable 2)) End,
+                      Performs (Assigns 1 (Binary Add (Variable 1) (Variable 2))) End,
+                      Performs (Assigns 1 (Binary Add (Variable 1) (Variable 2))) End,
                       (LocalArray 0, in_window, (refl, λ vs. window_is u t ul tl), refl),
-                      (Assigns 1 (Binary Add (Variable 1) (Variable 2)) End, refl, refl),
+                      (Performs (Assigns 1 (Binary Add (Variable 1) (Variable 2))) End, refl, refl),
                       (Binary Add (Variable 1) (Variable 2), refl, refl),
                     ),
                   ),
@@ -338,20 +341,22 @@ module _ (l : Launch) (tiles : ℕ) (xs out : List ℕ) (rest : ℕ) (h : AreTil
 
   sums_printed : IsPrintedOverGroups l itself all_loops (input_types m) (input_marks m) (input_scalars xs) two_barriers (summed_tiles tiles) (numbers (m * 1)) sums_kernel (tile_cells xs out rest)
   sums_printed = record {
-    whole = h.whole;
-    flat = h.flat;
+    made = record {
+      whole = h.whole;
+      flat = h.flat;
+      some = h.some_items;
+      few = few l tiles xs out rest h;
+      typed = sums_typed;
+      flat_type = tt;
+      variables = refl;
+      privates = refl;
+      outputs = ap (λ z. z ∷ []) (h.out_long ∙ (let e : m ≡ m * 1 * 1 = omega arith in e));
+      inputs = given l tiles xs out rest h;
+    };
     makes = loops_make_turns l;
-    some = h.some_items;
-    few = few l tiles xs out rest h;
     stands = (tt, (tt, (tt, ((tt, tt), tt))));
-    typed = sums_typed;
-    flat_type = tt;
     code = sums_code;
-    variables = refl;
     locals = refl;
-    privates = refl;
-    outputs = ap (λ z. z ∷ []) (h.out_long ∙ (let e : m ≡ m * 1 * 1 = omega arith in e));
-    inputs = given l tiles xs out rest h;
   }
 
   sums_listed : (sums : List ℕ) → AreSums tiles xs sums → AreLists (numbers (m * 1)) (scalars_of itself (input_scalars xs) no_scalars (summed_tiles tiles)) (sums ∷ [])

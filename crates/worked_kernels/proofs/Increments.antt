@@ -65,17 +65,19 @@ pub increments_keep : IncrementsKeep
 increments_keep l xs out rest whole flat some few sizes small room s es start r =
     let h = every_run_keeps itself l (types_at (length xs)) (inputs_at (length xs)) (values_of xs) (increments (length xs)) (ArrayOf (length xs) Scalar) increments_kernel (increments_cells xs out rest) (incremented xs ∷ [])
     (record {
-      whole = whole;
-      flat = flat;
-      some = some;
-      few = few;
-      typed = typed (length xs) small;
-      flat_type = tt;
+      made = record {
+        whole = whole;
+        flat = flat;
+        some = some;
+        few = few;
+        typed = typed (length xs) small;
+        flat_type = tt;
+        variables = refl;
+        privates = refl;
+        outputs = one_row (length xs) out room;
+        inputs = given xs out rest;
+      };
       code = inr (λ item lt. written l item (length xs) sizes);
-      variables = refl;
-      privates = refl;
-      outputs = one_row (length xs) out room;
-      inputs = given xs out rest;
     })
     (ap (λ n. n ∷ []) (length-map xs (λ x. (x + 1) % 2 ^ 32) ∙ sym room)) (all_listed xs) s es start r in
     record { leaves = h.leaves; by_owner = λ x among a i w. h.by_owner x among a i w ∙ ap (λ j. j % l.global.0) (let z : i / 1 ≡ i = omega arith in z) }

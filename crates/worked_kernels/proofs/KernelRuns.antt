@@ -4,7 +4,7 @@ use Rattle.std.specs.Prelude.{slice_index}
 use Rattle.std.proofs.Math.Nat.{mod-eq_of_lt}
 use Rattle.scalar_ops.specs.declared.op.Op.TheVariants.{Add, Mul}
 use Rattle.kernel_tree.specs.Formula.{Number, Variable, LoopVariable, Binary}
-use Rattle.kernel_tree.specs.Code.{Input, Output, Private, End, Assigns, Stores}
+use Rattle.kernel_tree.specs.Code.{Input, Output, Private, End, Performs, Assigns, Stores}
 use Rattle.kernel_tree.specs.Launch.{IsWhole}
 use Rattle.kernel_tree.proofs.Grouping.{whole_in_a_row, flat_in_a_row}
 use Rattle.lift_ir.specs.Types.{Ty, Scalar, PairOf, ArrayOf, IsPosition}
@@ -124,17 +124,19 @@ sums_written = (
 
 sums_printed : (rest out : ℕ) → IsPrinted one_item itself sums_types sums_inputs (λ v. listed (1 ∷ 2 ∷ 3 ∷ 4 ∷ [])) sums (ArrayOf 1 Scalar) sums_kernel (sums_cells rest out)
 sums_printed rest out = record {
-  whole = one_is_whole;
-  flat = flat_in_a_row 1 1 [];
-  some = omega arith;
-  few = omega arith;
-  typed = sums_typed;
-  flat_type = tt;
+  made = record {
+    whole = one_is_whole;
+    flat = flat_in_a_row 1 1 [];
+    some = omega arith;
+    few = omega arith;
+    typed = sums_typed;
+    flat_type = tt;
+    variables = refl;
+    privates = refl;
+    outputs = refl;
+    inputs = sums_given rest out;
+  };
   code = inl (refl, sums_written);
-  variables = refl;
-  privates = refl;
-  outputs = refl;
-  inputs = sums_given rest out;
 }
 
 sums_listed : AreLists (ArrayOf 1 Scalar) (scalars_of itself (λ v. listed (1 ∷ 2 ∷ 3 ∷ 4 ∷ [])) no_scalars sums) ((15 ∷ []) ∷ [])
@@ -189,7 +191,7 @@ swaps_written = (
   swap_store,
   refl,
   (swaps_kernel.code, refl, refl),
-  (Assigns 1 (Number 1) swap_loop, (Number 0, refl, refl), (Number 1, refl, refl)),
+  (Performs (Assigns 1 (Number 1)) swap_loop, (Number 0, refl, refl), (Number 1, refl, refl)),
   (
     Number 3,
     swap_body,
@@ -200,25 +202,27 @@ swaps_written = (
       swap_new,
       (Input 0, LoopVariable 0, (refl, λ vs. ap Some (one_index i)), refl),
       (swap_new, refl, (swap_new, refl, refl)),
-      (swap_back, (Assigns 4 (Binary Add (Variable 0) (Variable 2)) swap_back, (Variable 1, refl, refl), (Binary Add (Variable 0) (Variable 2), refl, refl)), (Assigns 1 (Variable 4) End, (Variable 3, refl, refl), (Variable 4, refl, refl))),
+      (swap_back, (Performs (Assigns 4 (Binary Add (Variable 0) (Variable 2))) swap_back, (Variable 1, refl, refl), (Binary Add (Variable 0) (Variable 2), refl, refl)), (Performs (Assigns 1 (Variable 4)) End, (Variable 3, refl, refl), (Variable 4, refl, refl))),
     ),
   ),
-  (Stores (Output 1) (Number 0) (Variable 1) End, (Output 0, Number 0, Variable 0, refl, (refl, λ vs. refl), refl), (Output 1, Number 0, Variable 1, refl, (refl, λ vs. refl), refl)),
+  (Performs (Stores (Output 1) (Number 0) (Variable 1)) End, (Output 0, Number 0, Variable 0, refl, (refl, λ vs. refl), refl), (Output 1, Number 0, Variable 1, refl, (refl, λ vs. refl), refl)),
 )
 
 swaps_printed : (rest o p : ℕ) → IsPrinted one_item itself swaps_types swaps_inputs (λ v. listed (5 ∷ 6 ∷ 7 ∷ [])) swaps (ArrayOf 1 (PairOf Scalar Scalar)) swaps_kernel (swaps_cells rest o p)
 swaps_printed rest o p = record {
-  whole = one_is_whole;
-  flat = flat_in_a_row 1 1 [];
-  some = omega arith;
-  few = omega arith;
-  typed = swaps_typed;
-  flat_type = (tt, tt);
+  made = record {
+    whole = one_is_whole;
+    flat = flat_in_a_row 1 1 [];
+    some = omega arith;
+    few = omega arith;
+    typed = swaps_typed;
+    flat_type = (tt, tt);
+    variables = refl;
+    privates = refl;
+    outputs = refl;
+    inputs = swaps_given rest o p;
+  };
   code = inl (refl, swaps_written);
-  variables = refl;
-  privates = refl;
-  outputs = refl;
-  inputs = swaps_given rest o p;
 }
 
 swaps_listed : AreLists (ArrayOf 1 (PairOf Scalar Scalar)) (scalars_of itself (λ v. listed (5 ∷ 6 ∷ 7 ∷ [])) no_scalars swaps) ((7 ∷ []) ∷ (12 ∷ []) ∷ [])

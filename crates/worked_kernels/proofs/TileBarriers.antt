@@ -1,7 +1,7 @@
 -- Which barriers the two phases of the worked tiles need, and which don't separate them.
 use Rattle.std.proofs.Common.{◌≡◌, ◌↔◌, ℕ, zero, suc, ◌<◌, ◌≤◌, ◌⊎◌, Bool, true, false, true≢false, refl, sym, ap, ◌∙◌, ⊎_elim, inl, inr, arith}
 use Rattle.std.specs.Prelude.{◌&&◌, All, Contains, get_or}
-use Rattle.std.proofs.lemmas.Bool.{both_ways}
+use Rattle.std.proofs.lemmas.Bool.{both_ways, and_from}
 use Rattle.std.proofs.lemmas.List.Elements.{All-contains}
 use Rattle.barrier_placement.specs.declared.touches.Touch.{Touch}
 use Rattle.barrier_placement.specs.Conflicts.{Space, Local, Global, space_of, Conflict}
@@ -23,13 +23,9 @@ either nb x (suc (suc i)) lt e = absurd (omega arith)
 all_aligned : (x : Touch) → Contains (tile_touches false) x → x.aligned ≡ true
 all_aligned x h = ⊎_elim (λ e. ap (λ z. z.aligned) e) (λ e. ap (λ z. z.aligned) e) (either false x h.0 h.1 h.2)
 
-both_true : (a b : Bool) → a ≡ true → b ≡ true → (a && b) ≡ true
-both_true true b p q = q
-both_true false b p q = p
-
 -- where each item reads what it copied, nothing is in conflict
 no_conflict : (space : Space) (p q : ℕ) → Conflict (tile_touches false) space p q → ⊥
-no_conflict space p q c = both_ways (c.first.aligned && c.second.aligned) c.clash.not_aligned (both_true c.first.aligned c.second.aligned (all_aligned c.first c.first_used) (all_aligned c.second c.second_used))
+no_conflict space p q c = both_ways (c.first.aligned && c.second.aligned) c.clash.not_aligned (and_from c.first.aligned c.second.aligned (all_aligned c.first c.first_used) (all_aligned c.second c.second_used))
 
 on_local : (nb : Bool) (space : Space) (p q : ℕ) → Conflict (tile_touches nb) space p q → Local ≡ space
 on_local nb space p q c = sym (All-contains (λ x. space_of x.local ≡ Local) (tile_touches nb) c.first (all_local nb) c.first_used) ∙ c.lies_in

@@ -5,21 +5,21 @@ use Rattle.std.proofs.Math.Nat.{div-le_self, mod-lt, mod-eq_of_lt, div-eq_of_lt,
 use Rattle.std.proofs.lemmas.List.{length-map, get_or-map}
 use Rattle.scalar_ops.specs.declared.op.Op.TheVariants.{Add, Sub, Div}
 use Rattle.kernel_tree.specs.Formula.{Number, Variable, LoopVariable, Binary, Size, Vars, operate, value, bound_value}
-use Rattle.kernel_tree.specs.Code.{Input, Output, Local, Code, End, Stores}
+use Rattle.kernel_tree.specs.Code.{Input, Output, Local, Code, End, Performs, Stores}
 use Rattle.kernel_tree.specs.Launch.{Launch, Cells, ids_of, item_count, groups_across, group_of, group_count}
 use Rattle.kernel_tree.specs.Device.{Cell, GlobalFence, LocalFence, fence_of, row}
 use Rattle.kernel_tree.proofs.Grouping.{group_in_launch, in_launch, flat_items, flat_groups, flat_group}
 use Rattle.kernel_tree.proofs.Stride.{turns_of, turn_below, turn_owner, owner_turn, owner_has}
-use Rattle.barrier_placement.specs.Fencing.{Fencing, Open, Fenced}
+use Rattle.barrier_placement.specs.Fencing.{Fencing}
 use Rattle.lift_ir.specs.Types.{Scalar, ArrayOf, IsPosition}
 use Rattle.group_phases.specs.Cells.{input_cell, output_cell, local_cell, IsGivenInput, IsOwnOutput}
 use Rattle.group_phases.specs.Work.{IsOwnLocal, IsFilledEarlier}
-use Rattle.group_phases.specs.Epochs.{IsPast}
+use Rattle.group_phases.specs.Epochs.{fenced}
 use Rattle.group_phases.specs.Groups.{GroupOutputs, loop_turns}
 use Rattle.group_phases.specs.Phased.{IsGroupKernel}
 use Rattle.group_phases.specs.Phases.{PhaseList, turn_of, row_of, cell_of, targets, phase_scalars, work_of, IsPhaseMap, IsPhase, AreRead, IsFillable}
 use Rattle.group_phases.specs.Printed.{IsPhased}
-use Rattle.worked_kernels.specs.Tiles.{tile_index, copy_turn, read_index, read_place, add_turn, phase_code, fenced, tile_body, tile_kernel, writer, reader, tile_cells, exchanged, added, tile_owner, tile_filler, AreTiles, first_index, tile_phases, tile_places, tile_value, tile_list}
+use Rattle.worked_kernels.specs.Tiles.{tile_index, copy_turn, read_index, read_place, add_turn, phase_code, tile_body, tile_kernel, writer, reader, tile_cells, exchanged, added, tile_owner, tile_filler, AreTiles, first_index, tile_phases, tile_places, tile_value, tile_list}
 
 -- lengths are numbers
 abbrev pub itself : ℕ → ℕ
@@ -68,10 +68,6 @@ added_at : (nb : Bool) (xs : List ℕ) (t j : ℕ) → j < 2 → t * 2 + 1 < len
 added_at nb xs t j jl lt =
     let n = chosen_long nb xs in
     get_or-map (λ x. (x + 1) % 2 ^ 32) (if nb then exchanged xs else xs) (t * 2 + j) 0 0 (omega arith) ∙ ap (λ x. (x + 1) % 2 ^ 32) (chosen_at nb xs t j jl lt)
-
-past_fenced : (f : Fencing) (rest : Code) → IsPast f (fenced f rest) rest
-past_fenced Open rest = refl
-past_fenced (Fenced a b) rest = refl
 
 -- positions of rows and elements
 
@@ -376,9 +372,9 @@ module _ (l : Launch) (tiles : ℕ) (xs out : List ℕ) (rest : ℕ) (nb : Bool)
     phases = (
       phase_code nb 0 after_first,
       after_first,
-      past_fenced (fence 0) _,
+      refl,
       (phase_code nb 0 after_first, (λ k i here il own. refl), first),
-      (phase_code nb 1 (fenced (fence 2) End), fenced (fence 2) End, past_fenced (fence 1) _, second, past_fenced (fence 2) End),
+      (phase_code nb 1 (fenced (fence 2) End), fenced (fence 2) End, refl, second, refl),
     );
   }
     where
@@ -395,9 +391,9 @@ module _ (l : Launch) (tiles : ℕ) (xs out : List ℕ) (rest : ℕ) (nb : Bool)
         refl,
         refl,
         λ j jl mine. (
-          Stores (Local 0) (LoopVariable 1) (Variable 0) End,
+          Performs (Stores (Local 0) (LoopVariable 1) (Variable 0)) End,
           (Input 0, tile_index, (refl, λ vs. index_is k i j vs il jl), refl),
-          (Stores (Local 0) (LoopVariable 1) (Variable 0) End, refl, (Local 0, LoopVariable 1, Variable 0, refl, (refl, λ vs. refl), refl)),
+          (Performs (Stores (Local 0) (LoopVariable 1) (Variable 0)) End, refl, (Local 0, LoopVariable 1, Variable 0, refl, (refl, λ vs. refl), refl)),
         ),
       )
 
@@ -408,8 +404,8 @@ module _ (l : Launch) (tiles : ℕ) (xs out : List ℕ) (rest : ℕ) (nb : Bool)
         refl,
         refl,
         λ j jl mine. (
-          Stores (Output 0) tile_index (Binary Add (Variable 1) (Number 1)) End,
+          Performs (Stores (Output 0) tile_index (Binary Add (Variable 1) (Number 1))) End,
           (Local 0, read_index nb, (refl, λ vs. read_is nb k i j vs jl), refl),
-          (Stores (Output 0) tile_index (Binary Add (Variable 1) (Number 1)) End, (Stores (Output 0) tile_index (Binary Add (Variable 1) (Number 1)) End, refl, refl), (Output 0, tile_index, Binary Add (Variable 1) (Number 1), refl, (refl, λ vs. index_is k i j vs il jl), refl)),
+          (Performs (Stores (Output 0) tile_index (Binary Add (Variable 1) (Number 1))) End, (Performs (Stores (Output 0) tile_index (Binary Add (Variable 1) (Number 1))) End, refl, refl), (Output 0, tile_index, Binary Add (Variable 1) (Number 1), refl, (refl, λ vs. index_is k i j vs il jl), refl)),
         ),
       )

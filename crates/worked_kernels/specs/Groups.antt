@@ -4,7 +4,7 @@ use Rattle.std.specs.Prelude.{◌≡◌, ℕ, zero, suc, ◌*◌, ◌<◌, ◌^�
 use Rattle.scalar_ops.specs.declared.op.Op.TheVariants.{Add, Sub, Mul, Div, Min, Max}
 use Rattle.kernel_tree.specs.declared.tree.Dimension.TheVariants.{X}
 use Rattle.kernel_tree.specs.Formula.{Formula, Number, Size, Variable, LoopVariable, Binary}
-use Rattle.kernel_tree.specs.Code.{Input, Output, Local as LocalArray, FromZero, FromGroupId, FromLocalId, ByOne, ByGroupCount, ByLocalSize, Code, End, Assigns, Loads, Stores, Loops, Syncs, Kernel}
+use Rattle.kernel_tree.specs.Code.{Input, Output, Local as LocalArray, FromZero, FromGroupId, FromLocalId, ByOne, ByGroupCount, ByLocalSize, Assigns, Loads, Stores, Code, End, Performs, Loops, Kernel}
 use Rattle.kernel_tree.specs.Launch.{Launch, in_a_row}
 use Rattle.barrier_placement.specs.declared.touches.Touch.{Touch}
 use Rattle.barrier_placement.specs.Needed.{Needed}
@@ -17,6 +17,7 @@ use Rattle.printed_form.specs.MapForms.{all_loops}
 use Rattle.printed_form.specs.Marks.{Nowhere, Marks, laid_in}
 use Rattle.printed_form.specs.Headline.{EveryRunKeeps}
 use Rattle.worked_kernels.specs.Tiles.{tile_kernel, tile_cells, AreTiles, added, no_barriers, two_barriers}
+use Rattle.group_phases.specs.Epochs.{fenced}
 use Rattle.group_form.specs.Body.{first_index}
 use Rattle.group_form.specs.Printer.{group_kernel_code}
 use Rattle.group_form.specs.Uses.{phase_count, group_touches}
@@ -147,15 +148,19 @@ in_window = Binary Add (LoopVariable 1) (LoopVariable 2)
 
 -- an element of the padded input is copied to the local array
 abbrev pub copy_turn : Code
-copy_turn = Loads 0 (Input 0) padded_place (Stores (LocalArray 0) (LoopVariable 1) (Variable 0) End)
+copy_turn =
+    Performs (Loads 0 (Input 0) padded_place)
+    (Performs (Stores (LocalArray 0) (LoopVariable 1) (Variable 0)) End)
 
 -- v2 = l0[i1 + i2]; v1 = v1 + v2;
 abbrev pub sum_turn : Code
-sum_turn = Loads 2 (LocalArray 0) in_window (Assigns 1 (Binary Add (Variable 1) (Variable 2)) End)
+sum_turn =
+    Performs (Loads 2 (LocalArray 0) in_window)
+    (Performs (Assigns 1 (Binary Add (Variable 1) (Variable 2))) End)
 
 -- o0[i0 * 2 + i1] = v1;
 abbrev pub sum_store : Code
-sum_store = Stores (Output 0) tile_place (Variable 1) End
+sum_store = Performs (Stores (Output 0) tile_place (Variable 1)) End
 
 -- the elements of a window are added to v1, which is then stored
 abbrev pub sum_loop : Code
@@ -163,15 +168,16 @@ sum_loop = Loops FromZero (Number 3) ByOne sum_turn sum_store
 
 -- the sum of a window, from 0 on
 abbrev pub window_turn : Code
-window_turn = Assigns 1 (Number 0) sum_loop
+window_turn = Performs (Assigns 1 (Number 0)) sum_loop
 
 -- the windows of a tile, and the barrier that closes the body
 abbrev pub windows : Code
-windows = Loops (FromLocalId X) (Number 2) (ByLocalSize X) window_turn (Syncs true false End)
+windows = Loops (FromLocalId X) (Number 2) (ByLocalSize X) window_turn (fenced (two_barriers 2) End)
 
 -- a tile: it is copied and, behind a barrier, summed by windows
 abbrev pub sums_body : Code
-sums_body = Loops (FromLocalId X) (Number 4) (ByLocalSize X) copy_turn (Syncs true false windows)
+sums_body =
+    Loops (FromLocalId X) (Number 4) (ByLocalSize X) copy_turn (fenced (two_barriers 1) windows)
 
 -- a barrier between the phases, and one that closes the body
 abbrev pub sums_kernel : Kernel

@@ -3,7 +3,7 @@ use Rattle.std.specs.Prelude.{◌≡◌, ℕ, List, [], ◌∷◌, Some}
 use Rattle.scalar_ops.specs.declared.op.Op.TheVariants.{Add, Sub, Mul, Div, Rem}
 use Rattle.kernel_tree.specs.declared.tree.Dimension.TheVariants.{X}
 use Rattle.kernel_tree.specs.Formula.{Formula, Number, Variable, LoopVariable, Size, Id, LocalId, Binary}
-use Rattle.kernel_tree.specs.Code.{Input, Output, Code, End, Loads, Stores, Loops, Guards, FromZero, FromLocalId, ByOne}
+use Rattle.kernel_tree.specs.Code.{Input, Output, Code, End, Performs, Loads, Stores, Loops, Guards, FromZero, FromLocalId, ByOne}
 use Rattle.lift_ir.specs.Layouts.{Join}
 use Rattle.lift_ir.specs.Terms.{Term, Take, Sequential, Bound, Source, Reshape, Map, Store}
 use Rattle.lift_ir.specs.Types.{Shape, Scalar, ArrayOf}
@@ -21,7 +21,8 @@ use Rattle.tidy_printed.specs.Tidy.{IsTidyIndex}
 abbrev pub copying : (bound index : Formula) → Code
 copying b i =
     Loops FromZero b ByOne
-    (Loads 0 (Input 0) i (Stores (Output 0) (LoopVariable 0) (Variable 0) End)) End
+    (Performs (Loads 0 (Input 0) i)
+    (Performs (Stores (Output 0) (LoopVariable 0) (Variable 0)) End)) End
 
 -- the loop's variable
 abbrev pub turn : Formula
@@ -101,8 +102,8 @@ abbrev pub copying_in_if : (inside behind : Formula) → Code
 copying_in_if i j =
     Loops FromZero (Number 3) ByOne
     (Guards (FromLocalId X) (Number 2)
-    (Loads 0 (Input 0) i (Stores (Output 0) turn (Variable 0) End))
-    (Loads 0 (Input 0) j End)) End
+    (Performs (Loads 0 (Input 0) i) (Performs (Stores (Output 0) turn (Variable 0)) End))
+    (Performs (Loads 0 (Input 0) j) End)) End
 
 -- in groups of four that row is the loop's turn within the `if`, and stays behind it
 abbrev pub IfsTellOfIds : Type 0

@@ -3,7 +3,7 @@ use Rattle.std.specs.Prelude.{◌≡◌, ℕ, ◌+◌, ◌%◌, ◌<◌, ◌^◌
 use Rattle.scalar_ops.specs.declared.op.Op.TheVariants.{Add, Mul}
 use Rattle.kernel_tree.specs.declared.tree.Dimension.TheVariants.{X}
 use Rattle.kernel_tree.specs.Formula.{Number, Variable, LoopVariable, Size, Binary}
-use Rattle.kernel_tree.specs.Code.{Input, Output, Private, FromZero, ByOne, FromGlobalId, ByGlobalSize, Code, End, Assigns, Loads, Stores, Loops, Kernel}
+use Rattle.kernel_tree.specs.Code.{Input, Output, Private, FromZero, ByOne, FromGlobalId, ByGlobalSize, Code, End, Performs, Assigns, Loads, Stores, Loops, Kernel}
 use Rattle.kernel_tree.specs.Launch.{Launch, Cells, IsWhole, IsFlat, in_a_row, item_count}
 use Rattle.lift_ir.specs.Types.{Scalar, PairOf, ArrayOf}
 use Rattle.lift_ir.specs.Layouts.{Split, Join}
@@ -25,17 +25,17 @@ sums =
 
 -- v0 = v0 + v1;
 abbrev pub add_inner : Code
-add_inner = Assigns 0 (Binary Add (Variable 0) (Variable 1)) End
+add_inner = Performs (Assigns 0 (Binary Add (Variable 0) (Variable 1))) End
 
 -- v1 = a0[i0 * 2 + i1]; and it is added to the row's sum
 abbrev pub inner_body : Code
 inner_body =
-    Loads 1 (Input 0)
-    (Binary Add (Binary Mul (LoopVariable 0) (Number 2)) (LoopVariable 1)) add_inner
+    Performs (Loads 1 (Input 0)
+    (Binary Add (Binary Mul (LoopVariable 0) (Number 2)) (LoopVariable 1))) add_inner
 
 -- p0[i0] = v0;
 abbrev pub inner_store : Code
-inner_store = Stores (Private 0) (LoopVariable 0) (Variable 0) End
+inner_store = Performs (Stores (Private 0) (LoopVariable 0) (Variable 0)) End
 
 -- the elements of a row are added to v0, which is then stored
 abbrev pub inner_loop : Code
@@ -43,19 +43,19 @@ inner_loop = Loops FromZero (Number 2) ByOne inner_body inner_store
 
 -- a row's sum, from 0 on
 abbrev pub row_body : Code
-row_body = Assigns 0 (Number 0) inner_loop
+row_body = Performs (Assigns 0 (Number 0)) inner_loop
 
 -- v2 = v2 + v3;
 abbrev pub add_outer : Code
-add_outer = Assigns 2 (Binary Add (Variable 2) (Variable 3)) End
+add_outer = Performs (Assigns 2 (Binary Add (Variable 2) (Variable 3))) End
 
 -- v3 = p0[i0]; and it is added to the whole sum
 abbrev pub outer_body : Code
-outer_body = Loads 3 (Private 0) (LoopVariable 0) add_outer
+outer_body = Performs (Loads 3 (Private 0) (LoopVariable 0)) add_outer
 
 -- o0[0u] = v2;
 abbrev pub outer_store : Code
-outer_store = Stores (Output 0) (Number 0) (Variable 2) End
+outer_store = Performs (Stores (Output 0) (Number 0) (Variable 2)) End
 
 -- the partial sums are added to v2, which is then stored
 abbrev pub outer_loop : Code
@@ -63,7 +63,7 @@ outer_loop = Loops FromZero (Number 2) ByOne outer_body outer_store
 
 -- the whole sum, from 5 on
 abbrev pub outer : Code
-outer = Assigns 2 (Number 5) outer_loop
+outer = Performs (Assigns 2 (Number 5)) outer_loop
 
 -- for (i0 ..) { v0 = 0u; for (i1 ..) { v1 = a0[i0 * 2 + i1]; v0 = v0 + v1; } p0[i0] = v0; } v2 =
 -- 5u; for (i0 ..) { v3 = p0[i0]; v2 = v2 + v3; } o0[0u] = v2;
@@ -102,20 +102,23 @@ swaps =
 
 -- v0 = v3; v1 = v4;
 abbrev pub swap_back : Code
-swap_back = Assigns 0 (Variable 3) (Assigns 1 (Variable 4) End)
+swap_back = Performs (Assigns 0 (Variable 3)) (Performs (Assigns 1 (Variable 4)) End)
 
 -- the new accumulator is put together in temporaries, and then moved
 abbrev pub swap_new : Code
-swap_new = Assigns 3 (Variable 1) (Assigns 4 (Binary Add (Variable 0) (Variable 2)) swap_back)
+swap_new =
+    Performs (Assigns 3 (Variable 1))
+    (Performs (Assigns 4 (Binary Add (Variable 0) (Variable 2))) swap_back)
 
 -- v2 = a0[i0]; and it goes into the accumulator
 abbrev pub swap_body : Code
-swap_body = Loads 2 (Input 0) (LoopVariable 0) swap_new
+swap_body = Performs (Loads 2 (Input 0) (LoopVariable 0)) swap_new
 
 -- each component is stored to an output of its own
 abbrev pub swap_store : Code
 swap_store =
-    Stores (Output 0) (Number 0) (Variable 0) (Stores (Output 1) (Number 0) (Variable 1) End)
+    Performs (Stores (Output 0) (Number 0) (Variable 0))
+    (Performs (Stores (Output 1) (Number 0) (Variable 1)) End)
 
 -- each element goes into the accumulator, which is then stored
 abbrev pub swap_loop : Code
@@ -133,7 +136,7 @@ swaps_kernel = record {
   variables = 5;
   vectors = 0;
   local = None;
-  code = Assigns 0 (Number 0) (Assigns 1 (Number 1) swap_loop);
+  code = Performs (Assigns 0 (Number 0)) (Performs (Assigns 1 (Number 1)) swap_loop);
 }
 
 -- 5, 6 and 7, and what the outputs and other memory hold before
@@ -157,11 +160,11 @@ increments n = Map Global n Take (Source 0) (Store Scalar (Apply Add (Bound 0) (
 
 -- o0[i0] = (v0 + 1u);
 abbrev pub turn_store : Code
-turn_store = Stores (Output 0) (LoopVariable 0) (Binary Add (Variable 0) (Number 1)) End
+turn_store = Performs (Stores (Output 0) (LoopVariable 0) (Binary Add (Variable 0) (Number 1))) End
 
 -- v0 = a0[i0]; and one more is stored
 abbrev pub turn_body : Code
-turn_body = Loads 0 (Input 0) (LoopVariable 0) turn_store
+turn_body = Performs (Loads 0 (Input 0) (LoopVariable 0)) turn_store
 
 -- for (uint i0 = (uint)get_global_id(0); i0 < s0; i0 += (uint)get_global_size(0)) { v0 = a0[i0];
 -- o0[i0] = (v0 + 1u); }

@@ -4,7 +4,7 @@ use Rattle.std.specs.Prelude.{◌≡◌, ℕ, zero, suc, ◌+◌, ◌*◌, ◌-�
 use Rattle.scalar_ops.specs.declared.op.Op.TheVariants.{Add, Sub, Mul, Div}
 use Rattle.kernel_tree.specs.declared.tree.Dimension.TheVariants.{X}
 use Rattle.kernel_tree.specs.Formula.{Formula, Number, Variable, LoopVariable, Size, Binary}
-use Rattle.kernel_tree.specs.Code.{Array, Input, Output, Local, Private, FromGroupId, ByGroupCount, FromLocalId, ByLocalSize, Code, End, Loads, Stores, Loops, Syncs, Kernel}
+use Rattle.kernel_tree.specs.Code.{Array, Input, Output, Local, Private, FromGroupId, ByGroupCount, FromLocalId, ByLocalSize, Loads, Stores, Code, End, Performs, Loops, Kernel}
 use Rattle.kernel_tree.specs.Launch.{Launch, Cells, IsWhole, IsFlat, in_a_row, item_count, group_size, groups_across}
 use Rattle.kernel_tree.specs.Device.{Cell, row}
 use Rattle.barrier_placement.specs.declared.touches.Touch.{Touch}
@@ -19,6 +19,7 @@ use Rattle.printed_form.specs.Headline.{EveryRunKeeps}
 use Rattle.printed_form.specs.MapForms.{Looped}
 use Rattle.printed_form.specs.Marks.{Spot}
 use Rattle.printed_form.specs.Whole.{no_marks}
+use Rattle.group_phases.specs.Epochs.{fenced}
 use Rattle.group_phases.specs.Outcome.{BarriersServeAll}
 use Rattle.group_phases.specs.Phases.{Phase, Place, PhaseList}
 
@@ -30,7 +31,9 @@ tile_index = Binary Add (Binary Mul (LoopVariable 0) (Number 2)) (LoopVariable 1
 
 -- l0[i1] = a0[((i0 * 2u) + i1)];
 abbrev pub copy_turn : Code
-copy_turn = Loads 0 (Input 0) tile_index (Stores (Local 0) (LoopVariable 1) (Variable 0) End)
+copy_turn =
+    Performs (Loads 0 (Input 0) tile_index)
+    (Performs (Stores (Local 0) (LoopVariable 1) (Variable 0)) End)
 
 -- the place in the tile that is read: its own, or the neighbour's
 abbrev pub read_index : (neighbour : Bool) → Formula
@@ -45,19 +48,14 @@ read_place false j = j
 -- o0[((i0 * 2u) + i1)] = (l0[..] + 1u);
 abbrev pub add_turn : (neighbour : Bool) → Code
 add_turn neighbour =
-    Loads 1 (Local 0) (read_index neighbour)
-    (Stores (Output 0) tile_index (Binary Add (Variable 1) (Number 1)) End)
+    Performs (Loads 1 (Local 0) (read_index neighbour))
+    (Performs (Stores (Output 0) tile_index (Binary Add (Variable 1) (Number 1))) End)
 
 -- the loop of the copy, or that of the sums
 abbrev pub phase_code : (neighbour : Bool) → ℕ → Code → Code
 phase_code neighbour zero rest = Loops (FromLocalId X) (Number 2) (ByLocalSize X) copy_turn rest
 phase_code neighbour (suc q) rest =
     Loops (FromLocalId X) (Number 2) (ByLocalSize X) (add_turn neighbour) rest
-
--- a barrier, where one stands
-abbrev pub fenced : Fencing → Code → Code
-fenced Open rest = rest
-fenced (Fenced on_local on_global) rest = Syncs on_local on_global rest
 
 -- the two phases, with what stands before each and at the end
 abbrev pub tile_body : (neighbour : Bool) → (ℕ → Fencing) → Code

@@ -1,19 +1,22 @@
 //! Alternatives of terms.
 
-ghost use Rattle.std.specs.Prelude.{◌<◌, Some};
+ghost use Rattle.std.specs.Prelude.{◌<◌, ◌∷◌, [], Some};
+ghost use Rattle.readings.specs.Readings.{Form};
 ghost use Rattle.readings.specs.Given.{Gave};
-ghost use Rattle.lift_reader.specs.Forms.{items, grouping_form};
-ghost use Rattle.lift_reader.specs.Grammar.{behind_fold, behind_let, behind_map, of_product};
-ghost use Rattle.lift_reader.specs.Rows.{compound, operator_row, product_row, special};
+ghost use Rattle.lift_reader.specs.Forms.{items, division_form, nonterminal_of};
+ghost use Rattle.lift_reader.specs.Grammar.{Divisor, backslash, behind_fold, behind_let, behind_map, comma, of_product, opens, term};
+ghost use Rattle.lift_reader.specs.Meant.{form_of, grouping_form};
+ghost use Rattle.lift_reader.specs.Rows.{compound, one_term, operator_row, product_row, special, two_terms};
 ghost use Rattle.lift_reader.specs.Shown.{lexeme};
 
 use crate::alternatives::{BACKSLASH, CLOSE, COMMA, DOT, EQUALS, OPEN, UNBIND, give};
 use crate::grammar::{
-    Action, Debts, Division, Double, Grouping, Nonterminal, Triple, Window, binary_of, reducer_of,
-    unary_of,
+    Action, Debts, Division, Double, Grouping, Nonterminal, Single, Triple, Window, binary_of,
+    reducer_of, unary_of,
 };
 use crate::token::Kind;
 use crate::word::Word;
+use lift_tree::term::BinaryForm;
 use readings::Owed;
 use std::alloc::AllocError;
 
@@ -132,58 +135,73 @@ fn give_product(grouping: Grouping, depth: u32, owed: &mut Debts<'_>) -> Result<
     give(owed, &[OPEN, product, factor, rest])
 }
 
+// What follows the word of a division, or of its remainder.
+fn give_division(division: Division, below: u32, owed: &mut Debts<'_>) -> Result<bool, AllocError>
+    ensures { Gave items result owed.old.items owed.new.items
+        (Some (opens ∷ term below ∷ comma ∷ Form (Divisor (division_form division)) ∷ [])) }
+{
+    let term = Owed::Form(Nonterminal::Term(below));
+    let divisor = Owed::Form(Nonterminal::Divisor(division));
+    give(owed, &[OPEN, term, COMMA, divisor])
+}
+
+// A form in parentheses that are opened here.
+fn give_opened<'a>(form: Nonterminal<'a>, owed: &mut Debts<'a>) -> Result<bool, AllocError>
+    ensures { Gave items result owed.old.items owed.new.items
+        (Some (opens ∷ Form (nonterminal_of form.entry) ∷ [])) }
+{
+    give(owed, &[OPEN, Owed::Form(form)])
+}
+
+// The same, where a name is bound first.
+fn give_binder<'a>(form: Nonterminal<'a>, owed: &mut Debts<'a>) -> Result<bool, AllocError>
+    ensures { Gave items result owed.old.items owed.new.items
+        (Some (opens ∷ backslash ∷ Form (nonterminal_of form.entry) ∷ [])) }
+{
+    give(owed, &[OPEN, BACKSLASH, Owed::Form(form)])
+}
+
 /// What follows a word that no term like another begins with.
 fn give_special(depth: u32, word: Word, owed: &mut Debts<'_>) -> Result<bool, AllocError>
     requires { depth < 256 }
     ensures { Gave items result owed.old.items owed.new.items (special depth word) }
 {
     let below = depth + 1;
-    let term = Owed::Form(Nonterminal::Term(below));
     match word {
-        Word::Div => give(
-            owed,
-            &[
-                OPEN,
-                term,
-                COMMA,
-                Owed::Form(Nonterminal::Divisor(Division::Div)),
-            ],
-        ),
-        Word::Rem => give(
-            owed,
-            &[
-                OPEN,
-                term,
-                COMMA,
-                Owed::Form(Nonterminal::Divisor(Division::Rem)),
-            ],
-        ),
+        Word::Div => give_division(Division::Div, below, owed),
+        Word::Rem => give_division(Division::Rem, below, owed),
         Word::Select => give_select(depth, owed),
         Word::Let => give(owed, &[Owed::Form(Nonterminal::LetName(below))]),
-        Word::Map => give(
-            owed,
-            &[OPEN, BACKSLASH, Owed::Form(Nonterminal::MapName(below))],
-        ),
-        Word::Reduce => give(
-            owed,
-            &[OPEN, Owed::Form(Nonterminal::ReduceOperator(below))],
-        ),
-        Word::Fold => give(
-            owed,
-            &[OPEN, BACKSLASH, Owed::Form(Nonterminal::FoldName(below))],
-        ),
+        Word::Map => give_binder(Nonterminal::MapName(below), owed),
+        Word::Reduce => give_opened(Nonterminal::ReduceOperator(below), owed),
+        Word::Fold => give_binder(Nonterminal::FoldName(below), owed),
         Word::Split => give_product(Grouping::Split, depth, owed),
         Word::Stride => give_product(Grouping::Stride, depth, owed),
-        Word::Slide => give(
-            owed,
-            &[OPEN, Owed::Form(Nonterminal::First(Window::Slide, below))],
-        ),
-        Word::Pad => give(
-            owed,
-            &[OPEN, Owed::Form(Nonterminal::First(Window::Pad, below))],
-        ),
+        Word::Slide => give_opened(Nonterminal::First(Window::Slide, below), owed),
+        Word::Pad => give_opened(Nonterminal::First(Window::Pad, below), owed),
         _ => Ok(false),
     }
+}
+
+// What follows the word of a form with two terms.
+fn give_two(depth: u32, form: BinaryForm, owed: &mut Debts<'_>) -> Result<bool, AllocError>
+    requires { depth < 256 }
+    ensures { Gave items result owed.old.items owed.new.items (Some (two_terms depth form)) }
+{
+    let below = Owed::Form(Nonterminal::Term(depth + 1));
+    let made = Owed::Mark(Action::Make2(Double::Binary(form)));
+    give(owed, &[OPEN, below, COMMA, below, CLOSE, made])
+}
+
+// What follows the word of a form with one term.
+fn give_one(depth: u32, form: Single, owed: &mut Debts<'_>) -> Result<bool, AllocError>
+    requires { depth < 256 }
+    ensures { Gave items result owed.old.items owed.new.items
+        (Some (one_term depth (form_of form))) }
+{
+    let below = Owed::Form(Nonterminal::Term(depth + 1));
+    let made = Owed::Mark(Action::Make1(form));
+    give(owed, &[OPEN, below, CLOSE, made])
 }
 
 /// What follows a word that begins a term.
@@ -191,13 +209,11 @@ pub fn give_compound(depth: u32, word: Word, owed: &mut Debts<'_>) -> Result<boo
     requires { depth < 256 }
     ensures { Gave items result owed.old.items owed.new.items (compound depth word) }
 {
-    let below = Owed::Form(Nonterminal::Term(depth + 1));
     if let Some(form) = binary_of(word) {
-        let made = Owed::Mark(Action::Make2(Double::Binary(form)));
-        return give(owed, &[OPEN, below, COMMA, below, CLOSE, made]);
+        return give_two(depth, form, owed);
     }
     if let Some(form) = unary_of(word) {
-        return give(owed, &[OPEN, below, CLOSE, Owed::Mark(Action::Make1(form))]);
+        return give_one(depth, form, owed);
     }
     give_special(depth, word, owed)
 }

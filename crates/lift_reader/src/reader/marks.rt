@@ -4,9 +4,10 @@ ghost use Rattle.std.specs.Prelude.{◌≡◌, ◌++◌, ◌∷◌, [], IfOk, On
 ghost use Rattle.readings.specs.Given.{Noticed};
 ghost use Rattle.lift_tree.specs.Tree as trees;
 ghost use Rattle.lift_tree.specs.Tree.{tree_of};
-ghost use Rattle.lift_reader.specs.Forms.{form_of, double_of, triple_of, grouping_form};
+ghost use Rattle.lift_reader.specs.Forms.{double_of, triple_of};
 ghost use Rattle.lift_reader.specs.Grammar as grammar;
 ghost use Rattle.lift_reader.specs.Grammar.{marked};
+ghost use Rattle.lift_reader.specs.Meant.{form_of, grouping_form};
 ghost use Rattle.lift_reader.specs.Noted.{noted_by};
 
 use crate::grammar::{Double, Grouping, Single, Triple};

@@ -1,6 +1,5 @@
 use Rattle.std.proofs.Common.{ap₂, ◌≡◌, ◌∙◌, Bor, List, [], ◌∷◌, map, rules}
 use Rattle.std.proofs.lemmas.Result.{IfOk-weaker}
-use Rattle.std.specs.Prelude.{codes}
 use Rattle.clap.specs.Words.{App, Text, app_of, with_subcommand}
 use Rattle.command_line.specs.App.{kernel_commands, launch, program, script, seed, words_command}
 use Rattle.command_line.proofs.command.lift_command.Goals as goal
@@ -16,7 +15,7 @@ returns c =
     let sources : texts_of c.as_slice-sources.result.now ≡ program ∷ script ∷ [] = search rules in
     let files : texts_of c.as_slice-files.result.now ≡ program ∷ script ∷ launch ∷ [] = search rules in
     let number : texts_of c.as_slice.result.now ≡ seed ∷ [] = search rules in
-    let steps = c.in_ok-command.ensures.app ∙ one_more _ kernel_commands (codes "steps") _ _ c.in_ok-kernel_commands.ensures.app sources in
-    let stages = c.in_ok-command-2.ensures.app ∙ one_more _ _ (codes "stages") _ _ steps sources in
-    let run = c.in_ok-command-3.ensures.app ∙ one_more _ _ (codes "run-stages") _ _ stages files in
-    IfOk-weaker c.with_words-4.result _ _ (λ m h. h ∙ one_more _ _ (codes "demo") _ _ run number) c.with_words-4.ensures.app
+    let steps = c.in_ok-command.ensures.app ∙ one_more _ kernel_commands _ _ _ c.in_ok-kernel_commands.ensures.app sources in
+    let stages = c.in_ok-command-2.ensures.app ∙ one_more _ _ _ _ _ steps sources in
+    let run = c.in_ok-command-3.ensures.app ∙ one_more _ _ _ _ _ stages files in
+    IfOk-weaker c.with_words-4.result _ _ (λ m h. h ∙ one_more _ _ _ _ _ run number) c.with_words-4.ensures.app

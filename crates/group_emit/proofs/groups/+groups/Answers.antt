@@ -1,8 +1,7 @@
-use Rattle.std.proofs.Common.{◌≡◌, IfOk, ap, subst₂}
-use Rattle.lift_ir.specs.Terms.{Map}
+use Rattle.std.proofs.Common.{◌≡◌, IfOk, ap, subst, subst₂}
 use Rattle.group_form.specs.Printer.{print_groups}
 use Rattle.array_views.specs.Views.{view_in}
-use Rattle.lowering.specs.Terms.{kind_of, load_set_of, term_of}
+use Rattle.lowering.specs.Terms.{map_of, term_of}
 use Rattle.item_emit.specs.Blocks.{code_in}
 use Rattle.item_emit.specs.Scopes.{scope_of}
 use Rattle.group_emit.specs.Settings.{fence_in, forms_in, inputs_of, spell_of}
@@ -13,5 +12,5 @@ returns-in_ok-target-in-Reshape t c = rw c.in-Reshape.is (subst₂ (λ a w. IfOk
     (ap term_of c.deref.ensures) c.in_ok-target-in-Reshape.ensures.view c.groups.ensures)
 
 pub returns-in-Map : goal.returns-in-Map
-returns-in-Map t c = rw c.in-Map.is (subst₂ (λ xs body. IfOk c.group_statement.result (λ b. code_in b ≡ print_groups (spell_of c.args.setting.now) (forms_in c.args.setting.now) (inputs_of c.args.setting.now) (fence_in c.args.setting.now) (scope_of c.args.scope.now) (Map (kind_of c.in-Map.kind) c.in-Map.count (load_set_of c.in-Map.loads) xs body) (view_in c.args.target.now)))
-    (ap term_of c.deref-in-Map.ensures) (ap term_of c.deref-in-Map-2.ensures) c.group_statement.ensures)
+returns-in-Map t c = rw c.in-Map.is (subst (λ m. IfOk c.group_statement.result (λ b. code_in b ≡ print_groups (spell_of c.args.setting.now) (forms_in c.args.setting.now) (inputs_of c.args.setting.now) (fence_in c.args.setting.now) (scope_of c.args.scope.now) (map_of m) (view_in c.args.target.now)))
+    c.deref-in-Map.ensures c.group_statement.ensures)

@@ -22,7 +22,7 @@ put_let-returns t c = subst (λ u. OnOk c.put_argument.result (code_in c.put_arg
 
 pub put_map-returns : goal.put_map-returns
 put_map-returns t c = subst (λ u. OnOk c.put_argument.result (code_in c.put_argument.new.block ≡ u))
-    (written_map {A = List Monomial} (spell_of c.args.setting.now) (forms_in c.args.setting.now) (inputs_of c.args.setting.now) (fence_in c.args.setting.now) c.args.site.now.depth (scope_of c.args.site.now.scope.now) (used_of c.args.site.now.used) (kind_of c.args.kind) c.args.count.now (load_set_of c.args.loads.now) (term_of c.args.array.now) (term_of c.args.body.now) (view_in c.args.target.now) (code_in c.args.block.now) _ _ _ _ c.in_ok-view.ensures c.in_ok-after.ensures c.in_ok-put_local_map.ensures c.in_ok-put_barrier.ensures)
+    (written_map {A = List Monomial} (spell_of c.args.setting.now) (forms_in c.args.setting.now) (inputs_of c.args.setting.now) (fence_in c.args.setting.now) c.args.site.now.depth (scope_of c.args.site.now.scope.now) (used_of c.args.site.now.used) (kind_of c.args.map.now.kind) c.args.map.now.length (load_set_of c.args.map.now.loads) (term_of c.args.map.now.array) (term_of c.args.map.now.body) (view_in c.args.target.now) (code_in c.args.block.now) _ _ _ _ c.in_ok-view.ensures c.in_ok-after.ensures c.in_ok-put_local_map.ensures c.in_ok-put_barrier.ensures)
     c.put_argument.ensures
 
 pub put_written-returns-in_ok-target-in-Reshape : goal.put_written-returns-in_ok-target-in-Reshape

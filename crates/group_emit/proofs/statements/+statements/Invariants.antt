@@ -13,7 +13,7 @@ abbrev pub decreases-put_written : goal.decreases-put_written
 decreases-put_written l = 2 * nodes (term_of l.term.now)
 
 abbrev pub decreases-put_map : goal.decreases-put_map
-decreases-put_map l = 2 * nodes (term_of l.array.now) + 1
+decreases-put_map l = 2 * nodes (term_of l.map.now.array) + 1
 
 abbrev pub decreases-put_let : goal.decreases-put_let
 decreases-put_let l = 2 * (nodes (term_of l.value.now) + nodes (term_of l.body.now)) + 1

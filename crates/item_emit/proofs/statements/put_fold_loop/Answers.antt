@@ -11,5 +11,5 @@ use Rattle.item_emit.proofs.statements.put_fold_loop.Goals as goal
 
 pub returns : goal.returns
 returns c = subst (λ u. OnOk c.put_bound_element.result (code_in c.put_bound_element.new.block ≡ u))
-    (fold_loop (scope_of c.args.site.now.scope.now) c.args.site.now.variable (element_ty (ty_of c.args.ty.now)) (formula_of c.args.length) (term_of c.args.start.now) (view_in c.args.target.now) (load_set_of c.args.loads.now) (view_in c.args.element.now) (term_of c.args.body.now) (code_in c.args.block.now) _ _ _ _ _ _ _ c.in_ok-let_variables.ensures c.in_ok-accumulator.ensures c.in_ok-put_fold_turn.ensures c.in_ok-values.ensures c.in_ok-at_first.ensures c.in_ok-put_stored.ensures c.in_ok-put_loop.ensures)
+    (fold_loop (scope_of c.args.site.now.scope.now) c.args.site.now.variable (element_ty (ty_of c.args.fold.now.accumulator)) (formula_of c.args.length) (term_of c.args.fold.now.start) (view_in c.args.target.now) (load_set_of c.args.fold.now.loads) (view_in c.args.element.now) (term_of c.args.fold.now.body) (code_in c.args.block.now) _ _ _ _ _ c.in_ok-let_variables.ensures c.in_ok-accumulator.ensures c.in_ok-turn.ensures c.in_ok-put_result.ensures c.in_ok-put_loop.ensures)
     c.put_bound_element.ensures

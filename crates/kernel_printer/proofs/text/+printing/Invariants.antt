@@ -1,11 +1,13 @@
-use Rattle.std.proofs.Common.{◌≡◌, take, ◌+◌, ◌*◌, ◌-◌}
+use Rattle.std.proofs.Common.{◌≡◌, List, ◌++◌, take, ◌+◌, ◌*◌, ◌-◌}
 use Rattle.kernel_tree.specs.Code.{Code}
 use Rattle.kernel_tree.specs.Tree.{code_then}
-use Rattle.kernel_printer.specs.Bytes.{write_code}
+use Rattle.kernel_tree.specs.KernelText.{Piece}
+use Rattle.kernel_tree.specs.Pieces.{joined}
+use Rattle.kernel_spelling.specs.Spelling.{spell_code}
 use Rattle.kernel_printer.proofs.text.+printing.Given as goal
 
 abbrev pub invariant-print_block-loop-statement : goal.invariant-print_block-loop-statement
-invariant-print_block-loop-statement l = (after : Code) → write_code l.place.loops l.place.nest l.fn.text.items (code_then (take l.statement-index l.block) after) ≡ write_code l.place.loops l.place.nest l.text.items after
+invariant-print_block-loop-statement l = (after : Code) (back : List Piece) → l.fn.text.items ++ joined (spell_code l.place.loops l.place.nest (code_then (take l.statement-index l.block) after) back) ≡ l.text.items ++ joined (spell_code l.place.loops l.place.nest after back)
 
 -- how many levels are left
 abbrev pub decreases-print_block : goal.decreases-print_block

@@ -1,8 +1,10 @@
-use Rattle.std.proofs.Common.{◌∙◌, ap, sym, ◌-◌, ◌++◌, ◌≡◌}
+use Rattle.std.proofs.Common.{[], ◌∙◌, ap, sym, ◌-◌, ◌++◌, ◌≡◌}
 use Rattle.std.specs.Prelude.{codes}
 use Rattle.kernel_tree.specs.Code.{End}
+use Rattle.kernel_tree.specs.Pieces.{joined}
 use Rattle.kernel_tree.specs.Tree.{code_then}
-use Rattle.kernel_printer.specs.Bytes.{write_code, write_inputs, write_outputs, write_sizes, write_locals, write_privates, write_variables, write_vectors, write_head}
+use Rattle.kernel_spelling.specs.Spelling.{spell_code}
+use Rattle.kernel_printer.specs.Bytes.{write_inputs, write_outputs, write_sizes, write_locals, write_privates, write_variables, write_vectors, write_head}
 use Rattle.kernel_printer.proofs.text.print_kernel.Goals as goal
 
 pub returns-clause-text : goal.returns-clause-text
@@ -19,6 +21,6 @@ returns-clause-text c =
     let variables = c.in_ok-print_variables.ensures ∙ ap (λ z. write_variables z k.variables) privates in
     let vectors = c.in_ok-print_vectors.ensures ∙ ap (λ z. write_vectors z k.vectors) variables in
     c.in_ok-print_end.ensures
-    ∙ sym (c.in_ok-print_block.ensures End)
-    ∙ ap (λ z. write_code 0 0 c.print_vectors.new.text.items (code_then z End)) c.deref-3.ensures.value
-    ∙ ap (λ z. write_code 0 0 z (code_then k.body.items End)) vectors
+    ∙ sym (c.in_ok-print_block.ensures End [])
+    ∙ ap (λ z. c.print_vectors.new.text.items ++ joined (spell_code 0 0 (code_then z End) [])) c.deref-3.ensures.value
+    ∙ ap (λ z. z ++ joined (spell_code 0 0 (code_then k.body.items End) [])) vectors

@@ -29,10 +29,10 @@ returns c =
     let left =
     subst (λ (g : Given). map (λ (l : Vec ℕ Global). l.items) c.in_ok-outcome.outcome.outputs.items ≡ lists_of output (source_value p (world_given g))) c.in_ok-file.ensures c.in_ok-outcome.ensures.left in
     let sum = c.wrapped_sum-sum.ensures ∙ ap (λ (rows : List (Vec ℕ Global)). wrapped_sum (map (λ (l : Vec ℕ Global). l.items) rows)) c.deref.ensures.value ∙ ap wrapped_sum left in
-    let last : c.deref-3.result.now ≡ demo_line seed counts (wrapped_sum (lists_of output (source_value p (world_given (demo_given seed))))) =
-    c.deref-3.ensures.value ∙ c.in_ok-line.ensures ∙ ap (demo_line seed counts) sum in
+    let last : c.in_ok-line.line.items ≡ demo_line seed counts (wrapped_sum (lists_of output (source_value p (world_given (demo_given seed))))) =
+    c.in_ok-line.ensures ∙ ap (demo_line seed counts) sum in
     made_of c.lines_of.result
-    (λ (lines : Vec ℕ Global). lines.items ≡ trace_lines c.deref-2.result.now ++ c.deref-3.result.now)
+    (λ (lines : Vec ℕ Global). lines.items ≡ trace_lines c.deref-2.result.now ++ c.in_ok-line.line.items)
     (λ (lines : Vec ℕ Global). IsLineOfDemo p output compiled.text.items seed lines.items)
     (λ lines h. record {
       kernel = ran.kernel;

@@ -20,14 +20,14 @@ returns c =
     let g = given_by c.args.file.now in
     let counts : ℕ × ℕ = (c.in_ok-outcome.outcome.events, c.in_ok-outcome.outcome.releases) in
     made_of c.lines_of.result
-    (λ (lines : Vec ℕ Global). lines.items ≡ trace_lines c.deref-2.result.now ++ c.deref-3.result.now)
+    (λ (lines : Vec ℕ Global). lines.items ≡ trace_lines c.deref-2.result.now ++ c.in_ok-line.line.items)
     (λ (lines : Vec ℕ Global). AreLinesOfText p (ty_of compiled.output) compiled.text.items g c.args.trace lines.items)
     (λ lines h. record {
       events = c.in_ok-outcome.outcome.events;
       releases = c.in_ok-outcome.outcome.releases;
       seen = c.in_ok-outcome.seen.items;
       run = c.in_ok-outcome.ensures.run;
-      written = h ∙ ap₂ (λ (shown : List Seen) (line : List ℕ). trace_lines shown ++ line) c.deref-2.ensures.value (c.deref-3.ensures.value ∙ c.in_ok-line.ensures ∙ ∥∥₁_elim compiled.text_for (Prim.hlevel props) (λ t.
+      written = h ∙ ap₂ (λ (shown : List Seen) (line : List ℕ). trace_lines shown ++ line) c.deref-2.ensures.value (c.in_ok-line.ensures ∙ ∥∥₁_elim compiled.text_for (Prim.hlevel props) (λ t.
           value_told p (ty_of compiled.output) (asks_with compiled.is_task compiled.local) compiled.text.items g c.values_have_their_types.ensures c.requires t
           c.lists_hold_one_value.ensures _ _ (Some counts) c.in_ok-outcome.ensures.left (ap (λ ls. value_in g.bases (ty_of compiled.output) (map (λ l. l.items) ls) 0 0) c.deref.ensures.value)));
     }) c.lines_of.ensures

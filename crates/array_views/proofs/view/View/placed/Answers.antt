@@ -1,13 +1,13 @@
 use Rattle.std.proofs.Common.{ap, ◌∙◌}
+use Rattle.std.proofs.lemmas.Result.{IfOk-weaker}
 use Rattle.lift_tree.specs.Types.{ty_of}
 use Rattle.lift_ir.specs.AtLaunch.{shape_of}
 use Rattle.length_spelling.specs.Formulas.{spelled_length}
 use Rattle.array_views.specs.Arrays.{array_with}
 use Rattle.array_views.specs.Views.{Placed, view_of}
-use Rattle.array_views.proofs.Loads.{if_ok}
 use Rattle.array_views.proofs.Shapes.{placed_spelled}
 use Rattle.array_views.proofs.view.View.placed.Goals as goal
 
 pub returns-clause-view : goal.returns-clause-view
 returns-clause-view c =
-    if_ok c.new.result (λ v e. ap view_of (e ∙ ap (Placed c.args.kind c.args.first) c.in_ok-extent.ensures) ∙ placed_spelled (spelled_length c.args.names.now) (array_with c.args.kind) c.args.first (shape_of (ty_of c.args.ty.now))) c.new.ensures
+    IfOk-weaker c.new.result _ _ (λ v e. ap view_of (e ∙ ap (Placed c.args.kind c.args.first) c.in_ok-extent.ensures) ∙ placed_spelled (spelled_length c.args.names.now) (array_with c.args.kind) c.args.first (shape_of (ty_of c.args.ty.now))) c.new.ensures

@@ -12,6 +12,12 @@ decreases-folded l = 8 * size-Term l.body.now + 3
 abbrev pub decreases-fold : goal.decreases-fold
 decreases-fold l = 8 * max (size-Term l.xs.now) (max (size-Term l.start.now) (size-Term l.body.now)) + 4
 
+abbrev pub decreases-binary : goal.decreases-binary
+decreases-binary l = 8 * max (size-Term l.a.now) (size-Term l.b.now) + 4
+
+abbrev pub decreases-select : goal.decreases-select
+decreases-select l = 8 * max (size-Term l.condition.now) (max (size-Term l.yes.now) (size-Term l.no.now)) + 4
+
 abbrev pub decreases-map : goal.decreases-map
 decreases-map l = 8 * max (size-Term l.xs.now) (size-Term l.body.now) + 4
 

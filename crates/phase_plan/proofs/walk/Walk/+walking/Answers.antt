@@ -1,7 +1,8 @@
-use Rattle.std.proofs.Common.{◌+◌, ◌∷◌, [], sym, ap, ◌∙◌, subst, subst₂}
+use Rattle.std.proofs.Common.{ℕ, ◌+◌, ◌∷◌, [], sym, ap, ◌∙◌, subst, subst₂}
 use Rattle.std.proofs.lemmas.Result.{on_ok_weaker}
 use Rattle.lift_ir.specs.Terms.{push}
 use Rattle.lowering.specs.Terms.{load_set_of, term_of}
+use Rattle.lowering.specs.declared.term.Map.{Map}
 use Rattle.lowering.specs.declared.term.Term.{Term}
 use Rattle.group_form.specs.Origins.{Origin, local_count, origin_of}
 use Rattle.group_form.specs.Uses.{argument_uses, written_uses, loop_uses}
@@ -68,15 +69,15 @@ written-returns-in_ok-argument-in-Map-clause-goes_on t c =
     let before = c.args.self.now in
     let between = c.argument-in-Map.new.self in
     let after = c.add_phase.new.self in
-    let loads = load_set_of c.in-Map.loads in
-    let array = term_of c.in-Map.array.value in
-    let body = term_of c.in-Map.body.value in
+    let m = c.in-Map.map.value in
+    let array = term_of m.array in
     let argument = origin_of env before.arrays array in
-    let at_array = ap (λ x. origin_of env before.arrays (term_of x)) c.deref-in-Map.ensures in
-    let first : GoesOn before between (argument_uses env before.arrays array) (local_count array) = subst (λ (x : Term). GoesOn before between (argument_uses env before.arrays (term_of x)) (local_count (term_of x))) c.deref-in-Map.ensures c.in_ok-argument-in-Map.ensures.goes_on in
+    let at_array = ap (λ (x : Map). origin_of env before.arrays (term_of x.array)) c.deref-in-Map.ensures in
+    let first : GoesOn before between (argument_uses env before.arrays array) (local_count array) = subst (λ (x : Map). GoesOn before between (argument_uses env before.arrays (term_of x.array)) (local_count (term_of x.array))) c.deref-in-Map.ensures c.in_ok-argument-in-Map.ensures.goes_on in
+    let uses = λ (o : Origin) (x : Map) (k : ℕ). loop_uses env o (load_set_of x.loads) (term_of x.body) (destination_from k to) direct ∷ [] in
     on_ok_weaker c.add_phase.result
-    (λ (second : GoesOn between after (loop_uses env (origin_in c.in_ok-argument-in-Map.argument) loads (term_of c.deref-in-Map-2.result.now) (destination_from between.arrays to) direct ∷ []) (width_of to)).
+    (λ (second : GoesOn between after (uses (origin_in c.in_ok-argument-in-Map.argument) c.deref-in-Map-2.result.now between.arrays) (width_of to)).
     subst (λ (x : Term). GoesOn before after (written_uses env before.arrays (term_of x) (destination_from (before.arrays + local_count (term_of x)) to) direct) (local_count (term_of x) + width_of to)) (sym c.in-Map.is)
-    (goes_further before between after (argument_uses env before.arrays array) (λ k. loop_uses env argument loads body (destination_from k to) direct ∷ []) (local_count array) (width_of to) first
-    (subst₂ (λ (o : Origin) (x : Term). GoesOn between after (loop_uses env o loads (term_of x) (destination_from between.arrays to) direct ∷ []) (width_of to)) (c.in_ok-argument-in-Map.ensures.origin ∙ at_array) c.deref-in-Map-2.ensures second)))
+    (goes_further before between after (argument_uses env before.arrays array) (uses argument m) (local_count array) (width_of to) first
+    (subst₂ (λ (o : Origin) (x : Map). GoesOn between after (uses o x between.arrays) (width_of to)) (c.in_ok-argument-in-Map.ensures.origin ∙ at_array) c.deref-in-Map-2.ensures second)))
     c.add_phase.ensures.goes_on

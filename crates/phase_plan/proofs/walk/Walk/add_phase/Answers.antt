@@ -14,8 +14,8 @@ returns-clause-goes_on c =
     let argument = origin_in c.args.argument.now in
     let env = origins_in c.args.scope.now in
     let writes = writes_to (destination_from c.args.self.now.arrays c.args.to) c.args.direct in
-    let ways = element_ways (load_set_of c.args.loads.now) (term_of c.args.body.now) in
-    let components = named_outside (term_of c.args.body.now) in
+    let ways = element_ways (load_set_of c.args.map.now.loads) (term_of c.args.map.now.body) in
+    let components = named_outside (term_of c.args.map.now.body) in
     let written = c.write.new.self.touches.items in
     let read = c.add_element_reads.new.touches.items in
     record {

@@ -2,7 +2,7 @@ use Rattle.std.proofs.Common.{sym, ap, cond, arith, Some, None, ◌∙◌}
 use Rattle.std.proofs.lemmas.List.{length-map}
 use Rattle.readings.specs.Views.{items_of}
 use Rattle.readings.proofs.Ran.{token_refused}
-use Rattle.readings.proofs.reading.run.Goals as goal
+use Rattle.readings.proofs.reading.take_all.Goals as goal
 
 pub returns-then-not-branch : goal.returns-then-not-branch
 returns-then-not-branch g c =
