@@ -6,6 +6,7 @@ import sys
 from pathlib import Path
 
 FREE = {
+    "group_form",
     "kernel_tree",
     "lift_ir",
     "lift_tree",

@@ -1,7 +1,6 @@
 -- What layouts make of outer indices: alike on all that stands for indices, as the printed form
 -- says, and with the values of positions.
 use Rattle.std.proofs.Common.{◌≡◌, ℕ, ◌+◌, ◌*◌, ◌/◌, ◌-◌, ◌<◌, ◌^◌, Bool, List, [], ◌∷◌, refl, sym, ap, ◌∙◌, subst, arith}
-use Rattle.std.specs.Prelude.{map}
 use Rattle.kernel_tree.specs.Formula as formula
 use Rattle.kernel_tree.specs.Formula.{Formula}
 use Rattle.lift_ir.specs.Types.{Ty, ArrayOf, IsPosition, IsShort}

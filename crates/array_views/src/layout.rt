@@ -1,7 +1,6 @@
 //! Layouts, as functions on stacks of indices.
 
 ghost use Rattle.std.specs.Prelude.{◌≡◌, IfOk, OnOk};
-ghost use Rattle.lift_tree.specs.declared.term.UnaryForm.{UnaryForm};
 ghost use Rattle.lift_tree.specs.Types.{ty_of};
 ghost use Rattle.lift_ir.specs.AtLaunch.{inner_of, layout_of, outer_of};
 ghost use Rattle.index_expr.specs.Expression.{Literal, expression_of};

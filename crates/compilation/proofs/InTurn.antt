@@ -4,6 +4,7 @@ use Rattle.std.proofs.lemmas.List.{map-append, map-id}
 use Rattle.kernel_tree.specs.Code.{Kernel}
 use Rattle.lift_tree.specs.Annotations.{annotation_of, type_in}
 use Rattle.lift_tree.specs.Lists.{Every}
+use Rattle.lift_tree.proofs.EveryAt.{every_more}
 use Rattle.lowered_tree.specs.declared.lowered.Lowered.{Lowered}
 use Rattle.kernel_sequence.specs.Cut.{Part}
 use Rattle.kernel_sequence.specs.Parts.{term_part}
@@ -48,10 +49,6 @@ stops_among local all ls l why at done h =
     (stops_in_turn local (map term_part ls) (term_part l) (map term_part at.rest) why done h)
 
 -- ---- the kernels so far
-
-every_more : {A : Type 0} (P : A → Type 0) (xs : List A) (x : A) → Every P xs → P x → Every P (xs ++ x ∷ [])
-every_more P [] x all h = (h, tt)
-every_more P (y ∷ xs) x all h = (all.0, every_more P xs x all.1 h)
 
 every_in : {A : Type 0} (P : A → Type 0) (xs rest : List A) (x : A) → Every P (xs ++ x ∷ rest) → P x
 every_in P [] rest x all = all.0

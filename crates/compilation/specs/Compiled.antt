@@ -12,7 +12,6 @@ use Rattle.lift_tree.specs.Meaning.{World}
 use Rattle.lowered_tree.specs.Kinds.{asks_of}
 use Rattle.group_phases.specs.Outcome.{BarriersServeAll}
 use Rattle.kernel_emit.specs.Kernels as kernels
-pub use Rattle.kernel_emit.specs.Kernels.{PrintsAs}
 use Rattle.kernel_emit.specs.Kernels.{HasParameters, IsTidy, IsWithinMemory}
 use Rattle.rewriting.specs.Keeps.{Keeps}
 use Rattle.strategy_script.specs.LocalSize.{local_fixed}

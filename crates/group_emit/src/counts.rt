@@ -3,37 +3,13 @@
 
 ghost use Rattle.std.specs.Prelude.{◌≡◌, IfOk};
 ghost use Rattle.group_form.specs.Form as form;
-ghost use Rattle.group_form.specs.Origins as origins;
 ghost use Rattle.group_form.specs.Uses as uses;
 ghost use Rattle.lowering.specs.Terms.{term_of};
 ghost use Rattle.group_emit.specs.Used.{used_of};
 
-use item_emit::counts::{plus, private_count, variable_count, width};
+use item_emit::counts::{local_count, plus, private_count, variable_count};
 use lowering::term::Term;
 use std::alloc::AllocError;
-
-/// How many local arrays a term outside local maps has.
-pub fn local_count(term: &Term) -> Result<u32, AllocError>
-    ensures { IfOk result (λ n. n ≡ origins.local_count (term_of term.now)) }
-{
-    match term {
-        Term::Pair(a, b) | Term::Zip(a, b) | Term::LetArray(a, b) => {
-            plus(local_count(a)?, local_count(b)?)
-        }
-        Term::First(a) | Term::Second(a) | Term::Reshape(_, a) => local_count(a),
-        Term::Map(map) => local_count(&map.array),
-        Term::Copy(_, ty, a) => plus(local_count(a)?, width(ty)?),
-        Term::Literal(_)
-        | Term::Bound(_)
-        | Term::Source(_)
-        | Term::Apply(_, _, _)
-        | Term::ApplyNumber(_, _, _)
-        | Term::Select(_, _, _)
-        | Term::LetElement(_, _, _)
-        | Term::Fold(_)
-        | Term::Store(_, _) => Ok(0),
-    }
-}
 
 /// How many phases, which are local maps, a term outside local maps has.
 pub fn phases_in(term: &Term) -> Result<u32, AllocError>

@@ -26,7 +26,7 @@ use item_emit::scope::Scope;
 use item_emit::statements::at_turn;
 use kernel_tree::tree::{Dimension, Expr, Start, Stride};
 use length_spelling::{Turn, spell_length};
-use lowering::term::{Map, Term};
+use lowering::term::{Map, Space, Term};
 use std::alloc::{AllocError, Global};
 
 // A turn of a map over work-groups, which stands in no loop: of its `if` where `once`, else of its
@@ -116,7 +116,14 @@ fn group_statement(
 {
     let once = setting.is_over_one(&map.length);
     let turn = turn_over_groups(once);
-    let element = argument(alloc, &setting.declared, scope, 0, &map.array)?;
+    let element = argument(
+        alloc,
+        &setting.declared,
+        scope,
+        Space::Private,
+        0,
+        &map.array,
+    )?;
     let element = at_turn(alloc, &element, turn)?;
     let target = at_turn(alloc, target, turn)?;
     let depth = depth_over_groups(once);
@@ -145,7 +152,7 @@ pub fn groups(
             groups(alloc, setting, scope, a, &target)
         }
         Term::LetArray(value, body) => {
-            let bound = argument(alloc, &setting.declared, scope, 0, value)?;
+            let bound = argument(alloc, &setting.declared, scope, Space::Private, 0, value)?;
             groups(alloc, setting, &Scope::Bound(&bound, &*scope), body, target)
         }
         Term::Map(map) => group_statement(alloc, setting, scope, map, target),

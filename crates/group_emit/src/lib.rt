@@ -2,7 +2,6 @@
 //! phases.
 #![tactic(auto)]
 
-pub mod arguments;
 pub mod counts;
 pub mod groups;
 pub mod kernel;

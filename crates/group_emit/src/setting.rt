@@ -61,7 +61,7 @@ impl<'p> Setting<'p> {
     /// number, that closes the body.
     pub fn put_barrier(&self, phase: u32, block: &mut Block) -> Result<(), AllocError>
         ensures { OnOk result (code_in block.new
-            ≡ printer.print_fence (fence_in self.now phase) (code_in block.old)) }
+            ≡ printer.fenced (fence_in self.now phase) (code_in block.old)) }
     {
         match barrier_before(self.barriers, self.phases, phase) {
             None => Ok(()),

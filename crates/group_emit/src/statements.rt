@@ -16,19 +16,19 @@ ghost use Rattle.item_emit.specs.Scopes.{scope_of};
 ghost use Rattle.group_emit.specs.Settings.{fence_in, forms_in, inputs_of, spell_of};
 ghost use Rattle.group_emit.specs.Used.{used_of};
 
-use crate::arguments::{argument, local};
-use crate::counts::{Used, local_count};
+use crate::counts::Used;
 use crate::setting::Setting;
 use array_views::View;
 use group_form::chosen::MapForm;
 use item_emit::accesses::{loaded, put_loaded};
+use item_emit::arguments::{argument, laid};
 use item_emit::block::Block;
-use item_emit::counts::{load_count, plus};
+use item_emit::counts::{load_count, local_count, plus};
 use item_emit::scope::Scope;
 use item_emit::statements as item;
 use kernel_tree::tree::{Dimension, Start, Stride};
 use length_spelling::{Turn, spell_length};
-use lowering::term::{Map, Term};
+use lowering::term::{Map, Space, Term};
 use std::alloc::{AllocError, Global};
 
 /// Where code stands: within so many loops, with these binders in scope, and
@@ -163,11 +163,18 @@ fn put_map(
         (scope_of site.now.scope.now)
         (used_of site.now.used) (map_of map.now) (view_in target.now) (code_in block.old)) }
 {
-    let view = argument(alloc, setting, site.scope, site.used.locals, &map.array)?;
+    let declared = &setting.declared;
+    let view = argument(
+        alloc,
+        declared,
+        site.scope,
+        Space::Local,
+        site.used.locals,
+        &map.array,
+    )?;
     let after = Site {
-        depth: site.depth,
-        scope: site.scope,
         used: site.used.after(&map.array)?,
+        ..*site
     };
     put_local_map(alloc, setting, &after, map, &view, target, block)?;
     setting.put_barrier(after.used.phases, block)?;
@@ -193,7 +200,15 @@ fn put_let(
         (used_of site.now.used) (terms.LetArray (term_of value.now) (term_of body.now))
         (view_in target.now) (code_in block.old)) }
 {
-    let bound = argument(alloc, setting, site.scope, site.used.locals, value)?;
+    let declared = &setting.declared;
+    let bound = argument(
+        alloc,
+        declared,
+        site.scope,
+        Space::Local,
+        site.used.locals,
+        value,
+    )?;
     let inner = Site {
         depth: site.depth,
         scope: &Scope::Bound(&bound, site.scope),
@@ -221,7 +236,15 @@ fn put_argument_let(
         (used_of site.now.used) (terms.LetArray (term_of value.now) (term_of body.now))
         (code_in block.old)) }
 {
-    let bound = argument(alloc, setting, site.scope, site.used.locals, value)?;
+    let declared = &setting.declared;
+    let bound = argument(
+        alloc,
+        declared,
+        site.scope,
+        Space::Local,
+        site.used.locals,
+        value,
+    )?;
     let inner = Site {
         depth: site.depth,
         scope: &Scope::Bound(&bound, site.scope),
@@ -249,9 +272,8 @@ pub fn put_argument(
     match term {
         Term::Pair(a, b) | Term::Zip(a, b) => {
             let next = Site {
-                depth: site.depth,
-                scope: site.scope,
                 used: site.used.after(a)?,
+                ..*site
             };
             put_argument(alloc, setting, &next, b, block)?;
             put_argument(alloc, setting, site, a, block)
@@ -261,7 +283,8 @@ pub fn put_argument(
         }
         Term::LetArray(value, body) => put_argument_let(alloc, setting, site, value, body, block),
         Term::Copy(_, ty, a) => {
-            let target = local(alloc, plus(site.used.locals, local_count(a)?)?, ty)?;
+            let first = plus(site.used.locals, local_count(a)?)?;
+            let target = laid(alloc, Space::Local, first, ty)?;
             put_written(alloc, setting, site, a, &target, block)
         }
         Term::Literal(_)

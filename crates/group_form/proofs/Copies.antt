@@ -1,40 +1,21 @@
 -- The local arrays of a term are as long as their values, where a kernel has them by their lengths.
-use Rattle.std.proofs.Common.{◌≡◌, ℕ, ◌+◌, ◌-◌, ◌<◌, List, [], ◌++◌, length, Bool, true, false, refl, ap, ◌∙◌, arith, length-append}
-use Rattle.std.specs.Prelude.{replicate, slice_index}
+use Rattle.std.proofs.Common.{◌≡◌, ℕ, ◌+◌, List, [], ◌++◌, length, Bool, true, false, refl, ap, ◌∙◌, arith}
+use Rattle.std.specs.Prelude.{replicate}
 use Rattle.std.proofs.lemmas.List.{length-replicate, get_or-replicate}
-use Rattle.std.proofs.Math.ListN.{get_or-append}
-use Rattle.std.proofs.Math.Seq.{get_or-append_right}
 use Rattle.kernel_tree.specs.Code.{Array, Local as LocalArray}
 use Rattle.lift_ir.specs.Types.{width, size}
-use Rattle.lift_ir.specs.Forms.{Stands}
-use Rattle.lift_ir.specs.Terms.{Local, Sequential, Space, LocalMemory, PrivateMemory, Term, Bound, Source, Both, Project, Reshape, LetArray, LetElement, Map, Fold, Store, Copy}
-use Rattle.printed_form.specs.Counts.{variable_count, private_count, copy_lengths}
-use Rattle.group_form.specs.Origins.{local_count}
+use Rattle.lift_ir.specs.Forms.{Stands, StandsOverLaunch}
+use Rattle.lift_ir.specs.Terms.{Global, Local, Sequential, Space, LocalMemory, PrivateMemory, Term, Bound, Source, Both, Project, Reshape, LetArray, LetElement, Map, Fold, Store, Copy}
+use Rattle.printed_form.specs.Counts.{variable_count, private_count, copy_lengths, local_count}
+use Rattle.printed_form.proofs.Lengths.{AreLong, joined, long_left, long_right}
 use Rattle.group_form.specs.Forms.{StandsInGroup, IsOfInputs}
 use Rattle.group_form.specs.Whole.{DeclaresLocals}
-
--- the arrays from k on have these lengths
-abbrev pub AreLong : (Array → ℕ) → ℕ → List ℕ → Type 0
-AreLong long k ns = (i : ℕ) → i < length ns → long (LocalArray (k + i)) ≡ slice_index ns i
-
-joined : (n m : ℕ) (xs ys : List ℕ) → length xs ≡ n → length ys ≡ m → length (xs ++ ys) ≡ n + m
-joined n m xs ys e f = let a = length-append xs ys in omega arith
-
-left : (long : Array → ℕ) (k : ℕ) (xs ys : List ℕ) → AreLong long k (xs ++ ys) → AreLong long k xs
-left long k xs ys h i lt = let e = length-append xs ys in h i (omega arith) ∙ get_or-append xs ys 0 i lt
-
-right : (long : Array → ℕ) (k n : ℕ) (xs ys : List ℕ) → length xs ≡ n → AreLong long k (xs ++ ys) → AreLong long (k + n) ys
-right long k n xs ys same h i lt =
-    let e = length-append xs ys in
-    let z : k + n + i ≡ k + (n + i) = omega arith in
-    let y : n + i - length xs ≡ i = omega arith in
-    ap (λ a. long (LocalArray a)) z ∙ h (n + i) (omega arith) ∙ get_or-append_right xs ys (n + i) 0 (omega arith) ∙ ap (λ a. slice_index ys a) y
 
 both_empty : (xs ys : List ℕ) → xs ≡ [] → ys ≡ [] → xs ++ ys ≡ []
 both_empty xs ys d e = ap (λ z. z ++ ys) d ∙ e
 
 -- one item's term has none
-no_copies : {A : Type 0} (written : Bool) (t : Term A) → Stands written t → copy_lengths LocalMemory t ≡ []
+pub no_copies : {A : Type 0} (written : Bool) (t : Term A) → Stands written t → copy_lengths LocalMemory t ≡ []
 no_copies true (Store ty t) f = refl
 no_copies true (Reshape y t) f = no_copies true t f.1
 no_copies true (LetArray v b) f = both_empty (copy_lengths LocalMemory v) (copy_lengths LocalMemory b) (no_copies false v f.0) (no_copies true b f.1)
@@ -50,6 +31,13 @@ no_copies false (LetArray v b) f = both_empty (copy_lengths LocalMemory v) (copy
 no_copies false (Copy PrivateMemory ty a) f = both_empty (copy_lengths LocalMemory a) [] (no_copies true a f) refl
 no_copies _ _ f = absurd (assumption)
 
+-- nor has a term over the launch
+pub launch_no_copies : {A : Type 0} (t : Term A) → StandsOverLaunch t → copy_lengths LocalMemory t ≡ []
+launch_no_copies (Reshape y t) f = launch_no_copies t f.1
+launch_no_copies (LetArray v b) f = both_empty (copy_lengths LocalMemory v) (copy_lengths LocalMemory b) (no_copies false v f.0) (launch_no_copies b f.1)
+launch_no_copies (Map Global n loads xs b) f = both_empty (copy_lengths LocalMemory xs) (copy_lengths LocalMemory b) (no_copies false xs f.0) (no_copies true b f.1)
+launch_no_copies _ f = absurd f
+
 -- as many local arrays are declared as are counted
 pub counted : {A : Type 0} (written : Bool) (t : Term A) → StandsInGroup written t → length (copy_lengths LocalMemory t) ≡ local_count t
 counted true (Reshape y t) f = counted true t f.1
@@ -64,31 +52,31 @@ counted false (LetArray v b) f = joined (local_count v) (local_count b) (copy_le
 counted false (Copy LocalMemory ty a) f = joined (local_count a) (width ty) (copy_lengths LocalMemory a) (replicate (width ty) (size ty)) (counted true a f) (length-replicate (width ty) (size ty))
 counted _ _ f = absurd (assumption)
 
-pub declares_locals : {A : Type 0} (long : Array → ℕ) (written : Bool) (k : ℕ) (t : Term A) → StandsInGroup written t → AreLong long k (copy_lengths LocalMemory t) → DeclaresLocals long k t
+pub declares_locals : {A : Type 0} (long : Array → ℕ) (written : Bool) (k : ℕ) (t : Term A) → StandsInGroup written t → AreLong LocalArray long k (copy_lengths LocalMemory t) → DeclaresLocals long k t
 declares_locals long true k (Reshape y t) f h = declares_locals long true k t f.1 h
 declares_locals long true k (LetArray v b) f h =
     let xs = copy_lengths LocalMemory v in
     let ys = copy_lengths LocalMemory b in
-    (declares_locals long false k v f.0 (left long k xs ys h), declares_locals long true (k + local_count v) b f.1 (right long k (local_count v) xs ys (counted false v f.0) h))
-declares_locals long true k (Map Local n loads xs b) f h = declares_locals long false k xs f.0 (left long k (copy_lengths LocalMemory xs) (copy_lengths LocalMemory b) h)
+    (declares_locals long false k v f.0 (long_left LocalArray long k xs ys h), declares_locals long true (k + local_count v) b f.1 (long_right LocalArray long k (local_count v) xs ys (counted false v f.0) h))
+declares_locals long true k (Map Local n loads xs b) f h = declares_locals long false k xs f.0 (long_left LocalArray long k (copy_lengths LocalMemory xs) (copy_lengths LocalMemory b) h)
 declares_locals long false k (Bound v) f h = tt
 declares_locals long false k (Source v) f h = tt
 declares_locals long false k (Both true a b) f h =
     let xs = copy_lengths LocalMemory a in
     let ys = copy_lengths LocalMemory b in
-    (declares_locals long false k a f.0 (left long k xs ys h), declares_locals long false (k + local_count a) b f.1 (right long k (local_count a) xs ys (counted false a f.0) h))
+    (declares_locals long false k a f.0 (long_left LocalArray long k xs ys h), declares_locals long false (k + local_count a) b f.1 (long_right LocalArray long k (local_count a) xs ys (counted false a f.0) h))
 declares_locals long false k (Project s a) f h = declares_locals long false k a f h
 declares_locals long false k (Reshape y a) f h = declares_locals long false k a f h
 declares_locals long false k (LetArray v b) f h =
     let xs = copy_lengths LocalMemory v in
     let ys = copy_lengths LocalMemory b in
-    (declares_locals long false k v f.0 (left long k xs ys h), declares_locals long false (k + local_count v) b f.1 (right long k (local_count v) xs ys (counted false v f.0) h))
+    (declares_locals long false k v f.0 (long_left LocalArray long k xs ys h), declares_locals long false (k + local_count v) b f.1 (long_right LocalArray long k (local_count v) xs ys (counted false v f.0) h))
 declares_locals long false k (Copy LocalMemory ty a) f h =
     let xs = copy_lengths LocalMemory a in
     let ys = replicate (width ty) (size ty) in
-    let own = right long k (local_count a) xs ys (counted true a f) h in
+    let own = long_right LocalArray long k (local_count a) xs ys (counted true a f) h in
     let n = length-replicate (width ty) (size ty) in
-    (declares_locals long true k a f (left long k xs ys h), λ i lt. own i (omega arith) ∙ get_or-replicate (width ty) i (size ty) 0 lt)
+    (declares_locals long true k a f (long_left LocalArray long k xs ys h), λ i lt. own i (omega arith) ∙ get_or-replicate (width ty) i (size ty) 0 lt)
 declares_locals long _ k _ f h = absurd (assumption)
 
 -- nor has an argument of inputs

@@ -5,9 +5,9 @@ use Rattle.lift_ir.specs.Types.{Ty, PairOf, ArrayOf, width}
 use Rattle.lift_ir.specs.Layouts.{operand_position, result_position}
 use Rattle.lift_ir.specs.Terms.{Local, LocalMemory, Term, Bound, Source, Both, Project, Reshape, LetArray, Map, Copy, HasType}
 use Rattle.lift_ir.specs.Scalars.{Scalars}
+use Rattle.printed_form.specs.Counts.{local_count}
 use Rattle.printed_form.specs.MapForms.{MapForms}
 use Rattle.printed_form.specs.Marks.{Marks}
-use Rattle.group_form.specs.Origins.{local_count}
 use Rattle.group_form.specs.Forms.{StandsInGroup}
 use Rattle.group_form.specs.Uses.{Destination, Locals, Outputs}
 use Rattle.group_form.specs.Stages as stages

@@ -9,7 +9,7 @@ use Rattle.lift_ir.specs.Types.{Ty, PairOf, ArrayOf}
 use Rattle.lift_ir.specs.Layouts.{operand_position, result_position}
 use Rattle.lift_ir.specs.Terms.{WorkGroup, Local, LocalMemory, Term, Bound, Source, Both, Project, Reshape, LetArray, Map, Copy, push, HasType}
 use Rattle.lift_ir.specs.Scalars.{at_index}
-use Rattle.printed_form.specs.Counts.{load_count}
+use Rattle.printed_form.specs.Counts.{load_count, local_count}
 use Rattle.printed_form.specs.Marks.{Marks, loaded_marks}
 use Rattle.printed_form.specs.Form.{IsTurnOf, IsLoaded, IsWritten}
 use Rattle.printed_form.specs.MapForms.{form_over_groups, variables_in, AreTurns}
@@ -17,7 +17,6 @@ use Rattle.group_phases.specs.Epochs.{IsPast}
 use Rattle.group_phases.specs.Phased.{ArePhases}
 use Rattle.group_phases.specs.Phases.{PhaseList, IsPhaseMap, IsPhase}
 use Rattle.group_form.specs.Forms.{StandsInGroup}
-use Rattle.group_form.specs.Origins.{local_count}
 use Rattle.group_form.specs.Uses.{Destination, Locals, phases_in}
 use Rattle.group_form.specs.Stages as stages
 use Rattle.group_form.specs.Stages.{Stage, Scope, later, stage_at}

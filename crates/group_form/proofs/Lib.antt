@@ -21,5 +21,5 @@ mod AlikeEnds
 mod AlikeCodes
 mod AlikeTheorem
 mod InRange
-mod PrivateCopies
 mod BarrierFree
+mod EitherPrinter

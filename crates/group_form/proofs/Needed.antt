@@ -1,6 +1,6 @@
 -- The needed barriers hang on which uses there are, not on how often or in which order they are
 -- told.
-use Rattle.std.proofs.Common.{◌≡◌, ℕ, List, sym, Bool, true, false, true≢false}
+use Rattle.std.proofs.Common.{◌≡◌, ℕ, List, sym, Bool, true, true≢false}
 use Rattle.std.specs.Prelude.{All, Contains, ◌&&◌}
 use Rattle.std.proofs.lemmas.Bool.{both_ways, and_from}
 use Rattle.std.proofs.lemmas.List.Elements.{All-contains}

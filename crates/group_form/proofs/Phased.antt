@@ -17,6 +17,7 @@ use Rattle.lift_ir.proofs.Numbers.{component_below, flat_below, component_same, 
 use Rattle.printed_form.specs.MapForms.{MakeTurns}
 use Rattle.printed_form.specs.Marks.{Mark, Nowhere, Register, Spot, Marks}
 use Rattle.printed_form.specs.Whole.{IsGiven}
+use Rattle.printed_form.proofs.Loops.{rest_is}
 use Rattle.group_phases.specs.Cells.{output_cell, local_cell, IsOwnOutput}
 use Rattle.group_phases.specs.Work.{IsOwnLocal}
 use Rattle.group_phases.specs.Groups.{loop_turns}
@@ -59,13 +60,6 @@ not_local a i g m j e = fences_differ (ap (λ z. fence_of z) e)
   where
     fences_differ : GlobalFence ≡ LocalFence → ⊥
     fences_differ q = cc
-
-rest_is : (i j : ℕ) (p r : List ℕ) → i ∷ p ≡ j ∷ r → p ≡ r
-rest_is i j p r e = ap tail e
-  where
-    tail : List ℕ → List ℕ
-    tail [] = []
-    tail (x ∷ xs) = xs
 
 by_destination : {P : Type 0} → (d : Destination) → ((f : ℕ) (ty : Ty) → d ≡ Locals f ty → P) → (d ≡ Outputs → P) → P
 by_destination (Locals f ty) local output = local f ty refl

@@ -3,8 +3,9 @@ use Rattle.std.proofs.Common.{◌≡◌, ℕ, zero, suc, ◌+◌, ◌<◌, ◌�
 use Rattle.std.specs.Prelude.{All}
 use Rattle.barrier_placement.specs.declared.touches.Touch.{Touch}
 use Rattle.lift_ir.specs.Terms.{WorkGroup, Local, LocalMemory, Term, Bound, Source, Both, Project, Reshape, LetArray, Map, Copy, push}
+use Rattle.printed_form.specs.Counts.{local_count}
 use Rattle.group_form.specs.Forms.{StandsInGroup, StandsOverGroups}
-use Rattle.group_form.specs.Origins.{Origin, Elsewhere, local_count, origin_of}
+use Rattle.group_form.specs.Origins.{Origin, Elsewhere, origin_of}
 use Rattle.group_form.specs.Theorem.{GroupUsesCanBePlaced}
 use Rattle.group_form.specs.Uses.{Use, Destination, Locals, Outputs, argument_uses, written_uses, loop_uses, phases_in, phase_count, group_uses, touches_in, numbered}
 use Rattle.group_form.proofs.Lists.{long_append}

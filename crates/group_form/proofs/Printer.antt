@@ -1,7 +1,5 @@
 -- What the printer prints for a map over work-groups is printed for it.
-use Rattle.std.proofs.Common.{◌≡◌, ℕ, suc, ◌+◌, ◌<◌, ◌^◌, Bool, true, false, List, [], ◌∷◌, ◌++◌, ◌*◌, length, length-append, refl, sym, subst, arith}
-use Rattle.size_arith.specs.declared.poly.Monomial.{Monomial}
-use Rattle.lift_tree.specs.Annotations.{type_in}
+use Rattle.std.proofs.Common.{◌≡◌, ℕ, suc, ◌+◌, ◌<◌, ◌^◌, Bool, true, false, List, [], ◌∷◌, ◌++◌, ◌*◌, length, length-append, refl, subst, arith}
 use Rattle.kernel_tree.specs.Formula.{Formula, LoopVariable}
 use Rattle.kernel_tree.specs.Code.{Input, Output, Local as LocalArray, Code, End, start_value, stride_value}
 use Rattle.kernel_tree.specs.Launch.{Launch, ids_of}
@@ -10,36 +8,30 @@ use Rattle.lift_ir.specs.Types.{Ty, PairOf, ArrayOf, measured}
 use Rattle.lift_ir.specs.Layouts.{result_position}
 use Rattle.lift_ir.specs.Terms.{LoadSet, LoadsScalars, WorkGroup, Local, LocalMemory, Term, Bound, Source, Both, Project, Reshape, LetArray, Map, Copy, push, HasType, no_type}
 use Rattle.lift_ir.specs.Scalars.{at_index}
-use Rattle.lift_ir.specs.AtLaunch.{length_at, shape_of}
 use Rattle.lift_ir.specs.Loads.{covers, none, held_scalars, LoadsSuffice}
-use Rattle.lift_ir.proofs.Named.{names_suffice}
-use Rattle.lift_ir.proofs.Values.{shape_is}
-use Rattle.printed_form.specs.Arguments.{private_arrays}
-use Rattle.printed_form.specs.Counts.{load_count}
+use Rattle.printed_form.specs.Arguments.{private_arrays, argument_view, local_arrays}
+use Rattle.printed_form.specs.Counts.{load_count, local_count}
 use Rattle.printed_form.specs.Form.{start_of, stride_of, IsTurnOf, IsLoaded, IsWritten, argument_marks}
 use Rattle.printed_form.specs.MapForms.{MapForm, Looped, Guarded, Alone, MapForms, MakeTurns, form_over_groups, variables_in, AreTurns}
 use Rattle.printed_form.specs.Marks.{Marks, laid_in, loaded_marks}
 use Rattle.printed_form.specs.Means.{IsSpelled, HasCells, Shows, AllShow}
-use Rattle.printed_form.specs.Printer.{argument_view, print_loaded, print_written, no_view, input_views, input_marks}
-use Rattle.printed_form.specs.Programs.{input_shape, first_buffer, lowered_root}
+use Rattle.printed_form.specs.Printer.{print_loaded, print_written, no_view, input_views, input_marks}
 use Rattle.printed_form.specs.Views.{View, loaded_view, view_at, result_indices, placed_view, laid_view}
 use Rattle.printed_form.specs.Whole.{no_marks, output_marks}
 use Rattle.printed_form.proofs.Indices.{laid_cells, placed_cells}
 use Rattle.printed_form.proofs.Shown.{cells_show, all_within, all_push, turned_cells, HeldIn, held_push, loaded_held, loaded_is, loaded_shows, back_cells}
-use Rattle.printed_form.proofs.Arguments.{kept_is, argument_shows, argument_view_is, stands_argument}
+use Rattle.printed_form.proofs.Arguments.{kept_is, argument_shows, stands_argument}
 use Rattle.printed_form.proofs.Printer.{written_is}
+use Rattle.printed_form.proofs.Printed.{nothing_held, nothing_shown}
 use Rattle.lift_ir.specs.Forms.{Stands}
-use Rattle.group_form.specs.ChosenForms.{forms_of}
+use Rattle.group_phases.specs.Epochs.{fenced}
 use Rattle.group_form.specs.Forms.{StandsInGroup, IsOfInputs, StandsOverGroups}
 use Rattle.group_form.specs.Form.{Used, used_after, IsGroupArgument, IsGroupWritten, IsOverGroups}
-use Rattle.group_form.specs.Origins.{local_count, local_arrays}
 use Rattle.group_form.specs.Stages.{marks_of}
 use Rattle.group_form.specs.Uses.{phases_in}
-use Rattle.group_form.specs.Printer.{print_fence, group_view, print_local_map, turn_formula, depth_in, id_of, print_turns, print_group_argument, print_group_written, print_groups, group_kernel_code, GroupPrinterPrints, GroupProgramsArePrinted}
-use Rattle.group_form.proofs.Arguments.{group_argument, inputs_stand, group_view_is}
+use Rattle.group_form.specs.Printer.{print_local_map, turn_formula, depth_in, id_of, print_turns, print_group_argument, print_group_written, print_groups, GroupPrinterPrints}
+use Rattle.group_form.proofs.Arguments.{group_argument, inputs_stand}
 use Rattle.group_form.proofs.Shown.{all_around, own_cells}
-use Rattle.group_form.proofs.ChosenForms.{forms_make_turns}
-use Rattle.printed_form.proofs.Programs.{declares_so, inputs_placed, lowered_has}
 
 module _ (l : Launch) {A : Type 0} (num : A → ℕ) (forms : MapForms A) (spell : A → Formula) (spelled : (n : A) → num n < 2 ^ 31 → IsSpelled l (spell n) (num n)) (src : ℕ → Ty) (ins : ℕ → Marks) (sins : ℕ → View) (fence : ℕ → Fencing) (makes : MakeTurns forms num l) where
   -- the code of a local map's turn, up to what follows it
@@ -123,13 +115,13 @@ module _ (l : Launch) {A : Type 0} (num : A → ℕ) (forms : MapForms A) (spell
     Printed env views u t rest = IsGroupArgument num forms l ins fence outer turns env u t (print_group_argument spell forms sins fence depth views u t rest) rest
 
     -- what stands for an argument shows it
-    shown : (t : Term A) (g : ℕ → Ty) (views : ℕ → View) (env : (turn var : ℕ) → Marks) (h : ℕ → List Bool → Bool) (k : ℕ) (ty : Ty) → HasType num src g t ty → LoadsSuffice h t → StandsInGroup false t → AllShowing g views env → Inputs → Showing ty (group_view spell sins views k t) (marks_of num ins env k t)
+    shown : (t : Term A) (g : ℕ → Ty) (views : ℕ → View) (env : (turn var : ℕ) → Marks) (h : ℕ → List Bool → Bool) (k : ℕ) (ty : Ty) → HasType num src g t ty → LoadsSuffice h t → StandsInGroup false t → AllShowing g views env → Inputs → Showing ty (argument_view local_arrays spell sins views k t) (marks_of num ins env k t)
     shown t g views env h k ty ok nm sd es gs item i il own =
-        subst (λ v. Shows l item (around i) ty v (marks_of num ins env k t i)) (sym (group_view_is spell sins views k t)) (argument_shows local_arrays l item num spell spelled src ins sins (around i) (gs item i) t g views (env i) h k ty (group_argument t sd) ok nm (es item i il own))
+        argument_shows local_arrays l item num spell spelled src ins sins (around i) (gs item i) t g views (env i) h k ty (group_argument t sd) ok nm (es item i il own)
 
     -- in the body of a let
-    let_shows : (v : Term A) (g : ℕ → Ty) (views : ℕ → View) (env : (turn var : ℕ) → Marks) (h : ℕ → List Bool → Bool) (k : ℕ) (ty : Ty) → HasType num src g v ty → LoadsSuffice h v → StandsInGroup false v → AllShowing g views env → Inputs → AllShowing (push ty g) (push (group_view spell sins views k v) views) (λ i. push (marks_of num ins env k v i) (env i))
-    let_shows v g views env h k ty ok nm sd es gs item i il own = all_push l item (around i) ty (group_view spell sins views k v) (marks_of num ins env k v i) g views (env i) (shown v g views env h k ty ok nm sd es gs item i il own) (es item i il own)
+    let_shows : (v : Term A) (g : ℕ → Ty) (views : ℕ → View) (env : (turn var : ℕ) → Marks) (h : ℕ → List Bool → Bool) (k : ℕ) (ty : Ty) → HasType num src g v ty → LoadsSuffice h v → StandsInGroup false v → AllShowing g views env → Inputs → AllShowing (push ty g) (push (argument_view local_arrays spell sins views k v) views) (λ i. push (marks_of num ins env k v i) (env i))
+    let_shows v g views env h k ty ok nm sd es gs item i il own = all_push l item (around i) ty (argument_view local_arrays spell sins views k v) (marks_of num ins env k v i) g views (env i) (shown v g views env h k ty ok nm sd es gs item i il own) (es item i il own)
 
     let_holds : (v : Term A) (g : ℕ → Ty) (env : (turn var : ℕ) → Marks) (h : ℕ → List Bool → Bool) (k : ℕ) (ty : Ty) → HasType num src g v ty → AllHolding g env h → AllHolding (push ty g) (λ i. push (marks_of num ins env k v i) (env i)) (push (held_scalars h v) h)
     let_holds v g env h k ty ok r item i il = held_push l item ty (marks_of num ins env k v i) (held_scalars h v) g (env i) h (λ cs w z. kept_is local_arrays l item num src ins v g (env i) h k ty cs ok w z (r item i il)) (r item i il)
@@ -145,7 +137,7 @@ module _ (l : Launch) {A : Type 0} (num : A → ℕ) (forms : MapForms A) (spell
       argument_is (Project true x) g views env h u ty rest ok nm sd es gs r = argument_is x g views env h u (PairOf ok.0 ty) rest ok.1 nm sd es gs r
       argument_is (Reshape y x) g views env h u ty rest ok nm sd es gs r = argument_is x g views env h u ok.0 rest ok.1 nm sd es gs r
       argument_is (LetArray v b) g views env h u ty rest ok nm sd es gs r =
-          let x = group_view spell sins views u.locals v in
+          let x = argument_view local_arrays spell sins views u.locals v in
           let y = marks_of num ins env u.locals v in
           let next = print_group_argument spell forms sins fence depth (push x views) (used_after u v) b rest in (
             next,
@@ -162,7 +154,7 @@ module _ (l : Launch) {A : Type 0} (num : A → ℕ) (forms : MapForms A) (spell
       group_written_is (Reshape y t) g views env h u ty v w rest ok nm sd es gs r cells =
           (sd.0, group_written_is t g views env h u ok.0 (λ cs is. v cs (result_indices spell y is)) (λ i cs q. w i cs (result_position num y q)) rest ok.1 nm sd.1 es gs r (λ item i il own. back_cells l item num spell spelled (around i) y ok.0 ty v (w i) sd.0 ok.2 ok.3 ok.4 (cells item i il own)))
       group_written_is (LetArray s b) g views env h u ty v w rest ok nm sd es gs r cells =
-          let x = group_view spell sins views u.locals s in
+          let x = argument_view local_arrays spell sins views u.locals s in
           let y = marks_of num ins env u.locals s in
           let next = print_group_written spell forms sins fence depth (push x views) (used_after u s) b v rest in (
             next,
@@ -171,11 +163,11 @@ module _ (l : Launch) {A : Type 0} (num : A → ℕ) (forms : MapForms A) (spell
           )
       group_written_is (Map Local z0 loads xs b) g views env h u ty v w rest ok nm sd es gs r cells =
           let len = num z0 in
-          let e = group_view spell sins views u.locals xs in
+          let e = argument_view local_arrays spell sins views u.locals xs in
           let f = marks_of num ins env u.locals xs in
           let u2 = used_after u xs in
           let map = print_local_map spell forms sins fence depth views u2 z0 loads e b v rest in
-          let mid = print_fence (fence (u.phases + phases_in xs)) map in
+          let mid = fenced (fence (u.phases + phases_in xs)) map in
           let around_map = shown xs g views env h u.locals (ArrayOf len ok.0) ok.4 nm.0 sd.0 es gs in (
             mid,
             map,
@@ -187,9 +179,9 @@ module _ (l : Launch) {A : Type 0} (num : A → ℕ) (forms : MapForms A) (spell
       group_written_is _ g views env h u ty v w rest ok nm sd es gs r cells = absurd (assumption)
 
   -- what stands for an argument of inputs shows it
-  input_shows : (item : ℕ) (t : Term A) (g : ℕ → Ty) (views : ℕ → View) (env : ℕ → Marks) (h : ℕ → List Bool → Bool) (a : ℕ) (ty : Ty) → HasType num src g t ty → LoadsSuffice h t → IsOfInputs t → AllShow l item [] g views env → AllShow l item [] src sins ins → Shows l item [] ty (argument_view spell sins views a t) (argument_marks l ins num env a t)
+  input_shows : (item : ℕ) (t : Term A) (g : ℕ → Ty) (views : ℕ → View) (env : ℕ → Marks) (h : ℕ → List Bool → Bool) (a : ℕ) (ty : Ty) → HasType num src g t ty → LoadsSuffice h t → IsOfInputs t → AllShow l item [] g views env → AllShow l item [] src sins ins → Shows l item [] ty (argument_view private_arrays spell sins views a t) (argument_marks l ins num env a t)
   input_shows item t g views env h a ty ok nm sd es gs =
-      subst (λ v. Shows l item [] ty v (argument_marks l ins num env a t)) (sym (argument_view_is spell sins views a t)) (argument_shows private_arrays l item num spell spelled src ins sins [] gs t g views env h a ty (stands_argument t (inputs_stand t sd)) ok nm es)
+      argument_shows private_arrays l item num spell spelled src ins sins [] gs t g views env h a ty (stands_argument t (inputs_stand t sd)) ok nm es
 
   -- what lies at a group's turn
   group_cells : (once : Bool) (len : ℕ) → (once ≡ true → len ≡ 1) → (item i : ℕ) (t : Ty) (x : View) (y : Marks) → i < len → IsTurnOf l item WorkGroup i → len < 2 ^ 31 → HasCells l item [] (ArrayOf len t) x y
@@ -208,7 +200,7 @@ module _ (l : Launch) {A : Type 0} (num : A → ℕ) (forms : MapForms A) (spell
   over_groups_is (Reshape y t) g views env h ty v w ok nm sd es gs r cells =
       (sd.0, over_groups_is t g views env h ok.0 (λ cs is. v cs (result_indices spell y is)) (λ cs q. w cs (result_position num y q)) ok.1 nm sd.1 es gs r (λ item. back_cells l item num spell spelled [] y ok.0 ty v w sd.0 ok.2 ok.3 ok.4 (cells item)))
   over_groups_is (LetArray s b) g views env h ty v w ok nm sd es gs r cells =
-      let x = argument_view spell sins views 0 s in
+      let x = argument_view private_arrays spell sins views 0 s in
       let y = argument_marks l ins num env 0 s in
       over_groups_is b (push ok.0 g) (push x views) (push y env) (push (held_scalars h s) h) ty v w ok.2 nm.1 sd.1 (λ item. all_push l item [] ok.0 x y g views env (input_shows item s g views env h 0 ok.0 ok.1 nm.0 sd.0 (es item) (gs item)) (es item)) gs
       (λ item. held_push l item ok.0 y (held_scalars h s) g env h (λ cs q z. kept_is private_arrays l item num src ins s g env h 0 ok.0 cs ok.1 q z (r item)) (r item)) cells
@@ -216,12 +208,12 @@ module _ (l : Launch) {A : Type 0} (num : A → ℕ) (forms : MapForms A) (spell
       let len = num z0 in
       let outer = form_over_groups (forms.once z0) in
       let turn = turn_formula outer WorkGroup 0 in
-      let e = argument_view spell sins views 0 xs in
+      let e = argument_view private_arrays spell sins views 0 xs in
       let f = argument_marks l ins num env 0 xs in
       let el = view_at turn e in
       let x = loaded_view loads el 0 in
       let u : Used = record { locals = 0; privates = 0; variables = load_count loads; phases = 0 } in
-      let last = print_fence (fence (phases_in b)) End in
+      let last = fenced (fence (phases_in b)) End in
       let first = print_group_written spell forms sins fence (depth_in outer 0) (push x views) u b (view_at turn v) last in
       let shows = λ (item : ℕ). input_shows item xs g views env h 0 (ArrayOf len ok.0) ok.4 nm.0 sd.0 (es item) (gs item) in
       let cells2 = λ (item : ℕ). subst (λ z. HasCells l item [] z v w) ok.6 (cells item) in
@@ -244,32 +236,8 @@ module _ (l : Launch) {A : Type 0} (num : A → ℕ) (forms : MapForms A) (spell
       )
   over_groups_is _ g views env h ty v w ok nm sd es gs r cells = absurd (assumption)
 
-nothing_shown : (l : Launch) (item : ℕ) → AllShow l item [] no_type no_view no_marks
-nothing_shown l item v us cs is [] w g = absurd w
-nothing_shown l item v us cs is (i ∷ q) w g = let z = w.0 in absurd (omega arith)
-
-nothing_held : (l : Launch) (item : ℕ) → HeldIn l item no_type no_marks (λ v. none)
-nothing_held l item v cs w h = absurd w
-
 pub group_code_is : (A : Type 0) → GroupPrinterPrints A
 group_code_is A l num forms makes spell spelled first src fence t ty stands ok nm out inputs =
     let shown = λ (item v : ℕ). cells_show l item [] (measured num (src v)) _ _ (let p = inputs v in placed_cells l item num spell spelled [] Input (first v) (src v) p.flat p.short p.small) in
     let place = λ (item : ℕ). placed_cells l item num spell spelled [] Output 0 ty out.flat out.short out.small in
     over_groups_is l num forms spell spelled (λ v. measured num (src v)) (input_marks num first src) (input_views spell first src) fence makes t no_type no_view no_marks (λ v. none) (measured num ty) (placed_view spell Output 0 ty) (output_marks (measured num ty)) ok nm stands (nothing_shown l) shown (nothing_held l) place
-
-pub group_programs_are_printed : GroupProgramsArePrinted
-group_programs_are_printed d asks bases t a l spell fence program launch staged placed spelled needed =
-    let num = length_at bases in
-    let low = lowered_root d.names t a in
-    let same = shape_is bases (type_in a) in
-    let forms = forms_of d.names asks.local in
-    let makes = forms_make_turns d.names bases program.lowerable.declared.names launch.admissible.sizes l asks.local launch.admissible.fixed in
-    record {
-      declares = declares_so d asks.local t a (group_kernel_code spell forms (first_buffer d.inputs) (input_shape d.inputs) fence low (shape_of (type_in a)));
-      fence = fence;
-      needed = needed;
-      code =
-          subst (λ z. IsOverGroups num forms l (input_marks num (first_buffer d.inputs) (input_shape d.inputs)) fence no_marks low (output_marks z) (group_kernel_code spell forms (first_buffer d.inputs) (input_shape d.inputs) fence low (shape_of (type_in a)))) same
-          (group_code_is (List Monomial) l num forms makes spell spelled (first_buffer d.inputs) (input_shape d.inputs) fence low (shape_of (type_in a)) program.stands
-          (subst (λ z. HasType num (λ v. measured num (input_shape d.inputs v)) no_type low z) (sym same) (lowered_has d asks bases t a l program.lowerable launch)) (names_suffice d bases t a program.lowerable.nodes program.lowerable.lowerable staged) placed.0 (inputs_placed bases d.inputs placed.1));
-    }

@@ -7,14 +7,14 @@ use Rattle.lift_ir.specs.Layouts.{Layout, operand_position, result_position, Res
 use Rattle.lift_ir.specs.Terms.{LoadSet, Local, LocalMemory, Term, Bound, Source, Both, Project, Reshape, LetArray, Map, Copy, LoadsScalars, push, HasType}
 use Rattle.lift_ir.specs.Scalars.{Scalars, scalars_of}
 use Rattle.lift_ir.proofs.Positions.{operand_in, result_in, result_operand}
-use Rattle.printed_form.specs.Counts.{load_count, variable_count, private_count}
+use Rattle.printed_form.specs.Counts.{load_count, variable_count, private_count, local_count}
 use Rattle.printed_form.specs.MapForms.{MakesTurns, MakeTurns}
 use Rattle.printed_form.specs.Marks.{Mark, Marks, laid_in}
 use Rattle.printed_form.specs.Form.{Declares}
 use Rattle.printed_form.specs.Whole.{IsGiven}
 use Rattle.group_form.specs.Named as named
 use Rattle.group_form.specs.Named.{element_ways, named_outside, ways, cut}
-use Rattle.group_form.specs.Origins.{Origin, Elsewhere, at_way, bent, laid_from, local_count, origin_of}
+use Rattle.group_form.specs.Origins.{Origin, Elsewhere, at_way, bent, laid_from, origin_of}
 use Rattle.group_form.specs.Forms.{StandsInGroup}
 use Rattle.group_form.specs.Uses.{Destination, Locals, Outputs}
 use Rattle.group_form.specs.Stages as stages

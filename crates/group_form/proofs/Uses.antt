@@ -10,10 +10,11 @@ use Rattle.lift_ir.specs.Types.{Ty, PairOf, ArrayOf, width}
 use Rattle.lift_ir.specs.Layouts.{operand_position, result_position}
 use Rattle.lift_ir.specs.Terms.{Local, LocalMemory, Term, Bound, Source, Both, Project, Reshape, LetArray, Map, Copy, HasType}
 use Rattle.lift_ir.specs.Scalars.{Scalars}
+use Rattle.printed_form.specs.Counts.{local_count}
 use Rattle.printed_form.specs.MapForms.{MapForms}
 use Rattle.printed_form.specs.Marks.{Marks}
 use Rattle.group_form.specs.Named.{Component, ways}
-use Rattle.group_form.specs.Origins.{Origin, Elsewhere, Within, BySide, at_way, bent, local_count}
+use Rattle.group_form.specs.Origins.{Origin, Elsewhere, Within, BySide, at_way, bent}
 use Rattle.group_form.specs.Forms.{StandsInGroup}
 use Rattle.group_form.specs.Uses.{Use, Destination, Locals, reads_of, element_reads, variable_reads, writes_from, writes_to, argument_uses, written_uses, touch_of, touches_in, numbered}
 use Rattle.group_form.specs.Stages as stages

@@ -2,7 +2,7 @@
 use Rattle.std.proofs.Common.{◌≡◌, ℕ, zero, suc, ◌+◌, ◌*◌, ◌%◌, ◌<◌, ◌≤◌, ◌⊎◌, ⊎_elim, inl, inr, ◌^◌, List, [], ◌∷◌, ◌++◌, length, Bool, true, false, true≢false, refl, sym, ap, ◌∙◌, subst, arith}
 use Rattle.std.specs.Prelude.{map, replicate, slice_index}
 use Rattle.std.proofs.Math.Nat.{mod-eq_of_lt}
-use Rattle.kernel_tree.specs.Code.{Array, Output, Kernel, End}
+use Rattle.kernel_tree.specs.Code.{Array, Local as LocalArray, Output, Kernel, End}
 use Rattle.kernel_tree.specs.Launch as launches
 use Rattle.kernel_tree.specs.Launch.{Launch, Cells, IsWhole, item_count, groups_across}
 use Rattle.kernel_tree.specs.Device.{Cell, length_in}
@@ -23,7 +23,7 @@ use Rattle.printed_form.specs.MapForms.{MapForms, MakeTurns}
 use Rattle.printed_form.specs.Marks.{Nowhere, Register, Marks, laid_in, loaded_marks}
 use Rattle.printed_form.specs.Form.{Declares, argument_marks}
 use Rattle.printed_form.specs.Whole.{no_marks, IsGiven}
-use Rattle.printed_form.proofs.Lengths.{declares}
+use Rattle.printed_form.proofs.Lengths.{AreLong, declares}
 use Rattle.group_phases.specs.Epochs.{IsPast}
 use Rattle.group_phases.specs.Outcome.{BarriersServeAll}
 use Rattle.group_phases.specs.Phased.{IsGroupKernel}
@@ -45,7 +45,7 @@ use Rattle.group_form.proofs.Counters.{written_chain}
 use Rattle.group_form.proofs.Uses.{written_uses_are}
 use Rattle.group_form.proofs.Phased as phased
 use Rattle.group_form.proofs.Form as form
-use Rattle.group_form.proofs.Copies.{AreLong, declares_locals, inputs_no_copies, inputs_no_privates}
+use Rattle.group_form.proofs.Copies.{declares_locals, inputs_no_copies, inputs_no_privates}
 use Rattle.group_form.proofs.Outputs as outputs
 use Rattle.group_form.proofs.Outputs.{IsLaid, laid_under, laid_itself}
 
@@ -267,7 +267,7 @@ module _ {A : Type 0} (num : A → ℕ) (forms : MapForms A) (k : Kernel) (l : L
 
     -- and through layouts and lets of inputs
     pub term_phases : (t : Term A) (g : ℕ → Ty) (env : ℕ → Marks) (sems : ℕ → Scalars) (outer path : List ℕ → List ℕ) (ty : Ty) → StandsOverGroups t → HasType num src g t ty → AllGiven g env sems → IsLaid whole ty outer path
-        → ((cs : List Bool) (p : List ℕ) → IsPosition ty cs p → value cs (outer p) ≡ scalars_of num sources sems t cs p) → variable_count t ≤ k.variables → Declares long 0 t → AreLong long 0 (copy_lengths LocalMemory t)
+        → ((cs : List Bool) (p : List ℕ) → IsPosition ty cs p → value cs (outer p) ≡ scalars_of num sources sems t cs p) → variable_count t ≤ k.variables → Declares long 0 t → AreLong LocalArray long 0 (copy_lengths LocalMemory t)
         → IsOverGroups num forms l ins fence env t (λ cs p. laid_in Output 0 whole cs (outer p)) k.code → AreItsPhases num forms k l c lists fence (λ a m. owner num l t (path (unflat whole m))) t
     term_phases (Reshape y a) g env sems outer path ty f x given laid values room private local code =
         let r = term_phases a g env sems (λ p. outer (result_position num y p)) (λ p. operand_position num y (path p)) x.0 f.1 x.1 given (laid_under num y x.0 ty whole outer path f.0 x.2 laid)
@@ -278,13 +278,13 @@ module _ {A : Type 0} (num : A → ℕ) (forms : MapForms A) (k : Kernel) (l : L
         let e : 0 + private_count v ≡ 0 = omega arith in
         let r = term_phases b (push x.0 g) (push (argument_marks l ins num env 0 v) env) (push (scalars_of num sources sems v) sems) outer path ty f.1 x.2
         (given_push g env sems x.0 (argument_marks l ins num env 0 v) (scalars_of num sources sems v) (input_given v g env sems x.0 0 f.0 x.1 given) given) laid values (omega arith)
-        (subst (λ z. Declares long z b) e private.1) (subst (λ z. AreLong long 0 (z ++ copy_lengths LocalMemory b)) (inputs_no_copies LocalMemory v f.0) local) code in
+        (subst (λ z. Declares long z b) e private.1) (subst (λ z. AreLong LocalArray long 0 (z ++ copy_lengths LocalMemory b)) (inputs_no_copies LocalMemory v f.0) local) code in
         record { body = r.body; once = r.once; is = r.is; touches = r.touches; count = r.count; some_phase = r.some_phase; printed = r.printed }
     term_phases (Map WorkGroup n loads xs b) g env sems outer path ty f x given laid values room private local code =
         let none = inputs_no_privates xs f.0 in
         let e : 0 + private_count xs ≡ 0 = omega arith in
         map_phases g env sems n loads xs b x.0 x.1 outer path x.5 f.0 f.1 x.2 x.3 x.4 given (subst (λ z. IsLaid whole z outer path) x.6 laid) (λ cs i p z. values cs (i ∷ p) (subst (λ w. IsPosition w cs (i ∷ p)) (sym x.6) z)) (omega arith)
-        (subst (λ z. Declares long z b) e private.1) (declares_locals long true 0 b f.1 (subst (λ z. AreLong long 0 (z ++ copy_lengths LocalMemory b)) (inputs_no_copies LocalMemory xs f.0) local)) code
+        (subst (λ z. Declares long z b) e private.1) (declares_locals long true 0 b f.1 (subst (λ z. AreLong LocalArray long 0 (z ++ copy_lengths LocalMemory b)) (inputs_no_copies LocalMemory xs f.0) local)) code
     term_phases _ g env sems outer path ty f x given laid values room private local code = absurd (assumption)
 
 -- a kernel that is printed for a term

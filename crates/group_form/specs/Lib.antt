@@ -10,5 +10,4 @@ pub mod Whole
 pub mod Theorem
 pub mod Programs
 pub mod Printer
-pub mod Alike
-pub mod BarrierFree
+pub mod Kernels

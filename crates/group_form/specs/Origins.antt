@@ -1,9 +1,8 @@
 -- In which local array each component of an argument lies, and whether it is reached plainly.
 use Rattle.std.specs.Prelude.{ℕ, ◌+◌, Bool, true, false, List, [], ◌∷◌}
-use Rattle.kernel_tree.specs.Code.{Local as LocalArray}
 use Rattle.lift_ir.specs.Types.{Ty, Scalar, PairOf, ArrayOf, width}
-use Rattle.lift_ir.specs.Terms.{Term, Bound, Source, Both, Project, Reshape, LetArray, Map, Copy, push}
-use Rattle.printed_form.specs.Arguments.{CopyArrays}
+use Rattle.lift_ir.specs.Terms.{Term, Bound, Source, Both, Project, Reshape, LetArray, Copy, push}
+use Rattle.printed_form.specs.Counts.{local_count}
 
 -- in no local array; in this one, reached by variables, zip, first and second alone or not; or by
 -- side
@@ -34,20 +33,6 @@ abbrev pub laid_from : ℕ → Ty → Origin
 laid_from n Scalar = Within n true
 laid_from n (PairOf a b) = BySide (laid_from n a) (laid_from (n + width a) b)
 laid_from n (ArrayOf m t) = laid_from n t
-
--- how many local arrays a term outside local maps has
-abbrev pub local_count : {A : Type 0} → Term A → ℕ
-local_count (Both zips a b) = local_count a + local_count b
-local_count (Project s a) = local_count a
-local_count (Reshape l a) = local_count a
-local_count (LetArray v b) = local_count v + local_count b
-local_count (Map k n loads xs b) = local_count xs
-local_count (Copy space ty a) = local_count a + width ty
-local_count _ = 0
-
--- the local arrays, in which all copies outside local maps lie
-abbrev pub local_arrays : {A : Type 0} → CopyArrays A
-local_arrays = record { array = LocalArray; count = local_count; holds = λ space. true }
 
 -- an argument's origin, where its first local array is this
 abbrev pub origin_of : {A : Type 0} → (ℕ → Origin) → ℕ → Term A → Origin

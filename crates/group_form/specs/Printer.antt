@@ -1,7 +1,6 @@
 -- A printer of maps over work-groups, each map in its form: its code is one for all launches.
-use Rattle.std.specs.Prelude.{ℕ, suc, ◌+◌, ◌<◌, ◌^◌, List, ◌∷◌, Option}
+use Rattle.std.specs.Prelude.{ℕ, suc, ◌+◌, ◌<◌, ◌^◌, List, Option}
 use Rattle.size_arith.specs.declared.poly.Monomial.{Monomial}
-use Rattle.lift_tree.specs.Launches.{Asks}
 use Rattle.lift_tree.specs.Tree.{Tree}
 use Rattle.lift_tree.specs.Typing.{Declared}
 use Rattle.lift_tree.specs.Annotations.{Annotation, type_in}
@@ -10,33 +9,24 @@ use Rattle.kernel_tree.specs.Formula.{Formula, LoopVariable, Number, Id, GlobalI
 use Rattle.kernel_tree.specs.Code.{Output, Local as LocalArray, Code, End, Loops, Guards, Kernel}
 use Rattle.kernel_tree.specs.Launch.{Launch}
 use Rattle.barrier_placement.specs.Fencing.{Fencing}
-use Rattle.barrier_placement.specs.Needed.{Needed}
 use Rattle.lift_ir.specs.Types.{Shape, measured, IsPlaced}
-use Rattle.lift_ir.specs.Terms.{Kind, Global, WorkGroup, Local, Sequential, LoadSet, Term, Bound, Source, Both, Project, Reshape, LetArray, Map, Copy, push, HasType, no_type}
-use Rattle.lift_ir.specs.Scalars.{by_side}
+use Rattle.lift_ir.specs.Terms.{Kind, Global, WorkGroup, Local, Sequential, LoadSet, Term, Both, Project, Reshape, LetArray, Map, Copy, push, HasType, no_type}
 use Rattle.lift_ir.specs.AtLaunch.{shape_of}
-use Rattle.lift_ir.specs.Lowering.{Written}
-use Rattle.lift_ir.specs.Lowerable.{IsStaged}
 use Rattle.lift_ir.specs.Loads.{none, LoadsSuffice}
-use Rattle.printed_form.specs.Counts.{load_count}
+use Rattle.printed_form.specs.Arguments.{local_arrays, private_arrays, argument_view}
+use Rattle.printed_form.specs.Counts.{load_count, local_count}
 use Rattle.printed_form.specs.Form.{start_of, stride_of}
 use Rattle.printed_form.specs.MapForms.{MapForm, Looped, Guarded, Alone, MapForms, MakeTurns, form_over_groups, statement_over_groups}
 use Rattle.printed_form.specs.Means.{IsSpelled}
-use Rattle.printed_form.specs.Programs.{input_shape, first_buffer, declared_kernel, lowered_root, IsLaunchOf, IsSpelling, FitsBuffers}
-use Rattle.printed_form.specs.Printer.{print_loaded, print_written, argument_view, no_view, input_views, input_marks}
-use Rattle.printed_form.specs.Views.{View, Blank, loaded_view, view_at, operand_indices, result_indices, placed_view, laid_view}
+use Rattle.printed_form.specs.Programs.{input_shape, first_buffer, declared_kernel, lowered_root}
+use Rattle.printed_form.specs.Printer.{print_loaded, print_written, no_view, input_views, input_marks}
+use Rattle.printed_form.specs.Views.{View, loaded_view, view_at, result_indices, placed_view, laid_view}
 use Rattle.printed_form.specs.Whole.{no_marks, output_marks}
-use Rattle.group_phases.specs.Epochs.{fenced}
+pub use Rattle.group_phases.specs.Epochs.{fenced}
 use Rattle.group_form.specs.ChosenForms.{forms_of}
-use Rattle.group_form.specs.Form.{Used, used_after, is_once, IsOverGroups}
+use Rattle.group_form.specs.Form.{Used, used_after, IsOverGroups}
 use Rattle.group_form.specs.Forms.{StandsOverGroups}
-use Rattle.group_form.specs.Origins.{local_count}
-use Rattle.group_form.specs.Programs.{PrintsGroups, IsGroupProgram}
-use Rattle.group_form.specs.Uses.{phases_in, phase_count, group_touches}
-
--- a barrier, where one stands
-abbrev pub print_fence : Fencing → (rest : Code) → Code
-print_fence = fenced
+use Rattle.group_form.specs.Uses.{phases_in}
 
 -- the id that an item's turn of a map of a kind is, where it takes no loop
 abbrev pub id_of : Kind → Formula
@@ -64,20 +54,6 @@ print_turns Looped k b turn rest = Loops (start_of k) b (stride_of k) (turn End)
 print_turns Guarded k b turn rest = Guards (start_of k) b (turn End) rest
 print_turns Alone k b turn rest = turn rest
 
--- lengths are spelled so and the inputs stand so
-module _ {A : Type 0} (spell : A → Formula) (ins : ℕ → View) where
-  -- what stands for an argument, whose first local array is this
-  abbrev pub group_view : (ℕ → View) → ℕ → Term A → View
-  group_view env k (Bound v) = env v
-  group_view env k (Source a) = ins a
-  group_view env k (Both zips a b) =
-      by_side (λ is. Blank) (group_view env k a) (group_view env (k + local_count a) b)
-  group_view env k (Project s a) = λ cs is. group_view env k a (s ∷ cs) is
-  group_view env k (Reshape l a) = λ cs is. group_view env k a cs (operand_indices spell l is)
-  group_view env k (LetArray v b) = group_view (push (group_view env k v) env) (k + local_count v) b
-  group_view env k (Copy space ty a) = laid_view LocalArray (k + local_count a) ty
-  group_view env k _ = λ cs is. Blank
-
 -- the maps have these forms, and this stands before each phase
 module _ {A : Type 0} (spell : A → Formula) (forms : MapForms A) (ins : ℕ → View)
     (fence : ℕ → Fencing) where
@@ -99,6 +75,7 @@ module _ {A : Type 0} (spell : A → Formula) (forms : MapForms A) (ins : ℕ �
       (print_local_turn depth env u n loads x b w) rest
 
   abbrev mutual
+    -- the copies of an argument, where so much is in use, within so many loops
     pub print_group_argument : (depth : ℕ) → (ℕ → View) → Used → Term A → (rest : Code) → Code
     print_group_argument depth env u (Both zips a b) rest =
         print_group_argument depth env u a
@@ -107,7 +84,7 @@ module _ {A : Type 0} (spell : A → Formula) (forms : MapForms A) (ins : ℕ �
     print_group_argument depth env u (Reshape l a) rest = print_group_argument depth env u a rest
     print_group_argument depth env u (LetArray v b) rest =
         print_group_argument depth env u v
-        (print_group_argument depth (push (group_view spell ins env u.locals v) env)
+        (print_group_argument depth (push (argument_view local_arrays spell ins env u.locals v) env)
         (used_after u v) b rest)
     print_group_argument depth env u (Copy space ty a) rest =
         print_group_written depth env u a (laid_view LocalArray (u.locals + local_count a) ty) rest
@@ -120,13 +97,13 @@ module _ {A : Type 0} (spell : A → Formula) (forms : MapForms A) (ins : ℕ �
         print_group_written depth env u t (λ cs is. w cs (result_indices spell l is)) rest
     print_group_written depth env u (LetArray v b) w rest =
         print_group_argument depth env u v
-        (print_group_written depth (push (group_view spell ins env u.locals v) env)
+        (print_group_written depth (push (argument_view local_arrays spell ins env u.locals v) env)
         (used_after u v) b w rest)
     print_group_written depth env u (Map kind n loads xs b) w rest =
         print_group_argument depth env u xs
-        (print_fence (fence (u.phases + phases_in xs))
+        (fenced (fence (u.phases + phases_in xs))
         (print_local_map depth env (used_after u xs) n loads
-        (group_view spell ins env u.locals xs) b w rest))
+        (argument_view local_arrays spell ins env u.locals xs) b w rest))
     print_group_written depth env u _ w rest = rest
 
   -- a turn of the map over groups, whose element stands so
@@ -136,20 +113,20 @@ module _ {A : Type 0} (spell : A → Formula) (forms : MapForms A) (ins : ℕ �
       print_loaded loads x 0
       (print_group_written depth (push (loaded_view loads x 0) env)
       (record { locals = 0; privates = 0; variables = load_count loads; phases = 0 }) b w
-      (print_fence (fence (phases_in b)) End))
+      (fenced (fence (phases_in b)) End))
 
   -- a map over work-groups, through layouts and lets of arrays, whose value goes there
   abbrev pub print_groups : (ℕ → View) → Term A → (to : View) → Code
   print_groups env (Reshape l t) w =
       print_groups env t (λ cs is. w cs (result_indices spell l is))
   print_groups env (LetArray v b) w =
-      print_groups (push (argument_view spell ins env 0 v) env) b w
+      print_groups (push (argument_view private_arrays spell ins env 0 v) env) b w
   print_groups env (Map kind n loads xs b) w =
       let form = form_over_groups (forms.once n) in
       let turn = turn_formula form WorkGroup 0 in
       statement_over_groups (forms.once n) (spell n)
       (print_group_turn (depth_in form 0) env loads
-      (view_at turn (argument_view spell ins env 0 xs)) b (view_at turn w))
+      (view_at turn (argument_view private_arrays spell ins env 0 xs)) b (view_at turn w))
   print_groups env _ w = End
 
 -- the code of a map over work-groups, where input v's arrays begin with the number `first v`
@@ -179,15 +156,3 @@ printed_group_kernel spell fence d size t a =
     declared_kernel d size t a
     (group_kernel_code spell (forms_of d.names size) (first_buffer d.inputs) (input_shape d.inputs)
     fence (lowered_root d.names t a) (shape_of (type_in a)))
-
--- with the needed barriers it is printed for the term, at each admissible launch
-abbrev pub GroupProgramsArePrinted : Type 0
-GroupProgramsArePrinted =
-    (d : Declared) (asks : Asks) (bases : List ℕ) (t : Tree) (a : Annotation) (l : Launch)
-    (spell : List Monomial → Formula) (fence : ℕ → Fencing)
-    → IsGroupProgram d bases t a → IsLaunchOf d asks bases l → IsStaged Written t a
-    → FitsBuffers d bases a → IsSpelling spell bases l
-    → Needed (group_touches (lowered_root d.names t a))
-    (is_once (forms_of d.names asks.local) (lowered_root d.names t a))
-    (phase_count (lowered_root d.names t a)) fence
-    → PrintsGroups d asks.local bases t a l (printed_group_kernel spell fence d asks.local t a)

@@ -5,13 +5,13 @@ use Rattle.lift_ir.specs.Types.{Ty, Scalar, PairOf, ArrayOf}
 use Rattle.lift_ir.specs.Layouts.{operand_position, result_position}
 use Rattle.lift_ir.specs.Terms.{LoadSet, Skip, Term, Literal, Both, Project, Reshape, LetArray, Map, Copy, push, HasType, no_type}
 use Rattle.lift_ir.specs.Scalars.{Scalars, mapped, scalars_of}
-use Rattle.printed_form.specs.Arguments.{marks_in}
-use Rattle.printed_form.specs.Counts.{variable_count, private_count}
+use Rattle.printed_form.specs.Arguments.{marks_in, local_arrays}
+use Rattle.printed_form.specs.Counts.{variable_count, private_count, local_count}
 use Rattle.printed_form.specs.MapForms.{Looped, MapForms}
 use Rattle.printed_form.specs.Marks.{Nowhere, Marks}
 use Rattle.group_phases.specs.Phases.{Phase}
 use Rattle.group_form.specs.Named.{cut, ways, element_ways, named_outside}
-use Rattle.group_form.specs.Origins.{Origin, Elsewhere, local_count, local_arrays, origin_of}
+use Rattle.group_form.specs.Origins.{Origin, Elsewhere, origin_of}
 use Rattle.group_form.specs.Uses.{Use, Destination, Locals, Outputs, loop_uses}
 
 -- a phase at every turn. A position of its value goes to `outer` of it where the value lies, and

@@ -17,14 +17,13 @@ use Rattle.lift_ir.specs.Terms.{LocalMemory, Term}
 use Rattle.lift_ir.specs.Scalars.{Scalars, scalars_of, no_scalars, HasScalars, lists_of, AreLists}
 use Rattle.lift_ir.specs.Sources.{Lowers}
 use Rattle.lift_ir.specs.Owner.{owner}
-use Rattle.printed_form.specs.Counts.{copy_lengths}
+use Rattle.printed_form.specs.Counts.{copy_lengths, local_count}
 use Rattle.printed_form.specs.Headline.{EveryRunKeeps}
 use Rattle.printed_form.specs.MapForms.{MapForms, MakeTurns}
 use Rattle.printed_form.specs.Marks.{Marks}
 use Rattle.printed_form.specs.Whole.{no_marks, output_marks, IsMadeFor}
 use Rattle.group_phases.specs.Outcome.{BarriersServeAll}
 use Rattle.group_form.specs.Forms.{StandsInGroup, StandsOverGroups}
-use Rattle.group_form.specs.Origins.{local_count}
 use Rattle.group_form.specs.Uses.{phase_count, group_touches}
 use Rattle.group_form.specs.Form.{is_once, IsOverGroups}
 

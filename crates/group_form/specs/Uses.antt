@@ -3,8 +3,9 @@ use Rattle.std.specs.Prelude.{ℕ, zero, suc, ◌+◌, Bool, true, false, List, 
 use Rattle.barrier_placement.specs.declared.touches.Touch.{Touch}
 use Rattle.lift_ir.specs.Types.{Ty, width}
 use Rattle.lift_ir.specs.Terms.{LoadSet, Term, Both, Project, Reshape, LetArray, Map, Copy, push}
+use Rattle.printed_form.specs.Counts.{local_count}
 use Rattle.group_form.specs.Named.{Component, element_ways, named_outside}
-use Rattle.group_form.specs.Origins.{Origin, Elsewhere, Within, BySide, at_way, bent, local_count, origin_of}
+use Rattle.group_form.specs.Origins.{Origin, Elsewhere, Within, BySide, at_way, bent, origin_of}
 
 -- a phase's use of a local array
 pub record Use : Type 0 where

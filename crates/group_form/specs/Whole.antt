@@ -5,7 +5,7 @@ use Rattle.kernel_tree.specs.Code.{Array, Local as LocalArray}
 use Rattle.lift_ir.specs.Types.{Ty, width, size}
 use Rattle.lift_ir.specs.Layouts.{operand_position}
 use Rattle.lift_ir.specs.Terms.{Term, Both, Project, Reshape, LetArray, Map, Copy}
-use Rattle.group_form.specs.Origins.{local_count}
+use Rattle.printed_form.specs.Counts.{local_count}
 use Rattle.group_form.specs.Uses.{Destination, Locals, Outputs}
 use Rattle.group_form.specs.Body.{first_index}
 

@@ -2,8 +2,7 @@
 
 ghost use Rattle.size_arith.specs.declared.poly.Monomial.{Monomial};
 ghost use Rattle.std.specs.Prelude.{ℕ, List};
-ghost use Rattle.group_form.specs.Printer.{GroupPrinterPrints, GroupProgramsArePrinted};
-ghost use Rattle.group_form.specs.Programs.{PrintedGroupProgramsKeep, PrintedGroupProgramsServe, PrintedGroupProgramsStart};
+ghost use Rattle.group_form.specs.Printer.{GroupPrinterPrints};
 ghost use Rattle.group_form.specs.Theorem.{LocalArraysAreCounted, NeededKeepApart, NeededGroupsKeep, SeparatedGroupsKeep, SeparatedGroupsServe, UsesTellBarriers, AlignedNeedNone, GroupUsesCanBePlaced};
 
 use barrier_placement::laws::needed_barriers_separate;
@@ -40,28 +39,10 @@ pub fn uses_tell_barriers()
     ensures aligned { AlignedNeedNone }
 {}
 
-/// At every admissible launch, on all inputs, every run of a kernel that is printed for a program's
-/// typed term, a map over work-groups, with the needed barriers keeps what the kernel owes: the
-/// source value's lists, each cell by its owner. And its barriers serve.
-pub fn printed_group_programs_keep()
-    ensures keep { PrintedGroupProgramsKeep }
-    ensures serve { PrintedGroupProgramsServe }
-{
-    printed_groups_keep();
-}
-
-/// A kernel that is printed for a program's typed term, a map over work-groups, may be started at
-/// each admissible launch.
-pub fn printed_group_programs_start()
-    ensures { PrintedGroupProgramsStart }
-{}
-
 /// What the printer makes of a map over work-groups is printed for it, with whatever barriers it is
-/// given, at every launch; of a program's typed term with the needed ones it is one kernel for all
-/// admissible launches.
+/// given, at every launch.
 pub fn the_group_printer_prints()
-    ensures code { GroupPrinterPrints (List Monomial) }
-    ensures programs { GroupProgramsArePrinted }
+    ensures { GroupPrinterPrints (List Monomial) }
 {}
 
 /// In a group's turn as many local arrays are declared as are counted.

@@ -1,10 +1,9 @@
 //! The printed form of maps over work-groups: from a term to its phases, which code is printed for
-//! it with which barriers, a printer, what holds of every printed kernel (`laws`), and that any two
-//! run alike (`alike`); which maps need no loop (`chosen`); and kernels for one work-item, or over
-//! the launch, which have no barriers (`barrier_free`).
+//! it with which barriers, a printer, and what holds of every printed kernel (`laws`); which maps
+//! need no loop (`chosen`); and what holds of the kernels of a program's term, whether its
+//! work-items run it each by itself or together in groups (`kernels`).
 #![tactic(auto)]
 
-pub mod alike;
-pub mod barrier_free;
 pub mod chosen;
+pub mod kernels;
 pub mod laws;

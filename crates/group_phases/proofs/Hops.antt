@@ -19,7 +19,7 @@ use Rattle.group_phases.specs.Hops.{IsAtTurn, Hops}
 use Rattle.group_phases.specs.TurnForms.{Form, TakesTurns, place, nest_form}
 use Rattle.group_phases.specs.Work.{Work}
 use Rattle.group_phases.proofs.GroupForms.{hop_of}
-use Rattle.group_phases.proofs.TurnForms.{place_in, place_past}
+use Rattle.group_phases.proofs.TurnForms.{below, place_in, place_past}
 use Rattle.group_phases.proofs.Written.{untouched}
 
 module _ (d : Device) (k : ℕ) (c : Cells) where
@@ -140,9 +140,6 @@ module _ (d : Device) (k : ℕ) (c : Cells) where
         positive : (t w : ℕ) → t < f.count * w → 0 < w
         positive t zero lt = absurd (omega arith)
         positive t (suc w) lt = omega arith
-
-        below : (t u v n w : ℕ) → u * w + v ≡ t → t < n * w → u < n
-        below t u v n w e lt = ⊎_elim (λ a. a) (λ b. absurd (let more = mul-le-mul_right {m = n} {n = u} w b in omega arith)) (cases_lt u n)
 
 -- around a body of phases
 module _ (kernel : Kernel) (l : Launch) (c : Cells) (body : Body) (work : Work) (form : ℕ → Form) (Pre Post : ℕ → Vars → Type 0)

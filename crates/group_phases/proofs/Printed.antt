@@ -1,6 +1,6 @@
 -- Phases that are printed terms do the work of their turns, and so every kernel that is printed for
 -- them keeps the headline.
-use Rattle.std.proofs.Common.{◌≡◌, ℕ, zero, suc, ◌+◌, ◌*◌, ◌%◌, ◌<◌, ◌≤◌, true, List, [], ◌∷◌, length, All, refl, sym, ap, ◌∙◌, subst, inl, ⊎_elim, arith}
+use Rattle.std.proofs.Common.{◌≡◌, ℕ, zero, suc, ◌+◌, ◌*◌, ◌%◌, ◌<◌, ◌≤◌, true, List, ◌∷◌, length, All, refl, sym, ap, ◌∙◌, subst, inl, ⊎_elim, arith}
 use Rattle.std.proofs.lemmas.Bool.{cases_lt}
 use Rattle.std.proofs.Math.Nat.{mod-lt, mul-le-mul_right}
 use Rattle.kernel_tree.specs.Formula.{Vars}
@@ -25,7 +25,7 @@ use Rattle.printed_form.specs.Form.{IsTurnOf, IsLoaded}
 use Rattle.printed_form.specs.Runs.{Setting, Known, Kept, Scratch, spot_cell, HoldsAt, Holds, DueAt, nothing, no_target, known_after}
 use Rattle.printed_form.specs.Whole.{IsGiven}
 use Rattle.printed_form.proofs.Cells.{loads_run}
-use Rattle.printed_form.proofs.Loops.{Rows}
+use Rattle.printed_form.proofs.Loops.{Rows, rest_is}
 use Rattle.group_phases.specs.Bodies.{is_private, IsShared, IsReady, CanDo}
 use Rattle.group_phases.specs.Work.{IsKnown}
 use Rattle.group_phases.specs.Groups.{loop_turns}
@@ -38,13 +38,6 @@ use Rattle.group_phases.specs.Printed.{IsPhased}
 use Rattle.group_phases.proofs.Keeps.{keeps_from_chunks}
 use Rattle.group_phases.proofs.LocalLoop.{form_run}
 use Rattle.group_phases.proofs.Parts.{part_of_run, scratch_private}
-
-rest_is : (i j : ℕ) (p r : List ℕ) → i ∷ p ≡ j ∷ r → p ≡ r
-rest_is i j p r e = ap tail e
-  where
-    tail : List ℕ → List ℕ
-    tail [] = []
-    tail (x ∷ xs) = xs
 
 -- of a map of one turn at most a group has one at most
 turns_few : (n g i : ℕ) → n ≤ 1 → turns_of n g i ≤ 1

@@ -25,6 +25,10 @@ pub written-moves : (n : ℕ) (m : Memory) → written (moves n) m ≡ m
 written-moves zero m = refl
 written-moves (suc n) m = written-moves n m
 
+-- a turn of pairs within so many has its row within so many
+pub below : (t u v n w : ℕ) → u * w + v ≡ t → t < n * w → u < n
+below t u v n w e lt = ⊎_elim (λ a. a) (λ b. absurd (let more = mul-le-mul_right {m = n} {n = u} w b in omega arith)) (cases_lt u n)
+
 module _ (d : Device) (k : ℕ) where
   pub leads_here : (x y : Item) → x ≡ y → Leads d k x y
   leads_here x y e = (0, λ m. e)
@@ -120,9 +124,6 @@ module _ (d : Device) (k : ℕ) where
           positive : (t w : ℕ) → t < f.count * w → 0 < w
           positive t zero lt = absurd (omega arith)
           positive t (suc w) lt = omega arith
-
-          below : (t u v n w : ℕ) → u * w + v ≡ t → t < n * w → u < n
-          below t u v n w e lt = ⊎_elim (λ a. a) (λ b. absurd (let more = mul-le-mul_right {m = n} {n = u} w b in omega arith)) (cases_lt u n)
 
       pair_below : (u v : ℕ) → u < f.count → v < width → u * width + v < f.count * width
       pair_below u v ul vl = let more = mul-le-mul_right {m = suc u} {n = f.count} width ul in omega arith

@@ -1,19 +1,18 @@
 -- Rules for chunks by the shared cells that they write.
-use Rattle.std.proofs.Common.{◌≡◌, ℕ, suc, ◌+◌, ◌<◌, ◌⊎◌, List, [], ◌∷◌, ◌++◌, true, false, true≢false, refl, sym, ap, ◌∙◌, subst, ⊎_elim, inl, inr, arith}
-use Rattle.std.specs.Prelude.{if◌then◌else◌}
+use Rattle.std.proofs.Common.{◌≡◌, ℕ, suc, ◌+◌, ◌<◌, ◌⊎◌, List, [], ◌∷◌, ◌++◌, true, false, true≢false, refl, sym, ◌∙◌, subst, ⊎_elim, inl, inr, arith}
 use Rattle.std.proofs.lemmas.Bool.{cases_lt, both_ways}
 use Rattle.kernel_tree.specs.declared.events.Event.TheVariants.{Release}
 use Rattle.kernel_tree.specs.Formula.{Vars}
 use Rattle.kernel_tree.specs.Code.{Array, Input, Output, Local, Private, Code}
 use Rattle.kernel_tree.specs.Launch.{group_of, item_count}
 use Rattle.kernel_tree.specs.Item.{Item, item, Frame}
-use Rattle.kernel_tree.specs.Device.{Device, Cell, Memory, State, Enabled, after, behind, same_cell}
+use Rattle.kernel_tree.specs.Device.{Device, Cell, Memory, State, Enabled, after, behind}
 use Rattle.kernel_tree.specs.Deeds.{Deed, Moved, Got, Gave, GotFour, GaveFour, Goes, WritesTo, written}
-use Rattle.kernel_tree.specs.Independent.{one_if_same, write_count}
+use Rattle.kernel_tree.specs.Independent.{write_count}
 use Rattle.kernel_tree.specs.Chunks.{Chunk, By, Rel, chunk_state, Phases, owners_at, chunk_writes}
-use Rattle.kernel_tree.proofs.Confluence.{same_cell-itself}
 use Rattle.kernel_tree.proofs.Chunks.{chunked-append}
 use Rattle.kernel_tree.proofs.Independent.{written-kept}
+use Rattle.printed_form.proofs.Runs.{one_here}
 use Rattle.group_phases.specs.Bodies.{is_private, IsShared, Part, Hop}
 use Rattle.group_phases.specs.Written.{is_global, IsGlobal, is_input, Writes, Nothing, DoneBy, LeavesOtherGroups}
 
@@ -26,21 +25,18 @@ global_shared c h = go c.array h
     go (Local n) e = refl
     go (Private n) e = absurd (true≢false (sym e))
 
-same_counts : (b c : Cell) → c ≡ b → one_if_same b c ≡ 1
-same_counts b c q = ap (λ t. if t then 1 else 0) (subst (λ x. same_cell b x ≡ true) (sym q) (same_cell-itself b))
-
 pub writes_count : (c : Cell) (ds : List Deed) → WritesTo c ds → write_count c ds ≡ 0 → ⊥
 writes_count c [] w e = w
 writes_count c (Moved ∷ ds) w e = writes_count c ds w e
 writes_count c (Got b ∷ ds) w e = writes_count c ds w e
-writes_count c (Gave b v ∷ ds) w e = ⊎_elim (λ q. let n = same_counts b c q in absurd (omega arith)) (λ r. writes_count c ds r (omega arith)) w
+writes_count c (Gave b v ∷ ds) w e = ⊎_elim (λ q. let n = one_here b c q in absurd (omega arith)) (λ r. writes_count c ds r (omega arith)) w
 writes_count c (GotFour b ∷ ds) w e = writes_count c ds w e
 writes_count c (GaveFour b u ∷ ds) w e =
     ⊎_elim
-    (λ four. ⊎_elim (λ q. let n = same_counts b c q in absurd (omega arith))
-    (λ more. ⊎_elim (λ q. let n = same_counts (behind 1 b) c q in absurd (omega arith))
-    (λ more. ⊎_elim (λ q. let n = same_counts (behind 2 b) c q in absurd (omega arith))
-    (λ more. ⊎_elim (λ q. let n = same_counts (behind 3 b) c q in absurd (omega arith)) (λ none. none)
+    (λ four. ⊎_elim (λ q. let n = one_here b c q in absurd (omega arith))
+    (λ more. ⊎_elim (λ q. let n = one_here (behind 1 b) c q in absurd (omega arith))
+    (λ more. ⊎_elim (λ q. let n = one_here (behind 2 b) c q in absurd (omega arith))
+    (λ more. ⊎_elim (λ q. let n = one_here (behind 3 b) c q in absurd (omega arith)) (λ none. none)
     more) more) more) four)
     (λ r. writes_count c ds r (omega arith))
     w

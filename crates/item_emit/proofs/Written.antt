@@ -6,10 +6,11 @@ use Rattle.kernel_tree.specs.Code.{Code, End, Loops, Start, Stride, FromZero, By
 use Rattle.length_spelling.specs.Turns.{as_number}
 use Rattle.lift_ir.specs.Layouts.{Layout}
 use Rattle.lift_ir.specs.Types.{Ty, width}
-use Rattle.lift_ir.specs.Terms.{Kind, LoadSet, Term, Reshape, LetArray, LetElement, Map, Fold, push}
+use Rattle.lift_ir.specs.Terms.{Kind, LoadSet, Term, Reshape, LetArray, Map, Fold, push}
+use Rattle.printed_form.specs.Arguments.{argument_view, private_arrays}
 use Rattle.printed_form.specs.Counts.{let_variables, load_count, private_count, variable_count}
 use Rattle.printed_form.specs.Form.{start_of, stride_of}
-use Rattle.printed_form.specs.Printer.{argument_view, print_argument, print_assigned, print_element, print_fold_turn, print_loaded, print_reassigned, print_stored, print_written, sign_exprs}
+use Rattle.printed_form.specs.Printer.{print_argument, print_assigned, print_element, print_fold_turn, print_loaded, print_reassigned, print_stored, print_written, sign_exprs}
 use Rattle.printed_form.specs.Views.{View, held_sign, held_view, loaded_view, result_indices, view_at}
 
 -- a number is a turn's own
@@ -19,10 +20,6 @@ numbered n number h = go (nat_lt n (2 ^ 32)) h
     go : (b : Bool) → (if b then Some n else None) ≡ Some number → number ≡ n
     go true h = cc h
     go false h = absurd (cc h)
-
-pub let_element : {A : Type 0} (env : ℕ → View) (n : ℕ) (ty : Ty) (v b counted set first last : Term A) (rest inner code : Code) (bound : View) (f m g k : ℕ) → counted ≡ v → last ≡ b → set ≡ v → first ≡ v → f ≡ let_variables counted → m ≡ n + f → g ≡ width ty → k ≡ m + g → bound ≡ held_view ty m
-    → inner ≡ print_element (push bound env) k last rest → code ≡ print_assigned ty (sign_exprs env n set) m inner → print_element env n first code ≡ print_element env n (LetElement ty v b) rest
-let_element env n ty v b counted set first last rest inner code bound f m g k hc hl hs hf ef em eg ek eb ei ec = rw (ec, ei, eb, ek, eg, em, ef, hc, hl, hs, hf) refl
 
 pub fold_turn : {A : Type 0} (env : ℕ → View) (loads : LoadSet) (ty : Ty) (x : View) (acc : ℕ) (b : Term A) (start reassigned code : Code) (held bound : View) (g first_load h first_let v temporary : ℕ) → start ≡ End → g ≡ width ty → first_load ≡ acc + g → h ≡ load_count loads → first_let ≡ first_load + h → v ≡ let_variables b → temporary ≡ first_let + v
     → held ≡ held_view ty acc → bound ≡ loaded_view loads x first_load → reassigned ≡ print_reassigned ty (sign_exprs (push bound (push held env)) first_let b) acc temporary start
@@ -35,16 +32,16 @@ pub fold_loop : {A : Type 0} (env : ℕ → View) (n : ℕ) (ty : Ty) (len : For
 fold_loop env n ty len s w loads x b rest lets m turned stored looped es em et eo el = rw (el, eo, et, em, es) refl
 
 module _ {A : Type 0} (spell : A → Formula) (ins : ℕ → View) (depth : ℕ) (env : ℕ → View) (a n : ℕ) where
-  pub argument_let : (v b : Term A) (rest code : Code) (bound : View) (d p q : ℕ) → bound ≡ argument_view spell ins env a v → d ≡ depth → p ≡ a + private_count v → q ≡ n + variable_count v
+  pub argument_let : (v b : Term A) (rest code : Code) (bound : View) (d p q : ℕ) → bound ≡ argument_view private_arrays spell ins env a v → d ≡ depth → p ≡ a + private_count v → q ≡ n + variable_count v
       → code ≡ print_argument spell ins d (push bound env) p q b rest → print_argument spell ins depth env a n v code ≡ print_argument spell ins depth env a n (LetArray v b) rest
   argument_let v b rest code bound d p q eb ed ep eq ec = rw (ec, eb, ed, ep, eq) refl
 
-  pub written_let : (v b : Term A) (w : View) (rest code : Code) (bound : View) (d p q : ℕ) → bound ≡ argument_view spell ins env a v → d ≡ depth → p ≡ a + private_count v → q ≡ n + variable_count v
+  pub written_let : (v b : Term A) (w : View) (rest code : Code) (bound : View) (d p q : ℕ) → bound ≡ argument_view private_arrays spell ins env a v → d ≡ depth → p ≡ a + private_count v → q ≡ n + variable_count v
       → code ≡ print_written spell ins d (push bound env) p q b w rest → print_argument spell ins depth env a n v code ≡ print_written spell ins depth env a n (LetArray v b) w rest
   written_let v b w rest code bound d p q eb ed ep eq ec = rw (ec, eb, ed, ep, eq) refl
 
   pub written_map : (k : Kind) (len : A) (loads : LoadSet) (xs b : Term A) (w : View) (rest turn code : Code) (array element to : View) (length : Formula) (start : Start) (stride : Stride) (inner : ℕ → View) (d p q : ℕ)
-      → array ≡ argument_view spell ins env a xs → element ≡ view_at (LoopVariable depth) array → to ≡ view_at (LoopVariable depth) w → inner ≡ env → d ≡ depth → p ≡ a + private_count xs → q ≡ n + variable_count xs
+      → array ≡ argument_view private_arrays spell ins env a xs → element ≡ view_at (LoopVariable depth) array → to ≡ view_at (LoopVariable depth) w → inner ≡ env → d ≡ depth → p ≡ a + private_count xs → q ≡ n + variable_count xs
       → turn ≡ print_loaded loads element q (print_written spell ins (suc d) (push (loaded_view loads element q) inner) p (q + load_count loads) b to End) → length ≡ spell len → start ≡ start_of k → stride ≡ stride_of k → code ≡ Loops start length stride turn rest
       → print_argument spell ins depth env a n xs code ≡ print_written spell ins depth env a n (Map k len loads xs b) w rest
   written_map k len loads xs b w rest turn code array element to length start stride inner d p q ea ee eo ei ed ep eq et el es er ec = rw (ec, el, es, er, et, ei, eo, ed, ep, eq, ee, ea) refl
@@ -54,7 +51,7 @@ module _ {A : Type 0} (spell : A → Formula) (ins : ℕ → View) (depth : ℕ)
   written_layout y t w target rest e = ap (λ v. print_written spell ins depth env a n t v rest) e
 
   pub written_fold : (len : A) (loads : LoadSet) (ty : Ty) (xs s b : Term A) (w : View) (rest code : Code) (array element : View) (bound : Formula) (f p : ℕ)
-      → array ≡ argument_view spell ins env a xs → element ≡ view_at (LoopVariable depth) array → f ≡ variable_count xs → p ≡ n + f → bound ≡ spell len
+      → array ≡ argument_view private_arrays spell ins env a xs → element ≡ view_at (LoopVariable depth) array → f ≡ variable_count xs → p ≡ n + f → bound ≡ spell len
       → code ≡ print_element env p s (print_assigned ty (sign_exprs env p s) (p + let_variables s) (Loops FromZero bound ByOne (print_fold_turn env loads ty element (p + let_variables s) b) (print_stored ty (λ cs. held_sign (held_view ty (p + let_variables s) cs [])) (view_at (Number 0) w) rest)))
       → print_argument spell ins depth env a n xs code ≡ print_written spell ins depth env a n (Fold len loads ty xs s b) w rest
   written_fold len loads ty xs s b w rest code array element bound f p ea ee ef ep eb ec = rw (ec, ee, ea, ep, ef, eb) refl

@@ -1,7 +1,15 @@
--- Terms whose copies are of numbers of cells that are words.
-use Rattle.std.specs.Prelude.{◌<◌, ◌^◌}
+-- The arrays that copies lie in, and terms whose copies are of numbers of cells that are words.
+use Rattle.std.specs.Prelude.{◌<◌, ◌^◌, List}
+use Rattle.size_arith.specs.declared.poly.Monomial.{Monomial}
 use Rattle.lift_ir.specs.Types.{Ty, size, IsShort}
 use Rattle.lift_ir.specs.Terms.{Term, Both, Project, Reshape, LetArray, LetElement, Map, Fold, Copy}
+use Rattle.printed_form.specs.Arguments.{CopyArrays, arrays_of}
+use Rattle.lowering.specs.Terms.{space_of}
+use Rattle.lowering.specs.declared.term.Space.{Space}
+
+-- the arrays of a space that the Rust code names
+abbrev pub arrays_in : Space → CopyArrays (List Monomial)
+arrays_in space = arrays_of (space_of space)
 
 -- lengths below 2^31, and one component of less than 2^32 scalars
 pub record IsShortCopy (ty : Ty) : Type 0 where

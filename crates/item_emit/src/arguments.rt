@@ -1,22 +1,23 @@
-//! What stands for arguments: inputs, copies, bound elements, and layouts of them.
+//! What stands for arguments: inputs, copies in the arrays of a space, bound elements, and layouts
+//! of them.
 
-ghost use Rattle.std.specs.Prelude.{◌≡◌, ◌+◌, [], IfOk, map};
-ghost use Rattle.kernel_tree.specs.Code.{Input, Output, Private};
+ghost use Rattle.std.specs.Prelude.{◌≡◌, ◌+◌, [], if◌then◌else◌, IfOk, map};
+ghost use Rattle.kernel_tree.specs.Code.{Input, Output};
 ghost use Rattle.lift_tree.specs.Types.{ty_of};
 ghost use Rattle.lift_ir.specs.AtLaunch.{shape_of, ty_at};
 ghost use Rattle.lift_ir.specs.Types.{IsShort};
 ghost use Rattle.array_views.specs.Arrays.{array_with};
-ghost use Rattle.printed_form.specs.Printer as printer;
+ghost use Rattle.printed_form.specs.Arguments.{argument_view};
 ghost use Rattle.printed_form.specs.Programs as programs;
 ghost use Rattle.printed_form.specs.Views as views;
 ghost use Rattle.length_spelling.specs.Formulas.{length_formula};
 ghost use Rattle.array_views.specs.Views.{view_in};
-ghost use Rattle.lowering.specs.Terms.{term_of};
-ghost use Rattle.item_emit.specs.Copies.{HasShortCopies};
+ghost use Rattle.lowering.specs.Terms.{space_of, term_of};
+ghost use Rattle.item_emit.specs.Copies.{HasShortCopies, arrays_in};
 ghost use Rattle.item_emit.specs.Inputs.{inputs_in, spell_in};
 ghost use Rattle.item_emit.specs.Scopes.{scope_of};
 
-use crate::counts::{plus, private_count, width};
+use crate::counts::{array_count, plus, width};
 use crate::scope::Scope;
 use array_views::{ArrayKind, View};
 use lift_tree::ty::Ty;
@@ -91,40 +92,94 @@ pub fn buffer_count(inputs: &[Ty]) -> Result<u32, AllocError>
     }
 }
 
-/// A copy in private arrays, the first of which has this number.
-pub fn private(alloc: Global, first: u32, ty: &Ty) -> Result<View, AllocError>
-    requires { IsShort (ty_at [] (ty_of ty.now)) }
-    ensures { IfOk result
-        (λ v. view_in v ≡ views.laid_view Private first (ty_at [] (ty_of ty.now))) }
+// The arrays of a space.
+fn kind_of(space: Space) -> ArrayKind
+    ensures { array_with result ≡ (arrays_in space).array }
 {
-    plus(first, width(ty)?)?;
-    View::laid(alloc, ArrayKind::Private, first, ty)
+    match space {
+        Space::Local => ArrayKind::Local,
+        Space::Private => ArrayKind::Private,
+    }
 }
 
-/// What stands for an argument, whose first private array has this number.
+/// A copy in arrays of a space, the first of which has this number.
+pub fn laid(alloc: Global, space: Space, first: u32, ty: &Ty) -> Result<View, AllocError>
+    requires { IsShort (ty_at [] (ty_of ty.now)) }
+    ensures { IfOk result (λ v. view_in v
+        ≡ views.laid_view (arrays_in space).array first (ty_at [] (ty_of ty.now))) }
+{
+    plus(first, width(ty)?)?;
+    View::laid(alloc, kind_of(space), first, ty)
+}
+
+// Whether a copy to one space lies in the arrays of the other. All copies lie in local arrays,
+// where those are asked for.
+fn holds(space: Space, copied: Space) -> bool
+    ensures { result ≡ (arrays_in space).holds (space_of copied) }
+{
+    match (space, copied) {
+        (Space::Private, Space::Local) => false,
+        (Space::Private, Space::Private) | (Space::Local, _) => true,
+    }
+}
+
+// What stands for a copy to a space, where the first array of its operand has this number.
+fn copied(
+    alloc: Global,
+    space: Space,
+    first: u32,
+    to: Space,
+    ty: &Ty,
+    operand: &Term,
+) -> Result<View, AllocError>
+    requires { IsShort (ty_at [] (ty_of ty.now)) }
+    ensures { IfOk result (λ v. view_in v ≡ (if (arrays_in space).holds (space_of to)
+        then views.laid_view (arrays_in space).array
+        (first + (arrays_in space).count (term_of operand.now)) (ty_at [] (ty_of ty.now))
+        else (λ cs is. views.Blank))) }
+{
+    if holds(space, to) {
+        laid(alloc, space, plus(first, array_count(space, operand)?)?, ty)
+    } else {
+        View::nothing(alloc)
+    }
+}
+
+/// What stands for an argument whose copies lie in arrays of a space, the first of which has this
+/// number.
 pub fn argument(
     alloc: Global,
     declared: &Declared,
     scope: &Scope,
+    space: Space,
     first: u32,
     term: &Term,
 ) -> Result<View, AllocError>
     requires { HasShortCopies (term_of term.now) }
-    ensures { IfOk result (λ v. view_in v ≡ printer.argument_view (spell_in declared.now)
-        (inputs_in declared.now) (scope_of scope.now) first (term_of term.now)) }
+    ensures { IfOk result (λ v. view_in v ≡ argument_view (arrays_in space)
+        (spell_in declared.now) (inputs_in declared.now) (scope_of scope.now) first
+        (term_of term.now)) }
 {
     match term {
         Term::Bound(binder) => scope.view(alloc, *binder),
         Term::Source(number) => input(alloc, declared.names, 0, declared.inputs, *number),
         Term::Pair(a, b) | Term::Zip(a, b) => {
-            let second = plus(first, private_count(a)?)?;
-            let a = argument(alloc, declared, scope, first, a)?;
-            View::both(alloc, a, argument(alloc, declared, scope, second, b)?)
+            let second = plus(first, array_count(space, a)?)?;
+            let a = argument(alloc, declared, scope, space, first, a)?;
+            View::both(
+                alloc,
+                a,
+                argument(alloc, declared, scope, space, second, b)?,
+            )
         }
-        Term::First(a) => argument(alloc, declared, scope, first, a)?.component(alloc, false),
-        Term::Second(a) => argument(alloc, declared, scope, first, a)?.component(alloc, true),
+        Term::First(a) => {
+            argument(alloc, declared, scope, space, first, a)?.component(alloc, false)
+        }
+        Term::Second(a) => {
+            argument(alloc, declared, scope, space, first, a)?.component(alloc, true)
+        }
         Term::Reshape(layout, a) => {
-            let a = argument(alloc, declared, scope, first, a)?;
+            let a = argument(alloc, declared, scope, space, first, a)?;
             a.reading(
                 alloc,
                 declared.names,
@@ -134,11 +189,18 @@ pub fn argument(
             )
         }
         Term::LetArray(value, body) => {
-            let second = plus(first, private_count(value)?)?;
-            let value = argument(alloc, declared, scope, first, value)?;
-            argument(alloc, declared, &Scope::Bound(&value, scope), second, body)
+            let second = plus(first, array_count(space, value)?)?;
+            let value = argument(alloc, declared, scope, space, first, value)?;
+            argument(
+                alloc,
+                declared,
+                &Scope::Bound(&value, scope),
+                space,
+                second,
+                body,
+            )
         }
-        Term::Copy(Space::Private, ty, a) => private(alloc, plus(first, private_count(a)?)?, ty),
+        Term::Copy(to, ty, a) => copied(alloc, space, first, *to, ty, a),
         Term::Literal(_)
         | Term::Apply(_, _, _)
         | Term::ApplyNumber(_, _, _)
@@ -146,7 +208,6 @@ pub fn argument(
         | Term::LetElement(_, _, _)
         | Term::Map(_)
         | Term::Fold(_)
-        | Term::Store(_, _)
-        | Term::Copy(Space::Local, _, _) => View::nothing(alloc),
+        | Term::Store(_, _) => View::nothing(alloc),
     }
 }

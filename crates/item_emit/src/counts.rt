@@ -8,6 +8,7 @@ ghost use Rattle.lift_ir.specs.Lowering.{element_ty};
 ghost use Rattle.lift_ir.specs.Types as types;
 ghost use Rattle.printed_form.specs.Counts as spec;
 ghost use Rattle.lowering.specs.Terms.{load_set_of, term_of};
+ghost use Rattle.item_emit.specs.Copies.{arrays_in};
 
 use lift_tree::ty::Ty;
 use lowering::term::{Fold, LoadSet, Space, Term};
@@ -162,5 +163,38 @@ pub fn private_count(term: &Term) -> Result<u32, AllocError>
         | Term::ApplyNumber(_, _, _)
         | Term::Select(_, _, _)
         | Term::Store(_, _) => Ok(0),
+    }
+}
+
+/// How many local arrays a term outside local maps has, where all copies are local.
+pub fn local_count(term: &Term) -> Result<u32, AllocError>
+    ensures { IfOk result (λ n. n ≡ spec.local_count (term_of term.now)) }
+{
+    match term {
+        Term::Pair(a, b) | Term::Zip(a, b) | Term::LetArray(a, b) => {
+            plus(local_count(a)?, local_count(b)?)
+        }
+        Term::First(a) | Term::Second(a) | Term::Reshape(_, a) => local_count(a),
+        Term::Map(map) => local_count(&map.array),
+        Term::Copy(_, ty, a) => plus(local_count(a)?, width(ty)?),
+        Term::Literal(_)
+        | Term::Bound(_)
+        | Term::Source(_)
+        | Term::Apply(_, _, _)
+        | Term::ApplyNumber(_, _, _)
+        | Term::Select(_, _, _)
+        | Term::LetElement(_, _, _)
+        | Term::Fold(_)
+        | Term::Store(_, _) => Ok(0),
+    }
+}
+
+/// How many arrays of a space a term has.
+pub fn array_count(space: Space, term: &Term) -> Result<u32, AllocError>
+    ensures { IfOk result (λ n. n ≡ (arrays_in space).count (term_of term.now)) }
+{
+    match space {
+        Space::Local => local_count(term),
+        Space::Private => private_count(term),
     }
 }

@@ -1,8 +1,10 @@
 //! The code of element terms: the assignments of their lets, and of their values.
 
-ghost use Rattle.std.specs.Prelude.{◌≡◌, [], IfOk, OnOk};
+ghost use Rattle.std.specs.Prelude.{◌≡◌, ◌+◌, [], IfOk, OnOk};
 ghost use Rattle.lift_tree.specs.Types.{ty_of};
 ghost use Rattle.lift_ir.specs.Lowering.{element_ty};
+ghost use Rattle.lift_ir.specs.Terms as terms;
+ghost use Rattle.printed_form.specs.Counts as spec;
 ghost use Rattle.printed_form.specs.Printer as printer;
 ghost use Rattle.printed_form.specs.Views as views;
 ghost use Rattle.array_views.specs.Views.{view_in};
@@ -96,7 +98,91 @@ pub fn put_reassigned(
     }
 }
 
+// The lets of two element terms, one after the other.
+#[cycle(elements)]
+fn put_two(
+    alloc: Global,
+    scope: &Scope,
+    first: u32,
+    a: &Term,
+    b: &Term,
+    block: &mut Block,
+) -> Result<(), AllocError>
+    ensures { OnOk result (code_in block.new ≡ printer.print_element
+        (scope_of scope.now) first (term_of a.now) (printer.print_element (scope_of scope.now)
+        (first + spec.let_variables (term_of a.now)) (term_of b.now) (code_in block.old))) }
+{
+    let second = plus(first, let_variables(a)?)?;
+    put_element(alloc, scope, second, b, block)?;
+    put_element(alloc, scope, first, a, block)
+}
+
+// The lets of a choice by a number.
+#[cycle(elements)]
+fn put_selected(
+    alloc: Global,
+    scope: &Scope,
+    first: u32,
+    condition: &Term,
+    yes: &Term,
+    no: &Term,
+    block: &mut Block,
+) -> Result<(), AllocError>
+    ensures { OnOk result (code_in block.new ≡ printer.print_element (scope_of scope.now) first
+        (terms.Select (term_of condition.now) (term_of yes.now) (term_of no.now))
+        (code_in block.old)) }
+{
+    let second = plus(first, let_variables(condition)?)?;
+    put_two(alloc, scope, second, yes, no, block)?;
+    put_element(alloc, scope, first, condition, block)
+}
+
+/// The code that sets the private variables of an element, the first of which is `variable`, to a
+/// term whose first variable has this number.
+#[cycle(elements)]
+pub fn put_bound(
+    alloc: Global,
+    scope: &Scope,
+    first: u32,
+    ty: &Ty,
+    value: &Term,
+    variable: u32,
+    block: &mut Block,
+) -> Result<(), AllocError>
+    ensures { OnOk result (code_in block.new ≡ printer.print_element
+        (scope_of scope.now) first (term_of value.now)
+        (printer.print_assigned (element_ty (ty_of ty.now)) (printer.sign_exprs
+        (scope_of scope.now) first (term_of value.now)) variable (code_in block.old))) }
+{
+    let part = Part::Whole(&*scope, first, &*value);
+    put_assigned(alloc, ty, &part, variable, block)?;
+    put_element(alloc, scope, first, value, block)
+}
+
+// The lets of a let of an element.
+#[cycle(elements)]
+fn put_let(
+    alloc: Global,
+    scope: &Scope,
+    first: u32,
+    ty: &Ty,
+    value: &Term,
+    body: &Term,
+    block: &mut Block,
+) -> Result<(), AllocError>
+    ensures { OnOk result (code_in block.new ≡ printer.print_element (scope_of scope.now) first
+        (terms.LetElement (element_ty (ty_of ty.now)) (term_of value.now) (term_of body.now))
+        (code_in block.old)) }
+{
+    let variable = plus(first, let_variables(value)?)?;
+    let next = plus(variable, element_width(ty)?)?;
+    let bound = held(alloc, ty, variable)?;
+    put_element(alloc, &Scope::Bound(&bound, &*scope), next, body, block)?;
+    put_bound(alloc, scope, first, ty, value, variable, block)
+}
+
 /// The lets of an element term, whose first variable has this number.
+#[cycle(elements)]
 pub fn put_element(
     alloc: Global,
     scope: &Scope,
@@ -109,34 +195,15 @@ pub fn put_element(
 {
     match term {
         Term::Apply(_, a, b) | Term::Pair(a, b) | Term::Zip(a, b) => {
-            let second = plus(first, let_variables(a)?)?;
-            put_element(alloc, scope, second, b, block)?;
-            put_element(alloc, scope, first, a, block)
+            put_two(alloc, scope, first, a, b, block)
         }
         Term::ApplyNumber(_, _, a) | Term::First(a) | Term::Second(a) => {
             put_element(alloc, scope, first, a, block)
         }
         Term::Select(condition, yes, no) => {
-            let second = plus(first, let_variables(condition)?)?;
-            let third = plus(second, let_variables(yes)?)?;
-            put_element(alloc, scope, third, no, block)?;
-            put_element(alloc, scope, second, yes, block)?;
-            put_element(alloc, scope, first, condition, block)
+            put_selected(alloc, scope, first, condition, yes, no, block)
         }
-        Term::LetElement(ty, value, body) => {
-            let variable = plus(first, let_variables(value)?)?;
-            let next = plus(variable, element_width(ty)?)?;
-            let bound = held(alloc, ty, variable)?;
-            put_element(alloc, &Scope::Bound(&bound, scope), next, body, block)?;
-            put_assigned(
-                alloc,
-                ty,
-                &Part::Whole(scope, first, value),
-                variable,
-                block,
-            )?;
-            put_element(alloc, scope, first, value, block)
-        }
+        Term::LetElement(ty, value, body) => put_let(alloc, scope, first, ty, value, body, block),
         Term::Literal(_)
         | Term::Bound(_)
         | Term::Source(_)

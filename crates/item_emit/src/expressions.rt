@@ -144,6 +144,23 @@ fn applied(
     of_both(alloc, op, a, b)
 }
 
+// The component of a quotient or remainder by a number: the one number.
+#[cycle(expressions)]
+fn divided(
+    alloc: Global,
+    op: Op,
+    number: u32,
+    a: &Term,
+    scope: &Scope,
+    first: u32,
+) -> Result<Option<Expr>, AllocError>
+    ensures { IfOk result (λ e. option_map formula_of e ≡ printer.sign_exprs (scope_of scope.now)
+        first (terms.ApplyNumber op number (term_of a.now)) []) }
+{
+    let a = component(alloc, a, scope, first, PairStack::new(alloc))?;
+    with_number(alloc, op, a, number)
+}
+
 #[cycle(expressions)]
 fn selected(
     alloc: Global,
@@ -204,6 +221,23 @@ fn bound(
     component(alloc, body, &Scope::Bound(&held, scope), next, choices)
 }
 
+// A component of one part of a pair.
+#[cycle(expressions)]
+fn projected(
+    alloc: Global,
+    a: &Term,
+    scope: &Scope,
+    first: u32,
+    second: bool,
+    mut choices: PairStack,
+) -> Result<Option<Expr>, AllocError>
+    ensures { IfOk result (λ e. option_map formula_of e ≡ printer.sign_exprs (scope_of scope.now)
+        first (terms.Project second (term_of a.now)) choices) }
+{
+    choices.push(second)?;
+    component(alloc, a, scope, first, choices)
+}
+
 /// The expression of a component of an element term whose first variable has this number.
 #[cycle(expressions)]
 pub fn component(
@@ -211,7 +245,7 @@ pub fn component(
     term: &Term,
     scope: &Scope,
     first: u32,
-    mut choices: PairStack,
+    choices: PairStack,
 ) -> Result<Option<Expr>, AllocError>
     ensures { IfOk result (λ e. option_map formula_of e
         ≡ printer.sign_exprs (scope_of scope.now) first (term_of term.now) choices) }
@@ -220,20 +254,11 @@ pub fn component(
         Term::Literal(number) => Ok(Some(Expr::Number(*number))),
         Term::Bound(binder) => variable(alloc, scope, *binder, choices),
         Term::Apply(op, a, b) => applied(alloc, *op, a, b, scope, first),
-        Term::ApplyNumber(op, number, a) => {
-            let a = component(alloc, a, scope, first, PairStack::new(alloc))?;
-            with_number(alloc, *op, a, *number)
-        }
+        Term::ApplyNumber(op, number, a) => divided(alloc, *op, *number, a, scope, first),
         Term::Select(condition, yes, no) => selected(alloc, condition, yes, no, scope, first),
         Term::Pair(a, b) | Term::Zip(a, b) => side(alloc, a, b, scope, first, choices),
-        Term::First(a) => {
-            choices.push(false)?;
-            component(alloc, a, scope, first, choices)
-        }
-        Term::Second(a) => {
-            choices.push(true)?;
-            component(alloc, a, scope, first, choices)
-        }
+        Term::First(a) => projected(alloc, a, scope, first, false, choices),
+        Term::Second(a) => projected(alloc, a, scope, first, true, choices),
         Term::LetElement(ty, value, body) => bound(alloc, ty, value, body, scope, first, choices),
         Term::Source(_)
         | Term::Reshape(_, _)

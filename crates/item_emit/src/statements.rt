@@ -21,12 +21,12 @@ ghost use Rattle.item_emit.specs.Inputs.{inputs_in, spell_in};
 ghost use Rattle.item_emit.specs.Scopes.{scope_of};
 
 use crate::accesses::{loaded, put_loaded, put_stored};
-use crate::arguments::{Declared, argument, private};
+use crate::arguments::{Declared, argument, laid};
 use crate::block::Block;
 use crate::counts::{
     element_width, let_variables, load_count, plus, private_count, variable_count,
 };
-use crate::elements::{held, put_assigned, put_element, put_reassigned};
+use crate::elements::{held, put_bound, put_element, put_reassigned};
 use crate::expressions::Part;
 use crate::scope::Scope;
 use array_views::View;
@@ -135,26 +135,6 @@ fn put_store(
     put_element(alloc, site.scope, site.variable, value, block)
 }
 
-// The code that sets the variables of a bound element, the first of which has this number.
-fn put_bound_element(
-    alloc: Global,
-    site: &Site,
-    ty: &Ty,
-    value: &Term,
-    variable: u32,
-    block: &mut Block,
-) -> Result<(), AllocError>
-    ensures { OnOk result (code_in block.new ≡ printer.print_element
-        (scope_of site.now.scope.now) site.now.variable (term_of value.now)
-        (printer.print_assigned (element_ty (ty_of ty.now)) (printer.sign_exprs
-        (scope_of site.now.scope.now) site.now.variable (term_of value.now))
-        variable (code_in block.old))) }
-{
-    let part = Part::Whole(site.scope, site.variable, value);
-    put_assigned(alloc, ty, &part, variable, block)?;
-    put_element(alloc, site.scope, site.variable, value, block)
-}
-
 // A turn of a fold over this element, where the accumulator is held from that variable on.
 fn fold_turn(
     alloc: Global,
@@ -235,7 +215,15 @@ fn put_fold_loop(
     let turn = fold_turn(alloc, site.scope, fold, element, accumulator)?;
     put_result(alloc, ty, accumulator, target, block)?;
     block.put_loop(Start::Zero, length, Stride::One, turn)?;
-    put_bound_element(alloc, site, ty, &fold.start, accumulator, block)
+    put_bound(
+        alloc,
+        site.scope,
+        site.variable,
+        ty,
+        &fold.start,
+        accumulator,
+        block,
+    )
 }
 
 /// The copies of an argument.
@@ -262,7 +250,8 @@ pub fn put_argument(
         }
         Term::LetArray(value, body) => put_argument_let(alloc, declared, site, value, body, block),
         Term::Copy(Space::Private, ty, a) => {
-            let target = private(alloc, plus(site.array, private_count(a)?)?, ty)?;
+            let first = plus(site.array, private_count(a)?)?;
+            let target = laid(alloc, Space::Private, first, ty)?;
             put_written(alloc, declared, site, a, &target, block)
         }
         Term::Literal(_)
@@ -296,7 +285,14 @@ fn put_argument_let(
         site.now.variable (terms.LetArray (term_of value.now) (term_of body.now))
         (code_in block.old)) }
 {
-    let bound = argument(alloc, declared, site.scope, site.array, value)?;
+    let bound = argument(
+        alloc,
+        declared,
+        site.scope,
+        Space::Private,
+        site.array,
+        value,
+    )?;
     let after = site.after(value)?;
     let inner = Site {
         scope: &Scope::Bound(&bound, site.scope),
@@ -352,7 +348,14 @@ fn put_map(
         (inputs_in declared.now) site.now.depth (scope_of site.now.scope.now) site.now.array
         site.now.variable (map_of map.now) (view_in target.now) (code_in block.old)) }
 {
-    let element = argument(alloc, declared, site.scope, site.array, &map.array)?;
+    let element = argument(
+        alloc,
+        declared,
+        site.scope,
+        Space::Private,
+        site.array,
+        &map.array,
+    )?;
     let element = at_turn(alloc, &element, Turn::Loop(site.depth))?;
     let target = at_turn(alloc, target, Turn::Loop(site.depth))?;
     let after = site.after(&map.array)?;
@@ -380,7 +383,14 @@ fn put_let_array(
         site.now.variable (terms.LetArray (term_of value.now) (term_of body.now))
         (view_in target.now) (code_in block.old)) }
 {
-    let bound = argument(alloc, declared, site.scope, site.array, value)?;
+    let bound = argument(
+        alloc,
+        declared,
+        site.scope,
+        Space::Private,
+        site.array,
+        value,
+    )?;
     let after = site.after(value)?;
     let inner = Site {
         scope: &Scope::Bound(&bound, site.scope),
@@ -417,7 +427,7 @@ fn put_let_element(
         variable: plus(variable, element_width(ty)?)?,
     };
     put_written(alloc, declared, &inner, body, target, block)?;
-    put_bound_element(alloc, site, ty, value, variable, block)
+    put_bound(alloc, site.scope, site.variable, ty, value, variable, block)
 }
 
 // A fold's code.
@@ -435,7 +445,14 @@ fn put_fold(
         (inputs_in declared.now) site.now.depth (scope_of site.now.scope.now) site.now.array
         site.now.variable (fold_of fold.now) (view_in target.now) (code_in block.old)) }
 {
-    let element = argument(alloc, declared, site.scope, site.array, &fold.array)?;
+    let element = argument(
+        alloc,
+        declared,
+        site.scope,
+        Space::Private,
+        site.array,
+        &fold.array,
+    )?;
     let element = at_turn(alloc, &element, Turn::Loop(site.depth))?;
     let after = Site {
         variable: plus(site.variable, variable_count(&fold.array)?)?,

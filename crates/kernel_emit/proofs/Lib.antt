@@ -1,7 +1,6 @@
 pub mod Printing
 pub mod Told
 pub mod Tidied
-pub mod Giving
 pub mod Short
 pub mod Made
 pub mod Lengths

@@ -13,28 +13,19 @@ use Rattle.lift_tree.specs.Typing.{Declared, IsAdmissible}
 use Rattle.lift_ir.specs.AtLaunch.{shape_of}
 use Rattle.lift_ir.specs.Types.{width}
 use Rattle.lowered_tree.specs.Kinds.{asks_of}
-use Rattle.lowered_tree.specs.Kind.{nest_kind}
-use Rattle.lowered_tree.specs.declared.kind.NestKind.{NestKind}
-use Rattle.lowered_tree.specs.declared.kind.NestKind.TheVariants.{Task, OverLaunch, OverGroups}
 use Rattle.printed_form.specs.Headline.{EveryRunKeeps}
-use Rattle.printed_form.specs.Programs.{AreBuffersOf, IsLaunchOf, Prints, buffer_count, cell_owner}
+use Rattle.printed_form.specs.Programs.{AreBuffersOf, IsLaunchOf, buffer_count, cell_owner}
 use Rattle.group_phases.specs.Outcome.{BarriersServeAll}
-use Rattle.group_form.specs.Programs.{PrintsGroups}
+use Rattle.group_form.specs.Kernels.{PrintsBy}
+use Rattle.nest_premises.specs.Printable.{printer_for}
 use Rattle.tidy_printed.specs.Tidy.{IsTidyFor}
 
--- the kernel is printed for a term of this kind at a launch
-abbrev pub PrintsAs : NestKind → Declared → (local : Option ℕ) → List ℕ → Tree → Annotation → Launch
-    → Kernel → Type 0
-PrintsAs Task = Prints
-PrintsAs OverLaunch = Prints
-PrintsAs OverGroups = PrintsGroups
-
 -- at each admissible launch, of groups of the local size that is fixed, the kernel is printed for
--- the term, as its kind says
+-- the term, by the printer of its kind
 abbrev pub PrintsAtAll : Declared → (local : Option ℕ) → Tree → Annotation → Kernel → Type 0
 PrintsAtAll d local t n k =
     (bases : List ℕ) (l : Launch) → IsLaunchOf d (asks_of local t) bases l
-    → PrintsAs (nest_kind t) d local bases t n l k
+    → PrintsBy (printer_for t) d local bases t n l k
 
 -- it may be started there
 abbrev pub StartsTerm : Declared → (local : Option ℕ) → Tree → Annotation → Kernel → Type 0

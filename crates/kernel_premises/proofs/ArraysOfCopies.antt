@@ -1,6 +1,5 @@
 -- A lowered term's arrays are those of the term's copies.
-use Rattle.std.proofs.Common.{◌≡◌, ◌∙◌, ℕ, Bool, true, false, List, [], ◌++◌, refl, sym, ap, subst, inl, inr}
-use Rattle.std.specs.Prelude.{if◌then◌else◌}
+use Rattle.std.proofs.Common.{◌≡◌, ◌∙◌, ℕ, List, [], ◌++◌, refl, sym, ap, subst, inl, inr}
 use Rattle.std.proofs.lemmas.List.{append-nil}
 use Rattle.size_arith.specs.declared.names.Name.{Name}
 use Rattle.size_arith.specs.declared.poly.Monomial.{Monomial}
@@ -8,10 +7,8 @@ use Rattle.lift_tree.specs.declared.term.UnaryForm.TheVariants as unary
 use Rattle.lift_tree.specs.declared.term.BinaryForm.TheVariants as binary
 use Rattle.lift_tree.specs.Tree as tree
 use Rattle.lift_tree.specs.Tree.{Tree}
-use Rattle.lift_tree.specs.Types.{PlainTy}
 use Rattle.lift_tree.specs.Annotations.{Annotation, Leaf, One, Two, Three, type_in}
-use Rattle.lift_ir.specs.Terms.{LetElement, LetArray, Store}
-use Rattle.lift_ir.specs.Lowering.{Written, Argument, Element, Lowered, is_element, element_ty, lower}
+use Rattle.lift_ir.specs.Lowering.{Written, Argument, Lowered, lower}
 use Rattle.lift_ir.specs.Lowerable.{IsElementTerm, IsStaged}
 use Rattle.buffer_allocation.specs.Copies.{copies}
 use Rattle.buffer_allocation.specs.declared.copies.Memory.{Memory}
@@ -19,28 +16,12 @@ use Rattle.printed_form.specs.Counts.{copy_lengths}
 use Rattle.printed_form.specs.Sound.{IsSound}
 use Rattle.lift_ir.proofs.Reshaped.{below_layout, through_layout}
 use Rattle.lift_ir.proofs.Lets.{written_let, argument_let}
+use Rattle.kernel_premises.proofs.Lets.{element_let, stored_let}
 use Rattle.kernel_premises.specs.Arrays.{space_of}
 use Rattle.kernel_premises.proofs.ArrayLengths.{local_kept, private_kept}
 
 joined : {A : Type 0} (xs us ys vs : List A) → xs ≡ us → ys ≡ vs → xs ++ ys ≡ us ++ vs
 joined xs us ys vs e f = ap (λ z. z ++ ys) e ∙ ap (λ z. us ++ z) f
-
--- ---- lets
-abbrev let_by : PlainTy → PlainTy → (x y : Bool) → (v b : Bool → Lowered) → Lowered
-let_by a c x y v b = let whole = if y then LetElement (element_ty c) (v y) (b x) else LetArray (v y) (b x) in if x then Store (element_ty a) whole else whole
-
-module _ (names : List Name) (v b : Tree) (a : PlainTy) (n m : Annotation) where
-  abbrev value : Bool → Lowered
-  value y = lower names (if y then Element else Argument) v n
-
-  abbrev body : Bool → Lowered
-  body x = lower names (if x then Element else Written) b m
-
-  let_stored : is_element a ≡ true → lower names Written (tree.Let v b) (Two a n m) ≡ Store (element_ty a) (if is_element (type_in n) then LetElement (element_ty (type_in n)) (value (is_element (type_in n))) (lower names Element b m) else LetArray (value (is_element (type_in n))) (lower names Element b m))
-  let_stored e = ap (λ x. let_by a (type_in n) x (is_element (type_in n)) value body) e
-
-  let_set : is_element a ≡ false → is_element (type_in n) ≡ true → lower names Written (tree.Let v b) (Two a n m) ≡ LetElement (element_ty (type_in n)) (lower names Element v n) (lower names Written b m)
-  let_set e f = ap (λ x. let_by a (type_in n) x (is_element (type_in n)) value body) e ∙ ap (λ y. let_by a (type_in n) false y value body) f
 
 module _ (m : Memory) where
   -- an element term has none
@@ -82,9 +63,9 @@ module _ (m : Memory) where
       written_arrays (tree.Select t u x) (Three a n k l) o s =
           joined (copies m t n) [] (copies m u k ++ copies m x l) [] (none t n o.0) (joined (copies m u k) [] (copies m x l) [] (none u k o.1) (none x l o.2))
       written_arrays (tree.Let v b) (Two a n k) (inl o) s =
-          joined (copies m v n) [] (copies m b k) [] (none v n o.2) (none b k o.3) ∙ sym (ap arrays (let_stored names v b a n k o.0))
+          joined (copies m v n) [] (copies m b k) [] (none v n o.2) (none b k o.3) ∙ sym (ap arrays (stored_let names v b a n k o.0))
       written_arrays (tree.Let v b) (Two a n k) (inr (inl o)) s =
-          let shape = let_set names v b a n k o.0 o.1 in
+          let shape = element_let names v b a n k o.0 o.1 in
           let h = subst Sound shape s in
           joined (copies m v n) [] (copies m b k) (arrays (lower names Written b k)) (none v n o.2) (written_arrays b k o.3 h.1) ∙ sym (ap arrays shape)
       written_arrays (tree.Let v b) (Two a n k) (inr (inr o)) s =

@@ -13,12 +13,12 @@ use Rattle.buffer_allocation.specs.declared.buffers.AllocLimit.{AllocLimit}
 use Rattle.buffer_allocation.specs.declared.buffers.AllocLimit.TheVariants as limit
 use Rattle.buffer_allocation.specs.declared.copies.Memory.TheVariants.{Local, Private}
 use Rattle.printed_form.specs.Counts.{copy_lengths}
-use Rattle.printed_form.specs.Programs.{lowered_root}
+use Rattle.printed_form.specs.Programs.{lowered_root, printed_kernel}
 use Rattle.printed_form.specs.GrammarPieces.{ArraysCanBeDeclared}
 use Rattle.length_spelling.specs.Formulas.{length_formula}
 use Rattle.length_spelling.specs.Laws.{length_height}
 use Rattle.kernel_premises.specs.Sound.{IsHeld}
-use Rattle.kernel_premises.specs.Terms.{kernel_of_term, SoundPartsAreSpelled}
+use Rattle.kernel_premises.specs.Terms.{SoundPartsAreSpelled}
 use Rattle.kernel_premises.specs.Arrays.{AllocatedAreDeclared, DeclaredAreFew}
 use Rattle.kernel_premises.proofs.ArrayLengths.{no_more}
 use Rattle.kernel_premises.proofs.ArraysOfCopies.{written_arrays}
@@ -40,7 +40,7 @@ not_held n k few le = omega arith
 
 pub declared_are_few : ArraysCanBeDeclared → SoundPartsAreSpelled → DeclaredAreFew
 declared_are_few declared spelled d t n o sound e =
-    let k = kernel_of_term d None t n in
+    let k = printed_kernel (length_formula d.names) d None t n in
     let parts = (spelled k d t n refl sound).parts in
     let lay = within limit.Layouts t n _ e in
     let loc = within limit.Local t n _ lay.1 in

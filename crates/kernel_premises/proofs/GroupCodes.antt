@@ -1,6 +1,6 @@
 -- The code of a map over work-groups is of the kernel grammar.
 use Rattle.std.proofs.Common.{◌≡◌, ℕ, zero, suc, ◌+◌, ◌*◌, ◌<◌, ◌≤◌, ◌^◌, Bool, true, false, List, length, refl, arith}
-use Rattle.std.specs.Prelude.{max, ◌||◌}
+use Rattle.std.specs.Prelude.{◌||◌}
 use Rattle.std.proofs.lemmas.Bool.{lt-ltb, and_from}
 use Rattle.size_arith.specs.declared.poly.Monomial.{Monomial}
 use Rattle.lift_tree.specs.Typing.{Declared}
@@ -9,20 +9,20 @@ use Rattle.kernel_tree.specs.Code.{Local as LocalArray, Code, End, Kernel}
 use Rattle.kernel_tree.specs.Grammar.{is_readable, has_statement, are_statements}
 use Rattle.barrier_placement.specs.Fencing.{Fencing, Open, Fenced}
 use Rattle.lift_ir.specs.Types.{Ty, width}
-use Rattle.lift_ir.specs.Terms.{LoadSet, Kind, Global, WorkGroup, Local, Sequential, LocalMemory, Term, Bound, Source, Both, Project, Reshape, LetArray, Map, Copy, push}
-use Rattle.printed_form.specs.Counts.{load_count, variable_count, private_count}
+use Rattle.lift_ir.specs.Terms.{LoadSet, Kind, Global, WorkGroup, Local, Sequential, LocalMemory, PrivateMemory, Term, Bound, Source, Both, Project, Reshape, LetArray, Map, Copy, push}
+use Rattle.printed_form.specs.Arguments.{argument_view, private_arrays, local_arrays}
+use Rattle.printed_form.specs.Counts.{load_count, variable_count, private_count, local_count}
 use Rattle.printed_form.specs.MapForms.{MapForm, Looped, Guarded, Alone, MapForms, form_over_groups, statement_over_groups}
 use Rattle.printed_form.specs.Views.{View, loaded_view, view_at, result_indices, laid_view}
-use Rattle.printed_form.specs.Printer.{argument_view, print_loaded, print_written}
+use Rattle.printed_form.specs.Printer.{print_loaded, print_written}
 use Rattle.printed_form.specs.Sound.{IsSpelledIn, AllLengths, dimensions, stacked, IsReadWithin, IsWrittenWithin, loop_depth, AreLow, CanBeWritten, CanBeRead}
 use Rattle.printed_form.specs.GrammarViews.{IsTurnFormula, ReadsWithin, FillsWithin, AllReadWithin}
 use Rattle.printed_form.specs.KernelGrammar.{IsSoundIn}
 use Rattle.printed_form.specs.GrammarPieces.{ViewsStay, MapsStay, HasRoomFor, views_of_inputs, CanBePrinted, TermsAreOfTheGrammar}
 use Rattle.group_form.specs.Form.{Used, used_after}
 use Rattle.group_form.specs.Forms.{StandsInGroup, StandsOverGroups}
-use Rattle.group_form.specs.Origins.{local_count}
 use Rattle.group_form.specs.Uses.{phases_in, phase_count}
-use Rattle.group_form.specs.Printer.{id_of, turn_formula, depth_in, print_turns, print_fence, group_view, print_group_argument, print_group_written, print_group_turn, print_groups}
+use Rattle.group_form.specs.Printer.{id_of, turn_formula, depth_in, print_turns, fenced, print_group_argument, print_group_written, print_group_turn, print_groups}
 use Rattle.kernel_premises.specs.GroupGrammar.{IsFlagged}
 
 -- how many local arrays a map over groups has
@@ -67,19 +67,13 @@ module _ (k : Kernel) (spell : List Monomial → Formula) (forms : MapForms (Lis
   Comes c = has_statement c ≡ true
 
   abbrev viewed : (ℕ → View) → ℕ → Term A → View
-  viewed env a t = group_view spell ins env a t
+  viewed env a t = argument_view local_arrays spell ins env a t
 
   is_local : (p : ℕ) → p < length k.locals → is_readable k (LocalArray p) ≡ true
   is_local p lt = lt-ltb p (length k.locals) lt
 
-  laid_good : (p : ℕ) (ty : Ty) (l : ℕ) → p + width ty ≤ length k.locals → AllLengths (λ n. n < 2 ^ 32) ty → dimensions ty ≤ 4 → Reads l 0 (laid_view LocalArray p ty)
-  laid_good p ty l le h few = known.views.laid LocalArray p ty l (λ c lt. is_local (p + c) (omega arith)) h few
-
   laid_target : (p : ℕ) (ty : Ty) (l : ℕ) → p + width ty ≤ length k.locals → AllLengths (λ n. n < 2 ^ 32) ty → dimensions ty ≤ 4 → Fills l 0 (laid_view LocalArray p ty)
   laid_target p ty l le h few = known.views.laid_places LocalArray p ty l (λ c lt. is_local (p + c) (omega arith)) h few
-
-  higher : (l h i : ℕ) (x : View) → h ≤ i → Reads l h x → Reads l i x
-  higher l h i x le r = known.views.more l l h i x (omega arith) le r
 
   deeper : (l m : ℕ) (g : ℕ → ℕ) (env : ℕ → View) → l ≤ m → Views l g env → Views m g env
   deeper l m g env le all v = known.views.more l m (g v) (g v) (env v) le (omega arith) (all v)
@@ -88,33 +82,18 @@ module _ (k : Kernel) (spell : List Monomial → Formula) (forms : MapForms (Lis
   pushed l g env j x h all zero = h
   pushed l g env j x h all (suc v) = all v
 
-  -- what stands for an argument
-  viewed_good : (l : ℕ) (g : ℕ → ℕ) (env : ℕ → View) (a : ℕ) (t : Term A) → Views l g env → a + local_count t ≤ length k.locals → Sound t → Reads l (stacked g t) (viewed env a t)
-  viewed_good l g env a (Bound v) all le s = all v
-  viewed_good l g env a (Source v) all le s = known.terms.arguments l 0 g env (Source v) all s (omega arith)
-  viewed_good l g env a (Both zips x y) all le s =
-      known.views.sides l (max (stacked g x) (stacked g y)) (viewed env a x) (viewed env (a + local_count x) y)
-      (higher l (stacked g x) (max (stacked g x) (stacked g y)) (viewed env a x) (omega arith) (viewed_good l g env a x all (omega arith) s.0))
-      (higher l (stacked g y) (max (stacked g x) (stacked g y)) (viewed env (a + local_count x) y) (omega arith) (viewed_good l g env (a + local_count x) y all (omega arith) s.1))
-  viewed_good l g env a (Project c x) all le s = known.views.part l (stacked g x) (viewed env a x) c (viewed_good l g env a x all le s)
-  viewed_good l g env a (Reshape y x) all le s = known.views.operand spell y l (stacked g x) (viewed env a x) s.0 (viewed_good l g env a x all le s.1)
-  viewed_good l g env a (LetArray v b) all le s =
-      viewed_good l (push (stacked g v) g) (push (viewed env a v) env) (a + local_count v) b (pushed l g env (stacked g v) (viewed env a v) (viewed_good l g env a v all (omega arith) s.0) all) (omega arith) s.1
-  viewed_good l g env a (Copy space ty x) all le s = laid_good (a + local_count x) ty l (omega arith) s.0 s.1
-  viewed_good l g env a _ all le s = known.views.blank l 0
-
   -- ---- barriers
-  fence_fine : (l e q : ℕ) (rest : Code) → q ≤ N → Right l e rest → Right l e (print_fence (fence q) rest)
+  fence_fine : (l e q : ℕ) (rest : Code) → q ≤ N → Right l e rest → Right l e (fenced (fence q) rest)
   fence_fine l e q rest le f = go (fence q) (flagged q le)
     where
-      go : (x : Fencing) → IsFlagged x → Right l e (print_fence x rest)
+      go : (x : Fencing) → IsFlagged x → Right l e (fenced x rest)
       go Open h = f
       go (Fenced a b) h = and_from (a || b) _ h f
 
-  fence_kept : (q : ℕ) (rest : Code) → Comes rest → Comes (print_fence (fence q) rest)
+  fence_kept : (q : ℕ) (rest : Code) → Comes rest → Comes (fenced (fence q) rest)
   fence_kept q rest d = go (fence q)
     where
-      go : (x : Fencing) → Comes (print_fence x rest)
+      go : (x : Fencing) → Comes (fenced x rest)
       go Open = d
       go (Fenced a b) = refl
 
@@ -214,7 +193,7 @@ module _ (k : Kernel) (spell : List Monomial → Formula) (forms : MapForms (Lis
       written_kept env u (Map kind n loads xs b) w rest r =
           let v = used_after u xs in
           let map = print_local (forms.local n) n loads (viewed env u.locals xs) v.variables v.privates env b w rest in
-          argument_kept env u xs (print_fence (fence (u.phases + phases_in xs)) map)
+          argument_kept env u xs (fenced (fence (u.phases + phases_in xs)) map)
           (fence_kept (u.phases + phases_in xs) map (local_kept (forms.local n) n loads (viewed env u.locals xs) v.variables v.privates env b w rest r))
       written_kept env u _ w rest r = r
 
@@ -229,7 +208,7 @@ module _ (k : Kernel) (spell : List Monomial → Formula) (forms : MapForms (Lis
         let n = u.variables + variable_count x in
         let a = u.privates + private_count x in
         let map = print_local (forms.local m) m ls (viewed env u.locals x) n a env b w rest in
-        argument_kept env u x (print_fence (fence (u.phases + phases_in x)) map)
+        argument_kept env u x (fenced (fence (u.phases + phases_in x)) map)
         (fence_kept (u.phases + phases_in x) map
         (local_comes (forms.local m) m ls (viewed env u.locals x) (stacked g x) n a g env b w W rest tg (record { written = can.1; sound = s.2; layouts = most.2; low = high.1; deep = omega arith; variables = omega arith; privates = omega arith })))
     written_comes g env u _ w W rest tg st can s most high deep vars priv = absurd st
@@ -248,7 +227,7 @@ module _ (k : Kernel) (spell : List Monomial → Formula) (forms : MapForms (Lis
       argument_fine g env u (LetArray v b) rest all st can s most high deep vars priv locs phs f =
           argument_fine g env u v (print_argument (push (viewed env u.locals v) env) (used_after u v) b rest) all st.0 can.0 s.0 most.0 high.0 (omega arith) (omega arith) (omega arith) (omega arith) (omega arith)
           (argument_fine (push (stacked g v) g) (push (viewed env u.locals v) env) (used_after u v) b rest
-          (pushed L g env (stacked g v) (viewed env u.locals v) (viewed_good L g env u.locals v all (omega arith) s.0) all) st.1 can.1 s.1 most.1 high.1 (omega arith) (omega arith) (omega arith) (omega arith) (omega arith) f)
+          (pushed L g env (stacked g v) (viewed env u.locals v) (known.terms.arguments LocalMemory L u.locals g env v all s.0 (omega arith)) all) st.1 can.1 s.1 most.1 high.1 (omega arith) (omega arith) (omega arith) (omega arith) (omega arith) f)
       argument_fine g env u (Copy LocalMemory ty x) rest all st can s most high deep vars priv locs phs f =
           written_fine g env u x (laid_view LocalArray (u.locals + local_count x) ty) 0 rest all (laid_target (u.locals + local_count x) ty L (omega arith) s.0 s.1) st can s.2 most high deep vars priv (omega arith) phs f
       argument_fine g env u _ rest all st can s most high deep vars priv locs phs f = absurd st
@@ -261,15 +240,15 @@ module _ (k : Kernel) (spell : List Monomial → Formula) (forms : MapForms (Lis
       written_fine g env u (LetArray v b) w W rest all tg st can s most high deep vars priv locs phs f =
           argument_fine g env u v (print_to (push (viewed env u.locals v) env) (used_after u v) b w rest) all st.0 can.0 s.0 most.0 high.0 (omega arith) (omega arith) (omega arith) (omega arith) (omega arith)
           (written_fine (push (stacked g v) g) (push (viewed env u.locals v) env) (used_after u v) b w W rest
-          (pushed L g env (stacked g v) (viewed env u.locals v) (viewed_good L g env u.locals v all (omega arith) s.0) all) tg st.1 can.1 s.1 most.1 high.1 (omega arith) (omega arith) (omega arith) (omega arith) (omega arith) f)
+          (pushed L g env (stacked g v) (viewed env u.locals v) (known.terms.arguments LocalMemory L u.locals g env v all s.0 (omega arith)) all) tg st.1 can.1 s.1 most.1 high.1 (omega arith) (omega arith) (omega arith) (omega arith) (omega arith) f)
       written_fine g env u (Map Local m ls x b) w W rest all tg st can s most high deep vars priv locs phs f =
           let n = u.variables + variable_count x in
           let a = u.privates + private_count x in
           let map = print_local (forms.local m) m ls (viewed env u.locals x) n a env b w rest in
           let fits : S + (8 + 3 * stacked g x) ≤ 1024 = (let e = most.0 in let f = known.room.fits in omega arith) in
-          let good = viewed_good L g env u.locals x all (omega arith) s.1 in
+          let good = known.terms.arguments LocalMemory L u.locals g env x all s.1 (omega arith) in
           let inner_can : Can (suc (I + L)) W (n + load_count ls) a (push (stacked g x) g) b = record { written = can.1; sound = s.2; layouts = most.2; low = high.1; deep = omega arith; variables = omega arith; privates = omega arith } in
-          argument_fine g env u x (print_fence (fence (u.phases + phases_in x)) map) all st.0 can.0 s.1 most.1 high.0 (omega arith) (omega arith) (omega arith) (omega arith) (omega arith)
+          argument_fine g env u x (fenced (fence (u.phases + phases_in x)) map) all st.0 can.0 s.1 most.1 high.0 (omega arith) (omega arith) (omega arith) (omega arith) (omega arith)
           (fence_fine L I (u.phases + phases_in x) map (omega arith)
           (local_fine (forms.local m) m ls (viewed env u.locals x) (stacked g x) n a g env b w W rest fits (omega arith) s.0 good all tg inner_can f))
       written_fine g env u _ w W rest all tg st can s most high deep vars priv locs phs f = absurd st
@@ -284,7 +263,7 @@ module _ (k : Kernel) (spell : List Monomial → Formula) (forms : MapForms (Lis
       used = record { locals = 0; privates = 0; variables = load_count ls; phases = 0 }
 
       abbrev closing : Code
-      closing = print_fence (fence (phases_in b)) End
+      closing = fenced (fence (phases_in b)) End
 
       turn_comes : Comes (print_group_turn spell forms ins fence L env ls (view_at turn x) b (view_at turn w))
       turn_comes =
@@ -300,10 +279,10 @@ module _ (k : Kernel) (spell : List Monomial → Formula) (forms : MapForms (Lis
   -- ---- a map over groups
   pub groups_come : (env : ℕ → View) (t : Term A) (w : View) → StandsOverGroups t → Comes (print_groups spell forms ins fence env t w)
   groups_come env (Reshape y t) w st = groups_come env t (λ cs is. w cs (result_indices spell y is)) st.1
-  groups_come env (LetArray v b) w st = groups_come (push (argument_view spell ins env 0 v) env) b w st.1
+  groups_come env (LetArray v b) w st = groups_come (push (argument_view private_arrays spell ins env 0 v) env) b w st.1
   groups_come env (Map WorkGroup n loads xs b) w st = by_form (forms.once n)
     where
-      by_form : (once : Bool) → Comes (statement_over_groups once (spell n) (print_group_turn spell forms ins fence (depth_in (form_over_groups once) 0) env loads (view_at (turn_formula (form_over_groups once) WorkGroup 0) (argument_view spell ins env 0 xs)) b (view_at (turn_formula (form_over_groups once) WorkGroup 0) w)))
+      by_form : (once : Bool) → Comes (statement_over_groups once (spell n) (print_group_turn spell forms ins fence (depth_in (form_over_groups once) 0) env loads (view_at (turn_formula (form_over_groups once) WorkGroup 0) (argument_view private_arrays spell ins env 0 xs)) b (view_at (turn_formula (form_over_groups once) WorkGroup 0) w)))
       by_form false = refl
       by_form true = refl
   groups_come env _ w st = absurd st
@@ -314,27 +293,27 @@ module _ (k : Kernel) (spell : List Monomial → Formula) (forms : MapForms (Lis
       groups_fine g env t (λ cs is. w cs (result_indices spell y is)) (suc W) all
       (known.views.result spell y 0 W w s.0 tg) st.1 can.1 s.1 most high deep vars priv locs phs
   groups_fine g env (LetArray v b) w W all tg st can s most high deep vars priv locs phs =
-      groups_fine (push (stacked g v) g) (push (argument_view spell ins env 0 v) env) b w W
-      (pushed 0 g env (stacked g v) (argument_view spell ins env 0 v) (known.terms.arguments 0 0 g env v all s.0 (omega arith)) all) tg st.1 can.1 s.1 most.1 high.1 (omega arith) (omega arith) (omega arith) locs phs
+      groups_fine (push (stacked g v) g) (push (argument_view private_arrays spell ins env 0 v) env) b w W
+      (pushed 0 g env (stacked g v) (argument_view private_arrays spell ins env 0 v) (known.terms.arguments PrivateMemory 0 0 g env v all s.0 (omega arith)) all) tg st.1 can.1 s.1 most.1 high.1 (omega arith) (omega arith) (omega arith) locs phs
   groups_fine g env (Map WorkGroup m ls xs b) w W all tg st can s most high deep vars priv locs phs = by_form (forms.once m)
     where
       fits : S + (8 + 3 * stacked g xs) ≤ 1024
       fits = let e = most.0 in let f = known.room.fits in omega arith
 
-      good : Reads 0 (stacked g xs) (argument_view spell ins env 0 xs)
-      good = known.terms.arguments 0 0 g env xs all s.1 (omega arith)
+      good : Reads 0 (stacked g xs) (argument_view private_arrays spell ins env 0 xs)
+      good = known.terms.arguments PrivateMemory 0 0 g env xs all s.1 (omega arith)
 
-      by_form : (once : Bool) → Right 0 0 (statement_over_groups once (spell m) (print_group_turn spell forms ins fence (depth_in (form_over_groups once) 0) env ls (view_at (turn_formula (form_over_groups once) WorkGroup 0) (argument_view spell ins env 0 xs)) b (view_at (turn_formula (form_over_groups once) WorkGroup 0) w)))
+      by_form : (once : Bool) → Right 0 0 (statement_over_groups once (spell m) (print_group_turn spell forms ins fence (depth_in (form_over_groups once) 0) env ls (view_at (turn_formula (form_over_groups once) WorkGroup 0) (argument_view private_arrays spell ins env 0 xs)) b (view_at (turn_formula (form_over_groups once) WorkGroup 0) w)))
       by_form false =
           let turn = LoopVariable 0 in
-          let array = argument_view spell ins env 0 xs in
+          let array = argument_view private_arrays spell ins env 0 xs in
           let tg2 = known.views.deeper 0 1 W W w (omega arith) (omega arith) tg in
           known.maps.loop 0 0 WorkGroup (spell m) (print_group_turn spell forms ins fence 1 env ls (view_at turn array) b (view_at turn w)) End (omega arith) s.0
           (turn_comes 1 0 turn g env ls array (stacked g xs) b w W (loop_turn 0) tg2 st.1 can.1 s.2 most.2 high.1 (omega arith) (omega arith) (omega arith))
           (turn_fine 1 0 turn g env ls array (stacked g xs) b w W (loop_turn 0) tg2 st.1 can.1 s.2 most.2 high.1 (omega arith) (omega arith) (omega arith) fits (known.views.more 0 1 (stacked g xs) (stacked g xs) array (omega arith) (omega arith) good) (deeper 0 1 g env (omega arith) all) locs phs) refl
       by_form true =
           let turn = id_of WorkGroup in
-          let array = argument_view spell ins env 0 xs in
+          let array = argument_view private_arrays spell ins env 0 xs in
           known.maps.guard 0 0 WorkGroup (spell m) (print_group_turn spell forms ins fence 0 env ls (view_at turn array) b (view_at turn w)) End (omega arith) s.0
           (turn_comes 0 1 turn g env ls array (stacked g xs) b w W (own_turn WorkGroup 0) tg st.1 can.1 s.2 most.2 high.1 (omega arith) (omega arith) (omega arith))
           (turn_fine 0 1 turn g env ls array (stacked g xs) b w W (own_turn WorkGroup 0) tg st.1 can.1 s.2 most.2 high.1 (omega arith) (omega arith) (omega arith) fits good all locs phs) refl

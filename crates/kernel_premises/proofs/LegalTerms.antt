@@ -4,7 +4,7 @@ use Rattle.size_arith.specs.Ranges.{leasts}
 use Rattle.size_arith.proofs.LeastSizes.{leasts_are_admissible}
 use Rattle.lift_tree.specs.Annotations.{type_in}
 use Rattle.lift_tree.proofs.WithinLimits.{all_within, within_in}
-use Rattle.kernel_premises.specs.Soundness.{LoweredTermsHaveSoundParts, TermsHaveSoundParts}
+use Rattle.kernel_premises.specs.Soundness.{LoweredTermsHaveSoundParts}
 use Rattle.kernel_premises.proofs.Types.{type_held, types_held}
 use Rattle.kernel_premises.proofs.Parts.{sound_written}
 
@@ -20,6 +20,3 @@ lowered_terms_have_sound_parts d t n legal lowered =
       output = type_held (type_in n) output.lengths output.few;
       parts = sound_written d are inputs [] t n tt legal.nodes legal.within.nodes legal.words lowerable.lowerable lowered.staged;
     }
-
-pub terms_have_sound_parts : TermsHaveSoundParts
-terms_have_sound_parts d t n legal printable = lowered_terms_have_sound_parts d t n legal (record { staged = printable.staged; lowerable = printable.lowerable; fits = printable.fits })

@@ -1,6 +1,8 @@
 pub mod Heights
+pub mod Lets
 pub mod Stacks
 pub mod Nests
+pub mod Written
 pub mod SoundTerms
 pub mod PrintedTerms
 pub mod Leasts
@@ -10,9 +12,7 @@ pub mod LegalTerms
 pub mod Flags
 pub mod GroupCodes
 pub mod GroupKernels
-pub mod WrittenGroups
-pub mod SoundGroups
-pub mod PrintedGroups
+pub mod InGrammar
 pub mod ArrayLengths
 pub mod ArraysOfCopies
 pub mod FewArrays

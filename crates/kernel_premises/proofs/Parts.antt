@@ -16,11 +16,13 @@ use Rattle.lift_tree.specs.Annotations.{Annotates, Annotation, Leaf, One, Three,
 use Rattle.lift_tree.proofs.WithinLimits.{IsWithin, element_within, within_in}
 use Rattle.lift_ir.specs.Types as ir
 use Rattle.lift_ir.specs.Types.{IsShort, size, Ty}
-use Rattle.lift_ir.specs.Terms.{Copy, LetArray, LetElement, LocalMemory, PrivateMemory, Space, Store}
+use Rattle.lift_ir.specs.Terms.{Copy, LetArray, LetElement, LocalMemory, PrivateMemory, Space}
 use Rattle.lift_ir.specs.AtLaunch.{shape_of, ty_at}
-use Rattle.lift_ir.specs.Lowering.{Argument, body_place, Element, element_ty, is_element, lower, lower_let, Lowered, Place, placed_element, value_place, Written}
+use Rattle.lift_ir.specs.Lowering.{Argument, body_place, Element, element_ty, is_element, lower, lower_let, Lowered, Place, value_place, Written}
 use Rattle.lift_ir.specs.Lowerable.{IsElementTerm, IsLowerable, IsStaged}
+use Rattle.lift_ir.proofs.Lets.{argument_let, written_let}
 use Rattle.printed_form.specs.Sound.{AllLengths, dimensions, IsSound}
+use Rattle.kernel_premises.proofs.Lets.{element_let, stored_let}
 use Rattle.kernel_premises.specs.Sound.{IsHeld}
 use Rattle.lowered_tree.specs.Words.{FormsHaveWords}
 use Rattle.kernel_premises.proofs.Leasts.{has_a_cell}
@@ -51,9 +53,6 @@ value_element n e = ap (λ (b : Bool). if b then Element else Argument) e
 value_argument : (n : Annotation) → is_element (type_in n) ≡ false → value_place n ≡ Argument
 value_argument n e = ap (λ (b : Bool). if b then Element else Argument) e
 
-body_element : (a : PlainTy) → is_element a ≡ true → body_place Written a ≡ Element
-body_element a e = ap (λ (b : Bool). if b then Element else Written) e
-
 body_written : (a : PlainTy) → is_element a ≡ false → body_place Written a ≡ Written
 body_written a e = ap (λ (b : Bool). if b then Element else Written) e
 
@@ -68,18 +67,9 @@ module _ (d : Declared) (are : AreNames d.names) (inputs : Every (IsWithin d.nam
   let_element : (c : PlainTy) (v b : Lowered) → is_element c ≡ true → Sound v → Sound b → Sound (lower_let c v b)
   let_element c v b e h k = subst (λ (x : Bool). Sound (if x then LetElement (element_ty c) v b else LetArray v b)) (sym e) (h, k)
 
-  let_array : (c : PlainTy) (v b : Lowered) → is_element c ≡ false → Sound v → Sound b → Sound (lower_let c v b)
-  let_array c v b e h k = subst (λ (x : Bool). Sound (if x then LetElement (element_ty c) v b else LetArray v b)) (sym e) (h, k)
-
   same_either : (b : Bool) (t : Lowered) → Sound t → Sound (if b then t else t)
   same_either true t h = h
   same_either false t h = h
-
-  stored : (a : PlainTy) (t : Lowered) → is_element a ≡ true → Sound t → Sound (placed_element Written a t)
-  stored a t e h = subst (λ (x : Bool). Sound (if x then Store (element_ty a) t else t)) (sym e) (element_is a, h)
-
-  written : (a : PlainTy) (t : Lowered) → is_element a ≡ false → Sound t → Sound (placed_element Written a t)
-  written a t e h = subst (λ (x : Bool). Sound (if x then Store (element_ty a) t else t)) (sym e) h
 
   -- what is lowered at a place that is this one
   moved : (p q : Place) (t : Tree) (n : Annotation) → p ≡ q → Sound (lower d.names q t n) → Sound (lower d.names p t n)
@@ -104,10 +94,6 @@ module _ (d : Declared) (are : AreNames d.names) (inputs : Every (IsWithin d.nam
       let z = element (type_in n ∷ g) b m y.1 w.1 o.2 in
       same_either (is_element a) (lower_let (type_in n) (lower d.names (value_place n) v n) (lower d.names Element b m)) (let_element (type_in n) (lower d.names (value_place n) v n) (lower d.names Element b m) o.0 x z)
   element g _ _ y w o = absurd o
-
-  -- an element term that is stored
-  store : (g : List PlainTy) (t : Tree) (n : Annotation) → Annotates d g t n → FormsHaveWords t → IsElementTerm t n → Sound (Store (element_ty (type_in n)) (lower d.names Element t n))
-  store g t n y w o = (element_is (type_in n), element g t n y w o)
 
   -- ---- copies
   copy : (space : Space) (a : PlainTy) (t : Lowered) → IsWithin d.names a → size (ty_at [] a) < 2 ^ 31 → IsShort (ty_at [] a) → ty_at (leasts d.names) a ≡ ty_at [] a → Sound t → Sound (Copy space (ty_at [] a) t)
@@ -136,21 +122,16 @@ module _ (d : Declared) (are : AreNames d.names) (inputs : Every (IsWithin d.nam
     sound_written g (tree.Select t u x) (Three a n m k) all y f w l o = (element_is a, (element g t n y.0 w.0 o.0, element g u m y.1 w.1 o.1, element g x k y.2 w.2 o.2))
     sound_written g (tree.Let v b) (Two a n m) all y f w l (inl o) =
         let x = moved (value_place n) Element v n (value_element n o.1) (element g v n y.0 w.0 o.2) in
-        let z = moved (body_place Written a) Element b m (body_element a o.0) (element (type_in n ∷ g) b m y.1 w.1 o.3) in
-        stored a (lower_let (type_in n) (lower d.names (value_place n) v n) (lower d.names (body_place Written a) b m)) o.0 (let_element (type_in n) (lower d.names (value_place n) v n) (lower d.names (body_place Written a) b m) o.1 x z)
+        subst Sound (sym (stored_let d.names v b a n m o.0)) (element_is a, let_element (type_in n) (lower d.names (value_place n) v n) (lower d.names Element b m) o.1 x (element (type_in n ∷ g) b m y.1 w.1 o.3))
     sound_written g (tree.Let v b) (Two a n m) all y f w l (inr (inl o)) =
-        let x = moved (value_place n) Element v n (value_element n o.1) (element g v n y.0 w.0 o.2) in
         let good = within_in d inputs g v n all y.0 f.0 in
         let under = lowerable_at (body_place Written a) Written b m (body_written a o.0) l.1 in
-        let z = moved (body_place Written a) Written b m (body_written a o.0) (sound_written (type_in n ∷ g) b m (good, all) y.1 f.1 w.1 under o.3) in
-        written a (lower_let (type_in n) (lower d.names (value_place n) v n) (lower d.names (body_place Written a) b m)) o.0 (let_element (type_in n) (lower d.names (value_place n) v n) (lower d.names (body_place Written a) b m) o.1 x z)
+        subst Sound (sym (element_let d.names v b a n m o.0 o.1)) (element g v n y.0 w.0 o.2, sound_written (type_in n ∷ g) b m (good, all) y.1 f.1 w.1 under o.3)
     sound_written g (tree.Let v b) (Two a n m) all y f w l (inr (inr o)) =
         let value = lowerable_at (value_place n) Argument v n (value_argument n o.1) l.0 in
-        let x = moved (value_place n) Argument v n (value_argument n o.1) (sound_argument g v n all y.0 f.0 w.0 value o.2) in
         let good = within_in d inputs g v n all y.0 f.0 in
         let under = lowerable_at (body_place Written a) Written b m (body_written a o.0) l.1 in
-        let z = moved (body_place Written a) Written b m (body_written a o.0) (sound_written (type_in n ∷ g) b m (good, all) y.1 f.1 w.1 under o.3) in
-        written a (lower_let (type_in n) (lower d.names (value_place n) v n) (lower d.names (body_place Written a) b m)) o.0 (let_array (type_in n) (lower d.names (value_place n) v n) (lower d.names (body_place Written a) b m) o.1 x z)
+        subst Sound (sym (written_let d.names v b a n m o.0 o.1)) (sound_argument g v n all y.0 f.0 w.0 value o.2, sound_written (type_in n ∷ g) b m (good, all) y.1 f.1 w.1 under o.3)
     sound_written g (tree.Map j xs b) (Two a n m) all y f w l o =
         let good = within_in d inputs g xs n all y.2 f.0 in (
           outer_held (type_in n) good.lengths,
@@ -185,8 +166,6 @@ module _ (d : Declared) (are : AreNames d.names) (inputs : Every (IsWithin d.nam
         (sound_argument g t n all y.0 f.0 w.0 l.1 o.0, sound_argument g u m all y.1 f.1 w.1 l.2 o.1)
     sound_argument g (tree.Let v b) (Two a n m) all y f w l o =
         let value = lowerable_at (value_place n) Argument v n (value_argument n o.0) l.0 in
-        let x = moved (value_place n) Argument v n (value_argument n o.0) (sound_argument g v n all y.0 f.0 w.0 value o.1) in
         let good = within_in d inputs g v n all y.0 f.0 in
-        let z = sound_argument (type_in n ∷ g) b m (good, all) y.1 f.1 w.1 l.1 o.2 in
-        same_either (is_element a) (lower_let (type_in n) (lower d.names (value_place n) v n) (lower d.names Argument b m)) (let_array (type_in n) (lower d.names (value_place n) v n) (lower d.names Argument b m) o.0 x z)
+        subst Sound (sym (argument_let d.names v b a n m o.0)) (sound_argument g v n all y.0 f.0 w.0 value o.1, sound_argument (type_in n ∷ g) b m (good, all) y.1 f.1 w.1 l.1 o.2)
     sound_argument g _ _ all y f w l o = absurd o

@@ -1,4 +1,4 @@
--- A typed term of sound parts is printed within the kernel grammar.
+-- The parts of a term of sound parts are spelled in every kernel that has the program's sizes.
 use Rattle.std.proofs.Common.{◌≡◌, ℕ, zero, suc, ◌<◌, List, [], ◌∷◌, length, refl, arith}
 use Rattle.size_arith.specs.declared.poly.Monomial.{Monomial}
 use Rattle.lift_tree.specs.Lists.{Every}
@@ -11,12 +11,11 @@ use Rattle.lift_ir.specs.Terms.{Term, Literal, Bound, Source, Apply, ApplyNumber
 use Rattle.lift_ir.specs.AtLaunch.{shape_of}
 use Rattle.printed_form.specs.Programs.{input_shape, lowered_root}
 use Rattle.printed_form.specs.Sound.{AllLengths, IsSound}
-use Rattle.printed_form.specs.KernelGrammar.{IsSourceIn, KernelsAreOfTheGrammar}
-use Rattle.kernel_premises.specs.Within.{TermsNestWithin}
+use Rattle.printed_form.specs.KernelGrammar.{IsSourceIn}
 use Rattle.length_spelling.specs.Formulas.{length_formula}
 use Rattle.length_spelling.specs.Laws.{LengthsAreBounds, length_height}
 use Rattle.kernel_premises.specs.Sound.{IsHeld, IsHeldType, IsLengthIn}
-use Rattle.kernel_premises.specs.Terms.{kernel_of_term, SoundPartsAreSpelled, KernelsAreInTheGrammar}
+use Rattle.kernel_premises.specs.Terms.{SoundPartsAreSpelled}
 use Rattle.kernel_premises.proofs.SoundLayouts.{layout_wider}
 
 -- ---- sound by one measure, sound by a wider one
@@ -67,26 +66,9 @@ module _ (bounds : LengthsAreBounds) (k : Kernel) (d : Declared) (sizes : k.size
         few = rw i.1 i.2.few;
       }
 
-pub parts_are_spelled : LengthsAreBounds → SoundPartsAreSpelled
-parts_are_spelled bounds k d t n sizes sound = record {
+pub sound_parts_are_spelled : LengthsAreBounds → SoundPartsAreSpelled
+sound_parts_are_spelled bounds k d t n sizes sound = record {
   parts = sound_wider IsHeld (IsLengthIn k d) (spelled bounds k d sizes) (λ s. s < length d.inputs) (IsSourceIn k (length_formula d.names) length_height d) (source bounds k d sizes sound.inputs) (lowered_root d.names t n) sound.parts;
   output = lengths_are_spelled bounds k d sizes (shape_of (type_in n)) sound.output.lengths;
   few = sound.output.few;
 }
-
-pub in_the_grammar : KernelsAreOfTheGrammar → SoundPartsAreSpelled → TermsNestWithin → KernelsAreInTheGrammar
-in_the_grammar grammar spelled nests d local t n size typed output staged written few low sound =
-    let within = nests d 24 t n typed output staged written (omega arith) few low in
-    let has = spelled (kernel_of_term d local t n) d t n refl sound in
-    grammar (length_formula d.names) length_height 72 d local t n (record {
-      size = size;
-      some = omega arith;
-      fits = omega arith;
-      written = written;
-      sound = has.parts;
-      layouts = within.0;
-      low = within.1;
-      loops = within.2;
-      lengths = has.output;
-      few = has.few;
-    })

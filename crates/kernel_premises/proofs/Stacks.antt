@@ -13,12 +13,14 @@ use Rattle.lift_tree.specs.Annotations.{Annotation, Annotates, Leaf, One, Two, T
 use Rattle.lift_tree.specs.Typing.{Declared, LayoutRow}
 use Rattle.lift_tree.proofs.Layouts.{layout_operand, layout_result}
 use Rattle.lift_ir.specs.Layouts.{Layout}
-use Rattle.lift_ir.specs.Terms.{Project, Reshape, LetArray, LetElement, Store, push}
-use Rattle.lift_ir.specs.Lowering.{Place, Written, Argument, Element, Lowered, is_element, element_ty, lower, lower_unary}
+use Rattle.lift_ir.specs.Terms.{Project, Reshape, push}
+use Rattle.lift_ir.specs.Lowering.{Place, Written, Argument, Lowered, lower, lower_unary}
 use Rattle.lift_ir.specs.Lowerable.{IsStaged}
 use Rattle.lift_ir.proofs.AtLaunch.{by_reshapes}
 use Rattle.lift_ir.proofs.Elements.{from_ir, left_part, right_part}
+use Rattle.lift_ir.proofs.Lets.{argument_let, written_let}
 use Rattle.lift_ir.proofs.Reshaped.{below_layout}
+use Rattle.kernel_premises.proofs.Lets.{element_let, stored_let}
 use Rattle.buffer_allocation.specs.Layouts.{raised, height_of, most}
 use Rattle.buffer_allocation.specs.declared.layouts.Position.TheVariants as position
 use Rattle.printed_form.specs.Sound.{stacked, IsReadWithin, IsWrittenWithin, CanBeWritten, CanBeRead}
@@ -142,32 +144,6 @@ module _ (d : Declared) (M : ℕ) (few : M ≤ 256) where
   under_layout : (l : layout.Layout) (b a : PlainTy) → LayoutRow d.names l b a → types.is_element b ≡ false
   under_layout l b a r = ap types.is_element (layout_operand d.names l b a r).is
 
-  -- ---- what a let is lowered to
-  same_if : (b : Bool) (x : Lowered) → (if b then x else x) ≡ x
-  same_if true x = refl
-  same_if false x = refl
-
-  let_read : (a c : PlainTy) (v : Place → Lowered) (b : Lowered) → is_element c ≡ false
-      → (if is_element a then (if is_element c then LetElement (element_ty c) (v (if is_element c then Element else Argument)) b else LetArray (v (if is_element c then Element else Argument)) b)
-      else (if is_element c then LetElement (element_ty c) (v (if is_element c then Element else Argument)) b else LetArray (v (if is_element c then Element else Argument)) b)) ≡ LetArray (v Argument) b
-  let_read a c v b e =
-      same_if (is_element a) (if is_element c then LetElement (element_ty c) (v (if is_element c then Element else Argument)) b else LetArray (v (if is_element c then Element else Argument)) b)
-      ∙ ap (λ z. if z then LetElement (element_ty c) (v (if z then Element else Argument)) b else LetArray (v (if z then Element else Argument)) b) e
-
-  abbrev stored : PlainTy → PlainTy → (Place → Lowered) → (Place → Lowered) → Bool → Bool → Lowered
-  stored a c v b z y =
-      if z then Store (element_ty a) (if y then LetElement (element_ty c) (v (if y then Element else Argument)) (b (if z then Element else Written)) else LetArray (v (if y then Element else Argument)) (b (if z then Element else Written)))
-      else (if y then LetElement (element_ty c) (v (if y then Element else Argument)) (b (if z then Element else Written)) else LetArray (v (if y then Element else Argument)) (b (if z then Element else Written)))
-
-  let_stored : (a c : PlainTy) (v b : Place → Lowered) → is_element a ≡ true → stored a c v b (is_element a) (is_element c) ≡ stored a c v b true (is_element c)
-  let_stored a c v b e = ap (λ z. stored a c v b z (is_element c)) e
-
-  let_element : (a c : PlainTy) (v b : Place → Lowered) → is_element a ≡ false → is_element c ≡ true → stored a c v b (is_element a) (is_element c) ≡ LetElement (element_ty c) (v Element) (b Written)
-  let_element a c v b e f = ap (λ z. stored a c v b z (is_element c)) e ∙ ap (λ y. stored a c v b false y) f
-
-  let_array : (a c : PlainTy) (v b : Place → Lowered) → is_element a ≡ false → is_element c ≡ false → stored a c v b (is_element a) (is_element c) ≡ LetArray (v Argument) (b Written)
-  let_array a c v b e f = ap (λ z. stored a c v b z (is_element c)) e ∙ ap (λ y. stored a c v b false y) f
-
   mutual
     read : (G : List PlainTy) (j : ℕ → ℕ) (g : List ℕ) (t : Tree) (n : Annotation) → Annotates d G t n → types.is_element (type_in n) ≡ false → IsStaged Argument t n → CanBeRead (lower d.names Argument t n) → Under j g → height t ≤ 512
         → most position.Argument g t n ≤ M → Reads M j (height_of g t n) (lower d.names Argument t n)
@@ -197,7 +173,7 @@ module _ (d : Declared) (M : ℕ) (few : M ≤ 256) where
         let xs = x.stack in let ys = y.stack in
         record { low = omega arith; stack = (let z : raised (max (height_of g t n) (height_of g w m)) ≤ M = omega arith in omega arith); within = (x.within, y.within) }
     read G j g (tree.Let v b) (Two a n m) ty e st can u high h =
-        let shape = let_read a (type_in n) (λ p. lower d.names p v n) (lower d.names Argument b m) st.0 in
+        let shape = argument_let d.names v b a n m st.0 in
         let c = subst CanBeRead shape can in
         let q = subst (λ z. max (if z then 0 else 0) (max (most position.Argument g v n) (most (if z then position.Element else position.Argument) (height_of g v n ∷ g) b m)) ≤ M) e h in
         let k = right 0 (max (most position.Argument g v n) (most position.Argument (height_of g v n ∷ g) b m)) q in
@@ -223,18 +199,18 @@ module _ (d : Declared) (M : ℕ) (few : M ≤ 256) where
     write G j g W w le (tree.Binary binary.Pair t x) (Two a n m) ty st can u high deep h = thrice (upper W _ _ h) le
     write G j g W w le (tree.Select t y x) (Three a n m k) ty st can u high deep h = thrice (left W _ h) le
     write G j g W w le (tree.Let v b) (Two a n m) ty (inl st) can u high deep h =
-        let shape = let_stored a (type_in n) (λ p. lower d.names p v n) (λ p. lower d.names p b m) st.0 in
+        let shape = stored_let d.names v b a n m st.0 in
         subst (λ z. IsWrittenWithin (3 * M) j w z) (sym shape)
         (thrice (left W _ (subst (λ z. max (if z then W else 0) (max (most position.Argument g v n) (most (if z then position.Element else position.Written W) (height_of g v n ∷ g) b m)) ≤ M) (from_ir true a st.0) h)) le)
     write G j g W w le (tree.Let v b) (Two a n m) ty (inr (inl st)) can u high deep h =
-        let shape = let_element a (type_in n) (λ p. lower d.names p v n) (λ p. lower d.names p b m) st.0 st.1 in
+        let shape = element_let d.names v b a n m st.0 st.1 in
         let c = subst CanBeWritten shape can in
         let q = subst (λ z. max (if z then W else 0) (max (most position.Argument g v n) (most (if z then position.Element else position.Written W) (height_of g v n ∷ g) b m)) ≤ M) (from_ir false a st.0) h in
         subst (λ z. IsWrittenWithin (3 * M) j w z) (sym shape)
         (write (type_in n ∷ G) (push 0 j) (height_of g v n ∷ g) W w le b m ty.1 st.3 c (pushed_under j g 0 (height_of g v n) (omega arith) u) (omega arith) (omega arith)
         (right (most position.Argument g v n) (most (position.Written W) (height_of g v n ∷ g) b m) (right 0 (max (most position.Argument g v n) (most (position.Written W) (height_of g v n ∷ g) b m)) q)))
     write G j g W w le (tree.Let v b) (Two a n m) ty (inr (inr st)) can u high deep h =
-        let shape = let_array a (type_in n) (λ p. lower d.names p v n) (λ p. lower d.names p b m) st.0 st.1 in
+        let shape = written_let d.names v b a n m st.0 st.1 in
         let c = subst CanBeWritten shape can in
         let q = subst (λ z. max (if z then W else 0) (max (most position.Argument g v n) (most (if z then position.Element else position.Written W) (height_of g v n ∷ g) b m)) ≤ M) (from_ir false a st.0) h in
         let k = right 0 (max (most position.Argument g v n) (most (position.Written W) (height_of g v n ∷ g) b m)) q in

@@ -3,5 +3,4 @@ pub mod Sound
 pub mod Terms
 pub mod Soundness
 pub mod GroupGrammar
-pub mod Groups
 pub mod Arrays

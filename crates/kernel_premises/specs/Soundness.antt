@@ -6,7 +6,7 @@ use Rattle.lift_tree.specs.Tree.{Tree}
 use Rattle.lift_tree.specs.Typing.{Declared}
 use Rattle.lift_tree.specs.Annotations.{Annotation}
 use Rattle.nest_premises.specs.Legal.{IsLegalTerm}
-use Rattle.nest_premises.specs.Printable.{CanBeLowered, IsPrintable}
+use Rattle.nest_premises.specs.Printable.{CanBeLowered}
 use Rattle.kernel_premises.specs.Sound.{HasSoundParts}
 
 -- a typed term of a program, within the limits on types, that can be lowered
@@ -14,13 +14,6 @@ abbrev pub LoweredTermsHaveSoundParts : Type 0
 LoweredTermsHaveSoundParts =
     (d : Declared) (t : Tree) (n : Annotation)
     → IsLegalTerm d t n → CanBeLowered d t n
-    → HasSoundParts d t n
-
--- or printed
-abbrev pub TermsHaveSoundParts : Type 0
-TermsHaveSoundParts =
-    (d : Declared) (t : Tree) (n : Annotation)
-    → IsLegalTerm d t n → IsPrintable d t n
     → HasSoundParts d t n
 
 -- the least size of each name is admissible

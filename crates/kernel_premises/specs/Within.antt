@@ -1,21 +1,19 @@
 -- What the limits on a term give its kernel.
-use Rattle.std.specs.Prelude.{ℕ, ◌*◌, ◌≤◌, ◌⊎◌, []}
+use Rattle.std.specs.Prelude.{ℕ, ◌*◌, ◌≤◌, []}
 use Rattle.lift_tree.specs.Tree.{Tree, height}
 use Rattle.lift_tree.specs.Types.{IsOutput}
 use Rattle.lift_tree.specs.Annotations.{Annotation, Annotates, type_in}
 use Rattle.lift_tree.specs.Typing.{Declared}
 use Rattle.lift_ir.specs.Lowerable.{IsStaged}
-use Rattle.lift_ir.specs.Lowering.{Written}
-use Rattle.lift_ir.specs.Forms.{Stands, StandsOverLaunch}
-use Rattle.lift_ir.specs.Terms.{Term}
-use Rattle.std.specs.Prelude.{true}
+use Rattle.lift_ir.specs.Lowering.{Lowered, Written}
 use Rattle.printed_form.specs.Programs.{lowered_root}
 use Rattle.printed_form.specs.Sound.{IsWrittenWithin, AreLow, loop_depth, CanBeWritten}
+use Rattle.group_form.specs.Kernels.{Printer, StandsFor}
 use Rattle.buffer_allocation.specs.Layouts.{layouts}
 
--- a term that one work-item runs, or that is a map over the launch, can be written
-abbrev pub TermsCanBeWritten : Type 0 → Type 0
-TermsCanBeWritten A = (t : Term A) → Stands true t ⊎ StandsOverLaunch t → CanBeWritten t
+-- a term that a printer prints can be written
+abbrev pub TermsCanBeWritten : Type 0
+TermsCanBeWritten = (p : Printer) (t : Lowered) → StandsFor p t → CanBeWritten t
 
 -- a typed term of at most so many layouts, whose height is at most 512, is lowered to one that
 -- nests no deeper; a layout is lowered to at most three

@@ -2,14 +2,12 @@
 //! and printed for the term at each admissible launch.
 //!
 //! `limits` says how deep indices, expressions and loops nest; `soundness` that a legal term has
-//! sound parts; `terms` and `groups` what its kernel is, for one work-item or over the launch, and
-//! for maps over work-groups, whose pieces are in `group_grammar`; `arrays` which arrays it
-//! declares.
+//! sound parts; `terms` what its kernel is, by either printer, whose pieces are in `group_grammar`
+//! for maps over work-groups; `arrays` which arrays it declares.
 #![tactic(auto)]
 
 pub mod arrays;
 pub mod group_grammar;
-pub mod groups;
 pub mod limits;
 pub mod soundness;
 pub mod terms;

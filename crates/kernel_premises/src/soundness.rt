@@ -1,15 +1,10 @@
 //! Laws of legal terms, each carried by a function that does nothing.
 
-ghost use Rattle.kernel_premises.specs.Soundness.{LeastSizesAreAdmissible, LoweredTermsHaveSoundParts, TermsHaveSoundParts};
+ghost use Rattle.kernel_premises.specs.Soundness.{LeastSizesAreAdmissible, LoweredTermsHaveSoundParts};
 
 /// A legal term that can be lowered has sound parts.
 pub fn lowered_terms_have_sound_parts()
     ensures { LoweredTermsHaveSoundParts }
-{}
-
-/// A legal term that can be printed has sound parts.
-pub fn terms_have_sound_parts()
-    ensures { TermsHaveSoundParts }
 {}
 
 /// Sizes may all be at their least.

@@ -2,10 +2,12 @@
 
 ghost use Rattle.kernel_premises.specs.Terms.{FormulasSpellLengths, KernelsAreInTheGrammar, SoundPartsAreSpelled, TermsArePrinted};
 
-use crate::limits::terms_nest_within;
+use crate::group_grammar::{group_kernels_are_of_the_grammar, needed_are_flagged};
+use crate::limits::{terms_can_be_written, terms_nest_within};
+use crate::soundness::lowered_terms_have_sound_parts;
+use group_form::kernels::kernels_are_printed;
 use length_spelling::laws::{lengths_are_bounds, lengths_are_spelled};
 use printed_form::grammar::kernels_are_of_the_grammar;
-use printed_form::laws::programs_are_printed;
 
 /// At each admissible launch the formulas of lengths spell them.
 pub fn formulas_spell_lengths()
@@ -22,20 +24,25 @@ pub fn sound_parts_are_spelled()
     lengths_are_bounds();
 }
 
-/// A typed term of sound parts, of at most 24 layouts and at most 512 high, is printed as a kernel
-/// of the kernel grammar.
+/// A legal term that can be printed, of at most 24 layouts and at most 512 high, is printed with
+/// its needed barriers as a kernel of the kernel grammar.
 pub fn kernels_are_in_the_grammar()
     ensures { KernelsAreInTheGrammar }
 {
+    group_kernels_are_of_the_grammar();
     kernels_are_of_the_grammar();
+    lowered_terms_have_sound_parts();
+    needed_are_flagged();
     sound_parts_are_spelled();
+    terms_can_be_written();
     terms_nest_within();
 }
 
-/// The kernel that a printable term is printed as is printed for it, at each admissible launch.
+/// The kernel that a printable term is printed as, with its needed barriers, is printed for it, at
+/// each admissible launch.
 pub fn terms_are_printed()
     ensures { TermsArePrinted }
 {
     formulas_spell_lengths();
-    programs_are_printed();
+    kernels_are_printed();
 }

@@ -10,7 +10,6 @@ ghost use Rattle.std.specs.Prelude.{
   List,
   [],
   true,
-  Err,
   IfErr,
   IfOk,
   map,

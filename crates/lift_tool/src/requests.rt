@@ -1,5 +1,5 @@
 //! What a request writes.
-ghost use Rattle.std.specs.Prelude.{◌≡◌, IfErr, IfOk, List, map, string_bytes, ℕ};
+ghost use Rattle.std.specs.Prelude.{◌≡◌, IfErr, IfOk, map, string_bytes};
 ghost use Rattle.lift_io.specs.Causes.{Rose};
 ghost use Rattle.command_line.specs.Requests.{line_of};
 ghost use Rattle.fault_lines.specs.Shown.{failure_of};

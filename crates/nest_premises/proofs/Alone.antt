@@ -1,6 +1,6 @@
 -- Where no parallel map stands in a term without a broken rule.
 use Rattle.std.proofs.Common.{◌≡◌, Bool, true, false, List, ◌∷◌, refl}
-use Rattle.std.proofs.lemmas.Bool.{and_from, or_left, not_from_false}
+use Rattle.std.proofs.lemmas.Bool.{and_from, or_left, not_from_false, or_parts}
 use Rattle.std.specs.Prelude.{not, ◌&&◌, ◌||◌}
 use Rattle.lift_tree.specs.declared.term.UnaryForm.TheVariants as unary
 use Rattle.lift_tree.specs.declared.term.BinaryForm.TheVariants as binary
@@ -17,7 +17,7 @@ use Rattle.lowered_tree.specs.Elements.{hangs_on_sizes}
 use Rattle.lowered_tree.specs.Forms.{shows_local_map}
 use Rattle.lowered_tree.specs.Kinds.{is_task}
 use Rattle.nest_premises.specs.Unbroken.{AllUnbroken}
-use Rattle.nest_premises.proofs.Rules.{not_left, true_is_not_false}
+use Rattle.nest_premises.proofs.Rules.{true_is_not_false}
 use Rattle.nest_premises.proofs.Staged.{no_map, no_fold}
 
 pub three : (x y z : Bool) → x ≡ true → y ≡ true → z ≡ true → (x && y && z) ≡ true
@@ -53,8 +53,8 @@ module _ (d : Declared) where
   argument_alone s g (tree.Unary (unary.Layout l) t) (One a n) y h w i q = argument_alone _ g t n y.0 h.1 w i q
   argument_alone s g (tree.Unary (unary.Slide j l) t) (One a n) y h w i q = argument_alone _ g t n y.0 h.1 w i q
   argument_alone s g (tree.Unary (unary.Pad j l) t) (One a n) y h w i q = argument_alone _ g t n y.0 h.1 w i q
-  argument_alone s g (tree.Unary unary.ToLocal t) (One a n) y h w i q = true_is_not_false (not s.in_group) (not_from_false s.in_group q) (not_left (not s.in_group) s.in_local (not_left (not s.in_group || s.in_local) (not (shows_local_map t)) (h.0 N5)))
-  argument_alone s g (tree.Unary unary.ToPrivate t) (One a n) y h w i q = true_is_not_false (not s.in_item) (not_from_false s.in_item i) (not_left (not s.in_item) (hangs_on_sizes a) (h.0 N8))
+  argument_alone s g (tree.Unary unary.ToLocal t) (One a n) y h w i q = true_is_not_false (not s.in_group) (not_from_false s.in_group q) (or_parts (not s.in_group) s.in_local (or_parts (not s.in_group || s.in_local) (not (shows_local_map t)) (h.0 N5)).0).0
+  argument_alone s g (tree.Unary unary.ToPrivate t) (One a n) y h w i q = true_is_not_false (not s.in_item) (not_from_false s.in_item i) (or_parts (not s.in_item) (hangs_on_sizes a) (h.0 N8)).0
   argument_alone s g (tree.Unary unary.Then t) (One a n) y h w i q = argument_alone _ g t n y.0 h.1 w i q
   argument_alone s g (tree.Binary f t u) (Two a n m) y h w i q = and_from _ _ (argument_alone _ g t n y.0 h.1 w i q) (argument_alone _ g u m y.1 h.2 w i q)
   argument_alone s g (tree.Select t u x) (Three a n m l) y h w i q = three _ _ _ (argument_alone _ g t n y.0 h.1 w i q) (argument_alone _ g u m y.1 h.2 w i q) (argument_alone _ g x l y.2 h.3 w i q)

@@ -26,19 +26,12 @@ use Rattle.nest_premises.specs.Unbroken.{IsUnbrokenAt, AllUnbroken}
 use Rattle.group_form.specs.Forms.{StandsInGroup}
 use Rattle.nest_premises.proofs.Known.{Known}
 use Rattle.nest_premises.proofs.Rules.{of_layout, spared}
+use Rattle.nest_premises.proofs.Staged.{passes, refused}
 use Rattle.nest_premises.proofs.Inputs.{no_private_copy}
 
 -- in a mapWrg's body, and in no work-item's
 abbrev pub IsInGroup : Around → Type 0
 IsInGroup s = (s.in_group ≡ true) × (s.in_local ≡ false) × (s.in_item ≡ false) × (s.in_parallel ≡ true)
-
--- in writing position, where no element is written
-written_array : (s : Around) (a : PlainTy) → s.is_written ≡ true → is_element a ≡ false → (s.is_written && not (is_element a)) ≡ true
-written_array s a w e = and_from s.is_written (not (is_element a)) w (not_from_false (is_element a) e)
-
--- N10, N11: what is written and no element isn't read alone, and has no place already
-refused : {A : Type 0} (s : Around) (a : PlainTy) → (s.is_written && not (is_element a) && true) ≡ false → s.is_written ≡ true → is_element a ≡ false → A
-refused s a h w e = absurd (both_ways (s.is_written && not (is_element a) && true) h (and_from (s.is_written && not (is_element a)) true (written_array s a w e) refl))
 
 -- N4: what isn't there
 spared_here : (s : Around) (t : Tree) (n : Annotation) → IsInGroup s → IsUnbrokenAt s t n → (is_map_of is_sequential t || is_lowered_fold t || (s.is_written && is_element (type_in n)) || is_let_of_element t n) ≡ false
@@ -76,15 +69,15 @@ module _ (known : Known) (d : Declared) where
 
     -- N1, N3, N4, N10, N11: what is written
     pub written_in_group : (s : Around) (g : List PlainTy) (t : Tree) (n : Annotation) → Annotates d g t n → AllUnbroken s t n → IsStaged Written t n → IsInGroup s → s.is_written ≡ true → StandsInGroup true (lower d.names Written t n)
-    written_in_group s g (tree.Variable v) (Leaf a) y h o c w = refused s a (h N11) w (no_element s (tree.Variable v) (Leaf a) c h w)
+    written_in_group s g (tree.Variable v) (Leaf a) y h o c w = refused s.is_written (is_element a) (h N11) w (no_element s (tree.Variable v) (Leaf a) c h w)
     written_in_group s g (tree.Number v) (Leaf a) y h o c w = barred s (tree.Number v) (Leaf a) c h w (ap is_element y.1)
     written_in_group s g (tree.Unary (unary.Div j) t) (One a n) y h o c w = barred s (tree.Unary (unary.Div j) t) (One a n) c h.0 w (ap is_element y.1.2)
     written_in_group s g (tree.Unary (unary.Rem j) t) (One a n) y h o c w = barred s (tree.Unary (unary.Rem j) t) (One a n) c h.0 w (ap is_element y.1.2)
-    written_in_group s g (tree.Unary unary.First t) (One a n) y h o c w = refused s a (h.0 N10) w (no_element s (tree.Unary unary.First t) (One a n) c h.0 w)
-    written_in_group s g (tree.Unary unary.Second t) (One a n) y h o c w = refused s a (h.0 N10) w (no_element s (tree.Unary unary.Second t) (One a n) c h.0 w)
-    written_in_group s g (tree.Unary (unary.Layout l) t) (One a n) y h o c w = through_layout (StandsInGroup true) (λ y u i k. (i, k)) d.names Written l a (type_in n) _ (written_in_group _ g t n y.0 h.1 o c (written_array s a w (of_layout d.names l _ a y.1)))
-    written_in_group s g (tree.Unary (unary.Slide j l) t) (One a n) y h o c w = refused s a (h.0 N10) w (ap is_element y.1.6)
-    written_in_group s g (tree.Unary (unary.Pad j l) t) (One a n) y h o c w = refused s a (h.0 N10) w (ap is_element y.1.3)
+    written_in_group s g (tree.Unary unary.First t) (One a n) y h o c w = refused s.is_written (is_element a) (h.0 N10) w (no_element s (tree.Unary unary.First t) (One a n) c h.0 w)
+    written_in_group s g (tree.Unary unary.Second t) (One a n) y h o c w = refused s.is_written (is_element a) (h.0 N10) w (no_element s (tree.Unary unary.Second t) (One a n) c h.0 w)
+    written_in_group s g (tree.Unary (unary.Layout l) t) (One a n) y h o c w = through_layout (StandsInGroup true) (λ y u i k. (i, k)) d.names Written l a (type_in n) _ (written_in_group _ g t n y.0 h.1 o c (passes s.is_written (is_element a) w (of_layout d.names l _ a y.1)))
+    written_in_group s g (tree.Unary (unary.Slide j l) t) (One a n) y h o c w = refused s.is_written (is_element a) (h.0 N10) w (ap is_element y.1.6)
+    written_in_group s g (tree.Unary (unary.Pad j l) t) (One a n) y h o c w = refused s.is_written (is_element a) (h.0 N10) w (ap is_element y.1.3)
     written_in_group s g (tree.Binary (binary.Operator r) t u) (Two a n m) y h o c w = barred s (tree.Binary (binary.Operator r) t u) (Two a n m) c h.0 w (ap is_element y.2.2)
     written_in_group s g (tree.Binary binary.Pair t u) (Two a n m) y h o c w =
         barred s (tree.Binary binary.Pair t u) (Two a n m) c h.0 w (ap is_element y.2.2 ∙ known.elements (types.PairOf (type_in n) (type_in m)) (y.2.0, y.2.1))
@@ -93,7 +86,7 @@ module _ (known : Known) (d : Declared) where
         let e = no_element s (tree.Let v b) (Two a n m) c h.0 w in
         let i = known.tests (type_in n) ∙ no_let s v b a n m c h.0 in
         let r = let_parts v b a n m o i in
-        subst (StandsInGroup true) (sym (written_let d.names v b a n m r.0 i)) (argument_in_group _ g v n y.0 h.1 r.1 c, written_in_group _ (type_in n ∷ g) b m y.1 h.2 r.2 c (written_array s a w e))
+        subst (StandsInGroup true) (sym (written_let d.names v b a n m r.0 i)) (argument_in_group _ g v n y.0 h.1 r.1 c, written_in_group _ (type_in n ∷ g) b m y.1 h.2 r.2 c (passes s.is_written (is_element a) w e))
     written_in_group s g (tree.Map map_kind.Plain xs b) (Two a n m) y h o c w = absurd (true≢false (h.0 N1))
     written_in_group s g (tree.Map map_kind.Sequential xs b) (Two a n m) y h o c w = absurd (true≢false (spared_here s (tree.Map map_kind.Sequential xs b) (Two a n m) c h.0))
     written_in_group s g (tree.Map map_kind.Global xs b) (Two a n m) y h o c w = absurd (both_ways s.in_parallel (h.0 N3) c.3)

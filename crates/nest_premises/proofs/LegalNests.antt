@@ -13,7 +13,8 @@ use Rattle.nest_premises.specs.Laws.{LegalTermsCanBeLowered, UngroupedTermsArePr
 use Rattle.lowered_tree.specs.declared.kind.NestKind.{NestKind}
 use Rattle.lowered_tree.specs.declared.kind.NestKind.TheVariants.{Task, OverLaunch, OverGroups}
 use Rattle.group_form.specs.Forms.{StandsOverGroups}
-use Rattle.nest_premises.specs.Stands.{StandsAs, IsPrintableAs}
+use Rattle.nest_premises.specs.Printable.{IsPrintable, printer_of}
+use Rattle.nest_premises.specs.Stands.{StandsAs}
 use Rattle.nest_premises.specs.Groups.{LegalNestsStand, LegalGroupsStandOverGroups, LegalTermsArePrintable}
 use Rattle.nest_premises.proofs.Known.{Known}
 use Rattle.nest_premises.proofs.OverGroups.{over_groups}
@@ -42,20 +43,13 @@ legal_nests_stand known d t n r copies = stand known d t n r copies
 
 pub legal_groups_stand_over_groups : LegalTermsCanBeLowered → LegalNestsStand → LegalGroupsStandOverGroups
 legal_groups_stand_over_groups lowerable nests d t n r copies e =
-    let l = lowerable d t n r copies in
     let stands : StandsOverGroups (lowered_root d.names t n) = subst (λ k. StandsAs k (lowered_root d.names t n)) e (nests d t n r copies) in
-    record { staged = l.staged; program = λ bases ok. record { lowerable = l.lowerable bases ok; stands = stands }; fits = l.fits }
+    record { can = lowerable d t n r copies; stands = stands; at_launch = λ local bases l launch. stands }
 
 pub legal_terms_are_printable : UngroupedTermsArePrintable → LegalGroupsStandOverGroups → LegalTermsArePrintable
 legal_terms_are_printable ungrouped grouped d t n r copies = go (nest_kind t) refl
   where
-    go : (k : NestKind) → nest_kind t ≡ k → IsPrintableAs k d t n
-    go Task e = ungrouped d t n r copies (λ f. clash e f)
-      where
-        clash : nest_kind t ≡ Task → nest_kind t ≡ OverGroups → ⊥
-        clash e f = absurd (cc)
-    go OverLaunch e = ungrouped d t n r copies (λ f. clash e f)
-      where
-        clash : nest_kind t ≡ OverLaunch → nest_kind t ≡ OverGroups → ⊥
-        clash e f = absurd (cc)
+    go : (k : NestKind) → nest_kind t ≡ k → IsPrintable (printer_of k) d t n
+    go Task e = ungrouped d t n r copies (λ f. absurd (cc))
+    go OverLaunch e = ungrouped d t n r copies (λ f. absurd (cc))
     go OverGroups e = grouped d t n r copies e

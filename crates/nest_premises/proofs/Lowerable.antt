@@ -1,5 +1,6 @@
 -- What a term without a broken rule is lowered to is typed at each admissible launch.
 use Rattle.std.proofs.Common.{◌≡◌, ◌<◌, ◌^◌, ℕ, Bool, true, false, List, [], ◌∷◌, refl, sym, subst, inl, inr}
+use Rattle.std.proofs.lemmas.Bool.{or_parts}
 use Rattle.std.specs.Prelude.{not, ◌&&◌, if◌then◌else◌}
 use Rattle.size_arith.specs.declared.poly.Monomial.{Monomial}
 use Rattle.lift_tree.specs.declared.term.UnaryForm.TheVariants as unary
@@ -22,7 +23,7 @@ use Rattle.lowered_tree.specs.declared.rule.NestRule.TheVariants.{N6, N8, N10, N
 use Rattle.lowered_tree.specs.Elements.{hangs_on_sizes}
 use Rattle.nest_premises.specs.Unbroken.{AllUnbroken}
 use Rattle.nest_premises.proofs.Fits.{Fits}
-use Rattle.nest_premises.proofs.Rules.{moved, of_layout, not_right}
+use Rattle.nest_premises.proofs.Rules.{moved, of_layout}
 use Rattle.nest_premises.proofs.Staged.{passes, refused, same_literal}
 
 element_holds : (a : PlainTy) → is_element a ≡ true → types.HoldsElements a
@@ -103,7 +104,7 @@ module _ (d : Declared) (ys : List ℕ) where
         (f.0, short_of g t n y.0 f.2, (flat, same_literal ys a (h.0 N6)), written_lowerable _ g t n y.0 h.1 f.2 o.3 refl)
     argument_lowerable s g (tree.Unary unary.ToPrivate t) (One a n) y h f o =
         let flat = flat_at [] a (subst types.HoldsElements y.1 (written_holds _ g t n y.0 h.1 o.3 refl)) in
-        (f.0, short_of g t n y.0 f.2, (flat, same_literal ys a (not_right (not s.in_item) (hangs_on_sizes a) (h.0 N8))), written_lowerable _ g t n y.0 h.1 f.2 o.3 refl)
+        (f.0, short_of g t n y.0 f.2, (flat, same_literal ys a (or_parts (not s.in_item) (hangs_on_sizes a) (h.0 N8)).1), written_lowerable _ g t n y.0 h.1 f.2 o.3 refl)
     argument_lowerable s g (tree.Binary binary.Zip t u) (Two a n m) y h f o = (tt, argument_lowerable _ g t n y.0 h.1 f.1 o.0, argument_lowerable _ g u m y.1 h.2 f.2 o.1)
     argument_lowerable s g (tree.Let v b) (Two a n m) y h f o =
         (subst (λ x. IsLowerable ys (if x then Element else Argument) v n) (sym o.0) (argument_lowerable _ g v n y.0 h.1 f.1 o.1), argument_lowerable _ (type_in n ∷ g) b m y.1 h.2 f.2 o.2)

@@ -1,6 +1,6 @@
 -- Rules of the nest, at each node of a term.
 use Rattle.std.proofs.Common.{◌≡◌, ℕ, Bool, true, false, List, [], ◌∷◌, ◌++◌, refl, sym, subst}
-use Rattle.std.specs.Prelude.{◌&&◌, ◌||◌}
+use Rattle.std.specs.Prelude.{◌&&◌}
 use Rattle.size_arith.specs.declared.names.Name.{Name}
 use Rattle.lift_tree.specs.declared.layout.Layout as layout
 use Rattle.lift_tree.specs.Tree as tree
@@ -18,26 +18,10 @@ use Rattle.nest_premises.specs.Unbroken.{AllUnbroken}
 
 -- ---- Booleans
 
-pub not_left : (x y : Bool) → (x || y) ≡ false → x ≡ false
-not_left true y e = absurd (cc)
-not_left false y e = refl
-
-pub not_right : (x y : Bool) → (x || y) ≡ false → y ≡ false
-not_right true y e = absurd (cc)
-not_right false y e = e
-
 -- what a rule asks besides isn't so
 pub spared : (x y : Bool) → (x && y) ≡ false → x ≡ true → y ≡ false
 spared true y e h = e
 spared false y e h = absurd (cc)
-
-pub and_left : (x y : Bool) → (x && y) ≡ true → x ≡ true
-and_left true y e = refl
-and_left false y e = absurd (cc)
-
-pub and_right : (x y : Bool) → (x && y) ≡ true → y ≡ true
-and_right true y e = e
-and_right false y e = absurd (cc)
 
 pub true_is_not_false : {A : Type 0} (x : Bool) → x ≡ true → x ≡ false → A
 true_is_not_false true e h = absurd (cc)

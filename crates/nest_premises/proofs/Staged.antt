@@ -1,7 +1,7 @@
 -- Terms without a broken rule are staged: elements, arguments and what is written each have the
 -- forms of their place.
 use Rattle.std.proofs.Common.{◌≡◌, ◌<◌, ◌^◌, ℕ, zero, suc, Bool, true, false, List, [], ◌∷◌, Some, refl, sym, ap, ◌∙◌, subst, inl, inr}
-use Rattle.std.proofs.lemmas.Bool.{or_left, or_right, not-false, not_from_false}
+use Rattle.std.proofs.lemmas.Bool.{or_left, or_right, not-false, not_from_false, or_parts}
 use Rattle.std.proofs.Math.Nat.{pow-zero}
 use Rattle.std.specs.Prelude.{not, ◌&&◌, ◌||◌, slice_get, pos, ◌*ℤ◌, ◌+ℤ◌}
 use Rattle.size_arith.specs.declared.poly.Monomial.{Monomial}
@@ -32,7 +32,7 @@ use Rattle.lowered_tree.specs.Kinds.{is_plain}
 use Rattle.lowered_tree.specs.Copies.{CopiesArrays}
 use Rattle.nest_premises.specs.Unbroken.{IsUnbrokenAt, AllUnbroken}
 use Rattle.nest_premises.proofs.Fits.{Fits}
-use Rattle.nest_premises.proofs.Rules.{not_left, not_right, spared, true_is_not_false, no_array, holds_none, clash_array, clash_element, moved, under_layout}
+use Rattle.nest_premises.proofs.Rules.{spared, true_is_not_false, no_array, holds_none, clash_array, clash_element, moved, under_layout}
 
 -- a program's inputs are arrays
 input_is_array : (inputs : List PlainTy) (i : ℕ) (a : PlainTy) → Every IsInput inputs → slice_get inputs i ≡ Some a → is_array a ≡ true
@@ -45,11 +45,11 @@ input_is_array (b ∷ inputs) (suc i) a h e = input_is_array inputs i a h.1 e
 module _ (d : Declared) (inputs : Every IsInput d.inputs) where
   -- N7: in an element term a let is of an element
   let_of_element : (s : Around) (v b : Tree) (a : PlainTy) (n m : Annotation) → IsUnbrokenAt s (tree.Let v b) (Two a n m) → (s.in_element || is_element a) ≡ true → is_element (type_in n) ≡ true
-  let_of_element s v b a n m h c = not-false (is_element (type_in n)) (spared (s.in_element || is_element a) (not (is_element (type_in n))) (not_right (s.in_argument && is_element (type_in n)) ((s.in_element || is_element a) && not (is_element (type_in n))) (h N7)) c)
+  let_of_element s v b a n m h c = not-false (is_element (type_in n)) (spared (s.in_element || is_element a) (not (is_element (type_in n))) (or_parts (s.in_argument && is_element (type_in n)) ((s.in_element || is_element a) && not (is_element (type_in n))) (h N7)).1 c)
 
   -- N7: in an argument a let is of anything but an element
   let_of_view : (s : Around) (v b : Tree) (a : PlainTy) (n m : Annotation) → IsUnbrokenAt s (tree.Let v b) (Two a n m) → s.in_argument ≡ true → is_element (type_in n) ≡ false
-  let_of_view s v b a n m h c = spared s.in_argument (is_element (type_in n)) (not_left (s.in_argument && is_element (type_in n)) ((s.in_element || is_element a) && not (is_element (type_in n))) (h N7)) c
+  let_of_view s v b a n m h c = spared s.in_argument (is_element (type_in n)) (or_parts (s.in_argument && is_element (type_in n)) ((s.in_element || is_element a) && not (is_element (type_in n))) (h N7)).0 c
 
   -- an element term
   pub counted : (s : Around) (g : List PlainTy) (t : Tree) (n : Annotation) → Annotates d g t n → AllUnbroken s t n → CopiesArrays t n → (s.in_element || is_element (type_in n)) ≡ true → is_array (type_in n) ≡ false → IsElementTerm t n
@@ -121,15 +121,15 @@ product_of_none (y ∷ ys) (suc p ∷ ps) e = absurd (cc)
 value_of_none : (ys : List ℕ) (n : List Monomial) → is_over_sizes n ≡ false → value_at ys n ≡ value_at [] n
 value_of_none ys [] e = refl
 value_of_none ys (m ∷ n) e =
-    ap (λ z. m.coefficient *ℤ pos z +ℤ value_at ys n) (product_of_none ys m.powers (not_left (names_a_size m.powers) (is_over_sizes n) e))
-    ∙ ap (λ z. m.coefficient *ℤ pos 1 +ℤ z) (value_of_none ys n (not_right (names_a_size m.powers) (is_over_sizes n) e))
+    ap (λ z. m.coefficient *ℤ pos z +ℤ value_at ys n) (product_of_none ys m.powers (or_parts (names_a_size m.powers) (is_over_sizes n) e).0)
+    ∙ ap (λ z. m.coefficient *ℤ pos 1 +ℤ z) (value_of_none ys n (or_parts (names_a_size m.powers) (is_over_sizes n) e).1)
 
 pub same_literal : (ys : List ℕ) (a : PlainTy) → hangs_on_sizes a ≡ false → ty_at ys a ≡ ty_at [] a
 same_literal ys types.U32 e = refl
 same_literal ys (types.PairOf a b) e =
-    ap (λ z. PairOf z (ty_at ys b)) (same_literal ys a (not_left (hangs_on_sizes a) (hangs_on_sizes b) e)) ∙ ap (PairOf (ty_at [] a)) (same_literal ys b (not_right (hangs_on_sizes a) (hangs_on_sizes b) e))
+    ap (λ z. PairOf z (ty_at ys b)) (same_literal ys a (or_parts (hangs_on_sizes a) (hangs_on_sizes b) e).0) ∙ ap (PairOf (ty_at [] a)) (same_literal ys b (or_parts (hangs_on_sizes a) (hangs_on_sizes b) e).1)
 same_literal ys (types.ArrayOf a n) e =
-    ap (λ z. ArrayOf (natural z) (ty_at ys a)) (value_of_none ys n (not_left (is_over_sizes n) (hangs_on_sizes a) e)) ∙ ap (ArrayOf (length_at [] n)) (same_literal ys a (not_right (is_over_sizes n) (hangs_on_sizes a) e))
+    ap (λ z. ArrayOf (natural z) (ty_at ys a)) (value_of_none ys n (or_parts (is_over_sizes n) (hangs_on_sizes a) e).0) ∙ ap (ArrayOf (length_at [] n)) (same_literal ys a (or_parts (is_over_sizes n) (hangs_on_sizes a) e).1)
 
 -- still in writing position
 pub passes : (x y : Bool) → x ≡ true → y ≡ false → (x && not y) ≡ true
@@ -143,11 +143,11 @@ let_stands v b a n m false e i c o r = inr (inr (told_ir false a i, told_ir fals
 
 -- N1, N7: a map, or a fold, isn't in an argument
 pub no_map : {A : Type 0} (s : Around) (j : MapKind) (xs b : Tree) (a : PlainTy) (n m : Annotation) → IsUnbrokenAt s (tree.Map j xs b) (Two a n m) → s.in_argument ≡ true → A
-no_map s j xs b a n m h w = true_is_not_false (not (is_plain j)) (not_from_false (is_plain j) (h N1)) (not_left (not (is_plain j)) false (not_left (not (is_plain j) || false) false (spared s.in_argument _ (not_left _ _ (h N7)) w)))
+no_map s j xs b a n m h w = true_is_not_false (not (is_plain j)) (not_from_false (is_plain j) (h N1)) (or_parts (not (is_plain j)) false (or_parts (not (is_plain j) || false) false (spared s.in_argument _ (or_parts _ _ (h N7)).0 w)).0).0
 
 pub no_fold : {A : Type 0} (s : Around) (j : FoldKind) (xs x b : Tree) (a : PlainTy) (n m l : Annotation) → IsUnbrokenAt s (tree.Fold j xs x b) (Three a n m l) → s.in_argument ≡ true → A
 no_fold s fold_kind.Plain xs x b a n m l h w = true_is_not_false true refl (h N1)
-no_fold s fold_kind.Sequential xs x b a n m l h w = true_is_not_false true refl (spared s.in_argument _ (not_left _ _ (h N7)) w)
+no_fold s fold_kind.Sequential xs x b a n m l h w = true_is_not_false true refl (spared s.in_argument _ (or_parts _ _ (h N7)).0 w)
 
 -- a copy of literal lengths
 copied : (ys : List ℕ) (t : Tree) (a : PlainTy) (n : Annotation) → is_array a ≡ true → IsShort (ty_at ys a) → size (ty_at ys a) < 2 ^ 31 → ty_at ys a ≡ ty_at [] a → IsStaged Written t n → HoldsNoScalar a × (size (ty_at [] a) < 2 ^ 31) × IsShort (ty_at [] a) × IsStaged Written t n
@@ -168,7 +168,7 @@ module _ (d : Declared) (inputs : Every IsInput d.inputs) (ys : List ℕ) where
     argued s g (tree.Unary (unary.Slide j l) t) (One a n) y h k f w e = argued _ g t n y.0 h.1 k.1 f.2 w (moved is_element false (type_in n) (types.ArrayOf _ _) y.1.2 refl)
     argued s g (tree.Unary (unary.Pad j l) t) (One a n) y h k f w e = argued _ g t n y.0 h.1 k.1 f.2 w (moved is_element false (type_in n) (types.ArrayOf _ _) y.1.2 refl)
     argued s g (tree.Unary unary.ToLocal t) (One a n) y h k f w e = copied ys t a n k.0 f.0 f.1 (same_literal ys a (h.0 N6)) (written (is_element (type_in n)) _ g t n y.0 h.1 k.1 f.2 refl refl)
-    argued s g (tree.Unary unary.ToPrivate t) (One a n) y h k f w e = copied ys t a n k.0 f.0 f.1 (same_literal ys a (not_right (not s.in_item) (hangs_on_sizes a) (h.0 N8))) (written (is_element (type_in n)) _ g t n y.0 h.1 k.1 f.2 refl refl)
+    argued s g (tree.Unary unary.ToPrivate t) (One a n) y h k f w e = copied ys t a n k.0 f.0 f.1 (same_literal ys a (or_parts (not s.in_item) (hangs_on_sizes a) (h.0 N8)).1) (written (is_element (type_in n)) _ g t n y.0 h.1 k.1 f.2 refl refl)
     argued s g (tree.Unary unary.Then t) (One a n) y h k f w e = absurd (true_is_not_false true refl (h.0 N13))
     argued s g (tree.Binary (binary.Operator o) t u) (Two a n m) y h k f w e = clash_element a types.U32 y.2.2 refl e
     argued s g (tree.Binary binary.Pair t u) (Two a n m) y h k f w e =

@@ -1,7 +1,7 @@
 -- What a term without a broken rule is lowered to, for one work-item, has the forms of their
 -- places.
 use Rattle.std.proofs.Common.{◌≡◌, Bool, true, false, List, ◌∷◌, refl, sym, subst, inl, inr}
-use Rattle.std.proofs.lemmas.Bool.{not-false}
+use Rattle.std.proofs.lemmas.Bool.{not-false, and_parts, or_parts}
 use Rattle.std.specs.Prelude.{not, ◌&&◌, ◌||◌, if◌then◌else◌}
 use Rattle.lift_tree.specs.declared.term.UnaryForm.TheVariants as unary
 use Rattle.lift_tree.specs.declared.term.BinaryForm.TheVariants as binary
@@ -18,14 +18,14 @@ use Rattle.lift_ir.specs.Lowering as ir
 use Rattle.lift_ir.specs.Lowering.{Written, Argument, Element, element_ty, lower}
 use Rattle.lift_ir.specs.Lowerable.{IsStaged}
 use Rattle.lift_ir.proofs.Elements.{from_ir}
-use Rattle.lift_ir.proofs.Lets.{argument_let}
+use Rattle.lift_ir.proofs.Lets.{argument_let, let_parts}
 use Rattle.lift_ir.proofs.Reshaped.{through_layout}
 use Rattle.lowered_tree.specs.declared.around.Around.{Around}
 use Rattle.lowered_tree.specs.declared.rule.NestRule.TheVariants.{N5, N10}
 use Rattle.lowered_tree.specs.Forms.{shows_local_map}
 use Rattle.lowered_tree.specs.Kinds.{is_task}
 use Rattle.nest_premises.specs.Unbroken.{AllUnbroken}
-use Rattle.nest_premises.proofs.Rules.{moved, of_layout, and_left, and_right, not_right, true_is_not_false}
+use Rattle.nest_premises.proofs.Rules.{moved, of_layout, true_is_not_false}
 use Rattle.nest_premises.proofs.Staged.{passes, refused}
 
 body_staged : (v b : Tree) (a : PlainTy) (n m : Annotation) → IsStaged Written (tree.Let v b) (Two a n m) → ir.is_element a ≡ false → IsStaged Written b m
@@ -33,15 +33,10 @@ body_staged v b a n m (inl o) e = true_is_not_false (ir.is_element a) o.0 e
 body_staged v b a n m (inr (inl o)) e = o.3
 body_staged v b a n m (inr (inr o)) e = o.3
 
-value_staged : (v b : Tree) (a : PlainTy) (n m : Annotation) → IsStaged Written (tree.Let v b) (Two a n m) → ir.is_element a ≡ false → ir.is_element (type_in n) ≡ false → IsStaged Argument v n
-value_staged v b a n m (inl o) e i = true_is_not_false (ir.is_element a) o.0 e
-value_staged v b a n m (inr (inl o)) e i = true_is_not_false (ir.is_element (type_in n)) o.1 i
-value_staged v b a n m (inr (inr o)) e i = o.2
-
 -- a map over a group's items is parallel
 shows_no_task : {A : Type 0} (t : Tree) → shows_local_map t ≡ true → is_task t ≡ true → A
 shows_no_task (tree.Unary (unary.Layout l) t) e z = shows_no_task t e z
-shows_no_task (tree.Let v b) e z = shows_no_task b e (and_right (is_task v) (is_task b) z)
+shows_no_task (tree.Let v b) e z = shows_no_task b e (and_parts (is_task v) (is_task b) z).1
 shows_no_task (tree.Map map_kind.Local xs b) e z = absurd (cc)
 shows_no_task (tree.Map map_kind.Plain xs b) e z = absurd (cc)
 shows_no_task (tree.Map map_kind.Global xs b) e z = absurd (cc)
@@ -82,12 +77,12 @@ module _ (d : Declared) where
     argument_stands s g (tree.Unary (unary.Layout l) t) (One a n) y h o z = through_layout (Stands false) (λ y u i k. k) d.names Argument l a (type_in n) _ (argument_stands _ g t n y.0 h.1 o z)
     argument_stands s g (tree.Unary (unary.Slide j l) t) (One a n) y h o z = argument_stands _ g t n y.0 h.1 o z
     argument_stands s g (tree.Unary (unary.Pad j l) t) (One a n) y h o z = argument_stands _ g t n y.0 h.1 o z
-    argument_stands s g (tree.Unary unary.ToLocal t) (One a n) y h o z = shows_no_task t (not-false (shows_local_map t) (not_right (not s.in_group || s.in_local) (not (shows_local_map t)) (h.0 N5))) z
+    argument_stands s g (tree.Unary unary.ToLocal t) (One a n) y h o z = shows_no_task t (not-false (shows_local_map t) (or_parts (not s.in_group || s.in_local) (not (shows_local_map t)) (h.0 N5)).1) z
     argument_stands s g (tree.Unary unary.ToPrivate t) (One a n) y h o z = written_stands _ g t n y.0 h.1 o.3 z refl
     argument_stands s g (tree.Binary binary.Zip t u) (Two a n m) y h o z =
-        (argument_stands _ g t n y.0 h.1 o.0 (and_left (is_task t) (is_task u) z), argument_stands _ g u m y.1 h.2 o.1 (and_right (is_task t) (is_task u) z))
+        (argument_stands _ g t n y.0 h.1 o.0 (and_parts (is_task t) (is_task u) z).0, argument_stands _ g u m y.1 h.2 o.1 (and_parts (is_task t) (is_task u) z).1)
     argument_stands s g (tree.Let v b) (Two a n m) y h o z =
-        subst (Stands false) (sym (argument_let d.names v b a n m o.0)) (argument_stands _ g v n y.0 h.1 o.1 (and_left (is_task v) (is_task b) z), argument_stands _ (type_in n ∷ g) b m y.1 h.2 o.2 (and_right (is_task v) (is_task b) z))
+        subst (Stands false) (sym (argument_let d.names v b a n m o.0)) (argument_stands _ g v n y.0 h.1 o.1 (and_parts (is_task v) (is_task b) z).0, argument_stands _ (type_in n ∷ g) b m y.1 h.2 o.2 (and_parts (is_task v) (is_task b) z).1)
     argument_stands s g _ _ y h o z = absurd o
 
     pub written_stands : (s : Around) (g : List PlainTy) (t : Tree) (n : Annotation) → Annotates d g t n → AllUnbroken s t n → IsStaged Written t n → is_task t ≡ true → s.is_written ≡ true → Stands true (lower d.names Written t n)
@@ -105,14 +100,14 @@ module _ (d : Declared) where
     written_stands s g (tree.Select t u x) (Three a n m l) y h o z w = tt
     written_stands s g (tree.Let v b) (Two a n m) y h o z w =
         let_written v b a n m
-        (λ e. written_stands _ (type_in n ∷ g) b m y.1 h.2 (body_staged v b a n m o e) (and_right (is_task v) (is_task b) z) (passes s.is_written (is_element a) w (from_ir false a e)))
-        (λ e i. argument_stands _ g v n y.0 h.1 (value_staged v b a n m o e i) (and_left (is_task v) (is_task b) z))
+        (λ e. written_stands _ (type_in n ∷ g) b m y.1 h.2 (body_staged v b a n m o e) (and_parts (is_task v) (is_task b) z).1 (passes s.is_written (is_element a) w (from_ir false a e)))
+        (λ e i. argument_stands _ g v n y.0 h.1 (let_parts v b a n m o i).1 (and_parts (is_task v) (is_task b) z).0)
     written_stands s g (tree.Map map_kind.Plain xs b) (Two a n m) y h o z w =
-        (argument_stands _ g xs n y.2 h.1 o.0 (and_left (is_task xs) (is_task b) z), written_stands _ (y.0 ∷ g) b m y.4 h.2 o.1 (and_right (is_task xs) (is_task b) z) refl)
+        (argument_stands _ g xs n y.2 h.1 o.0 (and_parts (is_task xs) (is_task b) z).0, written_stands _ (y.0 ∷ g) b m y.4 h.2 o.1 (and_parts (is_task xs) (is_task b) z).1 refl)
     written_stands s g (tree.Map map_kind.Sequential xs b) (Two a n m) y h o z w =
-        (argument_stands _ g xs n y.2 h.1 o.0 (and_left (is_task xs) (is_task b) z), written_stands _ (y.0 ∷ g) b m y.4 h.2 o.1 (and_right (is_task xs) (is_task b) z) refl)
+        (argument_stands _ g xs n y.2 h.1 o.0 (and_parts (is_task xs) (is_task b) z).0, written_stands _ (y.0 ∷ g) b m y.4 h.2 o.1 (and_parts (is_task xs) (is_task b) z).1 refl)
     written_stands s g (tree.Map map_kind.Global xs b) (Two a n m) y h o z w = absurd (cc)
     written_stands s g (tree.Map map_kind.WorkGroup xs b) (Two a n m) y h o z w = absurd (cc)
     written_stands s g (tree.Map map_kind.Local xs b) (Two a n m) y h o z w = absurd (cc)
-    written_stands s g (tree.Fold j xs x b) (Three a n m l) y h o z w = argument_stands _ g xs n y.2 h.1 o.0 (and_left (is_task xs) (is_task x) (and_left (is_task xs && is_task x) (is_task b) z))
+    written_stands s g (tree.Fold j xs x b) (Three a n m l) y h o z w = argument_stands _ g xs n y.2 h.1 o.0 (and_parts (is_task xs) (is_task x) (and_parts (is_task xs && is_task x) (is_task b) z).0).0
     written_stands s g _ _ y h o z w = absurd o

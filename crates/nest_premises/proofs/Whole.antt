@@ -1,5 +1,5 @@
 -- Legal terms can be lowered and printed.
-use Rattle.std.proofs.Common.{◌≡◌, ℕ, ◌<◌, ◌^◌, Bool, true, false, List, [], ◌∷◌, refl, sym, ◌∙◌, subst, inl, inr, Option}
+use Rattle.std.proofs.Common.{◌≡◌, ℕ, ◌<◌, ◌^◌, Bool, true, false, List, [], ◌∷◌, refl, sym, ◌∙◌, subst, inl, inr}
 use Rattle.std.specs.Prelude.{◌↔◌}
 use Rattle.size_arith.specs.Ranges.{Admissible, leasts}
 use Rattle.size_arith.proofs.LeastSizes.{leasts_are_admissible}
@@ -10,7 +10,6 @@ use Rattle.lift_tree.specs.Limits.{HasFewScalars}
 use Rattle.lift_tree.specs.Typing.{Declared}
 use Rattle.lift_tree.specs.Annotations.{Annotation, type_in}
 use Rattle.lift_tree.proofs.WithinLimits.{all_few}
-use Rattle.kernel_tree.specs.Launch.{Launch}
 use Rattle.kernel_tree.proofs.Grouping.{flat_items}
 use Rattle.lift_ir.specs.Types.{IsFlat, IsShort, IsPlaced, size}
 use Rattle.lift_ir.specs.AtLaunch.{length_at, shape_of}
@@ -19,9 +18,10 @@ use Rattle.lift_ir.specs.Lowering as ir
 use Rattle.lift_ir.specs.Lowerable.{IsStaged}
 use Rattle.lift_ir.proofs.Typed.{output_flat}
 use Rattle.lift_ir.proofs.Values.{shape_is}
-use Rattle.printed_form.specs.Programs.{IsLaunchOf, lowered_root, StandsAt}
+use Rattle.printed_form.specs.Programs.{lowered_root}
+use Rattle.group_form.specs.Kernels.{OfItems}
 use Rattle.lowered_tree.specs.Around.{at_root}
-use Rattle.lowered_tree.specs.Kinds.{is_global, is_over_groups, is_task, asks_of}
+use Rattle.lowered_tree.specs.Kinds.{is_global, is_over_groups, is_task}
 use Rattle.lowered_tree.specs.Copies.{CopiesArrays}
 use Rattle.nest_premises.specs.Legal.{shows_global_map, IsLegalTerm}
 use Rattle.lowered_tree.specs.Kind.{nest_kind}
@@ -75,23 +75,20 @@ module _ (d : Declared) (t : Tree) (n : Annotation) (r : IsLegalTerm d t n) (cop
     fits = λ bases ok. (placed bases ok (type_in n) r.output (limited bases ok).1, all_placed bases ok d.inputs r.declared.arrays (few_all d r.declared scalars bases ok d.inputs r.declared.inputs scalars));
   }
 
-  -- what is lowered can be printed, where it has the forms of their places
-  printable : ((local : Option ℕ) (bases : List ℕ) (l : Launch) → IsLaunchOf d (asks_of local t) bases l → StandsAt l (lowered_root d.names t n)) → IsPrintable d t n
-  printable stands = record { staged = lowered.staged; lowerable = lowered.lowerable; fits = lowered.fits; stands = stands }
-
   one_item : is_task t ≡ true → Stands true (lowered_root d.names t n)
   one_item z = written_stands d (at_root t) [] t n r.nodes unbroken staged z refl
 
   all_items : Over is_global t n → StandsOverLaunch (lowered_root d.names t n)
   all_items e = over_launch d (at_root t) [] t n r.nodes unbroken staged (over_no_task is_global global_parallel t n e) refl e
 
-  task : is_task t ≡ true → IsPrintable d t n
-  task z = printable (λ local bases l k. inl (flat_items l k.flat ∙ k.admissible.alone z, one_item z))
+  -- what is lowered can be printed, where it has the forms of their places
+  task : is_task t ≡ true → IsPrintable OfItems d t n
+  task z = record { can = lowered; stands = inl (one_item z); at_launch = λ local bases l k. inl (flat_items l k.flat ∙ k.admissible.alone z, one_item z) }
 
-  over : Over is_global t n → IsPrintable d t n
-  over e = printable (λ local bases l k. inr (all_items e))
+  over : Over is_global t n → IsPrintable OfItems d t n
+  over e = record { can = lowered; stands = inr (all_items e); at_launch = λ local bases l k. inr (all_items e) }
 
-  launch : shows_global_map t ≡ true → IsPrintable d t n
+  launch : shows_global_map t ≡ true → IsPrintable OfItems d t n
   launch e = over (over_of is_global d [] t n r.nodes e)
 
   -- at the root
@@ -106,10 +103,10 @@ module _ (d : Declared) (t : Tree) (n : Annotation) (r : IsLegalTerm d t n) (cop
   kind = (task_kind t n of_kind, kind_of_task d t n r.nodes)
 
   -- by no groups
-  for_items : (Over is_over_groups t n → ⊥) → IsPrintable d t n
+  for_items : (Over is_over_groups t n → ⊥) → IsPrintable OfItems d t n
   for_items none = go of_kind
     where
-      go : IsOfAKind t n → IsPrintable d t n
+      go : IsOfAKind t n → IsPrintable OfItems d t n
       go (inl z) = task z
       go (inr (inl o)) = over o
       go (inr (inr o)) = absurd (none o)

@@ -10,7 +10,9 @@ use Rattle.lowered_tree.specs.Copies.{CopiesArrays}
 use Rattle.nest_premises.specs.Legal.{IsLegalTerm}
 use Rattle.lowered_tree.specs.Kind.{nest_kind}
 use Rattle.lowered_tree.specs.declared.kind.NestKind.TheVariants.{OverGroups}
-use Rattle.nest_premises.specs.Stands.{StandsAs, IsGroupPrintable, IsPrintableAs}
+use Rattle.group_form.specs.Kernels.{OfGroups}
+use Rattle.nest_premises.specs.Printable.{IsPrintable, printer_for}
+use Rattle.nest_premises.specs.Stands.{StandsAs}
 
 -- what a legal term is lowered to stands as the term's kind says
 abbrev pub LegalNestsStand : Type 0
@@ -22,13 +24,13 @@ LegalNestsStand =
 abbrev pub LegalGroupsStandOverGroups : Type 0
 LegalGroupsStandOverGroups =
     (d : Declared) (t : Tree) (n : Annotation) → IsLegalTerm d t n → CopiesArrays t n
-    → nest_kind t ≡ OverGroups → IsGroupPrintable d t n
+    → nest_kind t ≡ OverGroups → IsPrintable OfGroups d t n
 
--- each legal term can be printed as its kind says
+-- each legal term can be printed by the printer of its kind
 abbrev pub LegalTermsArePrintable : Type 0
 LegalTermsArePrintable =
     (d : Declared) (t : Tree) (n : Annotation) → IsLegalTerm d t n → CopiesArrays t n
-    → IsPrintableAs (nest_kind t) d t n
+    → IsPrintable (printer_for t) d t n
 
 -- a term has no more phases than nodes
 abbrev pub PhasesAreFew : Type 0

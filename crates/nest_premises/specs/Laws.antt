@@ -18,6 +18,7 @@ use Rattle.lowered_tree.specs.Copies.{CopiesArrays}
 use Rattle.nest_premises.specs.Legal.{IsLegalTerm, shows_global_map}
 use Rattle.lowered_tree.specs.Kind.{nest_kind}
 use Rattle.lowered_tree.specs.declared.kind.NestKind.TheVariants.{Task, OverLaunch, OverGroups}
+use Rattle.group_form.specs.Kernels.{OfItems}
 use Rattle.nest_premises.specs.Printable.{CanBeLowered, IsPrintable}
 use Rattle.nest_premises.specs.Unbroken.{AllUnbroken}
 
@@ -37,19 +38,19 @@ KindsTellTasks =
 abbrev pub UngroupedTermsArePrintable : Type 0
 UngroupedTermsArePrintable =
     (d : Declared) (t : Tree) (n : Annotation) → IsLegalTerm d t n → CopiesArrays t n
-    → nest_kind t ≢ OverGroups → IsPrintable d t n
+    → nest_kind t ≢ OverGroups → IsPrintable OfItems d t n
 
 -- a legal term without parallel maps
 abbrev pub TasksArePrintable : Type 0
 TasksArePrintable =
     (d : Declared) (t : Tree) (n : Annotation) → IsLegalTerm d t n → CopiesArrays t n
-    → is_task t ≡ true → IsPrintable d t n
+    → is_task t ≡ true → IsPrintable OfItems d t n
 
 -- a legal term with a map over all work-items on top
 abbrev pub LaunchesArePrintable : Type 0
 LaunchesArePrintable =
     (d : Declared) (t : Tree) (n : Annotation) → IsLegalTerm d t n → CopiesArrays t n
-    → shows_global_map t ≡ true → IsPrintable d t n
+    → shows_global_map t ≡ true → IsPrintable OfItems d t n
 
 -- ---- what stands for whom
 

@@ -7,8 +7,12 @@ use Rattle.lift_tree.specs.Annotations.{Annotation}
 use Rattle.kernel_tree.specs.Launch.{Launch}
 use Rattle.lift_ir.specs.Lowering.{Written}
 use Rattle.lift_ir.specs.Lowerable.{IsStaged}
+use Rattle.lowered_tree.specs.Kind.{nest_kind}
 use Rattle.lowered_tree.specs.Kinds.{asks_of}
-use Rattle.printed_form.specs.Programs.{FitsBuffers, IsLaunchOf, IsLowerableProgram, lowered_root, StandsAt}
+use Rattle.lowered_tree.specs.declared.kind.NestKind.{NestKind}
+use Rattle.lowered_tree.specs.declared.kind.NestKind.TheVariants.{Task, OverLaunch, OverGroups}
+use Rattle.printed_form.specs.Programs.{FitsBuffers, IsLaunchOf, IsLowerableProgram, lowered_root}
+use Rattle.group_form.specs.Kernels.{Printer, OfItems, OfGroups, StandsFor, StandsForLaunch}
 
 -- it can be lowered at all admissible sizes, and all of it fits its buffers
 pub record CanBeLowered (d : Declared) (t : Tree) (n : Annotation) : Type 0 where
@@ -16,12 +20,21 @@ pub record CanBeLowered (d : Declared) (t : Tree) (n : Annotation) : Type 0 wher
   pub lowerable : (bases : List ℕ) → Admissible d.names bases → IsLowerableProgram d bases t n
   pub fits : (bases : List ℕ) → Admissible d.names bases → FitsBuffers d bases n
 
--- it can be lowered, and what it is lowered to can be printed, at every admissible
+-- it can be lowered, and what it is lowered to can be printed by this printer, at every admissible
 -- launch, whatever local size is fixed
-pub record IsPrintable (d : Declared) (t : Tree) (n : Annotation) : Type 0 where
-  pub staged : IsStaged Written t n
-  pub lowerable : (bases : List ℕ) → Admissible d.names bases → IsLowerableProgram d bases t n
-  pub fits : (bases : List ℕ) → Admissible d.names bases → FitsBuffers d bases n
-  pub stands : (local : Option ℕ) (bases : List ℕ) (l : Launch)
+pub record IsPrintable (p : Printer) (d : Declared) (t : Tree) (n : Annotation) : Type 0 where
+  pub can : CanBeLowered d t n
+  pub stands : StandsFor p (lowered_root d.names t n)
+  pub at_launch : (local : Option ℕ) (bases : List ℕ) (l : Launch)
       → IsLaunchOf d (asks_of local t) bases l
-      → StandsAt l (lowered_root d.names t n)
+      → StandsForLaunch p l (lowered_root d.names t n)
+
+-- the printer of a nest's kind
+abbrev pub printer_of : NestKind → Printer
+printer_of Task = OfItems
+printer_of OverLaunch = OfItems
+printer_of OverGroups = OfGroups
+
+-- and of a term
+abbrev pub printer_for : Tree → Printer
+printer_for t = printer_of (nest_kind t)

@@ -13,7 +13,7 @@ use Rattle.lift_ir.proofs.Values.{shape_is}
 use Rattle.lowered_tree.specs.Around.{at_root}
 use Rattle.lowered_tree.specs.Kinds.{asks_of}
 use Rattle.lowered_tree.specs.declared.lowered.Lowered.{Lowered}
-use Rattle.nest_premises.specs.Laws.{LegalTermsCanBeLowered}
+use Rattle.nest_premises.specs.Laws.{LegalNestsAreUnbroken, LegalTermsCanBeLowered}
 use Rattle.printed_form.specs.Programs.{cell_owner, IsLaunchOf}
 use Rattle.output_owner.specs.Bases.{bases_of}
 use Rattle.output_owner.specs.Outputs.{IsLegalFor, cell_count}
@@ -22,7 +22,7 @@ use Rattle.output_owner.specs.declared.walk.OnTop.{OnTop}
 use Rattle.output_owner.specs.Written.{IsNumber, IsScalarOf}
 use Rattle.output_owner.proofs.Bases.{bases_back}
 
-module _ (lowered : LegalTermsCanBeLowered) (d : Declared) (l : Lowered) (launch : Launch) (bases : List ℕ) (cell : ℕ) (is : IsLegalFor d l) (local : Option ℕ) (here : IsLaunchOf d (asks_of local (tree_of l.term)) bases launch) where
+module _ (lowered : LegalTermsCanBeLowered) (nests : LegalNestsAreUnbroken) (d : Declared) (l : Lowered) (launch : Launch) (bases : List ℕ) (cell : ℕ) (is : IsLegalFor d l) (local : Option ℕ) (here : IsLaunchOf d (asks_of local (tree_of l.term)) bases launch) where
   ok : Admissible l.names bases
   ok = subst (λ (ns : List Name). Admissible ns bases) is.names here.admissible.sizes
 
@@ -47,7 +47,7 @@ module _ (lowered : LegalTermsCanBeLowered) (d : Declared) (l : Lowered) (launch
       nodes = is.legal.nodes;
       around = at_root (tree_of l.term);
       written = refl;
-      legal = is.legal.legal;
+      unbroken = nests (tree_of l.term) (annotation_of l.types) is.legal.legal;
     };
     scalar = subst (λ (b : List ℕ). IsNumber b (annotation_of l.types) cell) (sym same_bases) (record { few = few; below = below });
   }

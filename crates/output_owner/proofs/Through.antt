@@ -31,6 +31,8 @@ use Rattle.lift_ir.specs.Terms.{Kind, Global, WorkGroup, Local, Sequential, Load
 use Rattle.lift_ir.specs.Terms as terms
 use Rattle.lift_ir.specs.Types as shapes
 use Rattle.lift_ir.specs.Types.{Ty, size, unflat}
+use Rattle.lift_ir.proofs.Elements.{told_ir}
+use Rattle.lift_ir.proofs.Lets.{written_let}
 use Rattle.lift_ir.proofs.Positions as positions
 use Rattle.lift_ir.proofs.AtLaunch.{join_reshapes, split_reshapes, stride_lengths, Strides}
 use Rattle.output_owner.specs.Bases.{bases_of}
@@ -38,9 +40,9 @@ use Rattle.output_owner.specs.declared.walk.OnTop.{OnTop}
 use Rattle.output_owner.specs.Owners.{HaveOneOwner, IsOfNone, IsOfTop, map_over, position, written}
 use Rattle.output_owner.specs.Numbers.{HasStep, IsOfComponent, IsStepOf, moved, operand_number, reversed, strided, transposed, turned}
 use Rattle.output_owner.specs.Written.{IsScalarOf, IsWritten}
-use Rattle.output_owner.proofs.Legal.{below_layout, below_let, below_map, no_pad, no_slide, one_test, operand_formed}
+use Rattle.output_owner.proofs.Legal.{below_layout, below_let, below_map, no_pad, no_slide, operand_formed}
 use Rattle.output_owner.proofs.Products.{second_below, second_some}
-use Rattle.output_owner.proofs.Rows.{Moves, Turns, in_rows, moves, stride_moves, turns}
+use Rattle.output_owner.proofs.Rows.{in_rows, moves, stride_moves, turns}
 
 -- ---- the positions of numbers through layouts
 
@@ -133,17 +135,15 @@ let_tested names v b a n m x y =
 
 pub of_let : (names : List Name) (bases : List ℕ) (v b : Tree) (a : PlainTy) (n m : Annotation) (q : List ℕ) → is_element a ≡ false → is_element (type_in n) ≡ false → HaveOneOwner bases (written names (Let v b) (Two a n m)) q (written names b m) q
 of_let names bases v b a n m q e f =
-    subst (λ (x : Bool). HaveOneOwner bases (let_tested names v b a n m x (ir.is_element (type_in n))) q (written names b m) q) (sym (one_test a ∙ e))
-    (subst (λ (y : Bool). HaveOneOwner bases (let_tested names v b a n m false y) q (written names b m) q) (sym (one_test (type_in n) ∙ f)) (record { item = λ l. refl; local = λ l. refl }))
+    subst (λ (t : Lowered). HaveOneOwner bases t q (written names b m) q) (sym (written_let names v b a n m (told_ir false a e) (told_ir false (type_in n) f))) (record { item = λ l. refl; local = λ l. refl })
 
 pub of_element : (names : List Name) (bases : List ℕ) (v b : Tree) (a : PlainTy) (n m : Annotation) (q : List ℕ) → is_element a ≡ true → HaveOneOwner bases (written names (Let v b) (Two a n m)) q (Literal 0) []
-of_element names bases v b a n m q e =
-    subst (λ (x : Bool). HaveOneOwner bases (let_tested names v b a n m x (ir.is_element (type_in n))) q (Literal 0) []) (sym (one_test a ∙ e)) (record { item = λ l. refl; local = λ l. refl })
+of_element names bases v b a n m q e = subst (λ (x : Bool). HaveOneOwner bases (let_tested names v b a n m x (ir.is_element (type_in n))) q (Literal 0) []) (sym (told_ir true a e)) (record { item = λ l. refl; local = λ l. refl })
 
 pub of_bound_element : (names : List Name) (bases : List ℕ) (v b : Tree) (a : PlainTy) (n m : Annotation) (q : List ℕ) → is_element a ≡ false → is_element (type_in n) ≡ true → HaveOneOwner bases (written names (Let v b) (Two a n m)) q (Literal 0) []
 of_bound_element names bases v b a n m q e f =
-    subst (λ (x : Bool). HaveOneOwner bases (let_tested names v b a n m x (ir.is_element (type_in n))) q (Literal 0) []) (sym (one_test a ∙ e))
-    (subst (λ (y : Bool). HaveOneOwner bases (let_tested names v b a n m false y) q (Literal 0) []) (sym (one_test (type_in n) ∙ f)) (record { item = λ l. refl; local = λ l. refl }))
+    subst (λ (x : Bool). HaveOneOwner bases (let_tested names v b a n m x (ir.is_element (type_in n))) q (Literal 0) []) (sym (told_ir false a e))
+    (subst (λ (y : Bool). HaveOneOwner bases (let_tested names v b a n m false y) q (Literal 0) []) (sym (told_ir true (type_in n) f)) (record { item = λ l. refl; local = λ l. refl }))
 
 -- ---- one step
 
@@ -369,9 +369,6 @@ module _ (names : List Name) (sizes : List ℕ) where
 
   -- the map on top
   module _ (h : MapKind) (xs b : Tree) (a : PlainTy) (n m : Annotation) (k : ℕ) (s : IsScalarOf names sizes (Map h xs b) (Two a n m) k) where
-    row_size : ℕ
-    row_size = size (ty_at bases (type_in m))
-
     whole_size : size (ty_at bases a) ≡ length_at bases (s.term.nodes.1) * size (ty_at bases (type_in m))
     whole_size = ap (λ z. size (ty_at bases z)) s.term.nodes.5
 

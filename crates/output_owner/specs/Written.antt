@@ -10,7 +10,7 @@ use Rattle.lift_tree.specs.Typing.{Declared, IsDeclared}
 use Rattle.lift_ir.specs.AtLaunch.{ty_at}
 use Rattle.lift_ir.specs.Types.{size}
 use Rattle.lowered_tree.specs.declared.around.Around.{Around}
-use Rattle.lowered_tree.specs.Nest.{IsUnbroken, sites}
+use Rattle.nest_premises.specs.Unbroken.{AllUnbroken}
 use Rattle.output_owner.specs.Bases.{bases_of}
 
 -- a typed term under binders, written where this is around it, with a rule broken at no node
@@ -23,7 +23,7 @@ pub record IsWritten (names : List Name) (t : Tree) (n : Annotation) : Type 0 wh
   pub nodes : Annotates declared binders t n
   pub around : Around
   pub written : around.is_written ≡ true
-  pub legal : Every IsUnbroken (sites around t n)
+  pub unbroken : AllUnbroken around t n
 
 -- the number of a scalar of a component, in row-major order, where the base names have these
 -- values; there are less than 2^31

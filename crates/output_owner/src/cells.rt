@@ -19,7 +19,7 @@ use crate::walk::{OnTop, on_top};
 use kernel_tree::launches::Launch;
 use lift_tree::term::MapKind;
 use lowered_tree::lowered::Lowered;
-use nest_premises::laws::legal_terms_can_be_lowered;
+use nest_premises::laws::{legal_nests_are_unbroken, legal_terms_can_be_lowered};
 use size_arith::Name;
 
 // Which of a group's items writes a scalar of the group's turn.
@@ -89,6 +89,7 @@ pub fn owner(lowered: &Lowered, launch: &Launch, cell: u64) -> u32
         (annotation_of lowered.now.types) array cell }
 {
     legal_terms_can_be_lowered();
+    legal_nests_are_unbroken();
     let names = lowered.names.as_slice();
     match on_top(&lowered.term, &lowered.types, cell, names, &launch.sizes) {
         Some(top) => item(&top, launch, names),

@@ -1,6 +1,5 @@
 -- What a legal map over work-groups is lowered to stands over groups.
 use Rattle.std.proofs.Common.{◌≡◌, subst, sym}
-use Rattle.size_arith.specs.Ranges.{leasts}
 use Rattle.lift_tree.specs.Annotations.{Annotation}
 use Rattle.lift_tree.specs.Tree.{Tree}
 use Rattle.lift_tree.specs.Typing.{Declared}
@@ -11,12 +10,11 @@ use Rattle.lowered_tree.specs.Whole.{IsSoundTerm}
 use Rattle.lowered_tree.specs.declared.kind.NestKind.TheVariants.{OverGroups}
 use Rattle.nest_premises.specs.Groups.{LegalGroupsStandOverGroups}
 use Rattle.nest_premises.specs.Legal.{IsLegalTerm}
-use Rattle.kernel_premises.specs.Soundness.{LeastSizesAreAdmissible}
 use Rattle.printed_form.specs.Programs.{lowered_root}
 use Rattle.group_form.specs.Forms.{StandsOverGroups}
 
-pub stands : LegalGroupsStandOverGroups → LeastSizesAreAdmissible → (d : Declared) (t : Tree) (n : Annotation) (root : Lowered) → IsSoundTerm d t n → IsLegalNest t n → nest_kind t ≡ OverGroups → root ≡ lowered_root d.names t n → StandsOverGroups root
-stands stand least d t n root is nest kind lowered =
+pub stands : LegalGroupsStandOverGroups → (d : Declared) (t : Tree) (n : Annotation) (root : Lowered) → IsSoundTerm d t n → IsLegalNest t n → nest_kind t ≡ OverGroups → root ≡ lowered_root d.names t n → StandsOverGroups root
+stands law d t n root is nest kind lowered =
     let legal : IsLegalTerm d t n = record {
       declared = is.declared;
       nodes = is.nodes;
@@ -25,5 +23,4 @@ stands stand least d t n root is nest kind lowered =
       words = is.words;
       legal = nest;
     } in
-    let all = (stand d t n legal is.copies kind).program (leasts d.names) (least d.names is.declared.names) in
-    subst StandsOverGroups (sym lowered) all.stands
+    subst StandsOverGroups (sym lowered) (law d t n legal is.copies kind).stands

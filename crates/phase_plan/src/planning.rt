@@ -16,7 +16,6 @@ use crate::phases::Phases;
 use crate::planned::Plan;
 use buffer_allocation::buffers::Buffers;
 use group_form::chosen::is_over_one;
-use kernel_premises::soundness::least_sizes_are_admissible;
 use lowered_tree::kind::{NestKind, nest_kind};
 use lowered_tree::laws::legal_without_fault;
 use lowered_tree::lowered::Spaced;
@@ -59,7 +58,6 @@ fn kind_of(alloc: Global, spaced: &Spaced, root: &Term) -> Result<Kind, AllocErr
         (IsKindOf spaced.now.mapped.lowered.names spaced.now.mapped.local
         (tree_of spaced.now.mapped.lowered.term) (term_of root.now)) }
 {
-    least_sizes_are_admissible();
     legal_groups_stand_over_groups();
     legal_without_fault();
     let mapped = &spaced.mapped;

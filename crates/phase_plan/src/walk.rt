@@ -5,6 +5,7 @@ ghost use Rattle.lift_tree.specs.Types.{ty_of};
 ghost use Rattle.lift_ir.specs.AtLaunch.{ty_at};
 ghost use Rattle.lift_ir.specs.Types.{width};
 ghost use Rattle.lowering.specs.Terms.{load_set_of, term_of};
+ghost use Rattle.printed_form.specs.Counts.{local_count};
 ghost use Rattle.group_form.specs.Forms.{StandsInGroup, StandsOverGroups};
 ghost use Rattle.group_form.specs.Origins as origins;
 ghost use Rattle.group_form.specs.Uses as uses;
@@ -143,7 +144,7 @@ impl Walk {
             ≡ origins.origin_of (origins_in scope.now) self.old.arrays (term_of term.now)) }
         ensures goes_on { OnOk result (GoesOn self.old self.new
             (uses.argument_uses (origins_in scope.now) self.old.arrays (term_of term.now))
-            (origins.local_count (term_of term.now))) }
+            (local_count (term_of term.now))) }
         ensures phases { OnOk result
             (self.new.phases ≡ self.old.phases + uses.phases_in (term_of term.now)) }
     {
@@ -191,12 +192,12 @@ impl Walk {
     ) -> Result<Origin, AllocError>
         requires { StandsInGroup true (term_of term.now) }
         ensures origin { IfOk result (λ o. origin_in o
-            ≡ origin_from (self.old.arrays + origins.local_count (term_of term.now)) to.entry) }
+            ≡ origin_from (self.old.arrays + local_count (term_of term.now)) to.entry) }
         ensures goes_on { OnOk result (GoesOn self.old self.new
             (uses.written_uses (origins_in scope.now) self.old.arrays (term_of term.now)
-            (destination_from (self.old.arrays + origins.local_count (term_of term.now)) to.entry)
+            (destination_from (self.old.arrays + local_count (term_of term.now)) to.entry)
             direct)
-            (origins.local_count (term_of term.now) + width_of to.entry)) }
+            (local_count (term_of term.now) + width_of to.entry)) }
         ensures phases { OnOk result
             (self.new.phases ≡ self.old.phases + uses.phases_in (term_of term.now)) }
     {

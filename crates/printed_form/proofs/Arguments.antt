@@ -1,40 +1,23 @@
 -- What stands for an argument, whichever arrays its copies lie in.
-use Rattle.std.proofs.Common.{◌≡◌, ℕ, ◌+◌, ◌<◌, ◌^◌, Bool, true, false, List, [], ◌∷◌, Some, refl, sym, ap, ◌∙◌, subst}
+use Rattle.std.proofs.Common.{◌≡◌, ℕ, ◌+◌, ◌<◌, ◌^◌, Bool, true, false, List, [], ◌∷◌, Some, refl, sym, subst}
 use Rattle.std.specs.Prelude.{if◌then◌else◌}
 use Rattle.kernel_tree.specs.Formula.{Formula}
 use Rattle.kernel_tree.specs.Launch.{Launch}
-use Rattle.lift_ir.specs.Types.{Ty, PairOf, ArrayOf, IsPosition}
+use Rattle.lift_ir.specs.Types.{Ty, PairOf, ArrayOf, IsPosition, width}
+use Rattle.lift_ir.specs.Layouts.{Layout}
 use Rattle.lift_ir.specs.Forms.{Stands}
-use Rattle.lift_ir.specs.Scalars.{by_side}
 use Rattle.lift_ir.specs.Loads.{held_scalars, LoadsSuffice}
-use Rattle.lift_ir.specs.Terms.{LocalMemory, PrivateMemory, Term, Bound, Source, Both, Project, Reshape, LetArray, Copy, push, HasType}
-use Rattle.printed_form.specs.Arguments.{CopyArrays, private_arrays, marks_in}
+use Rattle.lift_ir.specs.Terms.{Space, LocalMemory, PrivateMemory, Term, Bound, Source, Both, Project, Reshape, LetArray, Copy, push, HasType}
+use Rattle.printed_form.specs.Arguments.{CopyArrays, is_private_space, private_arrays, arrays_of, marks_in, argument_view}
 use Rattle.printed_form.specs.Counts.{private_count}
 use Rattle.printed_form.specs.Expressions.{held}
 use Rattle.printed_form.specs.Marks.{Nowhere, Marks, laid_in}
 use Rattle.printed_form.specs.Means.{IsSpelled, Shows, AllShow}
-use Rattle.printed_form.specs.Printer.{argument_view}
-use Rattle.printed_form.specs.Views.{Blank, View, operand_indices, laid_view}
+use Rattle.printed_form.specs.Views.{Blank, View, laid_view}
 use Rattle.printed_form.proofs.Indices.{laid_cells}
 use Rattle.printed_form.proofs.Shown.{cells_show, all_push, HeldIn, held_push, moved_shows, zip_cells}
 
 module _ {A : Type 0} (arrays : CopyArrays A) where
-  -- what stands for an argument by index expressions, whichever arrays its copies lie in
-  abbrev pub view_in : (A → Formula) → (ins : ℕ → View) → (ℕ → View) → ℕ → Term A → View
-  view_in spell ins env a (Bound v) = env v
-  view_in spell ins env a (Source s) = ins s
-  view_in spell ins env a (Both zips x y) =
-      by_side (λ is. Blank) (view_in spell ins env a x)
-      (view_in spell ins env (a + arrays.count x) y)
-  view_in spell ins env a (Project s x) = λ cs is. view_in spell ins env a x (s ∷ cs) is
-  view_in spell ins env a (Reshape y x) =
-      λ cs is. view_in spell ins env a x cs (operand_indices spell y is)
-  view_in spell ins env a (LetArray v b) =
-      view_in spell ins (push (view_in spell ins env a v) env) (a + arrays.count v) b
-  view_in spell ins env a (Copy space ty x) =
-      if arrays.holds space then laid_view arrays.array (a + arrays.count x) ty else λ cs is. Blank
-  view_in spell ins env a _ = λ cs is. Blank
-
   -- an argument whose copies lie in these arrays
   abbrev pub IsArgument : Term A → Type 0
   IsArgument (Bound v) = Unit {0}
@@ -63,21 +46,21 @@ module _ {A : Type 0} (arrays : CopyArrays A) where
 
   -- it shows the cells of its copies and whatever else stands for it
   module _ (l : Launch) (item : ℕ) (num : A → ℕ) (spell : A → Formula) (spelled : (n : A) → num n < 2 ^ 31 → IsSpelled l (spell n) (num n)) (src : ℕ → Ty) (ins : ℕ → Marks) (sins : ℕ → View) (ts : List ℕ) (gs : AllShow l item ts src sins ins) where
-    pub argument_shows : (t : Term A) (g : ℕ → Ty) (views : ℕ → View) (env : ℕ → Marks) (h : ℕ → List Bool → Bool) (a : ℕ) (ty : Ty) → IsArgument t → HasType num src g t ty → LoadsSuffice h t → AllShow l item ts g views env → Shows l item ts ty (view_in spell sins views a t) (marks_in arrays num ins env a t)
+    pub argument_shows : (t : Term A) (g : ℕ → Ty) (views : ℕ → View) (env : ℕ → Marks) (h : ℕ → List Bool → Bool) (a : ℕ) (ty : Ty) → IsArgument t → HasType num src g t ty → LoadsSuffice h t → AllShow l item ts g views env → Shows l item ts ty (argument_view arrays spell sins views a t) (marks_in arrays num ins env a t)
     argument_shows (Bound v) g views env h a ty f ok nm es = subst (λ z. Shows l item ts z (views v) (env v)) (sym ok) (es v)
     argument_shows (Source v) g views env h a ty f ok nm es = subst (λ z. Shows l item ts z (sins v) (ins v)) (sym ok) (gs v)
     argument_shows (Both false x y) g views env h a ty f ok nm es =
-        subst (λ z. Shows l item ts z (view_in spell sins views a (Both false x y)) (marks_in arrays num ins env a (Both false x y))) (sym ok.2)
+        subst (λ z. Shows l item ts z (argument_view arrays spell sins views a (Both false x y)) (marks_in arrays num ins env a (Both false x y))) (sym ok.2)
         (argument_shows x g views env h a ok.0 f.0 ok.5 nm.0 es, argument_shows y g views env h (a + arrays.count x) ok.1 f.1 ok.6 nm.1 es)
     argument_shows (Both true x y) g views env h a ty f ok nm es =
-        subst (λ z. Shows l item ts z (view_in spell sins views a (Both true x y)) (marks_in arrays num ins env a (Both true x y))) (sym ok.3)
+        subst (λ z. Shows l item ts z (argument_view arrays spell sins views a (Both true x y)) (marks_in arrays num ins env a (Both true x y))) (sym ok.3)
         (zip_cells l item num spell spelled ts ok.0 ok.1 ok.2 _ _ _ _ (argument_shows x g views env h a (ArrayOf ok.0 ok.1) f.0 ok.4 nm.0 es) (argument_shows y g views env h (a + arrays.count x) (ArrayOf ok.0 ok.2) f.1 ok.5 nm.1 es))
     argument_shows (Project false x) g views env h a ty f ok nm es = (argument_shows x g views env h a (PairOf ty ok.0) f ok.1 nm es).0
     argument_shows (Project true x) g views env h a ty f ok nm es = (argument_shows x g views env h a (PairOf ok.0 ty) f ok.1 nm es).1
     argument_shows (Reshape y x) g views env h a ty f ok nm es =
-        moved_shows l item num spell spelled ts y ok.0 ty (view_in spell sins views a x) (marks_in arrays num ins env a x) ok.5 ok.2 ok.3 ok.4 (argument_shows x g views env h a ok.0 f ok.1 nm es)
+        moved_shows l item num spell spelled ts y ok.0 ty (argument_view arrays spell sins views a x) (marks_in arrays num ins env a x) ok.5 ok.2 ok.3 ok.4 (argument_shows x g views env h a ok.0 f ok.1 nm es)
     argument_shows (LetArray v b) g views env h a ty f ok nm es =
-        let x = view_in spell sins views a v in
+        let x = argument_view arrays spell sins views a v in
         let y = marks_in arrays num ins env a v in
         argument_shows b (push ok.0 g) (push x views) (push y env) (push (held_scalars h v) h) (a + arrays.count v) ty f.1 ok.2 nm.1 (all_push l item ts ok.0 x y g views env (argument_shows v g views env h a ok.0 f.0 ok.1 nm.0 es) es)
     argument_shows (Copy space u x) g views env h a ty f ok nm es =
@@ -86,6 +69,35 @@ module _ {A : Type 0} (arrays : CopyArrays A) where
         subst (λ b. Shows l item ts ty (if b then laid_view arrays.array first u else λ cs is. Blank) (if b then laid_in arrays.array first u else λ cs q. Nowhere)) (sym f)
         (subst (λ z. Shows l item ts z (laid_view arrays.array first u) (laid_in arrays.array first u)) (sym ok.0) (cells_show l item ts u _ _ c))
     argument_shows _ g views env h a ty f ok nm es = absurd f
+
+-- arrays whose copies are counted part by part
+pub record CountsParts {A : Type 0} (arrays : CopyArrays A) : Type 0 where
+  pub both : (zips : Bool) (x y : Term A) → arrays.count (Both zips x y) ≡ arrays.count x + arrays.count y
+  pub part : (s : Bool) (x : Term A) → arrays.count (Project s x) ≡ arrays.count x
+  pub layout : (y : Layout A) (x : Term A) → arrays.count (Reshape y x) ≡ arrays.count x
+  pub bound : (v b : Term A) → arrays.count (LetArray v b) ≡ arrays.count v + arrays.count b
+  pub copy : (space : Space) (ty : Ty) (x : Term A) → arrays.holds space ≡ true → arrays.count (Copy space ty x) ≡ arrays.count x + width ty
+
+private_copy : {A : Type 0} (space : Space) (ty : Ty) (x : Term A) → is_private_space space ≡ true → private_count (Copy space ty x) ≡ private_count x + width ty
+private_copy LocalMemory ty x h = absurd (cc)
+private_copy PrivateMemory ty x h = refl
+
+-- those of a space
+pub counts_parts : {A : Type 0} (s : Space) → CountsParts (arrays_of {A = A} s)
+counts_parts LocalMemory = record {
+  both = λ zips x y. refl;
+  part = λ s x. refl;
+  layout = λ y x. refl;
+  bound = λ v b. refl;
+  copy = λ space ty x h. refl;
+}
+counts_parts PrivateMemory = record {
+  both = λ zips x y. refl;
+  part = λ s x. refl;
+  layout = λ y x. refl;
+  bound = λ v b. refl;
+  copy = private_copy;
+}
 
 -- for one work-item
 pub stands_argument : {A : Type 0} (t : Term A) → Stands false t → IsArgument private_arrays t
@@ -97,16 +109,3 @@ stands_argument (Reshape y x) sd = stands_argument x sd
 stands_argument (LetArray v b) sd = (stands_argument v sd.0, stands_argument b sd.1)
 stands_argument (Copy PrivateMemory ty x) sd = refl
 stands_argument _ sd = absurd sd
-
-pub argument_view_is : {A : Type 0} (spell : A → Formula) (ins : ℕ → View) (env : ℕ → View) (a : ℕ) (t : Term A) → argument_view spell ins env a t ≡ view_in private_arrays spell ins env a t
-argument_view_is spell ins env a (Both zips x y) =
-    ap (λ (v : View). by_side (λ is. Blank) v (argument_view spell ins env (a + private_count x) y)) (argument_view_is spell ins env a x)
-    ∙ ap (λ (v : View). by_side (λ is. Blank) (view_in private_arrays spell ins env a x) v) (argument_view_is spell ins env (a + private_count x) y)
-argument_view_is spell ins env a (Project s x) = ap (λ (v : View). λ cs is. v (s ∷ cs) is) (argument_view_is spell ins env a x)
-argument_view_is spell ins env a (Reshape y x) = ap (λ (v : View). λ cs is. v cs (operand_indices spell y is)) (argument_view_is spell ins env a x)
-argument_view_is spell ins env a (LetArray v b) =
-    argument_view_is spell ins (push (argument_view spell ins env a v) env) (a + private_count v) b
-    ∙ ap (λ (x : View). view_in private_arrays spell ins (push x env) (a + private_count v) b) (argument_view_is spell ins env a v)
-argument_view_is spell ins env a (Copy LocalMemory ty x) = refl
-argument_view_is spell ins env a (Copy PrivateMemory ty x) = refl
-argument_view_is spell ins env a _ = refl

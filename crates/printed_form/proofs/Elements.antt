@@ -1,6 +1,6 @@
 -- Element terms, loads and stores of one item.
 use Rattle.std.proofs.Common.{◌≡◌, ℕ, zero, suc, ◌+◌, ◌<◌, ◌≤◌, Bool, true, false, List, [], ◌∷◌, length, Option, Some, None, refl, sym, ap, ◌∙◌, subst, arith}
-use Rattle.std.specs.Prelude.{if◌then◌else◌, nat_lt, nat_eq, ◌==◌, ◌&&◌}
+use Rattle.std.specs.Prelude.{if◌then◌else◌, nat_lt, nat_eq}
 use Rattle.std.proofs.lemmas.List.{get_or-set_same}
 use Rattle.std.proofs.lemmas.Bool.{ne_eqb}
 use Rattle.scalar_ops.specs.declared.op.Op.{Op}
@@ -20,6 +20,7 @@ use Rattle.printed_form.specs.Counts.{let_variables}
 use Rattle.printed_form.specs.Expressions.{held, of_one, of_both, of_three, operation, selection, exprs}
 use Rattle.printed_form.specs.Form.{IsAssigned, IsElementWork}
 use Rattle.printed_form.specs.Runs.{Setting, Known, Kept, Later, HoldsAt, Holds, AllHold, Values, nothing, no_target, known_after, Ran}
+use Rattle.printed_form.proofs.Indices.{operate_by}
 use Rattle.printed_form.proofs.Runs.{kept, kept_set, later_on, holds_later, all_hold_later, values_later, silent, ran_on, after_silence, ran_at_once, ran_so}
 
 -- what is known, with these variables
@@ -115,13 +116,6 @@ module _ (st : Setting) where
     value_operation op.Shr x y vars u v h p q = value_binary op.Shr x y vars u v h p q
     value_operation op.Div x y vars u v h p q = value_binary op.Div x y vars u v h p q
     value_operation op.Rem x y vars u v h p q = value_binary op.Rem x y vars u v h p q
-
-    operate_by : (o : Op) (u n : ℕ) → 0 < n → operate o u n ≡ Some (apply_op o u n)
-    operate_by o u n h = let e : (n == 0) ≡ false = ne_eqb n 0 (λ q. absurd (omega arith)) in rw e (go (divides o))
-      where
-        go : (b : Bool) → (if b && false then None else Some (apply_op o u n)) ≡ Some (apply_op o u n)
-        go true = refl
-        go false = refl
 
     value_scale : (o : Op) (x : Formula) (n : ℕ) (vars : Vars) (u : ℕ) → 0 < n → Val vars x ≡ Some u → Val vars (Binary o x (Number n)) ≡ Some (apply_op o u n)
     value_scale o x n vars u h p = rw p (operate_by o u n h)

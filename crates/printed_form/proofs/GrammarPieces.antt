@@ -20,7 +20,7 @@ use Rattle.printed_form.specs.GrammarPieces.{ViewsStayWithin, MapsAreOfTheGramma
 use Rattle.printed_form.proofs.GrammarExpressions.{first_of, second_of}
 use Rattle.printed_form.proofs.GrammarViews.{view_more, target_within, blank_good, sides_good, part_good, at_turn_good, at_turn_target, loaded_good, reshaped_good, reshaped_target, placed_good, placed_target, some_width, laid_reads, laid_fills}
 use Rattle.printed_form.proofs.GrammarCodes.{loads_fine, loads_does, loop_fine, guard_fine}
-use Rattle.printed_form.proofs.GrammarTerms.{viewed_good, written_kept, written_does, written_fine}
+use Rattle.printed_form.proofs.GrammarTerms.{argument_good, written_kept, written_does, written_fine}
 
 -- ---- lengths of arrays
 lengths_append : (xs ys : List ℕ) → are_lengths xs ≡ true → are_lengths ys ≡ true → are_lengths (xs ++ ys) ≡ true
@@ -115,7 +115,7 @@ module _ (k : Kernel) (spell : List Monomial → Formula) (S M : ℕ) (d : Decla
 
   terms_are : TermsAreOfTheGrammar k spell S M d
   terms_are = record {
-    arguments = λ l a g env t all s le. viewed_good k S room.some small 0 spell ins Q inputs M room.fits l g env a t all le s;
+    arguments = λ space l a g env t all s le. argument_good k S room.some small 0 spell ins Q inputs M room.fits space l g env a t all le s;
     output = λ ty outs s few.
         target_within k S room.some 0 0 (2 * dimensions ty) (8 + 3 * 0) (placed_view spell Output 0 ty) (omega arith) (omega arith)
         (placed_target k S room.some spell Output 0 ty 0 (λ c lt. lt-ltb (0 + c) k.outputs (omega arith)) s);

@@ -1,18 +1,21 @@
 -- The printer's code of a whole term is of the kernel grammar.
-use Rattle.std.proofs.Common.{◌≡◌, ℕ, suc, ◌+◌, ◌*◌, ◌<◌, ◌≤◌, ◌^◌, true, [], length, refl, arith}
-use Rattle.std.specs.Prelude.{max}
+use Rattle.std.proofs.Common.{◌≡◌, ℕ, suc, ◌+◌, ◌*◌, ◌<◌, ◌≤◌, ◌^◌, Bool, true, false, [], length, refl, arith}
+use Rattle.std.specs.Prelude.{max, if◌then◌else◌}
 use Rattle.std.proofs.lemmas.Bool.{lt-ltb}
 use Rattle.kernel_tree.specs.Formula.{Formula, Number, LoopVariable}
 use Rattle.kernel_tree.specs.Code.{Private, Code, End, Loops, Kernel}
 use Rattle.kernel_tree.specs.Grammar.{is_readable}
 use Rattle.lift_ir.specs.Types.{Ty, width}
-use Rattle.lift_ir.specs.Terms.{Sequential, LocalMemory, PrivateMemory, Term, Literal, Bound, Source, Apply, ApplyNumber, Select, Both, Project, Reshape, LetArray, LetElement, Map, Fold, Store, Copy, push}
+use Rattle.lift_ir.specs.Terms.{Sequential, Space, LocalMemory, PrivateMemory, Term, Literal, Bound, Source, Apply, ApplyNumber, Select, Both, Project, Reshape, LetArray, LetElement, Map, Fold, Store, Copy, push}
+use Rattle.printed_form.specs.Arguments.{CopyArrays, private_arrays, arrays_of, argument_view}
 use Rattle.printed_form.specs.Counts.{let_variables, load_count, variable_count, private_count}
 use Rattle.printed_form.specs.Form.{start_of, stride_of}
-use Rattle.printed_form.specs.Views.{View, held_sign, held_view, loaded_view, view_at, operand_indices, result_indices, laid_view}
-use Rattle.printed_form.specs.Printer.{sign_exprs, print_assigned, print_element, print_stored, print_loaded, print_fold_turn, argument_view, print_argument, print_written}
+use Rattle.printed_form.specs.Views.{View, Blank, held_sign, held_view, loaded_view, view_at, operand_indices, result_indices, laid_view}
+use Rattle.printed_form.specs.Printer.{sign_exprs, print_assigned, print_element, print_stored, print_loaded, print_fold_turn, print_argument, print_written}
 use Rattle.printed_form.specs.Sound.{IsSpelledIn, AllLengths, IsSound, dimensions, stacked, IsReadWithin, IsWrittenWithin, loop_depth, AreLow, CanBeWritten, CanBeRead}
 use Rattle.printed_form.specs.GrammarViews.{IsGoodView, IsTarget, AllReadWithin}
+use Rattle.printed_form.specs.GrammarPieces.{arrays_in}
+use Rattle.printed_form.proofs.Arguments.{CountsParts, counts_parts}
 use Rattle.printed_form.proofs.GrammarViews.{view_more, target_within, blank_good, sides_good, part_good, turned_good, turned_target, first_target, loaded_good, reshaped_good, reshaped_target, laid_reads, laid_fills}
 use Rattle.printed_form.proofs.GrammarCodes.{Fine, Does, views_deeper, pushed, held_pushed, assigned_fine, assigned_kept, held_all, stored_fine, stored_does, stored_kept, loads_fine, loads_does, all_exprs, element_fine, element_kept, loop_fine, turn_fine, turn_does}
 
@@ -24,44 +27,54 @@ module _ (k : Kernel) (S : ℕ) (one : 1 ≤ S) (small : S ≤ 1024) (ifs : ℕ)
   Views l g env = AllReadWithin k S l g env
 
   abbrev viewed : (ℕ → View) → ℕ → Term A → View
-  viewed env a t = argument_view spell ins env a t
-
-  is_private : (p : ℕ) → p < length k.privates → is_readable k (Private p) ≡ true
-  is_private p lt = lt-ltb p (length k.privates) lt
-
-  laid_good : (p : ℕ) (ty : Ty) (l : ℕ) → p + width ty ≤ length k.privates → AllLengths (λ n. n < 2 ^ 32) ty → dimensions ty ≤ 4 → IsGoodView k S k.variables l (8 + 3 * 0) (laid_view Private p ty)
-  laid_good p ty l le h d = laid_reads k S one Private p ty l (λ c lt. is_private (p + c) (omega arith)) h d
+  viewed env a t = argument_view private_arrays spell ins env a t
 
   laid_target : (p : ℕ) (ty : Ty) (l : ℕ) → p + width ty ≤ length k.privates → AllLengths (λ n. n < 2 ^ 32) ty → dimensions ty ≤ 4 → IsTarget k S l (8 + 3 * 0) (laid_view Private p ty)
-  laid_target p ty l le h d = laid_fills k S one Private p ty l (λ c lt. is_private (p + c) (omega arith)) h d
+  laid_target p ty l le h d = laid_fills k S one Private p ty l (λ c lt. lt-ltb (p + c) (length k.privates) (omega arith)) h d
 
   higher : (l H I : ℕ) (v : View) → H ≤ I → IsGoodView k S k.variables l H v → IsGoodView k S k.variables l I v
   higher l H I v le g = view_more k S one k.variables k.variables l l H I v (omega arith) (omega arith) le g
 
-  -- what stands for an argument
-  pub viewed_good : (l : ℕ) (g : ℕ → ℕ) (env : ℕ → View) (a : ℕ) (t : Term A) → Views l g env → a + private_count t ≤ length k.privates → IsSound Sp Q t → IsGoodView k S k.variables l (8 + 3 * stacked g t) (viewed env a t)
-  viewed_good l g env a (Literal c) all le s = blank_good k S one k.variables l (8 + 3 * 0)
-  viewed_good l g env a (Bound v) all le s = all v
-  viewed_good l g env a (Source v) all le s = view_more k S one k.variables k.variables 0 l 8 (8 + 3 * 0) (ins v) (omega arith) (omega arith) (omega arith) (inputs v s)
-  viewed_good l g env a (Apply o x y) all le s = blank_good k S one k.variables l (8 + 3 * 0)
-  viewed_good l g env a (ApplyNumber o m x) all le s = blank_good k S one k.variables l (8 + 3 * 0)
-  viewed_good l g env a (Select c x y) all le s = blank_good k S one k.variables l (8 + 3 * 0)
-  viewed_good l g env a (Both zips x y) all le s =
-      sides_good k S one k.variables l (8 + 3 * max (stacked g x) (stacked g y)) (viewed env a x) (viewed env (a + private_count x) y)
-      (higher l (8 + 3 * stacked g x) (8 + 3 * max (stacked g x) (stacked g y)) (viewed env a x) (omega arith) (viewed_good l g env a x all (omega arith) s.0))
-      (higher l (8 + 3 * stacked g y) (8 + 3 * max (stacked g x) (stacked g y)) (viewed env (a + private_count x) y) (omega arith) (viewed_good l g env (a + private_count x) y all (omega arith) s.1))
-  viewed_good l g env a (Project d x) all le s = part_good k S one k.variables l (8 + 3 * stacked g x) (viewed env a x) d (viewed_good l g env a x all le s)
-  viewed_good l g env a (Reshape y x) all le s =
-      higher l (8 + 3 * stacked g x + 3) (8 + 3 * suc (stacked g x)) (λ cs is. viewed env a x cs (operand_indices spell y is)) (omega arith)
-      (reshaped_good k S one spell y k.variables l (8 + 3 * stacked g x) (viewed env a x) s.0 (viewed_good l g env a x all le s.1))
-  viewed_good l g env a (LetArray v b) all le s =
-      viewed_good l (push (stacked g v) g) (push (viewed env a v) env) (a + private_count v) b (pushed k S one small ifs l g env (stacked g v) (viewed env a v) (viewed_good l g env a v all (omega arith) s.0) all) (omega arith) s.1
-  viewed_good l g env a (LetElement ty v b) all le s = blank_good k S one k.variables l (8 + 3 * 0)
-  viewed_good l g env a (Map kind m ls x b) all le s = blank_good k S one k.variables l (8 + 3 * 0)
-  viewed_good l g env a (Fold m ls ty x s1 b) all le s = blank_good k S one k.variables l (8 + 3 * 0)
-  viewed_good l g env a (Store ty x) all le s = blank_good k S one k.variables l (8 + 3 * 0)
-  viewed_good l g env a (Copy LocalMemory ty x) all le s = blank_good k S one k.variables l (8 + 3 * 0)
-  viewed_good l g env a (Copy PrivateMemory ty x) all le s = laid_good (a + private_count x) ty l (omega arith) s.0 s.1
+  -- where copies lie in these arrays, of which the kernel has so many
+  module _ (arrays : CopyArrays A) (counts : CountsParts arrays) (long : ℕ) (readable : (p : ℕ) → p < long → is_readable k (arrays.array p) ≡ true) where
+    laid_good : (held : Bool) (p : ℕ) (ty : Ty) (l : ℕ) → (held ≡ true → p + width ty ≤ long) → AllLengths (λ n. n < 2 ^ 32) ty → dimensions ty ≤ 4 → IsGoodView k S k.variables l (8 + 3 * 0) (if held then laid_view arrays.array p ty else λ cs is. Blank)
+    laid_good true p ty l le h d = let fits = le refl in laid_reads k S one arrays.array p ty l (λ c lt. readable (p + c) (omega arith)) h d
+    laid_good false p ty l le h d = blank_good k S one k.variables l (8 + 3 * 0)
+
+    -- what stands for an argument
+    shown_good : (l : ℕ) (g : ℕ → ℕ) (env : ℕ → View) (a : ℕ) (t : Term A) → Views l g env → a + arrays.count t ≤ long → IsSound Sp Q t → IsGoodView k S k.variables l (8 + 3 * stacked g t) (argument_view arrays spell ins env a t)
+    shown_good l g env a (Bound v) all le s = all v
+    shown_good l g env a (Source v) all le s = view_more k S one k.variables k.variables 0 l 8 (8 + 3 * 0) (ins v) (omega arith) (omega arith) (omega arith) (inputs v s)
+    shown_good l g env a (Both zips x y) all le s =
+        let sum = counts.both zips x y in
+        let e = argument_view arrays spell ins env a x in
+        let f = argument_view arrays spell ins env (a + arrays.count x) y in
+        sides_good k S one k.variables l (8 + 3 * max (stacked g x) (stacked g y)) e f
+        (higher l (8 + 3 * stacked g x) (8 + 3 * max (stacked g x) (stacked g y)) e (omega arith) (shown_good l g env a x all (omega arith) s.0))
+        (higher l (8 + 3 * stacked g y) (8 + 3 * max (stacked g x) (stacked g y)) f (omega arith) (shown_good l g env (a + arrays.count x) y all (omega arith) s.1))
+    shown_good l g env a (Project d x) all le s = let same = counts.part d x in part_good k S one k.variables l (8 + 3 * stacked g x) (argument_view arrays spell ins env a x) d (shown_good l g env a x all (omega arith) s)
+    shown_good l g env a (Reshape y x) all le s =
+        let same = counts.layout y x in
+        higher l (8 + 3 * stacked g x + 3) (8 + 3 * suc (stacked g x)) (λ cs is. argument_view arrays spell ins env a x cs (operand_indices spell y is)) (omega arith)
+        (reshaped_good k S one spell y k.variables l (8 + 3 * stacked g x) (argument_view arrays spell ins env a x) s.0 (shown_good l g env a x all (omega arith) s.1))
+    shown_good l g env a (LetArray v b) all le s =
+        let sum = counts.bound v b in
+        let e = argument_view arrays spell ins env a v in
+        shown_good l (push (stacked g v) g) (push e env) (a + arrays.count v) b (pushed k S one small ifs l g env (stacked g v) e (shown_good l g env a v all (omega arith) s.0) all) (omega arith) s.1
+    shown_good l g env a (Copy space ty x) all le s = laid_good (arrays.holds space) (a + arrays.count x) ty l (λ held. let sum = counts.copy space ty x held in omega arith) s.0 s.1
+    shown_good l g env a _ all le s = blank_good k S one k.variables l (8 + 3 * 0)
+
+  readable_in : (s : Space) (p : ℕ) → p < length (arrays_in k s) → is_readable k ((arrays_of {A = A} s).array p) ≡ true
+  readable_in LocalMemory p lt = lt-ltb p (length k.locals) lt
+  readable_in PrivateMemory p lt = lt-ltb p (length k.privates) lt
+
+  -- where they lie in the kernel's arrays of a space
+  pub argument_good : (s : Space) (l : ℕ) (g : ℕ → ℕ) (env : ℕ → View) (a : ℕ) (t : Term A) → Views l g env → a + (arrays_of s).count t ≤ length (arrays_in k s) → IsSound Sp Q t → IsGoodView k S k.variables l (8 + 3 * stacked g t) (argument_view (arrays_of s) spell ins env a t)
+  argument_good s l g env a t all le sound = shown_good (arrays_of s) (counts_parts s) (length (arrays_in k s)) (readable_in s) l g env a t all le sound
+
+  -- and for one work-item
+  viewed_good : (l : ℕ) (g : ℕ → ℕ) (env : ℕ → View) (a : ℕ) (t : Term A) → Views l g env → a + private_count t ≤ length k.privates → IsSound Sp Q t → IsGoodView k S k.variables l (8 + 3 * stacked g t) (viewed env a t)
+  viewed_good l g env a t all le s = argument_good PrivateMemory l g env a t all le s
 
   -- ---- statements come
   mutual

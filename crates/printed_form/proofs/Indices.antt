@@ -18,6 +18,14 @@ use Rattle.printed_form.specs.Means.{IsSpelled, Means, AllMean, HasCells}
 use Rattle.lift_ir.proofs.Positions.{operand_in}
 use Rattle.lift_ir.proofs.Numbers.{flat_below}
 
+-- an operator has its value where it isn't by zero
+pub operate_by : (o : Op) (u n : ℕ) → 0 < n → operate o u n ≡ Some (apply_op o u n)
+operate_by o u n h = let e : (n == 0) ≡ false = ne_eqb n 0 (λ q. absurd (omega arith)) in rw e (go (divides o))
+  where
+    go : (b : Bool) → (if b && false then None else Some (apply_op o u n)) ≡ Some (apply_op o u n)
+    go true = refl
+    go false = refl
+
 module _ (l : Launch) (item : ℕ) {A : Type 0} (num : A → ℕ) (spell : A → Formula) (spelled : (n : A) → num n < 2 ^ 31 → IsSpelled l (spell n) (num n)) where
   means_number : (ts : List ℕ) (n : ℕ) → n < 2 ^ 32 → Means l item ts (Number n) n
   means_number ts n lt = record { fits = lt; always = λ vs. refl }
@@ -27,13 +35,6 @@ module _ (l : Launch) (item : ℕ) {A : Type 0} (num : A → ℕ) (spell : A →
 
   means_op : (ts : List ℕ) (o : Op) (f h : Formula) (x y z : ℕ) → divides o ≡ false → Means l item ts f x → Means l item ts h y → apply_op o x y ≡ z → z < 2 ^ 32 → Means l item ts (Binary o f h) z
   means_op ts o f h x y z d a b e lt = record { fits = lt; always = λ vs. rw (a.always vs, b.always vs, d) (ap Some e) }
-
-  operate_by : (o : Op) (u n : ℕ) → 0 < n → operate o u n ≡ Some (apply_op o u n)
-  operate_by o u n h = let e : (n == 0) ≡ false = ne_eqb n 0 (λ q. absurd (omega arith)) in rw e (go (divides o))
-    where
-      go : (b : Bool) → (if b && false then None else Some (apply_op o u n)) ≡ Some (apply_op o u n)
-      go true = refl
-      go false = refl
 
   means_by : (ts : List ℕ) (o : Op) (f h : Formula) (x y z : ℕ) → 0 < y → Means l item ts f x → Means l item ts h y → apply_op o x y ≡ z → z < 2 ^ 32 → Means l item ts (Binary o f h) z
   means_by ts o f h x y z pos a b e lt = record { fits = lt; always = λ vs. rw (a.always vs, b.always vs) (operate_by o x y pos ∙ ap Some e) }

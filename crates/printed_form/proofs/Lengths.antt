@@ -13,7 +13,8 @@ use Rattle.lift_ir.specs.Terms.{LocalMemory, PrivateMemory, Term, Literal, Bound
 use Rattle.printed_form.specs.Counts.{private_count, copy_lengths}
 use Rattle.printed_form.specs.Form.{Declares}
 
-joined : (n m : ℕ) (xs ys : List ℕ) → length xs ≡ n → length ys ≡ m → length (xs ++ ys) ≡ n + m
+-- two lists of lengths together
+pub joined : (n m : ℕ) (xs ys : List ℕ) → length xs ≡ n → length ys ≡ m → length (xs ++ ys) ≡ n + m
 joined n m xs ys e f = let a = length-append xs ys in omega arith
 
 pub counted : {A : Type 0} (t : Term A) → length (copy_lengths PrivateMemory t) ≡ private_count t
@@ -34,40 +35,40 @@ counted (Store ty a) = refl
 counted (Copy LocalMemory ty a) = let e = joined (private_count a) 0 (copy_lengths PrivateMemory a) [] (counted a) refl in omega arith
 counted (Copy PrivateMemory ty a) = joined (private_count a) (width ty) (copy_lengths PrivateMemory a) (replicate (width ty) (size ty)) (counted a) (length-replicate (width ty) (size ty))
 
--- the arrays from a on have these lengths
-abbrev AreLong : (Array → ℕ) → ℕ → List ℕ → Type 0
-AreLong long a ns = (i : ℕ) → i < length ns → long (Private (a + i)) ≡ slice_index ns i
+-- arrays from a on have these lengths
+abbrev pub AreLong : (form : ℕ → Array) → (Array → ℕ) → ℕ → List ℕ → Type 0
+AreLong form long a ns = (i : ℕ) → i < length ns → long (form (a + i)) ≡ slice_index ns i
 
-left : (long : Array → ℕ) (a : ℕ) (xs ys : List ℕ) → AreLong long a (xs ++ ys) → AreLong long a xs
-left long a xs ys h i lt = let e = length-append xs ys in h i (omega arith) ∙ get_or-append xs ys 0 i lt
+pub long_left : (form : ℕ → Array) (long : Array → ℕ) (a : ℕ) (xs ys : List ℕ) → AreLong form long a (xs ++ ys) → AreLong form long a xs
+long_left form long a xs ys h i lt = let e = length-append xs ys in h i (omega arith) ∙ get_or-append xs ys 0 i lt
 
-right : (long : Array → ℕ) (a n : ℕ) (xs ys : List ℕ) → length xs ≡ n → AreLong long a (xs ++ ys) → AreLong long (a + n) ys
-right long a n xs ys same h i lt =
+pub long_right : (form : ℕ → Array) (long : Array → ℕ) (a n : ℕ) (xs ys : List ℕ) → length xs ≡ n → AreLong form long a (xs ++ ys) → AreLong form long (a + n) ys
+long_right form long a n xs ys same h i lt =
     let e = length-append xs ys in
     let z : a + n + i ≡ a + (n + i) = omega arith in
     let y : n + i - length xs ≡ i = omega arith in
-    ap (λ k. long (Private k)) z ∙ h (n + i) (omega arith) ∙ get_or-append_right xs ys (n + i) 0 (omega arith) ∙ ap (λ k. slice_index ys k) y
+    ap (λ k. long (form k)) z ∙ h (n + i) (omega arith) ∙ get_or-append_right xs ys (n + i) 0 (omega arith) ∙ ap (λ k. slice_index ys k) y
 
-pub declares : {A : Type 0} (long : Array → ℕ) (a : ℕ) (t : Term A) → AreLong long a (copy_lengths PrivateMemory t) → Declares long a t
+pub declares : {A : Type 0} (long : Array → ℕ) (a : ℕ) (t : Term A) → AreLong Private long a (copy_lengths PrivateMemory t) → Declares long a t
 declares long a (Literal n) h = tt
 declares long a (Bound v) h = tt
 declares long a (Source v) h = tt
 declares long a (Apply o x y) h = tt
 declares long a (ApplyNumber o n x) h = tt
 declares long a (Select c x y) h = tt
-declares long a (Both zips x y) h = (declares long a x (left long a (copy_lengths PrivateMemory x) (copy_lengths PrivateMemory y) h), declares long (a + private_count x) y (right long a (private_count x) (copy_lengths PrivateMemory x) (copy_lengths PrivateMemory y) (counted x) h))
+declares long a (Both zips x y) h = (declares long a x (long_left Private long a (copy_lengths PrivateMemory x) (copy_lengths PrivateMemory y) h), declares long (a + private_count x) y (long_right Private long a (private_count x) (copy_lengths PrivateMemory x) (copy_lengths PrivateMemory y) (counted x) h))
 declares long a (Project s x) h = declares long a x h
 declares long a (Reshape l x) h = declares long a x h
-declares long a (LetArray v b) h = (declares long a v (left long a (copy_lengths PrivateMemory v) (copy_lengths PrivateMemory b) h), declares long (a + private_count v) b (right long a (private_count v) (copy_lengths PrivateMemory v) (copy_lengths PrivateMemory b) (counted v) h))
+declares long a (LetArray v b) h = (declares long a v (long_left Private long a (copy_lengths PrivateMemory v) (copy_lengths PrivateMemory b) h), declares long (a + private_count v) b (long_right Private long a (private_count v) (copy_lengths PrivateMemory v) (copy_lengths PrivateMemory b) (counted v) h))
 declares long a (LetElement ty v b) h = declares long a b h
-declares long a (Map k n loads xs b) h = (declares long a xs (left long a (copy_lengths PrivateMemory xs) (copy_lengths PrivateMemory b) h), declares long (a + private_count xs) b (right long a (private_count xs) (copy_lengths PrivateMemory xs) (copy_lengths PrivateMemory b) (counted xs) h))
+declares long a (Map k n loads xs b) h = (declares long a xs (long_left Private long a (copy_lengths PrivateMemory xs) (copy_lengths PrivateMemory b) h), declares long (a + private_count xs) b (long_right Private long a (private_count xs) (copy_lengths PrivateMemory xs) (copy_lengths PrivateMemory b) (counted xs) h))
 declares long a (Fold n loads ty xs s b) h = declares long a xs h
 declares long a (Store ty x) h = tt
-declares long a (Copy LocalMemory ty x) h = declares long a x (left long a (copy_lengths PrivateMemory x) [] h)
+declares long a (Copy LocalMemory ty x) h = declares long a x (long_left Private long a (copy_lengths PrivateMemory x) [] h)
 declares long a (Copy PrivateMemory ty x) h =
-    let own = right long a (private_count x) (copy_lengths PrivateMemory x) (replicate (width ty) (size ty)) (counted x) h in
+    let own = long_right Private long a (private_count x) (copy_lengths PrivateMemory x) (replicate (width ty) (size ty)) (counted x) h in
     let n = length-replicate (width ty) (size ty) in
-    (declares long a x (left long a (copy_lengths PrivateMemory x) (replicate (width ty) (size ty)) h), λ c lt. own c (omega arith) ∙ get_or-replicate (width ty) c (size ty) 0 lt)
+    (declares long a x (long_left Private long a (copy_lengths PrivateMemory x) (replicate (width ty) (size ty)) h), λ c lt. own c (omega arith) ∙ get_or-replicate (width ty) c (size ty) 0 lt)
 
 -- an output's row is as long as a component
 pub row_long : (rows : List (List ℕ)) (w n a : ℕ) → map length rows ≡ replicate w n → a < w → length (row rows a) ≡ n

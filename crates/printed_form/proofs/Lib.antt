@@ -16,6 +16,7 @@ pub mod Arguments
 pub mod Printer
 pub mod Alike
 pub mod SameRuns
+pub mod GoAlike
 pub mod Lengths
 pub mod Printed
 pub mod Programs

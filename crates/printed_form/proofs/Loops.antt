@@ -25,6 +25,10 @@ at x m vars = record { memory = m; vars = vars; count = x.count; arrays = x.arra
 abbrev pub from : Known → (count arrays : ℕ) → Known
 from x n a = record { memory = x.memory; vars = x.vars; count = n; arrays = a }
 
+-- lists that are the same go on the same way
+pub rest_is : (i j : ℕ) (p r : List ℕ) → i ∷ p ≡ j ∷ r → p ≡ r
+rest_is i j p r e = cc
+
 module _ (st : Setting) where
   pub later_from : (x y : Known) (n a n2 a2 : ℕ) → n ≤ x.count → a ≤ x.arrays → n ≤ n2 → a ≤ a2 → Later st x y → Later st (from x n a) (from y n2 a2)
   later_from x y n a n2 a2 p q r s h = record {
@@ -166,8 +170,5 @@ module _ (st : Setting) (row : ℕ → ℕ) (y : Ty) (w : Marks) (s : Scalars) w
   due_row a len i lt h = record {
     at = λ cs q k. h.at cs (i ∷ q) (lt, k);
     choices = λ cs ds q p k j e. h.choices cs ds (i ∷ q) (i ∷ p) (lt, k) (lt, j) e;
-    places = λ cs ds q p k j e. tail_is i q p (h.places cs ds (i ∷ q) (i ∷ p) (lt, k) (lt, j) e);
+    places = λ cs ds q p k j e. rest_is i i q p (h.places cs ds (i ∷ q) (i ∷ p) (lt, k) (lt, j) e);
   }
-    where
-      tail_is : (i : ℕ) (q p : List ℕ) → i ∷ q ≡ i ∷ p → q ≡ p
-      tail_is i q p e = cc

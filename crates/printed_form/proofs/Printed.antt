@@ -14,11 +14,12 @@ use Rattle.printed_form.proofs.Indices.{placed_cells}
 use Rattle.printed_form.proofs.Shown.{cells_show, HeldIn}
 use Rattle.printed_form.proofs.Printer.{written_is, over_launch_is}
 
-nothing_shown : (l : Launch) (item : ℕ) → AllShow l item [] no_type no_view no_marks
+-- no binder stands for anything around the whole term
+pub nothing_shown : (l : Launch) (item : ℕ) → AllShow l item [] no_type no_view no_marks
 nothing_shown l item v us cs is [] w g = absurd w
 nothing_shown l item v us cs is (i ∷ q) w g = let z = w.0 in absurd (omega arith)
 
-nothing_held : (l : Launch) (item : ℕ) → HeldIn l item no_type no_marks (λ v. none)
+pub nothing_held : (l : Launch) (item : ℕ) → HeldIn l item no_type no_marks (λ v. none)
 nothing_held l item v cs w h = absurd w
 
 pub code_is : (A : Type 0) → PrinterPrints A

@@ -1,5 +1,5 @@
 -- What the printer prints is printed.
-use Rattle.std.proofs.Common.{◌≡◌, ℕ, suc, ◌+◌, ◌<◌, ◌^◌, Bool, true, false, List, [], ◌∷◌, ◌++◌, length, Option, Some, refl, sym, ap, ◌∙◌, subst, arith, append-nil, length-append}
+use Rattle.std.proofs.Common.{◌≡◌, ℕ, suc, ◌+◌, ◌<◌, ◌^◌, Bool, true, false, List, [], ◌∷◌, ◌++◌, length, Option, Some, refl, ap, ◌∙◌, subst, arith, append-nil, length-append}
 use Rattle.kernel_tree.specs.Formula.{Formula, Number, Variable, LoopVariable, Binary}
 use Rattle.kernel_tree.specs.Code.{Array, Private, Code, End, Performs, Assigns, Stores, Loops}
 use Rattle.kernel_tree.specs.Launch.{Launch}
@@ -7,20 +7,20 @@ use Rattle.lift_ir.specs.Types.{Ty, Scalar, PairOf, ArrayOf, IsPosition, IsEleme
 use Rattle.lift_ir.specs.Layouts.{result_position}
 use Rattle.lift_ir.specs.Terms.{PrivateMemory, LoadSet, LoadsScalars, Global, Sequential, Term, Literal, Bound, Source, Apply, ApplyNumber, Select, Both, Project, Reshape, LetArray, LetElement, Map, Fold, Store, Copy, push, HasType}
 use Rattle.lift_ir.specs.Scalars.{at_index}
-use Rattle.printed_form.specs.Arguments.{private_arrays}
+use Rattle.printed_form.specs.Arguments.{private_arrays, argument_view}
 use Rattle.printed_form.specs.Marks.{Mark, Nowhere, Register, Spot, Marks, laid_in, held_marks, loaded_marks}
 use Rattle.printed_form.specs.Form.{start_of, stride_of, IsAssigned, IsReassigned, IsElementWork, IsSpot, IsStored, IsFoldTurn, argument_marks, IsArgumentWork, IsWritten}
 use Rattle.printed_form.specs.Counts.{let_variables, load_count, variable_count, private_count}
 use Rattle.printed_form.specs.Expressions.{held, of_one, of_both, of_three, operation, selection, exprs}
 use Rattle.printed_form.specs.Whole.{IsOverLaunch}
 use Rattle.printed_form.specs.Views.{Sign, Blank, Held, Read, View, held_sign, held_view, loaded_view, view_at, result_indices, laid_view}
-use Rattle.printed_form.specs.Printer.{or_number, sign_exprs, print_assigned, print_reassigned, print_element, print_store, print_stored, print_loaded, print_fold_turn, argument_view, print_argument, print_written}
+use Rattle.printed_form.specs.Printer.{or_number, sign_exprs, print_assigned, print_reassigned, print_element, print_store, print_stored, print_loaded, print_fold_turn, print_argument, print_written}
 use Rattle.lift_ir.specs.Loads.{covers, all, held_scalars, IsHeld, AllHeld, AreLetsHeld, LoadsSuffice}
 use Rattle.lift_ir.specs.Forms.{Stands, StandsOverLaunch}
 use Rattle.printed_form.specs.Means.{IsSpelled, IsCell, IsScalar, HasCells, Shows, AllShow}
 use Rattle.printed_form.proofs.Indices.{laid_cells}
 use Rattle.printed_form.proofs.Shown.{cells_side, all_within, all_push, turned_cells, HeldIn, held_push, loaded_held, loaded_is, loaded_shows, back_cells}
-use Rattle.printed_form.proofs.Arguments.{kept_is, argument_shows, argument_view_is, stands_argument}
+use Rattle.printed_form.proofs.Arguments.{kept_is, argument_shows, stands_argument}
 
 module _ (l : Launch) (item : ℕ) where
   first_cells : (ts : List ℕ) (t : Ty) (x : View) (y : Marks) → HasCells l item ts (ArrayOf 1 t) x y → HasCells l item ts t (view_at (Number 0) x) (at_index 0 y)
@@ -216,9 +216,9 @@ module _ (l : Launch) (item : ℕ) {A : Type 0} (num : A → ℕ) (spell : A →
         )
 
     -- what stands for an argument shows it
-    shown : (t : Term A) (ts : List ℕ) (g : ℕ → Ty) (views : ℕ → View) (env : ℕ → Marks) (h : ℕ → List Bool → Bool) (a : ℕ) (ty : Ty) → HasType num src g t ty → LoadsSuffice h t → Stands false t → AllShow l item ts g views env → AllShow l item ts src sins ins → Shows l item ts ty (argument_view spell sins views a t) (argument_marks l ins num env a t)
+    shown : (t : Term A) (ts : List ℕ) (g : ℕ → Ty) (views : ℕ → View) (env : ℕ → Marks) (h : ℕ → List Bool → Bool) (a : ℕ) (ty : Ty) → HasType num src g t ty → LoadsSuffice h t → Stands false t → AllShow l item ts g views env → AllShow l item ts src sins ins → Shows l item ts ty (argument_view private_arrays spell sins views a t) (argument_marks l ins num env a t)
     shown t ts g views env h a ty ok nm sd es gs =
-        subst (λ v. Shows l item ts ty v (argument_marks l ins num env a t)) (sym (argument_view_is spell sins views a t)) (argument_shows private_arrays l item num spell spelled src ins sins ts gs t g views env h a ty (stands_argument t sd) ok nm es)
+        argument_shows private_arrays l item num spell spelled src ins sins ts gs t g views env h a ty (stands_argument t sd) ok nm es
 
     mutual
       gathered_is : (t : Term A) (ts : List ℕ) (depth : ℕ) (g : ℕ → Ty) (views : ℕ → View) (env : ℕ → Marks) (h : ℕ → List Bool → Bool) (a n : ℕ) (ty : Ty) (rest : Code) → length ts ≡ depth → HasType num src g t ty → LoadsSuffice h t → Stands false t → AllShow l item ts g views env → AllShow l item ts src sins ins → HeldIn l item g env h
@@ -235,7 +235,7 @@ module _ (l : Launch) (item : ℕ) {A : Type 0} (num : A → ℕ) (spell : A →
       gathered_is (Project true x) ts depth g views env h a n ty rest d ok nm sd es gs r = gathered_is x ts depth g views env h a n (PairOf ok.0 ty) rest d ok.1 nm sd es gs r
       gathered_is (Reshape y x) ts depth g views env h a n ty rest d ok nm sd es gs r = gathered_is x ts depth g views env h a n ok.0 rest d ok.1 nm sd es gs r
       gathered_is (LetArray v b) ts depth g views env h a n ty rest d ok nm sd es gs r =
-          let x = argument_view spell sins views a v in
+          let x = argument_view private_arrays spell sins views a v in
           let y = argument_marks l ins num env a v in
           let next = print_argument spell sins depth (push x views) (a + private_count v) (n + variable_count v) b rest in (
             next,
@@ -259,7 +259,7 @@ module _ (l : Launch) (item : ℕ) {A : Type 0} (num : A → ℕ) (spell : A →
       written_is (Reshape y t) ts depth g views env h a n ty v w rest d ok nm sd es gs r cells =
           (sd.0, written_is t ts depth g views env h a n ok.0 (λ cs is. v cs (result_indices spell y is)) (λ cs q. w cs (result_position num y q)) rest d ok.1 nm sd.1 es gs r (back_cells l item num spell spelled ts y ok.0 ty v w sd.0 ok.2 ok.3 ok.4 cells))
       written_is (LetArray x b) ts depth g views env h a n ty v w rest d ok nm sd es gs r cells =
-          let e = argument_view spell sins views a x in
+          let e = argument_view private_arrays spell sins views a x in
           let f = argument_marks l ins num env a x in
           let next = print_written spell sins depth (push e views) (a + private_count x) (n + variable_count x) b v rest in
           let p = gathered_is x ts depth g views env h a n ok.0 next d ok.1 nm.0 sd.0 es gs r in
@@ -277,7 +277,7 @@ module _ (l : Launch) (item : ℕ) {A : Type 0} (num : A → ℕ) (spell : A →
           )
       written_is (Map Sequential z0 loads xs b) ts depth g views env h a n ty v w rest d ok nm sd es gs r cells =
           let len = num z0 in
-          let e = argument_view spell sins views a xs in
+          let e = argument_view private_arrays spell sins views a xs in
           let f = argument_marks l ins num env a xs in
           let n1 = n + variable_count xs in
           let x = loaded_view loads (view_at (LoopVariable depth) e) n1 in
@@ -310,7 +310,7 @@ module _ (l : Launch) (item : ℕ) {A : Type 0} (num : A → ℕ) (spell : A →
           )
       written_is (Fold z0 loads yt xs s b) ts depth g views env h a n ty v w rest d ok nm sd es gs r cells =
           let len = num z0 in
-          let e = argument_view spell sins views a xs in
+          let e = argument_view private_arrays spell sins views a xs in
           let f = argument_marks l ins num env a xs in
           let n1 = n + variable_count xs in
           let n2 = n1 + let_variables s in
@@ -346,14 +346,14 @@ module _ (l : Launch) (item : ℕ) {A : Type 0} (num : A → ℕ) (spell : A →
     over_launch_is (Reshape y t) g views env h a n ty v w rest ok nm sd es gs r cells =
         (sd.0, over_launch_is t g views env h a n ok.0 (λ cs is. v cs (result_indices spell y is)) (λ cs q. w cs (result_position num y q)) rest ok.1 nm sd.1 es gs r (back_cells l item num spell spelled [] y ok.0 ty v w sd.0 ok.2 ok.3 ok.4 cells))
     over_launch_is (LetArray x b) g views env h a n ty v w rest ok nm sd es gs r cells =
-        let e = argument_view spell sins views a x in
+        let e = argument_view private_arrays spell sins views a x in
         let f = argument_marks l ins num env a x in
         let next = print_written spell sins 0 (push e views) (a + private_count x) (n + variable_count x) b v rest in
         let p = gathered_is x [] 0 g views env h a n ok.0 next refl ok.1 nm.0 sd.0 es gs r in
         (next, p, over_launch_is b (push ok.0 g) (push e views) (push f env) (push (held_scalars h x) h) (a + private_count x) (n + variable_count x) ty v w rest ok.2 nm.1 sd.1 (all_push l item [] ok.0 e f g views env (shown x [] g views env h a ok.0 ok.1 nm.0 sd.0 es gs) es) gs (held_push l item ok.0 f (held_scalars h x) g env h (λ cs i z. kept_is private_arrays l item num src ins x g env h a ok.0 cs ok.1 i z r) r) cells)
     over_launch_is (Map Global z0 loads xs b) g views env h a n ty v w rest ok nm sd es gs r cells =
         let len = num z0 in
-        let e = argument_view spell sins views a xs in
+        let e = argument_view private_arrays spell sins views a xs in
         let f = argument_marks l ins num env a xs in
         let n1 = n + variable_count xs in
         let x = loaded_view loads (view_at (LoopVariable 0) e) n1 in

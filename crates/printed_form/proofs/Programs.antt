@@ -21,23 +21,19 @@ use Rattle.lift_tree.specs.Meaning.{World, meaning}
 use Rattle.lift_tree.specs.Launches as launches
 use Rattle.lift_tree.specs.Launches.{Asks, IsAdmissibleLaunch, IsFixedSize, buffers_of}
 use Rattle.lift_tree.proofs.Members.{length-map}
-use Rattle.kernel_tree.specs.Code.{Array, Code, Kernel}
+use Rattle.kernel_tree.specs.Code.{Code, Kernel}
 use Rattle.kernel_tree.specs.Grammar.{largest_group}
 use Rattle.kernel_tree.specs.Launch as kernel_launch
 use Rattle.kernel_tree.specs.Launch.{Launch, Cells, IsWhole, HasLocal, MayStart}
-use Rattle.kernel_tree.specs.Device.{State, IsStart, row, length_in, device_of}
-use Rattle.kernel_tree.specs.Item.{Item, item}
-use Rattle.kernel_tree.specs.Histories.{history}
-use Rattle.kernel_tree.specs.Alike.{Enacts, GoesAlike}
+use Rattle.kernel_tree.specs.Device.{State, IsStart, row, device_of}
+use Rattle.kernel_tree.specs.Alike.{GoesAlike}
 use Rattle.kernel_tree.proofs.Grouping.{flat_items}
-use Rattle.kernel_tree.proofs.Alike.{goes_alike}
 use Rattle.lift_ir.specs.Types.{Ty, Scalar, ArrayOf, IsPosition, IsPlaced, component, flat, width, size, measured, IsFlat}
 use Rattle.lift_ir.specs.Terms.{HasType, no_type}
 use Rattle.lift_ir.specs.Scalars.{Scalars, HasScalars, scalars_in, scalars_of, no_scalars, lists_of}
 use Rattle.lift_ir.specs.AtLaunch.{length_at, ty_at, shape_of}
 use Rattle.lift_ir.specs.Lowering.{Written, Lowered}
 use Rattle.lift_ir.specs.Sources.{Lowers}
-use Rattle.std.proofs.Math.Path.{fun_ext}
 use Rattle.lift_ir.proofs.Lists.{lists_long, lists_count, list_holds}
 use Rattle.lift_ir.proofs.Lowering.{lowers_is}
 use Rattle.lift_ir.proofs.Meaning.{means}
@@ -50,9 +46,9 @@ use Rattle.printed_form.specs.Whole.{IsCode, IsMadeFor, IsPrinted}
 use Rattle.printed_form.specs.Printer.{input_marks, kernel_code}
 use Rattle.printed_form.specs.Programs.{input_shape, first_buffer, buffer_count, lowered_root, cell_owner, row_of, IsLaunchOf, SameContents, DeclaresFor, declared_kernel, PrintedProgramsKeep, PrintedProgramsStart, ProgramsArePrinted, PrintedProgramsGoAlike, Prints, AreBuffersOf, IsLowerableProgram}
 use Rattle.printed_form.proofs.Printed.{code_is}
-use Rattle.printed_form.specs.Alike.{AlikeItems, AlikeStates}
 use Rattle.printed_form.proofs.Whole.{completed}
-use Rattle.printed_form.proofs.SameRuns.{codes_alike, nothing_to_meet, same_lengths, same_runs, completes_alike}
+use Rattle.printed_form.proofs.SameRuns.{codes_alike, nothing_to_meet}
+use Rattle.printed_form.proofs.GoAlike.{go_alike}
 use Rattle.printed_form.proofs.Theorem.{printed_kernels_keep}
 
 width_is : (ys : List ℕ) (a : PlainTy) → width (ty_at ys a) ≡ width (shape_of a)
@@ -268,30 +264,12 @@ module _ (d : Declared) (asks : Asks) (w : World) (t : Tree) (a : Annotation) (l
       subst (EveryRunKeeps k l c (cell_owner d.names w.bases l t a)) (sym (same_lists w.bases (type_in a) (meaning w [] t)))
       (printed_kernels_keep (List Monomial) num l w t (length d.inputs) src (input_marks num (first_buffer d.inputs) (input_shape d.inputs)) sources low result k c lowers given (is_printed k printed))
 
-  module _ (k m : Kernel) (one : Prints d asks.local w.bases t a l k) (two : Prints d asks.local w.bases t a l m) (s r : State) (start : IsStart k l c s) (begin : IsStart m l c r) (same : SameContents l s r) where
-    lengths : (b : Array) → length_in k c b ≡ length_in m c b
-    lengths = same_lengths k m c (one.declares.locals ∙ sym two.declares.locals) (one.declares.privates ∙ sym two.declares.privates)
-
-    states : AlikeStates false l s r
-    states = record {
-      items = λ j lt.
-          let vars : start.vars j ≡ begin.vars j = sym (ap Item.vars (start.items j lt)) ∙ same.variables j lt ∙ ap Item.vars (begin.items j lt) in
-          subst (λ z. AlikeItems false l j z (r.items j)) (sym (start.items j lt)) (subst (λ z. AlikeItems false l j (item k.code [] (start.vars j)) z) (sym (begin.items j lt)) (record { code = codes_alike num l (input_marks num (first_buffer d.inputs) (input_shape d.inputs)) low result k.code m.code one.code two.code j lt; frames = tt; vars = vars }));
-      memory = same.memory;
-      epochs = λ g f. start.epochs g f ∙ sym (begin.epochs g f);
-    }
-
-    go_alike : GoesAlike (device_of k l c) s (device_of m l c) r
-    go_alike =
-        let whole_launch = whole l asks d.names w.bases launch.flat launch.admissible in
-        let full = completed num l src (input_marks num (first_buffer d.inputs) (input_shape d.inputs)) sources low result k c (is_printed k one) s start in
-        let told : Enacts (device_of k l c) s (history (device_of k l c) s full.0) = record { events = full.0; completes = full.1; acts = λ j lt. refl } in
-        let again : Enacts (device_of m l c) r (history (device_of k l c) s full.0) = record {
-          events = full.0;
-          completes = completes_alike false (device_of k l c) (length_in m c) lengths whole_launch s r full.0 states (nothing_to_meet (device_of m l c) r) full.1;
-          acts = λ j lt. sym ((same_runs false (device_of k l c) (length_in m c) lengths whole_launch s r full.0 states (nothing_to_meet (device_of m l c) r) full.1.is_run).histories j lt);
-        } in
-        goes_alike l whole_launch (length_in k c) (length_in m c) s r (history (device_of k l c) s full.0) (fun_ext (λ g. fun_ext (λ f. states.epochs g f))) told again
+  programs_go_alike : (k m : Kernel) (s r : State) → Prints d asks.local w.bases t a l k → Prints d asks.local w.bases t a l m → IsStart k l c s → IsStart m l c r → SameContents l s r → GoesAlike (device_of k l c) s (device_of m l c) r
+  programs_go_alike k m s r one two start begin same =
+      let ins = input_marks num (first_buffer d.inputs) (input_shape d.inputs) in
+      let full = completed num l src ins sources low result k c (is_printed k one) s start in
+      go_alike false k m l c (whole l asks d.names w.bases launch.flat launch.admissible) (one.declares.locals ∙ sym two.declares.locals) (one.declares.privates ∙ sym two.declares.privates)
+      (codes_alike num l ins low result k.code m.code one.code two.code) s r start begin same full.0 full.1 (nothing_to_meet (device_of m l c) r)
 
 pub printed_programs_keep : PrintedProgramsKeep
 printed_programs_keep d asks w t a l k c program ok launch buffers printed = keeps d asks w t a l c program ok launch buffers k printed
@@ -346,4 +324,4 @@ programs_are_printed d asks bases t a l spell program launch staged stands place
     }
 
 pub printed_programs_go_alike : PrintedProgramsGoAlike
-printed_programs_go_alike d asks w t a l k m c s r program ok launch buffers one two start begin same = go_alike d asks w t a l c program ok launch buffers k m one two s r start begin same
+printed_programs_go_alike d asks w t a l k m c s r program ok launch buffers one two start begin same = programs_go_alike d asks w t a l c program ok launch buffers k m s r one two start begin same

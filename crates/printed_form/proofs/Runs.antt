@@ -76,7 +76,7 @@ module _ (st : Setting) where
 
 -- what deeds write
 
-one_here : (b c : Cell) → c ≡ b → one_if_same b c ≡ 1
+pub one_here : (b c : Cell) → c ≡ b → one_if_same b c ≡ 1
 one_here b c e = ap (λ y. if y then 1 else 0) (subst (λ x. same_cell b x ≡ true) (sym e) (same_cell-itself b))
 
 here_too : (b c : Cell) → one_if_same b c ≡ 0 → c ≡ b → ⊥

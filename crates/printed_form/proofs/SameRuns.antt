@@ -335,6 +335,11 @@ module _ (grouped : Bool) (d : Device) (lengths : Array → ℕ) (same : (a : Ar
         ended = λ j lt. ends_alike grouped d.launch j _ _ (wants_alike (run d s es) (run other t es) h.ends j lt) (c.ended j lt);
       }
 
+-- items begin alike at alike codes, with the same variables
+pub start_alike : (grouped : Bool) (l : Launch) (j : ℕ) (a b : Code) (vars : Vars) (x y : Item) → Alike grouped l j [] a b → x ≡ item a [] vars → y ≡ item b [] vars → AlikeItems grouped l j x y
+start_alike grouped l j a b vars x y code first second =
+    subst (λ z. AlikeItems grouped l j z y) (sym first) (subst (AlikeItems grouped l j (item a [] vars)) (sym second) (record { code = code; frames = tt; vars = refl }))
+
 -- kernels with the same local and private arrays have arrays of the same lengths
 pub same_lengths : (k m : Kernel) (c : Cells) → k.locals ≡ m.locals → k.privates ≡ m.privates → (b : Array) → length_in k c b ≡ length_in m c b
 same_lengths k m c locals privates (Input n) = refl
@@ -365,7 +370,7 @@ pub printed_kernels_are_alike : (A : Type 0) → PrintedKernelsAreAlike A
 printed_kernels_are_alike A num l ins t ty k k2 c s s2 es whole x y same begin r =
     let h = codes_alike num l ins t ty k.code k2.code x y in
     same_runs false (device_of k l c) (length_in k2 c) same whole s s2 es (record {
-      items = λ j lt. subst (λ z. AlikeItems false l j z (s2.items j)) (sym (begin.first j lt)) (subst (λ z. AlikeItems false l j (item k.code [] (begin.vars j)) z) (sym (begin.second j lt)) (record { code = h j lt; frames = tt; vars = refl }));
+      items = λ j lt. start_alike false l j k.code k2.code (begin.vars j) (s.items j) (s2.items j) (h j lt) (begin.first j lt) (begin.second j lt);
       memory = begin.memory;
       epochs = begin.epochs;
     }) (nothing_to_meet (device_of k2 l c) s2) r

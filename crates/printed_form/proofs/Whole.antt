@@ -32,7 +32,7 @@ use Rattle.printed_form.specs.Whole.{IsOverLaunch, no_marks, output_marks, IsGiv
 use Rattle.lift_ir.proofs.Positions.{operand_in, result_in, result_operand}
 use Rattle.printed_form.proofs.Runs.{all_hold_later, ran_on}
 use Rattle.printed_form.proofs.Elements.{all_hold_push}
-use Rattle.printed_form.proofs.Loops.{Rows, due_unscratched}
+use Rattle.printed_form.proofs.Loops.{Rows, due_unscratched, rest_is}
 use Rattle.lift_ir.proofs.Numbers.{component_below, flat_below, component_same, flat_same, unflat_flat, position_at}
 use Rattle.lift_ir.proofs.Owner.{owner_below}
 use Rattle.printed_form.proofs.Laid.{output_same}
@@ -78,11 +78,8 @@ module _ {A : Type 0} (num : A → ℕ) (ins : ℕ → Marks) (src : ℕ → Ty)
   own_due_row a n i loads xs b y w lt o h = record {
     at = λ cs q k. h.at cs (i ∷ q) (lt, k) o;
     choices = λ cs ds q p k j e. h.choices cs ds (i ∷ q) (i ∷ p) (lt, k) (lt, j) e;
-    places = λ cs ds q p k j e. tail_is i q p (h.places cs ds (i ∷ q) (i ∷ p) (lt, k) (lt, j) e);
+    places = λ cs ds q p k j e. rest_is i i q p (h.places cs ds (i ∷ q) (i ∷ p) (lt, k) (lt, j) e);
   }
-    where
-      tail_is : (i : ℕ) (q p : List ℕ) → i ∷ q ≡ i ∷ p → q ≡ p
-      tail_is i q p e = cc
 
   own_row : ℕ → ℕ
   own_row t = st.item + t * g

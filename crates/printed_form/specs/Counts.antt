@@ -53,6 +53,16 @@ private_count (Copy PrivateMemory ty a) = private_count a + width ty
 private_count (Copy LocalMemory ty a) = private_count a
 private_count _ = 0
 
+-- how many local arrays a term outside the maps of a group's items has, where all copies are local
+abbrev pub local_count : {A : Type 0} → Term A → ℕ
+local_count (Both zips a b) = local_count a + local_count b
+local_count (Project s a) = local_count a
+local_count (Reshape l a) = local_count a
+local_count (LetArray v b) = local_count v + local_count b
+local_count (Map k n loads xs b) = local_count xs
+local_count (Copy space ty a) = local_count a + width ty
+local_count _ = 0
+
 -- the arrays of a copy, where these are asked for
 abbrev pub copied : (asked space : Space) → Ty → List ℕ
 copied LocalMemory LocalMemory ty = replicate (width ty) (size ty)

@@ -10,10 +10,11 @@ use Rattle.lift_ir.specs.Types.{Shape, Ty, width}
 use Rattle.lift_ir.specs.Layouts.{Layout}
 use Rattle.lift_ir.specs.Scalars.{by_side}
 use Rattle.lift_ir.specs.Terms.{LoadSet, Kind, Space, LocalMemory, PrivateMemory, Term}
+use Rattle.printed_form.specs.Arguments.{arrays_of, argument_view}
 use Rattle.printed_form.specs.Counts.{load_count, variable_count, private_count, copy_lengths}
 use Rattle.printed_form.specs.Form.{start_of, stride_of}
 use Rattle.printed_form.specs.Views.{View, Blank, loaded_view, view_at, operand_indices, result_indices, placed_view, laid_view}
-use Rattle.printed_form.specs.Printer.{argument_view, input_views, print_loaded, print_written}
+use Rattle.printed_form.specs.Printer.{input_views, print_loaded, print_written}
 use Rattle.printed_form.specs.Programs.{buffer_count, first_buffer, input_shape}
 use Rattle.printed_form.specs.Sound.{IsSpelledIn, AllLengths, IsSoundLayout, dimensions, stacked, IsWrittenWithin, loop_depth, AreLow, CanBeWritten}
 use Rattle.printed_form.specs.GrammarViews.{IsTurnFormula, ReadsWithin, FillsWithin, AllReadWithin}
@@ -97,6 +98,11 @@ pub record HasRoomFor (k : Kernel) (high most : ℕ) (d : Declared) : Type 0 whe
   pub fits : high + (8 + 3 * most) ≤ 1024
   pub inputs : k.inputs ≡ buffer_count d.inputs
 
+-- the lengths of the kernel's arrays in a space
+abbrev pub arrays_in : Kernel → Space → List ℕ
+arrays_in k LocalMemory = k.locals
+arrays_in k PrivateMemory = k.privates
+
 -- what stands for the inputs
 abbrev pub views_of_inputs : (spell : List Monomial → Formula) → Declared → ℕ → View
 views_of_inputs spell d = input_views spell (first_buffer d.inputs) (input_shape d.inputs)
@@ -116,12 +122,14 @@ module _ (k : Kernel) (spell : List Monomial → Formula) (high most : ℕ) (d :
 
   -- what is printed of a program's terms is of the grammar
   pub record TermsAreOfTheGrammar : Type 0 where
-    -- what stands for an argument reads within it, and the output is filled within it
-    pub arguments : (l private : ℕ) (g : ℕ → ℕ) (env : ℕ → View) (t : Term (List Monomial))
+    -- what stands for an argument, whose copies lie in the kernel's arrays of a space, reads within
+    -- it, and the output is filled within it
+    pub arguments : (s : Space) (l first : ℕ) (g : ℕ → ℕ) (env : ℕ → View)
+        (t : Term (List Monomial))
         → AllReadWithin k high l g env → IsSoundIn k spell high d t
-        → private + private_count t ≤ length k.privates
+        → first + (arrays_of s).count t ≤ length (arrays_in k s)
         → ReadsWithin k high l (stacked g t)
-        (argument_view spell (views_of_inputs spell d) env private t)
+        (argument_view (arrays_of s) spell (views_of_inputs spell d) env first t)
     pub output : (ty : Shape (List Monomial)) → k.outputs ≡ width ty
         → AllLengths (λ n. IsSpelledIn k high (spell n)) ty → dimensions ty ≤ 4
         → FillsWithin k high 0 0 (placed_view spell Output 0 ty)

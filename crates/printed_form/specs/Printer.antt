@@ -3,13 +3,14 @@ use Rattle.std.specs.Prelude.{ℕ, suc, ◌+◌, Bool, true, false, List, [], �
 use Rattle.kernel_tree.specs.Formula.{Formula, Number, LoopVariable, Binary}
 use Rattle.kernel_tree.specs.Code.{Input, Private, Output, Code, End, Performs, Assigns, Loads, Stores, Loops}
 use Rattle.lift_ir.specs.Types.{Shape, Ty, Scalar, PairOf, ArrayOf, width, measured}
-use Rattle.lift_ir.specs.Terms.{LoadSet, Skip, Take, Each, Sequential, PrivateMemory, Term, Literal, Bound, Source, Apply, ApplyNumber, Select, Both, Project, Reshape, LetArray, LetElement, Map, Fold, Store, Copy, push}
+use Rattle.lift_ir.specs.Terms.{LoadSet, Skip, Take, Each, Sequential, PrivateMemory, Term, Literal, Bound, Apply, ApplyNumber, Select, Both, Project, Reshape, LetArray, LetElement, Map, Fold, Store, Copy, push}
 use Rattle.lift_ir.specs.Scalars.{by_side}
+use Rattle.printed_form.specs.Arguments.{private_arrays, argument_view}
 use Rattle.printed_form.specs.Counts.{let_variables, load_count, variable_count, private_count}
 use Rattle.printed_form.specs.Marks.{Marks, laid_in}
 use Rattle.printed_form.specs.Expressions.{of_one, of_both, of_three, operation, selection}
 use Rattle.printed_form.specs.Form.{start_of, stride_of}
-use Rattle.printed_form.specs.Views.{Sign, Blank, Read, View, held_sign, held_view, loaded_view, view_at, operand_indices, result_indices, placed_view, laid_view}
+use Rattle.printed_form.specs.Views.{Sign, Blank, Read, View, held_sign, held_view, loaded_view, view_at, result_indices, placed_view, laid_view}
 
 -- 0 where there is no expression
 abbrev pub or_number : Option Formula → Formula
@@ -109,20 +110,8 @@ print_fold_turn env loads ty x acc b =
 
 -- lengths are spelled so, and the inputs stand so
 module _ {A : Type 0} (spell : A → Formula) (ins : ℕ → View) where
-  -- what stands for an argument, whose first private array is this
-  abbrev pub argument_view : (ℕ → View) → ℕ → Term A → View
-  argument_view env a (Bound v) = env v
-  argument_view env a (Source s) = ins s
-  argument_view env a (Both zips x y) =
-      by_side (λ is. Blank) (argument_view env a x) (argument_view env (a + private_count x) y)
-  argument_view env a (Project s x) = λ cs is. argument_view env a x (s ∷ cs) is
-  argument_view env a (Reshape y x) = λ cs is. argument_view env a x cs (operand_indices spell y is)
-  argument_view env a (LetArray v b) =
-      argument_view (push (argument_view env a v) env) (a + private_count v) b
-  argument_view env a (Copy PrivateMemory ty x) = laid_view Private (a + private_count x) ty
-  argument_view env a _ = λ cs is. Blank
-
   abbrev mutual
+    -- the copies of an argument, from these private arrays and variables on, within so many loops
     pub print_argument : (depth : ℕ) → (ℕ → View) → (a n : ℕ) → Term A → (rest : Code) → Code
     print_argument depth env a n (Both zips x y) rest =
         print_argument depth env a n x
@@ -131,8 +120,8 @@ module _ {A : Type 0} (spell : A → Formula) (ins : ℕ → View) where
     print_argument depth env a n (Reshape y x) rest = print_argument depth env a n x rest
     print_argument depth env a n (LetArray v b) rest =
         print_argument depth env a n v
-        (print_argument depth (push (argument_view env a v) env) (a + private_count v)
-        (n + variable_count v) b rest)
+        (print_argument depth (push (argument_view private_arrays spell ins env a v) env)
+        (a + private_count v) (n + variable_count v) b rest)
     print_argument depth env a n (Copy PrivateMemory ty x) rest =
         print_written depth env a n x (laid_view Private (a + private_count x) ty) rest
     print_argument depth env a n _ rest = rest
@@ -145,8 +134,8 @@ module _ {A : Type 0} (spell : A → Formula) (ins : ℕ → View) where
         print_written depth env a n t (λ cs is. w cs (result_indices spell y is)) rest
     print_written depth env a n (LetArray v b) w rest =
         print_argument depth env a n v
-        (print_written depth (push (argument_view env a v) env) (a + private_count v)
-        (n + variable_count v) b w rest)
+        (print_written depth (push (argument_view private_arrays spell ins env a v) env)
+        (a + private_count v) (n + variable_count v) b w rest)
     print_written depth env a n (LetElement ty v b) w rest =
         print_element env n v
         (print_assigned ty (sign_exprs env n v) (n + let_variables v)
@@ -155,10 +144,13 @@ module _ {A : Type 0} (spell : A → Formula) (ins : ℕ → View) where
     print_written depth env a n (Map k len loads xs b) w rest =
         print_argument depth env a n xs
         (Loops (start_of k) (spell len) (stride_of k)
-        (print_loaded loads (view_at (LoopVariable depth) (argument_view env a xs))
+        (print_loaded loads
+        (view_at (LoopVariable depth) (argument_view private_arrays spell ins env a xs))
         (n + variable_count xs)
         (print_written (suc depth)
-        (push (loaded_view loads (view_at (LoopVariable depth) (argument_view env a xs))
+        (push
+        (loaded_view loads
+        (view_at (LoopVariable depth) (argument_view private_arrays spell ins env a xs))
         (n + variable_count xs)) env) (a + private_count xs)
         (n + variable_count xs + load_count loads) b (view_at (LoopVariable depth) w) End))
         rest)
@@ -168,7 +160,8 @@ module _ {A : Type 0} (spell : A → Formula) (ins : ℕ → View) where
         (print_assigned ty (sign_exprs env (n + variable_count xs) s)
         (n + variable_count xs + let_variables s)
         (Loops (start_of Sequential) (spell len) (stride_of Sequential)
-        (print_fold_turn env loads ty (view_at (LoopVariable depth) (argument_view env a xs))
+        (print_fold_turn env loads ty
+        (view_at (LoopVariable depth) (argument_view private_arrays spell ins env a xs))
         (n + variable_count xs + let_variables s) b)
         (print_stored ty
         (λ cs. held_sign (held_view ty (n + variable_count xs + let_variables s) cs []))

@@ -1,10 +1,9 @@
 -- Kernels that are printed for one term go alike, and so the texts of one program's kernels run
 -- alike.
-use Rattle.std.proofs.Common.{◌≡◌, ◌∙◌, Bool, true, false, ℕ, zero, suc, List, [], ◌∷◌, ◌++◌, Option, Some, None, Result, Ok, Err, length, map, replicate, refl, sym, ap, ap₂, subst, arith, append_assoc}
-use Rattle.std.proofs.lemmas.Option.{none-some}
+use Rattle.std.proofs.Common.{◌≡◌, ◌∙◌, Bool, true, false, ℕ, suc, List, [], ◌∷◌, ◌++◌, Option, None, Ok, length, map, replicate, refl, sym, ap, ap₂, subst, arith, append_assoc}
 use Rattle.kernel_tree.specs.Alike.{GoesAlike}
 use Rattle.kernel_tree.specs.Code.{Kernel}
-use Rattle.kernel_tree.specs.Device.{Device, IsRun, IsStart, State, after, device_of, row, run, start_state}
+use Rattle.kernel_tree.specs.Device.{Device, IsRun, State, device_of, row, run, start_state}
 use Rattle.kernel_tree.specs.Formula.{spread}
 use Rattle.kernel_tree.specs.Faults.{Among, FaultIs, IsFaultless, accesses, accesses_of}
 use Rattle.kernel_tree.specs.KernelText.{lift}
@@ -12,9 +11,6 @@ use Rattle.kernel_tree.specs.Launch.{Cells, Launch}
 use Rattle.kernel_tree.specs.Schedule.{Schedule}
 use Rattle.kernel_tree.specs.Seen.{IsSeen, seen_of}
 use Rattle.kernel_tree.specs.declared.events.Event.{Event}
-use Rattle.kernel_tree.specs.declared.events.Event.TheVariants.{Release, Step}
-use Rattle.kernel_tree.specs.declared.events.FaultKind.{FaultKind}
-use Rattle.kernel_tree.specs.declared.events.Seen.{Seen}
 use Rattle.kernel_tree.proofs.Confluence.{among-left, among-right}
 use Rattle.kernel_tree.proofs.EveryRun.{accesses-append, is_run-front, run-append}
 use Rattle.kernel_tree.proofs.Scheduled.{divergence_in, failure_in}
@@ -29,24 +25,21 @@ use Rattle.lift_tree.specs.Meaning.{World, meaning}
 use Rattle.lift_tree.specs.Programs.{PlainProgram}
 use Rattle.lift_tree.specs.Tree.{Tree}
 use Rattle.lift_tree.specs.Types.{PlainTy}
-use Rattle.lift_tree.specs.Typing.{Declared, IsAdmissible, OneType, Types, declared_by}
+use Rattle.lift_tree.specs.Typing.{Declared, OneType, Types, declared_by}
 use Rattle.lift_tree.specs.Values.{Value}
 use Rattle.lift_tree.proofs.Annotated.{annotated_is_typed}
-use Rattle.lowered_tree.specs.Kind.{nest_kind}
 use Rattle.lowered_tree.specs.Kinds.{asks_of}
-use Rattle.lowered_tree.specs.declared.kind.NestKind.{NestKind}
-use Rattle.lowered_tree.specs.declared.kind.NestKind.TheVariants.{OverGroups, OverLaunch, Task}
 use Rattle.nest_premises.specs.Groups.{LegalTermsArePrintable}
-use Rattle.nest_premises.specs.Stands.{IsPrintableAs}
+use Rattle.nest_premises.specs.Printable.{printer_for}
 use Rattle.printed_form.specs.Headline.{LeavesWanted}
-use Rattle.printed_form.specs.Programs.{AreBuffersOf, IsLaunchOf, PrintedProgramsGoAlike, SameContents}
-use Rattle.group_form.specs.Alike.{PrintedGroupProgramsGoAlike}
+use Rattle.printed_form.specs.Programs.{AreBuffersOf, DeclaresFor, IsLaunchOf, SameContents}
+use Rattle.group_form.specs.Kernels.{KernelsGoAlike, Printer, OfItems, OfGroups, PrintsBy}
 use Rattle.rewriting.specs.Keeps.{Keeps}
 use Rattle.strategy_script.specs.Steps.{State as TermState}
 use Rattle.program_source.specs.Program.{source_value}
-use Rattle.compilation.specs.Compiled.{IsCompiled, PrintsAs, PrintsAtAll}
+use Rattle.compilation.specs.Compiled.{IsCompiled, PrintsAtAll}
 use Rattle.compilation.specs.Laws.{CompilationEndsOnce}
-use Rattle.compilation.specs.Legal.{IsAccepted, LegalOf}
+use Rattle.compilation.specs.Legal.{IsAccepted}
 use Rattle.compilation.specs.Meets.{Admits, MeetsSource}
 use Rattle.program_runs.specs.Alike.{AreLinesOf, PrintedKernelsGoAlike}
 use Rattle.program_runs.specs.Runs.{AreLinesOfText, IsAdmissibleFor, RunsAsGiven, begun, traced_sights, world_given}
@@ -54,18 +47,12 @@ use Rattle.program_runs.specs.Started.{AreRunLines}
 use Rattle.program_runs.proofs.Admitted.{given_is_admissible}
 use Rattle.program_runs.proofs.Running.{OneKernel, start_is}
 
--- ---- one law for all kinds
+-- ---- of a legal term
 
-of_kind : PrintedProgramsGoAlike → PrintedGroupProgramsGoAlike → (kind : NestKind) (d : Declared) (asks : Asks) (w : World) (t : Tree) (n : Annotation) (l : Launch) (k m : Kernel) (c : Cells) (s r : State)
-    → IsPrintableAs kind d t n → IsAdmissible d w → IsLaunchOf d asks w.bases l → AreBuffersOf d w t n c → PrintsAs kind d asks.local w.bases t n l k → PrintsAs kind d asks.local w.bases t n l m
-    → IsStart k l c s → IsStart m l c r → SameContents l s r → GoesAlike (device_of k l c) s (device_of m l c) r
-of_kind items groups Task d asks w t n l k m c s r can ok here cells a b = items d asks w t n l k m c s r (can.lowerable w.bases ok.bases) ok here cells a b
-of_kind items groups OverLaunch d asks w t n l k m c s r can ok here cells a b = items d asks w t n l k m c s r (can.lowerable w.bases ok.bases) ok here cells a b
-of_kind items groups OverGroups d asks w t n l k m c s r can ok here cells a b = groups d asks w t n l k m c s r (can.program w.bases ok.bases) ok here cells a b
-
-pub kernels_alike : LegalTermsArePrintable → PrintedProgramsGoAlike → PrintedGroupProgramsGoAlike → PrintedKernelsGoAlike
-kernels_alike printable items groups p local t n w l k m c s r legal copies ok here cells a b =
-    of_kind items groups (nest_kind t) (declared_by p) (asks_of local t) w t n l k m c s r (printable (declared_by p) t n legal copies) ok here cells a b
+pub kernels_alike : LegalTermsArePrintable → KernelsGoAlike → PrintedKernelsGoAlike
+kernels_alike printable alike p local t n w l k m c s r legal copies ok here cells =
+    let can = printable (declared_by p) t n legal copies in
+    alike (printer_for t) (declared_by p) (asks_of local t) w t n l k m c s r (can.can.lowerable w.bases ok.bases) (can.at_launch local w.bases l here) ok here cells
 
 -- ---- the same is seen
 
@@ -133,11 +120,9 @@ shape_of_rows [] (o ∷ os) count long = absurd (omega (arith, count))
 shape_of_rows (r ∷ rs) [] count long = absurd (omega (arith, count))
 shape_of_rows (r ∷ rs) (o ∷ os) count long = ap₂ (λ x xs. x ∷ xs) (sym (long 0)) (shape_of_rows rs os (omega (arith, count)) (λ a. long (suc a)))
 
-as_many : (kind : NestKind) (d : Declared) (local : Option ℕ) (bases : List ℕ) (t : Tree) (n : Annotation) (l : Launch) (k m : Kernel) → PrintsAs kind d local bases t n l k → PrintsAs kind d local bases t n l m
-    → (k.variables ≡ m.variables) × (k.vectors ≡ m.vectors)
-as_many Task d local bases t n l k m a b = (a.declares.variables ∙ sym b.declares.variables, a.declares.vectors ∙ sym b.declares.vectors)
-as_many OverLaunch d local bases t n l k m a b = (a.declares.variables ∙ sym b.declares.variables, a.declares.vectors ∙ sym b.declares.vectors)
-as_many OverGroups d local bases t n l k m a b = (a.declares.variables ∙ sym b.declares.variables, a.declares.vectors ∙ sym b.declares.vectors)
+declares_for : (p : Printer) (d : Declared) (local : Option ℕ) (bases : List ℕ) (t : Tree) (n : Annotation) (l : Launch) (k : Kernel) → PrintsBy p d local bases t n l k → DeclaresFor d local t n k
+declares_for OfItems d local bases t n l k prints = prints.declares
+declares_for OfGroups d local bases t n l k prints = prints.declares
 
 module _ (one_type : OneType) (alike : PrintedKernelsGoAlike) (p : PlainProgram) (output : PlainTy) (local : Option ℕ) (last : TermState) (accepted : IsAccepted p last.tree last.types) (keeps : Keeps (declared_by p) [] p.body last.tree) (typed : Types (declared_by p) [] p.body output)
     (k m : Kernel) (first : PrintsAtAll p local last k) (other : PrintsAtAll p local last m) (meets : MeetsSource p output local last m)
@@ -166,11 +151,15 @@ module _ (one_type : OneType) (alike : PrintedKernelsGoAlike) (p : PlainProgram)
     outputs = long ∙ ap (λ (a : PlainTy). map length (lists_of a (source_value p w))) same_type ∙ ap (λ (v : Value). map length (lists_of (type_in last.types) v)) (sym same_value);
   }
 
+  declares : (x : Kernel) → PrintsAtAll p local last x → DeclaresFor (declared_by p) local last.tree last.types x
+  declares x prints = declares_for (printer_for last.tree) (declared_by p) local g.bases last.tree last.types g.launch x (prints g.bases g.launch here)
+
   contents : SameContents g.launch (start_state k cells) (start_state m cells)
   contents = record {
     variables = λ j lt.
-        let many = as_many (nest_kind last.tree) (declared_by p) local g.bases last.tree last.types g.launch k m (first g.bases g.launch here) (other g.bases g.launch here) in
-        ap₂ (λ (words vectors : ℕ). record { words = replicate words 0; vectors = replicate vectors (spread 0) }) many.0 many.1;
+        let a = declares k first in
+        let b = declares m other in
+        ap₂ (λ (words vectors : ℕ). record { words = replicate words 0; vectors = replicate vectors (spread 0) }) (a.variables ∙ sym b.variables) (a.vectors ∙ sym b.vectors);
     memory = refl;
   }
 

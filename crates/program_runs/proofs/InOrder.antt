@@ -6,7 +6,7 @@ use Rattle.kernel_tree.specs.declared.events.Event.TheVariants.{Step}
 use Rattle.kernel_tree.specs.declared.events.FaultKind.{FaultKind}
 use Rattle.kernel_tree.specs.declared.events.Cell as shown
 use Rattle.kernel_tree.specs.Code.{Kernel}
-use Rattle.kernel_tree.specs.Device.{State, IsStart, IsRun, IsStuck, device_of, row, start_state}
+use Rattle.kernel_tree.specs.Device.{State, IsStart, IsRun, device_of, row, start_state}
 use Rattle.kernel_tree.specs.Grammar.{is_kernel}
 use Rattle.kernel_tree.specs.Inputs.{LeavesInputs}
 use Rattle.kernel_tree.specs.Launch.{Cells, Launch, MayStart}
@@ -21,7 +21,7 @@ use Rattle.printed_form.specs.Programs.{IsLaunchOf}
 use Rattle.value_lists.specs.Lists.{list_lengths}
 use Rattle.lowered_tree.specs.Kinds.{asks_of}
 use Rattle.ndrange_device.specs.Outcomes.{EndsUnder, FaultsUnder}
-use Rattle.sequence_runs.specs.Runs.{AllKeep, AreRuns, BeginsWith, IsStageRun, Passes, Stage, StageKeeps, StageRun, device, left}
+use Rattle.sequence_runs.specs.Runs.{AllKeep, AreRuns, BeginsWith, IsStageRun, Passes, Stage, StageKeeps, StageRun, left}
 use Rattle.program_runs.specs.Sequences.{begun_from}
 use Rattle.program_runs.proofs.LaidOut.{blank_lengths, row_lengths, rows_are}
 use Rattle.program_runs.proofs.Running.{start_is}

@@ -8,5 +8,6 @@ pub mod Once
 pub mod Running
 pub mod Stopped
 pub mod Turns
+pub mod NextKernel
 pub mod Unrefused
 pub mod Alike

@@ -1,8 +1,8 @@
 -- The runs of a sequence so far, and what is known of the next.
-use Rattle.std.proofs.Common.{◌≡◌, ◌∙◌, ◌+◌, ◌<◌, ◌≤◌, ◌^◌, ◌-◌, ℕ, zero, suc, min, true, List, [], ◌∷◌, ◌++◌, length, map, drop, take, Option, Some, refl, sym, ap, ap₂, arith, subst, append_assoc, append-nil}
+use Rattle.std.proofs.Common.{◌≡◌, ◌∙◌, ◌+◌, ◌<◌, ◌≤◌, ◌^◌, ℕ, zero, suc, true, List, [], ◌∷◌, ◌++◌, length, map, drop, take, Option, Some, refl, sym, ap, ap₂, arith, subst, append-nil}
 use Rattle.std.specs.Prelude.{get_or, slice_get, sum_by}
 use Rattle.std.specs.List.{enumerate_from}
-use Rattle.std.proofs.lemmas.List.{drop_all, length-map, take_all}
+use Rattle.std.proofs.lemmas.List.{drop_all, length-map, map-append, take_all}
 use Rattle.std.proofs.lemmas.Option.{same_Some}
 use Rattle.std.proofs.lemmas.List.Sums.{sum_by-append}
 use Rattle.std.proofs.Props.{props}
@@ -15,9 +15,10 @@ use Rattle.kernel_tree.specs.Grammar.{is_kernel}
 use Rattle.kernel_tree.specs.Launch.{Cells, MayStart}
 use Rattle.kernel_tree.specs.Schedule.{Schedule}
 use Rattle.lift_tree.specs.Annotations.{type_in}
-use Rattle.lift_tree.specs.Launches.{Asks, IsAdmissibleLaunch, buffers_of, lists_of}
+use Rattle.lift_tree.specs.Launches.{IsAdmissibleLaunch, buffers_of, lists_of}
 use Rattle.lift_tree.specs.Lists.{Every}
 use Rattle.lift_tree.specs.Meaning.{World}
+use Rattle.lift_tree.proofs.EveryAt.{every_at}
 use Rattle.lift_tree.specs.Programs.{PlainProgram}
 use Rattle.lift_tree.specs.Types.{HasType, HoldsElements, PlainTy}
 use Rattle.lift_tree.specs.Values.{Value}
@@ -50,11 +51,6 @@ made_at f [] (z ∷ ys) n y e at = absurd (cc)
 made_at f (x ∷ xs) [] n y e at = absurd (cc)
 made_at f (x ∷ xs) (z ∷ ys) zero y e at = (x, refl, cc)
 made_at f (x ∷ xs) (z ∷ ys) (suc n) y e at = made_at f xs ys n y (cc) at
-
-every_at : {A : Type 0} (P : A → Type 0) (xs : List A) (n : ℕ) (x : A) → Every P xs → slice_get xs n ≡ Some x → P x
-every_at P [] n x h at = absurd (cc)
-every_at P (y ∷ xs) zero x h at = subst P (cc) h.0
-every_at P (y ∷ xs) (suc n) x h at = every_at P xs n x h.1 at
 
 pub mapped_at : {A B : Type 0} (f : A → B) (xs : List A) (ys : List B) (n : ℕ) (x : A) → map f xs ≡ ys → slice_get xs n ≡ Some x → slice_get ys n ≡ Some (f x)
 mapped_at f [] ys n x e at = absurd (cc)
@@ -130,10 +126,6 @@ sum_more f rs r = let e = sum_by-append f rs (r ∷ []) in let one : sum_by f (r
 
 capped_more : (a b c s : ℕ) → a ≡ capped b → s ≡ b + c → capped (a + c) ≡ capped s
 capped_more a b c s first all = omega (arith, first, all)
-
-map_more : {A B : Type 0} (f : A → B) (xs : List A) (x : A) → map f (xs ++ x ∷ []) ≡ map f xs ++ f x ∷ []
-map_more f [] x = refl
-map_more f (y ∷ xs) x = ap (λ zs. f y ∷ zs) (map_more f xs x)
 
 module _ (p : PlainProgram) (output : PlainTy) (local : Option ℕ) (outlines : List Outline) (text : List ℕ) (gs : List Given) (xs : List Kernel) (first : List (List ℕ)) where
   -- so many kernels were run; the last of them left this behind what was there before it
@@ -291,11 +283,11 @@ module _ (p : PlainProgram) (output : PlainTy) (local : Option ℕ) (outlines : 
             record {
               run = record {
                 runs = runs ++ r ∷ [];
-                of_kernels = map_more (λ (q : KernelRun). q.kernel) runs r ∙ ap (λ (z : List Kernel). z ++ x ∷ []) s.run.of_kernels ∙ sym (taken_at xs n x at_x);
+                of_kernels = map-append (λ (q : KernelRun). q.kernel) runs (r ∷ []) ∙ ap (λ (z : List Kernel). z ++ x ∷ []) s.run.of_kernels ∙ sym (taken_at xs n x at_x);
                 of_outputs =
-                    map_more (λ (q : KernelRun). q.output) runs r ∙ ap (λ (z : List PlainTy). z ++ o.output ∷ []) s.run.of_outputs
-                    ∙ sym (map_more (λ (z : Outline). z.output) (take n outlines) o) ∙ ap (map (λ (z : Outline). z.output)) (sym (taken_at outlines n o at_o));
-                of_givens = map_more (λ (q : KernelRun). q.given) runs r ∙ ap (λ (z : List Given). z ++ g ∷ []) s.run.of_givens ∙ sym (taken_at gs n g at_g);
+                    map-append (λ (q : KernelRun). q.output) runs (r ∷ []) ∙ ap (λ (z : List PlainTy). z ++ o.output ∷ []) s.run.of_outputs
+                    ∙ sym (map-append (λ (z : Outline). z.output) (take n outlines) (o ∷ [])) ∙ ap (map (λ (z : Outline). z.output)) (sym (taken_at outlines n o at_o));
+                of_givens = map-append (λ (q : KernelRun). q.given) runs (r ∷ []) ∙ ap (λ (z : List Given). z ++ g ∷ []) s.run.of_givens ∙ sym (taken_at gs n g at_g);
                 run = runs_more first runs r s.run.run here;
                 counted = capped_more events (sum_by (λ (q : KernelRun). q.events) runs) more _ s.run.counted (sum_more (λ (q : KernelRun). q.events) runs r);
                 released = capped_more releases (sum_by (λ (q : KernelRun). q.releases) runs) freed _ s.run.released (sum_more (λ (q : KernelRun). q.releases) runs r);

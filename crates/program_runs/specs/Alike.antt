@@ -14,27 +14,27 @@ use Rattle.lift_tree.specs.Tree.{Tree}
 use Rattle.lift_tree.specs.Types.{PlainTy}
 use Rattle.lift_tree.specs.Typing.{IsAdmissible, declared_by}
 use Rattle.lowered_tree.specs.Copies.{CopiesArrays}
-use Rattle.lowered_tree.specs.Kind.{nest_kind}
 use Rattle.lowered_tree.specs.Kinds.{asks_of}
 use Rattle.nest_premises.specs.Legal.{IsLegalTerm}
+use Rattle.nest_premises.specs.Printable.{printer_for}
 use Rattle.printed_form.specs.Programs.{AreBuffersOf, IsLaunchOf, SameContents}
 use Rattle.program_source.specs.Program.{IsRead}
-use Rattle.compilation.specs.Compiled.{IsCompiled, PrintsAs}
+use Rattle.group_form.specs.Kernels.{PrintsBy}
+use Rattle.compilation.specs.Compiled.{IsCompiled}
 use Rattle.program_runs.specs.Runs.{AreLinesOfText}
 use Rattle.program_runs.specs.Started.{AreRunLines}
 
--- any two kernels that are printed for one legal term, as its kind says, with one local size or
--- none, go alike at one launch and
--- from the same contents: the same events can come, with the same accesses, and each schedule makes
--- the same run of both
+-- any two kernels that are printed for one legal term, by the printer of its kind, with one local
+-- size or none, go alike at one launch and from the same contents: the same events can come, with
+-- the same accesses, and each schedule makes the same run of both
 abbrev pub PrintedKernelsGoAlike : Type 0
 PrintedKernelsGoAlike =
     (p : PlainProgram) (local : Option ℕ) (t : Tree) (n : Annotation) (w : World) (l : Launch)
     (k m : Kernel) (c : Cells) (s r : State)
     → IsLegalTerm (declared_by p) t n → CopiesArrays t n → IsAdmissible (declared_by p) w
     → IsLaunchOf (declared_by p) (asks_of local t) w.bases l → AreBuffersOf (declared_by p) w t n c
-    → PrintsAs (nest_kind t) (declared_by p) local w.bases t n l k
-    → PrintsAs (nest_kind t) (declared_by p) local w.bases t n l m
+    → PrintsBy (printer_for t) (declared_by p) local w.bases t n l k
+    → PrintsBy (printer_for t) (declared_by p) local w.bases t n l m
     → IsStart k l c s → IsStart m l c r → SameContents l s r
     → GoesAlike (device_of k l c) s (device_of m l c) r
 

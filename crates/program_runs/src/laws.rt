@@ -3,7 +3,7 @@ ghost use Rattle.program_runs.specs.Alike.{PrintedKernelsGoAlike, TextsRunAlike}
 ghost use Rattle.program_runs.specs.Table.{StagesEndOnce};
 
 use compilation::laws::{compilation_ends_once, sequences_end_once};
-use group_form::alike::printed_group_programs_go_alike;
+use group_form::kernels::kernels_go_alike;
 use kernel_spelling::one_kernel;
 use launch_file::laws::{
     files_are_not_refused, files_give_one_thing, stages_files_are_not_refused,
@@ -11,7 +11,6 @@ use launch_file::laws::{
 };
 use lift_tree::laws::terms_have_one_type;
 use nest_premises::groups::legal_terms_are_printable;
-use printed_form::laws::printed_programs_go_alike;
 use program_source::laws::{sources_end_once, typed_programs_are_proper};
 
 /// The stages of each command come to one end: they pass, or one of them stops for one cause.
@@ -28,14 +27,13 @@ pub fn one_end()
     stages_files_give_one_thing();
 }
 
-/// Any two kernels that are printed for one legal term, as its kind says, have at one launch and
-/// from the same contents the same events with the same accesses, under every schedule.
+/// Any two kernels that are printed for one legal term, by the printer of its kind, have at one
+/// launch and from the same contents the same events with the same accesses, under every schedule.
 pub fn printed_kernels_go_alike()
     ensures { PrintedKernelsGoAlike }
 {
+    kernels_go_alike();
     legal_terms_are_printable();
-    printed_programs_go_alike();
-    printed_group_programs_go_alike();
 }
 
 /// The lines of a run are those of every text of the program's kernel, whatever stands in its

@@ -3,7 +3,6 @@ ghost use Rattle.std.specs.Prelude.{◌≡◌, ◌+◌, ℕ, IfErr, IfOk, Option
 ghost use Rattle.kernel_spelling.specs.SequenceText.{IsSequenceText};
 ghost use Rattle.kernel_tree.specs.Kernels.{kernel_of};
 ghost use Rattle.kernel_tree.specs.Launch as shown;
-ghost use Rattle.kernel_tree.specs.Schedule.{schedule_of};
 ghost use Rattle.kernel_tree.specs.declared.events.Cell.{Cell};
 ghost use Rattle.kernel_tree.specs.declared.events.FaultKind.{FaultKind};
 ghost use Rattle.ndrange_device.specs.Outcomes.{EndsUnder, FaultsUnder, capped};

@@ -9,6 +9,7 @@ pub mod Readings
 pub mod Lengths
 pub mod Views
 pub mod Codes
+pub mod Arguments
 pub mod TermIndices
 pub mod GroupIndices
 pub mod KernelIndices

@@ -2,7 +2,7 @@
 -- of its variables.
 use Rattle.std.proofs.Common.{◌≡◌, ℕ, zero, suc, ◌+◌, ◌<◌, ◌≤◌, ◌^◌, Bool, true, false, List, Option, Some, None, refl, ap, ◌∙◌, subst, arith}
 use Rattle.std.specs.Prelude.{◌&&◌, nat_lt, if◌then◌else◌, option_map}
-use Rattle.std.proofs.lemmas.Bool.{ltb-true, lt-ltb}
+use Rattle.std.proofs.lemmas.Bool.{ltb-true, lt-ltb, and_parts}
 use Rattle.size_arith.specs.declared.names.Name.{Name}
 use Rattle.scalar_ops.specs.declared.op.Op.{Op}
 use Rattle.scalar_ops.specs.declared.op.Op.TheVariants.{Add, Sub, Mul, Div, Rem, Min, Max}
@@ -22,14 +22,6 @@ use Rattle.tidy_indices.specs.Reading.{operation_of, on_both, any_turn, reading,
 use Rattle.tidy_indices.specs.Places.{ranges_outside}
 use Rattle.tidy_printed.specs.Indices.{IsDeclaredIndex}
 use Rattle.tidy_printed.proofs.Formulas.{Spelled}
-
-pub first_of : (a b : Bool) → (a && b) ≡ true → a ≡ true
-first_of true b e = refl
-first_of false b e = absurd (cc e)
-
-pub second_of : (a b : Bool) → (a && b) ≡ true → b ≡ true
-second_of true b e = e
-second_of false b e = absurd (cc e)
 
 -- a variable may be any word
 abbrev unranged : Expression → Expression
@@ -92,8 +84,10 @@ has_words k loops few (Variable (suc (suc i)) l g) h = let lt = ltb-true i loops
 has_words k loops few (Literal n) h = ltb-true n (2 ^ 32) h
 has_words k loops few (Size s) h = tt
 has_words k loops few (Binary o a b) h =
-    let parts = second_of (is_operator (operator_of o)) (names_declared k loops (index_formula a) && names_declared k loops (index_formula b)) h in
-    (has_words k loops few a (first_of (names_declared k loops (index_formula a)) (names_declared k loops (index_formula b)) parts), has_words k loops few b (second_of (names_declared k loops (index_formula a)) (names_declared k loops (index_formula b)) parts))
+    let first = names_declared k loops (index_formula a) in
+    let second = names_declared k loops (index_formula b) in
+    let parts = and_parts first second (and_parts (is_operator (operator_of o)) (first && second) h).1 in
+    (has_words k loops few a parts.0, has_words k loops few b parts.1)
 
 -- it has as many nodes
 same_divisor : (e : Expression) → divisor_of (unranged e) ≡ divisor_of e

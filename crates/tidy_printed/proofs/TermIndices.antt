@@ -7,20 +7,23 @@ use Rattle.lift_ir.specs.Forms.{Stands, StandsOverLaunch}
 use Rattle.lift_ir.specs.Types.{Shape, width}
 use Rattle.lift_ir.specs.Terms.{LoadSet, Kind, Global, Sequential, PrivateMemory, Term, Bound, Source, Both, Project, Reshape, LetArray, LetElement, Map, Fold, Store, Copy, push}
 use Rattle.index_expr.specs.Expression.{Expression, Literal, short_nodes}
+use Rattle.printed_form.specs.Arguments.{argument_view, private_arrays}
 use Rattle.printed_form.specs.Counts.{let_variables, load_count, variable_count, private_count}
 use Rattle.printed_form.specs.Form.{start_of, stride_of}
-use Rattle.printed_form.specs.MapForms.{MapForms}
+use Rattle.printed_form.specs.MapForms.{Looped, MapForms}
 use Rattle.printed_form.specs.Views.{View, held_sign, held_view, loaded_view, view_at, result_indices, laid_view}
-use Rattle.printed_form.specs.Printer.{sign_exprs, print_assigned, print_element, print_stored, print_loaded, print_fold_turn, argument_view, print_argument, print_written}
+use Rattle.printed_form.specs.Printer.{sign_exprs, print_assigned, print_element, print_stored, print_loaded, print_fold_turn, print_argument, print_written}
+use Rattle.printed_form.proofs.Arguments.{stands_argument}
 use Rattle.tidy_printed.specs.Indices.{indices_then}
 use Rattle.tidy_printed.specs.Limits.{IndexNodes, no_index, at_one_node, after_loads, load_limits, store_limits, array_nodes, written_through, argument_nodes, element_nodes, argument_limits, written_limits}
 use Rattle.tidy_printed.proofs.Formulas.{Spelled, spelled_number, index_number, index_loop}
-use Rattle.tidy_printed.proofs.Views.{IsIndexed, sides_indexed, part_indexed, turned_indexed, held_indexed, loaded_indexed, read_indexed, written_indexed, placed_indexed}
-use Rattle.tidy_printed.proofs.Codes.{Fits, AreIndexed, pushed, assigned_fine, stored_fine, loads_fine, element_fine, turn_fine}
+use Rattle.tidy_printed.proofs.Views.{IsIndexed, turned_indexed, held_indexed, written_indexed, placed_indexed}
+use Rattle.tidy_printed.proofs.Codes.{Fits, AreIndexed, pushed, assigned_fine, stored_fine, element_fine, turn_fine, map_fine}
+use Rattle.tidy_printed.proofs.Arguments.{argument_indexed}
 
 module _ (names : List Name) {A : Type 0} (spell : A → Expression) (text : A → Formula) (lengths : (n : A) → Spelled names (short_nodes (spell n)) (text n)) (forms : MapForms A) (src : ℕ → Shape A) (ins : ℕ → View) (inputs : (v : ℕ) → IsIndexed names (array_nodes spell (src v)) (ins v)) where
   abbrev viewed : (ℕ → View) → ℕ → Term A → View
-  viewed env a t = argument_view text ins env a t
+  viewed env a t = argument_view private_arrays text ins env a t
 
   abbrev counted : (ℕ → IndexNodes) → Term A → IndexNodes
   counted counts t = argument_nodes spell forms src counts t
@@ -37,40 +40,24 @@ module _ (names : List Name) {A : Type 0} (spell : A → Expression) (text : A �
   abbrev Right : List ℕ → Code → List Formula → Type 0
   Right limits c fs = Fits names limits c fs
 
-  pub viewed_indexed : (counts : ℕ → IndexNodes) (env : ℕ → View) (a : ℕ) (t : Term A) → Stands false t → Views counts env → IsIndexed names (counted counts t) (viewed env a t)
-  viewed_indexed counts env a (Bound v) stands all = all v
-  viewed_indexed counts env a (Source v) stands all = inputs v
-  viewed_indexed counts env a (Both zips x y) stands all =
-      sides_indexed names (counted counts x) (counted counts y) (viewed env a x) (viewed env (a + private_count x) y) (viewed_indexed counts env a x stands.0 all) (viewed_indexed counts env (a + private_count x) y stands.1 all)
-  viewed_indexed counts env a (Project d x) stands all = part_indexed names (counted counts x) (viewed env a x) d (viewed_indexed counts env a x stands all)
-  viewed_indexed counts env a (Reshape y x) stands all = read_indexed names spell text lengths y (counted counts x) (viewed env a x) (viewed_indexed counts env a x stands all)
-  viewed_indexed counts env a (LetArray v b) stands all =
-      viewed_indexed (push (counted counts v) counts) (push (viewed env a v) env) (a + private_count v) b stands.1
-      (pushed names counts env (counted counts v) (viewed env a v) (viewed_indexed counts env a v stands.0 all) all)
-  viewed_indexed counts env a (Copy PrivateMemory ty x) stands all = placed_indexed names Literal Number (spelled_number names) Private (a + private_count x) ty
-  viewed_indexed counts env a _ stands all = absurd stands
+  viewed_indexed : (counts : ℕ → IndexNodes) (env : ℕ → View) (a : ℕ) (t : Term A) → Stands false t → Views counts env → IsIndexed names (counted counts t) (viewed env a t)
+  viewed_indexed counts env a t stands all = argument_indexed names private_arrays spell text lengths forms src ins inputs counts env a t (stands_argument t stands) all
 
-  -- a map by turns of one work-item, whose body is so wherever it stands
-  map_fine : (kind : Kind) (d : ℕ) (counts : ℕ → IndexNodes) (env : ℕ → View) (a n : ℕ) (m : A) (ls : LoadSet) (x b : Term A) (to : IndexNodes) (w : View) (rest : Code) (limits : List ℕ) (fs : List Formula)
+  -- a map by turns of one work-item, whose argument and body are so wherever they stand
+  loop_fine : (kind : Kind) (d : ℕ) (counts : ℕ → IndexNodes) (env : ℕ → View) (a n : ℕ) (m : A) (ls : LoadSet) (x b : Term A) (to : IndexNodes) (w : View) (rest : Code) (limits : List ℕ) (fs : List Formula)
       → ((code : Code) (inside : List ℕ) → Right inside code fs → Right (argued counts x inside) (print_argument text ins d env a n x code) fs)
-      → ((counts : ℕ → IndexNodes) (env : ℕ → View) (a n : ℕ) (to : IndexNodes) (w : View) (limits : List ℕ) (fs : List Formula) → Views counts env → IsIndexed names to w → Right limits End fs → Right (written counts b to limits) (print_written text ins (suc d) env a n b w End) fs)
+      → ((counts : ℕ → IndexNodes) (env : ℕ → View) (a n : ℕ) (to : IndexNodes) (w : View) (last : Code) (gs : List Formula) → Views counts env → IsIndexed names to w → Right limits last gs → Right (written counts b to limits) (print_written text ins (suc d) env a n b w last) gs)
       → Stands false x → Views counts env → IsIndexed names to w → Right limits rest fs
       → Right (argued counts x (short_nodes (spell m) ∷ load_limits ls (element_nodes spell forms src counts x) (written (push (after_loads ls (element_nodes spell forms src counts x)) counts) b (at_one_node to) limits))) (print_written text ins d env a n (Map kind m ls x b) w rest) fs
-  map_fine kind d counts env a n m ls x b to w rest limits fs argument body stands all goes f =
-      let element = view_at (LoopVariable d) (viewed env a x) in
-      let inner = push (loaded_view ls element (n + variable_count x)) env in
-      let first = n + variable_count x + load_count ls in
+  loop_fine kind d counts env a n m ls x b to w rest limits fs argument body stands all goes f =
+      let start = n + variable_count x in
+      let inside : (ℕ → IndexNodes) → IndexNodes → List ℕ = λ counts to. written counts b to limits in
+      let code : (ℕ → View) → View → Code → Code = λ env w last. print_written text ins (suc d) env (a + private_count x) (start + load_count ls) b w last in
       let at = element_nodes spell forms src counts x in
-      let within = push (after_loads ls at) counts in
-      let inside = written within b (at_one_node to) limits in
-      let code = print_written text ins (suc d) inner (a + private_count x) first b (view_at (LoopVariable d) w) End in
-      let turned = turned_indexed names (LoopVariable d) (counted counts x) (viewed env a x) (index_loop names d) (viewed_indexed counts env a x stands all) in
-      argument (Loops (start_of kind) (text m) (stride_of kind) (print_loaded ls element (n + variable_count x) code) rest) (short_nodes (spell m) ∷ load_limits ls at inside) (
-        lengths m,
-        loads_fine names ls at element (n + variable_count x) code inside (indices_then rest fs) turned
-            (body within inner (a + private_count x) first (at_one_node to) (view_at (LoopVariable d) w) limits (indices_then rest fs)
-            (pushed names counts env (after_loads ls at) (loaded_view ls element (n + variable_count x)) (loaded_indexed names ls at element (n + variable_count x) turned) all) (turned_indexed names (LoopVariable d) to w (index_loop names d) goes) f),
-      )
+      let element = view_at (LoopVariable d) (viewed env a x) in
+      argument (Loops (start_of kind) (text m) (stride_of kind) (print_loaded ls element start (code (push (loaded_view ls element start) env) (view_at (LoopVariable d) w) End)) rest) (short_nodes (spell m) ∷ load_limits ls at (inside (push (after_loads ls at) counts) (at_one_node to)))
+      (map_fine names Looped kind d (short_nodes (spell m)) start (text m) ls counts env (counted counts x) to (viewed env a x) w inside code rest limits fs
+      (index_loop names d) (lengths m) (λ counts env. body counts env (a + private_count x) (start + load_count ls)) all (viewed_indexed counts env a x stands all) goes f)
 
   mutual
     pub argument_fine : (d : ℕ) (counts : ℕ → IndexNodes) (env : ℕ → View) (a n : ℕ) (t : Term A) (rest : Code) (limits : List ℕ) (fs : List Formula) → Stands false t → Views counts env → Right limits rest fs → Right (argued counts t limits) (print_argument text ins d env a n t rest) fs
@@ -108,8 +95,8 @@ module _ (names : List Name) {A : Type 0} (spell : A → Expression) (text : A �
         (assigned_fine names (written within b to limits) fs ty (sign_exprs env n v) (n + let_variables v) after
         (written_fine d within inner a (n + let_variables v + width ty) b to w rest limits fs stands (pushed names counts env no_index (held_view ty (n + let_variables v)) (held_indexed names ty (n + let_variables v)) all) goes f))
     written_fine d counts env a n (Map Sequential m ls x b) to w rest limits fs stands all goes f =
-        map_fine Sequential d counts env a n m ls x b to w rest limits fs (λ code inside r. argument_fine d counts env a n x code inside fs stands.0 all r)
-        (λ counts env a n to w limits fs all goes f. written_fine (suc d) counts env a n b to w End limits fs stands.1 all goes f) stands.0 all goes f
+        loop_fine Sequential d counts env a n m ls x b to w rest limits fs (λ code inside r. argument_fine d counts env a n x code inside fs stands.0 all r)
+        (λ counts env a n to w last gs all goes f. written_fine (suc d) counts env a n b to w last limits gs stands.1 all goes f) stands.0 all goes f
     written_fine d counts env a n (Fold m ls ty x s b) to w rest limits fs stands all goes f =
         let start = n + variable_count x in
         let acc = start + let_variables s in
@@ -139,6 +126,6 @@ module _ (names : List Name) {A : Type 0} (spell : A → Expression) (text : A �
       argument_fine d counts env a n v (print_written text ins d inner (a + private_count v) (n + variable_count v) b w rest) (written within b to limits) fs stands.0 all
       (launch_fine d within inner (a + private_count v) (n + variable_count v) b to w rest limits fs stands.1 (pushed names counts env (counted counts v) (viewed env a v) (viewed_indexed counts env a v stands.0 all) all) goes f)
   launch_fine d counts env a n (Map Global m ls x b) to w rest limits fs stands all goes f =
-      map_fine Global d counts env a n m ls x b to w rest limits fs (λ code inside r. argument_fine d counts env a n x code inside fs stands.0 all r)
-      (λ counts env a n to w limits fs all goes f. written_fine (suc d) counts env a n b to w End limits fs stands.1 all goes f) stands.0 all goes f
+      loop_fine Global d counts env a n m ls x b to w rest limits fs (λ code inside r. argument_fine d counts env a n x code inside fs stands.0 all r)
+      (λ counts env a n to w last gs all goes f. written_fine (suc d) counts env a n b to w last limits gs stands.1 all goes f) stands.0 all goes f
   launch_fine d counts env a n _ to w rest limits fs stands all goes f = absurd stands

@@ -1,34 +1,25 @@
 -- Tidied, a map over work-groups is what it was printed for.
 use Rattle.std.proofs.Common.{◌≡◌, ℕ, ◌+◌, ◌<◌, Bool, true, false, List, [], ◌∷◌, Some, refl, ap, ◌∙◌, arith}
 use Rattle.size_arith.specs.declared.poly.Monomial.{Monomial}
-use Rattle.lift_tree.specs.Annotations.{type_in}
 use Rattle.kernel_tree.specs.Formula.{Formula, bound_value}
 use Rattle.kernel_tree.specs.Code.{Local as LocalArray, Code, End}
 use Rattle.kernel_tree.specs.Launch.{Launch, ids_of}
 use Rattle.barrier_placement.specs.Fencing.{Fencing, Open, Fenced}
-use Rattle.lift_ir.specs.AtLaunch.{length_at, ty_at}
 use Rattle.lift_ir.specs.Layouts.{result_position}
 use Rattle.lift_ir.specs.Terms.{LoadSet, WorkGroup, Local, LocalMemory, Term, Bound, Source, Both, Project, Reshape, LetArray, Map, Copy, push}
 use Rattle.lift_ir.specs.Scalars.{at_index}
-use Rattle.printed_form.specs.Counts.{load_count}
+use Rattle.printed_form.specs.Counts.{load_count, local_count}
 use Rattle.printed_form.specs.MapForms.{MapForm, MapForms, form_over_groups, statement_over_groups, variables_in}
 use Rattle.printed_form.specs.Marks.{Marks, laid_in, loaded_marks}
 use Rattle.printed_form.specs.Form.{start_of, IsTurnOf, argument_marks}
-use Rattle.printed_form.specs.Whole.{no_marks, output_marks}
-use Rattle.printed_form.specs.Printer.{input_marks}
-use Rattle.printed_form.specs.Programs.{input_shape, first_buffer, lowered_root}
-use Rattle.printed_form.proofs.Programs.{declares_too}
 use Rattle.group_phases.specs.Epochs.{IsPast}
-use Rattle.group_form.specs.ChosenForms.{forms_of}
-use Rattle.group_form.specs.Origins.{local_count}
 use Rattle.group_form.specs.Stages.{marks_of}
 use Rattle.group_form.specs.Uses.{phases_in}
 use Rattle.group_form.specs.Form.{Used, used_after, IsLocalMap, IsGroupArgument, IsGroupWritten, IsGroupTurn, IsOverGroups}
 use Rattle.tidy_indices.specs.Around.{Around, InLoop, InIf, StandsIn}
 use Rattle.tidy_indices.specs.Laws.{Change, KeepsValues}
 use Rattle.tidy_kernels.specs.Pass.{tidied_code}
-use Rattle.tidy_printed.specs.Terms.{TidiedLoadsArePrinted, TidiedMapsArePrinted}
-use Rattle.tidy_printed.specs.Groups.{TidiedGroupCodesArePrinted, TidiedGroupKernelsArePrinted}
+use Rattle.tidy_printed.specs.Terms.{TidiedGroupCodesArePrinted, TidiedLoadsArePrinted, TidiedMapsArePrinted}
 
 past : (tidy : Change) (around : List Around) (f : Fencing) (before after : Code) → IsPast f before after → IsPast f (tidied_code tidy around before) (tidied_code tidy around after)
 past tidy around Open before after h = ap (tidied_code tidy around) h
@@ -119,11 +110,3 @@ module _ {A : Type 0} (loaded : TidiedLoadsArePrinted) (mapped : TidiedMapsArePr
 
 pub code_is : TidiedLoadsArePrinted → TidiedMapsArePrinted (List Monomial) → TidiedGroupCodesArePrinted (List Monomial)
 code_is loaded mapped num forms l ins fence env tidy t to code keeps h = over_groups loaded mapped num forms l ins fence tidy keeps env t to code h
-
-pub kernel_is : TidiedLoadsArePrinted → TidiedMapsArePrinted (List Monomial) → TidiedGroupKernelsArePrinted
-kernel_is loaded mapped d size bases t a l tidy k keeps h = record {
-  declares = declares_too d size t a k (tidied_code tidy [] k.code) h.declares;
-  fence = h.fence;
-  needed = h.needed;
-  code = over_groups loaded mapped (length_at bases) (forms_of d.names size) l (input_marks (length_at bases) (first_buffer d.inputs) (input_shape d.inputs)) h.fence tidy keeps no_marks (lowered_root d.names t a) (output_marks (ty_at bases (type_in a))) k.code h.code;
-}

@@ -1,4 +1,4 @@
--- Tidied, a whole kernel is printed for its term.
+-- Tidied, a whole kernel is printed for its term, by either printer.
 use Rattle.std.proofs.Common.{ℕ, ◌+◌, List, [], inl, inr}
 use Rattle.size_arith.specs.declared.poly.Monomial.{Monomial}
 use Rattle.kernel_tree.specs.Code.{Code, End}
@@ -15,9 +15,11 @@ use Rattle.printed_form.specs.Whole.{IsOverLaunch, no_marks, output_marks}
 use Rattle.printed_form.specs.Printer.{input_marks}
 use Rattle.printed_form.specs.Programs.{input_shape, first_buffer, lowered_root}
 use Rattle.printed_form.proofs.Programs.{declares_too}
+use Rattle.group_form.specs.ChosenForms.{forms_of}
+use Rattle.group_form.specs.Kernels.{OfItems, OfGroups}
 use Rattle.tidy_indices.specs.Laws.{Change, KeepsValues}
 use Rattle.tidy_kernels.specs.Pass.{tidied_code}
-use Rattle.tidy_printed.specs.Terms.{TidiedCodesArePrinted, TidiedKernelsArePrinted}
+use Rattle.tidy_printed.specs.Terms.{TidiedCodesArePrinted, TidiedGroupCodesArePrinted, TidiedKernelsArePrinted}
 use Rattle.tidy_printed.proofs.TidiedTerms.{argument, written, maps_are}
 
 module _ {A : Type 0} (l : Launch) (item : ℕ) (ins : ℕ → Marks) (num : A → ℕ) (tidy : Change) (keeps : KeepsValues tidy l) where
@@ -40,8 +42,14 @@ pub code_is : TidiedCodesArePrinted (List Monomial)
 code_is l ins num tidy t ty code keeps (inl h) = inl (h.0, written l 0 ins num tidy keeps [] [] tt no_marks 0 0 t (output_marks ty) code End h.1)
 code_is l ins num tidy t ty code keeps (inr h) = inr (λ item lt. over_launch l item ins num tidy keeps no_marks 0 0 t (output_marks ty) code End (h item lt))
 
-pub kernel_is : TidiedKernelsArePrinted
-kernel_is d size bases t a l tidy k keeps h = record {
+pub kernel_is : TidiedCodesArePrinted (List Monomial) → TidiedGroupCodesArePrinted (List Monomial) → TidiedKernelsArePrinted
+kernel_is codes group_codes OfItems d size bases t a l tidy k keeps h = record {
   declares = declares_too d size t a k (tidied_code tidy [] k.code) h.declares;
-  code = code_is l (input_marks (length_at bases) (first_buffer d.inputs) (input_shape d.inputs)) (length_at bases) tidy (lowered_root d.names t a) (ty_at bases (type_in a)) k.code keeps h.code;
+  code = codes l (input_marks (length_at bases) (first_buffer d.inputs) (input_shape d.inputs)) (length_at bases) tidy (lowered_root d.names t a) (ty_at bases (type_in a)) k.code keeps h.code;
+}
+kernel_is codes group_codes OfGroups d size bases t a l tidy k keeps h = record {
+  declares = declares_too d size t a k (tidied_code tidy [] k.code) h.declares;
+  fence = h.fence;
+  needed = h.needed;
+  code = group_codes (length_at bases) (forms_of d.names size) l (input_marks (length_at bases) (first_buffer d.inputs) (input_shape d.inputs)) h.fence no_marks tidy (lowered_root d.names t a) (output_marks (ty_at bases (type_in a))) k.code keeps h.code;
 }

@@ -1,5 +1,4 @@
 pub mod Terms
-pub mod Groups
 pub mod Indices
 pub mod Limits
 pub mod Tidy

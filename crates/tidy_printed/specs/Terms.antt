@@ -5,15 +5,17 @@ use Rattle.lift_tree.specs.Typing.{Declared}
 use Rattle.lift_tree.specs.Annotations.{Annotation}
 use Rattle.kernel_tree.specs.Code.{Code, Kernel}
 use Rattle.kernel_tree.specs.Launch.{Launch, ids_of}
+use Rattle.barrier_placement.specs.Fencing.{Fencing}
 use Rattle.lift_ir.specs.Types.{Ty}
 use Rattle.lift_ir.specs.Terms.{LoadSet, Kind, Term, push}
 use Rattle.lift_ir.specs.Scalars.{at_index}
 use Rattle.printed_form.specs.Counts.{load_count}
 use Rattle.printed_form.specs.Marks.{Marks, loaded_marks}
 use Rattle.printed_form.specs.Form.{IsLoaded, IsWritten}
-use Rattle.printed_form.specs.MapForms.{MapForm, TurnCode, AreTurns}
+use Rattle.printed_form.specs.MapForms.{MapForm, MapForms, TurnCode, AreTurns}
 use Rattle.printed_form.specs.Whole.{IsCode}
-use Rattle.printed_form.specs.Programs.{Prints}
+use Rattle.group_form.specs.Form.{IsOverGroups}
+use Rattle.group_form.specs.Kernels.{Printer, PrintsBy}
 use Rattle.tidy_indices.specs.Around.{Around, StandsIn}
 use Rattle.tidy_indices.specs.Laws.{Change, KeepsValues}
 use Rattle.tidy_kernels.specs.Pass.{tidied_code, tidied_kernel}
@@ -55,10 +57,18 @@ TidiedCodesArePrinted A =
     → KeepsValues tidy l → IsCode l ins num t ty code
     → IsCode l ins num t ty (tidied_code tidy [] code)
 
--- of a program's typed term
+-- of any term over work-groups, with the same barriers
+abbrev pub TidiedGroupCodesArePrinted : Type 0 → Type 0
+TidiedGroupCodesArePrinted A =
+    (num : A → ℕ) (forms : MapForms A) (l : Launch) (ins : ℕ → Marks) (fence : ℕ → Fencing)
+    (env : ℕ → Marks) (tidy : Change) (t : Term A) (to : Marks) (code : Code)
+    → KeepsValues tidy l → IsOverGroups num forms l ins fence env t to code
+    → IsOverGroups num forms l ins fence env t to (tidied_code tidy [] code)
+
+-- of a program's typed term, by either printer
 abbrev pub TidiedKernelsArePrinted : Type 0
 TidiedKernelsArePrinted =
-    (d : Declared) (size : Option ℕ) (bases : List ℕ) (t : Tree) (a : Annotation) (l : Launch)
-    (tidy : Change) (k : Kernel)
-    → KeepsValues tidy l → Prints d size bases t a l k
-    → Prints d size bases t a l (tidied_kernel tidy k)
+    (p : Printer) (d : Declared) (size : Option ℕ) (bases : List ℕ) (t : Tree) (a : Annotation)
+    (l : Launch) (tidy : Change) (k : Kernel)
+    → KeepsValues tidy l → PrintsBy p d size bases t a l k
+    → PrintsBy p d size bases t a l (tidied_kernel tidy k)

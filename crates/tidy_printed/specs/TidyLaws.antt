@@ -1,6 +1,6 @@
 -- The indices and bounds of the kernels that are printed with lengths as they are spelled, and of
 -- those kernels tidied.
-use Rattle.std.specs.Prelude.{◌≡◌, ◌⊎◌, ℕ, true, List, [], Option}
+use Rattle.std.specs.Prelude.{◌≡◌, ℕ, true, List, [], Option}
 use Rattle.size_arith.specs.declared.names.Name.{Name}
 use Rattle.size_arith.specs.Ranges.{AreNames}
 use Rattle.lift_tree.specs.Tree.{Tree}
@@ -9,12 +9,9 @@ use Rattle.lift_tree.specs.Typing.{Declared}
 use Rattle.kernel_tree.specs.Code.{Code}
 use Rattle.kernel_tree.specs.Grammar.{is_kernel}
 use Rattle.barrier_placement.specs.Fencing.{Fencing}
-use Rattle.lift_ir.specs.Forms.{Stands, StandsOverLaunch}
-use Rattle.lift_ir.specs.Lowering.{Lowered}
 use Rattle.length_spelling.specs.Formulas.{length_formula}
-use Rattle.printed_form.specs.Programs.{lowered_root, printed_kernel}
-use Rattle.group_form.specs.Forms.{StandsOverGroups}
-use Rattle.group_form.specs.Printer.{printed_group_kernel}
+use Rattle.printed_form.specs.Programs.{lowered_root}
+use Rattle.group_form.specs.Kernels.{Printer, StandsFor, kernel_by}
 use Rattle.tidy_indices.specs.Tidy.{tidy_formula}
 use Rattle.tidy_indices.specs.Laws.{Change}
 use Rattle.tidy_kernels.specs.Pass.{tidied_code, tidied_kernel}
@@ -22,45 +19,23 @@ use Rattle.tidy_printed.specs.Indices.{EachWithin, IsDeclaredIndex, indices_then
 use Rattle.tidy_printed.specs.Limits.{limits_of}
 use Rattle.tidy_printed.specs.Tidy.{IsTidyFor, IsTidyIndex, MakesTidy}
 
--- for one work-item, or for a map over the launch
-abbrev pub StandsForItems : Lowered → Type 0
-StandsForItems t = Stands true t ⊎ StandsOverLaunch t
-
 -- what is printed for a term has declared indices and bounds alone, within its limits
 abbrev pub TermsHaveIndexFormulas : Type 0
 TermsHaveIndexFormulas =
-    (d : Declared) (size : Option ℕ) (t : Tree) (a : Annotation)
+    (p : Printer) (d : Declared) (size : Option ℕ) (fence : ℕ → Fencing) (t : Tree) (a : Annotation)
     →
-    (let plain = printed_kernel (length_formula d.names) d size t a in AreNames d.names
-    → StandsForItems (lowered_root d.names t a) → is_kernel plain ≡ true
-    → EachWithin (IsDeclaredIndex d.names) (limits_of d size t a) (indices_then plain.code []))
-
--- and what is printed for a map over work-groups
-abbrev pub GroupsHaveIndexFormulas : Type 0
-GroupsHaveIndexFormulas =
-    (d : Declared) (size : Option ℕ) (fence : ℕ → Fencing) (t : Tree) (a : Annotation)
-    →
-    (let plain = printed_group_kernel (length_formula d.names) fence d size t a in AreNames d.names
-    → StandsOverGroups (lowered_root d.names t a) → is_kernel plain ≡ true
+    (let plain = kernel_by p (length_formula d.names) fence d size t a in AreNames d.names
+    → StandsFor p (lowered_root d.names t a) → is_kernel plain ≡ true
     → EachWithin (IsDeclaredIndex d.names) (limits_of d size t a) (indices_then plain.code []))
 
 -- once the kernel is tidied, they are tidy within the limits
 abbrev pub TidiedTermsAreTidy : Type 0
 TidiedTermsAreTidy =
-    (d : Declared) (size : Option ℕ) (t : Tree) (a : Annotation) (tidy : Change)
-    →
-    (let plain = printed_kernel (length_formula d.names) d size t a in AreNames d.names
-    → StandsForItems (lowered_root d.names t a) → is_kernel plain ≡ true → MakesTidy d.names tidy
-    → IsTidyFor d size t a (tidied_kernel tidy plain))
-
--- and so they are for a map over work-groups
-abbrev pub TidiedGroupsAreTidy : Type 0
-TidiedGroupsAreTidy =
-    (d : Declared) (size : Option ℕ) (fence : ℕ → Fencing) (t : Tree) (a : Annotation)
+    (p : Printer) (d : Declared) (size : Option ℕ) (fence : ℕ → Fencing) (t : Tree) (a : Annotation)
     (tidy : Change)
     →
-    (let plain = printed_group_kernel (length_formula d.names) fence d size t a in AreNames d.names
-    → StandsOverGroups (lowered_root d.names t a) → is_kernel plain ≡ true
+    (let plain = kernel_by p (length_formula d.names) fence d size t a in AreNames d.names
+    → StandsFor p (lowered_root d.names t a) → is_kernel plain ≡ true
     → MakesTidy d.names tidy → IsTidyFor d size t a (tidied_kernel tidy plain))
 
 -- in any code, each such index and each such bound is tidy within its limit when the code is tidied

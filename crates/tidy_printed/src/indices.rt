@@ -1,19 +1,14 @@
 //! Laws of the indices and bounds of printed kernels, each carried by a function that does nothing.
 
-ghost use Rattle.tidy_printed.specs.TidyLaws.{TermsHaveIndexFormulas, GroupsHaveIndexFormulas, TidiedCodesAreTidy, TidiedTermsAreTidy, TidiedGroupsAreTidy, TidyFormulasMakeTidy};
+ghost use Rattle.tidy_printed.specs.TidyLaws.{TermsHaveIndexFormulas, TidiedCodesAreTidy, TidiedTermsAreTidy, TidyFormulasMakeTidy};
 
 use tidy_indices::laws::{tidy_formulas_are_irredundant, tidy_formulas_are_short};
 
-/// Where the printer makes a kernel of the kernel grammar of a term for one work-item, or over the
-/// launch, each index and each bound spells an index expression within its limit, the nodes of the
-/// layouts' formulas put into one another, that divides sizes by their declared divisors alone.
+/// Where a printer makes a kernel of the kernel grammar of a term, each index and each bound spells
+/// an index expression within its limit, the nodes of the layouts' formulas put into one another,
+/// that divides sizes by their declared divisors alone.
 pub fn terms_have_index_formulas()
     ensures { TermsHaveIndexFormulas }
-{}
-
-/// And where the printer of maps over work-groups makes one.
-pub fn groups_have_index_formulas()
-    ensures { GroupsHaveIndexFormulas }
 {}
 
 /// In code with such indices and bounds, in whatever loops and ifs, each is tidy within its limit
@@ -25,11 +20,6 @@ pub fn tidied_codes_are_tidy()
 /// Such a kernel of a typed term, tidied, is tidy for the term.
 pub fn tidied_terms_are_tidy()
     ensures { TidiedTermsAreTidy }
-{}
-
-/// And such a kernel of a map over work-groups.
-pub fn tidied_groups_are_tidy()
-    ensures { TidiedGroupsAreTidy }
 {}
 
 /// Tidy formulas are such.

@@ -1,8 +1,7 @@
 //! Printed kernels with simplified indices and bounds: a kernel that is printed for a term is
-//! printed for it when it is tidied (`terms`, `groups`), and what the printers make is tidy for the
-//! term then (`indices`).
+//! printed for it when it is tidied (`terms`), and what the printers make is tidy for the term then
+//! (`indices`).
 #![tactic(auto)]
 
-pub mod groups;
 pub mod indices;
 pub mod terms;

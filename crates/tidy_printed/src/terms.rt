@@ -2,8 +2,7 @@
 
 ghost use Rattle.size_arith.specs.declared.poly.Monomial.{Monomial};
 ghost use Rattle.std.specs.Prelude.{List};
-ghost use Rattle.tidy_printed.specs.Terms.{TidiedCodesArePrinted, TidiedKernelsArePrinted};
-ghost use Rattle.tidy_printed.specs.Terms.{TidiedLoadsArePrinted, TidiedMapsArePrinted};
+ghost use Rattle.tidy_printed.specs.Terms.{TidiedCodesArePrinted, TidiedGroupCodesArePrinted, TidiedKernelsArePrinted, TidiedLoadsArePrinted, TidiedMapsArePrinted};
 
 /// Code that is printed for the loads of an element, in these loops and ifs at these turns, is
 /// printed for them when it is tidied, where indices and bounds keep their values.
@@ -22,8 +21,20 @@ pub fn tidied_codes_are_printed()
     ensures { TidiedCodesArePrinted (List Monomial) }
 {}
 
-/// A kernel that is printed for a program's typed term at a launch is printed for it when it is
-/// tidied, where indices and bounds keep their values at the launch.
+/// Code that is printed for a map over work-groups is printed for it when it is tidied, with the
+/// same barriers, where indices and bounds keep their values.
+pub fn tidied_group_codes_are_printed()
+    ensures { TidiedGroupCodesArePrinted (List Monomial) }
+{
+    tidied_loads_are_printed();
+    tidied_maps_are_printed();
+}
+
+/// A kernel that is printed for a program's typed term at a launch, by either printer, is printed
+/// for it when it is tidied, where indices and bounds keep their values at the launch.
 pub fn tidied_kernels_are_printed()
     ensures { TidiedKernelsArePrinted }
-{}
+{
+    tidied_codes_are_printed();
+    tidied_group_codes_are_printed();
+}

@@ -8,11 +8,7 @@ returns c = can_be_emitted (record {
   few = c.declared_are_few.ensures;
   grammar = c.kernels_are_in_the_grammar.ensures;
   least = c.least_sizes_are_admissible.ensures;
-  groups = c.legal_group_kernels_are_in_the_grammar.ensures;
-  stand = c.legal_groups_stand_over_groups.ensures;
-  lowerable = c.legal_terms_can_be_lowered.ensures;
+  printable = c.legal_terms_are_printable.ensures;
   sound = c.lowered_terms_have_sound_parts.ensures;
   serve = c.lowered_terms_serve.ensures;
-  written = c.terms_can_be_written.ensures;
-  ungrouped = c.ungrouped_terms_are_printable.ensures;
 })

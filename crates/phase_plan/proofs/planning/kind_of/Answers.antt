@@ -15,5 +15,5 @@ of-requires c =
     let n = annotation_of l.types in
     let root = term_of c.args.root.now in
     ∥∥₁_elim l.sound (over_groups_once root) (λ is.
-    stands c.legal_groups_stand_over_groups.ensures c.least_sizes_are_admissible.ensures (declared_of l) t n root is
+    stands c.legal_groups_stand_over_groups.ensures (declared_of l) t n root is
     ((c.legal_without_fault.ensures c.args.spaced.now.mapped.local t n).0 c.args.spaced.now.mapped.legal).nest (sym c.in-OverGroups.ensures) c.requires)

@@ -1,4 +1,3 @@
-use Rattle.std.proofs.Common.{refl}
 use Rattle.fault_lines.specs.Failure.{source_failed}
 use Rattle.fault_lines.specs.Shown.{failure_of}
 use Rattle.program_source.specs.Ends.{FailsFor, OnSource}

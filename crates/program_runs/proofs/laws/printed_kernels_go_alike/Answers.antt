@@ -2,4 +2,4 @@ use Rattle.program_runs.proofs.Alike.{kernels_alike}
 use Rattle.program_runs.proofs.laws.printed_kernels_go_alike.Goals as goal
 
 pub returns : goal.returns
-returns c = kernels_alike c.legal_terms_are_printable.ensures c.printed_programs_go_alike.ensures c.printed_group_programs_go_alike.ensures
+returns c = kernels_alike c.legal_terms_are_printable.ensures c.kernels_go_alike.ensures

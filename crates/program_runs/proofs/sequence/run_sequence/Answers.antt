@@ -7,7 +7,7 @@ use Rattle.lift_tree.specs.Meaning.{World}
 use Rattle.lift_tree.specs.Programs.{program_of}
 use Rattle.lift_tree.specs.Types.{ty_of}
 use Rattle.lift_tree.specs.Typing.{declared_by}
-use Rattle.value_lists.specs.Lists.{IsSmall, value_in, width}
+use Rattle.value_lists.specs.Lists.{IsSmall, value_in}
 use Rattle.launch_file.specs.ResultLine.{result_line}
 use Rattle.program_source.specs.Program.{source_value}
 use Rattle.compilation.specs.Sequence.{outline_of}

@@ -1,7 +1,7 @@
 use Rattle.std.proofs.Common.{◌∙◌, Ok, List, [], ◌∷◌, Option, ℕ, ap, ap₂, inl, map, refl, subst, sym}
 use Rattle.lift_tree.specs.Programs.{program_of}
 use Rattle.lift_tree.specs.Types.{ty_of}
-use Rattle.launch_file.specs.LaunchFile.{Given, given_by}
+use Rattle.launch_file.specs.LaunchFile.{given_by}
 use Rattle.launch_file.specs.Stages.{IsStagesFile, RefusesStages}
 use Rattle.launch_file.specs.declared.file.Ask.{Ask}
 use Rattle.launch_file.specs.declared.file.LaunchFile.{LaunchFile}

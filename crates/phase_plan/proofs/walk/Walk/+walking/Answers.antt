@@ -4,7 +4,8 @@ use Rattle.lift_ir.specs.Terms.{push}
 use Rattle.lowering.specs.Terms.{load_set_of, term_of}
 use Rattle.lowering.specs.declared.term.Map.{Map}
 use Rattle.lowering.specs.declared.term.Term.{Term}
-use Rattle.group_form.specs.Origins.{Origin, local_count, origin_of}
+use Rattle.printed_form.specs.Counts.{local_count}
+use Rattle.group_form.specs.Origins.{Origin, origin_of}
 use Rattle.group_form.specs.Uses.{argument_uses, written_uses, loop_uses}
 use Rattle.phase_plan.specs.Origins.{origin_in, origins_in}
 use Rattle.phase_plan.specs.Walks.{destination_from, width_of, GoesOn}
