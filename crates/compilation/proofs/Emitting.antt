@@ -7,8 +7,8 @@ use Rattle.size_arith.specs.declared.names.Name.{Name}
 use Rattle.size_arith.specs.Polynomial.{value_at}
 use Rattle.size_arith.specs.Ranges.{Admissible, AreNames}
 use Rattle.size_arith.proofs.Soundness.{shown_at_least}
-use Rattle.lift_tree.specs.Annotations.{Annotation, annotation_of, type_in}
-use Rattle.lift_tree.specs.Tree.{Tree, tree_of}
+use Rattle.lift_tree.specs.Annotations.{Annotation, type_in}
+use Rattle.lift_tree.specs.Tree.{Tree}
 use Rattle.lift_tree.specs.Types.{PlainTy, U32, PairOf, ArrayOf, HoldsElements, IsElement, IsFormed, IsOutput}
 use Rattle.lift_tree.specs.Typing.{Declared}
 use Rattle.lift_tree.proofs.Annotated.{annotated_is_typed}
@@ -17,8 +17,8 @@ use Rattle.kernel_tree.specs.Code.{Kernel}
 use Rattle.lift_ir.specs.AtLaunch.{length_at, natural, shape_of}
 use Rattle.lift_ir.specs.Types as ir
 use Rattle.lift_ir.specs.Types.{IsShort, measured, size}
-use Rattle.lowered_tree.specs.Named.{declared_of}
 use Rattle.lowered_tree.specs.declared.lowered.Lowered.{Lowered}
+use Rattle.lowered_tree.specs.declared.lowered.Spaced.{Spaced}
 use Rattle.nest_premises.specs.Legal.{IsLegalTerm}
 use Rattle.nest_premises.specs.Printable.{CanBeLowered}
 use Rattle.value_lists.specs.Lists as lists
@@ -28,18 +28,22 @@ use Rattle.phase_plan.specs.declared.planned.Plan.{Plan}
 use Rattle.kernel_emit.specs.Kernels.{IsKernelFor}
 use Rattle.kernel_emit.specs.Laws.{PlansGiveKernels}
 use Rattle.kernel_emit.specs.Plans.{kernel_for}
-use Rattle.compilation.specs.Legal.{IsSoundLowered}
+use Rattle.compilation.specs.Legal.{IsKernelOf, IsSoundLowered}
 use Rattle.compilation.specs.Meets.{CanBeLaidOut}
 
 -- ---- a plan gives its term's kernel
 
+-- what is kept with a term's spaces is the term, and the local size
+pub kernel_of_same : (l : Lowered) (local : Option ℕ) (s : Spaced) → s.mapped.lowered ≡ l → s.mapped.local ≡ local → (k : Kernel) → IsKernelOf s.mapped.lowered s.mapped.local k → IsKernelOf l local k
+kernel_of_same l local s same fixed k h =
+    subst (λ (o : Option ℕ). IsKernelOf l o k) fixed (subst (λ (m : Lowered). IsKernelOf m s.mapped.local k) same h)
+
 pub kernel_of_plan : (l : Lowered) → IsSoundLowered l → (local : Option ℕ) (plan : Plan) → local_in plan ≡ local → plan.spaced.now.mapped.lowered ≡ l → PlansGiveKernels → IsTold plan
-    → (k : Kernel) → k ≡ kernel_for plan → IsKernelFor (declared_of l) local (tree_of l.term) (annotation_of l.types) k
+    → (k : Kernel) → k ≡ kernel_for plan → IsKernelOf l local k
 kernel_of_plan l sound local plan fixed same law told k is =
-    subst (λ (o : Option ℕ). IsKernelFor (declared_of l) o (tree_of l.term) (annotation_of l.types) k) fixed
-    (subst (λ (m : Lowered). IsKernelFor (declared_of m) (local_in plan) (tree_of m.term) (annotation_of m.types) k) same
+    kernel_of_same l local plan.spaced.now same fixed k
     (subst (λ (x : Kernel). IsKernelFor (declared_in plan) (local_in plan) (tree_in plan) (types_in plan) x) (sym is)
-    (law plan (subst (λ (m : Lowered). IsSoundLowered m) (sym same) sound) told)))
+    (law plan (subst (λ (m : Lowered). IsSoundLowered m) (sym same) sound) told))
 
 -- ---- its output can be laid out
 

@@ -9,7 +9,9 @@ use Rattle.lowered_tree.specs.Copies.{CopiesArrays}
 use Rattle.lowered_tree.specs.Named.{declared_of}
 use Rattle.lowered_tree.specs.Whole.{IsSoundTerm, IsTypedWithin}
 use Rattle.lowered_tree.specs.declared.lowered.Lowered.{Lowered}
+use Rattle.kernel_tree.specs.Code.{Kernel}
 use Rattle.nest_premises.specs.Legal.{IsLegalTerm}
+use Rattle.kernel_emit.specs.Kernels.{IsKernelFor}
 use Rattle.strategy_script.specs.LocalSize.{local_fixed}
 use Rattle.strategy_script.specs.Steps.{State}
 use Rattle.lowered_tree.specs.Nest.{IsLegalWith, nest_fault}
@@ -31,6 +33,10 @@ IsTypedLast t = IsTypedWithin (program_of t.program) (tree_of t.term) (annotatio
 -- a lowered term that is sound over what it may name
 abbrev pub IsSoundLowered : Lowered → Type 0
 IsSoundLowered l = IsSoundTerm (declared_of l) (tree_of l.term) (annotation_of l.types)
+
+-- a kernel printed for a lowered term, where the local size is fixed so
+abbrev pub IsKernelOf : Lowered → Option ℕ → Kernel → Type 0
+IsKernelOf l local k = IsKernelFor (declared_of l) local (tree_of l.term) (annotation_of l.types) k
 
 -- a lowered term, as a script's terms are
 abbrev pub lowered_state : Lowered → State

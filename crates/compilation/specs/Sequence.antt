@@ -1,28 +1,35 @@
 -- A program and a script, compiled to kernels in order.
 use Rattle.std.specs.Prelude.{◌≡◌, ℕ, List, [], ◌∷◌, ◌++◌, map, length, Bool, false, Option, Some, None, Result, Ok, Err}
 use Rattle.kernel_spelling.specs.SequenceText.{IsSequenceText}
-use Rattle.lift_tree.specs.Annotations.{type_in}
+use Rattle.kernel_tree.specs.Code.{Kernel}
+use Rattle.lift_tree.specs.Annotations.{annotation_of, type_in}
 use Rattle.lift_tree.specs.Lists.{Every}
-use Rattle.lift_tree.specs.Programs.{PlainProgram}
+use Rattle.lift_tree.specs.Programs.{PlainProgram, program_of}
 use Rattle.lift_tree.specs.Types.{PlainTy, ty_of}
 use Rattle.lift_tree.specs.Typing.{Declared, HasOutput, declared_by}
+use Rattle.lift_tree.specs.declared.typed.Typed.{Typed}
 use Rattle.lowered_tree.specs.Kinds.{is_task}
+use Rattle.lowered_tree.specs.Named.{declared_of}
+use Rattle.lowered_tree.specs.declared.lowered.Lowered.{Lowered}
 use Rattle.lowered_tree.specs.declared.rule.NestRule.TheVariants.{N13}
 use Rattle.kernel_sequence.specs.Bound.{first_bound}
 use Rattle.kernel_sequence.specs.Cut.{Part, kernel_parts, part}
+use Rattle.kernel_sequence.specs.Parts.{term_part}
 use Rattle.kernel_sequence.specs.Refused.{passed_count}
+use Rattle.kernel_sequence.specs.Sequence.{AreKernelsOf}
 use Rattle.kernel_sequence.specs.declared.no.CutNo.{CutNo}
 use Rattle.kernel_sequence.specs.declared.no.CutNo.TheVariants as cuts
 use Rattle.kernel_emit.specs.Kernels.{IsKernelFor}
 use Rattle.sequence_runs.specs.Runs.{SequenceKeeps, Stage}
 use Rattle.strategy_script.specs.LocalSize.{local_fixed}
-use Rattle.strategy_script.specs.Steps.{State}
+use Rattle.sequence_runs.specs.Stages.{AreKernelsOfEach}
+use Rattle.strategy_script.specs.Steps.{State, state_of}
 use Rattle.fault_lines.specs.declared.refusal.Refusal.{Refusal}
 use Rattle.fault_lines.specs.declared.refusal.Refusal.TheVariants as told
 use Rattle.stages.specs.Stages.{As, Gives, Then}
 use Rattle.program_source.specs.Program.{IsRead}
 use Rattle.program_source.specs.Terms.{LastOf, TermsOf}
-use Rattle.compilation.specs.Legal.{CompilesTerm}
+use Rattle.compilation.specs.Legal.{CompilesTerm, lowered_state}
 use Rattle.compilation.specs.Meets.{CanBeLaidOut}
 use Rattle.compilation.specs.declared.sequence.KernelOutline.{KernelOutline}
 
@@ -98,6 +105,22 @@ HaveInputsBehind d (k ∷ ks) =
 -- each kernel is its own term's, with groups of the local size that is fixed
 abbrev pub AreKernelsFor : Option ℕ → List Stage → Type 0
 AreKernelsFor local = Every (λ (k : Stage). IsKernelFor k.declared local k.tree k.types k.kernel)
+
+-- The kernels in order of a typed last term, which makes this type, with an outline of each: of the
+-- terms that it is cut into, each of which is compiled.
+pub record AreKernelsOfLast (last : Typed) (local : Option ℕ) (output : PlainTy)
+    (kernels : List Kernel) (outlines : List Outline) : Type 0 where
+  pub whole : Lowered
+  pub declared : declared_of whole ≡ declared_by (program_of last.program)
+  pub state : lowered_state whole ≡ state_of last
+  pub typed : output ≡ type_in (annotation_of whole.types)
+  pub terms : List Lowered
+  pub cut : AreKernelsOf whole terms
+  pub each : AreKernelsOfEach local terms kernels
+  pub outlined : outlines ≡ map outline_in (map term_part terms)
+  pub laid_out : Every
+      (λ (l : Lowered). CanBeLaidOut l.names (type_in (annotation_of l.types))) terms
+  pub compiled : CompilesInTurn local (map term_part terms) (Ok tt)
 
 -- The text is that of kernels in order, of the terms that the script's last term is cut into. Each
 -- is printed for its term, and has a buffer for each component of the program's inputs, of what

@@ -5,6 +5,7 @@ ghost use Rattle.lift_tree.specs.Programs.{program_of};
 ghost use Rattle.lift_tree.specs.Tree.{tree_of};
 ghost use Rattle.lift_tree.specs.Typing.{declared_by};
 ghost use Rattle.lowered_tree.specs.Named.{declared_of};
+ghost use Rattle.buffer_allocation.specs.Allocated.{AreAllocated};
 ghost use Rattle.kernel_tree.specs.Kernels.{kernel_of};
 ghost use Rattle.kernel_emit.specs.Kernels.{IsKernelFor};
 ghost use Rattle.lift_tree.specs.FixedSizes.{size_fixed};
@@ -13,6 +14,7 @@ ghost use Rattle.program_source.specs.Program.{StopsFor};
 ghost use Rattle.compilation.specs.Legal.{
   CompilesTerm,
   IsAccepted,
+  IsKernelOf,
   IsSoundLowered,
   IsTypedLast,
   lowered_state,
@@ -21,6 +23,7 @@ ghost use Rattle.compilation.specs.Meets.{CanBeLaidOut};
 
 use address_spaces::spaces;
 use buffer_allocation::allocation::buffers;
+use buffer_allocation::buffers::Buffers;
 use fault_lines::Refusal;
 use kernel_emit::emit::emit;
 use kernel_emit::laws::plans_give_kernels;
@@ -28,7 +31,7 @@ use kernel_tree::tree::Kernel;
 use lift_tree::local_size::LocalSize;
 use lift_tree::typed::Typed;
 use lowered_tree::laws::legal_without_fault;
-use lowered_tree::lowered::Lowered;
+use lowered_tree::lowered::{Lowered, Spaced};
 use lowered_tree::typed::lowered;
 use nest_premises::laws::legal_terms_can_be_lowered;
 use phase_plan::planning::plan;
@@ -53,6 +56,23 @@ pub fn lowered_last(alloc: Global, last: &Typed) -> Result<Lowered, AllocError>
     lowered(alloc, last)
 }
 
+// The kernel of a legal term with these buffers, which are those that `buffers` gives for it.
+fn kernel_of_spaced(alloc: Global, spaced: &Spaced, buffers: &Buffers) -> Result<Kernel, AllocError>
+    requires sound { IsSoundLowered spaced.now.mapped.lowered }
+    requires allocated { AreAllocated buffers.now.local.items buffers.now.private.items
+        (tree_of spaced.now.mapped.lowered.term)
+        (annotation_of spaced.now.mapped.lowered.types) }
+    ensures kernel { IfOk result (λ k. IsKernelOf spaced.now.mapped.lowered
+        spaced.now.mapped.local (kernel_of k)) }
+    ensures outputs { IfOk result (λ k. (kernel_of k).outputs < 2 ^ 32) }
+{
+    plans_give_kernels();
+    let plan = plan(alloc, spaced, buffers)?;
+    let kernel = emit(alloc, &plan)?;
+    has_few_outputs(&kernel);
+    Ok(kernel)
+}
+
 /// The kernel of a lowered term, printed for it at each admissible launch, which has groups of the
 /// local size that is fixed, where one is. `Nest` and `Alloc` come in this order, for the first
 /// rule or limit.
@@ -62,8 +82,7 @@ pub fn kernel_of_lowered(
     local: Option<LocalSize>,
 ) -> Result<Kernel, Refusal>
     requires sound { IsSoundLowered lowered }
-    ensures kernel { IfOk result (λ k. IsKernelFor (declared_of lowered) (size_fixed local)
-        (tree_of lowered.term) (annotation_of lowered.types) (kernel_of k)) }
+    ensures kernel { IfOk result (λ k. IsKernelOf lowered (size_fixed local) (kernel_of k)) }
     ensures compiles { IfOk result (λ _. CompilesTerm (size_fixed local) (lowered_state lowered)
         (Ok (lowered_state lowered))) }
     ensures laid_out { IfOk result (λ _. CanBeLaidOut lowered.names
@@ -73,13 +92,10 @@ pub fn kernel_of_lowered(
 {
     legal_terms_can_be_lowered();
     legal_without_fault();
-    plans_give_kernels();
     let mapped = judge(alloc, lowered, local)?;
     let spaced = spaces(alloc, mapped)?;
     let buffers = buffers(alloc, &spaced)?;
-    let plan = plan(alloc, &spaced, &buffers)?;
-    let kernel = emit(alloc, &plan)?;
-    has_few_outputs(&kernel);
+    let kernel = kernel_of_spaced(alloc, &spaced, &buffers)?;
     Ok(kernel)
 }
 

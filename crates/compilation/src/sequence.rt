@@ -1,5 +1,5 @@
 //! A program and a script, compiled to the text of kernels in order.
-ghost use Rattle.std.specs.Prelude.{◌≡◌, ◌++◌, ◌∷◌, [], IfErr, IfOk, Ok, OnOk, map};
+ghost use Rattle.std.specs.Prelude.{◌≡◌, ◌++◌, ◌∷◌, [], IfErr, IfOk, Ok, OnOk, length, map};
 ghost use Rattle.kernel_tree.specs.Kernels.{kernel_of};
 ghost use Rattle.lift_tree.specs.Annotations.{annotation_of, type_in};
 ghost use Rattle.lift_tree.specs.FixedSizes.{size_fixed};
@@ -9,10 +9,13 @@ ghost use Rattle.lift_tree.specs.Types.{ty_of};
 ghost use Rattle.kernel_sequence.specs.Parts.{term_part};
 ghost use Rattle.sequence_runs.specs.Stages.{AreKernelsOfEach};
 ghost use Rattle.program_source.specs.Program.{IsRefusedFor, OnProgram, StopsFor};
-ghost use Rattle.compilation.specs.Legal.{IsSoundLowered};
+ghost use Rattle.strategy_script.specs.Steps.{state_of};
+ghost use Rattle.compilation.specs.Legal.{IsSoundLowered, IsTypedLast};
 ghost use Rattle.compilation.specs.Meets.{CanBeLaidOut};
 ghost use Rattle.compilation.specs.Sequence.{
+  AreKernelsOfLast,
   CompilesInTurn,
+  CompilesParts,
   IsCompiledSequence,
   IsSequenceFor,
   SequenceOf,
@@ -31,6 +34,7 @@ use kernel_tree::tree::Kernel;
 use lift_tree::local_size::LocalSize;
 use lift_tree::program::Program;
 use lift_tree::ty::Ty;
+use lift_tree::typed::Typed;
 use lowered_tree::lowered::Lowered;
 use program_source::last_term;
 use program_source::laws::sources_end_once;
@@ -85,23 +89,54 @@ pub fn compile_sequence(
     ensures exact { IsRefusedFor (OnProgram program.now (λ p. SequenceOf p script.now)) result }
 {
     kernels_are_counted();
-    kernels_are_sound();
     last_kernels_make_the_output();
     sequences_end_once();
     sequences_keep();
     sources_end_once();
     let found = last_term(alloc, program, script)?;
-    let whole = lowered_last(alloc, &found.typed)?;
-    let terms = cut(alloc, &whole)?;
-    let made = kernels_of_each(alloc, terms, found.local)?;
-    let text = print_sequence(alloc, &made.kernels)?;
+    let sequence = kernels_of_last(alloc, &found.typed, found.local)?;
+    let text = print_sequence(alloc, &sequence.kernels)?;
     let last = found.typed;
     Ok(CompiledSequence {
         program: last.program,
-        output: own_type(whole.types),
+        output: sequence.output,
         local: LocalSize::fixed(found.local),
-        outlines: made.outlines,
+        outlines: sequence.outlines,
         text,
+    })
+}
+
+// The kernels of a last term, and the type of what the last of them makes.
+#[derive(Drop)]
+struct Sequence {
+    output: Ty,
+    kernels: Vec<Kernel>,
+    outlines: Vec<KernelOutline>,
+}
+
+// The kernels of the terms that a last term is cut into.
+fn kernels_of_last(
+    alloc: Global,
+    last: &Typed,
+    local: Option<LocalSize>,
+) -> Result<Sequence, Refusal>
+    requires typed { IsTypedLast last.now }
+    ensures made { IfOk result (λ s. AreKernelsOfLast last.now (size_fixed local)
+        (ty_of s.output) (map kernel_of s.kernels.items)
+        (map outline_of s.outlines.items)) }
+    ensures refused { IfErr result
+        (StopsFor (CompilesParts (length (program_of last.now.program).inputs) (size_fixed local)
+        (state_of last.now))) }
+{
+    kernels_are_counted();
+    kernels_are_sound();
+    let whole = lowered_last(alloc, last)?;
+    let terms = cut(alloc, &whole)?;
+    let made = kernels_of_each(alloc, terms, local)?;
+    Ok(Sequence {
+        output: own_type(whole.types),
+        kernels: made.kernels,
+        outlines: made.outlines,
     })
 }
 

@@ -27,8 +27,23 @@ fn earlier(first: Option<Vec<u32>>, second: Option<Vec<u32>>) -> Option<Vec<u32>
     if first.is_some() { first } else { second }
 }
 
+// The first in the child of this number, seen from the parent.
+#[cycle(bound)]
+fn bound_in(
+    alloc: Global,
+    number: u32,
+    bound: bool,
+    child: &Term,
+) -> Result<Option<Vec<u32>>, AllocError>
+    ensures { IfOk result (λ p. option_map (λ v. v.items) p
+        ≡ from_child number (first_bound bound (tree_of child.now))) }
+{
+    in_child(number, first_bound(alloc, bound, child)?)
+}
+
 /// The place of the first `then` in preorder that a binder is around, where
 /// one is around the whole or isn't.
+#[cycle(bound)]
 pub fn first_bound(alloc: Global, bound: bool, term: &Term) -> Result<Option<Vec<u32>>, AllocError>
     ensures { IfOk result (λ p. option_map (λ v. v.items) p ≡ first_bound bound (tree_of term.now)) }
 {
@@ -38,28 +53,28 @@ pub fn first_bound(alloc: Global, bound: bool, term: &Term) -> Result<Option<Vec
             if bound {
                 Ok(Some(Vec::new(alloc)))
             } else {
-                in_child(0, first_bound(alloc, bound, a)?)
+                bound_in(alloc, 0, bound, a)
             }
         }
-        Term::Unary(_, a) => in_child(0, first_bound(alloc, bound, a)?),
+        Term::Unary(_, a) => bound_in(alloc, 0, bound, a),
         Term::Binary(_, a, b) => {
-            let first = in_child(0, first_bound(alloc, bound, a)?)?;
-            Ok(earlier(first, in_child(1, first_bound(alloc, bound, b)?)?))
+            let first = bound_in(alloc, 0, bound, a)?;
+            Ok(earlier(first, bound_in(alloc, 1, bound, b)?))
         }
         Term::Let(a, body) | Term::Map(_, a, body) => {
-            let first = in_child(0, first_bound(alloc, bound, a)?)?;
-            Ok(earlier(first, in_child(1, first_bound(alloc, true, body)?)?))
+            let first = bound_in(alloc, 0, bound, a)?;
+            Ok(earlier(first, bound_in(alloc, 1, true, body)?))
         }
         Term::Select(a, b, c) => {
-            let first = in_child(0, first_bound(alloc, bound, a)?)?;
-            let second = in_child(1, first_bound(alloc, bound, b)?)?;
-            let third = in_child(2, first_bound(alloc, bound, c)?)?;
+            let first = bound_in(alloc, 0, bound, a)?;
+            let second = bound_in(alloc, 1, bound, b)?;
+            let third = bound_in(alloc, 2, bound, c)?;
             Ok(earlier(first, earlier(second, third)))
         }
         Term::Fold(_, array, start, body) => {
-            let first = in_child(0, first_bound(alloc, bound, array)?)?;
-            let second = in_child(1, first_bound(alloc, bound, start)?)?;
-            let third = in_child(2, first_bound(alloc, true, body)?)?;
+            let first = bound_in(alloc, 0, bound, array)?;
+            let second = bound_in(alloc, 1, bound, start)?;
+            let third = bound_in(alloc, 2, true, body)?;
             Ok(earlier(first, earlier(second, third)))
         }
     }

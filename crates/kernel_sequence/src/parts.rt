@@ -53,12 +53,22 @@ impl Part {
         ensures { IfOk result (λ p. part_of p ≡ cut.part (Unary form.now (part_of a).tree)
             (One (ty_of ty.now) (part_of a).types)) }
     {
-        let types = NodeTypes::One(ty.copy(alloc)?, boxed(alloc, a.types)?);
-        let term = Term::unary(alloc, form.copy(alloc)?, a.term)?;
+        let types = Part::one(alloc, ty, a.types)?;
+        let form = form.copy(alloc)?;
+        let term = Term::unary(alloc, form, a.term)?;
         Ok(Part { term, types })
     }
 
-    // The types of two parts under a node of this type.
+    // The types of a part under a node of this type.
+    fn one(alloc: Global, ty: &Ty, a: NodeTypes) -> Result<NodeTypes, AllocError>
+        ensures { IfOk result
+            (λ t. annotation_of t ≡ One (ty_of ty.now) (annotation_of a)) }
+    {
+        let a = boxed(alloc, a)?;
+        Ok(NodeTypes::One(ty.copy(alloc)?, a))
+    }
+
+    // The types of two.
     fn two(alloc: Global, ty: &Ty, a: NodeTypes, b: NodeTypes) -> Result<NodeTypes, AllocError>
         ensures { IfOk result (λ t. annotation_of t
             ≡ Two (ty_of ty.now) (annotation_of a) (annotation_of b)) }

@@ -1,23 +1,24 @@
 //! Lowering.
 
 ghost use Rattle.std.specs.Prelude.{◌≡◌, [], IfOk};
-ghost use Rattle.lift_tree.specs.Annotations.{annotation_of};
+ghost use Rattle.lift_tree.specs.Annotations.{annotation_of, type_in};
 ghost use Rattle.lift_tree.specs.Meaning.{scalar_op};
 ghost use Rattle.lift_tree.specs.Tree.{tree_of};
 ghost use Rattle.lift_tree.specs.Types as types;
 ghost use Rattle.lift_tree.specs.Types.{ty_of};
+ghost use Rattle.lift_tree.specs.declared.layout.Layout.TheVariants as layout;
 ghost use Rattle.lift_tree.specs.declared.term.UnaryForm.TheVariants as unary;
 ghost use Rattle.lift_ir.specs.AtLaunch as at;
 ghost use Rattle.lift_ir.specs.Terms as terms;
 ghost use Rattle.lift_tree.specs.declared.term.Operator.TheVariants as operator;
 ghost use Rattle.lift_ir.specs.Lowering as spec;
 ghost use Rattle.lowering.specs.Places.{place_of};
-ghost use Rattle.lowering.specs.Terms.{kind_of, term_of};
+ghost use Rattle.lowering.specs.Terms.{kind_of, load_set_of, term_of};
 
 use crate::loads::loads;
 use crate::place::{Place, is_element};
 use crate::strides::{by_product, product};
-use crate::term::{Fold, Kind, Layout, Map, Space, Term};
+use crate::term::{Fold, Kind, Layout, LoadSet, Map, Space, Term};
 use lift_tree::layout as forms;
 use lift_tree::length::Product;
 use lift_tree::term::{BinaryForm, MapKind, Operator, Term as Source, UnaryForm};
@@ -135,6 +136,28 @@ fn laid(
     reshaped(alloc, &form, ty, operand_ty, Box::new(alloc, operand)?)
 }
 
+// So many rows of that width each, of an array of this type: split, transposed, and one after
+// another.
+fn interleaved(
+    alloc: Global,
+    split: forms::Layout,
+    operand_ty: &Ty,
+    rows: &Ty,
+    columns: &Ty,
+    operand: Term,
+) -> Result<Term, AllocError>
+    ensures { IfOk result (λ t. term_of t ≡ terms.Reshape
+        (at.layout_of (unary.Layout layout.Join) (ty_of operand_ty.now) (ty_of columns.now))
+        (terms.Reshape
+        (at.layout_of (unary.Layout layout.Transpose) (ty_of columns.now) (ty_of rows.now))
+        (terms.Reshape (at.layout_of (unary.Layout split) (ty_of rows.now) (ty_of operand_ty.now))
+        (term_of operand)))) }
+{
+    let split = laid(alloc, split, rows, operand_ty, operand)?;
+    let transposed = laid(alloc, forms::Layout::Transpose, columns, rows, split)?;
+    laid(alloc, forms::Layout::Join, operand_ty, columns, transposed)
+}
+
 // A stride of an array of this type: the rows of as many elements,
 // transposed and one after another.
 fn strided(
@@ -152,10 +175,14 @@ fn strided(
     let rows = rows_of(alloc, elements(operand_ty), &width, &count)?;
     let columns = rows_of(alloc, elements(operand_ty), &count, &width)?;
     let split = forms::Layout::Split(step.copy(alloc)?);
-    let operand = Box::into_inner(operand);
-    let split = laid(alloc, split, &rows, operand_ty, operand)?;
-    let transposed = laid(alloc, forms::Layout::Transpose, &columns, &rows, split)?;
-    laid(alloc, forms::Layout::Join, operand_ty, &columns, transposed)
+    interleaved(
+        alloc,
+        split,
+        operand_ty,
+        &rows,
+        &columns,
+        Box::into_inner(operand),
+    )
 }
 
 // An element term of this type where it stands: where it is written it is stored.
@@ -254,55 +281,71 @@ fn bound(alloc: Global, ty: &Ty, value: Box<Term>, body: Box<Term>) -> Result<Te
     }
 }
 
-// A map over an array of this type, whose body stands in the source so.
+// How often the body of a map or fold is run, and which scalars of an element each turn loads.
+#[derive(Drop)]
+struct Turns {
+    length: Poly,
+    loads: LoadSet,
+}
+
+// The turns over an array of this type, of a body that stands in the source so.
+fn turns_over(alloc: Global, ty: &Ty, body: &Source) -> Result<Turns, AllocError>
+    ensures length { IfOk result (λ t. t.length ≡ at.outer_of (ty_of ty.now)) }
+    ensures loads { IfOk result (λ t. load_set_of t.loads
+        ≡ spec.named 0 (spec.element_of (ty_of ty.now)) [] (tree_of body.now)) }
+{
+    let length = length(alloc, ty)?;
+    let loads = loads(alloc, elements(ty), body)?;
+    Ok(Turns { length, loads })
+}
+
 fn mapped(
     alloc: Global,
-    map_kind: MapKind,
-    ty: &Ty,
-    source: &Source,
+    kind: Kind,
+    turns: Turns,
     array: Term,
     body: Term,
 ) -> Result<Term, AllocError>
-    ensures { IfOk result (λ t. term_of t
-        ≡ terms.Map (spec.kind_of map_kind) (at.outer_of (ty_of ty.now))
-        (spec.named 0 (spec.element_of (ty_of ty.now)) [] (tree_of source.now))
-        (term_of array) (term_of body)) }
+    ensures { IfOk result (λ t. term_of t ≡ terms.Map (kind_of kind) turns.length
+        (load_set_of turns.loads) (term_of array) (term_of body)) }
 {
     let map = Map {
-        kind: kind(map_kind),
-        length: length(alloc, ty)?,
-        loads: loads(alloc, elements(ty), source)?,
+        kind,
+        length: turns.length,
+        loads: turns.loads,
         array,
         body,
     };
     Ok(Term::Map(Box::new(alloc, map)?))
 }
 
-// A fold over an array of this type with an accumulator of that type,
-// whose body stands in the source so.
 fn folded(
     alloc: Global,
-    ty: &Ty,
-    accumulator: &Ty,
-    source: &Source,
+    turns: Turns,
+    accumulator: Ty,
     array: Term,
     start: Term,
     body: Term,
 ) -> Result<Term, AllocError>
-    ensures { IfOk result (λ t. term_of t ≡ terms.Fold (at.outer_of (ty_of ty.now))
-        (spec.named 0 (spec.element_of (ty_of ty.now)) [] (tree_of source.now))
-        (spec.element_ty (ty_of accumulator.now))
-        (term_of array) (term_of start) (term_of body)) }
+    ensures { IfOk result (λ t. term_of t ≡ terms.Fold turns.length (load_set_of turns.loads)
+        (spec.element_ty (ty_of accumulator)) (term_of array) (term_of start) (term_of body)) }
 {
     let fold = Fold {
-        length: length(alloc, ty)?,
-        loads: loads(alloc, elements(ty), source)?,
-        accumulator: accumulator.copy(alloc)?,
+        length: turns.length,
+        loads: turns.loads,
+        accumulator,
         array,
         start,
         body,
     };
     Ok(Term::Fold(Box::new(alloc, fold)?))
+}
+
+/// A term, and the types of its nodes.
+#[derive(Clone, Copy)]
+struct Typed<'t> {
+    term: &'t Source,
+    types: &'t NodeTypes,
 }
 
 #[cycle(lowering)]
@@ -317,6 +360,118 @@ fn boxed(
         ≡ spec.lower names.now (place_of place) (tree_of term.now) (annotation_of types.now)) }
 {
     Ok(Box::new(alloc, lower_at(alloc, names, place, term, types)?)?)
+}
+
+// A choice by a condition, not placed.
+#[cycle(lowering)]
+fn lower_select(
+    alloc: Global,
+    names: &Names,
+    condition: Typed,
+    yes: Typed,
+    no: Typed,
+) -> Result<Term, AllocError>
+    ensures { IfOk result (λ t. term_of t ≡ terms.Select
+        (spec.lower names.now spec.Element (tree_of condition.entry.term.now)
+        (annotation_of condition.entry.types.now))
+        (spec.lower names.now spec.Element (tree_of yes.entry.term.now)
+        (annotation_of yes.entry.types.now))
+        (spec.lower names.now spec.Element (tree_of no.entry.term.now)
+        (annotation_of no.entry.types.now))) }
+{
+    let condition = boxed(
+        alloc,
+        names,
+        Place::Element,
+        condition.term,
+        condition.types,
+    )?;
+    let yes = boxed(alloc, names, Place::Element, yes.term, yes.types)?;
+    let no = boxed(alloc, names, Place::Element, no.term, no.types)?;
+    Ok(Term::Select(condition, yes, no))
+}
+
+// A let of this type, not placed.
+#[cycle(lowering)]
+fn lower_let(
+    alloc: Global,
+    names: &Names,
+    place: Place,
+    ty: &Ty,
+    value: Typed,
+    body: Typed,
+) -> Result<Term, AllocError>
+    ensures { IfOk result (λ t. term_of t
+        ≡ spec.lower_let (type_in (annotation_of value.entry.types.now))
+        (spec.lower names.now (spec.value_place (annotation_of value.entry.types.now))
+        (tree_of value.entry.term.now) (annotation_of value.entry.types.now))
+        (spec.lower names.now (spec.body_place (place_of place) (ty_of ty.now))
+        (tree_of body.entry.term.now) (annotation_of body.entry.types.now))) }
+{
+    let value_ty = value.types.own_type();
+    let value = boxed(
+        alloc,
+        names,
+        Place::of_value(value_ty),
+        value.term,
+        value.types,
+    )?;
+    let body = boxed(alloc, names, place.of_body(ty), body.term, body.types)?;
+    bound(alloc, value_ty, value, body)
+}
+
+// A map, wherever it stands.
+#[cycle(lowering)]
+fn lower_map(
+    alloc: Global,
+    names: &Names,
+    map_kind: MapKind,
+    array: Typed,
+    body: Typed,
+) -> Result<Term, AllocError>
+    ensures { IfOk result (λ t. term_of t
+        ≡ terms.Map (spec.kind_of map_kind)
+        (at.outer_of (type_in (annotation_of array.entry.types.now)))
+        (spec.named 0 (spec.element_of (type_in (annotation_of array.entry.types.now))) []
+        (tree_of body.entry.term.now))
+        (spec.lower names.now spec.Argument (tree_of array.entry.term.now)
+        (annotation_of array.entry.types.now))
+        (spec.lower names.now spec.Written (tree_of body.entry.term.now)
+        (annotation_of body.entry.types.now))) }
+{
+    let turns = turns_over(alloc, array.types.own_type(), body.term)?;
+    let array = lower_at(alloc, names, Place::Argument, array.term, array.types)?;
+    let body = lower_at(alloc, names, Place::Written, body.term, body.types)?;
+    mapped(alloc, kind(map_kind), turns, array, body)
+}
+
+// A fold, wherever it stands.
+#[cycle(lowering)]
+fn lower_fold(
+    alloc: Global,
+    names: &Names,
+    array: Typed,
+    start: Typed,
+    body: Typed,
+) -> Result<Term, AllocError>
+    ensures { IfOk result (λ t. term_of t
+        ≡ terms.Fold (at.outer_of (type_in (annotation_of array.entry.types.now)))
+        (spec.named 0 (spec.element_of (type_in (annotation_of array.entry.types.now))) []
+        (tree_of body.entry.term.now))
+        (spec.element_ty (type_in (annotation_of start.entry.types.now)))
+        (spec.lower names.now spec.Argument (tree_of array.entry.term.now)
+        (annotation_of array.entry.types.now))
+        (spec.lower names.now spec.Element (tree_of start.entry.term.now)
+        (annotation_of start.entry.types.now))
+        (spec.lower names.now spec.Element (tree_of body.entry.term.now)
+        (annotation_of body.entry.types.now))) }
+{
+    let turns = turns_over(alloc, array.types.own_type(), body.term)?;
+    let accumulator = start.types.own_type().copy(alloc)?;
+    let array = lower_at(alloc, names, Place::Argument, array.term, array.types)?;
+    let start = lower_at(alloc, names, Place::Element, start.term, start.types)?;
+    let body = lower_at(alloc, names, Place::Element, body.term, body.types)?;
+    folded(alloc, turns, accumulator, array, start, body)
 }
 
 // The term that a term of these types is lowered to where it stands.
@@ -346,27 +501,28 @@ fn lower_at(
             joined(alloc, place, *form, ty, left, right)
         }
         (Source::Select(a, b, c), NodeTypes::Three(ty, n, m, k)) => {
-            let condition = boxed(alloc, names, Place::Element, a, n)?;
-            let yes = boxed(alloc, names, Place::Element, b, m)?;
-            let no = boxed(alloc, names, Place::Element, c, k)?;
-            placed(alloc, place, ty, Term::Select(condition, yes, no))
+            let condition = Typed { term: a, types: n };
+            let yes = Typed { term: b, types: m };
+            let no = Typed { term: c, types: k };
+            let choice = lower_select(alloc, names, condition, yes, no)?;
+            placed(alloc, place, ty, choice)
         }
         (Source::Let(a, b), NodeTypes::Two(ty, n, m)) => {
-            let value = boxed(alloc, names, Place::of_value(n.own_type()), a, n)?;
-            let body = boxed(alloc, names, place.of_body(ty), b, m)?;
-            let whole = bound(alloc, n.own_type(), value, body)?;
+            let value = Typed { term: a, types: n };
+            let body = Typed { term: b, types: m };
+            let whole = lower_let(alloc, names, place, ty, value, body)?;
             placed_element(alloc, place, ty, whole)
         }
         (Source::Map(map_kind, a, b), NodeTypes::Two(_, n, m)) => {
-            let array = lower_at(alloc, names, Place::Argument, a, n)?;
-            let body = lower_at(alloc, names, Place::Written, b, m)?;
-            mapped(alloc, *map_kind, n.own_type(), b, array, body)
+            let array = Typed { term: a, types: n };
+            let body = Typed { term: b, types: m };
+            lower_map(alloc, names, *map_kind, array, body)
         }
         (Source::Fold(_, a, b, c), NodeTypes::Three(_, n, m, k)) => {
-            let array = lower_at(alloc, names, Place::Argument, a, n)?;
-            let start = lower_at(alloc, names, Place::Element, b, m)?;
-            let body = lower_at(alloc, names, Place::Element, c, k)?;
-            folded(alloc, n.own_type(), m.own_type(), c, array, start, body)
+            let array = Typed { term: a, types: n };
+            let start = Typed { term: b, types: m };
+            let body = Typed { term: c, types: k };
+            lower_fold(alloc, names, array, start, body)
         }
         _ => Ok(Term::Literal(0)),
     }

@@ -62,6 +62,38 @@ fn named(alloc: Global, term: &Term, ways: &[Way]) -> Result<Vec<Component>, All
     Ok(all)
 }
 
+// What a term names, the whole of whose value is wanted.
+#[cycle(naming)]
+fn named_whole(alloc: Global, term: &Term) -> Result<Vec<Component>, AllocError>
+    ensures { IfOk result (λ all. all.items ≡ spec.named (term_of term.now) spec.whole) }
+{
+    named(alloc, term, &whole(alloc)?)
+}
+
+// Adds the same.
+#[cycle(naming)]
+fn add_whole(alloc: Global, term: &Term, all: &mut Vec<Component>) -> Result<(), AllocError>
+    ensures { OnOk result
+        (all.new.items ≡ all.old.items ++ spec.named (term_of term.now) spec.whole) }
+{
+    add_named(alloc, term, &whole(alloc)?, all)
+}
+
+// Adds what an array names over which a body is run that names these components.
+#[cycle(naming)]
+fn add_array(
+    alloc: Global,
+    array: &Term,
+    loads: &LoadSet,
+    inner: &[Component],
+    all: &mut Vec<Component>,
+) -> Result<(), AllocError>
+    ensures { OnOk result (all.new.items ≡ all.old.items ++ spec.named (term_of array.now)
+        (spec.taken (load_set_of loads.now) ++ spec.ways 0 inner.now)) }
+{
+    add_named(alloc, array, &of_element(alloc, loads, inner)?, all)
+}
+
 // Adds what a term names, where these ways of its own value are wanted.
 #[cycle(naming)]
 fn add_named(
@@ -77,18 +109,16 @@ fn add_named(
         Term::Literal(_) | Term::Source(_) => Ok(()),
         Term::Bound(variable) => add_components(alloc, *variable, ways, all),
         Term::Apply(_, a, b) | Term::Pair(a, b) => {
-            let whole = whole(alloc)?;
-            add_named(alloc, a, &whole, all)?;
-            add_named(alloc, b, &whole, all)
+            add_whole(alloc, a, all)?;
+            add_whole(alloc, b, all)
         }
         Term::ApplyNumber(_, _, a) | Term::Store(_, a) | Term::Copy(_, _, a) => {
-            add_named(alloc, a, &whole(alloc)?, all)
+            add_whole(alloc, a, all)
         }
         Term::Select(condition, yes, no) => {
-            let whole = whole(alloc)?;
-            add_named(alloc, condition, &whole, all)?;
-            add_named(alloc, yes, &whole, all)?;
-            add_named(alloc, no, &whole, all)
+            add_whole(alloc, condition, all)?;
+            add_whole(alloc, yes, all)?;
+            add_whole(alloc, no, all)
         }
         Term::Zip(a, b) => {
             add_named(alloc, a, &onward(alloc, false, ways)?, all)?;
@@ -103,29 +133,18 @@ fn add_named(
             add_outside(alloc, &inner, all)
         }
         Term::LetElement(_, value, body) => {
-            add_named(alloc, value, &whole(alloc)?, all)?;
+            add_whole(alloc, value, all)?;
             add_outside(alloc, &named(alloc, body, ways)?, all)
         }
         Term::Map(map) => {
             let inner = named(alloc, &map.body, ways)?;
-            add_named(
-                alloc,
-                &map.array,
-                &of_element(alloc, &map.loads, &inner)?,
-                all,
-            )?;
+            add_array(alloc, &map.array, &map.loads, &inner, all)?;
             add_outside(alloc, &inner, all)
         }
         Term::Fold(fold) => {
-            let whole = whole(alloc)?;
-            let inner = named(alloc, &fold.body, &whole)?;
-            add_named(
-                alloc,
-                &fold.array,
-                &of_element(alloc, &fold.loads, &inner)?,
-                all,
-            )?;
-            add_named(alloc, &fold.start, &whole, all)?;
+            let inner = named_whole(alloc, &fold.body)?;
+            add_array(alloc, &fold.array, &fold.loads, &inner, all)?;
+            add_whole(alloc, &fold.start, all)?;
             add_outside(alloc, &outside(alloc, &inner)?, all)
         }
     }
@@ -146,7 +165,7 @@ pub fn named_by_map(alloc: Global, map: &Map) -> Result<Names, AllocError>
     ensures variables { IfOk result
         (λ names. names.variables.items ≡ spec.named_outside (term_of map.now.body)) }
 {
-    let inner = named(alloc, &map.body, &whole(alloc)?)?;
+    let inner = named_whole(alloc, &map.body)?;
     Ok(Names {
         element: of_element(alloc, &map.loads, &inner)?,
         variables: outside(alloc, &inner)?,

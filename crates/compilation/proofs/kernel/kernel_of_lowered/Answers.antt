@@ -1,15 +1,15 @@
-use Rattle.std.proofs.Common.{◌∙◌, ap}
+use Rattle.std.proofs.Common.{◌∙◌, ap, subst, sym}
 use Rattle.lift_tree.specs.Annotations.{annotation_of}
 use Rattle.lift_tree.specs.FixedSizes.{size_fixed}
 use Rattle.lift_tree.specs.Tree.{tree_of}
 use Rattle.kernel_tree.specs.Kernels.{kernel_of}
 use Rattle.lowered_tree.specs.Named.{declared_of}
+use Rattle.lowered_tree.specs.declared.lowered.Lowered.{Lowered}
 use Rattle.lowered_tree.specs.declared.lowered.Mapped.{Mapped}
-use Rattle.lowered_tree.specs.declared.lowered.Spaced.{Spaced}
 use Rattle.stages.proofs.HandedOn.{handed_on}
 use Rattle.program_source.specs.Program.{StopsFor}
-use Rattle.compilation.specs.Legal.{CompilesTerm, lowered_state}
-use Rattle.compilation.proofs.Emitting.{kernel_of_plan, laid_out}
+use Rattle.compilation.specs.Legal.{CompilesTerm, IsSoundLowered, lowered_state}
+use Rattle.compilation.proofs.Emitting.{kernel_of_same, laid_out}
 use Rattle.compilation.proofs.Legality.{at_buffers, at_nest, buffers_stop, compiles, legal_nest, legal_term, nest_stops, within_is}
 use Rattle.compilation.proofs.kernel.kernel_of_lowered.Goals as goal
 
@@ -29,12 +29,20 @@ returns-in_err-buffers-clause-refused c =
     handed_on (StopsFor (CompilesTerm local (lowered_state l))) _ _ c.from_residual-in_err-buffers.ensures.1
     (at_buffers local (lowered_state l) _ legal (buffers_stop l _ _ same c.in_err-buffers.ensures.refused))
 
+pub kernel_of_spaced-requires : goal.kernel_of_spaced-requires
+kernel_of_spaced-requires c =
+    let same = ap (λ (m : Mapped). m.lowered) c.in_ok-spaced.ensures ∙ c.in_ok-mapped.ensures.legal in
+    record {
+      sound = subst (λ (m : Lowered). IsSoundLowered m) (sym same) c.requires.sound;
+      allocated = record { within = c.in_ok-buffers.ensures.within; local = c.in_ok-buffers.ensures.local; private = c.in_ok-buffers.ensures.private };
+    }
+
 pub returns-clause-kernel : goal.returns-clause-kernel
 returns-clause-kernel c =
     let mapped = c.in_ok-mapped.ensures in
-    let same = ap (λ (s : Spaced). s.mapped.lowered) c.in_ok-plan.ensures.spaced ∙ (ap (λ (m : Mapped). m.lowered) c.in_ok-spaced.ensures ∙ mapped.legal) in
-    let fixed = ap (λ (s : Spaced). s.mapped.local) c.in_ok-plan.ensures.spaced ∙ (ap (λ (m : Mapped). m.local) c.in_ok-spaced.ensures ∙ mapped.size) in
-    kernel_of_plan c.args.lowered c.requires.sound (size_fixed c.args.local) c.in_ok-plan.plan fixed same c.plans_give_kernels.ensures c.in_ok-plan.ensures.told (kernel_of c.in_ok-kernel.kernel) c.in_ok-kernel.ensures.printed
+    let same = ap (λ (m : Mapped). m.lowered) c.in_ok-spaced.ensures ∙ mapped.legal in
+    let fixed = ap (λ (m : Mapped). m.local) c.in_ok-spaced.ensures ∙ mapped.size in
+    kernel_of_same c.args.lowered (size_fixed c.args.local) c.in_ok-spaced.spaced same fixed (kernel_of c.in_ok-kernel.kernel) c.in_ok-kernel.ensures.kernel
 
 pub returns-clause-compiles : goal.returns-clause-compiles
 returns-clause-compiles c =
@@ -50,9 +58,9 @@ returns-clause-laid_out c =
     let l = c.args.lowered in
     let sound = c.requires.sound in
     let mapped = c.in_ok-mapped.ensures in
-    let same = ap (λ (s : Spaced). s.mapped.lowered) c.in_ok-plan.ensures.spaced ∙ (ap (λ (m : Mapped). m.lowered) c.in_ok-spaced.ensures ∙ mapped.legal) in
-    let fixed = ap (λ (s : Spaced). s.mapped.local) c.in_ok-plan.ensures.spaced ∙ (ap (λ (m : Mapped). m.local) c.in_ok-spaced.ensures ∙ mapped.size) in
+    let same = ap (λ (m : Mapped). m.lowered) c.in_ok-spaced.ensures ∙ mapped.legal in
+    let fixed = ap (λ (m : Mapped). m.local) c.in_ok-spaced.ensures ∙ mapped.size in
     let k = kernel_of c.in_ok-kernel.kernel in
-    let for = kernel_of_plan l sound local c.in_ok-plan.plan fixed same c.plans_give_kernels.ensures c.in_ok-plan.ensures.told k c.in_ok-kernel.ensures.printed in
+    let for = kernel_of_same l local c.in_ok-spaced.spaced same fixed k c.in_ok-kernel.ensures.kernel in
     let legal = legal_term (declared_of l) (lowered_state l) sound (legal_nest c.legal_without_fault.ensures local _ l _ mapped.size mapped.legal c.in_ok-mapped.mapped.legal).nest in
-    laid_out (declared_of l) (tree_of l.term) (annotation_of l.types) k legal (c.legal_terms_can_be_lowered.ensures (declared_of l) (tree_of l.term) (annotation_of l.types) legal sound.copies) for.parameters.outputs c.has_few_outputs.ensures
+    laid_out (declared_of l) (tree_of l.term) (annotation_of l.types) k legal (c.legal_terms_can_be_lowered.ensures (declared_of l) (tree_of l.term) (annotation_of l.types) legal sound.copies) for.parameters.outputs c.in_ok-kernel.ensures.outputs
