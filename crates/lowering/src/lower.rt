@@ -374,10 +374,8 @@ fn lower_select(
     ensures { IfOk result (λ t. term_of t ≡ terms.Select
         (spec.lower names.now spec.Element (tree_of condition.entry.term.now)
         (annotation_of condition.entry.types.now))
-        (spec.lower names.now spec.Element (tree_of yes.entry.term.now)
-        (annotation_of yes.entry.types.now))
-        (spec.lower names.now spec.Element (tree_of no.entry.term.now)
-        (annotation_of no.entry.types.now))) }
+        (spec.lower names.now spec.Element (tree_of yes.entry.term.now) (annotation_of yes.entry.types.now))
+        (spec.lower names.now spec.Element (tree_of no.entry.term.now) (annotation_of no.entry.types.now))) }
 {
     let condition = boxed(
         alloc,
@@ -401,8 +399,7 @@ fn lower_let(
     value: Typed,
     body: Typed,
 ) -> Result<Term, AllocError>
-    ensures { IfOk result (λ t. term_of t
-        ≡ spec.lower_let (type_in (annotation_of value.entry.types.now))
+    ensures { IfOk result (λ t. term_of t ≡ spec.lower_let (type_in (annotation_of value.entry.types.now))
         (spec.lower names.now (spec.value_place (annotation_of value.entry.types.now))
         (tree_of value.entry.term.now) (annotation_of value.entry.types.now))
         (spec.lower names.now (spec.body_place (place_of place) (ty_of ty.now))
@@ -430,14 +427,11 @@ fn lower_map(
     body: Typed,
 ) -> Result<Term, AllocError>
     ensures { IfOk result (λ t. term_of t
-        ≡ terms.Map (spec.kind_of map_kind)
-        (at.outer_of (type_in (annotation_of array.entry.types.now)))
+        ≡ terms.Map (spec.kind_of map_kind) (at.outer_of (type_in (annotation_of array.entry.types.now)))
         (spec.named 0 (spec.element_of (type_in (annotation_of array.entry.types.now))) []
         (tree_of body.entry.term.now))
-        (spec.lower names.now spec.Argument (tree_of array.entry.term.now)
-        (annotation_of array.entry.types.now))
-        (spec.lower names.now spec.Written (tree_of body.entry.term.now)
-        (annotation_of body.entry.types.now))) }
+        (spec.lower names.now spec.Argument (tree_of array.entry.term.now) (annotation_of array.entry.types.now))
+        (spec.lower names.now spec.Written (tree_of body.entry.term.now) (annotation_of body.entry.types.now))) }
 {
     let turns = turns_over(alloc, array.types.own_type(), body.term)?;
     let array = lower_at(alloc, names, Place::Argument, array.term, array.types)?;
@@ -459,12 +453,9 @@ fn lower_fold(
         (spec.named 0 (spec.element_of (type_in (annotation_of array.entry.types.now))) []
         (tree_of body.entry.term.now))
         (spec.element_ty (type_in (annotation_of start.entry.types.now)))
-        (spec.lower names.now spec.Argument (tree_of array.entry.term.now)
-        (annotation_of array.entry.types.now))
-        (spec.lower names.now spec.Element (tree_of start.entry.term.now)
-        (annotation_of start.entry.types.now))
-        (spec.lower names.now spec.Element (tree_of body.entry.term.now)
-        (annotation_of body.entry.types.now))) }
+        (spec.lower names.now spec.Argument (tree_of array.entry.term.now) (annotation_of array.entry.types.now))
+        (spec.lower names.now spec.Element (tree_of start.entry.term.now) (annotation_of start.entry.types.now))
+        (spec.lower names.now spec.Element (tree_of body.entry.term.now) (annotation_of body.entry.types.now))) }
 {
     let turns = turns_over(alloc, array.types.own_type(), body.term)?;
     let accumulator = start.types.own_type().copy(alloc)?;
