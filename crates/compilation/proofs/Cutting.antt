@@ -37,9 +37,8 @@ use Rattle.program_source.specs.Terms.{LastOf, TermsOf}
 use Rattle.stages.specs.Stages.{Then}
 use Rattle.compilation.specs.Legal.{IsSoundLowered, lowered_state}
 use Rattle.compilation.specs.Meets.{CanBeLaidOut}
-use Rattle.compilation.specs.Sequence.{AreKernelsFor, CompilesInTurn, CompilesParts, CutOf, EndsWith, HaveInputsBehind, IsCompiledSequence, IsSequenceFor, Outline, SequenceOf, outline_in, part_of, with_input}
+use Rattle.compilation.specs.Sequence.{AreKernelsFor, AreMadeOf, CompilesInTurn, CompilesParts, CutOf, EndsWith, HaveInputsBehind, IsCompiledSequence, IsLaidOut, IsSequenceFor, Outline, SequenceOf, outline_in, part_of, with_input}
 use Rattle.compilation.proofs.Compiling.{stopped_before, stopped_behind}
-use Rattle.compilation.proofs.InTurn.{IsLaidOut, MadeSoFar}
 
 -- ---- each term is sound
 
@@ -157,7 +156,7 @@ stage_inputs d (l ∷ ls) (k ∷ ks) named inputs =
 
 -- ---- what is compiled
 
-module _ (program script : List ℕ) (t : Typed) (last : IsLastTerm program script t) (l : Lowered) (declared : declared_of l ≡ declared_by (program_of t.program)) (state : lowered_state l ≡ state_of t) (local : Option ℕ) (ls : List Lowered) (are : AreKernelsOf l ls) (counts : KernelsAreCounted) (ks : List Kernel) (os : List Outline) (made : MadeSoFar local ls ks os) (text : List ℕ) (texts : AreTexts 0 text ks) (keeping : SequencesKeep) where
+module _ (program script : List ℕ) (t : Typed) (last : IsLastTerm program script t) (l : Lowered) (declared : declared_of l ≡ declared_by (program_of t.program)) (state : lowered_state l ≡ state_of t) (local : Option ℕ) (ls : List Lowered) (are : AreKernelsOf l ls) (counts : KernelsAreCounted) (ks : List Kernel) (os : List Outline) (made : AreMadeOf local ls ks os) (text : List ℕ) (texts : AreTexts 0 text ks) (keeping : SequencesKeep) where
   abbrev source : PlainProgram
   source = program_of t.program
 
@@ -170,13 +169,13 @@ module _ (program script : List ℕ) (t : Typed) (last : IsLastTerm program scri
   keep : SequenceKeeps (declared_by source) local source.body whole (stages_of ls ks)
   keep =
       keeping source l local ls ks declared typed (subst (λ (z : State). Keeps (declared_by source) [] source.body z.tree) (sym state) last.term.keeps)
-      are made.kernels
+      are made.each
 
   written : IsSequenceText text (map (λ (k : Stage). k.kernel) (stages_of ls ks))
   written =
       let count = count_of counts l ls are in
-      let long = as_many local ls ks made.kernels in
-      subst (IsSequenceText text) (sym (stage_kernels local ls ks made.kernels)) (record { some = omega (arith, count, long); texts = texts })
+      let long = as_many local ls ks made.each in
+      subst (IsSequenceText text) (sym (stage_kernels local ls ks made.each)) (record { some = omega (arith, count, long); texts = texts })
 
   named : NamesAll (declared_by source).names ls
   named k x is = are.kernels.names k x is ∙ ap (λ (d : Declared). d.names) declared
@@ -207,11 +206,11 @@ module _ (program script : List ℕ) (t : Typed) (last : IsLastTerm program scri
             ),
           ),
         );
-        outlined = sym made.outlines;
+        outlined = sym made.outlined;
         kernels = stages_of ls ks;
-        terms = stage_parts local ls ks made.kernels;
+        terms = stage_parts local ls ks made.each;
         inputs = stage_inputs (declared_by source) ls ks named behind;
-        each = stage_kernels_for local ls ks made.kernels;
+        each = stage_kernels_for local ls ks made.each;
         written = written;
         keep = keep;
       })
@@ -225,7 +224,7 @@ module _ (program script : List ℕ) (t : Typed) (last : IsLastTerm program scri
       let c = cut_off (length l.inputs.items) [] (tree_of l.term) (annotation_of l.types) in (
         map outline_in c.made,
         outline_in c.left,
-        made.outlines ∙ ap (map outline_in) are.kernels.terms ∙ map-append outline_in c.made (c.left ∷ []),
+        made.outlined ∙ ap (map outline_in) are.kernels.terms ∙ map-append outline_in c.made (c.left ∷ []),
         law (length l.inputs.items) (tree_of l.term) (annotation_of l.types),
       )
 
@@ -236,10 +235,10 @@ module _ (program script : List ℕ) (t : Typed) (last : IsLastTerm program scri
       (subst (λ (o : Option ℕ). IsSequenceFor source whole o os text) (sym is)
       (record {
         typed = typed;
-        laid_out = subst (Every (λ (o : Outline). CanBeLaidOut (declared_by source).names o.output)) (sym made.outlines) (outlines_laid_out (declared_by source).names ls named made.laid_out);
+        laid_out = subst (Every (λ (o : Outline). CanBeLaidOut (declared_by source).names o.output)) (sym made.outlined) (outlines_laid_out (declared_by source).names ls named made.laid_out);
         last = ends law;
         kernels = stages_of ls ks;
-        outlined = stage_outlines local ls ks made.kernels ∙ sym made.outlines;
+        outlined = stage_outlines local ls ks made.each ∙ sym made.outlined;
         names = stage_names (declared_by source).names ls ks named;
         written = written;
         keep = keep;

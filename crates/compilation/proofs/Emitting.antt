@@ -27,7 +27,7 @@ use Rattle.phase_plan.specs.Plans.{IsTold, declared_in, local_in, tree_in, types
 use Rattle.phase_plan.specs.declared.planned.Plan.{Plan}
 use Rattle.kernel_emit.specs.Kernels.{IsKernelFor}
 use Rattle.kernel_emit.specs.Laws.{PlansGiveKernels}
-use Rattle.kernel_emit.specs.Plans.{kernel_for}
+use Rattle.kernel_emit.specs.Plans.{tidied_for}
 use Rattle.compilation.specs.Legal.{IsKernelOf, IsSoundLowered}
 use Rattle.compilation.specs.Meets.{CanBeLaidOut}
 
@@ -39,7 +39,7 @@ kernel_of_same l local s same fixed k h =
     subst (λ (o : Option ℕ). IsKernelOf l o k) fixed (subst (λ (m : Lowered). IsKernelOf m s.mapped.local k) same h)
 
 pub kernel_of_plan : (l : Lowered) → IsSoundLowered l → (local : Option ℕ) (plan : Plan) → local_in plan ≡ local → plan.spaced.now.mapped.lowered ≡ l → PlansGiveKernels → IsTold plan
-    → (k : Kernel) → k ≡ kernel_for plan → IsKernelOf l local k
+    → (k : Kernel) → k ≡ tidied_for plan → IsKernelOf l local k
 kernel_of_plan l sound local plan fixed same law told k is =
     kernel_of_same l local plan.spaced.now same fixed k
     (subst (λ (x : Kernel). IsKernelFor (declared_in plan) (local_in plan) (tree_in plan) (types_in plan) x) (sym is)

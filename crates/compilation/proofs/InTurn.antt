@@ -2,7 +2,6 @@
 use Rattle.std.proofs.Common.{◌≡◌, ◌∙◌, ◌<◌, arith, get_or, length, take, ℕ, List, [], ◌∷◌, ◌++◌, Option, Result, Ok, Err, ap, ap₂, inl, inr, map, refl, subst, sym}
 use Rattle.std.proofs.lemmas.List.{map-append, map-id}
 use Rattle.kernel_tree.specs.Code.{Kernel}
-use Rattle.lift_tree.specs.Annotations.{annotation_of, type_in}
 use Rattle.lift_tree.specs.Lists.{Every}
 use Rattle.lift_tree.proofs.EveryAt.{every_more}
 use Rattle.lowered_tree.specs.declared.lowered.Lowered.{Lowered}
@@ -12,8 +11,7 @@ use Rattle.sequence_runs.specs.Stages.{AreKernelsOfEach, IsKernelOf}
 use Rattle.fault_lines.specs.declared.refusal.Refusal.{Refusal}
 use Rattle.program_source.specs.Program.{StopsFor}
 use Rattle.compilation.specs.Legal.{CompilesTerm, lowered_state}
-use Rattle.compilation.specs.Meets.{CanBeLaidOut}
-use Rattle.compilation.specs.Sequence.{CompilesInTurn, Outline, outline_in, state_in}
+use Rattle.compilation.specs.Sequence.{AreMadeOf, CompilesInTurn, IsLaidOut, Outline, outline_in, state_in}
 
 -- ---- where an item of a list stands
 
@@ -63,29 +61,18 @@ each_more local [] (j ∷ ks) l k each h = absurd each
 each_more local (m ∷ ls) [] l k each h = absurd each
 each_more local (m ∷ ls) (j ∷ ks) l k each h = (each.0, each_more local ls ks l k each.1 h)
 
--- the output of a term's kernel can be laid out
-abbrev pub IsLaidOut : Lowered → Type 0
-IsLaidOut l = CanBeLaidOut l.names (type_in (annotation_of l.types))
-
--- the kernels of these terms, and what is to be known of each
-pub record MadeSoFar (local : Option ℕ) (ls : List Lowered) (ks : List Kernel) (os : List Outline) : Type 0 where
-  pub kernels : AreKernelsOfEach local ls ks
-  pub outlines : os ≡ map outline_in (map term_part ls)
-  pub laid_out : Every IsLaidOut ls
-  pub compiled : CompilesInTurn local (map term_part ls) (Ok tt)
-
-pub none_made : (local : Option ℕ) (ks : List Kernel) (os : List Outline) → ks ≡ [] → os ≡ [] → MadeSoFar local [] ks os
+pub none_made : (local : Option ℕ) (ks : List Kernel) (os : List Outline) → ks ≡ [] → os ≡ [] → AreMadeOf local [] ks os
 none_made local ks os no_kernels no_outlines =
-    record { kernels = subst (AreKernelsOfEach local []) (sym no_kernels) tt; outlines = no_outlines; laid_out = tt; compiled = refl }
+    record { each = subst (AreKernelsOfEach local []) (sym no_kernels) tt; outlined = no_outlines; laid_out = tt; compiled = refl }
 
-pub one_made : (local : Option ℕ) (ls : List Lowered) (ks kss : List Kernel) (os oss : List Outline) (l : Lowered) (k : Kernel) (o : Outline) → MadeSoFar local ls ks os → IsKernelOf local l k → o ≡ outline_in (term_part l) → IsLaidOut l
-    → CompilesTerm local (lowered_state l) (Ok (lowered_state l)) → kss ≡ ks ++ k ∷ [] → oss ≡ os ++ o ∷ [] → MadeSoFar local (ls ++ l ∷ []) kss oss
+pub one_made : (local : Option ℕ) (ls : List Lowered) (ks kss : List Kernel) (os oss : List Outline) (l : Lowered) (k : Kernel) (o : Outline) → AreMadeOf local ls ks os → IsKernelOf local l k → o ≡ outline_in (term_part l) → IsLaidOut l
+    → CompilesTerm local (lowered_state l) (Ok (lowered_state l)) → kss ≡ ks ++ k ∷ [] → oss ≡ os ++ o ∷ [] → AreMadeOf local (ls ++ l ∷ []) kss oss
 one_made local ls ks kss os oss l k o made kernel outline laid compiled more_kernels more_outlines =
     let more = map-append term_part ls (l ∷ []) in
     record {
-      kernels = subst (AreKernelsOfEach local (ls ++ l ∷ [])) (sym more_kernels) (each_more local ls ks l k made.kernels kernel);
-      outlines =
-          more_outlines ∙ ap₂ (λ xs x. xs ++ x ∷ []) made.outlines outline
+      each = subst (AreKernelsOfEach local (ls ++ l ∷ [])) (sym more_kernels) (each_more local ls ks l k made.each kernel);
+      outlined =
+          more_outlines ∙ ap₂ (λ xs x. xs ++ x ∷ []) made.outlined outline
           ∙ sym (ap (map outline_in) more ∙ map-append outline_in (map term_part ls) (term_part l ∷ []));
       laid_out = every_more IsLaidOut ls l made.laid_out laid;
       compiled =
@@ -93,5 +80,5 @@ one_made local ls ks kss os oss l k o made kernel outline laid compiled more_ker
           (in_turn_more local (map term_part ls) (term_part l ∷ []) (Ok tt) made.compiled (lowered_state l, compiled, refl));
     }
 
-pub all_made : (local : Option ℕ) (ls all : List Lowered) (ks : List Kernel) (os : List Outline) → map (λ (l : Lowered). l) ls ≡ all → MadeSoFar local ls ks os → MadeSoFar local all ks os
-all_made local ls all ks os end made = subst (λ (xs : List Lowered). MadeSoFar local xs ks os) (sym (map-id ls) ∙ end) made
+pub all_made : (local : Option ℕ) (ls all : List Lowered) (ks : List Kernel) (os : List Outline) → map (λ (l : Lowered). l) ls ≡ all → AreMadeOf local ls ks os → AreMadeOf local all ks os
+all_made local ls all ks os end made = subst (λ (xs : List Lowered). AreMadeOf local xs ks os) (sym (map-id ls) ∙ end) made

@@ -106,21 +106,27 @@ HaveInputsBehind d (k ∷ ks) =
 abbrev pub AreKernelsFor : Option ℕ → List Stage → Type 0
 AreKernelsFor local = Every (λ (k : Stage). IsKernelFor k.declared local k.tree k.types k.kernel)
 
--- The kernels in order of a typed last term, which makes this type, with an outline of each: of the
--- terms that it is cut into, each of which is compiled.
-pub record AreKernelsOfLast (last : Typed) (local : Option ℕ) (output : PlainTy)
-    (kernels : List Kernel) (outlines : List Outline) : Type 0 where
+-- the output of a term's kernel can be laid out
+abbrev pub IsLaidOut : Lowered → Type 0
+IsLaidOut l = CanBeLaidOut l.names (type_in (annotation_of l.types))
+
+-- The kernels of these terms in order, each of which is compiled, with an outline of each.
+pub record AreMadeOf (local : Option ℕ) (terms : List Lowered) (kernels : List Kernel)
+    (outlines : List Outline) : Type 0 where
+  pub each : AreKernelsOfEach local terms kernels
+  pub outlined : outlines ≡ map outline_in (map term_part terms)
+  pub laid_out : Every IsLaidOut terms
+  pub compiled : CompilesInTurn local (map term_part terms) (Ok tt)
+
+-- The kernels in order of a typed last term: of the terms that it is cut into.
+pub record AreKernelsOfLast (last : Typed) (local : Option ℕ) (kernels : List Kernel)
+    (outlines : List Outline) : Type 0 where
   pub whole : Lowered
   pub declared : declared_of whole ≡ declared_by (program_of last.program)
   pub state : lowered_state whole ≡ state_of last
-  pub typed : output ≡ type_in (annotation_of whole.types)
   pub terms : List Lowered
   pub cut : AreKernelsOf whole terms
-  pub each : AreKernelsOfEach local terms kernels
-  pub outlined : outlines ≡ map outline_in (map term_part terms)
-  pub laid_out : Every
-      (λ (l : Lowered). CanBeLaidOut l.names (type_in (annotation_of l.types))) terms
-  pub compiled : CompilesInTurn local (map term_part terms) (Ok tt)
+  pub made : AreMadeOf local terms kernels outlines
 
 -- The text is that of kernels in order, of the terms that the script's last term is cut into. Each
 -- is printed for its term, and has a buffer for each component of the program's inputs, of what

@@ -1,19 +1,17 @@
 //! A program and a script, compiled to the text of kernels in order.
-ghost use Rattle.std.specs.Prelude.{◌≡◌, ◌++◌, ◌∷◌, [], IfErr, IfOk, Ok, OnOk, length, map};
+ghost use Rattle.std.specs.Prelude.{◌≡◌, ◌++◌, ◌∷◌, [], IfErr, IfOk, OnOk, length, map};
 ghost use Rattle.kernel_tree.specs.Kernels.{kernel_of};
-ghost use Rattle.lift_tree.specs.Annotations.{annotation_of, type_in};
 ghost use Rattle.lift_tree.specs.FixedSizes.{size_fixed};
 ghost use Rattle.lift_tree.specs.Lists.{Every};
 ghost use Rattle.lift_tree.specs.Programs.{program_of};
 ghost use Rattle.lift_tree.specs.Types.{ty_of};
 ghost use Rattle.kernel_sequence.specs.Parts.{term_part};
-ghost use Rattle.sequence_runs.specs.Stages.{AreKernelsOfEach};
 ghost use Rattle.program_source.specs.Program.{IsRefusedFor, OnProgram, StopsFor};
 ghost use Rattle.strategy_script.specs.Steps.{state_of};
 ghost use Rattle.compilation.specs.Legal.{IsSoundLowered, IsTypedLast};
-ghost use Rattle.compilation.specs.Meets.{CanBeLaidOut};
 ghost use Rattle.compilation.specs.Sequence.{
   AreKernelsOfLast,
+  AreMadeOf,
   CompilesInTurn,
   CompilesParts,
   IsCompiledSequence,
@@ -94,49 +92,15 @@ pub fn compile_sequence(
     sequences_keep();
     sources_end_once();
     let found = last_term(alloc, program, script)?;
-    let sequence = kernels_of_last(alloc, &found.typed, found.local)?;
-    let text = print_sequence(alloc, &sequence.kernels)?;
+    let made = kernels_of_last(alloc, &found.typed, found.local)?;
+    let text = print_sequence(alloc, &made.kernels)?;
     let last = found.typed;
     Ok(CompiledSequence {
         program: last.program,
-        output: sequence.output,
+        output: own_type(last.types),
         local: LocalSize::fixed(found.local),
-        outlines: sequence.outlines,
-        text,
-    })
-}
-
-// The kernels of a last term, and the type of what the last of them makes.
-#[derive(Drop)]
-struct Sequence {
-    output: Ty,
-    kernels: Vec<Kernel>,
-    outlines: Vec<KernelOutline>,
-}
-
-// The kernels of the terms that a last term is cut into.
-fn kernels_of_last(
-    alloc: Global,
-    last: &Typed,
-    local: Option<LocalSize>,
-) -> Result<Sequence, Refusal>
-    requires typed { IsTypedLast last.now }
-    ensures made { IfOk result (λ s. AreKernelsOfLast last.now (size_fixed local)
-        (ty_of s.output) (map kernel_of s.kernels.items)
-        (map outline_of s.outlines.items)) }
-    ensures refused { IfErr result
-        (StopsFor (CompilesParts (length (program_of last.now.program).inputs) (size_fixed local)
-        (state_of last.now))) }
-{
-    kernels_are_counted();
-    kernels_are_sound();
-    let whole = lowered_last(alloc, last)?;
-    let terms = cut(alloc, &whole)?;
-    let made = kernels_of_each(alloc, terms, local)?;
-    Ok(Sequence {
-        output: own_type(whole.types),
-        kernels: made.kernels,
         outlines: made.outlines,
+        text,
     })
 }
 
@@ -161,6 +125,26 @@ impl Kernels {
     }
 }
 
+// The kernels of the terms that a last term is cut into.
+fn kernels_of_last(
+    alloc: Global,
+    last: &Typed,
+    local: Option<LocalSize>,
+) -> Result<Kernels, Refusal>
+    requires typed { IsTypedLast last.now }
+    ensures made { IfOk result (λ made. AreKernelsOfLast last.now (size_fixed local)
+        (map kernel_of made.kernels.items) (map outline_of made.outlines.items)) }
+    ensures refused { IfErr result
+        (StopsFor (CompilesParts (length (program_of last.now.program).inputs) (size_fixed local)
+        (state_of last.now))) }
+{
+    kernels_are_counted();
+    kernels_are_sound();
+    let whole = lowered_last(alloc, last)?;
+    let terms = cut(alloc, &whole)?;
+    kernels_of_each(alloc, terms, local)
+}
+
 // What is to be known of the kernel of a term.
 fn outline(alloc: Global, term: &Lowered) -> Result<KernelOutline, AllocError>
     ensures { IfOk result (λ o. outline_of o ≡ outline_in (term_part term.now)) }
@@ -179,14 +163,8 @@ fn kernels_of_each(
     local: Option<LocalSize>,
 ) -> Result<Kernels, Refusal>
     requires { Every IsSoundLowered terms.items }
-    ensures kernels { IfOk result (λ made. AreKernelsOfEach (size_fixed local) terms.items
-        (map kernel_of made.kernels.items)) }
-    ensures outlines { IfOk result (λ made. map outline_of made.outlines.items
-        ≡ map outline_in (map term_part terms.items)) }
-    ensures laid_out { IfOk result (λ _. Every (λ l. CanBeLaidOut l.names
-        (type_in (annotation_of l.types))) terms.items) }
-    ensures compiles { IfOk result (λ _. CompilesInTurn (size_fixed local)
-        (map term_part terms.items) (Ok tt)) }
+    ensures made { IfOk result (λ made. AreMadeOf (size_fixed local) terms.items
+        (map kernel_of made.kernels.items) (map outline_of made.outlines.items)) }
     ensures refused { IfErr result
         (StopsFor (CompilesInTurn (size_fixed local) (map term_part terms.items))) }
 {

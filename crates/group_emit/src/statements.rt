@@ -6,6 +6,7 @@ ghost use Rattle.group_form.specs.ChosenForms.{form_of};
 ghost use Rattle.group_form.specs.Printer as printer;
 ghost use Rattle.kernel_tree.specs.Code.{End};
 ghost use Rattle.length_spelling.specs.Turns.{number_of, turn_formula};
+ghost use Rattle.printed_form.specs.Arguments.{argument_view, local_arrays};
 ghost use Rattle.lift_ir.specs.Terms as terms;
 ghost use Rattle.lift_ir.specs.Terms.{Local};
 ghost use Rattle.array_views.specs.Views.{view_in};
@@ -38,6 +39,25 @@ pub struct Site<'s> {
     pub depth: u32,
     pub scope: &'s Scope<'s>,
     pub used: Used,
+}
+
+impl Site<'_> {
+    // What stands here for an argument, whose copies are local.
+    fn argument(&self, alloc: Global, setting: &Setting, term: &Term) -> Result<View, AllocError>
+        requires { HasShortCopies (term_of term.now) }
+        ensures { IfOk result (λ v. view_in v ≡ argument_view local_arrays (spell_of setting.now)
+            (inputs_of setting.now) (scope_of self.now.scope.now) self.now.used.locals
+            (term_of term.now)) }
+    {
+        argument(
+            alloc,
+            &setting.declared,
+            self.scope,
+            Space::Local,
+            self.used.locals,
+            term,
+        )
+    }
 }
 
 // A turn of a local map in this form.
@@ -163,15 +183,7 @@ fn put_map(
         (scope_of site.now.scope.now)
         (used_of site.now.used) (map_of map.now) (view_in target.now) (code_in block.old)) }
 {
-    let declared = &setting.declared;
-    let view = argument(
-        alloc,
-        declared,
-        site.scope,
-        Space::Local,
-        site.used.locals,
-        &map.array,
-    )?;
+    let view = site.argument(alloc, setting, &map.array)?;
     let after = Site {
         used: site.used.after(&map.array)?,
         ..*site
@@ -200,15 +212,7 @@ fn put_let(
         (used_of site.now.used) (terms.LetArray (term_of value.now) (term_of body.now))
         (view_in target.now) (code_in block.old)) }
 {
-    let declared = &setting.declared;
-    let bound = argument(
-        alloc,
-        declared,
-        site.scope,
-        Space::Local,
-        site.used.locals,
-        value,
-    )?;
+    let bound = site.argument(alloc, setting, value)?;
     let inner = Site {
         depth: site.depth,
         scope: &Scope::Bound(&bound, site.scope),
@@ -236,15 +240,7 @@ fn put_argument_let(
         (used_of site.now.used) (terms.LetArray (term_of value.now) (term_of body.now))
         (code_in block.old)) }
 {
-    let declared = &setting.declared;
-    let bound = argument(
-        alloc,
-        declared,
-        site.scope,
-        Space::Local,
-        site.used.locals,
-        value,
-    )?;
+    let bound = site.argument(alloc, setting, value)?;
     let inner = Site {
         depth: site.depth,
         scope: &Scope::Bound(&bound, site.scope),

@@ -40,18 +40,18 @@ module _ {A : Type 0} (spell : A → Formula) (ins : ℕ → View) (depth : ℕ)
       → code ≡ print_written spell ins d (push bound env) p q b w rest → print_argument spell ins depth env a n v code ≡ print_written spell ins depth env a n (LetArray v b) w rest
   written_let v b w rest code bound d p q eb ed ep eq ec = rw (ec, eb, ed, ep, eq) refl
 
-  pub written_map : (k : Kind) (len : A) (loads : LoadSet) (xs b : Term A) (w : View) (rest turn code : Code) (array element to : View) (length : Formula) (start : Start) (stride : Stride) (inner : ℕ → View) (d p q : ℕ)
-      → array ≡ argument_view private_arrays spell ins env a xs → element ≡ view_at (LoopVariable depth) array → to ≡ view_at (LoopVariable depth) w → inner ≡ env → d ≡ depth → p ≡ a + private_count xs → q ≡ n + variable_count xs
+  pub written_map : (k : Kind) (len : A) (loads : LoadSet) (xs b : Term A) (w : View) (rest turn code : Code) (element to : View) (length : Formula) (start : Start) (stride : Stride) (inner : ℕ → View) (d p q : ℕ)
+      → element ≡ view_at (LoopVariable depth) (argument_view private_arrays spell ins env a xs) → to ≡ view_at (LoopVariable depth) w → inner ≡ env → d ≡ depth → p ≡ a + private_count xs → q ≡ n + variable_count xs
       → turn ≡ print_loaded loads element q (print_written spell ins (suc d) (push (loaded_view loads element q) inner) p (q + load_count loads) b to End) → length ≡ spell len → start ≡ start_of k → stride ≡ stride_of k → code ≡ Loops start length stride turn rest
       → print_argument spell ins depth env a n xs code ≡ print_written spell ins depth env a n (Map k len loads xs b) w rest
-  written_map k len loads xs b w rest turn code array element to length start stride inner d p q ea ee eo ei ed ep eq et el es er ec = rw (ec, el, es, er, et, ei, eo, ed, ep, eq, ee, ea) refl
+  written_map k len loads xs b w rest turn code element to length start stride inner d p q ee eo ei ed ep eq et el es er ec = rw (ec, el, es, er, et, ei, eo, ed, ep, eq, ee) refl
 
   pub written_layout : (y : Layout A) (t : Term A) (w target : View) (rest : Code) → target ≡ (λ cs is. w cs (result_indices spell y is))
       → print_written spell ins depth env a n t target rest ≡ print_written spell ins depth env a n (Reshape y t) w rest
   written_layout y t w target rest e = ap (λ v. print_written spell ins depth env a n t v rest) e
 
-  pub written_fold : (len : A) (loads : LoadSet) (ty : Ty) (xs s b : Term A) (w : View) (rest code : Code) (array element : View) (bound : Formula) (f p : ℕ)
-      → array ≡ argument_view private_arrays spell ins env a xs → element ≡ view_at (LoopVariable depth) array → f ≡ variable_count xs → p ≡ n + f → bound ≡ spell len
+  pub written_fold : (len : A) (loads : LoadSet) (ty : Ty) (xs s b : Term A) (w : View) (rest code : Code) (element : View) (bound : Formula) (f p : ℕ)
+      → element ≡ view_at (LoopVariable depth) (argument_view private_arrays spell ins env a xs) → f ≡ variable_count xs → p ≡ n + f → bound ≡ spell len
       → code ≡ print_element env p s (print_assigned ty (sign_exprs env p s) (p + let_variables s) (Loops FromZero bound ByOne (print_fold_turn env loads ty element (p + let_variables s) b) (print_stored ty (λ cs. held_sign (held_view ty (p + let_variables s) cs [])) (view_at (Number 0) w) rest)))
       → print_argument spell ins depth env a n xs code ≡ print_written spell ins depth env a n (Fold len loads ty xs s b) w rest
-  written_fold len loads ty xs s b w rest code array element bound f p ea ee ef ep eb ec = rw (ec, ee, ea, ep, ef, eb) refl
+  written_fold len loads ty xs s b w rest code element bound f p ee ef ep eb ec = rw (ec, ee, ep, ef, eb) refl

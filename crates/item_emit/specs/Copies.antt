@@ -8,8 +8,8 @@ use Rattle.lowering.specs.Terms.{space_of}
 use Rattle.lowering.specs.declared.term.Space.{Space}
 
 -- the arrays of a space that the Rust code names
-abbrev pub arrays_in : Space → CopyArrays (List Monomial)
-arrays_in space = arrays_of (space_of space)
+abbrev pub copy_arrays : Space → CopyArrays (List Monomial)
+copy_arrays space = arrays_of (space_of space)
 
 -- lengths below 2^31, and one component of less than 2^32 scalars
 pub record IsShortCopy (ty : Ty) : Type 0 where

@@ -13,7 +13,7 @@ ghost use Rattle.printed_form.specs.Views as views;
 ghost use Rattle.length_spelling.specs.Formulas.{length_formula};
 ghost use Rattle.array_views.specs.Views.{view_in};
 ghost use Rattle.lowering.specs.Terms.{space_of, term_of};
-ghost use Rattle.item_emit.specs.Copies.{HasShortCopies, arrays_in};
+ghost use Rattle.item_emit.specs.Copies.{HasShortCopies, copy_arrays};
 ghost use Rattle.item_emit.specs.Inputs.{inputs_in, spell_in};
 ghost use Rattle.item_emit.specs.Scopes.{scope_of};
 
@@ -94,7 +94,7 @@ pub fn buffer_count(inputs: &[Ty]) -> Result<u32, AllocError>
 
 // The arrays of a space.
 fn kind_of(space: Space) -> ArrayKind
-    ensures { array_with result ≡ (arrays_in space).array }
+    ensures { array_with result ≡ (copy_arrays space).array }
 {
     match space {
         Space::Local => ArrayKind::Local,
@@ -106,7 +106,7 @@ fn kind_of(space: Space) -> ArrayKind
 pub fn laid(alloc: Global, space: Space, first: u32, ty: &Ty) -> Result<View, AllocError>
     requires { IsShort (ty_at [] (ty_of ty.now)) }
     ensures { IfOk result (λ v. view_in v
-        ≡ views.laid_view (arrays_in space).array first (ty_at [] (ty_of ty.now))) }
+        ≡ views.laid_view (copy_arrays space).array first (ty_at [] (ty_of ty.now))) }
 {
     plus(first, width(ty)?)?;
     View::laid(alloc, kind_of(space), first, ty)
@@ -115,7 +115,7 @@ pub fn laid(alloc: Global, space: Space, first: u32, ty: &Ty) -> Result<View, Al
 // Whether a copy to one space lies in the arrays of the other. All copies lie in local arrays,
 // where those are asked for.
 fn holds(space: Space, copied: Space) -> bool
-    ensures { result ≡ (arrays_in space).holds (space_of copied) }
+    ensures { result ≡ (copy_arrays space).holds (space_of copied) }
 {
     match (space, copied) {
         (Space::Private, Space::Local) => false,
@@ -133,9 +133,9 @@ fn copied(
     operand: &Term,
 ) -> Result<View, AllocError>
     requires { IsShort (ty_at [] (ty_of ty.now)) }
-    ensures { IfOk result (λ v. view_in v ≡ (if (arrays_in space).holds (space_of to)
-        then views.laid_view (arrays_in space).array
-        (first + (arrays_in space).count (term_of operand.now)) (ty_at [] (ty_of ty.now))
+    ensures { IfOk result (λ v. view_in v ≡ (if (copy_arrays space).holds (space_of to)
+        then views.laid_view (copy_arrays space).array
+        (first + (copy_arrays space).count (term_of operand.now)) (ty_at [] (ty_of ty.now))
         else (λ cs is. views.Blank))) }
 {
     if holds(space, to) {
@@ -156,7 +156,7 @@ pub fn argument(
     term: &Term,
 ) -> Result<View, AllocError>
     requires { HasShortCopies (term_of term.now) }
-    ensures { IfOk result (λ v. view_in v ≡ argument_view (arrays_in space)
+    ensures { IfOk result (λ v. view_in v ≡ argument_view (copy_arrays space)
         (spell_in declared.now) (inputs_in declared.now) (scope_of scope.now) first
         (term_of term.now)) }
 {

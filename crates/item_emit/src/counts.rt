@@ -8,7 +8,7 @@ ghost use Rattle.lift_ir.specs.Lowering.{element_ty};
 ghost use Rattle.lift_ir.specs.Types as types;
 ghost use Rattle.printed_form.specs.Counts as spec;
 ghost use Rattle.lowering.specs.Terms.{load_set_of, term_of};
-ghost use Rattle.item_emit.specs.Copies.{arrays_in};
+ghost use Rattle.item_emit.specs.Copies.{copy_arrays};
 
 use lift_tree::ty::Ty;
 use lowering::term::{Fold, LoadSet, Space, Term};
@@ -191,7 +191,7 @@ pub fn local_count(term: &Term) -> Result<u32, AllocError>
 
 /// How many arrays of a space a term has.
 pub fn array_count(space: Space, term: &Term) -> Result<u32, AllocError>
-    ensures { IfOk result (λ n. n ≡ (arrays_in space).count (term_of term.now)) }
+    ensures { IfOk result (λ n. n ≡ (copy_arrays space).count (term_of term.now)) }
 {
     match space {
         Space::Local => local_count(term),

@@ -9,6 +9,7 @@ ghost use Rattle.lift_ir.specs.Lowering.{element_ty};
 ghost use Rattle.lift_ir.specs.Terms as terms;
 ghost use Rattle.lift_ir.specs.Terms.{push};
 ghost use Rattle.lift_tree.specs.Types.{ty_of};
+ghost use Rattle.printed_form.specs.Arguments.{argument_view, private_arrays};
 ghost use Rattle.printed_form.specs.Counts.{let_variables, load_count, private_count, variable_count};
 ghost use Rattle.printed_form.specs.Form as form;
 ghost use Rattle.printed_form.specs.Printer as printer;
@@ -62,6 +63,34 @@ impl<'s> Site<'s> {
             variable: plus(self.variable, variable_count(term)?)?,
             ..*self
         })
+    }
+
+    // What stands here for an argument, whose copies are private.
+    fn argument(&self, alloc: Global, declared: &Declared, term: &Term) -> Result<View, AllocError>
+        requires { HasShortCopies (term_of term.now) }
+        ensures { IfOk result (λ v. view_in v ≡ argument_view private_arrays
+            (spell_in declared.now) (inputs_in declared.now) (scope_of self.now.scope.now)
+            self.now.array (term_of term.now)) }
+    {
+        argument(
+            alloc,
+            declared,
+            self.scope,
+            Space::Private,
+            self.array,
+            term,
+        )
+    }
+
+    // The element of an argument at a turn of the loop here.
+    fn element(&self, alloc: Global, declared: &Declared, array: &Term) -> Result<View, AllocError>
+        requires { HasShortCopies (term_of array.now) }
+        ensures { IfOk result (λ v. view_in v ≡ view_at (formula.LoopVariable self.now.depth)
+            (argument_view private_arrays (spell_in declared.now) (inputs_in declared.now)
+            (scope_of self.now.scope.now) self.now.array (term_of array.now))) }
+    {
+        let array = self.argument(alloc, declared, array)?;
+        at_turn(alloc, &array, Turn::Loop(self.depth))
     }
 }
 
@@ -285,14 +314,7 @@ fn put_argument_let(
         site.now.variable (terms.LetArray (term_of value.now) (term_of body.now))
         (code_in block.old)) }
 {
-    let bound = argument(
-        alloc,
-        declared,
-        site.scope,
-        Space::Private,
-        site.array,
-        value,
-    )?;
+    let bound = site.argument(alloc, declared, value)?;
     let after = site.after(value)?;
     let inner = Site {
         scope: &Scope::Bound(&bound, site.scope),
@@ -348,15 +370,7 @@ fn put_map(
         (inputs_in declared.now) site.now.depth (scope_of site.now.scope.now) site.now.array
         site.now.variable (map_of map.now) (view_in target.now) (code_in block.old)) }
 {
-    let element = argument(
-        alloc,
-        declared,
-        site.scope,
-        Space::Private,
-        site.array,
-        &map.array,
-    )?;
-    let element = at_turn(alloc, &element, Turn::Loop(site.depth))?;
+    let element = site.element(alloc, declared, &map.array)?;
     let target = at_turn(alloc, target, Turn::Loop(site.depth))?;
     let after = site.after(&map.array)?;
     let turn = map_turn(alloc, declared, &after, map, &element, &target)?;
@@ -383,14 +397,7 @@ fn put_let_array(
         site.now.variable (terms.LetArray (term_of value.now) (term_of body.now))
         (view_in target.now) (code_in block.old)) }
 {
-    let bound = argument(
-        alloc,
-        declared,
-        site.scope,
-        Space::Private,
-        site.array,
-        value,
-    )?;
+    let bound = site.argument(alloc, declared, value)?;
     let after = site.after(value)?;
     let inner = Site {
         scope: &Scope::Bound(&bound, site.scope),
@@ -445,15 +452,7 @@ fn put_fold(
         (inputs_in declared.now) site.now.depth (scope_of site.now.scope.now) site.now.array
         site.now.variable (fold_of fold.now) (view_in target.now) (code_in block.old)) }
 {
-    let element = argument(
-        alloc,
-        declared,
-        site.scope,
-        Space::Private,
-        site.array,
-        &fold.array,
-    )?;
-    let element = at_turn(alloc, &element, Turn::Loop(site.depth))?;
+    let element = site.element(alloc, declared, &fold.array)?;
     let after = Site {
         variable: plus(site.variable, variable_count(&fold.array)?)?,
         ..*site

@@ -18,7 +18,7 @@ use Rattle.phase_plan.specs.declared.kind.Kind.{Kind}
 use Rattle.phase_plan.specs.declared.kind.Kind.TheVariants.{Task, OverLaunch, OverGroups}
 use Rattle.phase_plan.specs.declared.phases.Phases.{Phases}
 use Rattle.phase_plan.specs.declared.planned.Plan.{Plan}
-use Rattle.kernel_emit.specs.Plans.{code_for, kernel_for, printed_for}
+use Rattle.kernel_emit.specs.Plans.{code_for, printed_for, tidied_for}
 use Rattle.kernel_tree.specs.declared.tree.Stmt.{Stmt}
 use Rattle.kernel_tree.specs.Code.{Code, End, Kernel}
 use Rattle.kernel_tree.specs.Tree.{code_then, kernel_with}
@@ -46,5 +46,5 @@ pub groups_code : (d : Declared) (local : Option ℕ) (root : Lowered) (a b : Pl
 groups_code d local root a b phases kind inputs barriers code k i bs t h = h ∙ (λ j. group_kernel_code (length_formula d.names) (forms_of d.names local) (first_buffer (i j)) (input_shape (i j)) (fence phases.count (bs j)) root (shape_of (t j))) ∙ sym (ap (code_for d local root a) k)
 
 -- what is printed for a plan, simplified, is its kernel
-pub emitted_is : (plan : Plan) (k made : Kernel) → k ≡ tidied_kernel (tidy_formula (declared_in plan).names made.local) made → made ≡ printed_for plan → k ≡ kernel_for plan
+pub emitted_is : (plan : Plan) (k made : Kernel) → k ≡ tidied_kernel (tidy_formula (declared_in plan).names made.local) made → made ≡ printed_for plan → k ≡ tidied_for plan
 emitted_is plan k made h is = h ∙ ap (λ (x : Kernel). tidied_kernel (tidy_formula (declared_in plan).names x.local) x) is

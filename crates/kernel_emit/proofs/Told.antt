@@ -8,7 +8,7 @@ use Rattle.std.proofs.Math.Logic.{∥∥₁_elim, ∥∥₁_prop}
 use Rattle.kernel_tree.specs.Code.{Kernel}
 use Rattle.kernel_emit.specs.Kernels.{IsKernelFor}
 use Rattle.kernel_emit.specs.Laws.{PlansCanBeEmitted, PlansGiveKernels}
-use Rattle.kernel_emit.specs.Plans.{kernel_for, printed_for}
+use Rattle.kernel_emit.specs.Plans.{printed_for, tidied_for}
 use Rattle.kernel_emit.proofs.Printing.{Known, legal_term, printed_well}
 use Rattle.kernel_emit.proofs.Tidied.{Laws, tidied_is}
 
@@ -29,7 +29,7 @@ give_kernels laws printable emitted plan is told =
     (record { local_bytes = plan.buffers.now.local_bytes; private_cells = plan.buffers.now.private_cells }) can.0.grammar
 
 -- a plan keeps what is told, and a lowered term that it is sound
-pub kept : (plan : Plan) → PlansGiveKernels → (k : Kernel) → k ≡ kernel_for plan → ∥ IsKernelFor (declared_in plan) (local_in plan) (tree_in plan) (types_in plan) k ∥₁
+pub kept : (plan : Plan) → PlansGiveKernels → (k : Kernel) → k ≡ tidied_for plan → ∥ IsKernelFor (declared_in plan) (local_in plan) (tree_in plan) (types_in plan) k ∥₁
 kept plan law k is =
     ∥∥₁_elim plan.planned ∥∥₁_prop (λ told. ∥∥₁_elim plan.spaced.now.mapped.lowered.sound ∥∥₁_prop (λ of.
     ∣ subst (IsKernelFor (declared_in plan) (local_in plan) (tree_in plan) (types_in plan)) (sym is) (law plan of told) ∣₁))

@@ -5,7 +5,7 @@ use Rattle.phase_plan.specs.declared.planned.Plan.{Plan}
 use Rattle.kernel_emit.specs.Emittable.{IsEmittable}
 use Rattle.kernel_emit.specs.Kernels.{IsKernelFor}
 use Rattle.kernel_emit.specs.Plain.{IsPlainFor}
-use Rattle.kernel_emit.specs.Plans.{kernel_for, printed_for}
+use Rattle.kernel_emit.specs.Plans.{printed_for, tidied_for}
 
 -- what is printed for a plan can be, and is what the printers make of its term
 abbrev pub PlansCanBeEmitted : Type 0
@@ -20,4 +20,4 @@ abbrev pub PlansGiveKernels : Type 0
 PlansGiveKernels =
     (plan : Plan) → IsSoundTerm (declared_in plan) (tree_in plan) (types_in plan) → IsTold plan
     → IsKernelFor (declared_in plan) (local_in plan) (tree_in plan) (types_in plan)
-    (kernel_for plan)
+    (tidied_for plan)

@@ -59,7 +59,7 @@ printed_for plan =
     plan.buffers.now.private.items (term_of plan.root) plan.kind
 
 -- with simplified indices and bounds
-abbrev pub kernel_for : Plan → Kernel
-kernel_for plan =
+abbrev pub tidied_for : Plan → Kernel
+tidied_for plan =
     tidied_kernel (tidy_formula (declared_in plan).names (row_of (local_in plan)))
     (printed_for plan)

@@ -44,14 +44,6 @@ module _ (told : Told) (request : CommandLine) (command : Command) (files : List
   stopped rose (Err e) (inl memory) = inl memory
   stopped rose (Err e) (inr h) = inr (inr (texts_of texts, its_texts, subst (λ c. Stops c (texts_of texts) (failure_of e)) same h))
 
-pub if_ok : {V E : Type 0} (P Q : V → Type 0) (r : Result V E) → ((v : V) → P v → Q v) → IfOk r P → IfOk r Q
-if_ok P Q (Ok v) more h = more v h
-if_ok P Q (Err e) more h = tt
-
-pub if_err : {V E : Type 0} (P Q : E → Type 0) (r : Result V E) → ((e : E) → P e → Q e) → IfErr r P → IfErr r Q
-if_err P Q (Ok v) more h = tt
-if_err P Q (Err e) more h = more e h
-
 -- ---- words
 
 pub words_fail : {V : Type 0} (told : Told) (rose : List ℕ → Type 0) (words : List (List ℕ)) (why : WordsNo) (r : Result V code.Failure) → (why ≡ Refused → IsRefused words)

@@ -1,3 +1,4 @@
 pub mod Terms
 pub mod Loads
 pub mod Places
+pub mod Annotated

@@ -89,6 +89,7 @@ fn under(number: u64, binders: u64) -> u64
 }
 
 // What a term, below the chain, names of the binder of this number and type.
+#[cycle(naming)]
 fn named(
     alloc: Global,
     number: u64,
@@ -108,32 +109,44 @@ fn named(
             }
         }
         Term::Number(_) | Term::Input(_) => Ok(LoadSet::Skip),
-        Term::Unary(UnaryForm::First, a) => named(alloc, number, ty, &Chain::First(chain), a),
-        Term::Unary(UnaryForm::Second, a) => named(alloc, number, ty, &Chain::Second(chain), a),
+        Term::Unary(UnaryForm::First, a) => named(alloc, number, ty, &Chain::First(&*chain), a),
+        Term::Unary(UnaryForm::Second, a) => named(alloc, number, ty, &Chain::Second(&*chain), a),
         Term::Unary(_, a) => named(alloc, number, ty, &Chain::End, a),
-        Term::Binary(_, a, b) => {
-            let a = named(alloc, number, ty, &Chain::End, a)?;
-            merged(alloc, a, named(alloc, number, ty, &Chain::End, b)?)
-        }
+        Term::Binary(_, a, b) => named_in_two(alloc, number, ty, a, b, 0),
         Term::Select(a, b, c) => {
             let a = named(alloc, number, ty, &Chain::End, a)?;
-            let b = named(alloc, number, ty, &Chain::End, b)?;
-            let rest = merged(alloc, b, named(alloc, number, ty, &Chain::End, c)?)?;
+            let rest = named_in_two(alloc, number, ty, b, c, 0)?;
             merged(alloc, a, rest)
         }
-        Term::Let(a, b) | Term::Map(_, a, b) => {
-            let a = named(alloc, number, ty, &Chain::End, a)?;
-            let body = named(alloc, under(number, 1), ty, &Chain::End, b)?;
-            merged(alloc, a, body)
+        Term::Let(a, body) | Term::Map(_, a, body) => {
+            named_in_two(alloc, number, ty, a, body, 1)
         }
         Term::Fold(_, array, start, body) => {
             let array = named(alloc, number, ty, &Chain::End, array)?;
-            let start = named(alloc, number, ty, &Chain::End, start)?;
-            let body = named(alloc, under(number, 2), ty, &Chain::End, body)?;
-            let rest = merged(alloc, start, body)?;
+            let rest = named_in_two(alloc, number, ty, start, body, 2)?;
             merged(alloc, array, rest)
         }
     }
+}
+
+// What two terms name of it, the second under so many binders more.
+#[cycle(naming)]
+fn named_in_two(
+    alloc: Global,
+    number: u64,
+    ty: &Ty,
+    first: &Term,
+    second: &Term,
+    binders: u64,
+) -> Result<LoadSet, AllocError>
+    requires { binders ≤ 2 }
+    ensures { IfOk result (λ s. (v : ℕ) → number ≡ min v 4294967296
+        → load_set_of s ≡ spec.merged (spec.named v (ty_of ty.now) [] (tree_of first.now))
+        (spec.named (v + binders) (ty_of ty.now) [] (tree_of second.now))) }
+{
+    let first = named(alloc, number, ty, &Chain::End, first)?;
+    let second = named(alloc, under(number, binders), ty, &Chain::End, second)?;
+    merged(alloc, first, second)
 }
 
 /// What the body of a map or fold names of the array's element, whose type is this.

@@ -1,7 +1,7 @@
 //! Lowering.
 
 ghost use Rattle.std.specs.Prelude.{◌≡◌, [], IfOk};
-ghost use Rattle.lift_tree.specs.Annotations.{annotation_of, type_in};
+ghost use Rattle.lift_tree.specs.Annotations.{annotation_of};
 ghost use Rattle.lift_tree.specs.Meaning.{scalar_op};
 ghost use Rattle.lift_tree.specs.Tree.{tree_of};
 ghost use Rattle.lift_tree.specs.Types as types;
@@ -12,6 +12,7 @@ ghost use Rattle.lift_ir.specs.AtLaunch as at;
 ghost use Rattle.lift_ir.specs.Terms as terms;
 ghost use Rattle.lift_tree.specs.declared.term.Operator.TheVariants as operator;
 ghost use Rattle.lift_ir.specs.Lowering as spec;
+ghost use Rattle.lowering.specs.Annotated.{lowered_at, tree_at, type_at};
 ghost use Rattle.lowering.specs.Places.{place_of};
 ghost use Rattle.lowering.specs.Terms.{kind_of, load_set_of, term_of};
 
@@ -322,14 +323,15 @@ fn mapped(
 fn folded(
     alloc: Global,
     turns: Turns,
-    accumulator: Ty,
+    accumulator: &Ty,
     array: Term,
     start: Term,
     body: Term,
 ) -> Result<Term, AllocError>
     ensures { IfOk result (λ t. term_of t ≡ terms.Fold turns.length (load_set_of turns.loads)
-        (spec.element_ty (ty_of accumulator)) (term_of array) (term_of start) (term_of body)) }
+        (spec.element_ty (ty_of accumulator.now)) (term_of array) (term_of start) (term_of body)) }
 {
+    let accumulator = accumulator.copy(alloc)?;
     let fold = Fold {
         length: turns.length,
         loads: turns.loads,
@@ -341,9 +343,9 @@ fn folded(
     Ok(Term::Fold(Box::new(alloc, fold)?))
 }
 
-/// A term, and the types of its nodes.
+// A term, and the types of its nodes.
 #[derive(Clone, Copy)]
-struct Typed<'t> {
+struct Annotated<'t> {
     term: &'t Source,
     types: &'t NodeTypes,
 }
@@ -353,13 +355,12 @@ fn boxed(
     alloc: Global,
     names: &Names,
     place: Place,
-    term: &Source,
-    types: &NodeTypes,
+    node: Annotated,
 ) -> Result<Box<Term>, AllocError>
-    ensures { IfOk result (λ t. term_of t.value
-        ≡ spec.lower names.now (place_of place) (tree_of term.now) (annotation_of types.now)) }
+    ensures { IfOk result
+        (λ t. term_of t.value ≡ lowered_at names.now (place_of place) node.entry) }
 {
-    Ok(Box::new(alloc, lower_at(alloc, names, place, term, types)?)?)
+    Ok(Box::new(alloc, lower_at(alloc, names, place, node)?)?)
 }
 
 // A choice by a condition, not placed.
@@ -367,25 +368,18 @@ fn boxed(
 fn lower_select(
     alloc: Global,
     names: &Names,
-    condition: Typed,
-    yes: Typed,
-    no: Typed,
+    condition: Annotated,
+    yes: Annotated,
+    no: Annotated,
 ) -> Result<Term, AllocError>
-    ensures { IfOk result (λ t. term_of t ≡ terms.Select
-        (spec.lower names.now spec.Element (tree_of condition.entry.term.now)
-        (annotation_of condition.entry.types.now))
-        (spec.lower names.now spec.Element (tree_of yes.entry.term.now) (annotation_of yes.entry.types.now))
-        (spec.lower names.now spec.Element (tree_of no.entry.term.now) (annotation_of no.entry.types.now))) }
+    ensures { IfOk result (λ t. term_of t
+        ≡ terms.Select (lowered_at names.now spec.Element condition.entry)
+        (lowered_at names.now spec.Element yes.entry)
+        (lowered_at names.now spec.Element no.entry)) }
 {
-    let condition = boxed(
-        alloc,
-        names,
-        Place::Element,
-        condition.term,
-        condition.types,
-    )?;
-    let yes = boxed(alloc, names, Place::Element, yes.term, yes.types)?;
-    let no = boxed(alloc, names, Place::Element, no.term, no.types)?;
+    let condition = boxed(alloc, names, Place::Element, condition)?;
+    let yes = boxed(alloc, names, Place::Element, yes)?;
+    let no = boxed(alloc, names, Place::Element, no)?;
     Ok(Term::Select(condition, yes, no))
 }
 
@@ -396,24 +390,16 @@ fn lower_let(
     names: &Names,
     place: Place,
     ty: &Ty,
-    value: Typed,
-    body: Typed,
+    value: Annotated,
+    body: Annotated,
 ) -> Result<Term, AllocError>
-    ensures { IfOk result (λ t. term_of t ≡ spec.lower_let (type_in (annotation_of value.entry.types.now))
-        (spec.lower names.now (spec.value_place (annotation_of value.entry.types.now))
-        (tree_of value.entry.term.now) (annotation_of value.entry.types.now))
-        (spec.lower names.now (spec.body_place (place_of place) (ty_of ty.now))
-        (tree_of body.entry.term.now) (annotation_of body.entry.types.now))) }
+    ensures { IfOk result (λ t. term_of t ≡ spec.lower_let (type_at value.entry)
+        (lowered_at names.now (spec.value_place (annotation_of value.entry.types.now)) value.entry)
+        (lowered_at names.now (spec.body_place (place_of place) (ty_of ty.now)) body.entry)) }
 {
     let value_ty = value.types.own_type();
-    let value = boxed(
-        alloc,
-        names,
-        Place::of_value(value_ty),
-        value.term,
-        value.types,
-    )?;
-    let body = boxed(alloc, names, place.of_body(ty), body.term, body.types)?;
+    let value = boxed(alloc, names, Place::of_value(value_ty), value)?;
+    let body = boxed(alloc, names, place.of_body(ty), body)?;
     bound(alloc, value_ty, value, body)
 }
 
@@ -423,19 +409,18 @@ fn lower_map(
     alloc: Global,
     names: &Names,
     map_kind: MapKind,
-    array: Typed,
-    body: Typed,
+    array: Annotated,
+    body: Annotated,
 ) -> Result<Term, AllocError>
     ensures { IfOk result (λ t. term_of t
-        ≡ terms.Map (spec.kind_of map_kind) (at.outer_of (type_in (annotation_of array.entry.types.now)))
-        (spec.named 0 (spec.element_of (type_in (annotation_of array.entry.types.now))) []
-        (tree_of body.entry.term.now))
-        (spec.lower names.now spec.Argument (tree_of array.entry.term.now) (annotation_of array.entry.types.now))
-        (spec.lower names.now spec.Written (tree_of body.entry.term.now) (annotation_of body.entry.types.now))) }
+        ≡ terms.Map (spec.kind_of map_kind) (at.outer_of (type_at array.entry))
+        (spec.named 0 (spec.element_of (type_at array.entry)) [] (tree_at body.entry))
+        (lowered_at names.now spec.Argument array.entry)
+        (lowered_at names.now spec.Written body.entry)) }
 {
     let turns = turns_over(alloc, array.types.own_type(), body.term)?;
-    let array = lower_at(alloc, names, Place::Argument, array.term, array.types)?;
-    let body = lower_at(alloc, names, Place::Written, body.term, body.types)?;
+    let array = lower_at(alloc, names, Place::Argument, array)?;
+    let body = lower_at(alloc, names, Place::Written, body)?;
     mapped(alloc, kind(map_kind), turns, array, body)
 }
 
@@ -444,75 +429,68 @@ fn lower_map(
 fn lower_fold(
     alloc: Global,
     names: &Names,
-    array: Typed,
-    start: Typed,
-    body: Typed,
+    array: Annotated,
+    start: Annotated,
+    body: Annotated,
 ) -> Result<Term, AllocError>
-    ensures { IfOk result (λ t. term_of t
-        ≡ terms.Fold (at.outer_of (type_in (annotation_of array.entry.types.now)))
-        (spec.named 0 (spec.element_of (type_in (annotation_of array.entry.types.now))) []
-        (tree_of body.entry.term.now))
-        (spec.element_ty (type_in (annotation_of start.entry.types.now)))
-        (spec.lower names.now spec.Argument (tree_of array.entry.term.now) (annotation_of array.entry.types.now))
-        (spec.lower names.now spec.Element (tree_of start.entry.term.now) (annotation_of start.entry.types.now))
-        (spec.lower names.now spec.Element (tree_of body.entry.term.now) (annotation_of body.entry.types.now))) }
+    ensures { IfOk result (λ t. term_of t ≡ terms.Fold (at.outer_of (type_at array.entry))
+        (spec.named 0 (spec.element_of (type_at array.entry)) [] (tree_at body.entry))
+        (spec.element_ty (type_at start.entry))
+        (lowered_at names.now spec.Argument array.entry)
+        (lowered_at names.now spec.Element start.entry)
+        (lowered_at names.now spec.Element body.entry)) }
 {
     let turns = turns_over(alloc, array.types.own_type(), body.term)?;
-    let accumulator = start.types.own_type().copy(alloc)?;
-    let array = lower_at(alloc, names, Place::Argument, array.term, array.types)?;
-    let start = lower_at(alloc, names, Place::Element, start.term, start.types)?;
-    let body = lower_at(alloc, names, Place::Element, body.term, body.types)?;
+    let accumulator = start.types.own_type();
+    let array = lower_at(alloc, names, Place::Argument, array)?;
+    let start = lower_at(alloc, names, Place::Element, start)?;
+    let body = lower_at(alloc, names, Place::Element, body)?;
     folded(alloc, turns, accumulator, array, start, body)
 }
 
 // The term that a term of these types is lowered to where it stands.
 #[cycle(lowering)]
-fn lower_at(
-    alloc: Global,
-    names: &Names,
-    place: Place,
-    term: &Source,
-    types: &NodeTypes,
-) -> Result<Term, AllocError>
-    ensures { IfOk result (λ t. term_of t
-        ≡ spec.lower names.now (place_of place) (tree_of term.now) (annotation_of types.now)) }
+fn lower_at(alloc: Global, names: &Names, place: Place, node: Annotated) -> Result<Term, AllocError>
+    ensures { IfOk result
+        (λ t. term_of t ≡ lowered_at names.now (place_of place) node.entry) }
 {
-    match (term, types) {
-        (Source::Variable(v), _) => placed(alloc, place, types.own_type(), Term::Bound(*v)),
-        (Source::Number(n), _) => placed(alloc, place, types.own_type(), Term::Literal(*n)),
+    match (node.term, node.types) {
+        (Source::Variable(v), types) => placed(alloc, place, types.own_type(), Term::Bound(*v)),
+        (Source::Number(n), types) => placed(alloc, place, types.own_type(), Term::Literal(*n)),
         (Source::Input(number), _) => Ok(Term::Source(*number)),
         (Source::Unary(form, a), NodeTypes::One(ty, n)) => {
-            let operand = boxed(alloc, names, place.of_operand(form), a, n)?;
+            let operand = Annotated { term: a, types: n };
+            let operand = boxed(alloc, names, place.of_operand(form), operand)?;
             formed(alloc, names, place, form, ty, n.own_type(), operand)
         }
         (Source::Binary(form, a, b), NodeTypes::Two(ty, n, m)) => {
             let below = Place::of_operands(*form);
-            let left = boxed(alloc, names, below, a, n)?;
-            let right = boxed(alloc, names, below, b, m)?;
+            let left = boxed(alloc, names, below, Annotated { term: a, types: n })?;
+            let right = boxed(alloc, names, below, Annotated { term: b, types: m })?;
             joined(alloc, place, *form, ty, left, right)
         }
         (Source::Select(a, b, c), NodeTypes::Three(ty, n, m, k)) => {
-            let condition = Typed { term: a, types: n };
-            let yes = Typed { term: b, types: m };
-            let no = Typed { term: c, types: k };
+            let condition = Annotated { term: a, types: n };
+            let yes = Annotated { term: b, types: m };
+            let no = Annotated { term: c, types: k };
             let choice = lower_select(alloc, names, condition, yes, no)?;
             placed(alloc, place, ty, choice)
         }
         (Source::Let(a, b), NodeTypes::Two(ty, n, m)) => {
-            let value = Typed { term: a, types: n };
-            let body = Typed { term: b, types: m };
+            let value = Annotated { term: a, types: n };
+            let body = Annotated { term: b, types: m };
             let whole = lower_let(alloc, names, place, ty, value, body)?;
             placed_element(alloc, place, ty, whole)
         }
         (Source::Map(map_kind, a, b), NodeTypes::Two(_, n, m)) => {
-            let array = Typed { term: a, types: n };
-            let body = Typed { term: b, types: m };
+            let array = Annotated { term: a, types: n };
+            let body = Annotated { term: b, types: m };
             lower_map(alloc, names, *map_kind, array, body)
         }
         (Source::Fold(_, a, b, c), NodeTypes::Three(_, n, m, k)) => {
-            let array = Typed { term: a, types: n };
-            let start = Typed { term: b, types: m };
-            let body = Typed { term: c, types: k };
+            let array = Annotated { term: a, types: n };
+            let start = Annotated { term: b, types: m };
+            let body = Annotated { term: c, types: k };
             lower_fold(alloc, names, array, start, body)
         }
         _ => Ok(Term::Literal(0)),
@@ -530,5 +508,5 @@ pub fn lower(
     ensures { IfOk result (λ t. term_of t
         ≡ spec.lower names.now spec.Written (tree_of term.now) (annotation_of types.now)) }
 {
-    lower_at(alloc, names, Place::Written, term, types)
+    lower_at(alloc, names, Place::Written, Annotated { term, types })
 }

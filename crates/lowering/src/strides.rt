@@ -3,7 +3,7 @@
 //!
 //! A stride that is typed has both. Where there is none the answer is want of memory.
 
-ghost use Rattle.std.specs.Prelude.{◌≡◌, ◌+◌, ◌≤◌, ℕ, [], IfOk, length};
+ghost use Rattle.std.specs.Prelude.{◌≡◌, ◌+◌, ◌≤◌, IfOk, length};
 ghost use Rattle.size_arith.specs.Polynomial.{of_monomial, quotient, times};
 ghost use Rattle.lift_tree.specs.Types.{ty_of};
 ghost use Rattle.lift_tree.specs.WorkedOut.{factor_monomial, nth_name, product_of};

@@ -1,7 +1,6 @@
 -- The run of a compiled kernel at what a launch file gives.
-use Rattle.std.proofs.Common.{◌≡◌, ◌∙◌, Bool, true, false, ℕ, List, [], ◌∷◌, ◌++◌, length, map, refl, sym, ap, subst, arith, Option, Some, None, Result, Ok, Err}
+use Rattle.std.proofs.Common.{◌≡◌, ◌∙◌, Bool, true, false, ℕ, List, [], ◌∷◌, ◌++◌, length, map, refl, sym, ap, subst, arith, Option, Some, None}
 use Rattle.std.proofs.Props.{props}
-use Rattle.std.specs.Prelude.{IfOk}
 use Rattle.kernel_tree.specs.declared.events.Event.{Event}
 use Rattle.kernel_tree.specs.declared.events.Seen.{Seen}
 use Rattle.kernel_tree.specs.Code.{Kernel}
@@ -141,8 +140,3 @@ pub seen_is : OneRun → (p : PlainProgram) (output : PlainTy) (g : Given) (k : 
 seen_is one p output g k l c traced seen launch cells sees none es run =
     seen_of_run one g.schedule k g.launch (begun p output (world_given g)) traced seen es run
     (λ t. subst (λ x. SeesRun g.schedule k g.launch x seen) cells (subst (λ x. SeesRun g.schedule k x c seen) launch (sees t))) none
-
--- what is made of an answer
-pub made_of : {V E : Type 0} (r : Result V E) (P Q : V → Type 0) → ((v : V) → P v → Q v) → IfOk r P → IfOk r Q
-made_of (Ok v) P Q f h = f v h
-made_of (Err e) P Q f h = tt

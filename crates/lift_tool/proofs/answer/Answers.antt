@@ -1,5 +1,6 @@
 use Rattle.std.proofs.Common.{Err, Global, ap, List, map, subst, ℕ}
 use Rattle.std.specs.Prelude.{Vec, string_bytes}
+use Rattle.std.proofs.lemmas.Result.{IfErr-weaker, IfOk-weaker}
 use Rattle.command_line.specs.Requests.{Asks, CommandLine, line_of}
 use Rattle.fault_lines.specs.Shown.{failure_of}
 use Rattle.lift_tool.specs.Files.{AsksAll, AsksFirst, Told}
@@ -7,7 +8,7 @@ use Rattle.lift_tool.specs.Outcome.{Answers, FailsFor, IsAnswer, OnTexts, WordsC
 use Rattle.lift_tool.specs.Request.{files_of}
 use Rattle.lift_tool.proofs.Reading.{asks_none, rose_between}
 use Rattle.lift_tool.proofs.Ends.{asked_stands, one_request}
-use Rattle.lift_tool.proofs.Unread.{if_err, if_ok, request_fails, words_fail}
+use Rattle.lift_tool.proofs.Unread.{request_fails, words_fail}
 use Rattle.lift_tool.proofs.answer.Goals as goal
 
 pub returns-in_err-request-clause-refused : goal.returns-in_err-request-clause-refused
@@ -23,15 +24,15 @@ returns-in_err-request-clause-asks_none g c = λ none. asks_none _
 pub returns-clause-ok : goal.returns-clause-ok
 returns-clause-ok g c =
     let told : Told = g.F.Files.told c.args.files.now in
-    if_ok (λ (text : Vec ℕ Global). IsAnswer told (line_of c.in_ok-request.request) text.items)
-    (λ (text : Vec ℕ Global). OnTexts told (map (string_bytes {Z = Global}) c.args.words.now) (λ request texts. Answers request texts text.items)) _ (λ text h. (line_of c.in_ok-request.request, c.in_ok-request.ensures.asked, h)) c.answer_of.ensures.ok
+    IfOk-weaker _ (λ (text : Vec ℕ Global). IsAnswer told (line_of c.in_ok-request.request) text.items)
+    (λ (text : Vec ℕ Global). OnTexts told (map (string_bytes {Z = Global}) c.args.words.now) (λ request texts. Answers request texts text.items)) (λ text h. (line_of c.in_ok-request.request, c.in_ok-request.ensures.asked, h)) c.answer_of.ensures.ok
 
 pub returns-clause-refused : goal.returns-clause-refused
 returns-clause-refused g c =
     let told : Told = g.F.Files.told c.args.files.now in
     let rose : List ℕ → Type 0 = rose_between (g.F.Files.faults c.args.files.now) (g.F.Files.faults c.answer_of.new.files) in
     let words : List (List ℕ) = map (string_bytes {Z = Global}) c.args.words.now in
-    if_err (λ e. FailsFor told rose (line_of c.in_ok-request.request) (failure_of e)) (λ e. WordsCause told rose words (failure_of e)) _
+    IfErr-weaker _ (λ e. FailsFor told rose (line_of c.in_ok-request.request) (failure_of e)) (λ e. WordsCause told rose words (failure_of e))
     (λ e h. request_fails told rose words (line_of c.in_ok-request.request) (failure_of e) c.in_ok-request.ensures.asked h) c.answer_of.ensures.refused
 
 pub returns-clause-asks : goal.returns-clause-asks
@@ -42,8 +43,8 @@ pub returns-clause-asks_all : goal.returns-clause-asks_all
 returns-clause-asks_all g c =
     let before = g.F.Files.asked c.args.files.now in
     let after = g.F.Files.asked c.answer_of.new.files in
-    if_ok (λ (text : Vec ℕ Global). AsksAll before after (files_of (line_of c.in_ok-request.request)))
-    (λ (text : Vec ℕ Global). (request : CommandLine) → Asks (map (string_bytes {Z = Global}) c.args.words.now) request → AsksAll before after (files_of request)) _ (λ text h request asks.
+    IfOk-weaker _ (λ (text : Vec ℕ Global). AsksAll before after (files_of (line_of c.in_ok-request.request)))
+    (λ (text : Vec ℕ Global). (request : CommandLine) → Asks (map (string_bytes {Z = Global}) c.args.words.now) request → AsksAll before after (files_of request)) (λ text h request asks.
     subst (λ q. AsksAll before after (files_of q)) (one_request (map (string_bytes {Z = Global}) c.args.words.now) request (line_of c.in_ok-request.request) asks c.in_ok-request.ensures.asked) h) c.answer_of.ensures.asks_all
 
 pub returns-clause-asks_none : goal.returns-clause-asks_none

@@ -54,5 +54,4 @@ returns c =
     let all = c.args.terms.items in
     let road = YieldsList-from_vec {s = c.into_iter-term-iterator.result} all (search rules) (search rules) in
     let end = YieldsList-end road at.yielded at.term-iterator at.yielded_by c.next.result c.next.new.self c.in-None.is c.next.ensures.steps in
-    let made = all_made (size_fixed c.args.local) at.yielded all _ _ end.0 at.invariant in
-    record { kernels = made.kernels; outlines = made.outlines; laid_out = made.laid_out; compiles = made.compiled; refused = tt }
+    record { made = all_made (size_fixed c.args.local) at.yielded all _ _ end.0 at.invariant; refused = tt }

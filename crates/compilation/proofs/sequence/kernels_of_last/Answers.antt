@@ -1,4 +1,5 @@
 use Rattle.std.proofs.Common.{length}
+use Rattle.std.proofs.lemmas.Result.{IfErr-weaker, IfOk-weaker}
 use Rattle.lift_tree.specs.FixedSizes.{size_fixed}
 use Rattle.lift_tree.specs.Programs.{program_of}
 use Rattle.strategy_script.specs.Steps.{state_of}
@@ -20,29 +21,22 @@ returns-in_err-terms-clause-refused c =
     handed_on (StopsFor (CompilesParts (length p.inputs) local s)) _ _ c.from_residual-in_err-terms.ensures.1
     (cut_stops p s c.in_ok-whole.whole whole.declared whole.state local _ c.in_err-terms.ensures.refused)
 
-pub returns-in_err-made-clause-refused : goal.returns-in_err-made-clause-refused
-returns-in_err-made-clause-refused c =
-    let p = program_of c.args.last.now.program in
-    let s = state_of c.args.last.now in
-    let local = size_fixed c.args.local in
-    let whole = c.in_ok-whole.ensures in
-    let cut = cut_made p s c.in_ok-whole.whole whole.declared whole.state c.kernels_are_counted.ensures c.in_ok-terms.terms.items c.in_ok-terms.ensures.kernels in
-    handed_on (StopsFor (CompilesParts (length p.inputs) local s)) _ _ c.from_residual-in_err-made.ensures.1
-    (turn_stops p s c.in_ok-whole.whole whole.declared whole.state local _ _ cut c.in_err-made.ensures.refused)
-
 pub returns-clause-made : goal.returns-clause-made
 returns-clause-made c =
     let whole = c.in_ok-whole.ensures in
-    let made = c.in_ok-made.ensures in
-    record {
+    IfOk-weaker c.kernels_of_each.result _ _ (λ _ made. record {
       whole = c.in_ok-whole.whole;
       declared = whole.declared;
       state = whole.state;
-      typed = c.own_type.ensures;
       terms = c.in_ok-terms.terms.items;
       cut = c.in_ok-terms.ensures.kernels;
-      each = made.kernels;
-      outlined = made.outlines;
-      laid_out = made.laid_out;
-      compiled = made.compiles;
-    }
+      made = made;
+    }) c.kernels_of_each.ensures.made
+
+pub returns-clause-refused : goal.returns-clause-refused
+returns-clause-refused c =
+    let p = program_of c.args.last.now.program in
+    let s = state_of c.args.last.now in
+    let whole = c.in_ok-whole.ensures in
+    let cut = cut_made p s c.in_ok-whole.whole whole.declared whole.state c.kernels_are_counted.ensures c.in_ok-terms.terms.items c.in_ok-terms.ensures.kernels in
+    IfErr-weaker c.kernels_of_each.result _ _ (λ why. turn_stops p s c.in_ok-whole.whole whole.declared whole.state (size_fixed c.args.local) _ why cut) c.kernels_of_each.ensures.refused

@@ -18,12 +18,12 @@ put_argument_let-returns t c = subst (λ u. OnOk c.put_argument-2.result (code_i
 
 pub put_map-returns : goal.put_map-returns
 put_map-returns t c = subst (λ u. OnOk c.put_argument.result (code_in c.put_argument.new.block ≡ u))
-    (written_map {A = List Monomial} (spell_in c.args.declared.now) (inputs_in c.args.declared.now) c.args.site.now.depth (scope_of c.args.site.now.scope.now) c.args.site.now.array c.args.site.now.variable (kind_of c.args.map.now.kind) c.args.map.now.length (load_set_of c.args.map.now.loads) (term_of c.args.map.now.array) (term_of c.args.map.now.body) (view_in c.args.target.now) (code_in c.args.block.now) _ _ _ _ _ _ _ _ _ _ _ _ c.in_ok-element.ensures c.in_ok-element-2.ensures c.in_ok-target.ensures (ap scope_of c.in_ok-after.ensures.scope) c.in_ok-after.ensures.depth c.in_ok-after.ensures.array c.in_ok-after.ensures.variable c.in_ok-turn.ensures c.in_ok-length.ensures c.start_of.ensures c.stride_of.ensures c.in_ok-put_loop.ensures)
+    (written_map {A = List Monomial} (spell_in c.args.declared.now) (inputs_in c.args.declared.now) c.args.site.now.depth (scope_of c.args.site.now.scope.now) c.args.site.now.array c.args.site.now.variable (kind_of c.args.map.now.kind) c.args.map.now.length (load_set_of c.args.map.now.loads) (term_of c.args.map.now.array) (term_of c.args.map.now.body) (view_in c.args.target.now) (code_in c.args.block.now) _ _ _ _ _ _ _ _ _ _ _ c.in_ok-element.ensures c.in_ok-target.ensures (ap scope_of c.in_ok-after.ensures.scope) c.in_ok-after.ensures.depth c.in_ok-after.ensures.array c.in_ok-after.ensures.variable c.in_ok-turn.ensures c.in_ok-length.ensures c.start_of.ensures c.stride_of.ensures c.in_ok-put_loop.ensures)
     c.put_argument.ensures
 
 pub put_fold-returns : goal.put_fold-returns
 put_fold-returns t c = subst (λ u. OnOk c.put_argument.result (code_in c.put_argument.new.block ≡ u))
-    (written_fold {A = List Monomial} (spell_in c.args.declared.now) (inputs_in c.args.declared.now) c.args.site.now.depth (scope_of c.args.site.now.scope.now) c.args.site.now.array c.args.site.now.variable c.args.fold.now.length (load_set_of c.args.fold.now.loads) (element_ty (ty_of c.args.fold.now.accumulator)) (term_of c.args.fold.now.array) (term_of c.args.fold.now.start) (term_of c.args.fold.now.body) (view_in c.args.target.now) (code_in c.args.block.now) _ _ _ _ _ _ c.in_ok-element.ensures c.in_ok-element-2.ensures c.in_ok-variable_count.ensures c.in_ok-plus.ensures c.in_ok-bound.ensures c.in_ok-put_fold_loop.ensures)
+    (written_fold {A = List Monomial} (spell_in c.args.declared.now) (inputs_in c.args.declared.now) c.args.site.now.depth (scope_of c.args.site.now.scope.now) c.args.site.now.array c.args.site.now.variable c.args.fold.now.length (load_set_of c.args.fold.now.loads) (element_ty (ty_of c.args.fold.now.accumulator)) (term_of c.args.fold.now.array) (term_of c.args.fold.now.start) (term_of c.args.fold.now.body) (view_in c.args.target.now) (code_in c.args.block.now) _ _ _ _ _ c.in_ok-element.ensures c.in_ok-variable_count.ensures c.in_ok-plus.ensures c.in_ok-bound.ensures c.in_ok-put_fold_loop.ensures)
     c.put_argument.ensures
 
 pub put_let_array-returns : goal.put_let_array-returns

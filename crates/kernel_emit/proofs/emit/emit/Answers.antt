@@ -9,7 +9,7 @@ use Rattle.tidy_indices.specs.Tidy.{tidy_formula}
 use Rattle.tidy_kernels.specs.Pass.{tidied_kernel}
 use Rattle.phase_plan.specs.Plans.{declared_in, local_in, tree_in, types_in}
 use Rattle.kernel_emit.specs.Kernels.{IsKernelFor}
-use Rattle.kernel_emit.specs.Plans.{kernel_for, printed_for}
+use Rattle.kernel_emit.specs.Plans.{printed_for, tidied_for}
 use Rattle.kernel_emit.proofs.Made.{emitted_is}
 use Rattle.kernel_emit.proofs.Told.{kept}
 use Rattle.kernel_emit.proofs.Short.{copies_once, grammar_once}
@@ -34,7 +34,7 @@ returns-clause-printed c =
     let plain = kernel_of c.in_ok-kernel.kernel in
     IfOk-weaker c.tidied.result
     (λ (k : EmittedKernel). kernel_of k ≡ tidied_kernel (tidy_formula (declared_in plan).names plain.local) plain)
-    (λ (k : EmittedKernel). kernel_of k ≡ kernel_for plan)
+    (λ (k : EmittedKernel). kernel_of k ≡ tidied_for plan)
     (λ k h. emitted_is plan (kernel_of k) plain h c.in_ok-kernel.ensures)
     c.tidied.ensures
 

@@ -1,5 +1,6 @@
 use Rattle.std.proofs.Common.{◌≡◌, ◌∙◌, ◌++◌, ap, ap₂, subst, false, ℕ, List, Vec, map}
 use Rattle.std.specs.Global.{Global}
+use Rattle.std.proofs.lemmas.Result.{IfOk-weaker}
 use Rattle.demo_program.specs.Data.{demo_given}
 use Rattle.demo_program.specs.Line.{demo_line}
 use Rattle.demo_program.specs.Sum.{wrapped_sum}
@@ -12,7 +13,6 @@ use Rattle.lift_tree.specs.Types.{ty_of}
 use Rattle.program_source.specs.Program.{source_value}
 use Rattle.program_runs.specs.Demo.{IsLineOfDemo}
 use Rattle.program_runs.specs.Runs.{RunsText, world_given}
-use Rattle.program_runs.proofs.Running.{made_of}
 use Rattle.program_runs.proofs.demo.seeded_line.Goals as goal
 
 pub returns : goal.returns
@@ -31,7 +31,7 @@ returns c =
     let sum = c.wrapped_sum-sum.ensures ∙ ap (λ (rows : List (Vec ℕ Global)). wrapped_sum (map (λ (l : Vec ℕ Global). l.items) rows)) c.deref.ensures.value ∙ ap wrapped_sum left in
     let last : c.in_ok-line.line.items ≡ demo_line seed counts (wrapped_sum (lists_of output (source_value p (world_given (demo_given seed))))) =
     c.in_ok-line.ensures ∙ ap (demo_line seed counts) sum in
-    made_of c.lines_of.result
+    IfOk-weaker c.lines_of.result
     (λ (lines : Vec ℕ Global). lines.items ≡ trace_lines c.deref-2.result.now ++ c.in_ok-line.line.items)
     (λ (lines : Vec ℕ Global). IsLineOfDemo p output compiled.text.items seed lines.items)
     (λ lines h. record {

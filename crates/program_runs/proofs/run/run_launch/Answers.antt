@@ -7,10 +7,11 @@ use Rattle.program_runs.specs.Runs.{AreLinesOfText}
 use Rattle.value_lists.specs.Lists.{value_in}
 use Rattle.std.proofs.Props.{props}
 use Rattle.std.proofs.Math.Logic.{∥∥₁_elim}
+use Rattle.std.proofs.lemmas.Result.{IfOk-weaker}
 use Rattle.launch_file.specs.LaunchFile.{given_by}
 use Rattle.lift_tree.specs.Programs.{program_of}
 use Rattle.lift_tree.specs.Types.{ty_of}
-use Rattle.program_runs.proofs.Running.{made_of, value_told}
+use Rattle.program_runs.proofs.Running.{value_told}
 use Rattle.program_runs.proofs.run.run_launch.Goals as goal
 
 pub returns : goal.returns
@@ -19,7 +20,7 @@ returns c =
     let p = program_of compiled.program in
     let g = given_by c.args.file.now in
     let counts : ℕ × ℕ = (c.in_ok-outcome.outcome.events, c.in_ok-outcome.outcome.releases) in
-    made_of c.lines_of.result
+    IfOk-weaker c.lines_of.result
     (λ (lines : Vec ℕ Global). lines.items ≡ trace_lines c.deref-2.result.now ++ c.in_ok-line.line.items)
     (λ (lines : Vec ℕ Global). AreLinesOfText p (ty_of compiled.output) compiled.text.items g c.args.trace lines.items)
     (λ lines h. record {

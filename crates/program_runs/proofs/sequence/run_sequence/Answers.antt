@@ -1,6 +1,7 @@
 use Rattle.std.proofs.Common.{◌≡◌, ◌∙◌, ◌<◌, ℕ, List, [], ap, arith, length, map, refl, subst, sym, Option, Some, Vec}
 use Rattle.std.proofs.lemmas.List.{length-map}
 use Rattle.std.specs.Global.{Global}
+use Rattle.std.proofs.lemmas.Result.{IfOk-weaker}
 use Rattle.kernel_tree.specs.Kernels.{kernel_of}
 use Rattle.lift_tree.specs.Launches.{buffers_of, lists_of}
 use Rattle.lift_tree.specs.Meaning.{World}
@@ -14,7 +15,6 @@ use Rattle.compilation.specs.Sequence.{outline_of}
 use Rattle.launch_file.specs.LaunchFile.{given_by}
 use Rattle.program_runs.specs.Sequences.{AreRunInTurn, IsSequenceLine, world_shared}
 use Rattle.program_runs.proofs.LaidOut.{wide}
-use Rattle.program_runs.proofs.Running.{made_of}
 use Rattle.program_runs.proofs.Turns.{first_world, givens_count, got, mapped_at, output_small, value_told}
 use Rattle.program_runs.proofs.sequence.run_sequence.Goals as goal
 
@@ -76,7 +76,7 @@ returns c =
     let rows = map (λ (l : Vec ℕ Global). l.items) c.deref.result.now in
     let left : rows ≡ lists_of output (source_value p (world_shared gs)) = ap (map (λ (l : Vec ℕ Global). l.items)) c.deref.ensures.value ∙ c.in_ok-ran.ensures.left in
     let inputs = c.in_ok-inputs.ensures ∙ ap (λ (w : World). buffers_of (declared_by p).inputs w.inputs) (sym world) in
-    made_of c.listed_text.result
+    IfOk-weaker c.listed_text.result
     (λ (line : Vec ℕ Global). line.items ≡ result_line (value_in f.sizes output rows 0 0) counts)
     (λ (line : Vec ℕ Global). IsSequenceLine p (map outline_of compiled.outlines.items) compiled.text.items gs line.items)
     (λ line h. record {
