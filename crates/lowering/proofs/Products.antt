@@ -1,10 +1,10 @@
 -- Products of monomials, as polynomials.
-use Rattle.std.proofs.Common.{◌≡◌, ℕ, zero, suc, ◌-◌, ◌≤◌, List, [], ◌∷◌, length, take, drop, get_or, refl, sym, ap, ◌∙◌, ℤ, pos, negsuc, ◌*ℤ◌, arith}
+use Rattle.std.proofs.Common.{◌≡◌, ℕ, zero, suc, ◌+◌, ◌<◌, List, [], ◌∷◌, length, drop, get_or, refl, sym, ap, ◌∙◌, ℤ, pos, negsuc, ◌*ℤ◌}
+use Rattle.std.proofs.lemmas.List.{drop_more}
 use Rattle.std.proofs.Math.IntN.{*ℤ-zero, zero-*ℤ}
 use Rattle.size_arith.specs.declared.names.Name.{Name}
 use Rattle.size_arith.specs.declared.poly.Monomial.{Monomial}
 use Rattle.size_arith.specs.Polynomial.{add_powers, of_monomial, on, times}
-use Rattle.size_arith.proofs.Steps.{rest_is}
 use Rattle.lift_tree.specs.declared.length.Factor.{Factor}
 use Rattle.lift_tree.specs.WorkedOut.{factor_monomial, product_of}
 
@@ -27,9 +27,11 @@ only_of (negsuc n) ms e h = cc h
 pub only : (m e : Monomial) → e ∷ [] ≡ of_monomial m → e ≡ m
 only m e h = only_of m.coefficient m.powers e h
 
--- one factor, and the product of the rest
-pub product_step : (names : List Name) (fs : List Factor) (d : Factor) (first rest p : List Monomial) → 1 ≤ length fs → first ≡ of_monomial (factor_monomial names (get_or fs 0 d)) → rest ≡ of_monomial (product_of names (take (length fs - 1) (drop 1 fs))) → p ≡ times first rest → p ≡ of_monomial (product_of names fs)
-product_step names [] d first rest p h a b e = absurd (omega arith)
-product_step names (f ∷ fs) d first rest p h a b e =
-    e ∙ ap (λ z. times z rest) a ∙ ap (times (of_monomial (factor_monomial names f))) (b ∙ ap (λ gs. of_monomial (product_of names gs)) (rest_is f fs))
+-- one factor, and the product of those behind it
+pub product_step : (names : List Name) (fs : List Factor) (i : ℕ) (d : Factor) (first rest : List Monomial) → i < length fs → first ≡ of_monomial (factor_monomial names (get_or fs i d)) → rest ≡ of_monomial (product_of names (drop (i + 1) fs)) → times first rest ≡ of_monomial (product_of names (drop i fs))
+product_step names fs i d first rest h a b =
+    let f = get_or fs i d in
+    let fs = drop (i + 1) fs in
+    ap (λ z. times z rest) a ∙ ap (times (of_monomial (factor_monomial names f))) b
     ∙ times_each (factor_monomial names f).coefficient (product_of names fs).coefficient (factor_monomial names f).powers (product_of names fs).powers
+    ∙ ap (λ gs. of_monomial (product_of names gs)) (sym (drop_more _ i d h))

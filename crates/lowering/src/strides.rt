@@ -52,18 +52,17 @@ fn multiplied(alloc: Global, first: &Poly, second: &Poly) -> Result<Poly, AllocE
 }
 
 /// The product of the factors.
+#[tactic(auto, using(crate::proofs::Products::product_step))]
 pub fn product(alloc: Global, names: &[Name], factors: &[Factor]) -> Result<Poly, AllocError>
     requires { length names.now ≤ 8 }
     ensures { IfOk result (λ p. p ≡ of_monomial (product_of names.now factors.now)) }
 {
-    match factors {
-        [] => Poly::from_monomial(alloc, Monomial::number(1)),
-        [first, rest @ ..] => {
-            let first = factor(alloc, names, *first)?;
-            let rest = product(alloc, names, rest)?;
-            Ok(multiplied(alloc, &first, &rest)?)
-        }
+    let mut so_far = Poly::from_monomial(alloc, Monomial::number(1))?;
+    for index in (0..factors.len()).rev() {
+        let one = factor(alloc, names, factors[index])?;
+        so_far = multiplied(alloc, &one, &so_far)?;
     }
+    Ok(so_far)
 }
 
 fn divided(alloc: Global, length: &Poly, divisor: &Monomial) -> Result<Poly, AllocError>

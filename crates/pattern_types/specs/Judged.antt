@@ -1,5 +1,5 @@
 -- Types, judged in order: the type, or the first refusal.
-use Rattle.std.specs.Prelude.{ℕ, suc, min, Bool, true, false, ◌&&◌, if◌then◌else◌, nat_lt, List, [], ◌∷◌, length, map, Result, Ok, Err, Option, Some, None}
+use Rattle.std.specs.Prelude.{◌≡◌, ℕ, suc, min, Bool, true, false, ◌&&◌, if◌then◌else◌, nat_lt, List, [], ◌∷◌, length, map, Result, Ok, Err, Option, Some, None}
 use Rattle.size_arith.specs.declared.names.Name.{Name}
 use Rattle.size_arith.specs.declared.poly.Monomial.{Monomial}
 use Rattle.size_arith.specs.declared.poly.PolyNo.{PolyNo}
@@ -358,3 +358,8 @@ program_judged p t =
     let names = map range_of p.sizes in
     and_then (inputs_judged names 0 p.inputs) (λ inputs.
     at_node (and_then (judged (record { names = names; inputs = inputs }) [] t) output_judged))
+
+-- these types are those that its inputs are judged to have
+abbrev pub AreInputs : PlainProgram → List PlainTy → Type 0
+AreInputs p types =
+    (length types ≡ length p.inputs) × (inputs_judged (map range_of p.sizes) 0 p.inputs ≡ Ok types)

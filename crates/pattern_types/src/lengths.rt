@@ -76,6 +76,7 @@ fn factor(alloc: Global, names: &Names, factor: Factor) -> Result<Poly, AllocErr
 }
 
 /// The length times the factors, multiplied from left to right.
+#[tactic(auto, using(crate::proofs::Named::named_at))]
 pub fn times_factors(
     alloc: Global,
     names: &Names,
@@ -87,13 +88,11 @@ pub fn times_factors(
     ensures refused { IfErr result (λ f. f ≢ Memory → product_judged names.now so_far factors.now
         ≡ Err f) }
 {
-    match factors {
-        [] => Ok(so_far),
-        [first, rest @ ..] => {
-            let next = product(alloc, &so_far, &factor(alloc, names, *first)?)?;
-            times_factors(alloc, names, next, rest)
-        }
+    let mut length = so_far;
+    for one in factors {
+        length = product(alloc, &length, &factor(alloc, names, *one)?)?;
     }
+    Ok(length)
 }
 
 /// The product of the factors, multiplied from left to right.
@@ -119,6 +118,7 @@ fn with_part(alloc: Global, sum_so_far: &Poly, sign: Sign, part: &Poly) -> Resul
 }
 
 /// The sum with the parts, added from left to right.
+#[tactic(auto, using(crate::proofs::Named::part_named_at))]
 pub fn with_parts(
     alloc: Global,
     names: &Names,
@@ -130,12 +130,10 @@ pub fn with_parts(
     ensures refused { IfErr result (λ f. f ≢ Memory → sum_judged names.now sum_so_far parts.now
         ≡ Err f) }
 {
-    match parts {
-        [] => Ok(sum_so_far),
-        [first, rest @ ..] => {
-            let part = product_of(alloc, names, &first.product)?;
-            let next = with_part(alloc, &sum_so_far, first.sign, &part)?;
-            with_parts(alloc, names, next, rest)
-        }
+    let mut length = sum_so_far;
+    for one in parts {
+        let part = product_of(alloc, names, &one.product)?;
+        length = with_part(alloc, &length, one.sign, &part)?;
     }
+    Ok(length)
 }

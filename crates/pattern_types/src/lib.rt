@@ -13,5 +13,5 @@ pub mod refusal;
 mod rows;
 
 pub use belonging::{belongs_to, is_proper};
-pub use programs::{input_types, type_of};
+pub use programs::{input_types, type_of, typed_next};
 pub use refusal::{Rule, Spot, TypeLimit, TypeRefusal};

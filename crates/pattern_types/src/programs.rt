@@ -1,6 +1,6 @@
 //! The types of a program: its inputs in order, then the term.
 
-ghost use Rattle.std.specs.Prelude.{◌≡◌, ◌≢◌, ◌≤◌, ◌<◌, ◌+◌, IfErr, IfOk, OnOk, Err, Ok, [], ◌∷◌, length, map};
+ghost use Rattle.std.specs.Prelude.{◌≡◌, ◌≢◌, ◌≤◌, ◌<◌, ◌+◌, IfErr, IfOk, IfSome, OnOk, Err, Ok, [], ◌∷◌, length, map};
 ghost use Rattle.lift_tree.specs.InputTypes.{written_of};
 ghost use Rattle.lift_tree.specs.Types.{ty_of, PairOf};
 ghost use Rattle.lift_tree.specs.Tree.{tree_of};
@@ -11,7 +11,8 @@ ghost use Rattle.lift_tree.specs.Annotations.{annotation_of, IsTyped};
 ghost use Rattle.pattern_types.specs.declared.fault.Fault.TheVariants.{Memory};
 ghost use Rattle.pattern_types.specs.declared.refusal.TypeRefusal.TheVariants as refusal;
 ghost use Rattle.lift_tree.specs.Belonging.{Belongs, TypeIsNamed, InputsAreNamed, IsProper, IsTermOf};
-ghost use Rattle.pattern_types.specs.Judged.{and_then, input_judged, inputs_judged, judged, output_judged, program_judged};
+ghost use Rattle.pattern_types.specs.Judged.{and_then, input_judged, inputs_judged, judged, output_judged, program_judged, AreInputs};
+ghost use Rattle.lift_tree.specs.WorkedOut.{range_of};
 ghost use Rattle.pattern_types.specs.Numbers.{NumbersFit};
 ghost use Rattle.lift_tree.specs.Limits.{InputFits, IsWithinLimits, HasProperInputs};
 ghost use Rattle.pattern_types.specs.Judgement.{Explains};
@@ -174,7 +175,33 @@ pub fn type_of(alloc: Global, program: Program, term: Term) -> Result<Typed, Typ
     ensures refused { IfErr result (λ e. e ≢ refusal.Memory
         → program_judged (program_of program) (tree_of term) ≡ Err e) }
 {
-    let types = judge_program(alloc, &program, &term)?;
+    typed_next(alloc, &mut None, program, term)
+}
+
+/// The same as [`type_of`] says, where the types of the program's inputs are known already, if they
+/// are given. They are known afterwards, wherever a term was typed.
+pub fn typed_next(
+    alloc: Global,
+    known: &mut Option<VecDeque<Ty>>,
+    program: Program,
+    term: Term,
+) -> Result<Typed, TypeRefusal>
+    requires proper { IsProper (program_of program) }
+    requires term { IsTermOf (program_of program) (tree_of term) }
+    requires known { IfSome known.old (λ inputs. AreInputs (program_of program) (map ty_of inputs.items)) }
+    ensures known { IfSome known.new (λ inputs. AreInputs (program_of program) (map ty_of inputs.items)) }
+    ensures program { IfOk result (λ t. (t.program ≡ program) × (t.term ≡ term)) }
+    ensures types { IfOk result (λ t. program_judged (program_of program) (tree_of term)
+        ≡ Ok (annotation_of t.types)) }
+    ensures typed { IfOk result IsTyped }
+    ensures within { IfOk result (λ t. IsWithinLimits (program_of program) (tree_of term)
+        (annotation_of t.types)) }
+    ensures inputs { IfOk result (λ t. HasProperInputs (program_of t.program)) }
+    ensures explained { IfErr result (λ e. Explains e (program_of program) (tree_of term)) }
+    ensures refused { IfErr result (λ e. e ≢ refusal.Memory
+        → program_judged (program_of program) (tree_of term) ≡ Err e) }
+{
+    let types = judge_program(alloc, known, &program, &term)?;
     Ok(Typed {
         program,
         term,
@@ -182,9 +209,39 @@ pub fn type_of(alloc: Global, program: Program, term: Term) -> Result<Typed, Typ
     })
 }
 
-fn judge_program(alloc: Global, program: &Program, term: &Term) -> Result<NodeTypes, TypeRefusal>
+// The types of a program's term, where its inputs have these.
+fn judge_term(
+    alloc: Global,
+    names: &Names,
+    inputs: &VecDeque<Ty>,
+    program: &Program,
+    term: &Term,
+) -> Result<NodeTypes, TypeRefusal>
+    requires names { names.now ≡ map range_of (program_of program.now).sizes }
+    requires inputs { AreInputs (program_of program.now) (map ty_of inputs.now.items) }
+    requires term { IsTermOf (program_of program.now) (tree_of term.now) }
+    ensures numbers { IfOk result (λ _. NumbersFit (tree_of term.now)) }
+    ensures types { IfOk result (λ n. program_judged (program_of program.now) (tree_of term.now)
+        ≡ Ok (annotation_of n)) }
+    ensures refused { IfErr result (λ e. e ≢ refusal.Memory
+        → program_judged (program_of program.now) (tree_of term.now) ≡ Err e) }
+{
+    match judge_output(alloc, names, inputs, term) {
+        Ok(types) => Ok(types),
+        Err(fault) => Err(fault.fault.at(Spot::Node(fault.place))),
+    }
+}
+
+fn judge_program(
+    alloc: Global,
+    known: &mut Option<VecDeque<Ty>>,
+    program: &Program,
+    term: &Term,
+) -> Result<NodeTypes, TypeRefusal>
     requires proper { IsProper (program_of program.now) }
     requires term { IsTermOf (program_of program.now) (tree_of term.now) }
+    requires known { IfSome known.old (λ inputs. AreInputs (program_of program.now) (map ty_of inputs.items)) }
+    ensures known { IfSome known.new (λ inputs. AreInputs (program_of program.now) (map ty_of inputs.items)) }
     ensures numbers { IfOk result (λ _. NumbersFit (tree_of term.now)) }
     ensures types { IfOk result (λ n. program_judged (program_of program.now) (tree_of term.now)
         ≡ Ok (annotation_of n)) }
@@ -194,9 +251,11 @@ fn judge_program(alloc: Global, program: &Program, term: &Term) -> Result<NodeTy
     let Ok(names) = program.names(alloc) else {
         return Err(TypeRefusal::Memory);
     };
-    let inputs = judge_inputs(alloc, &names, 0, &program.inputs)?;
-    match judge_output(alloc, &names, &inputs, term) {
-        Ok(types) => Ok(types),
-        Err(fault) => Err(fault.fault.at(Spot::Node(fault.place))),
+    if let Some(inputs) = known {
+        return judge_term(alloc, &names, inputs, program, term);
     }
+    let inputs = judge_inputs(alloc, &names, 0, &program.inputs)?;
+    let types = judge_term(alloc, &names, &inputs, program, term)?;
+    *known = Some(inputs);
+    Ok(types)
 }

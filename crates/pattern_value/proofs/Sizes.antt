@@ -1,13 +1,15 @@
 -- Sizes by number, and products of lengths that stand still at a bound.
-use Rattle.std.proofs.Common.{◌≡◌, ℕ, zero, suc, ◌*◌, ◌/◌, ◌<◌, ◌≤◌, ◌^◌, List, [], ◌∷◌, length, refl, sym, ap, ◌∙◌, arith}
+use Rattle.std.proofs.Common.{◌≡◌, ℕ, zero, suc, ◌+◌, ◌*◌, ◌/◌, ◌<◌, ◌≤◌, ◌^◌, List, [], ◌∷◌, length, drop, refl, sym, ap, ◌∙◌, arith}
 use Rattle.std.specs.Prelude.{map, get_or, min, ◌⊎◌}
+use Rattle.std.proofs.lemmas.List.{drop_more}
 use Rattle.std.proofs.lemmas.Nat.{mul-lt, mul-le}
 use Rattle.std.proofs.Math.Logic.{inl, inr}
 use Rattle.std.proofs.Math.Nat.{div-eq_of_lt, div-zero, min-eq_left, min-eq_right}
 use Rattle.size_arith.specs.Ranges.{sizes_at}
+use Rattle.lift_tree.specs.declared.length.Factor.{Factor}
 use Rattle.lift_tree.specs.declared.program.Size.{Size}
 use Rattle.lift_tree.specs.Lists.{pieces}
-use Rattle.lift_tree.specs.Meaning.{nth_size}
+use Rattle.lift_tree.specs.Meaning.{factor_at, nth_size, product_at}
 use Rattle.lift_tree.specs.Values.{Value}
 use Rattle.lift_tree.specs.WorkedOut.{range_of}
 use Rattle.pattern_value.specs.declared.evaluate.World as held
@@ -62,7 +64,9 @@ min_mul (suc a) b m = cases (le_or b m)
     cases (inl h) = ap (λ k. min (suc a * k) m) (min-eq_left h)
     cases (inr h) = ap (λ k. min (suc a * k) m) (min-eq_right h) ∙ min-eq_right (above m (omega arith)) ∙ sym (min-eq_right (above b h))
 
-pub ruleset products = (min_mul)
+-- one factor, and the product of those behind it
+pub product_from : (sizes : List ℕ) (fs : List Factor) (i m : ℕ) (d : Factor) → i < length fs → min (factor_at sizes (get_or fs i d) * min (product_at sizes (drop (i + 1) fs)) m) m ≡ min (product_at sizes (drop i fs)) m
+product_from sizes fs i m d h = min_mul _ _ _ ∙ ap (λ gs. min (product_at sizes gs) m) (sym (drop_more fs i d h))
 
 -- ---- pieces of a length that may be too long
 pub pieces_beyond : (n k m : ℕ) (xs : List Value) → n < m → pieces (n / min k m) (min k m) (min k m) xs ≡ pieces (n / k) k k xs

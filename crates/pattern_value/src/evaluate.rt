@@ -56,14 +56,15 @@ impl World<'_> {
     }
 
     // The product of the factors; it stands still at 2^64 - 1.
-    #[tactic(auto, using(crate::proofs::Sizes::products))]
+    #[tactic(auto, using(crate::proofs::Sizes::product_from))]
     fn product(&self, factors: &[Factor]) -> u64
         ensures { result ≡ min (product_at (world_of self.now).sizes factors.now) u64.MAX }
     {
-        match factors {
-            [] => 1,
-            [factor, rest @ ..] => self.factor(*factor).saturating_mul(self.product(rest)),
+        let mut product = 1u64;
+        for index in (0..factors.len()).rev() {
+            product = self.factor(factors[index]).saturating_mul(product);
         }
+        product
     }
 
     // The consecutive pieces of this length.

@@ -1,12 +1,12 @@
 -- The product of a stride's factors, as far as code can hold it, divides lengths and is
 -- one exactly where the product is.
-use Rattle.std.proofs.Common.{◌≡◌, ℕ, zero, suc, ◌+◌, ◌-◌, ◌*◌, ◌<◌, ◌≤◌, List, [], ◌∷◌, ◌++◌, length, ℤ, pos, negsuc, ◌*ℤ◌, refl, sym, ap, ◌∙◌, subst, arith, Bool, true, false, Option, Some, None}
+use Rattle.std.proofs.Common.{◌≡◌, ℕ, zero, suc, ◌+◌, ◌-◌, ◌*◌, ◌<◌, ◌≤◌, List, [], ◌∷◌, ◌++◌, length, drop, get_or, ℤ, pos, negsuc, ◌*ℤ◌, refl, sym, ap, ◌∙◌, subst, arith, Bool, true, false, Option, Some, None}
 use Rattle.std.specs.Prelude.{map, min, not, ◌&&◌, ◌⊎◌, ◌↔◌, IsTrue, IsSome, IfSome, if◌then◌else◌, nat_lt, nat_le, nat_eq, int_div, int_rem, unsigned_abs, slice_set}
 use Rattle.std.proofs.Math.Logic.{inl, inr}
 use Rattle.std.proofs.Math.Nat.{min-eq_left, min-eq_right}
 use Rattle.std.proofs.lemmas.Nat.{mul-le}
 use Rattle.std.proofs.lemmas.Int.{ints, unsigned_abs-mul}
-use Rattle.std.proofs.lemmas.List.{append-nil}
+use Rattle.std.proofs.lemmas.List.{append-nil, drop_more}
 use Rattle.std.proofs.lemmas.Bool.{and_parts, and_from, ne_eqb}
 use Rattle.std.proofs.Math.Dec.{leb-zero, leb-suc-zero, leb-suc-suc}
 use Rattle.std.proofs.lemmas.Bool.Decides.{nat_tests}
@@ -51,6 +51,12 @@ times_assoc (suc a) b c = let e = times_assoc a b c in omega arith
 pub next_number : (a n o m : ℕ) → min (a * min (n * o) m) m ≡ min ((a * n) * o) m
 next_number a n o m = min_mul a (n * o) m ∙ ap (λ k. min k m) (times_assoc a n o)
 
+-- one factor, and the product of those behind it
+pub number_from : (names : List Name) (fs : List Factor) (i o m : ℕ) (d : Factor) → i < length fs → min (number_of names (get_or fs i d) * min (numbers names (drop (i + 1) fs) * o) m) m ≡ min (numbers names (drop i fs) * o) m
+number_from names fs i o m d h =
+    next_number (number_of names (get_or fs i d)) (numbers names (drop (i + 1) fs)) o m
+    ∙ ap (λ gs. min (numbers names gs * o) m) (sym (drop_more fs i d h))
+
 numbers-append : (names : List Name) (fs gs : List Factor) → numbers names (fs ++ gs) ≡ numbers names fs * numbers names gs
 numbers-append names [] gs = omega arith
 numbers-append names (f ∷ fs) gs = ap (λ k. number_of names f * k) (numbers-append names fs gs) ∙ times_assoc (number_of names f) (numbers names fs) (numbers names gs)
@@ -64,6 +70,11 @@ number_both names fs gs =
 
 pub next_count : (c o x m : ℕ) → min (min (c + o) m + x) m ≡ min ((x + c) + o) m
 next_count c o x m = omega arith
+
+pub count_from : (s j : ℕ) (fs : List Factor) (i o m : ℕ) (d : Factor) → i < length fs → min (min (count s j (drop (i + 1) fs) + o) m + one s j (get_or fs i d)) m ≡ min (count s j (drop i fs) + o) m
+count_from s j fs i o m d h =
+    next_count (count s j (drop (i + 1) fs)) o (one s j (get_or fs i d)) m
+    ∙ ap (λ gs. min (count s j gs + o) m) (sym (drop_more fs i d h))
 
 count-append : (s j : ℕ) (fs gs : List Factor) → count s j (fs ++ gs) ≡ count s j fs + count s j gs
 count-append s j [] gs = omega arith

@@ -1,5 +1,5 @@
 -- What the code's steps give.
-use Rattle.std.proofs.Common.{◌≡◌, ℕ, Bool, true, false, Option, Some, None, refl, sym, ap, ◌∙◌}
+use Rattle.std.proofs.Common.{◌≡◌, ℕ, true, false, Option, Some, None, refl, sym, ap, ◌∙◌}
 use Rattle.std.proofs.lemmas.Bool.{false_from_ne_true}
 use Rattle.std.specs.Prelude.{MatchOption, Result, Ok, Err, IfOk, IfSome, IsNone, IsTrue, ◌↔◌}
 use Rattle.std.specs.declared.alloc.AllocError.{AllocError}

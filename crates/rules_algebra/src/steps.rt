@@ -42,16 +42,15 @@ fn number_of(names: &[Name], factor: Factor) -> u64
 }
 
 // The product of the factors' numbers and one more; it stands still at 2^64 - 1.
-#[tactic(auto, using(crate::proofs::Held::next_number))]
+#[tactic(auto, using(crate::proofs::Held::number_from))]
 fn number_with(names: &[Name], factors: &[Factor], other: u64) -> u64
     ensures { result ≡ min (numbers names.now factors.now * other) most_number }
 {
-    match factors {
-        [] => other,
-        [first, rest @ ..] => {
-            number_of(names, *first).saturating_mul(number_with(names, rest, other))
-        }
+    let mut so_far = other;
+    for place in (0..factors.len()).rev() {
+        so_far = number_of(names, factors[place]).saturating_mul(so_far);
     }
+    so_far
 }
 
 #[tactic(auto, using(crate::proofs::Held::number_both))]
@@ -78,16 +77,15 @@ fn one(sizes: usize, index: u32, factor: Factor) -> u8
 
 // How often the declared size of this number is among the factors, and so often more; it stands
 // still at 255.
-#[tactic(auto, using(crate::proofs::Held::next_count))]
+#[tactic(auto, using(crate::proofs::Held::count_from))]
 fn count_with(sizes: usize, index: u32, factors: &[Factor], other: u8) -> u8
     ensures { result ≡ min (count sizes index factors.now + other) most_power }
 {
-    match factors {
-        [] => other,
-        [first, rest @ ..] => {
-            count_with(sizes, index, rest, other).saturating_add(one(sizes, index, *first))
-        }
+    let mut so_far = other;
+    for place in (0..factors.len()).rev() {
+        so_far = so_far.saturating_add(one(sizes, index, factors[place]));
     }
+    so_far
 }
 
 #[tactic(auto, using(crate::proofs::Held::count_both))]

@@ -10,6 +10,7 @@ pub mod Limits
 pub mod Caps
 pub mod Signs
 pub mod Soundness
+pub mod Above
 pub mod Decisions
 pub mod Quotients
 pub mod LeastSizes

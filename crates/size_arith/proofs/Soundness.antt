@@ -112,7 +112,7 @@ value_shifted d ls ys (x ∷ p) e w =
     ∙ sym (box_add d ls _ _)
     ∙ box_same d ls _ _ (λ js. ap (λ z. z +ℤ (shifted ls p js *ℤ pos (product ys js))) (mul_both x.coefficient (part ls x.powers js) (product ys js)) ∙ sym (add_mul (x.coefficient *ℤ pos (part ls x.powers js)) (shifted ls p js) (pos (product ys js))))
 
-sign : (z : ℤ) (n : ℕ) → pos 0 ≤ℤ z → pos 0 ≤ℤ (z *ℤ pos n)
+pub sign : (z : ℤ) (n : ℕ) → pos 0 ≤ℤ z → pos 0 ≤ℤ (z *ℤ pos n)
 sign (pos k) n h = omega (arith, ints)
 sign (negsuc k) n h = absurd (omega (arith, ints))
 
@@ -182,7 +182,7 @@ sound_largest ns (m ∷ p) ys a h =
     omega (arith, ints)
 
 -- ---- all powers are tried
-share_beyond : (l m j : ℕ) → m < j → share l m j ≡ 0
+pub share_beyond : (l m j : ℕ) → m < j → share l m j ≡ 0
 share_beyond l zero zero h = absurd (omega arith)
 share_beyond l zero (suc j) h = refl
 share_beyond l (suc m) zero h = absurd (omega arith)

@@ -6,7 +6,7 @@ ghost use Rattle.size_arith.specs.Polynomial.{Divides, AllDivide, AtMost, AllSma
 use crate::poly::Monomial;
 use std::alloc::{AllocError, Global};
 
-fn are_at_most(powers: &[u8], others: &[u8]) -> bool
+pub fn are_at_most(powers: &[u8], others: &[u8]) -> bool
     ensures { IsTrue result ↔ AtMost powers.now others.now }
 {
     match powers {

@@ -1,11 +1,12 @@
 //! Values of polynomials, and what is shown of them over the ranges of their names, without memory.
 
-ghost use Rattle.std.specs.Prelude.{◌≡◌, ℤ, ◌+◌, ◌-◌, ◌*◌, ◌≤◌, ◌<◌, ◌^◌, ◌≤ℤ◌, ◌↔◌, ◌∷◌, pos, neg_ℤ, length, take, unsigned_abs, IsTrue};
-ghost use Rattle.size_arith.specs.Polynomial.{product, total, value_at, number, AllSmall, AllLow, IsPoly};
+ghost use Rattle.std.specs.Prelude.{◌≡◌, ℤ, ◌+◌, ◌-◌, ◌*◌, ◌≤◌, ◌<◌, ◌^◌, ◌*ℤ◌, ◌≤ℤ◌, ◌↔◌, ◌∷◌, pos, neg_ℤ, length, take, unsigned_abs, IsTrue};
+ghost use Rattle.size_arith.specs.Polynomial.{product, total, value_at, number, AllSmall, AllLow, AllWide, IsPoly};
 ghost use Rattle.size_arith.specs.Ranges.{AllUpTo, AreNames, leasts, greatests};
 ghost use Rattle.size_arith.specs.Shown.{share, part, shifted, positive_part, positives_at, largest, ShownAtLeast};
-ghost use Rattle.size_arith.specs.Code.{AllExtended};
+ghost use Rattle.size_arith.specs.Code.{AllExtended, IsAbove, AllAbove};
 
+use crate::division::are_at_most;
 use crate::names::Name;
 use crate::numbers::{scaled, sum_of};
 use crate::poly::Monomial;
@@ -143,22 +144,43 @@ fn part_of(leasts: &[u32], powers: &[u8], new_powers: &[u8]) -> u128
     }
 }
 
+// What the monomial adds to the coefficient of the new names' powers.
+fn term_of(monomial: &Monomial, leasts: &[u32], new_powers: &[u8]) -> i128
+    requires small { unsigned_abs monomial.now.coefficient ≤ 2 ^ 32 }
+    requires low { total monomial.now.powers ≤ 4 }
+    requires wide { length monomial.now.powers ≡ 8 }
+    requires leasts { AllUpTo 1048576 leasts.now }
+    requires no_more { length new_powers.now ≤ length leasts.now }
+    requires narrow { length new_powers.now ≤ 8 }
+    ensures value { result ≡ monomial.now.coefficient
+        *ℤ pos (part leasts.now monomial.now.powers new_powers.now) }
+    ensures cap { unsigned_abs result ≤ 2 ^ 118 }
+{
+    if !are_at_most(new_powers, &monomial.powers) {
+        return 0;
+    }
+    scaled(
+        monomial.coefficient,
+        part_of(leasts, &monomial.powers, new_powers),
+    )
+}
+
 // The polynomial's coefficient of the new names' powers.
 fn coefficient_of(monomials: &[Monomial], leasts: &[u32], new_powers: &[u8]) -> i128
     requires small { AllSmall (2 ^ 32) monomials.now }
     requires low { AllLow 4 monomials.now }
     requires few { length monomials.now ≤ 32 }
+    requires wide { AllWide 8 monomials.now }
     requires leasts { AllUpTo 1048576 leasts.now }
+    requires no_more { length new_powers.now ≤ length leasts.now }
+    requires narrow { length new_powers.now ≤ 8 }
     ensures value { result ≡ shifted leasts.now monomials.now new_powers.now }
     ensures cap { unsigned_abs result ≤ length monomials.now * 2 ^ 118 }
 {
     match monomials {
         [] => 0,
         [first, rest @ ..] => {
-            scaled(
-                first.coefficient,
-                part_of(leasts, &first.powers, new_powers),
-            ) + coefficient_of(rest, leasts, new_powers)
+            term_of(first, leasts, new_powers) + coefficient_of(rest, leasts, new_powers)
         }
     }
 }
@@ -168,7 +190,10 @@ fn has_sign(k: u64, monomials: &[Monomial], leasts: &[u32], new_powers: &[u8]) -
     requires small { AllSmall (2 ^ 32) monomials.now }
     requires low { AllLow 4 monomials.now }
     requires few { length monomials.now ≤ 32 }
+    requires wide { AllWide 8 monomials.now }
     requires leasts { AllUpTo 1048576 leasts.now }
+    requires no_more { length new_powers.now ≤ length leasts.now }
+    requires narrow { length new_powers.now ≤ 8 }
     ensures { IsTrue result
         ↔ (pos 0 ≤ℤ shifted leasts.now (number (neg_ℤ (pos k)) ∷ monomials.now) new_powers.now) }
 {
@@ -176,7 +201,34 @@ fn has_sign(k: u64, monomials: &[Monomial], leasts: &[u32], new_powers: &[u8]) -
     coefficient_of(monomials, leasts, new_powers) >= least as i128
 }
 
-// The same of all powers that begin with the first ones given and go on with at most `left` in all.
+// A monomial gives no negative coefficient of powers that are at least these: it isn't negative, or
+// it has less of some name.
+fn is_above(monomial: &Monomial, powers: &[u8]) -> bool
+    ensures { IsTrue result ↔ IsAbove powers.now monomial.now }
+{
+    monomial.coefficient >= 0 || !are_at_most(powers, &monomial.powers)
+}
+
+// The same of each monomial.
+fn all_above(monomials: &[Monomial], powers: &[u8]) -> bool
+    ensures { IsTrue result ↔ AllAbove powers.now monomials.now }
+{
+    match monomials {
+        [] => true,
+        [first, rest @ ..] => is_above(first, powers) && all_above(rest, powers),
+    }
+}
+
+// The same of each monomial of the polynomial less k.
+fn all_above_less(k: u64, monomials: &[Monomial], powers: &[u8]) -> bool
+    ensures { IsTrue result ↔ AllAbove powers.now (number (neg_ℤ (pos k)) ∷ monomials.now) }
+{
+    let less = Monomial::number(-(k as i128));
+    is_above(&less, powers) && all_above(monomials, powers)
+}
+
+// The polynomial less k has no negative coefficient of all powers that begin with the first ones
+// given and go on with at most `left` in all. Powers that no negative monomial reaches aren't tried.
 fn never_negative(
     k: u64,
     monomials: &[Monomial],
@@ -188,6 +240,7 @@ fn never_negative(
     requires small { AllSmall (2 ^ 32) monomials.now }
     requires low { AllLow 4 monomials.now }
     requires few { length monomials.now ≤ 32 }
+    requires wide { AllWide 8 monomials.now }
     requires leasts { AllUpTo 1048576 leasts.now }
     requires names { length leasts.now ≤ 8 }
     requires index { index ≤ length leasts.now }
@@ -203,6 +256,9 @@ fn never_negative(
     let mut next = powers;
     for power in 0..left + 1 {
         next[index] = power;
+        if all_above_less(k, monomials, &next[..index + 1]) {
+            return true;
+        }
         if !never_negative(k, monomials, leasts, next, index + 1, left - power) {
             return false;
         }

@@ -1,6 +1,10 @@
 -- The terms of a script, one after another.
 use Rattle.std.proofs.Common.{◌≡◌, ℕ, ◌+◌, List, [], ◌∷◌, ◌++◌, length, refl, sym, ap, ◌∙◌, subst, append_assoc, arith}
-use Rattle.std.specs.Prelude.{◌≢◌, Result, Ok, Err, map}
+use Rattle.std.specs.Prelude.{◌≢◌, Result, Ok, Err, map, Option, IfSome}
+use Rattle.std.specs.declared.collections.VecDeque.{VecDeque}
+use Rattle.std.specs.Global.{Global}
+use Rattle.lift_tree.specs.declared.ty.Ty.{Ty}
+use Rattle.lift_tree.specs.Types.{ty_of}
 use Rattle.std.proofs.lemmas.List.{map-append}
 use Rattle.lift_tree.specs.declared.typed.Typed.{Typed}
 use Rattle.lift_tree.specs.Lists.{Every}
@@ -8,7 +12,7 @@ use Rattle.lift_tree.specs.Programs.{PlainProgram, program_of}
 use Rattle.lift_tree.specs.Typing.{declared_by}
 use Rattle.lift_tree.specs.Tree.{tree_of}
 use Rattle.lift_tree.specs.Annotations.{IsTyped}
-use Rattle.pattern_types.specs.Judged.{and_then}
+use Rattle.pattern_types.specs.Judged.{and_then, AreInputs}
 use Rattle.rewriting.specs.Keeps.{Keeps}
 use Rattle.rewriting.specs.Laws.{KeepingGoesOn}
 use Rattle.strategy_script.specs.declared.script.Step.{Step}
@@ -30,6 +34,16 @@ after_both goes_on a b c f g =
 pub every_more : (a c : Typed) (bs : List Typed) → Every (IsAfter a) bs → IsAfter a c → Every (IsAfter a) (bs ++ c ∷ [])
 every_more a c [] h k = (k, tt)
 every_more a c (b ∷ bs) h k = (h.0, every_more a c bs h.1 k)
+
+-- ---- the types of the inputs, where they are known
+abbrev pub IsKnown : PlainProgram → Option (VecDeque Ty Global) → Type 0
+IsKnown p known = IfSome known (λ inputs. AreInputs p (map ty_of inputs.items))
+
+pub known_at : (source current : Typed) (known : Option (VecDeque Ty Global)) → IsAfter source current → IsKnown (program_of source.program) known → IsKnown (program_of current.program) known
+known_at source current known h k = subst (λ (p : PlainProgram). IsKnown p known) (sym h.program) k
+
+pub known_from : (source current : Typed) (known : Option (VecDeque Ty Global)) → IsAfter source current → IsKnown (program_of current.program) known → IsKnown (program_of source.program) known
+known_from source current known h k = subst (λ (p : PlainProgram). IsKnown p known) h.program k
 
 -- ---- a script that is being run: so many steps are made, these are left, and these terms stand
 --   before the one at hand

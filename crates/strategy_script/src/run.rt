@@ -1,8 +1,10 @@
 //! Running a script.
 
-ghost use Rattle.std.specs.Prelude.{◌≡◌, ◌≢◌, Ok, Err, IfOk, IfErr, map};
+ghost use Rattle.std.specs.Prelude.{◌≡◌, ◌≢◌, Ok, Err, IfOk, IfErr, IfSome, map};
 ghost use Rattle.lift_tree.specs.Lists.{Every};
 ghost use Rattle.lift_tree.specs.Programs.{program_of};
+ghost use Rattle.lift_tree.specs.Types.{ty_of};
+ghost use Rattle.pattern_types.specs.Judged.{AreInputs};
 ghost use Rattle.lift_tree.specs.declared.typed.Typed.{Typed};
 ghost use Rattle.strategy_script.specs.Steps.{IsAfter, IsLastTerm, IsReady, at_step};
 ghost use Rattle.strategy_script.specs.Steps.{state_of, stepped, terms_of};
@@ -11,13 +13,23 @@ ghost use Rattle.strategy_script.specs.declared.faults.StepNo.TheVariants as no;
 use crate::faults::StepNo;
 use crate::script::{Script, Step};
 use crate::steps::stepped;
+use lift_tree::ty::Ty;
 use lift_tree::typed::Typed;
 use rewriting::laws::keeping_goes_on;
 use std::alloc::Global;
+use std::collections::VecDeque;
 
 // The term after the step of this number.
-fn term_after(alloc: Global, typed: &Typed, step: &Step, number: u64) -> Result<Typed, StepNo>
-    requires { IsReady typed.now }
+fn term_after(
+    alloc: Global,
+    known: &mut Option<VecDeque<Ty>>,
+    typed: &Typed,
+    step: &Step,
+    number: u64,
+) -> Result<Typed, StepNo>
+    requires ready { IsReady typed.now }
+    requires known { IfSome known.old (λ inputs. AreInputs (program_of typed.now.program) (map ty_of inputs.items)) }
+    ensures known { IfSome known.new (λ inputs. AreInputs (program_of typed.now.program) (map ty_of inputs.items)) }
     ensures made { IfOk result (λ t. at_step number
         (stepped (program_of typed.now.program) step.now (state_of typed.now)) ≡ Ok (state_of t)) }
     ensures after { IfOk result
@@ -27,15 +39,23 @@ fn term_after(alloc: Global, typed: &Typed, step: &Step, number: u64) -> Result<
         (stepped (program_of typed.now.program) step.now (state_of typed.now)) ≡ Err e) }
 {
     keeping_goes_on();
-    match stepped(alloc, typed, step) {
+    match stepped(alloc, known, typed, step) {
         Ok(next) => Ok(next),
         Err(fault) => Err(fault.at(number)),
     }
 }
 
 // The same of a term that isn't wanted any longer.
-fn term_in_place(alloc: Global, typed: Typed, step: &Step, number: u64) -> Result<Typed, StepNo>
-    requires { IsReady typed }
+fn term_in_place(
+    alloc: Global,
+    known: &mut Option<VecDeque<Ty>>,
+    typed: Typed,
+    step: &Step,
+    number: u64,
+) -> Result<Typed, StepNo>
+    requires ready { IsReady typed }
+    requires known { IfSome known.old (λ inputs. AreInputs (program_of typed.program) (map ty_of inputs.items)) }
+    ensures known { IfSome known.new (λ inputs. AreInputs (program_of typed.program) (map ty_of inputs.items)) }
     ensures made { IfOk result (λ t. at_step number
         (stepped (program_of typed.program) step.now (state_of typed)) ≡ Ok (state_of t)) }
     ensures after { IfOk result (λ t. (source : Typed) → IsAfter source typed → IsAfter source t) }
@@ -43,7 +63,7 @@ fn term_in_place(alloc: Global, typed: Typed, step: &Step, number: u64) -> Resul
     ensures refused { IfErr result (λ e. e ≢ no.Memory → at_step number
         (stepped (program_of typed.program) step.now (state_of typed)) ≡ Err e) }
 {
-    term_after(alloc, &typed, step, number)
+    term_after(alloc, known, &typed, step, number)
 }
 
 /// The terms of a script: the source, then the term after each step. Each is typed, in the source's
@@ -68,11 +88,12 @@ pub fn run_script(alloc: Global, source: Typed, script: &Script) -> Result<Vec<T
 {
     let mut terms = Vec::new(alloc);
     let mut current = source;
+    let mut known = None;
     let mut made = 0u64;
     let mut rest = script.steps();
     'steps: while let Some((step, further)) = rest.split_first() {
         made += 1;
-        let next = term_after(alloc, &current, step, made)?;
+        let next = term_after(alloc, &mut known, &current, step, made)?;
         terms.push(current)?;
         current = next;
         rest = further;
@@ -92,11 +113,12 @@ pub fn last_term(alloc: Global, source: Typed, script: &Script) -> Result<Typed,
         → terms_of (program_of source.program) script.now.steps (state_of source) ≡ Err e) }
 {
     let mut current = source;
+    let mut known = None;
     let mut made = 0u64;
     let mut rest = script.steps();
     'steps: while let Some((step, further)) = rest.split_first() {
         made += 1;
-        current = term_in_place(alloc, current, step, made)?;
+        current = term_in_place(alloc, &mut known, current, step, made)?;
         rest = further;
     }
     Ok(current)

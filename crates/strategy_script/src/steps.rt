@@ -1,12 +1,14 @@
 //! One step of a script.
 
-ghost use Rattle.std.specs.Prelude.{◌≡◌, ◌≢◌, Ok, Err, Some, None, IfOk, IfErr, OnOk};
+ghost use Rattle.std.specs.Prelude.{◌≡◌, ◌≢◌, Ok, Err, Some, None, IfOk, IfErr, IfSome, OnOk, map};
 ghost use Rattle.lift_tree.specs.Annotations.{annotation_of, type_in};
 ghost use Rattle.lift_tree.specs.Places.{node_at, with_at};
 ghost use Rattle.lift_tree.specs.Programs.{program_of};
 ghost use Rattle.lift_tree.specs.Renumbering.{IsRenumberable};
 ghost use Rattle.lift_tree.specs.Tree.{tree_of};
 ghost use Rattle.lift_tree.specs.Typing.{HasOutput};
+ghost use Rattle.lift_tree.specs.Types.{ty_of};
+ghost use Rattle.pattern_types.specs.Judged.{AreInputs};
 ghost use Rattle.lift_tree.specs.declared.term.Term.{Term};
 ghost use Rattle.lift_tree.specs.Belonging.{IsProper, IsTermOf};
 ghost use Rattle.rewriting.specs.Answers.{Answer, IsRefusal};
@@ -27,12 +29,14 @@ use crate::script::Step;
 use lift_tree::laws::typed_nodes_type_the_term;
 use lift_tree::place::{Place, at, replaced};
 use lift_tree::term::Term;
+use lift_tree::ty::Ty;
 use lift_tree::typed::{Context, Typed};
 use pattern_types::laws::outputs_belong;
-use pattern_types::{TypeRefusal, type_of};
+use pattern_types::{TypeRefusal, typed_next};
 use rewriting::Refused;
 use rewriting::laws::{places_have_contexts, rewrites_keep_the_whole};
 use std::alloc::{AllocError, Global};
+use std::collections::VecDeque;
 
 /// The most nodes that a term may have after a step.
 pub const NODE_LIMIT: u128 = 4096;
@@ -149,8 +153,15 @@ fn check_limits(term: &Term) -> Result<(), Fault>
 /// The term after a step, with its types. Its nodes, its height and the limits on types are judged
 /// in this order.
 #[tactic(auto, using(crate::proofs::Stepping::steps_to, crate::proofs::Stepping::not_rewritten, crate::proofs::Stepping::not_limited, crate::proofs::Stepping::not_typed, crate::proofs::Stepping::is_after, crate::proofs::Stepping::is_ready, crate::proofs::Stepping::proper_same, crate::proofs::Stepping::term_of_same, crate::proofs::Stepping::output_of_same))]
-pub fn stepped(alloc: Global, typed: &Typed, step: &Step) -> Result<Typed, Fault>
-    requires { IsReady typed.now }
+pub fn stepped(
+    alloc: Global,
+    known: &mut Option<VecDeque<Ty>>,
+    typed: &Typed,
+    step: &Step,
+) -> Result<Typed, Fault>
+    requires ready { IsReady typed.now }
+    requires known { IfSome known.old (λ inputs. AreInputs (program_of typed.now.program) (map ty_of inputs.items)) }
+    ensures known { IfSome known.new (λ inputs. AreInputs (program_of typed.now.program) (map ty_of inputs.items)) }
     ensures state { IfOk result (λ t.
         stepped (program_of typed.now.program) step.now (state_of typed.now) ≡ Ok (state_of t)) }
     ensures after { IfOk result (λ t. IsAfter typed.now t) }
@@ -161,7 +172,7 @@ pub fn stepped(alloc: Global, typed: &Typed, step: &Step) -> Result<Typed, Fault
     let term = rewritten(alloc, typed, step)?;
     check_limits(&term)?;
     let program = typed.program.copy(alloc)?;
-    match type_of(alloc, program, term) {
+    match typed_next(alloc, known, program, term) {
         Ok(next) => Ok(next),
         Err(TypeRefusal::Limit { which, count, .. }) => {
             Err(Fault::Passes(StepLimit::Types(which), count))

@@ -112,13 +112,13 @@ pub fn input_name(inputs: &[Input], number: u32) -> &[u8]
 fn coefficient(factors: &[Factor]) -> u64
     ensures { result ≡ coefficient factors.now }
 {
-    let Some((first, rest)) = factors.split_first() else {
-        return 1;
-    };
-    match *first {
-        Factor::Number(number) => u64::from(number).saturating_mul(coefficient(rest)),
-        Factor::Size(_) => coefficient(rest),
+    let mut product = 1u64;
+    for index in (0..factors.len()).rev() {
+        if let Factor::Number(number) = factors[index] {
+            product = u64::from(number).saturating_mul(product);
+        }
     }
+    product
 }
 
 // A star and the name.

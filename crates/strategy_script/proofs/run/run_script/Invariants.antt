@@ -1,10 +1,13 @@
 use Rattle.std.proofs.Common.{length}
 use Rattle.lift_tree.specs.Programs.{program_of}
-use Rattle.strategy_script.proofs.Listed.{AreMade}
+use Rattle.strategy_script.proofs.Listed.{AreMade, IsKnown}
 use Rattle.strategy_script.proofs.run.run_script.Given as goal
 
 abbrev pub invariant-steps : goal.invariant-steps
-invariant-steps l = AreMade (program_of l.fn.source.program) l.fn.script.steps l.rest l.made l.fn.source l.current l.terms.items
+invariant-steps l = record {
+  known : IsKnown (program_of l.fn.source.program) l.known;
+  made : AreMade (program_of l.fn.source.program) l.fn.script.steps l.rest l.made l.fn.source l.current l.terms.items;
+}
 
 abbrev pub decreases-steps : goal.decreases-steps
 decreases-steps l = length l.rest

@@ -5,7 +5,7 @@ use Rattle.lift_tree.specs.Annotations.{annotation_of}
 use Rattle.pattern_types.proofs.Whole.{judged_types_are_right}
 use Rattle.pattern_types.proofs.Proper.{judged_inputs_are_proper}
 use Rattle.pattern_types.proofs.Reached.{judged_within, explained}
-use Rattle.pattern_types.proofs.programs.type_of.Goals as goal
+use Rattle.pattern_types.proofs.programs.typed_next.Goals as goal
 
 pub returns-clause-typed : goal.returns-clause-typed
 returns-clause-typed c =

@@ -1,5 +1,0 @@
-use Rattle.std.proofs.Common.{length}
-use Rattle.pattern_types.proofs.lengths.+with_parts.Given as goal
-
-abbrev pub decreases-with_parts : goal.decreases-with_parts
-decreases-with_parts l = length l.parts.now
